@@ -1,0 +1,4 @@
+mod Examples
+pub mod Joined
+pub mod Kept
+pub mod Numbered

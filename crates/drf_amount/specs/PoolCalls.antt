@@ -1,0 +1,100 @@
+-- What the calls of a pool do, and when they refuse.
+use Rattle.std.specs.Prelude.{◌≡◌, ℕ, ◌+◌, ◌-◌, ◌<◌, ◌^◌, [], ◌∷◌, ◌++◌, Option, Some, None, IsSome, IsSomeAnd}
+use Rattle.drf_amount.specs.declared.algebra.AlgebraFault.{AlgebraFault}
+use Rattle.drf_amount.specs.declared.algebra.AlgebraFault.TheVariants as algebra
+use Rattle.drf_amount.specs.declared.pool.PoolFault.{PoolFault}
+use Rattle.drf_amount.specs.declared.pool.PoolFault.TheVariants.{UnknownPart, NotCovered, Kind, Overlap, TooLarge, Full, Memory}
+use Rattle.drf_amount.specs.Algebra.{IsRest, Covers}
+use Rattle.drf_amount.specs.Pool.{PoolContent, part_at, parts_without, parts_with}
+
+-- the fault of a pool for a fault of an amount
+abbrev pub pool_fault : AlgebraFault → PoolFault
+pool_fault algebra.Kind = Kind
+pool_fault algebra.Overlap = Overlap
+pool_fault algebra.TooLarge = TooLarge
+pool_fault algebra.NotCovered = NotCovered
+pool_fault algebra.Memory = Memory
+
+-- when `give_back` answers each fault
+abbrev pub IsGiveBackFault : {A : Type 0} → PoolContent A → ℕ → PoolFault → Type 0
+IsGiveBackFault pool number UnknownPart = part_at pool.parts number ≡ None
+IsGiveBackFault pool number Memory = IsSome (part_at pool.parts number)
+IsGiveBackFault pool number _ = ⊥
+
+module _ {A : Type 0} (is_given : A → Type 0) (join : A → A → Option A) where
+  -- wanted is out under the next number, and was free
+  pub record Takes (old new : PoolContent A) (wanted : A) (number : ℕ) : Type 0 where
+    pub number_is : number ≡ old.next
+    pub taken : IsRest is_given join old.free wanted new.free
+    pub parts : new.parts ≡ old.parts ++ (number, wanted) ∷ []
+    pub next : new.next ≡ old.next + 1
+    pub total : new.total ≡ old.total
+
+  -- the part with that number is free again
+  pub record GivesBack (old new : PoolContent A) (number : ℕ) (part : A) : Type 0 where
+    pub part_is : part_at old.parts number ≡ Some part
+    pub freed : IsRest is_given join new.free part old.free
+    pub parts : new.parts ≡ parts_without old.parts number
+    pub next : new.next ≡ old.next
+    pub total : new.total ≡ old.total
+
+  -- of the part with that number, smaller is still out, and the rest of it is free
+  pub record Shrinks (old new : PoolContent A) (number : ℕ) (smaller : A) : Type 0 where
+    pub part : A
+    pub part_is : part_at old.parts number ≡ Some part
+    pub rest : A
+    pub rest_is : IsRest is_given join part smaller rest
+    pub freed : IsRest is_given join new.free rest old.free
+    pub parts : new.parts ≡ parts_with old.parts number smaller
+    pub next : new.next ≡ old.next
+    pub total : new.total ≡ old.total
+
+  -- after is before, with new in the place of old
+  pub record IsReplaced (before after old new : A) : Type 0 where
+    pub rest : A
+    pub of_before : IsRest is_given join before old rest
+    pub of_after : IsRest is_given join after new rest
+
+  -- new is in the place of old in the free part and in the total
+  pub record Replaces (before after : PoolContent A) (old new : A) : Type 0 where
+    pub free : IsReplaced before.free after.free old new
+    pub total : IsReplaced before.total after.total old new
+    pub parts : after.parts ≡ before.parts
+    pub next : after.next ≡ before.next
+
+  -- there is a part with that number, and it covers smaller, or it does not
+  abbrev pub PartCovers : PoolContent A → ℕ → A → Type 0
+  PartCovers pool number smaller = IsSomeAnd (part_at pool.parts number) (λ part. Covers is_given join part smaller)
+
+  abbrev pub PartLacks : PoolContent A → ℕ → A → Type 0
+  PartLacks pool number smaller = IsSomeAnd (part_at pool.parts number) (λ part. ¬ Covers is_given join part smaller)
+
+  -- when `take` answers each fault
+  abbrev pub IsTakeFault : PoolContent A → A → PoolFault → Type 0
+  IsTakeFault pool wanted NotCovered = ¬ Covers is_given join pool.free wanted
+  IsTakeFault pool wanted Full = Covers is_given join pool.free wanted × (pool.next ≡ 2 ^ 64 - 1)
+  IsTakeFault pool wanted Memory = Covers is_given join pool.free wanted × (pool.next < 2 ^ 64 - 1)
+  IsTakeFault pool wanted _ = ⊥
+
+  -- when `shrink` answers each fault
+  abbrev pub IsShrinkFault : PoolContent A → ℕ → A → PoolFault → Type 0
+  IsShrinkFault pool number smaller UnknownPart = part_at pool.parts number ≡ None
+  IsShrinkFault pool number smaller NotCovered = PartLacks pool number smaller
+  IsShrinkFault pool number smaller Memory = PartCovers pool number smaller
+  IsShrinkFault pool number smaller _ = ⊥
+
+  -- the free part covers old, and the rest of the total has no join with new, for that fault
+  pub record Refuses (refusal : A → A → Option AlgebraFault) (pool : PoolContent A) (old new : A) (fault : AlgebraFault) : Type 0 where
+    pub covers : Covers is_given join pool.free old
+    pub rest : A
+    pub rest_is : IsRest is_given join pool.total old rest
+    pub refused : refusal rest new ≡ Some fault
+
+  -- when `replace_free` answers each fault: want of memory may come before a refusal of the join
+  abbrev pub IsReplaceFault : (A → A → Option AlgebraFault) → PoolContent A → A → A → PoolFault → Type 0
+  IsReplaceFault refusal pool old new NotCovered = ¬ Covers is_given join pool.free old
+  IsReplaceFault refusal pool old new Kind = Refuses refusal pool old new algebra.Kind
+  IsReplaceFault refusal pool old new Overlap = Refuses refusal pool old new algebra.Overlap
+  IsReplaceFault refusal pool old new TooLarge = Refuses refusal pool old new algebra.TooLarge
+  IsReplaceFault refusal pool old new Memory = Covers is_given join pool.free old
+  IsReplaceFault refusal pool old new _ = ⊥

@@ -1,0 +1,13 @@
+//! Amounts of resources: what can be joined and taken apart, and a pool that gives parts out and
+//! takes them back.
+#![tactic(auto)]
+
+mod algebra;
+mod pool;
+mod scalar;
+#[cfg(test)]
+mod tests;
+
+pub use algebra::{Algebra, AlgebraFault};
+pub use pool::{Pool, PoolFault};
+pub use scalar::Scalar;

@@ -10,10 +10,10 @@ use thiserror::Error;
 /// first is answered, and want of memory only where no other holds.
 #[derive(Clone, Copy, Debug, PartialEq, Eq, Error)]
 pub enum AlgebraFault {
-    /// A name has two kinds.
+    /// One name would have values of two kinds.
     #[error("a name has two kinds")]
     Kind,
-    /// A member stands in both.
+    /// The two share a member.
     #[error("a member stands in both")]
     Overlap,
     /// A scalar is above 2^64 - 1 thousandths.

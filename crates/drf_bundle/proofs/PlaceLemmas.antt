@@ -1,0 +1,114 @@
+-- What a search by label finds, and what an edit at that place does.
+use Rattle.std.proofs.Common.{◌≡◌, ℕ, zero, suc, ◌+◌, ◌<◌, true, false, List, [], ◌∷◌, length, get_or, set, Result, Ok, Err, IfOk, IfErr, is_ok, Equal, inl, inr, refl, sym, ap, ◌∙◌, subst, arith}
+use Rattle.std.specs.Prelude.{IsTrue}
+use Rattle.std.specs.List.{insert}
+use Rattle.std.specs.List.Sorted.{IsSearchInRange, IsBinarySearchResult, IsNonDecreasingBy}
+use Rattle.std.specs.Ordering.{nat_cmp, is_lt, ordering_index}
+use Rattle.std.specs.Cmp.Lexicographic.{slice_cmp, nat_list_cmp_total}
+use Rattle.std.proofs.lemmas.Bool.{and_parts, cases_lt}
+use Rattle.std.proofs.lemmas.List.Recursion.{and_at, found_at, found_nowhere, or_at, or_from_places}
+use Rattle.std.proofs.lemmas.List.Sorted.{searchable_from_sorted}
+use Rattle.drf_bundle.specs.Text.{same_text, text_below}
+use Rattle.drf_bundle.specs.TextLaws.{same_from_cmp, test_from_same, cmp_below, cmp_above, cmp_itself, above_from_cmp, below_other, above_other}
+use Rattle.drf_bundle.specs.Quantities.{amount_of, is_named, is_in_order, with_amount}
+use Rattle.drf_bundle.specs.QuantitiesLaws.{stands_first}
+use Rattle.drf_bundle.specs.Places.{IsAt, IsGapFor}
+use Rattle.drf_bundle.specs.declared.quantities.Entry.{Entry}
+
+first_at : (n : List ℕ) (es : List Entry) (k : ℕ) (d : Entry) → IsTrue (stands_first n es) → k < length es → IsTrue (text_below n (get_or es k d).label)
+first_at n es k d first in_range = and_at (stands_first n) (λ f. text_below n f.label) refl (λ _ _. refl) es k d in_range first
+
+-- an entry stands before each later one
+pub in_order_at : (es : List Entry) (i j : ℕ) (d : Entry) → IsTrue (is_in_order es) → i < j → j < length es → IsTrue (text_below (get_or es i d).label (get_or es j d).label)
+in_order_at [] i j d ordered later in_range = absurd (omega arith)
+in_order_at (e ∷ es) i zero d ordered later in_range = absurd (omega arith)
+in_order_at (e ∷ es) zero (suc j) d ordered later in_range = first_at e.label es j d (and_parts (stands_first e.label es) (is_in_order es) ordered).0 (omega arith)
+in_order_at (e ∷ es) (suc i) (suc j) d ordered later in_range = in_order_at es i j d (and_parts (stands_first e.label es) (is_in_order es) ordered).1 (omega arith) (omega arith)
+
+-- what is read past the end, where nothing is read
+nothing : Entry
+nothing = record { label = []; amount = 0 }
+
+module _ (es : List Entry) (label : List ℕ) where
+  -- the comparisons with the label rise along the list, as a binary search asks
+  comparisons_rise : IsTrue (is_in_order es) → IsNonDecreasingBy (λ e. ordering_index (slice_cmp nat_cmp e.label label)) es
+  comparisons_rise ordered = searchable_from_sorted nat_list_cmp_total (λ e. e.label) es label
+      (λ k d low high. ap is_lt (cmp_above (get_or es k d).label (get_or es (k + 1) d).label (in_order_at es k (k + 1) d ordered (omega arith) high)))
+
+  -- a binary search by label ends at the label, or at the gap for it
+  pub searched : IsTrue (is_in_order es) → (r : Result ℕ ℕ) → IsSearchInRange r (length es) → IsBinarySearchResult (λ e. slice_cmp nat_cmp e.label label) es r → record { found : IfOk r (IsAt es label); absent : IfErr r (IsGapFor es label) }
+  searched ordered (Ok at) in_range equal = record { found = record { in_range = in_range; has_label = λ d. same_from_cmp _ _ (equal d) }; absent = tt }
+  searched ordered (Err at) in_range parted = record {
+    found = tt;
+    absent = record {
+      in_range = in_range;
+      smaller_before = λ k d lt. ap is_lt ((parted (comparisons_rise ordered)).0 k d (omega arith) lt);
+      greater_after = λ k d le lt. above_from_cmp (get_or es k d).label label ((parted (comparisons_rise ordered)).1 k d le lt);
+    };
+  }
+
+  -- no entry before the place has the label
+  other_before : (i : ℕ) → IsTrue (is_in_order es) → IsAt es label i → (k : ℕ) (d : Entry) → k < i → same_text (get_or es k d).label label ≡ false
+  other_before i ordered at k d lt = subst (λ (t : List ℕ). same_text (get_or es k d).label t ≡ false) (at.has_label d) (below_other (get_or es k d).label (get_or es i d).label (in_order_at es k i d ordered lt at.in_range))
+
+  pub amount_at : (i : ℕ) (d : Entry) → IsTrue (is_in_order es) → IsAt es label i → amount_of es label ≡ (get_or es i d).amount
+  amount_at i d ordered at = found_at (λ l. amount_of l label) (λ e. same_text e.label label) (λ e. e.amount) 0 refl (λ _ _. refl) es i d at.in_range
+      (λ k lt. other_before i ordered at k d lt) (test_from_same _ _ (at.has_label d))
+
+  named_at : (i : ℕ) → IsAt es label i → is_named es label ≡ true
+  named_at i at = or_at (λ l. is_named l label) (λ e. same_text e.label label) refl (λ _ _. refl) es i nothing at.in_range (test_from_same _ _ (at.has_label nothing))
+
+  -- no entry at all has a label that has a gap
+  other_around : (i : ℕ) → IsGapFor es label i → (k : ℕ) (d : Entry) → k < length es → same_text (get_or es k d).label label ≡ false
+  other_around i gap k d in_range = elim (cases_lt k i) [
+    | inl before ↦ below_other (get_or es k d).label label (gap.smaller_before k d before)
+    | inr after ↦ above_other label (get_or es k d).label (gap.greater_after k d after in_range)
+  ]
+
+  pub amount_in_gap : (i : ℕ) → IsGapFor es label i → amount_of es label ≡ 0
+  amount_in_gap i gap = found_nowhere (λ l. amount_of l label) (λ e. same_text e.label label) (λ e. e.amount) 0 refl (λ _ _. refl) es nothing (λ k lt. other_around i gap k nothing lt)
+
+  pub named_in_gap : (i : ℕ) → IsGapFor es label i → is_named es label ≡ false
+  named_in_gap i gap = or_from_places (λ l. is_named l label) (λ e. same_text e.label label) refl (λ _ _. refl) es nothing (λ k lt. other_around i gap k nothing lt)
+
+  -- a search succeeds just where the label is named
+  pub named_from_search : (r : Result ℕ ℕ) → IfOk r (IsAt es label) → IfErr r (IsGapFor es label) → is_ok r ≡ is_named es label
+  named_from_search (Ok at) found absent = sym (named_at at found)
+  named_from_search (Err at) found absent = sym (named_in_gap at absent)
+
+-- writing over the entry of a label sets its amount
+pub with_at : (es : List Entry) (label : List ℕ) (a i : ℕ) → IsTrue (is_in_order es) → IsAt es label i → with_amount es label a ≡ set es i (record { label = label; amount = a })
+with_at [] label a i ordered at = absurd (omega (arith, at.in_range))
+with_at (e ∷ es) label a zero ordered at = rw (subst (λ (t : List ℕ). slice_cmp nat_cmp label t ≡ Equal) (sym (at.has_label e)) (cmp_itself label))
+with_at (e ∷ es) label a (suc i) ordered at =
+    let parts = and_parts (stands_first e.label es) (is_in_order es) ordered in
+    let tail : IsAt es label i = record { in_range = omega (arith, at.in_range); has_label = at.has_label } in
+    let above : IsTrue (text_below e.label label) = subst (λ (t : List ℕ). IsTrue (text_below e.label t)) (at.has_label e) (first_at e.label es i e parts.0 tail.in_range) in
+    rw (cmp_above e.label label above) (ap (λ l. e ∷ l) (with_at es label a i parts.1 tail))
+
+-- a new entry in the gap names the label
+pub with_in_gap : (es : List Entry) (label : List ℕ) (a i : ℕ) → IsGapFor es label i → with_amount es label a ≡ insert es i (record { label = label; amount = a })
+with_in_gap [] label a zero gap = refl
+with_in_gap [] label a (suc i) gap = absurd (omega (arith, gap.in_range))
+with_in_gap (e ∷ es) label a zero gap = rw (cmp_below label e.label (gap.greater_after 0 e (omega arith) (omega arith)))
+with_in_gap (e ∷ es) label a (suc i) gap =
+    let tail : IsGapFor es label i = record {
+      in_range = omega (arith, gap.in_range);
+      smaller_before = λ k d lt. gap.smaller_before (suc k) d (omega arith);
+      greater_after = λ k d le lt. gap.greater_after (suc k) d (omega arith) (omega arith);
+    } in
+    rw (cmp_above e.label label (gap.smaller_before 0 e (omega arith))) (ap (λ l. e ∷ l) (with_in_gap es label a i tail))
+
+-- ---- the same, in the terms that the code has at hand
+
+pub set_here : (items es : List Entry) (text label : List ℕ) (x a i : ℕ) (had : Entry) → items ≡ es → IsTrue (is_in_order items) → text ≡ label → x ≡ a → IsAt es text i → had ≡ get_or items i had → set items i (record { label = had.label; amount = x }) ≡ with_amount es label a
+set_here items es text label x a i had view ordered same amount at read =
+    let found : IsAt items text i = subst (λ (l : List Entry). IsAt l text i) (sym view) at in
+    let named : had.label ≡ text = ap (λ (e : Entry). e.label) read ∙ found.has_label had in
+    let written = with_at items text x i ordered found in
+    cc
+
+pub added_here : (items es new : List Entry) (text label : List ℕ) (x a i : ℕ) → items ≡ es → text ≡ label → x ≡ a → IsGapFor es text i → new ≡ insert items i (record { label = label; amount = x }) → new ≡ with_amount es label a
+added_here items es new text label x a i view same amount gap made =
+    let written = with_in_gap es text x i gap in
+    cc

@@ -1,0 +1,80 @@
+-- The laws of amounts by label, as statements.
+use Rattle.std.specs.Prelude.{◌≡◌, ℕ, ◌+◌, ◌-◌, ◌≤◌, ◌↔◌, ◌||◌, List, [], if◌then◌else◌, IsTrue}
+use Rattle.drf_bundle.specs.Text.{same_text}
+use Rattle.drf_bundle.specs.Quantities.{amount_of, is_named, is_in_order, with_amount, plus, minus, covers, without_zeros, rest}
+use Rattle.drf_bundle.specs.Bundle.{IsBundle}
+use Rattle.drf_bundle.specs.declared.quantities.Entry.{Entry}
+
+-- setting an amount changes that label alone
+abbrev pub SetsOneAmount : Type 0
+SetsOneAmount = (entries : List Entry) (label : List ℕ) (amount : ℕ) (other : List ℕ) → amount_of (with_amount entries label amount) other ≡ (if same_text label other then amount else amount_of entries other)
+
+-- it names that label, and no other
+abbrev pub NamesOneLabel : Type 0
+NamesOneLabel = (entries : List Entry) (label : List ℕ) (amount : ℕ) (other : List ℕ) → is_named (with_amount entries label amount) other ≡ (same_text label other || is_named entries other)
+
+abbrev pub SettingKeepsOrder : Type 0
+SettingKeepsOrder = (entries : List Entry) (label : List ℕ) (amount : ℕ) → IsTrue (is_in_order entries) → IsTrue (is_in_order (with_amount entries label amount))
+
+-- amounts add up label by label
+abbrev pub AmountsAdd : Type 0
+AmountsAdd = (a b : List Entry) (label : List ℕ) → IsTrue (is_in_order b) → amount_of (plus a b) label ≡ amount_of a label + amount_of b label
+
+-- a sum names the labels of both
+abbrev pub SumNamesBoth : Type 0
+SumNamesBoth = (a b : List Entry) (label : List ℕ) → is_named (plus a b) label ≡ (is_named a label || is_named b label)
+
+abbrev pub AddingKeepsOrder : Type 0
+AddingKeepsOrder = (a b : List Entry) → IsTrue (is_in_order a) → IsTrue (is_in_order (plus a b))
+
+abbrev pub BundlesAddUp : Type 0
+BundlesAddUp = (a b : List Entry) → IsBundle a → IsBundle b → IsBundle (plus a b)
+
+abbrev pub AddingCommutes : Type 0
+AddingCommutes = (a b : List Entry) → IsBundle a → IsBundle b → plus a b ≡ plus b a
+
+abbrev pub AddingAssociates : Type 0
+AddingAssociates = (a b c : List Entry) → IsBundle a → IsBundle b → IsBundle c → plus (plus a b) c ≡ plus a (plus b c)
+
+-- each amount falls by that of the same label, and stops at 0
+abbrev pub AmountsFall : Type 0
+AmountsFall = (a b : List Entry) (label : List ℕ) → amount_of (minus a b) label ≡ amount_of a label - amount_of b label
+
+-- what falls to 0 stays named
+abbrev pub NamesStay : Type 0
+NamesStay = (a b : List Entry) (label : List ℕ) → is_named (minus a b) label ≡ is_named a label
+
+abbrev pub LoweringKeepsOrder : Type 0
+LoweringKeepsOrder = (a b : List Entry) → IsTrue (is_in_order a) → IsTrue (is_in_order (minus a b))
+
+-- without its zeros a list has the same amounts
+abbrev pub ZerosCountNothing : Type 0
+ZerosCountNothing = (entries : List Entry) (label : List ℕ) → IsTrue (is_in_order entries) → amount_of (without_zeros entries) label ≡ amount_of entries label
+
+abbrev pub WithoutZerosIsBundle : Type 0
+WithoutZerosIsBundle = (entries : List Entry) → IsTrue (is_in_order entries) → IsBundle (without_zeros entries)
+
+-- what is left has each amount less that of the same label
+abbrev pub RestAmounts : Type 0
+RestAmounts = (a b : List Entry) (label : List ℕ) → IsTrue (is_in_order a) → amount_of (rest a b) label ≡ amount_of a label - amount_of b label
+
+abbrev pub RestIsBundle : Type 0
+RestIsBundle = (a b : List Entry) → IsTrue (is_in_order a) → IsBundle (rest a b)
+
+abbrev pub NothingIsLeftOfAll : Type 0
+NothingIsLeftOfAll = (a : List Entry) → IsTrue (is_in_order a) → rest a a ≡ []
+
+abbrev pub AllIsLeftOfNothing : Type 0
+AllIsLeftOfNothing = (a : List Entry) → IsBundle a → rest a [] ≡ a
+
+-- what was taken and what is left make the whole
+abbrev pub RestAndPartMakeWhole : Type 0
+RestAndPartMakeWhole = (a b : List Entry) → IsBundle a → IsBundle b → IsTrue (covers a b) → plus (rest a b) b ≡ a
+
+-- a list covers another where no amount of the other is above its own
+abbrev pub CoversByAmounts : Type 0
+CoversByAmounts = (a b : List Entry) → IsTrue (is_in_order b) → IsTrue (covers a b) ↔ ((label : List ℕ) → amount_of b label ≤ amount_of a label)
+
+-- two bundles with the same amounts are one
+abbrev pub KnownByAmounts : Type 0
+KnownByAmounts = (a b : List Entry) → IsBundle a → IsBundle b → ((label : List ℕ) → amount_of a label ≡ amount_of b label) → a ≡ b

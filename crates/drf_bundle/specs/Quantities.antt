@@ -1,0 +1,50 @@
+-- Amounts of scalar resources by label, in thousandths, in order of label.
+use Rattle.std.specs.Prelude.{ℕ, ◌+◌, ◌-◌, Bool, true, ◌&&◌, List, [], ◌∷◌, map, if◌then◌else◌, nat_lt, nat_le}
+use Rattle.std.specs.List.{filter, list_all, list_any}
+use Rattle.std.specs.Ordering.{nat_cmp, match_ordering}
+use Rattle.std.specs.Cmp.Lexicographic.{slice_cmp}
+use Rattle.drf_bundle.specs.Text.{same_text, text_below}
+use Rattle.drf_bundle.specs.declared.quantities.Entry.{Entry}
+
+-- the amount of a label; 0 where it is not named
+abbrev pub amount_of : List Entry → List ℕ → ℕ
+amount_of [] label = 0
+amount_of (e ∷ es) label = if same_text e.label label then e.amount else amount_of es label
+
+-- the label is named, be its amount 0 or not
+abbrev pub is_named : List Entry → List ℕ → Bool
+is_named entries label = list_any (λ e. same_text e.label label) entries
+
+-- each entry stands before all later ones
+abbrev pub is_in_order : List Entry → Bool
+is_in_order [] = true
+is_in_order (e ∷ es) = list_all (λ f. text_below e.label f.label) es && is_in_order es
+
+-- the entries, the amount of one label put in its place
+abbrev pub with_amount : List Entry → List ℕ → ℕ → List Entry
+with_amount [] label amount = record { label = label; amount = amount } ∷ []
+with_amount (e ∷ es) label amount = match_ordering (slice_cmp nat_cmp label e.label)
+    (record { label = label; amount = amount } ∷ e ∷ es)
+    (record { label = label; amount = amount } ∷ es)
+    (e ∷ with_amount es label amount)
+
+-- the amounts of both, label by label
+abbrev pub plus : List Entry → List Entry → List Entry
+plus entries [] = entries
+plus entries (e ∷ es) = plus (with_amount entries e.label (amount_of entries e.label + e.amount)) es
+
+-- each amount less that of the same label in the other list
+abbrev pub minus : List Entry → List Entry → List Entry
+minus entries others = map (λ e. record { label = e.label; amount = e.amount - amount_of others e.label }) entries
+
+-- no amount of the second list is above that of the same label in the first
+abbrev pub covers : List Entry → List Entry → Bool
+covers entries others = list_all (λ e. nat_le e.amount (amount_of entries e.label)) others
+
+-- the entries whose amount is not 0
+abbrev pub without_zeros : List Entry → List Entry
+without_zeros entries = filter (λ e. nat_lt 0 e.amount) entries
+
+-- what is left of a bundle when another is taken from it
+abbrev pub rest : List Entry → List Entry → List Entry
+rest entries others = without_zeros (minus entries others)

@@ -1,0 +1,12 @@
+-- Texts as bytes, compared byte by byte.
+use Rattle.std.specs.Prelude.{ℕ, Bool, List, ◌==◌}
+use Rattle.std.specs.Cmp.Lexicographic.{pointwise, slice_cmp}
+use Rattle.std.specs.Ordering.{nat_cmp, is_lt}
+
+-- the two texts have the same bytes
+abbrev pub same_text : List ℕ → List ℕ → Bool
+same_text = pointwise ◌==◌
+
+-- the first text stands before the second, by bytes
+abbrev pub text_below : List ℕ → List ℕ → Bool
+text_below a b = is_lt (slice_cmp nat_cmp a b)

@@ -1,0 +1,166 @@
+ghost use Rattle.std.specs.Prelude.{◌≡◌, ℕ, List, [], length, ◌^◌, ◌<◌, IsTrue, ◌+◌, ◌↔◌, IfOk, IfErr, OnOk, OnErr, IsOk};
+ghost use Rattle.drf_bundle.specs.Quantities.{amount_of, is_named, is_in_order, with_amount, plus, minus, covers, without_zeros};
+ghost use Rattle.drf_bundle.specs.Bundle.{IsBundle};
+ghost use Rattle.drf_bundle.specs.Places.{IsAt, IsGapFor};
+
+use drf_amount::Scalar;
+use drf_role::Label;
+use std::alloc::{AllocError, Global};
+use std::marker::Model;
+
+/// An amount of one scalar resource.
+#[derive(Debug, Drop)]
+pub struct Entry {
+    pub label: Label,
+    pub amount: Scalar,
+}
+
+impl Entry {
+    fn copy(&self) -> Result<Entry, AllocError>
+        ensures { IfOk result (λ entry. entry ≡ self.now) }
+    {
+        Ok(Entry {
+            label: self.label.copy()?,
+            amount: self.amount,
+        })
+    }
+}
+
+/// Amounts of scalar resources by label, in thousandths. A label may be named with the amount 0.
+#[derive(Debug, Drop)]
+pub struct Quantities {
+    entries: Vec<Entry>,
+}
+
+impl Model for Quantities {
+    ghost use Rattle.std.specs.Prelude.{List, IsTrue};
+    ghost use Rattle.drf_bundle.specs.declared.quantities.Entry.{Entry};
+
+    ghost Value = { List Entry };
+
+    ghost use Rattle.drf_bundle.specs.Quantities.{is_in_order};
+
+    ghost view = { λ q. q.entries.items };
+
+    ghost invariant = { λ q. IsTrue (is_in_order q.entries.items) };
+}
+
+impl Quantities {
+    /// No label is named.
+    pub fn empty(alloc: Global) -> Quantities
+        ensures { result ≡ [] }
+    {
+        Quantities {
+            entries: Vec::new(alloc),
+        }
+    }
+
+    /// The thousandths of a label, 0 where it is not named.
+    pub fn get(&self, label: &str) -> u64
+        ensures { result ≡ amount_of self.now label.now }
+    {
+        match self.place(label) {
+            Ok(at) => {
+                let entry = &self.entries[at];
+                entry.amount.thousandths()
+            }
+            Err(_) => 0,
+        }
+    }
+
+    /// Whether the label is named, be its amount 0 or not.
+    pub fn is_named(&self, label: &str) -> bool
+        ensures { result ≡ is_named self.now label.now }
+    {
+        self.place(label).is_ok()
+    }
+
+    /// The labels and their amounts, by the bytes of the labels.
+    pub fn entries(&self) -> &[Entry]
+        ensures value { result.now ≡ self.now }
+        ensures in_order { IsTrue (is_in_order self.now) }
+    {
+        self.entries.as_slice()
+    }
+
+    /// Gives a label that amount, and names it where it was not.
+    pub fn set(&mut self, label: Label, thousandths: u64) -> Result<(), AllocError>
+        ensures ok { OnOk result (self.new ≡ with_amount self.old label thousandths) }
+        ensures err { OnErr result (self.new ≡ self.old) }
+        ensures named { IsTrue (is_named self.old label) → IsOk result }
+    {
+        let amount = Scalar::new(thousandths);
+        match self.place(label.text()) {
+            Ok(at) => {
+                let entry = &mut self.entries[at];
+                entry.amount = amount;
+                Ok(())
+            }
+            Err(at) => Ok(self.entries.insert(at, Entry { label, amount })?),
+        }
+    }
+
+    pub fn copy(&self, alloc: Global) -> Result<Quantities, AllocError>
+        ensures { IfOk result (λ q. q ≡ self.now) }
+    {
+        let mut entries = Vec::with_capacity(alloc, self.entries.len())?;
+        for entry in &self.entries {
+            entries.push(entry.copy()?)?;
+        }
+        Ok(Quantities { entries })
+    }
+
+    /// The amounts of both, label by label.
+    pub fn plus(&self, alloc: Global, other: &Quantities) -> Result<Quantities, AllocError>
+        requires { (label : List ℕ) → amount_of self.now label + amount_of other.now label < 2 ^ 64 }
+        ensures { IfOk result (λ q. q ≡ plus self.now other.now) }
+    {
+        let mut sum = self.copy(alloc)?;
+        for entry in other.entries() {
+            let had = sum.get(entry.label.text());
+            sum.set(entry.label.copy()?, had + entry.amount.thousandths())?;
+        }
+        Ok(sum)
+    }
+
+    /// How many labels the two name together. It needs no memory.
+    pub fn count_with(&self, other: &Quantities) -> u64
+        ensures { result ≡ length (plus self.now other.now) }
+    {
+        let mut count = self.entries().len() as u64;
+        for entry in other.entries() {
+            if !self.is_named(entry.label.text()) {
+                count += 1;
+            }
+        }
+        count
+    }
+
+    /// Takes the amounts of `other` away. A label that comes to 0 stays named.
+    pub fn lower(&mut self, other: &Quantities)
+        requires { IsTrue (covers self.old other.now) }
+        ensures { self.new ≡ minus self.old other.now }
+    {
+        for entry in self.entries.iter_mut() {
+            let part = other.get(entry.label.text());
+            entry.amount = Scalar::new(entry.amount.thousandths() - part);
+        }
+    }
+
+    /// Forgets the labels whose amount is 0.
+    pub(crate) fn remove_zeros(&mut self)
+        ensures value { self.new ≡ without_zeros self.old }
+        ensures bundle { IsBundle self.new }
+    {
+        self.entries.retain(|entry| entry.amount.thousandths() > 0);
+    }
+
+    // Where the label is, or where it would go.
+    fn place(&self, label: &str) -> Result<usize, usize>
+        ensures found { IfOk result (IsAt self.now label.now) }
+        ensures absent { IfErr result (IsGapFor self.now label.now) }
+    {
+        self.entries
+            .binary_search_by(|entry| entry.label.text().cmp(label))
+    }
+}

@@ -1,0 +1,4 @@
+pub mod Machine
+pub mod Kept
+pub mod Inside
+pub mod Grants

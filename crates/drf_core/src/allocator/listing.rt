@@ -1,0 +1,71 @@
+//! The rows, as they are handed out.
+ghost use Rattle.std.specs.Prelude.{◌≡◌, ◌∷◌, [], map, IfOk};
+ghost use Rattle.drf_core.specs.Inside.{agent_row, framework_row};
+
+use super::Agent;
+use drf_role::Name;
+use drf_rows::{AgentRow, ClientRow, FrameworkRow, OfferRow, Table};
+use indexmap::IndexMap;
+use std::alloc::{AllocError, Global};
+
+pub(super) fn agent_rows(
+    alloc: Global,
+    agents: &IndexMap<Name, Agent>,
+) -> Result<Table<AgentRow>, AllocError>
+    ensures { IfOk result (λ rows. rows ≡ map agent_row agents.now.entries) }
+{
+    let mut rows = Vec::with_capacity(alloc, agents.len())?;
+    for (name, agent) in agents {
+        rows.push(AgentRow {
+            name: name.copy()?,
+            total: agent.total.copy(alloc)?,
+            active: agent.active,
+        })?;
+    }
+    Ok(Table::from_vec(rows))
+}
+
+/// One client, as a table of its own.
+fn one_client(alloc: Global, client: &ClientRow) -> Result<Table<ClientRow>, AllocError>
+    ensures { IfOk result (λ clients. clients ≡ client.now ∷ []) }
+{
+    let mut clients = Vec::with_capacity(alloc, 1)?;
+    clients.push(ClientRow {
+        role: client.role.copy()?,
+        count: client.count,
+        suppressed: client.suppressed,
+    })?;
+    Ok(Table::from_vec(clients))
+}
+
+pub(super) fn framework_rows(
+    alloc: Global,
+    frameworks: &IndexMap<Name, ClientRow>,
+) -> Result<Table<FrameworkRow>, AllocError>
+    ensures { IfOk result (λ rows. rows ≡ map framework_row frameworks.now.entries) }
+{
+    let mut rows = Vec::with_capacity(alloc, frameworks.len())?;
+    for (name, client) in frameworks {
+        rows.push(FrameworkRow {
+            name: name.copy()?,
+            clients: one_client(alloc, client)?,
+        })?;
+    }
+    Ok(Table::from_vec(rows))
+}
+
+pub(super) fn offer_rows(alloc: Global, offers: &[OfferRow]) -> Result<Table<OfferRow>, AllocError>
+    ensures { IfOk result (λ rows. rows ≡ offers.now) }
+{
+    let mut rows = Vec::with_capacity(alloc, offers.len())?;
+    for offer in offers {
+        rows.push(OfferRow {
+            number: offer.number,
+            agent: offer.agent.copy()?,
+            framework: offer.framework.copy()?,
+            role: offer.role.copy()?,
+            bundle: offer.bundle.copy(alloc)?,
+        })?;
+    }
+    Ok(Table::from_vec(rows))
+}

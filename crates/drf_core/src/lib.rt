@@ -1,0 +1,6 @@
+//! The allocator: events in, replies out.
+#![tactic(auto)]
+
+mod allocator;
+
+pub use allocator::Core;

@@ -1,0 +1,100 @@
+-- What a pass over two sets side by side says of the sets.
+use Rattle.std.proofs.Common.{◌≡◌, ◌↔◌, Bool, true, false, not, ◌&&◌, ◌||◌, Some, None, IsSome, IsTrue, cond, refl, sym, ap, ◌∙◌, subst}
+use Rattle.std.specs.Bool.{OnTrue, OnFalse, beq}
+use Rattle.std.specs.declared.cmp.Ordering.{Ordering}
+use Rattle.std.specs.Cmp.{IsTotalOrder}
+use Rattle.std.specs.FinSet as set
+use Rattle.std.proofs.lemmas.Bool.{true≢false, both_ways}
+use Rattle.drf_amount.specs.Algebra.{Covers, IsRest}
+use Rattle.drf_kinds.specs.Places.{is_met, differ}
+use Rattle.drf_kinds.specs.Sets.{IsSetOf, are_disjoint, set_join}
+use Rattle.drf_kinds.specs.SetLaws.{out_of_both, disjoint_from, join_of, is_rest_difference, subset_of_rest, covers_subset}
+
+met_inside : (x y : Bool) → (x && beq y true) ≡ (x && y)
+met_inside true true = refl
+met_inside true false = refl
+met_inside false y = refl
+
+-- a number of a set that is out of another
+met_outside : (x y : Bool) → (x && beq y false) ≡ true → (x ≡ true) × (y ≡ false)
+met_outside true true e = absurd (true≢false (sym e))
+met_outside true false e = (refl, refl)
+met_outside false y e = absurd (true≢false (sym e))
+
+unmet_outside : (x y : Bool) → (x && beq y false) ≡ false → x ≡ true → y ≡ true
+unmet_outside true true e f = refl
+unmet_outside true false e f = absurd (true≢false e)
+unmet_outside false y e f = absurd (true≢false (sym f))
+
+differ_apart : (x y : Bool) → (x && y) ≡ false → differ x y ≡ (x || y)
+differ_apart true true e = sym e
+differ_apart true false e = refl
+differ_apart false true e = refl
+differ_apart false false e = refl
+
+differ_within : (x y : Bool) → (y ≡ true → x ≡ true) → differ x y ≡ (x && not y)
+differ_within true true f = refl
+differ_within true false f = refl
+differ_within false true f = absurd (true≢false (sym (f refl)))
+differ_within false false f = refl
+
+module _ {K : Type 0} {R : K → K → Ordering} (o : IsTotalOrder R) (same : set.IsAntisymmetric R) (P : K → Type 0) where
+  IsSome-join : (s t : set.FinSet R) → IsSome (set_join s t) ↔ (are_disjoint s t ≡ true)
+  IsSome-join s t =
+      elim (are_disjoint s t) as (λ d. IsSome (cond d (Some (set.union s t)) None) ↔ (d ≡ true)) [
+        | true ↦ (λ _. refl, λ _. refl)
+        | false ↦ (λ e. e, λ e. e)
+      ]
+
+  in_both : (in_s in_t : K → Bool) (s t : set.FinSet R) → ((k : K) → set.contains s k ≡ in_s k) → ((k : K) → set.contains t k ≡ in_t k) → (k : K) → (set.contains s k && set.contains t k) ≡ is_met true (in_s k) (in_t k)
+  in_both in_s in_t s t s_is t_is k = rw (s_is k, t_is k) (sym (met_inside (in_s k) (in_t k)))
+
+  -- whether two sets are disjoint
+  pub disjoint_answer : (in_s in_t : K → Bool) (s t : set.FinSet R) (met : Bool) → ((k : K) → set.contains s k ≡ in_s k) → ((k : K) → set.contains t k ≡ in_t k) →
+      OnTrue met ((k : K) × IsTrue (is_met true (in_s k) (in_t k))) → OnFalse met ((k : K) → is_met true (in_s k) (in_t k) ≡ false) → IsTrue (not met) ↔ IsSome (set_join s t)
+  disjoint_answer in_s in_t s t true s_is t_is found none = (
+    λ e. absurd (true≢false (sym e)),
+    λ some.
+        absurd (both_ways _ (sym (in_both in_s in_t s t s_is t_is found.0) ∙ out_of_both o same s t ((IsSome-join s t).0 some) found.0) found.1),
+  )
+  disjoint_answer in_s in_t s t false s_is t_is found none =
+      (λ e. (IsSome-join s t).1 (disjoint_from o same s t (λ k. in_both in_s in_t s t s_is t_is k ∙ none k)), λ _. refl)
+
+  -- whether a set covers another
+  pub covers_answer : (in_part in_whole : K → Bool) (part whole : set.FinSet R) (met : Bool) → ((k : K) → set.contains part k ≡ in_part k) → ((k : K) → set.contains whole k ≡ in_whole k) → IsSetOf P whole →
+      OnTrue met ((k : K) × IsTrue (is_met false (in_part k) (in_whole k))) → OnFalse met ((k : K) → is_met false (in_part k) (in_whole k) ≡ false) → IsTrue (not met) ↔ Covers (IsSetOf P) set_join whole part
+  covers_answer in_part in_whole part whole true part_is whole_is given found none = (
+    λ e. absurd (true≢false (sym e)),
+    λ covers.
+        let outside = met_outside (in_part found.0) (in_whole found.0) found.1 in
+        absurd
+        (both_ways _ (whole_is found.0 ∙ outside.1) (set.is_subset-contains o part whole (subset_of_rest o same P whole part covers) found.0 (part_is found.0 ∙ outside.0))),
+  )
+  covers_answer in_part in_whole part whole false part_is whole_is given found none = (
+    λ _.
+        covers_subset o same P whole part given
+        (set.contains-is_subset o part whole (λ k is. whole_is k ∙ unmet_outside (in_part k) (in_whole k) (none k) (sym (part_is k) ∙ is))),
+    λ _. refl,
+  )
+
+  -- of disjoint sets what is in one alone is the join
+  pub joined_answer : (s t found : set.FinSet R) → IsSome (set_join s t) → ((k : K) → set.contains found k ≡ differ (set.contains s k) (set.contains t k)) → set_join s t ≡ Some found
+  joined_answer s t found some each =
+      let disjoint = (IsSome-join s t).0 some in
+      join_of o same s t disjoint
+      ∙ ap Some (set.same_set o same _ _ (λ k.
+      set.contains-union o s t k ∙ sym (each k ∙ differ_apart (set.contains s k) (set.contains t k) (out_of_both o same s t disjoint k))))
+
+  -- of a set and a part of it that is the rest
+  pub rest_answer : (whole part found : set.FinSet R) → IsSetOf P whole → Covers (IsSetOf P) set_join whole part → ((k : K) → set.contains found k ≡ differ (set.contains whole k) (set.contains part k)) → IsRest (IsSetOf P) set_join whole part found
+  rest_answer whole part found given covers each =
+      let within = subset_of_rest o same P whole part covers in
+      let is : found ≡ set.difference whole part =
+      set.same_set o same _ _ (λ k.
+      each k ∙ differ_within (set.contains whole k) (set.contains part k) (set.is_subset-contains o part whole within k) ∙ sym (set.contains-difference o whole part k)) in
+      subst (IsRest (IsSetOf P) set_join whole part) (sym is) (is_rest_difference o same P whole part given within)
+
+  -- what is in one of two sets alone
+  pub differ_answer : (in_s in_t in_found : K → Bool) (s t found : set.FinSet R) → ((k : K) → set.contains s k ≡ in_s k) → ((k : K) → set.contains t k ≡ in_t k) → ((k : K) → set.contains found k ≡ in_found k) →
+      ((k : K) → in_found k ≡ differ (in_s k) (in_t k)) → (k : K) → set.contains found k ≡ differ (set.contains s k) (set.contains t k)
+  differ_answer in_s in_t in_found s t found s_is t_is found_is each k = found_is k ∙ each k ∙ rw (s_is k, t_is k)

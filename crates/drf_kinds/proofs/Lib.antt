@@ -1,0 +1,6 @@
+pub mod Answered
+pub mod Found
+pub mod Members
+pub mod Merged
+pub mod Names
+pub mod Steps

@@ -1,0 +1,11 @@
+use Rattle.std.proofs.Common.{◌<◌, ◌^◌, refl, sym}
+use Rattle.std.specs.Cmp.{nat_cmp_total}
+use Rattle.std.specs.FinSet as set
+use Rattle.drf_kinds.proofs.Answered.{differ_answer}
+use Rattle.drf_kinds.proofs.Members.{contains-view}
+use Rattle.drf_kinds.proofs.ranges.Ranges.symmetric_difference.Goals as goal
+
+pub returns : goal.returns
+returns c =
+    differ_answer nat_cmp_total set.nat_cmp-IsAntisymmetric (λ n. n < 2 ^ 32) _ _ _ _ _ _
+    (contains-view _ _ _ c.deref.ensures.value c.self.view_is) (contains-view _ _ _ c.deref-2.ensures.value c.other.view_is) (contains-view c.in_ok-symmetric_difference.field-0.items c.in_ok-symmetric_difference.field-0.items _ refl (sym c.new.ensures)) c.in_ok-symmetric_difference.ensures.members

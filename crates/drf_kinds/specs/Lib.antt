@@ -1,0 +1,7 @@
+pub mod Intervals
+pub mod Names
+pub mod NumberSetLaws
+pub mod Places
+pub mod SetLaws
+pub mod Sets
+pub mod TextSetLaws

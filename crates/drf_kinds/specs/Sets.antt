@@ -1,0 +1,23 @@
+-- Finite sets as amounts: their join is the union, where no member stands in both.
+use Rattle.std.specs.Prelude.{Bool, Option, Some, None, IsTrue, ◌==◌, if◌then◌else◌}
+use Rattle.std.specs.declared.cmp.Ordering.{Ordering}
+use Rattle.std.specs.FinSet as set
+use Rattle.drf_amount.specs.declared.algebra.AlgebraFault.{AlgebraFault}
+use Rattle.drf_amount.specs.declared.algebra.AlgebraFault.TheVariants.{Overlap}
+
+module _ {K : Type 0} {R : K → K → Ordering} where
+  -- each member has P
+  pub record IsSetOf (P : K → Type 0) (a : set.FinSet R) : Type 0 where
+    pub each : (k : K) → IsTrue (set.contains a k) → P k
+
+  -- no member stands in both
+  abbrev pub are_disjoint : set.FinSet R → set.FinSet R → Bool
+  are_disjoint a b = set.len (set.intersection a b) == 0
+
+  -- the union, if the sets are disjoint
+  abbrev pub set_join : set.FinSet R → set.FinSet R → Option (set.FinSet R)
+  set_join a b = if are_disjoint a b then Some (set.union a b) else None
+
+  -- sets that share a member overlap
+  abbrev pub set_refusal : set.FinSet R → set.FinSet R → Option AlgebraFault
+  set_refusal a b = if are_disjoint a b then None else Some Overlap

@@ -1,0 +1,130 @@
+ghost use Rattle.std.specs.Prelude.{◌≡◌, ℕ, List, IfOk};
+ghost use Rattle.std.specs.FinSet as set;
+ghost use Rattle.drf_kinds.specs.Sets.{set_join, set_refusal};
+ghost use Rattle.drf_kinds.specs.Names.{IsTextSet, AreAscending, is_named};
+ghost use Rattle.drf_kinds.specs.Places.{differ};
+ghost use Rattle.drf_kinds.specs.TextSetLaws.{text_set_laws};
+
+use crate::merge::{copies, meets, symmetric_difference};
+use drf_amount::{Algebra, AlgebraFault};
+use drf_role::Label;
+use std::alloc::{AllocError, Global};
+use std::marker::Model;
+
+/// A finite set of labels, as of disks.
+#[derive(Debug, Drop)]
+pub struct Items {
+    // In order of bytes, each once.
+    names: Vec<Label>,
+}
+
+impl Model for Items {
+    ghost use Rattle.std.specs.Prelude.{ℕ};
+    ghost use Rattle.std.specs.FinSet as set;
+    ghost use Rattle.std.specs.Coded.{coded_ℕ, coded_list};
+    ghost use Rattle.drf_kinds.specs.Names.{text_cmp, AreAscending};
+
+    ghost Value = { set.FinSet text_cmp };
+
+    ghost coded = { set.code (coded_list coded_ℕ) };
+
+    ghost view = { λ i. set.from_list i.names.items };
+
+    ghost invariant = { λ i. AreAscending i.names.items };
+}
+
+impl Items {
+    /// The set of the labels: one that stands twice counts once.
+    pub fn from_names(_alloc: Global, names: Vec<Label>) -> Result<Items, AllocError>
+        ensures { IfOk result (λ items. items ≡ set.from_list names.items) }
+    {
+        let mut names = names;
+        names.sort()?;
+        names.dedup();
+        Ok(Items { names })
+    }
+
+    /// The labels, in order of bytes.
+    pub fn names(&self) -> &[Label]
+        ensures ascending { AreAscending result.now }
+        ensures value { set.from_list result.now ≡ self.now }
+        ensures members { (text : List ℕ) → set.contains self.now text ≡ is_named result.now text }
+    {
+        self.names.as_slice()
+    }
+
+    /// Whether `name` is a member, by binary search.
+    pub fn contains(&self, name: &str) -> bool
+        ensures { result ≡ set.contains self.now name.now }
+    {
+        self.names
+            .binary_search_by(|label| label.text().cmp(name))
+            .is_ok()
+    }
+
+    /// The labels that are in one of the two sets alone.
+    fn symmetric_difference(&self, other: &Items) -> Result<Items, AllocError>
+        ensures { IfOk result (λ found. (text : List ℕ) → set.contains found text ≡ differ (set.contains self.now text) (set.contains other.now text)) }
+    {
+        let alloc = *self.names.allocator();
+        Ok(Items {
+            names: symmetric_difference(alloc, &self.names, &other.names)?,
+        })
+    }
+}
+
+impl Algebra for Items {
+    ghost is_given = { IsTextSet };
+
+    ghost empty = { set.empty };
+
+    ghost join = { set_join };
+
+    ghost refusal = { set_refusal };
+
+    ghost amount = { set.len };
+
+    ghost laws = { text_set_laws };
+
+    fn empty(alloc: Global) -> Items {
+        Items {
+            names: Vec::new(alloc),
+        }
+    }
+
+    fn is_empty(&self) -> bool {
+        self.names.is_empty()
+    }
+
+    fn disjoint(&self, other: &Items) -> bool {
+        !meets(&self.names, &other.names, true)
+    }
+
+    fn try_join(&self, other: &Items) -> Result<Items, AlgebraFault> {
+        if !self.disjoint(other) {
+            return Err(AlgebraFault::Overlap);
+        }
+        Ok(self.symmetric_difference(other)?)
+    }
+
+    fn covers(&self, part: &Items) -> bool {
+        !meets(&part.names, &self.names, false)
+    }
+
+    fn try_minus(&self, part: &Items) -> Result<Items, AlgebraFault> {
+        if !self.covers(part) {
+            return Err(AlgebraFault::NotCovered);
+        }
+        Ok(self.symmetric_difference(part)?)
+    }
+
+    fn amount(&self) -> u128 {
+        self.names.len() as u128
+    }
+
+    fn copy(&self) -> Result<Items, AllocError> {
+        Ok(Items {
+            names: copies(*self.names.allocator(), &self.names)?,
+        })
+    }
+}

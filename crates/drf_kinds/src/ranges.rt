@@ -1,0 +1,216 @@
+ghost use Rattle.std.specs.Prelude.{◌≡◌, ◌↔◌, ◌<◌, ◌≤◌, ℕ, All, Any, IsTrue, IsErrOf, IfOk, map};
+ghost use Rattle.std.specs.List.Sorted.{IsNonDecreasingBy, IsPermutation};
+ghost use Rattle.std.specs.FinSet as set;
+ghost use Rattle.drf_kinds.specs.Sets.{set_join, set_refusal};
+ghost use Rattle.drf_kinds.specs.Intervals.{IsNumberSet, AreMaximal, members, is_in, interval_of};
+ghost use Rattle.drf_kinds.specs.Places.{differ};
+ghost use Rattle.drf_kinds.specs.NumberSetLaws.{number_set_laws};
+ghost use Rattle.drf_kinds.specs.declared.ranges.RangesFault.TheVariants.{Memory};
+
+use crate::interval::Interval;
+use crate::sweep::{meets, symmetric_difference};
+use drf_amount::{Algebra, AlgebraFault};
+use std::alloc::{AllocError, Global};
+use std::marker::Model;
+use thiserror::Error;
+
+/// Why pairs of numbers are no set.
+#[derive(Clone, Copy, Debug, PartialEq, Eq, Error)]
+pub enum RangesFault {
+    /// The first end of a pair is the greater.
+    #[error("the first end of a range is the greater")]
+    Backwards,
+    #[error("out of memory")]
+    Memory,
+}
+
+impl From<AllocError> for RangesFault {
+    ghost from_gives = { λ _ fault. fault ≡ Memory };
+
+    fn from(_error: AllocError) -> RangesFault {
+        RangesFault::Memory
+    }
+}
+
+/// A finite set of numbers below 2^32, as of ports.
+#[derive(Debug, Drop)]
+pub struct Ranges {
+    // Each is maximal: neither the number before it nor the one after it is in the set.
+    intervals: Vec<Interval>,
+}
+
+impl Model for Ranges {
+    ghost use Rattle.std.specs.Ordering.{nat_cmp};
+    ghost use Rattle.std.specs.FinSet as set;
+    ghost use Rattle.std.specs.Coded.{coded_ℕ};
+    ghost use Rattle.drf_kinds.specs.Intervals.{members, AreIntervalsOfSet};
+
+    ghost Value = { set.FinSet nat_cmp };
+
+    ghost coded = { set.code coded_ℕ };
+
+    ghost view = { λ r. members r.intervals.items };
+
+    ghost invariant = { λ r. AreIntervalsOfSet r.intervals.items };
+}
+
+/// The intervals of pairs.
+fn intervals_of(alloc: Global, pairs: &[(u32, u32)]) -> Result<Vec<Interval>, AllocError>
+    ensures { IfOk result (λ v. v.items ≡ map interval_of pairs.now) }
+{
+    pairs
+        .iter()
+        .map(|&(first, last)| Interval { first, last })
+        .collect(alloc)
+}
+
+/// The intervals of pairs, in order of their first ends.
+fn sorted(alloc: Global, pairs: &[(u32, u32)]) -> Result<Vec<Interval>, AllocError>
+    ensures intervals { IfOk result (λ v. IsPermutation (map interval_of pairs.now) v.items) }
+    ensures sorted { IfOk result (λ v. IsNonDecreasingBy (λ i. i.first) v.items) }
+{
+    let mut intervals = intervals_of(alloc, pairs)?;
+    intervals.sort_by_key(|interval| interval.first)?;
+    Ok(intervals)
+}
+
+/// The maximal intervals of the numbers of `intervals`, which stand in order of their first ends.
+fn merged(alloc: Global, intervals: &[Interval]) -> Result<Vec<Interval>, AllocError>
+    requires sorted { IsNonDecreasingBy (λ i. i.first) intervals.now }
+    requires ordered { All (λ i. i.first ≤ i.last) intervals.now }
+    ensures maximal { IfOk result (λ v. AreMaximal v.items) }
+    ensures members { IfOk result (λ v. (n : ℕ) → is_in v.items n ≡ is_in intervals.now n) }
+{
+    let mut merged = Vec::new(alloc);
+    if intervals.is_empty() {
+        return Ok(merged);
+    }
+    let mut start = intervals[0].first;
+    let mut end = intervals[0].last;
+    for &Interval { first, last } in &intervals[1..] {
+        if first <= end.saturating_add(1) {
+            end = end.max(last);
+        } else {
+            merged.push(Interval {
+                first: start,
+                last: end,
+            })?;
+            start = first;
+            end = last;
+        }
+    }
+    merged.push(Interval {
+        first: start,
+        last: end,
+    })?;
+    Ok(merged)
+}
+
+impl Ranges {
+    fn new(intervals: Vec<Interval>) -> Ranges
+        requires { AreMaximal intervals.items }
+        ensures { result ≡ members intervals.items }
+    {
+        Ranges { intervals }
+    }
+
+    /// The numbers that are in one of the two sets alone.
+    fn symmetric_difference(&self, other: &Ranges) -> Result<Ranges, AllocError>
+        ensures { IfOk result (λ found. (n : ℕ) → set.contains found n ≡ differ (set.contains self.now n) (set.contains other.now n)) }
+    {
+        let alloc = *self.intervals.allocator();
+        Ok(Ranges::new(symmetric_difference(alloc, &self.intervals, &other.intervals)?))
+    }
+
+    /// The numbers of all the pairs, each from its first end to its second. A pair whose first end
+    /// is the greater is `Backwards`, whatever the memory.
+    pub fn from_pairs(alloc: Global, pairs: &[(u32, u32)]) -> Result<Ranges, RangesFault>
+        ensures members { IfOk result (λ ranges. (n : ℕ) → IsTrue (set.contains ranges n) ↔ Any (λ pair. (pair.0 ≤ n) × (n ≤ pair.1)) pairs.now) }
+        ensures backwards { IsErrOf result RangesFault.Backwards ↔ Any (λ pair. pair.1 < pair.0) pairs.now }
+        ensures memory { IsErrOf result RangesFault.Memory → All (λ pair. pair.0 ≤ pair.1) pairs.now }
+    {
+        if pairs.iter().any(|&(first, last)| last < first) {
+            return Err(RangesFault::Backwards);
+        }
+        let intervals = sorted(alloc, pairs)?;
+        Ok(Ranges::new(merged(alloc, &intervals)?))
+    }
+
+    /// The maximal intervals, in ascending order: a number stands between any two that is in none.
+    pub fn intervals(&self) -> &[Interval]
+        ensures maximal { AreMaximal result.now }
+        ensures value { members result.now ≡ self.now }
+        ensures members { (n : ℕ) → set.contains self.now n ≡ is_in result.now n }
+    {
+        self.intervals.as_slice()
+    }
+
+    /// Whether `number` is a member, by binary search.
+    pub fn contains(&self, number: u32) -> bool
+        ensures { result ≡ set.contains self.now number }
+    {
+        let place = self
+            .intervals
+            .partition_point(|interval| interval.last < number);
+        match self.intervals.get(place) {
+            Some(interval) => interval.first <= number,
+            None => false,
+        }
+    }
+}
+
+impl Algebra for Ranges {
+    ghost is_given = { IsNumberSet };
+
+    ghost empty = { set.empty };
+
+    ghost join = { set_join };
+
+    ghost refusal = { set_refusal };
+
+    ghost amount = { set.len };
+
+    ghost laws = { number_set_laws };
+
+    fn empty(alloc: Global) -> Ranges {
+        Ranges::new(Vec::new(alloc))
+    }
+
+    fn is_empty(&self) -> bool {
+        self.intervals.is_empty()
+    }
+
+    fn disjoint(&self, other: &Ranges) -> bool {
+        !meets(&self.intervals, &other.intervals, true)
+    }
+
+    fn try_join(&self, other: &Ranges) -> Result<Ranges, AlgebraFault> {
+        if !self.disjoint(other) {
+            return Err(AlgebraFault::Overlap);
+        }
+        Ok(self.symmetric_difference(other)?)
+    }
+
+    fn covers(&self, part: &Ranges) -> bool {
+        !meets(&part.intervals, &self.intervals, false)
+    }
+
+    fn try_minus(&self, part: &Ranges) -> Result<Ranges, AlgebraFault> {
+        if !self.covers(part) {
+            return Err(AlgebraFault::NotCovered);
+        }
+        Ok(self.symmetric_difference(part)?)
+    }
+
+    fn amount(&self) -> u128 {
+        let mut amount = 0;
+        for interval in &self.intervals {
+            amount += u128::from(interval.last - interval.first) + 1;
+        }
+        amount
+    }
+
+    fn copy(&self) -> Result<Ranges, AllocError> {
+        Ok(Ranges::new(self.intervals.clone()?))
+    }
+}

@@ -1,0 +1,142 @@
+//! Two sets of numbers, gone through side by side. A set is seen as the places where it begins and
+//! ends: its intervals' first numbers, and the numbers after their last ones.
+ghost use Rattle.std.specs.Prelude.{◌≡◌, ◌≢◌, ℕ, false, min, IsTrue, IfOk, IfSome, IfNone};
+ghost use Rattle.std.specs.Bool.{OnTrue, OnFalse};
+ghost use Rattle.drf_kinds.specs.Intervals.{AreMaximal, is_in};
+ghost use Rattle.drf_kinds.specs.Places.{next_place, passed, steps_of, is_met, differ};
+
+use crate::interval::Interval;
+use std::alloc::{AllocError, Global};
+use std::marker::Model;
+
+/// Above each place where a set of numbers below 2^32 can begin or end.
+const NOWHERE: u64 = 1 << 33;
+
+/// What is left of a set's places, and whether the numbers before the next one are inside.
+#[derive(Drop)]
+struct Edges<'a> {
+    intervals: &'a [Interval],
+    inside: bool,
+}
+
+impl<'a> Model for Edges<'a> {
+    ghost use Rattle.drf_kinds.specs.Places.{Steps, steps_of};
+
+    ghost Value = { Steps };
+
+    ghost view = { λ e. steps_of e.inside e.intervals.now };
+}
+
+impl<'a> Edges<'a> {
+    fn new(intervals: &'a [Interval]) -> Edges<'a>
+        ensures { result ≡ steps_of false intervals.now }
+    {
+        Edges {
+            intervals,
+            inside: false,
+        }
+    }
+
+    fn is_inside(&self) -> bool
+        ensures { result ≡ self.now.inside }
+    {
+        self.inside
+    }
+
+    /// The next place.
+    fn next(&self) -> u64
+        ensures { result ≡ next_place self.now.places }
+    {
+        match self.intervals.first() {
+            None => NOWHERE,
+            Some(interval) if self.inside => u64::from(interval.last) + 1,
+            Some(interval) => u64::from(interval.first),
+        }
+    }
+
+    /// Goes past `place`, if it is the next one.
+    fn pass(&mut self, place: u64)
+        requires { place ≢ NOWHERE }
+        ensures { self.new ≡ passed place self.old }
+    {
+        if self.next() != place {
+            return;
+        }
+        if let [_, rest @ ..] = self.intervals {
+            if self.inside {
+                self.intervals = rest;
+            }
+            self.inside = !self.inside;
+        }
+    }
+}
+
+/// Goes past the next place of either set.
+fn pass_both(left: &mut Edges, right: &mut Edges) -> Option<u64>
+    ensures place { IfSome result (λ place. place ≡ min (next_place left.old.places) (next_place right.old.places)) }
+    ensures some { IfSome result (λ place. place ≢ NOWHERE) }
+    ensures left { IfSome result (λ place. left.new ≡ passed place left.old) }
+    ensures right { IfSome result (λ place. right.new ≡ passed place right.old) }
+    ensures none { IfNone result (min (next_place left.old.places) (next_place right.old.places) ≡ NOWHERE) }
+    ensures left_stays { IfNone result (left.new ≡ left.old) }
+    ensures right_stays { IfNone result (right.new ≡ right.old) }
+{
+    let place = left.next().min(right.next());
+    if place == NOWHERE {
+        return None;
+    }
+    left.pass(place);
+    right.pass(place);
+    Some(place)
+}
+
+/// Whether some number of the left set is in the right one, or out of it if not `inside`.
+pub fn meets(left: &[Interval], right: &[Interval], inside: bool) -> bool
+    requires left { AreMaximal left.now }
+    requires right { AreMaximal right.now }
+    ensures found { OnTrue result ((n : ℕ) × IsTrue (is_met inside (is_in left.now n) (is_in right.now n))) }
+    ensures none { OnFalse result ((n : ℕ) → is_met inside (is_in left.now n) (is_in right.now n) ≡ false) }
+{
+    let mut left = Edges::new(left);
+    let mut right = Edges::new(right);
+    while let Some(_place) = pass_both(&mut left, &mut right) {
+        if left.is_inside() && right.is_inside() == inside {
+            return true;
+        }
+    }
+    false
+}
+
+/// The numbers that are in one of the two sets alone.
+pub fn symmetric_difference(
+    alloc: Global,
+    left: &[Interval],
+    right: &[Interval],
+) -> Result<Vec<Interval>, AllocError>
+    requires left { AreMaximal left.now }
+    requires right { AreMaximal right.now }
+    ensures maximal { IfOk result (λ found. AreMaximal found.items) }
+    ensures members { IfOk result (λ found. (n : ℕ) → is_in found.items n ≡ differ (is_in left.now n) (is_in right.now n)) }
+{
+    let mut left = Edges::new(left);
+    let mut right = Edges::new(right);
+    let mut found = Vec::new(alloc);
+    let mut start = 0;
+    let mut inside = false;
+    while let Some(place) = pass_both(&mut left, &mut right) {
+        let was_inside = inside;
+        inside = left.is_inside() != right.is_inside();
+        if inside == was_inside {
+            continue;
+        }
+        if inside {
+            start = place;
+        } else {
+            found.push(Interval {
+                first: start as u32,
+                last: (place - 1) as u32,
+            })?;
+        }
+    }
+    Ok(found)
+}

@@ -1,0 +1,5 @@
+pub mod Name
+pub mod Parts
+pub mod Path
+pub mod Role
+pub mod Spans

@@ -1,0 +1,19 @@
+-- A text in parts, which `/` separates.
+use Rattle.std.specs.Prelude.{◌==◌, ◌≡◌, ℕ, List, ◌∷◌, ◌++◌, ◌⊎◌}
+use Rattle.std.specs.List.{slice_split, join_with_byte}
+
+-- the parts of a text, which is cut at each `/`
+abbrev pub parts_of : List ℕ → List (List ℕ)
+parts_of text = slice_split (λ b. b == 47) text
+
+-- the parts joined by `/`
+abbrev pub text_of : List (List ℕ) → List ℕ
+text_of parts = join_with_byte 47 parts
+
+-- the path begins with the other path's parts
+abbrev pub BeginsWith : List (List ℕ) → List (List ℕ) → Type 0
+BeginsWith path front = (rest : List (List ℕ)) × (front ++ rest ≡ path)
+
+-- the text is the other one, or goes on after it with `/`
+abbrev pub GoesOn : List ℕ → List ℕ → Type 0
+GoesOn text front = (text ≡ front) ⊎ ((more : List ℕ) × (text ≡ front ++ 47 ∷ more))

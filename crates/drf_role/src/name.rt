@@ -1,0 +1,143 @@
+//! Names of agents, frameworks and tasks, and labels of resources.
+ghost use Rattle.std.specs.Prelude.{◌≡◌, ◌↔◌, List, ℕ, IfOk, OnOk, IsTrue, IsErrOf};
+ghost use Rattle.drf_role.specs.Name.{IsNameByte, IsLabelByte, IsName, IsLabel};
+
+use crate::word::Word;
+use std::alloc::{AllocError, Global};
+use std::marker::Model;
+use thiserror::Error;
+
+/// The most bytes of a name or a label.
+const MAX_NAME_LEN: usize = 64;
+
+#[derive(Clone, Copy, Debug, PartialEq, Eq, Error)]
+pub enum NameFault {
+    #[error("not a name")]
+    BadName,
+    #[error("out of memory")]
+    Memory,
+}
+
+fn is_name_byte(byte: u8) -> bool
+    ensures { IsTrue result ↔ IsNameByte byte }
+{
+    byte.is_ascii_alphanumeric() || byte == b'_' || byte == b'-' || byte == b'.'
+}
+
+fn is_label_byte(byte: u8) -> bool
+    ensures { IsTrue result ↔ IsLabelByte byte }
+{
+    is_name_byte(byte) || byte == b'/'
+}
+
+fn is_name(text: &str) -> bool
+    ensures { IsTrue result ↔ IsName text.now }
+{
+    let bytes = text.as_bytes();
+    !bytes.is_empty() && bytes.len() <= MAX_NAME_LEN && bytes.iter().all(|b| is_name_byte(*b))
+}
+
+fn is_label(text: &str) -> bool
+    ensures { IsTrue result ↔ IsLabel text.now }
+{
+    let bytes = text.as_bytes();
+    !bytes.is_empty() && bytes.len() <= MAX_NAME_LEN && bytes.iter().all(|b| is_label_byte(*b))
+}
+
+/// The name of an agent, a framework or a task: 1 to 64 letters, digits, `_`, `-` or `.`.
+#[derive(Debug, Drop, PartialEq, Eq, PartialOrd, Ord, Hash)]
+pub struct Name {
+    word: Word,
+}
+
+impl Model for Name {
+    ghost Value = { List ℕ };
+
+    ghost view = { λ n. n.word };
+
+    ghost invariant = { λ n. IsName n.word };
+
+    ghost inverse = { λ bytes. record { word = bytes } };
+}
+
+impl Name {
+    /// Reads a name. What is no name is `BadName`, and memory is asked for only at a name.
+    pub fn read(alloc: Global, text: &str) -> Result<Name, NameFault>
+        ensures ok { IfOk result (λ name. name ≡ text.now) }
+        ensures right { OnOk result (IsName text.now) }
+        ensures bad { IsErrOf result NameFault.BadName ↔ ¬ IsName text.now }
+        ensures memory { IsErrOf result NameFault.Memory → IsName text.now }
+    {
+        if !is_name(text) {
+            return Err(NameFault::BadName);
+        }
+        match Word::from_text(alloc, text) {
+            Ok(word) => Ok(Name { word }),
+            Err(_) => Err(NameFault::Memory),
+        }
+    }
+
+    pub fn text(&self) -> &str
+        ensures text { result.now ≡ self.now }
+        ensures right { IsName self.now }
+    {
+        self.word.text()
+    }
+
+    pub fn copy(&self) -> Result<Name, AllocError>
+        ensures { IfOk result (λ name. name ≡ self.now) }
+    {
+        Ok(Name {
+            word: self.word.copy()?,
+        })
+    }
+}
+
+/// The name of a resource or of a member of a set: 1 to 64 letters, digits, `_`, `-`, `.` or `/`.
+#[derive(Debug, Drop, PartialEq, Eq, PartialOrd, Ord, Hash)]
+pub struct Label {
+    word: Word,
+}
+
+impl Model for Label {
+    ghost Value = { List ℕ };
+
+    ghost view = { λ l. l.word };
+
+    ghost invariant = { λ l. IsLabel l.word };
+
+    ghost inverse = { λ bytes. record { word = bytes } };
+}
+
+impl Label {
+    /// Reads a label. What is no label is `BadName`, and memory is asked for only at a label.
+    pub fn read(alloc: Global, text: &str) -> Result<Label, NameFault>
+        ensures ok { IfOk result (λ label. label ≡ text.now) }
+        ensures right { OnOk result (IsLabel text.now) }
+        ensures bad { IsErrOf result NameFault.BadName ↔ ¬ IsLabel text.now }
+        ensures memory { IsErrOf result NameFault.Memory → IsLabel text.now }
+    {
+        if !is_label(text) {
+            return Err(NameFault::BadName);
+        }
+        match Word::from_text(alloc, text) {
+            Ok(word) => Ok(Label { word }),
+            Err(_) => Err(NameFault::Memory),
+        }
+    }
+
+    pub fn text(&self) -> &str
+        ensures text { result.now ≡ self.now }
+        ensures right { IsLabel self.now }
+    {
+        self.word.text()
+    }
+
+    pub fn copy(&self) -> Result<Label, AllocError>
+        ensures { IfOk result (λ label. label ≡ self.now) }
+    {
+        Ok(Label {
+            word: self.word.copy()?,
+        })
+    }
+}

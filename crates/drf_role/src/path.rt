@@ -1,0 +1,199 @@
+//! Paths of clients and nodes in the tree of roles.
+ghost use Rattle.std.specs.String.{string_bytes};
+ghost use Rattle.std.specs.Prelude.{◌≡◌, ◌==◌, ◌<◌, ◌≤◌, ◌+◌, ◌++◌, codes, List, ℕ, IfOk, Some, length, slice_get, take};
+ghost use Rattle.std.specs.Cmp;
+ghost use Rattle.std.specs.Cmp.Lexicographic.{pointwise, lists_equiv, nat_list_eq_equiv};
+ghost use Rattle.drf_role.specs.Name.{IsName};
+ghost use Rattle.drf_role.specs.Role.{IsRole};
+ghost use Rattle.drf_role.specs.Parts.{parts_of, text_of};
+ghost use Rattle.drf_role.specs.Path.{client_path, role_part, framework_part, IsClientPath, IsNodePath};
+
+use crate::joined::Joined;
+use crate::name::Name;
+use crate::role::Role;
+use std::alloc::{AllocError, Global};
+use std::marker::Model;
+
+// The part under which the clients of a role itself stand.
+const OWN_CHILD: &str = ".";
+
+// That part, between a role and a framework.
+const DOT_PART: &str = "/./";
+
+fn client_text(alloc: Global, role: &str, framework: &str) -> Result<String, AllocError>
+    requires { length role.now + length framework.now < 1000 }
+    ensures { IfOk result
+        (λ text. string_bytes text ≡ role.now ++ codes "/./" ++ framework.now) }
+{
+    let len = role.len() + DOT_PART.len() + framework.len();
+    let mut text = String::with_capacity(alloc, len)?;
+    text.push_str(role)?;
+    text.push_str(DOT_PART)?;
+    text.push_str(framework)?;
+    Ok(text)
+}
+
+/// The path of a client, a framework in one of its roles: the role's components, then `.`, then
+/// the framework's name. Contracts see the list of these parts.
+#[derive(Debug, Drop)]
+pub struct ClientPath {
+    role: Role,
+    framework: Name,
+}
+
+impl Model for ClientPath {
+    ghost Value = { List (List ℕ) };
+
+    ghost view = { λ p. client_path p.role p.framework };
+
+    ghost invariant = { λ p. IsRole p.role × IsName p.framework };
+}
+
+impl ClientPath {
+    pub fn new(role: &Role, framework: &Name) -> Result<ClientPath, AllocError>
+        ensures { IfOk result (λ path. path ≡ client_path role.now framework.now) }
+    {
+        Ok(ClientPath::from_parts(role.copy()?, framework.copy()?))
+    }
+
+    /// The path of a framework in a role, which it keeps; no memory is asked for.
+    pub fn from_parts(role: Role, framework: Name) -> ClientPath
+        ensures { result ≡ client_path role framework }
+    {
+        // What these calls ensure tells the proof that the two are right.
+        let _ = role.text();
+        let _ = framework.text();
+        ClientPath { role, framework }
+    }
+
+    /// The role that the client is in.
+    pub fn role(&self) -> &Role
+        ensures { result.now ≡ role_part self.now }
+    {
+        &self.role
+    }
+
+    /// The name of the client's framework.
+    pub fn framework(&self) -> &Name
+        ensures { result.now ≡ framework_part self.now }
+    {
+        &self.framework
+    }
+
+    /// The number of parts.
+    pub fn len(&self) -> usize
+        ensures len { result ≡ length self.now }
+        ensures few { result ≤ 10 }
+        ensures right { IsClientPath self.now }
+    {
+        self.role.len() + 2
+    }
+
+    /// The part at an index.
+    pub fn part(&self, i: usize) -> &str
+        requires { i < length self.now }
+        ensures { slice_get self.now i ≡ Some result.now }
+    {
+        if i < self.role.len() {
+            self.role.part(i)
+        } else if i == self.role.len() {
+            OWN_CHILD
+        } else {
+            self.framework.text()
+        }
+    }
+
+    pub fn copy(&self) -> Result<ClientPath, AllocError>
+        ensures { IfOk result (λ path. path ≡ self.now) }
+    {
+        ClientPath::new(&self.role, &self.framework)
+    }
+
+    // The parts in one text, of which a node is a front.
+    fn joined(&self, alloc: Global) -> Result<Joined, AllocError>
+        ensures parts { IfOk result (λ joined. joined ≡ self.now) }
+        ensures right { IsClientPath self.now }
+    {
+        let text = client_text(alloc, self.role.text(), self.framework.text())?;
+        let joined = Joined::cut(alloc, text)?;
+        Ok(joined)
+    }
+
+    /// The node that the first parts name, `len` of them.
+    pub fn node(&self, alloc: Global, len: usize) -> Result<NodePath, AllocError>
+        requires some { 1 ≤ len }
+        requires within { len ≤ length self.now }
+        ensures { IfOk result (λ node. node ≡ take len self.now) }
+    {
+        Ok(NodePath {
+            joined: self.joined(alloc)?.front(alloc, len)?,
+        })
+    }
+}
+
+impl PartialEq for ClientPath {
+    ghost eq = { pointwise (pointwise ◌==◌) };
+
+    ghost laws = { Cmp.partial_equiv_from_equiv (lists_equiv nat_list_eq_equiv) };
+
+    fn eq(&self, other: &ClientPath) -> bool {
+        self.framework == other.framework && self.role == other.role
+    }
+}
+
+impl Eq for ClientPath {
+    ghost laws = { lists_equiv nat_list_eq_equiv };
+}
+
+/// The path of a node: a non-empty prefix of a client's path. Contracts see the list of its
+/// parts. Paths are ordered part by part, each part by bytes, a prefix before what it begins.
+#[derive(Debug, Drop, PartialEq, Eq, PartialOrd, Ord, Hash)]
+pub struct NodePath {
+    joined: Joined,
+}
+
+impl Model for NodePath {
+    ghost Value = { List (List ℕ) };
+
+    ghost view = { λ p. p.joined };
+
+    ghost invariant = { λ p. IsNodePath p.joined };
+
+    ghost inverse = { λ parts. record { joined = parts } };
+}
+
+impl NodePath {
+    /// The parts joined by `/`.
+    pub fn text(&self) -> &str
+        ensures text { result.now ≡ text_of self.now }
+        ensures parts { parts_of result.now ≡ self.now }
+        ensures right { IsNodePath self.now }
+    {
+        self.joined.text()
+    }
+
+    /// The number of parts.
+    pub fn len(&self) -> usize
+        ensures len { result ≡ length self.now }
+        ensures some { 1 ≤ result }
+        ensures few { result ≤ 10 }
+    {
+        self.joined.len()
+    }
+
+    /// The part at an index.
+    pub fn part(&self, i: usize) -> &str
+        requires { i < length self.now }
+        ensures { slice_get self.now i ≡ Some result.now }
+    {
+        self.joined.part(i)
+    }
+
+    pub fn copy(&self) -> Result<NodePath, AllocError>
+        ensures { IfOk result (λ node. node ≡ self.now) }
+    {
+        Ok(NodePath {
+            joined: self.joined.copy()?,
+        })
+    }
+}

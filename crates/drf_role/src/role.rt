@@ -1,0 +1,185 @@
+//! Roles: `*`, or paths of components as `eng/web`.
+ghost use Rattle.std.specs.Prelude.{◌≡◌, ◌↔◌, ◌<◌, ◌≤◌, List, ℕ, All, IfOk, IsTrue, IsErrOf, Some, length, slice_get};
+ghost use Rattle.drf_role.specs.Parts.{parts_of, text_of};
+ghost use Rattle.drf_role.specs.Role.{IsComponentByte, IsComponent, IsRolePath, IsRole, IsRoleText, IsWithin, default_role};
+
+use crate::joined::Joined;
+use crate::parts::Parts;
+use std::alloc::{AllocError, Global};
+use std::marker::Model;
+use thiserror::Error;
+
+/// The most bytes of a role's text.
+const MAX_ROLE_LEN: usize = 64;
+
+/// The most components of a role.
+const MAX_COMPONENTS: usize = 8;
+
+const DEFAULT_ROLE: &str = "*";
+
+#[derive(Clone, Copy, Debug, PartialEq, Eq, Error)]
+pub enum RoleFault {
+    #[error("not a role")]
+    BadRole,
+    #[error("out of memory")]
+    Memory,
+}
+
+fn is_component_byte(byte: u8) -> bool
+    ensures { IsTrue result ↔ IsComponentByte byte }
+{
+    byte.is_ascii_graphic()
+        && byte != b'/'
+        && byte != b'('
+        && byte != b')'
+        && byte != b':'
+        && byte != b';'
+}
+
+fn is_component(text: &str) -> bool
+    ensures { IsTrue result ↔ IsComponent text.now }
+{
+    let bytes = text.as_bytes();
+    if bytes.is_empty() || bytes[0] == b'-' {
+        return false;
+    }
+    if text == "." || text == ".." || text == "*" {
+        return false;
+    }
+    bytes.iter().all(|b| is_component_byte(*b))
+}
+
+fn component_count(text: &str) -> usize
+    ensures { result ≡ length (parts_of text.now) }
+{
+    text.split('/').count()
+}
+
+fn are_components(text: &str) -> bool
+    ensures { IsTrue result ↔ All IsComponent (parts_of text.now) }
+{
+    text.split('/').all(|component| is_component(component))
+}
+
+fn is_role_path(text: &str) -> bool
+    ensures { IsTrue result ↔ IsRolePath (parts_of text.now) }
+{
+    if text.len() > MAX_ROLE_LEN {
+        return false;
+    }
+    if component_count(text) > MAX_COMPONENTS {
+        return false;
+    }
+    are_components(text)
+}
+
+fn is_role(text: &str) -> bool
+    ensures { IsTrue result ↔ IsRoleText text.now }
+{
+    if text == DEFAULT_ROLE {
+        return true;
+    }
+    is_role_path(text)
+}
+
+/// A role: `*`, or 1 to 8 components joined by `/`, in 64 bytes at most. Contracts see the
+/// list of its components.
+#[derive(Debug, Drop, PartialEq, Eq, Hash)]
+pub struct Role {
+    joined: Joined,
+}
+
+impl Model for Role {
+    ghost Value = { List (List ℕ) };
+
+    ghost view = { λ r. r.joined };
+
+    ghost invariant = { λ r. IsRole r.joined };
+
+    ghost inverse = { λ components. record { joined = components } };
+}
+
+impl Role {
+    /// Reads a role. What is no role is `BadRole`, and memory is asked for only at a role.
+    pub fn read(alloc: Global, text: &str) -> Result<Role, RoleFault>
+        ensures text { IfOk result (λ role. text_of role ≡ text.now) }
+        ensures parts { IfOk result (λ role. role ≡ parts_of text.now) }
+        ensures right { IfOk result IsRole }
+        ensures bad { IsErrOf result RoleFault.BadRole ↔ ¬ IsRoleText text.now }
+        ensures memory { IsErrOf result RoleFault.Memory → IsRoleText text.now }
+    {
+        if !is_role(text) {
+            return Err(RoleFault::BadRole);
+        }
+        match Joined::from_text(alloc, text) {
+            Ok(joined) => Ok(Role { joined }),
+            Err(_) => Err(RoleFault::Memory),
+        }
+    }
+
+    /// The role `*`.
+    pub fn default_role(alloc: Global) -> Result<Role, AllocError>
+        ensures { IfOk result (λ role. role ≡ default_role) }
+    {
+        Ok(Role {
+            joined: Joined::from_text(alloc, DEFAULT_ROLE)?,
+        })
+    }
+
+    /// The text of the role: `*`, or its components joined by `/`.
+    pub fn text(&self) -> &str
+        ensures text { result.now ≡ text_of self.now }
+        ensures parts { parts_of result.now ≡ self.now }
+        ensures right { IsRole self.now }
+    {
+        self.joined.text()
+    }
+
+    /// The number of components.
+    pub fn len(&self) -> usize
+        ensures len { result ≡ length self.now }
+        ensures some { 1 ≤ result }
+        ensures few { result ≤ 8 }
+    {
+        self.joined.len()
+    }
+
+    /// The component at an index.
+    pub fn part(&self, i: usize) -> &str
+        requires { i < length self.now }
+        ensures { slice_get self.now i ≡ Some result.now }
+    {
+        self.joined.part(i)
+    }
+
+    /// The components in order.
+    pub fn parts(&self) -> Parts<'_>
+        ensures { result ≡ self.now }
+    {
+        self.joined.parts()
+    }
+
+    pub fn copy(&self) -> Result<Role, AllocError>
+        ensures { IfOk result (λ role. role ≡ self.now) }
+    {
+        Ok(Role {
+            joined: self.joined.copy()?,
+        })
+    }
+
+    /// Whether the role is `*`.
+    pub fn is_default(&self) -> bool
+        ensures { IsTrue result ↔ (self.now ≡ default_role) }
+    {
+        self.text() == DEFAULT_ROLE
+    }
+
+    /// Whether the role is the other one or stands below it. `*` is within itself alone, and no
+    /// other role is within `*`.
+    pub fn is_within(&self, outer: &Role) -> bool
+        ensures within { IsTrue result ↔ IsWithin self.now outer.now }
+        ensures default_alone { IsTrue result → ((self.now ≡ default_role) ↔ (outer.now ≡ default_role)) }
+    {
+        self.joined.begins_with(&outer.joined)
+    }
+}

@@ -1,0 +1,97 @@
+//! A short text that contracts see as its bytes.
+ghost use Rattle.std.specs.Prelude.{◌≡◌, List, ℕ, IfOk, Some};
+ghost use Rattle.std.specs.String.{string_bytes};
+ghost use Rattle.std.specs.Hash as fed;
+ghost use Rattle.std.specs.Cmp;
+ghost use Rattle.std.specs.Cmp.Lexicographic.{pointwise, slice_cmp, nat_list_eq_equiv, nat_list_cmp_total, texts_ties, texts_po, bytes_decides};
+ghost use Rattle.std.specs.Ordering.{nat_cmp};
+ghost use Rattle.std.proofs.Common.{◌==◌, refl, rules};
+ghost use Rattle.std.specs.Cmp.Rules.{comparing, hashing};
+
+use std::alloc::{AllocError, Global};
+use std::cmp::Ordering;
+use std::hash::{Hash, Hasher};
+use std::marker::Model;
+
+#[derive(Debug, Drop)]
+pub struct Word {
+    text: String,
+}
+
+impl Model for Word {
+    ghost Value = { List ℕ };
+
+    ghost view = { λ w. string_bytes w.text };
+}
+
+impl Word {
+    pub fn from_text(alloc: Global, text: &str) -> Result<Word, AllocError>
+        ensures { IfOk result (λ word. word ≡ text.now) }
+    {
+        Ok(Word {
+            text: String::from_str(alloc, text)?,
+        })
+    }
+
+    pub fn text(&self) -> &str
+        ensures { result.now ≡ self.now }
+    {
+        self.text.as_str()
+    }
+
+    pub fn copy(&self) -> Result<Word, AllocError>
+        ensures { IfOk result (λ word. word ≡ self.now) }
+    {
+        Ok(Word {
+            text: self.text.clone()?,
+        })
+    }
+}
+
+impl PartialEq for Word {
+    ghost eq = { pointwise ◌==◌ };
+
+    ghost laws = { Cmp.partial_equiv_from_equiv nat_list_eq_equiv };
+
+    fn eq(&self, other: &Word) -> bool {
+        self.text() == other.text()
+    }
+}
+
+impl Eq for Word {
+    ghost laws = { nat_list_eq_equiv };
+}
+
+impl PartialOrd for Word {
+    ghost partial_cmp = { λ a b. Some (slice_cmp nat_cmp a b) };
+
+    ghost laws = { texts_po };
+
+    fn partial_cmp(&self, other: &Word) -> Option<Ordering> {
+        Some(self.cmp(other))
+    }
+}
+
+impl Ord for Word {
+    ghost cmp = { slice_cmp nat_cmp };
+
+    ghost total = { nat_list_cmp_total };
+
+    ghost matches_partial_cmp = { λ a b. refl };
+
+    ghost matches_eq = { texts_ties };
+
+    fn cmp(&self, other: &Word) -> Ordering {
+        self.text().cmp(other.text())
+    }
+}
+
+impl Hash for Word {
+    ghost hash_input = { fed.str };
+
+    ghost respects_eq = { Prim.search (hashing, rules) };
+
+    fn hash<H: Hasher>(&self, state: &mut H) {
+        self.text().hash(state);
+    }
+}

@@ -1,0 +1,113 @@
+-- Some runs, with the replies that they are to have.
+use Rattle.std.specs.Prelude.{ℕ, List, [], ◌∷◌, ◌++◌, codes}
+use Rattle.drf_bundle.specs.declared.quantities.Entry.{Entry}
+use Rattle.drf_rows.specs.LimitNumbers.{LimitNumbers, ceilings}
+use Rattle.drf_rows.specs.declared.event.Event.{Event}
+use Rattle.drf_rows.specs.declared.event.Event.TheVariants.{AddAgent, AddFramework, Cycle}
+use Rattle.drf_rows.specs.declared.reply.OfferLine.{OfferLine}
+use Rattle.drf_rows.specs.declared.reply.Refusal.TheVariants.{TooLarge}
+use Rattle.drf_rows.specs.declared.reply.Reply.{Reply}
+use Rattle.drf_rows.specs.declared.reply.Reply.TheVariants.{Done, Offers, Refused}
+use Rattle.drf_rows.specs.Step.{opening, replies_to}
+
+-- so many thousandths
+abbrev pub cpus : ℕ → Entry
+cpus amount = record { label = codes "cpus"; amount = amount }
+
+abbrev pub mem : ℕ → Entry
+mem amount = record { label = codes "mem"; amount = amount }
+
+abbrev pub gpus : ℕ → Entry
+gpus amount = record { label = codes "gpus"; amount = amount }
+
+-- a framework that registers in one role of one component
+abbrev pub in_role : List ℕ → List ℕ → Event
+in_role framework role = AddFramework framework ((role ∷ []) ∷ [])
+
+-- an offer to a framework in a role of one component
+abbrev pub offer : ℕ → List ℕ → List ℕ → List ℕ → List Entry → OfferLine
+offer number framework role agent resources = record {
+  number = number;
+  agent = agent;
+  framework = framework;
+  role = role ∷ [];
+  resources = resources;
+}
+
+-- one agent, one framework and a cycle
+abbrev pub one_cycle : List Event
+one_cycle =
+    AddAgent (codes "n1") (cpus 4000 ∷ mem 1024000 ∷ [])
+    ∷ in_role (codes "f1") (codes "a")
+    ∷ Cycle 0
+    ∷ []
+
+-- what is offered is not offered again
+abbrev pub two_cycles : List Event
+two_cycles = one_cycle ++ Cycle 0 ∷ []
+
+abbrev pub two_cycles_replies : List Reply
+two_cycles_replies =
+    Done
+    ∷ Done
+    ∷ Offers (offer 1 (codes "f1") (codes "a") (codes "n1") (cpus 4000 ∷ mem 1024000 ∷ []) ∷ [])
+    ∷ Offers []
+    ∷ []
+
+-- three agents are shared by two frameworks, and a fourth has too little for an offer
+abbrev pub two_frameworks : List Event
+two_frameworks =
+    AddAgent (codes "n1") (cpus 4000 ∷ mem 1024000 ∷ [])
+    ∷ AddAgent (codes "n2") (cpus 2000 ∷ mem 512000 ∷ [])
+    ∷ AddAgent (codes "n3") (cpus 2000 ∷ mem 2048000 ∷ [])
+    ∷ in_role (codes "fa") (codes "a")
+    ∷ in_role (codes "fb") (codes "b")
+    ∷ Cycle 0
+    ∷ AddAgent (codes "n4") (cpus 9 ∷ mem 31999 ∷ [])
+    ∷ Cycle 0
+    ∷ []
+
+abbrev pub two_frameworks_replies : List Reply
+two_frameworks_replies =
+    Done
+    ∷ Done
+    ∷ Done
+    ∷ Done
+    ∷ Done
+    ∷ Offers (
+    offer 1 (codes "fa") (codes "a") (codes "n1") (cpus 4000 ∷ mem 1024000 ∷ [])
+    ∷ offer 2 (codes "fb") (codes "b") (codes "n2") (cpus 2000 ∷ mem 512000 ∷ [])
+    ∷ offer 3 (codes "fb") (codes "b") (codes "n3") (cpus 2000 ∷ mem 2048000 ∷ [])
+    ∷ [])
+    ∷ Done
+    ∷ Offers []
+    ∷ []
+
+-- the replies to a framework, an agent and a cycle
+abbrev pub replies_with : List Entry → List Reply
+replies_with total =
+    replies_to ceilings opening (in_role (codes "f1") (codes "a") ∷ AddAgent (codes "n1") total ∷ Cycle 0 ∷ [])
+
+-- the agent has too little for an offer
+abbrev pub not_offered : List Reply
+not_offered = Done ∷ Done ∷ Offers [] ∷ []
+
+-- the agent is offered whole
+abbrev pub offered_whole : List Entry → List Reply
+offered_whole total =
+    Done ∷ Done ∷ Offers (offer 1 (codes "f1") (codes "a") (codes "n1") total ∷ []) ∷ []
+
+-- the agent has too much of a scalar
+abbrev pub refused_as_too_large : List Reply
+refused_as_too_large = Done ∷ Refused TooLarge ∷ Offers [] ∷ []
+
+-- one agent more than the limit of one
+abbrev pub one_agent : LimitNumbers
+one_agent = record ceilings { agents = 1 }
+
+abbrev pub two_agents : List Event
+two_agents = AddAgent (codes "n1") (cpus 1000 ∷ []) ∷ AddAgent (codes "n2") (cpus 1000 ∷ []) ∷ []
+
+-- one event more than the limit of two
+abbrev pub two_events : LimitNumbers
+two_events = record ceilings { events = 2 }

@@ -1,0 +1,69 @@
+-- What is proved of the definitions.
+use Rattle.std.specs.Prelude.{◌≡◌, ◌+◌, true, false, List, ◌∷◌, ◌++◌, ℕ, map, length, Some, None, IsTrue}
+use Rattle.std.specs.List.Sorted.{IsPermutation}
+use Rattle.drf_bundle.specs.Quantities.{is_in_order}
+use Rattle.drf_rows.specs.LimitNumbers.{LimitNumbers}
+use Rattle.drf_rows.specs.Paths.{Client, path_of}
+use Rattle.drf_rows.specs.Share.{Standing, stands_before, is_serving_order}
+use Rattle.drf_rows.specs.Cycle.{free_of, is_allocatable, with_offer, all_tried, serving_order}
+use Rattle.drf_rows.specs.Step.{refusal_of, effect, answer, rows_after, reply_to, rows_after_all, replies_to}
+use Rattle.drf_rows.specs.declared.rows.AgentRow.{AgentRow}
+use Rattle.drf_rows.specs.declared.rows.Rows.{Rows}
+use Rattle.drf_rows.specs.declared.event.Event.{Event}
+use Rattle.drf_rows.specs.declared.reply.Refusal.{Refusal}
+use Rattle.drf_rows.specs.declared.reply.Reply.TheVariants.{Refused}
+
+-- no path stands before itself
+abbrev pub NoneBeforeItself : Type 0
+NoneBeforeItself = (s : Standing) (path : List (List ℕ)) → stands_before s path path ≡ false
+
+-- of two paths at most one stands before the other
+abbrev pub AtMostOneBefore : Type 0
+AtMostOneBefore =
+    (s : Standing) (a b : List (List ℕ)) → stands_before s a b ≡ true → stands_before s b a ≡ false
+
+-- where the paths of some clients stand in a serving order, a turn serves the clients in that order
+abbrev pub OneServingOrder : Type 0
+OneServingOrder =
+    (s : Standing) (clients : List Client) (paths : List (List (List ℕ)))
+    → IsPermutation (map path_of clients) paths
+    → IsTrue (is_serving_order s paths)
+    → map path_of (serving_order s (length clients) clients) ≡ paths
+
+-- where too little is free on an agent, its turn grants nothing
+abbrev pub TooLittleIsNotGranted : Type 0
+TooLittleIsNotGranted =
+    (rows : Rows) (agent : AgentRow) (clients : List Client)
+    → is_allocatable (free_of rows agent) ≡ false
+    → all_tried rows agent clients ≡ rows
+
+-- where enough is free, the first client is granted all of it, and the others nothing
+abbrev pub FirstIsGrantedAll : Type 0
+FirstIsGrantedAll =
+    (rows : Rows) (agent : AgentRow) (first : Client) (others : List Client)
+    → is_allocatable (free_of rows agent) ≡ true
+    → IsTrue (is_in_order (free_of rows agent))
+    → all_tried rows agent (first ∷ others) ≡ with_offer rows agent first (free_of rows agent)
+
+-- a refused event is told so, and changes nothing
+abbrev pub RefusedChangesNothing : Type 0
+RefusedChangesNothing =
+    (limits : LimitNumbers) (rows : Rows) (event : Event) (refusal : Refusal)
+    → refusal_of limits rows event ≡ Some refusal
+    → (reply_to limits rows event ≡ Refused refusal) × (rows_after limits rows event ≡ rows)
+
+-- any other has its effect, and is counted
+abbrev pub AcceptedIsCounted : Type 0
+AcceptedIsCounted =
+    (limits : LimitNumbers) (rows : Rows) (event : Event)
+    → refusal_of limits rows event ≡ None
+    → (reply_to limits rows event ≡ answer rows (effect rows event) event)
+    × (rows_after limits rows event ≡ record (effect rows event) { accepted = rows.accepted + 1 })
+
+-- a run goes on from where an earlier one ended
+abbrev pub RunsGoOn : Type 0
+RunsGoOn =
+    (limits : LimitNumbers) (rows : Rows) (first second : List Event)
+    → (replies_to limits rows (first ++ second)
+    ≡ replies_to limits rows first ++ replies_to limits (rows_after_all limits rows first) second)
+    × (rows_after_all limits rows (first ++ second) ≡ rows_after_all limits (rows_after_all limits rows first) second)

@@ -1,0 +1,17 @@
+pub mod LimitNumbers
+pub mod Limits
+pub mod Paths
+pub mod PathLaws
+pub mod Share
+pub mod Held
+pub mod Cycle
+pub mod ServingOrder
+pub mod Refusal
+pub mod Step
+pub mod StepLaws
+pub mod RunLaws
+pub mod RegistrationLaws
+pub mod CycleLaws
+pub mod Examples
+pub mod OrderExamples
+pub mod Laws

@@ -1,0 +1,45 @@
+-- The limits of the tables, as numbers.
+use Rattle.std.specs.Prelude.{ℕ, ◌≤◌}
+
+-- how many agents, frameworks, roles of one framework, clients, filters in force, weight rows, limit rows, names of
+-- scalars over all agents, and accepted events there may be
+pub record LimitNumbers : Type 0 where
+  pub agents : ℕ
+  pub frameworks : ℕ
+  pub roles : ℕ
+  pub clients : ℕ
+  pub filters : ℕ
+  pub weights : ℕ
+  pub limits : ℕ
+  pub scalar_names : ℕ
+  pub events : ℕ
+
+-- the greatest limits
+abbrev pub ceilings : LimitNumbers
+ceilings = record {
+  agents = 4096;
+  frameworks = 1024;
+  roles = 8;
+  clients = 4096;
+  filters = 65536;
+  weights = 4096;
+  limits = 4096;
+  scalar_names = 32;
+  events = 4294967295;
+}
+
+-- a number from 1 to the ceiling
+abbrev pub IsWithin : ℕ → ℕ → Type 0
+IsWithin n ceiling = (1 ≤ n) × (n ≤ ceiling)
+
+-- each limit is at least 1 and at most its ceiling
+pub record IsWithinCeilings (l : LimitNumbers) : Type 0 where
+  pub agents : IsWithin l.agents ceilings.agents
+  pub frameworks : IsWithin l.frameworks ceilings.frameworks
+  pub roles : IsWithin l.roles ceilings.roles
+  pub clients : IsWithin l.clients ceilings.clients
+  pub filters : IsWithin l.filters ceilings.filters
+  pub weights : IsWithin l.weights ceilings.weights
+  pub limits : IsWithin l.limits ceilings.limits
+  pub scalar_names : IsWithin l.scalar_names ceilings.scalar_names
+  pub events : IsWithin l.events ceilings.events

@@ -1,0 +1,24 @@
+-- The numbers and the names that refusals are told by.
+use Rattle.std.specs.Prelude.{ℕ, List, codes}
+use Rattle.drf_rows.specs.declared.reply.Refusal.{Refusal}
+use Rattle.drf_rows.specs.declared.reply.Refusal.TheVariants.{HistoryFull, BadMoment, KnownAgent, KnownFramework, Empty, TooLarge, TooMany}
+
+-- the number of a refusal: of several whose cases hold, the one of the least number is answered
+abbrev pub number_of : Refusal → ℕ
+number_of HistoryFull = 1
+number_of BadMoment = 2
+number_of KnownAgent = 4
+number_of KnownFramework = 6
+number_of Empty = 13
+number_of TooLarge = 18
+number_of TooMany = 19
+
+-- the name of a refusal
+abbrev pub name_of : Refusal → List ℕ
+name_of HistoryFull = codes "HistoryFull"
+name_of BadMoment = codes "BadMoment"
+name_of KnownAgent = codes "KnownAgent"
+name_of KnownFramework = codes "KnownFramework"
+name_of Empty = codes "Empty"
+name_of TooLarge = codes "TooLarge"
+name_of TooMany = codes "TooMany"

@@ -1,0 +1,26 @@
+-- Runs over one list of events after another.
+use Rattle.std.specs.Prelude.{◌≡◌, List, [], ◌∷◌, ◌++◌, length}
+use Rattle.std.proofs.Common.{refl, ap, suc}
+use Rattle.drf_rows.specs.LimitNumbers.{LimitNumbers}
+use Rattle.drf_rows.specs.Step.{rows_after, rows_after_all, reply_to, replies_to}
+use Rattle.drf_rows.specs.declared.event.Event.{Event}
+use Rattle.drf_rows.specs.declared.rows.Rows.{Rows}
+
+pub rows_after_all-append : (limits : LimitNumbers) (rows : Rows) (first second : List Event)
+    → rows_after_all limits rows (first ++ second) ≡ rows_after_all limits (rows_after_all limits rows first) second
+rows_after_all-append limits rows [] second = refl
+rows_after_all-append limits rows (event ∷ first) second =
+    rows_after_all-append limits (rows_after limits rows event) first second
+
+pub replies_to-append : (limits : LimitNumbers) (rows : Rows) (first second : List Event)
+    → replies_to limits rows (first ++ second)
+    ≡ replies_to limits rows first ++ replies_to limits (rows_after_all limits rows first) second
+replies_to-append limits rows [] second = refl
+replies_to-append limits rows (event ∷ first) second =
+    ap (λ replies. reply_to limits rows event ∷ replies)
+    (replies_to-append limits (rows_after limits rows event) first second)
+
+pub length-replies_to : (limits : LimitNumbers) (rows : Rows) (events : List Event)
+    → length (replies_to limits rows events) ≡ length events
+length-replies_to limits rows [] = refl
+length-replies_to limits rows (event ∷ events) = ap suc (length-replies_to limits (rows_after limits rows event) events)

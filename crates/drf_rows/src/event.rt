@@ -1,0 +1,45 @@
+ghost use Rattle.std.specs.Prelude.{◌≡◌, IfOk};
+
+use crate::table::Table;
+use drf_bundle::Bundle;
+use drf_role::{Name, Role};
+use std::alloc::{AllocError, Global};
+
+/// What happens to the cluster. The allocator takes one event at a time, whole or not at all.
+#[derive(Debug, Drop)]
+pub enum Event {
+    /// An agent registers with all its resources.
+    AddAgent { agent: Name, total: Bundle },
+    /// A framework registers in its roles.
+    AddFramework { framework: Name, roles: Table<Role> },
+    /// The allocator offers what is free, at a moment in milliseconds.
+    Cycle { at: u64 },
+}
+
+fn copy_roles(alloc: Global, roles: &Table<Role>) -> Result<Table<Role>, AllocError>
+    ensures { IfOk result (λ copy. copy ≡ roles.now) }
+{
+    let mut copy = Vec::new(alloc);
+    for role in roles.as_slice() {
+        copy.push(role.copy()?)?;
+    }
+    Ok(Table::from_vec(copy))
+}
+
+impl Event {
+    pub fn copy(&self, alloc: Global) -> Result<Event, AllocError>
+        ensures { IfOk result (λ copy. copy ≡ self.now) }
+    {
+        match self {
+            Event::AddAgent { agent, total } => Ok(Event::AddAgent {
+                agent: agent.copy()?,
+                total: total.copy(alloc)?,
+            }),
+            Event::AddFramework { framework, roles } => Ok(Event::AddFramework {
+                framework: framework.copy()?,
+                roles: copy_roles(alloc, roles)?,
+            }),
+            Event::Cycle { at } => Ok(Event::Cycle { at: *at }),
+        }
+    }
+}

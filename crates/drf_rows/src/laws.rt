@@ -1,0 +1,68 @@
+//! Laws of the definitions, and runs whose replies are computed from them. The functions do nothing: what they promise
+//! is proved of the definitions alone.
+#![tactic(auto, unfolding(crate::specs::Share::is_ahead, crate::specs::Held::standing_of, crate::specs::Cycle::free_of, crate::specs::Cycle::with_offer, crate::specs::Cycle::turn, crate::specs::Cycle::cycle, crate::specs::Step::refusal_of, crate::specs::Step::effect, crate::specs::Step::rows_after, crate::specs::Step::reply_to))]
+
+ghost use Rattle.std.specs.Prelude.{◌≡◌, [], ◌∷◌, codes};
+ghost use Rattle.drf_rows.specs.LimitNumbers.{ceilings};
+ghost use Rattle.drf_rows.specs.Step.{opening, replies_to};
+ghost use Rattle.drf_rows.specs.Laws.{NoneBeforeItself, AtMostOneBefore, OneServingOrder, TooLittleIsNotGranted, FirstIsGrantedAll, RefusedChangesNothing, AcceptedIsCounted, RunsGoOn};
+ghost use Rattle.drf_rows.specs.Examples.{one_cycle, two_cycles, two_cycles_replies, two_frameworks, two_frameworks_replies, replies_with, not_offered, offered_whole, refused_as_too_large, one_agent, two_agents, two_events, cpus, mem, gpus};
+ghost use Rattle.drf_rows.specs.OrderExamples.{served, close_shares, equal_shares, weighted_shares, shares_of, first_agent, second_agent, role_tree, more_for_ops, half_weight_of_eng, nothing_held};
+
+use crate::reply::{Refusal, Reply};
+
+/// Clients can be served in one order only, whatever they hold.
+pub fn serving_order_law()
+    ensures irreflexive { NoneBeforeItself }
+    ensures asymmetric { AtMostOneBefore }
+    ensures unique { OneServingOrder }
+{}
+
+/// The turn of an agent, as long as a client may have all that is free.
+pub fn turn_law()
+    ensures little { TooLittleIsNotGranted }
+    ensures enough { FirstIsGrantedAll }
+{}
+
+/// A step refuses an event, or does what it says.
+pub fn step_law()
+    ensures refused { RefusedChangesNothing }
+    ensures accepted { AcceptedIsCounted }
+    ensures runs { RunsGoOn }
+{}
+
+/// What is offered is not offered again, and each offer changes who is served first.
+pub fn cycles_example()
+    ensures two_cycles { replies_to ceilings opening two_cycles ≡ two_cycles_replies }
+    ensures two_frameworks { replies_to ceilings opening two_frameworks ≡ two_frameworks_replies }
+{}
+
+/// An offer has at least 0.01 `cpus` or 32 `mem`.
+pub fn least_offer_example()
+    ensures below { replies_with (cpus 9 ∷ mem 31999 ∷ []) ≡ not_offered }
+    ensures others { replies_with (gpus 8000 ∷ []) ≡ not_offered }
+    ensures nothing { replies_with [] ≡ not_offered }
+    ensures cpus { replies_with (cpus 10 ∷ []) ≡ offered_whole (cpus 10 ∷ []) }
+    ensures mem { replies_with (mem 32000 ∷ []) ≡ offered_whole (mem 32000 ∷ []) }
+{}
+
+/// Each limit is reached before it refuses.
+pub fn limits_example()
+    ensures largest { replies_with (cpus 1099511627775 ∷ []) ≡ offered_whole (cpus 1099511627775 ∷ []) }
+    ensures too_large { replies_with (cpus 1099511627776 ∷ []) ≡ refused_as_too_large }
+    ensures agents { replies_to one_agent opening two_agents ≡ Reply.Done ∷ Reply.Refused Refusal.TooMany ∷ [] }
+    ensures events { replies_to two_events opening one_cycle ≡ Reply.Done ∷ Reply.Done ∷ Reply.Refused Refusal.HistoryFull ∷ [] }
+{}
+
+/// Shares are compared as exact fractions, then counts, then names, from the top of the role tree down.
+pub fn order_example()
+    ensures close { served close_shares ≡ codes "fb" ∷ codes "fa" ∷ [] }
+    ensures equal { served equal_shares ≡ codes "fb" ∷ codes "fa" ∷ [] }
+    ensures weighted { served weighted_shares ≡ codes "fa" ∷ codes "fb" ∷ [] }
+    ensures one_agent { served (shares_of (first_agent ∷ [])) ≡ codes "fa" ∷ codes "fb" ∷ [] }
+    ensures two_agents { served (shares_of (first_agent ∷ second_agent ∷ [])) ≡ codes "fb" ∷ codes "fa" ∷ [] }
+    ensures tree { served (role_tree 1 [] []) ≡ codes "f3" ∷ codes "f1" ∷ codes "f2" ∷ [] }
+    ensures more_for_one { served (role_tree 2 more_for_ops []) ≡ codes "f1" ∷ codes "f2" ∷ codes "f3" ∷ [] }
+    ensures light { served (role_tree 2 more_for_ops half_weight_of_eng) ≡ codes "f3" ∷ codes "f1" ∷ codes "f2" ∷ [] }
+    ensures below { served nothing_held ≡ codes "f2" ∷ codes "f1" ∷ [] }
+{}

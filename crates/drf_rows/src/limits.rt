@@ -1,0 +1,182 @@
+ghost use Rattle.std.specs.Prelude.{◌≡◌, ◌↔◌, IsTrue};
+ghost use Rattle.std.specs.Option.{SomeIff};
+ghost use Rattle.drf_rows.specs.LimitNumbers.{LimitNumbers, ceilings, IsWithin, IsWithinCeilings};
+
+use std::marker::Model;
+
+/// How large each table of the allocator may grow. Each number is at least 1 and at most its ceiling.
+#[derive(Clone, Copy, Debug)]
+pub struct Limits {
+    agents: u64,
+    frameworks: u64,
+    roles: u64,
+    clients: u64,
+    filters: u64,
+    weights: u64,
+    limits: u64,
+    scalar_names: u64,
+    events: u64,
+}
+
+impl Model for Limits {
+    ghost use Rattle.drf_rows.specs.LimitNumbers.{LimitNumbers, IsWithinCeilings};
+
+    ghost Value = { LimitNumbers };
+
+    ghost use Rattle.drf_rows.specs.Limits.{numbers_of, fields_of};
+
+    ghost view = { numbers_of };
+
+    ghost invariant = { λ l. IsWithinCeilings (numbers_of l) };
+
+    ghost inverse = { fields_of };
+}
+
+fn is_within(n: u64, ceiling: u64) -> bool
+    ensures { IsTrue result ↔ IsWithin n ceiling }
+{
+    1 <= n && n <= ceiling
+}
+
+impl Limits {
+    /// Every ceiling.
+    pub fn full() -> Limits
+        ensures { result ≡ ceilings }
+    {
+        Limits {
+            agents: 4096,
+            frameworks: 1024,
+            roles: 8,
+            clients: 4096,
+            filters: 65536,
+            weights: 4096,
+            limits: 4096,
+            scalar_names: 32,
+            events: 4294967295,
+        }
+    }
+
+    /// The limits of those numbers, where each is from 1 to its ceiling: how many agents, frameworks, roles of one
+    /// framework, clients, filters in force, weights, limits, names of scalars over all agents, and accepted events
+    /// there may be.
+    pub fn new(
+        agents: u64,
+        frameworks: u64,
+        roles: u64,
+        clients: u64,
+        filters: u64,
+        weights: u64,
+        limits: u64,
+        scalar_names: u64,
+        events: u64,
+    ) -> Option<Limits>
+        ensures { let numbers : LimitNumbers = record {
+          agents = agents;
+          frameworks = frameworks;
+          roles = roles;
+          clients = clients;
+          filters = filters;
+          weights = weights;
+          limits = limits;
+          scalar_names = scalar_names;
+          events = events;
+        } in SomeIff result (IsWithinCeilings numbers) numbers }
+    {
+        let full = Limits::full();
+        let is_right = is_within(agents, full.agents)
+            && is_within(frameworks, full.frameworks)
+            && is_within(roles, full.roles)
+            && is_within(clients, full.clients)
+            && is_within(filters, full.filters)
+            && is_within(weights, full.weights)
+            && is_within(limits, full.limits)
+            && is_within(scalar_names, full.scalar_names)
+            && is_within(events, full.events);
+        if !is_right {
+            return None;
+        }
+        Some(Limits {
+            agents,
+            frameworks,
+            roles,
+            clients,
+            filters,
+            weights,
+            limits,
+            scalar_names,
+            events,
+        })
+    }
+
+    /// How many agents may be registered.
+    pub fn agents(&self) -> u64
+        ensures value { result ≡ self.now.agents }
+        ensures within { IsWithinCeilings self.now }
+    {
+        self.agents
+    }
+
+    /// How many frameworks may be registered.
+    pub fn frameworks(&self) -> u64
+        ensures value { result ≡ self.now.frameworks }
+        ensures within { IsWithinCeilings self.now }
+    {
+        self.frameworks
+    }
+
+    /// How many roles a framework may have.
+    pub fn roles(&self) -> u64
+        ensures value { result ≡ self.now.roles }
+        ensures within { IsWithinCeilings self.now }
+    {
+        self.roles
+    }
+
+    /// How many clients there may be over all frameworks.
+    pub fn clients(&self) -> u64
+        ensures value { result ≡ self.now.clients }
+        ensures within { IsWithinCeilings self.now }
+    {
+        self.clients
+    }
+
+    /// How many filters may be in force.
+    pub fn filters(&self) -> u64
+        ensures value { result ≡ self.now.filters }
+        ensures within { IsWithinCeilings self.now }
+    {
+        self.filters
+    }
+
+    /// How many roles may have a weight.
+    pub fn weights(&self) -> u64
+        ensures value { result ≡ self.now.weights }
+        ensures within { IsWithinCeilings self.now }
+    {
+        self.weights
+    }
+
+    /// How many roles may have a limit.
+    pub fn limits(&self) -> u64
+        ensures value { result ≡ self.now.limits }
+        ensures within { IsWithinCeilings self.now }
+    {
+        self.limits
+    }
+
+    /// How many names of scalars there may be over all agents.
+    pub fn scalar_names(&self) -> u64
+        ensures value { result ≡ self.now.scalar_names }
+        ensures within { IsWithinCeilings self.now }
+    {
+        self.scalar_names
+    }
+
+    /// How many events may be accepted.
+    pub fn events(&self) -> u64
+        ensures value { result ≡ self.now.events }
+        ensures within { IsWithinCeilings self.now }
+    {
+        self.events
+    }
+}

@@ -1,0 +1,79 @@
+ghost use Rattle.std.specs.Prelude.{◌≡◌};
+
+use crate::table::Table;
+use drf_bundle::Bundle;
+use drf_role::{Name, Role};
+
+/// Why an event was turned away. The rows are then as they were.
+#[derive(Clone, Copy, Debug, PartialEq, Eq)]
+pub enum Refusal {
+    /// The allocator has taken as many events as its limits allow.
+    HistoryFull,
+    /// The moment is later than 2^62 milliseconds.
+    BadMoment,
+    /// An agent is registered under the name already.
+    KnownAgent,
+    /// A framework is registered under the name already.
+    KnownFramework,
+    /// The framework has no roles.
+    Empty,
+    /// A scalar of the agent exceeds 2^40 - 1 thousandths.
+    TooLarge,
+    /// The event would make a table larger than its limit.
+    TooMany,
+}
+
+impl Refusal {
+    ghost use Rattle.drf_rows.specs.Refusal.{number_of, name_of};
+
+    /// The number that the refusal is told by.
+    pub fn number(self) -> u64
+        ensures { result ≡ number_of self }
+    {
+        match self {
+            Refusal::HistoryFull => 1,
+            Refusal::BadMoment => 2,
+            Refusal::KnownAgent => 4,
+            Refusal::KnownFramework => 6,
+            Refusal::Empty => 13,
+            Refusal::TooLarge => 18,
+            Refusal::TooMany => 19,
+        }
+    }
+
+    /// The name that the refusal is told by.
+    pub fn name(self) -> &'static str
+        ensures { result.now ≡ name_of self }
+    {
+        match self {
+            Refusal::HistoryFull => "HistoryFull",
+            Refusal::BadMoment => "BadMoment",
+            Refusal::KnownAgent => "KnownAgent",
+            Refusal::KnownFramework => "KnownFramework",
+            Refusal::Empty => "Empty",
+            Refusal::TooLarge => "TooLarge",
+            Refusal::TooMany => "TooMany",
+        }
+    }
+}
+
+/// An offer, as it is told to the framework.
+#[derive(Debug, Drop)]
+pub struct OfferLine {
+    pub number: u64,
+    pub agent: Name,
+    pub framework: Name,
+    pub role: Role,
+    pub resources: Bundle,
+}
+
+/// The answer to an event.
+#[derive(Debug, Drop)]
+pub enum Reply {
+    /// The event was accepted.
+    Done,
+    /// A cycle was accepted, and made these offers.
+    Offers(Table<OfferLine>),
+    /// The event was refused, and changed nothing.
+    Refused(Refusal),
+}

@@ -1,0 +1,59 @@
+-- What a sound content says of the clients themselves.
+use Rattle.std.proofs.Common.{◌≡◌, ◌<◌, ◌≤◌, ◌+◌, ◌^◌, ℕ, Bool, true, false, List, [], ◌∷◌, ◌++◌, map, length, take, get_or, refl, sym, ap, ◌∙◌, inl, inr}
+use Rattle.std.proofs.lemmas.Bool.{cases_Bool}
+use Rattle.std.proofs.lemmas.List.{append-nil, map-append, take_more}
+use Rattle.std.proofs.lemmas.List.Elements.{filter-append}
+use Rattle.std.proofs.lemmas.Simd.{map-map}
+use Rattle.std.specs.List.{IsDistinct, sum_by, filter}
+use Rattle.drf_bundle.specs.Quantities.{amount_of}
+use Rattle.drf_rows.specs.Paths.{same_path, begins_with}
+use Rattle.drf_sorter.specs.declared.plain.Client.{Client}
+use Rattle.drf_sorter.specs.declared.plain.PlainSorter.{PlainSorter}
+use Rattle.drf_sorter.specs.Content.{Ranked, IsSound, standing_of, active_paths}
+use Rattle.drf_sorter.specs.Plain.{ranked, content_of, standing}
+use Rattle.drf_sorter.proofs.OrderLemmas.{distinct_filter}
+use Rattle.drf_sorter.proofs.SumLemmas.{sum_by-map}
+
+module _ (sorter : PlainSorter) (sound : IsSound (content_of sorter)) where
+  pub held_in_total : (label : List ℕ) → sum_by (λ (x : Client). amount_of x.held label) sorter.clients.items ≤ amount_of sorter.total label
+  held_in_total label = rw (sum_by-map (λ c. c.held label) ranked sorter.clients.items) at (sound.held label)
+
+  pub counts_fit : sum_by (λ (x : Client). x.count) sorter.clients.items < 2 ^ 64
+  counts_fit = rw (sum_by-map (λ c. c.count) ranked sorter.clients.items) at sound.count
+
+filter-map : {X Y : Type 0} (p : Y → Bool) (f : X → Y) (xs : List X) → filter p (map f xs) ≡ map f (filter (λ x. p (f x)) xs)
+filter-map p f [] = refl
+filter-map p f (x ∷ xs) = elim (cases_Bool (p (f x))) [
+  | inl passes ↦ rw passes (ap (λ ys. f x ∷ ys) (filter-map p f xs))
+  | inr fails ↦ rw fails (filter-map p f xs)
+]
+
+-- a sum over the clients of a node
+sum_of_node : (f : Ranked → ℕ) (node : List (List ℕ)) (clients : List Client) → sum_by (λ (x : Client). f (ranked x)) (filter (λ x. begins_with x.path node) clients) ≡ sum_by f (filter (λ c. begins_with c.path node) (map ranked clients))
+sum_of_node f node clients = sym (ap (λ cs. sum_by f cs) (filter-map (λ c. begins_with c.path node) ranked clients) ∙ sum_by-map f ranked (filter (λ x. begins_with x.path node) clients))
+
+pub held-standing : (sorter : PlainSorter) (node : List (List ℕ)) (label : List ℕ) → sum_by (λ (x : Client). amount_of x.held label) (filter (λ x. begins_with x.path node) sorter.clients.items) ≡ (standing sorter).held node label
+unfolding standing_of
+held-standing sorter node label = sum_of_node (λ c. c.held label) node sorter.clients.items
+
+pub count-standing : (sorter : PlainSorter) (node : List (List ℕ)) → sum_by (λ (x : Client). x.count) (filter (λ x. begins_with x.path node) sorter.clients.items) ≡ (standing sorter).count node
+unfolding standing_of
+count-standing sorter node = sum_of_node (λ c. c.count) node sorter.clients.items
+
+-- one more client is looked at
+module _ {X Y : Type 0} (p : X → Bool) (f : X → Y) (xs : List X) (i : ℕ) (x : X) (inside : i < length xs) (is : x ≡ get_or xs i x) where
+  one_more : take (i + 1) xs ≡ take i xs ++ x ∷ []
+  one_more = take_more xs i x inside ∙ ap (λ y. take i xs ++ y ∷ []) (sym is)
+
+  pub passed_more : p x ≡ true → map f (filter p (take (i + 1) xs)) ≡ map f (filter p (take i xs)) ++ f x ∷ []
+  passed_more passes = rw (one_more, filter-append p (take i xs) (x ∷ []), passes, map-append f (filter p (take i xs)) (x ∷ []))
+
+  pub passed_same : p x ≡ false → map f (filter p (take (i + 1) xs)) ≡ map f (filter p (take i xs))
+  passed_same fails = rw (one_more, filter-append p (take i xs) (x ∷ []), fails, append-nil (filter p (take i xs)))
+
+pub active_paths-ranked : (sorter : PlainSorter) → map (λ (x : Client). x.path) (filter (λ x. x.active) sorter.clients.items) ≡ active_paths (content_of sorter)
+active_paths-ranked sorter = sym (ap (map (λ c. c.path)) (filter-map (λ c. c.active) ranked sorter.clients.items) ∙ map-map (λ c. c.path) ranked (filter (λ (x : Client). x.active) sorter.clients.items))
+
+pub distinct_active : (sorter : PlainSorter) → IsDistinct same_path (active_paths (content_of sorter))
+distinct_active sorter =
+    rw (← active_paths-ranked sorter) (distinct_filter (λ (x : Client). x.path) (λ x. x.active) sorter.clients.items sorter.distinct)

@@ -1,0 +1,92 @@
+-- What a sorter holds: clients with what they hold, the total of the cluster, and weights.
+use Rattle.std.specs.Prelude.{◌≡◌, ℕ, ◌+◌, ◌-◌, ◌^◌, ◌<◌, ◌≤◌, Bool, true, List, [], ◌∷◌, ◌++◌, map, filter, sum_by, if◌then◌else◌, IsTrue}
+use Rattle.std.specs.List.{list_any, AllByRecursion}
+use Rattle.std.specs.List.Sorted.{IsPermutation}
+use Rattle.drf_bundle.specs.Quantities.{amount_of, is_in_order}
+use Rattle.drf_bundle.specs.declared.quantities.Entry.{Entry}
+use Rattle.drf_rows.specs.Paths.{same_path, begins_with}
+use Rattle.drf_rows.specs.Share.{Standing, is_serving_order}
+use Rattle.drf_rows.specs.Held.{weight_of}
+use Rattle.drf_rows.specs.declared.rows.WeightRow.{WeightRow}
+
+-- a client: its path, whether it is to be served, how much of each scalar it holds, and how many offers were made to it
+pub record Ranked : Type 0 where
+  pub path : List (List ℕ)
+  pub active : Bool
+  pub held : List ℕ → ℕ
+  pub count : ℕ
+
+-- all that an order depends on
+pub record Content : Type 0 where
+  pub clients : List Ranked
+  pub total : List Entry
+  pub weights : List WeightRow
+
+-- nothing yet
+abbrev pub empty : Content
+empty = record { clients = []; total = []; weights = [] }
+
+-- a client has that path
+abbrev pub has_client : Content → List (List ℕ) → Bool
+has_client content path = list_any (λ c. same_path c.path path) content.clients
+
+-- a client that was added last: it is active, and holds nothing
+abbrev pub with_client : Content → List (List ℕ) → Content
+with_client content path = record content {
+  clients = content.clients ++ record { path = path; active = true; held = λ _. 0; count = 0 } ∷ [];
+}
+
+-- one client is changed
+abbrev pub with_change : Content → List (List ℕ) → (Ranked → Ranked) → Content
+with_change content path change = record content {
+  clients = map (λ c. if same_path c.path path then change c else c) content.clients;
+}
+
+-- a client that was made one more offer, of these quantities
+abbrev pub charged : List Entry → Ranked → Ranked
+charged quantities c = record c { held = λ label. c.held label + amount_of quantities label; count = c.count + 1 }
+
+-- a client from which that is taken back
+abbrev pub discharged : List Entry → Ranked → Ranked
+discharged quantities c = record c { held = λ label. c.held label - amount_of quantities label; count = c.count - 1 }
+
+-- the client holds these quantities, and was made an offer
+pub record HasCharge (quantities : List Entry) (c : Ranked) : Type 0 where
+  pub held : (label : List ℕ) → amount_of quantities label ≤ c.held label
+  pub count : 1 ≤ c.count
+
+-- the client of that path does
+abbrev pub HasChargeAt : Content → List (List ℕ) → List Entry → Type 0
+HasChargeAt content path quantities =
+    AllByRecursion (λ c. same_path c.path path ≡ true → HasCharge quantities c) content.clients
+
+-- the clients of a node
+abbrev pub clients_under : Content → List (List ℕ) → List Ranked
+clients_under content node = filter (λ c. begins_with c.path node) content.clients
+
+-- what the order of clients depends on
+unfoldable pub standing_of : Content → Standing
+standing_of content = record {
+  held = λ node label. sum_by (λ c. c.held label) (clients_under content node);
+  count = λ node. sum_by (λ c. c.count) (clients_under content node);
+  total = content.total;
+  weight = weight_of content.weights;
+}
+
+-- no more is held than there is, and all numbers fit
+pub record IsSound (content : Content) : Type 0 where
+  pub held : (label : List ℕ) → sum_by (λ c. c.held label) content.clients ≤ amount_of content.total label
+  pub total : (label : List ℕ) → amount_of content.total label < 2 ^ 52
+  pub ordered : IsTrue (is_in_order content.total)
+  pub count : sum_by (λ c. c.count) content.clients < 2 ^ 64
+  pub light : (node : List (List ℕ)) → 1 ≤ weight_of content.weights node
+  pub heavy : (node : List (List ℕ)) → weight_of content.weights node ≤ 1000000
+
+-- the paths of the clients that are to be served
+abbrev pub active_paths : Content → List (List (List ℕ))
+active_paths content = map (λ c. c.path) (filter (λ c. c.active) content.clients)
+
+-- each active client stands there once, before all later ones
+pub record IsOrderOf (content : Content) (paths : List (List (List ℕ))) : Type 0 where
+  pub active : IsPermutation (active_paths content) paths
+  pub in_order : IsTrue (is_serving_order (standing_of content) paths)

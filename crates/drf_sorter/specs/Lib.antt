@@ -1,0 +1,10 @@
+pub mod Content
+pub mod Fractions
+pub mod FractionLaws
+pub mod Share
+pub mod ShareLaws
+pub mod Places
+pub mod OrderLaws
+pub mod ClientPaths
+pub mod Plain
+pub mod Candidate

@@ -1,0 +1,32 @@
+//! Laws of shares and of the order of clients. The functions do nothing: what they promise is proved of the definitions
+//! alone.
+ghost use Rattle.std.specs.Prelude.{◌≡◌, ◌≢◌, ◌≤◌, ℕ, List, true, false, not};
+ghost use Rattle.std.specs.Ordering.{is_lt, is_eq};
+ghost use Rattle.drf_role.specs.Path.{IsClientPath};
+ghost use Rattle.drf_rows.specs.Paths.{begins_with};
+ghost use Rattle.drf_rows.specs.Share.{Standing, is_less, is_same, stands_before};
+ghost use Rattle.drf_sorter.specs.Share.{fraction_of, share_cmp, share_eq};
+ghost use Rattle.drf_sorter.specs.declared.share.Share.{Share};
+
+/// Shares are ordered as the fractions that they are, and tied where they are equal.
+pub fn share_order_law()
+    ensures less { (a b : Share) → is_lt (share_cmp a b) ≡ is_less (fraction_of a) (fraction_of b) }
+    ensures same { (a b : Share) → share_eq a b ≡ is_same (fraction_of a) (fraction_of b) }
+    ensures tied { (a b : Share) → share_eq a b ≡ is_eq (share_cmp a b) }
+{}
+
+/// No client path begins with another.
+pub fn client_path_law()
+    ensures { (a b : List (List ℕ)) → IsClientPath a → IsClientPath b → a ≢ b → begins_with a b ≡ false }
+{}
+
+/// Of two clients at most one stands before the other, and exactly one where neither path begins with the other. Who
+/// stands before a client stands before all that it stands before.
+pub fn client_order_law()
+    ensures asymmetric { (s : Standing) (a b : List (List ℕ)) →
+        stands_before s a b ≡ true → stands_before s b a ≡ false }
+    ensures total { (s : Standing) (a b : List (List ℕ)) →
+        begins_with a b ≡ false → begins_with b a ≡ false → stands_before s b a ≡ not (stands_before s a b) }
+    ensures transitive { (s : Standing) → ((node : List (List ℕ)) → 1 ≤ s.weight node) →
+        (a b c : List (List ℕ)) → stands_before s a b ≡ true → stands_before s b c ≡ true → stands_before s a c ≡ true }
+{}

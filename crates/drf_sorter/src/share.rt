@@ -1,0 +1,104 @@
+//! Shares of the cluster as exact fractions.
+ghost use Rattle.std.specs.Prelude.{◌≡◌, ◌≤◌, ◌<◌, ◌^◌, ◌*◌};
+
+use std::cmp::Ordering;
+
+/// The part `part * 1000 / (whole * weight)` of the cluster: a share of a whole, divided by a weight in thousandths.
+/// Shares are compared by their cross products, so nothing is rounded.
+#[derive(Clone, Copy, Debug)]
+pub struct Share {
+    part: u64,
+    whole: u64,
+    weight: u64,
+    ghost of_whole: { part ≤ whole },
+    ghost some: { 1 ≤ whole },
+    ghost fits: { whole < 2 ^ 52 },
+    ghost weighs: { 1 ≤ weight },
+    ghost light: { weight ≤ 1000000 },
+}
+
+impl Share {
+    ghost use Rattle.drf_sorter.specs.Fractions.{weighted};
+    ghost use Rattle.drf_sorter.specs.Share.{fraction_of};
+
+    /// `weight` is in thousandths.
+    pub fn new(part: u64, whole: u64, weight: u64) -> Share
+        requires of_whole { part ≤ whole }
+        requires some { 1 ≤ whole }
+        requires fits { whole < 2 ^ 52 }
+        requires weighs { 1 ≤ weight }
+        requires light { weight ≤ 1000000 }
+        ensures { fraction_of result ≡ weighted part whole weight }
+    {
+        Share {
+            part,
+            whole,
+            weight,
+        }
+    }
+}
+
+/// `part * (whole * weight)`, which is below 2^124.
+fn cross_product(part: u64, whole: u64, weight: u64) -> u128
+    requires part { part < 2 ^ 52 }
+    requires whole { whole < 2 ^ 52 }
+    requires weight { weight ≤ 1000000 }
+    ensures { result ≡ part * (whole * weight) }
+{
+    u128::from(part) * (u128::from(whole) * u128::from(weight))
+}
+
+impl PartialEq for Share {
+    ghost use Rattle.std.specs.Cmp;
+    ghost use Rattle.drf_sorter.specs.Share.{share_eq};
+    ghost use Rattle.drf_sorter.specs.ShareLaws.{share_equiv};
+
+    ghost eq = { share_eq };
+
+    ghost laws = { Cmp.partial_equiv_from_equiv share_equiv };
+
+    fn eq(&self, other: &Share) -> bool {
+        cross_product(self.part, other.whole, other.weight)
+            == cross_product(other.part, self.whole, self.weight)
+    }
+}
+
+impl Eq for Share {
+    ghost use Rattle.drf_sorter.specs.ShareLaws.{share_equiv};
+
+    ghost laws = { share_equiv };
+}
+
+impl PartialOrd for Share {
+    ghost use Rattle.std.specs.Ordering.{as_partial_cmp};
+    ghost use Rattle.drf_sorter.specs.Share.{share_cmp};
+    ghost use Rattle.drf_sorter.specs.ShareLaws.{share_partial};
+
+    ghost partial_cmp = { as_partial_cmp share_cmp };
+
+    ghost laws = { share_partial };
+
+    fn partial_cmp(&self, other: &Share) -> Option<Ordering> {
+        Some(self.cmp(other))
+    }
+}
+
+impl Ord for Share {
+    ghost use Rattle.std.specs.Prelude.{refl};
+    ghost use Rattle.drf_sorter.specs.Share.{share_cmp};
+    ghost use Rattle.drf_sorter.specs.ShareLaws.{share_total, share_ties};
+
+    ghost cmp = { share_cmp };
+
+    ghost total = { share_total };
+
+    ghost matches_partial_cmp = { λ a b. refl };
+
+    ghost matches_eq = { share_ties };
+
+    fn cmp(&self, other: &Share) -> Ordering {
+        let left = cross_product(self.part, other.whole, other.weight);
+        let right = cross_product(other.part, self.whole, self.weight);
+        left.cmp(&right)
+    }
+}

@@ -7,6 +7,8 @@ mod fault;
 mod line;
 mod reply;
 #[cfg(test)]
+mod run_tests;
+#[cfg(test)]
 mod tests;
 mod total;
 mod words;

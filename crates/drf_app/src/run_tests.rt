@@ -134,6 +134,24 @@ fn runs_nothing(rt: HostRuntime) -> Result<(), LineError> {
     Ok(())
 }
 
+// Two lines and a cycle.
+fn expect_two(
+    rt: &impl Abort,
+    alloc: Global,
+    core: &mut Core<PlainSorter>,
+    lines: [&str; 2],
+    replies: &[&str],
+) -> Result<(), LineError> {
+    let [one, other] = lines;
+    let events = [
+        event(alloc, one)?,
+        event(alloc, other)?,
+        Event::Cycle { at: 0 },
+    ];
+    expect_run(rt, alloc, core, &events, replies)?;
+    Ok(())
+}
+
 #[test]
 fn runs_three_agents(rt: HostRuntime) -> Result<(), LineError> {
     let alloc = rt.alloc();
@@ -143,22 +161,20 @@ fn runs_three_agents(rt: HostRuntime) -> Result<(), LineError> {
     let fa = "{\"event\":\"add_framework\",\"framework\":\"fa\",\"roles\":[\"a\"]}";
     let fb = "{\"event\":\"add_framework\",\"framework\":\"fb\",\"roles\":[\"b\"]}";
     let small = "{\"event\":\"add_agent\",\"agent\":\"n4\",\"total\":\"cpus:0.009;mem:31.999\"}";
-    let events = [
-        event(alloc, AGENT)?,
-        event(alloc, second)?,
-        event(alloc, third)?,
-        event(alloc, fa)?,
-        event(alloc, fb)?,
-        Event::Cycle { at: 0 },
-        event(alloc, small)?,
-        Event::Cycle { at: 0 },
-    ];
     let offers =
         "#1 fa@a n1 {cpus:4;mem:1024}, #2 fb@b n2 {cpus:2;mem:512}, #3 fb@b n3 {cpus:2;mem:2048}";
-    let replies = [
-        "done", "done", "done", "done", "done", offers, "done", "none",
-    ];
-    expect_run(&rt, alloc, &mut core, &events, &replies)?;
+    expect_two(
+        &rt,
+        alloc,
+        &mut core,
+        [AGENT, second],
+        &["done", "done", "none"],
+    )?;
+    let events = [event(alloc, third)?];
+    expect_run(&rt, alloc, &mut core, &events, &["done"])?;
+    expect_two(&rt, alloc, &mut core, [fa, fb], &["done", "done", offers])?;
+    let events = [event(alloc, small)?, Event::Cycle { at: 0 }];
+    expect_run(&rt, alloc, &mut core, &events, &["done", "none"])?;
     Ok(())
 }
 

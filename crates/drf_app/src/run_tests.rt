@@ -134,48 +134,52 @@ fn runs_nothing(rt: HostRuntime) -> Result<(), LineError> {
     Ok(())
 }
 
-// Two lines and a cycle.
-fn expect_two(
+// Each line is answered so, by a run of its own on one core.
+fn expect_lines(
     rt: &impl Abort,
     alloc: Global,
-    core: &mut Core<PlainSorter>,
-    lines: [&str; 2],
-    replies: &[&str],
+    limits: Limits,
+    lines: &[(&str, &str)],
 ) -> Result<(), LineError> {
-    let [one, other] = lines;
-    let events = [
-        event(alloc, one)?,
-        event(alloc, other)?,
-        Event::Cycle { at: 0 },
-    ];
-    expect_run(rt, alloc, core, &events, replies)?;
+    let mut core = open(alloc, limits)?;
+    for (line, reply) in lines {
+        let events = [event(alloc, line)?];
+        expect_run(rt, alloc, &mut core, &events, &[*reply])?;
+    }
     Ok(())
 }
 
 #[test]
 fn runs_three_agents(rt: HostRuntime) -> Result<(), LineError> {
-    let alloc = rt.alloc();
-    let mut core = open(alloc, Limits::full())?;
-    let second = "{\"event\":\"add_agent\",\"agent\":\"n2\",\"total\":\"cpus:2;mem:512\"}";
-    let third = "{\"event\":\"add_agent\",\"agent\":\"n3\",\"total\":\"cpus:2;mem:2048\"}";
-    let fa = "{\"event\":\"add_framework\",\"framework\":\"fa\",\"roles\":[\"a\"]}";
-    let fb = "{\"event\":\"add_framework\",\"framework\":\"fb\",\"roles\":[\"b\"]}";
-    let small = "{\"event\":\"add_agent\",\"agent\":\"n4\",\"total\":\"cpus:0.009;mem:31.999\"}";
+    let cycle = "{\"event\":\"cycle\",\"at\":0}";
     let offers =
         "#1 fa@a n1 {cpus:4;mem:1024}, #2 fb@b n2 {cpus:2;mem:512}, #3 fb@b n3 {cpus:2;mem:2048}";
-    expect_two(
-        &rt,
-        alloc,
-        &mut core,
-        [AGENT, second],
-        &["done", "done", "none"],
-    )?;
-    let events = [event(alloc, third)?];
-    expect_run(&rt, alloc, &mut core, &events, &["done"])?;
-    expect_two(&rt, alloc, &mut core, [fa, fb], &["done", "done", offers])?;
-    let events = [event(alloc, small)?, Event::Cycle { at: 0 }];
-    expect_run(&rt, alloc, &mut core, &events, &["done", "none"])?;
-    Ok(())
+    let lines = [
+        (AGENT, "done"),
+        (
+            "{\"event\":\"add_agent\",\"agent\":\"n2\",\"total\":\"cpus:2;mem:512\"}",
+            "done",
+        ),
+        (
+            "{\"event\":\"add_agent\",\"agent\":\"n3\",\"total\":\"cpus:2;mem:2048\"}",
+            "done",
+        ),
+        (
+            "{\"event\":\"add_framework\",\"framework\":\"fa\",\"roles\":[\"a\"]}",
+            "done",
+        ),
+        (
+            "{\"event\":\"add_framework\",\"framework\":\"fb\",\"roles\":[\"b\"]}",
+            "done",
+        ),
+        (cycle, offers),
+        (
+            "{\"event\":\"add_agent\",\"agent\":\"n4\",\"total\":\"cpus:0.009;mem:31.999\"}",
+            "done",
+        ),
+        (cycle, "none"),
+    ];
+    expect_lines(&rt, rt.alloc(), Limits::full(), &lines)
 }
 
 // A framework, an agent with the total, and a cycle, in a run of their own.
@@ -243,24 +247,12 @@ fn runs_the_least_and_the_largest_totals(rt: HostRuntime) -> Result<(), LineErro
 
 #[test]
 fn runs_to_the_limits(rt: HostRuntime) -> Result<(), LineError> {
-    let alloc = rt.alloc();
-    let mut core = open(alloc, limits(&rt, 4096, 2))?;
-    let events = [
-        event(alloc, AGENT)?,
-        event(alloc, FRAMEWORK)?,
-        Event::Cycle { at: 0 },
-    ];
-    expect_run(
-        &rt,
-        alloc,
-        &mut core,
-        &events,
-        &["done", "done", "HistoryFull"],
-    )?;
+    let cycle = "{\"event\":\"cycle\",\"at\":0}";
     let other = "{\"event\":\"add_agent\",\"agent\":\"n2\",\"total\":\"\"}";
-    let mut core = open(alloc, limits(&rt, 1, 1_000_000))?;
-    let events = [event(alloc, AGENT)?, event(alloc, other)?];
-    expect_run(&rt, alloc, &mut core, &events, &["done", "TooMany"])?;
-    assert_eq!(rt; core.rows()?.agents.len(), 1);
-    Ok(())
+    let two_events = limits(&rt, 4096, 2);
+    let lines = [(AGENT, "done"), (FRAMEWORK, "done"), (cycle, "HistoryFull")];
+    expect_lines(&rt, rt.alloc(), two_events, &lines)?;
+    let one_agent = limits(&rt, 1, 1_000_000);
+    let lines = [(AGENT, "done"), (other, "TooMany")];
+    expect_lines(&rt, rt.alloc(), one_agent, &lines)
 }

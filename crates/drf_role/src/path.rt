@@ -33,8 +33,8 @@ fn client_text(alloc: Global, role: &str, framework: &str) -> Result<String, All
     Ok(text)
 }
 
-/// The path of a client, a framework in one of its roles: the role's components, then `.`, then
-/// the framework's name. Contracts see the list of these parts.
+/// The path of a client: the parts of its role, `.` for the clients of the role itself, and its
+/// framework. Contracts see the list of these parts.
 #[derive(Debug, Drop)]
 pub struct ClientPath {
     role: Role,

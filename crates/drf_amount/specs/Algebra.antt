@@ -1,4 +1,5 @@
--- What a kind of amount has to satisfy. An amount is given where a value of the type is that amount.
+-- What a kind of amount has to satisfy. Every value of the type is a given amount, and others may be: the laws are
+-- about given amounts.
 use Rattle.std.specs.Prelude.{◌≡◌, ℕ, ◌+◌, ◌↔◌, Option, Some, None, option_and_then, IsSome, IfSome}
 use Rattle.drf_amount.specs.declared.algebra.AlgebraFault.{AlgebraFault}
 use Rattle.drf_amount.specs.declared.algebra.AlgebraFault.TheVariants.{Kind, Overlap, TooLarge, NotCovered, Memory}

@@ -22,9 +22,10 @@ IsGiveBackFault pool number Memory = IsSome (part_at pool.parts number)
 IsGiveBackFault pool number _ = ⊥
 
 module _ {A : Type 0} (is_given : A → Type 0) (join : A → A → Option A) where
-  -- wanted is out under the next number, and was free
+  -- wanted is out under the next number, and was free; 2^64 - 1 is the number of no part
   pub record Takes (old new : PoolContent A) (wanted : A) (number : ℕ) : Type 0 where
     pub number_is : number ≡ old.next
+    pub number_left : old.next < 2 ^ 64 - 1
     pub taken : IsRest is_given join old.free wanted new.free
     pub parts : new.parts ≡ old.parts ++ (number, wanted) ∷ []
     pub next : new.next ≡ old.next + 1

@@ -1,7 +1,7 @@
-ghost use Rattle.std.specs.Prelude.{◌≡◌, [], IfOk, IfErr, OnOk, OnErr};
+ghost use Rattle.std.specs.Prelude.{◌≡◌, [], IsSome, IfOk, IfErr, OnOk, OnErr};
 ghost use Rattle.std.specs.Option.{option_copied};
 ghost use Rattle.drf_amount.specs.Algebra.{Covers};
-ghost use Rattle.drf_amount.specs.Pool.{pool_of, IsWhole, IsNumbered, part_at};
+ghost use Rattle.drf_amount.specs.Pool.{pool_of, IsPool, part_at};
 ghost use Rattle.drf_amount.specs.PoolCalls.{pool_fault, Takes, GivesBack, Shrinks, Replaces, IsTakeFault, IsGiveBackFault, IsShrinkFault, IsReplaceFault};
 ghost use Rattle.drf_amount.specs.declared.pool.PoolFault.{PoolFault};
 ghost use Rattle.drf_amount.specs.declared.pool.PoolFault.TheVariants.{Memory};
@@ -103,8 +103,7 @@ impl<A: Algebra> Pool<A> {
     /// All that there is, free or out.
     pub fn total(&self) -> &A
         ensures value { result.now ≡ self.now.total }
-        ensures whole { IsWhole A.join self.now }
-        ensures numbered { IsNumbered self.now }
+        ensures pool { IsPool A.is_given A.join self.now }
     {
         &self.total
     }
@@ -126,6 +125,7 @@ impl<A: Algebra> Pool<A> {
     /// Takes `wanted` out of the free part, and answers its number: from 0, and never used again.
     /// Faults: `NotCovered`, `Full`, `Memory`.
     pub fn take(&mut self, wanted: &A) -> Result<u64, PoolFault>
+        ensures given { A.is_given wanted.now }
         ensures ok { IfOk result (Takes A.is_given A.join self.old self.new wanted.now) }
         ensures fault { IfErr result (IsTakeFault A.is_given A.join self.old wanted.now) }
         ensures err { OnErr result (self.new ≡ self.old) }
@@ -161,6 +161,7 @@ impl<A: Algebra> Pool<A> {
     /// Leaves only `smaller` out of the part with a number, and frees the rest of it. Faults:
     /// `UnknownPart`, `NotCovered`, `Memory`.
     pub fn shrink(&mut self, number: u64, smaller: &A) -> Result<(), PoolFault>
+        ensures given { IsSome (part_at self.old.parts number) → A.is_given smaller.now }
         ensures ok { OnOk result (Shrinks A.is_given A.join self.old self.new number smaller.now) }
         ensures fault { IfErr result (IsShrinkFault A.is_given A.join self.old number smaller.now) }
         ensures err { OnErr result (self.new ≡ self.old) }
@@ -180,6 +181,8 @@ impl<A: Algebra> Pool<A> {
     /// `new` from the rest of the total, `Kind`, `Overlap` or `TooLarge`; and `Memory`, which may
     /// come before these three.
     pub fn replace_free(&mut self, old: &A, new: &A) -> Result<(), PoolFault>
+        ensures given { A.is_given old.now }
+        ensures new_given { OnOk result (A.is_given new.now) }
         ensures ok { OnOk result (Replaces A.is_given A.join self.old self.new old.now new.now) }
         ensures fault { IfErr result
             (IsReplaceFault A.is_given A.join A.refusal self.old old.now new.now) }

@@ -74,6 +74,21 @@ fn takes_shrinks_and_gives_back(rt: HostRuntime) -> Result<(), Fail> {
     Ok(())
 }
 
+// A refusal changes nothing.
+#[test]
+fn refuses_what_is_unknown_or_too_much(rt: HostRuntime) -> Result<(), Fail> {
+    let (all, one, two) = (Scalar::new(u64::MAX), Scalar::new(1), Scalar::new(2));
+    let mut pool = Pool::new(rt.alloc(), all)?;
+    assert_eq!(rt; pool.replace_free(&one, &two), Err(PoolFault::TooLarge));
+    assert_eq!(rt; (*pool.total(), *pool.free()), (all, all));
+    assert_eq!(rt; pool.shrink(0, &one), Err(PoolFault::UnknownPart));
+    assert_eq!(rt; pool.take(&one)?, 0);
+    assert_eq!(rt; pool.shrink(0, &two), Err(PoolFault::NotCovered));
+    assert_eq!(rt; pool.part(0), Some(&one));
+    assert_eq!(rt; pool.free().thousandths(), u64::MAX - 1);
+    Ok(())
+}
+
 #[test]
 fn tells_faults_in_words(rt: HostRuntime) -> Result<(), Fail> {
     for (fault, text) in [

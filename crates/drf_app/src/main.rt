@@ -6,6 +6,7 @@ mod engine;
 mod fault;
 mod line;
 mod reply;
+mod run;
 #[cfg(test)]
 mod run_tests;
 #[cfg(test)]
@@ -13,19 +14,12 @@ mod tests;
 mod total;
 mod words;
 
-use drf_rows::Limits;
-use drf_sorter::PlainSorter;
-use engine::serve;
+use run::run;
 use std::process::ExitCode;
 
 fn main(rt: HostRuntime) -> ExitCode {
     let mut input = rt.stdin();
     let mut output = rt.stdout();
-    match serve::<PlainSorter, _, _>(rt.alloc(), Limits::full(), &mut input, &mut output) {
-        Ok(_) => ExitCode::SUCCESS,
-        Err(fault) => {
-            let _ = eprintln!(rt; "drf: {fault}");
-            ExitCode::FAILURE
-        }
-    }
+    let mut errors = rt.stderr();
+    ExitCode::from(run(rt.alloc(), &mut input, &mut output, &mut errors))
 }

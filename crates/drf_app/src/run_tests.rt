@@ -134,7 +134,20 @@ fn runs_nothing(rt: HostRuntime) -> Result<(), LineError> {
     Ok(())
 }
 
-// Each line is answered so, by a run of its own on one core.
+// The line is answered so, by a run of its own.
+fn expect_line(
+    rt: &impl Abort,
+    alloc: Global,
+    core: &mut Core<PlainSorter>,
+    line: &str,
+    reply: &str,
+) -> Result<(), LineError> {
+    let events = [event(alloc, line)?];
+    expect_run(rt, alloc, core, &events, &[reply])?;
+    Ok(())
+}
+
+// Each line is answered so, one after another on one core.
 fn expect_lines(
     rt: &impl Abort,
     alloc: Global,
@@ -143,8 +156,7 @@ fn expect_lines(
 ) -> Result<(), LineError> {
     let mut core = open(alloc, limits)?;
     for (line, reply) in lines {
-        let events = [event(alloc, line)?];
-        expect_run(rt, alloc, &mut core, &events, &[*reply])?;
+        expect_line(rt, alloc, &mut core, line, reply)?;
     }
     Ok(())
 }
@@ -255,4 +267,97 @@ fn runs_to_the_limits(rt: HostRuntime) -> Result<(), LineError> {
     let one_agent = limits(&rt, 1, 1_000_000);
     let lines = [(AGENT, "done"), (other, "TooMany")];
     expect_lines(&rt, rt.alloc(), one_agent, &lines)
+}
+
+// Frameworks with their roles, agents with their totals, and the offers of a cycle.
+#[derive(Drop)]
+struct Sharing<'a> {
+    frameworks: &'a [(&'a str, &'a str)],
+    agents: &'a [(&'a str, &'a str)],
+    offers: &'a str,
+}
+
+fn expect_sharing(rt: &impl Abort, alloc: Global, sharing: &Sharing) -> Result<(), LineError> {
+    let mut core = open(alloc, Limits::full())?;
+    for (framework, role) in sharing.frameworks {
+        let line = format!(in alloc; "{{\"event\":\"add_framework\",\"framework\":\"{framework}\",\"roles\":[\"{role}\"]}}")?;
+        expect_line(rt, alloc, &mut core, &line, "done")?;
+    }
+    for (agent, total) in sharing.agents {
+        let line = format!(in alloc; "{{\"event\":\"add_agent\",\"agent\":\"{agent}\",\"total\":\"{total}\"}}")?;
+        expect_line(rt, alloc, &mut core, &line, "done")?;
+    }
+    expect_line(rt, alloc, &mut core, "{\"event\":\"cycle\",\"at\":0}", sharing.offers)
+}
+
+#[test]
+fn serves_the_least_share_then_the_least_count_then_the_name(
+    rt: HostRuntime,
+) -> Result<(), LineError> {
+    for sharing in [
+        // Equal shares and counts: by name, each in its turn.
+        Sharing {
+            frameworks: &[("fa", "a"), ("fb", "b"), ("fc", "c")],
+            agents: &[("n1", "cpus:1"), ("n2", "cpus:1"), ("n3", "cpus:1"), ("n4", "cpus:1")],
+            offers: "#1 fa@a n1 {cpus:1}, #2 fb@b n2 {cpus:1}, #3 fc@c n3 {cpus:1}, #4 fa@a n4 {cpus:1}",
+        },
+        // 333/1000 is less than 1/3.
+        Sharing {
+            frameworks: &[("fa", "a"), ("fb", "b")],
+            agents: &[("n1", "cpus:1"), ("n2", "mem:333"), ("n3", "cpus:2;mem:667")],
+            offers: "#1 fa@a n1 {cpus:1}, #2 fb@b n2 {mem:333}, #3 fb@b n3 {cpus:2;mem:667}",
+        },
+        // 2/5 each at the fourth turn, by two offers and by one.
+        Sharing {
+            frameworks: &[("fa", "a"), ("fb", "b")],
+            agents: &[("n1", "cpus:1"), ("n2", "cpus:2"), ("n3", "cpus:1"), ("n4", "cpus:1")],
+            offers: "#1 fa@a n1 {cpus:1}, #2 fb@b n2 {cpus:2}, #3 fa@a n3 {cpus:1}, #4 fb@b n4 {cpus:1}",
+        },
+        // Two frameworks of one role, the lesser name registered last.
+        Sharing {
+            frameworks: &[("f2", "a"), ("f1", "a")],
+            agents: &[("n1", "cpus:1"), ("n2", "cpus:1")],
+            offers: "#1 f1@a n1 {cpus:1}, #2 f2@a n2 {cpus:1}",
+        },
+        // The role's name decides before the framework's, and `*` is a role like any other.
+        Sharing {
+            frameworks: &[("fa", "b"), ("fz", "a"), ("fy", "*")],
+            agents: &[("n1", "cpus:1"), ("n2", "cpus:1")],
+            offers: "#1 fy@* n1 {cpus:1}, #2 fz@a n2 {cpus:1}",
+        },
+    ] {
+        expect_sharing(&rt, rt.alloc(), &sharing)?;
+    }
+    Ok(())
+}
+
+// 3/10 against 4/27, where it was all of the cpus against all of the memory.
+#[test]
+fn orders_anew_where_the_total_changes(rt: HostRuntime) -> Result<(), LineError> {
+    let cycle = "{\"event\":\"cycle\",\"at\":0}";
+    let lines = [
+        (
+            "{\"event\":\"add_framework\",\"framework\":\"fa\",\"roles\":[\"a\"]}",
+            "done",
+        ),
+        (
+            "{\"event\":\"add_framework\",\"framework\":\"fb\",\"roles\":[\"b\"]}",
+            "done",
+        ),
+        (
+            "{\"event\":\"add_agent\",\"agent\":\"n1\",\"total\":\"cpus:3\"}",
+            "done",
+        ),
+        (
+            "{\"event\":\"add_agent\",\"agent\":\"n2\",\"total\":\"mem:8192\"}",
+            "done",
+        ),
+        (cycle, "#1 fa@a n1 {cpus:3}, #2 fb@b n2 {mem:8192}"),
+        (
+            "{\"event\":\"add_agent\",\"agent\":\"n3\",\"total\":\"cpus:7;mem:47104\"}",
+            "done",
+        ),
+        (cycle, "#3 fb@b n3 {cpus:7;mem:47104}"),
+    ];
+    expect_lines(&rt, rt.alloc(), Limits::full(), &lines)
 }

@@ -1,4 +1,5 @@
 use crate::engine::{RunFault, serve};
+use crate::run::run;
 use drf_rows::Limits;
 use drf_sorter::PlainSorter;
 use std::alloc::Global;
@@ -503,6 +504,34 @@ fn tells_a_failed_write(rt: HostRuntime) -> Result<(), RunFault> {
     let told = serve::<PlainSorter, _, _>(rt.alloc(), Limits::full(), &mut reader, &mut writer);
     assert!(rt; matches!(told, Err(RunFault::Write)));
     assert!(rt; writer.taken.as_slice() == DONE.as_bytes());
+    Ok(())
+}
+
+// The reader fails behind its bytes, or the writer takes no write: the status, and the text that tells it.
+#[test]
+fn tells_the_fault_that_ended_a_run(rt: HostRuntime) -> Result<(), RunFault> {
+    for (fails, writes, status, text) in [
+        (false, 1, 0, ""),
+        (true, 1, 1, "drf: read fault\n"),
+        (false, 0, 1, "drf: write fault\n"),
+    ] {
+        let mut reader = Slow {
+            rest: CYCLE.as_bytes(),
+            most: 64,
+            interrupted: false,
+            fails,
+        };
+        let mut writer = Full {
+            taken: Vec::new(rt.alloc()),
+            writes,
+        };
+        let mut errors = Vec::new(rt.alloc());
+        let ended = run(rt.alloc(), &mut reader, &mut writer, &mut errors);
+        assert_eq!(rt; ended, status);
+        assert!(rt; errors.as_slice() == text.as_bytes());
+    }
+    let memory = RunFault::Memory.to_string(rt.alloc())?;
+    assert_eq!(rt; memory.as_str(), "out of memory");
     Ok(())
 }
 

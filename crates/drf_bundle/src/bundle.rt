@@ -1,6 +1,6 @@
 ghost use Rattle.std.specs.Prelude.{◌≡◌, [], IsTrue, ◌↔◌, IfOk};
 ghost use Rattle.drf_bundle.specs.Quantities.{without_zeros};
-ghost use Rattle.drf_bundle.specs.Bundle.{IsBundle};
+ghost use Rattle.drf_bundle.specs.Bundle.{IsBundle, quantities_of};
 
 use crate::quantities::Quantities;
 use std::alloc::{AllocError, Global};
@@ -43,8 +43,9 @@ impl Bundle {
         Bundle { quantities }
     }
 
+    /// The scalars by label.
     pub fn quantities(&self) -> &Quantities
-        ensures value { result.now ≡ self.now }
+        ensures value { result.now ≡ quantities_of self.now }
         ensures bundle { IsBundle self.now }
     {
         &self.quantities
@@ -56,11 +57,11 @@ impl Bundle {
         self.quantities.entries().is_empty()
     }
 
-    pub fn copy(&self, alloc: Global) -> Result<Bundle, AllocError>
+    pub fn copy(&self) -> Result<Bundle, AllocError>
         ensures { IfOk result (λ bundle. bundle ≡ self.now) }
     {
         Ok(Bundle {
-            quantities: self.quantities.copy(alloc)?,
+            quantities: self.quantities.copy()?,
         })
     }
 }

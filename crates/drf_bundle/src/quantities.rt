@@ -100,10 +100,10 @@ impl Quantities {
         }
     }
 
-    pub fn copy(&self, alloc: Global) -> Result<Quantities, AllocError>
+    pub fn copy(&self) -> Result<Quantities, AllocError>
         ensures { IfOk result (λ q. q ≡ self.now) }
     {
-        let mut entries = Vec::with_capacity(alloc, self.entries.len())?;
+        let mut entries = Vec::with_capacity(self.alloc(), self.entries.len())?;
         for entry in &self.entries {
             entries.push(entry.copy()?)?;
         }
@@ -111,11 +111,11 @@ impl Quantities {
     }
 
     /// The amounts of both, label by label.
-    pub fn plus(&self, alloc: Global, other: &Quantities) -> Result<Quantities, AllocError>
+    pub fn plus(&self, other: &Quantities) -> Result<Quantities, AllocError>
         requires { (label : List ℕ) → amount_of self.now label + amount_of other.now label < 2 ^ 64 }
         ensures { IfOk result (λ q. q ≡ plus self.now other.now) }
     {
-        let mut sum = self.copy(alloc)?;
+        let mut sum = self.copy()?;
         for entry in other.entries() {
             let had = sum.get(entry.label.text());
             sum.set(entry.label.copy()?, had + entry.amount.thousandths())?;
@@ -145,6 +145,10 @@ impl Quantities {
             let part = other.get(entry.label.text());
             entry.amount = Scalar::new(entry.amount.thousandths() - part);
         }
+    }
+
+    pub(crate) fn alloc(&self) -> Global {
+        *self.entries.allocator()
     }
 
     /// Forgets the labels whose amount is 0.

@@ -51,14 +51,14 @@ fn keeps_the_last_amount_in_order_of_label(rt: HostRuntime) -> Result<(), Fail> 
 fn adds_and_lowers_label_by_label(rt: HostRuntime) -> Result<(), Fail> {
     let kept = amounts(rt.alloc(), &[("mem", 2000), ("cpus", 1000)])?;
     let part = amounts(rt.alloc(), &[("disk", 7), ("cpus", 500)])?;
-    let sum = kept.plus(rt.alloc(), &part)?;
+    let sum = kept.plus(&part)?;
     assert_eq!(rt;
         shown(rt.alloc(), &sum)?.as_str(),
         "cpus=1500 disk=7 mem=2000 "
     );
     assert_eq!(rt; part.entries().len(), 2);
     assert_eq!(rt; kept.count_with(&part), 3);
-    let mut rest = sum.copy(rt.alloc())?;
+    let mut rest = sum.copy()?;
     rest.lower(&part);
     assert_eq!(rt;
         shown(rt.alloc(), &rest)?.as_str(),
@@ -71,7 +71,7 @@ fn adds_and_lowers_label_by_label(rt: HostRuntime) -> Result<(), Fail> {
 fn makes_a_bundle_of_the_amounts_above_zero(rt: HostRuntime) -> Result<(), Fail> {
     let amounts = amounts(rt.alloc(), &[("disk", 0), ("mem", 2000), ("cpus", 1000)])?;
     let bundle = Bundle::from_quantities(amounts);
-    let copy = bundle.copy(rt.alloc())?;
+    let copy = bundle.copy()?;
     assert_eq!(rt;
         shown(rt.alloc(), copy.quantities())?.as_str(),
         "cpus=1000 mem=2000 "

@@ -1,12 +1,12 @@
 -- What all agents have together, and what all clients hold.
-use Rattle.std.specs.Prelude.{◌≡◌, ℕ, ◌+◌, ◌^◌, ◌<◌, ◌≤◌, true, List, [], ◌∷◌, fold, sum_by, IsTrue}
+use Rattle.std.specs.Prelude.{◌≡◌, ℕ, ◌+◌, ◌^◌, ◌<◌, ◌≤◌, true, List, [], ◌∷◌, fold, sum_by}
 use Rattle.std.specs.List.{count_by, list_any, AllByRecursion}
 use Rattle.std.proofs.Common.{refl, sym, ◌∙◌, arith}
 use Rattle.std.proofs.lemmas.List.Sums.{sum_by-cons, sum_by-le}
 use Rattle.std.proofs.lemmas.List.Elements.{All-from_recursion}
 use Rattle.drf_bundle.specs.Text.{same_text}
-use Rattle.drf_bundle.specs.Quantities.{amount_of, is_in_order, plus}
-use Rattle.drf_bundle.specs.QuantitiesLaws.{amount-plus, in_order-plus}
+use Rattle.drf_bundle.specs.Quantities.{amount_of, plus}
+use Rattle.drf_bundle.specs.QuantitiesLaws.{amount-plus}
 use Rattle.drf_bundle.specs.Bundle.{IsBundle}
 use Rattle.drf_bundle.specs.declared.quantities.Entry.{Entry}
 use Rattle.drf_rows.specs.LimitNumbers.{LimitNumbers}
@@ -35,13 +35,6 @@ amount-added : (start : List Entry) (agents : List AgentRow) (label : List ℕ) 
 amount-added start [] label all = omega arith
 amount-added start (a ∷ agents) label all =
     omega (arith, amount-added (plus start a.total) agents label all.1, amount-plus start a.total label all.0.in_order, sum_by-cons (λ (a : AgentRow). amount_of a.total label) a agents)
-
-in_order-added : (start : List Entry) (agents : List AgentRow) → IsTrue (is_in_order start) → IsTrue (is_in_order (added start agents))
-in_order-added start [] ordered = ordered
-in_order-added start (a ∷ agents) ordered = in_order-added (plus start a.total) agents (in_order-plus start a.total ordered)
-
-pub in_order-cluster_total : (agents : List AgentRow) → IsTrue (is_in_order (cluster_total agents))
-in_order-cluster_total agents = in_order-added [] agents refl
 
 pub amount-cluster_total : (agents : List AgentRow) (label : List ℕ) → AllByRecursion (λ a. IsBundle a.total) agents
     → amount_of (cluster_total agents) label ≡ sum_by (λ a. amount_of a.total label) agents

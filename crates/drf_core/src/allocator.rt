@@ -1,4 +1,4 @@
-ghost use Rattle.std.specs.Prelude.{◌≡◌, ◌++◌, IfOk, OnOk, OnErr};
+ghost use Rattle.std.specs.Prelude.{◌≡◌, ◌++◌, None, IfOk, OnOk, OnErr};
 ghost use Rattle.drf_core.specs.Machine.{opened, after, after_all, HasPlainRoles, HasRun};
 
 use drf_bundle::{Bundle, Quantities};
@@ -59,7 +59,7 @@ impl<S: Sorter> Model for Core<S> {
 
 impl<S: Sorter> Core<S> {
     ghost use Rattle.std.specs.List.{AllByRecursion};
-    ghost use Rattle.drf_rows.specs.Step.{reply_to, replies_to};
+    ghost use Rattle.drf_rows.specs.Step.{live_rows, reply_to, replies_to, refusal_of};
     ghost use Rattle.drf_core.specs.Kept.{IsConserved};
 
     /// An allocator with no rows.
@@ -83,12 +83,13 @@ impl<S: Sorter> Core<S> {
     }
 
     /// Takes one event, whole or not at all. A refusal is a reply; a refused event changes nothing, nor does want of
-    /// memory.
+    /// memory, which no refused event meets.
     pub fn step(&mut self, event: Event) -> Result<Reply, AllocError>
         requires { HasPlainRoles event }
         ensures reply { IfOk result (λ reply. reply ≡ reply_to self.old.limits self.old.rows event) }
         ensures ok { OnOk result (self.new ≡ after self.old event) }
         ensures err { OnErr result (self.new ≡ self.old) }
+        ensures not_refused { OnErr result (refusal_of self.old.limits self.old.rows event ≡ None) }
     {
         match event {
             Event::AddAgent { agent, total } => self.add_agent(agent, total),
@@ -106,7 +107,7 @@ impl<S: Sorter> Core<S> {
         ensures replies { OnOk result (replies.new.items ≡ replies.old.items ++ replies_to self.old.limits self.old.rows events.now) }
     {
         for event in events {
-            let event = event.copy(self.alloc)?;
+            let event = event.copy()?;
             replies.reserve(1)?;
             let reply = self.step(event)?;
             replies.push_reserved(reply);
@@ -116,7 +117,7 @@ impl<S: Sorter> Core<S> {
 
     /// The rows as they stand.
     pub fn rows(&self) -> Result<Rows, AllocError>
-        ensures rows { IfOk result (λ rows. rows ≡ self.now.rows) }
+        ensures rows { IfOk result (λ rows. rows ≡ live_rows self.now.rows) }
         ensures conserved { AllByRecursion (IsConserved self.now.rows) self.now.rows.agents }
     {
         Ok(Rows {

@@ -1,5 +1,5 @@
 -- Lists of texts in order of bytes, gone through side by side.
-use Rattle.std.proofs.Common.{◌≡◌, ℕ, ◌+◌, ◌-◌, Bool, true, false, cond, eqb, ◌||◌, List, [], ◌∷◌, ◌++◌, length, take, drop, take_all, get_or, Some, refl, sym, ap, ◌∙◌, subst, inl, inr, arith}
+use Rattle.std.proofs.Common.{◌≡◌, ℕ, ◌+◌, ◌-◌, Bool, true, false, cond, eqb, ◌||◌, List, [], ◌∷◌, ◌++◌, ◌⊎◌, All, length, take, drop, take_all, get_or, Some, refl, sym, ap, ◌∙◌, subst, inl, inr, arith}
 use Rattle.std.specs.Prelude.{◌↔◌, IsTrue, Result, Ok, Err, is_ok, nat_eq}
 use Rattle.std.specs.declared.cmp.Ordering.{Ordering}
 use Rattle.std.specs.declared.cmp.Ordering.TheVariants.{Less, Equal, Greater}
@@ -12,11 +12,13 @@ use Rattle.std.specs.Ordering.{eq_by_cmp, is_eq, is_lt, ordering_reverse, orderi
 use Rattle.std.specs.FinSet as set
 use Rattle.std.proofs.lemmas.Bool.{true≢false, eqb-true, eq-eqb, cases_lt}
 use Rattle.std.proofs.lemmas.List.Filters.{dedup_is}
-use Rattle.std.proofs.lemmas.List.Folds.{list_any_at, list_any_none}
+use Rattle.std.proofs.lemmas.List.Folds.{list_any_at, list_any_none, Any-from_list_any}
+use Rattle.std.proofs.lemmas.List.Elements.{All-nil, All-get_or, All-from_get_or}
 use Rattle.std.proofs.lemmas.List.Kept.{IsStrictlySortedBy-dedup}
 use Rattle.std.proofs.lemmas.List.Sorted.{searchable_from_sorted, list_any-IsPermutation}
 use Rattle.std.proofs.lemmas.Map.Keys.{sorted_head, sorted_tail, Less-from_sorted}
-use Rattle.drf_kinds.specs.Names.{text_cmp, AreAscending, is_named, next_side, side_of}
+use Rattle.drf_role.specs.Name.{IsLabel}
+use Rattle.drf_kinds.specs.Names.{text_cmp, AreAscending, AreNamesOfSet, IsLabelSet, is_named, next_side, side_of}
 use Rattle.drf_kinds.specs.Places.{is_met, differ}
 use Rattle.drf_kinds.specs.declared.merge.Side.TheVariants.{Left, Right, Both}
 
@@ -249,6 +251,11 @@ differ_both : (e a b : Bool) → (e ≡ true → a ≡ false) → (e ≡ true �
 differ_both true a b a_is b_is = rw (a_is refl, b_is refl) refl
 differ_both false a b a_is b_is = refl
 
+in_either : (a b : Bool) → differ a b ≡ true → (a ≡ true) ⊎ (b ≡ true)
+in_either true b e = inl refl
+in_either false true e = inr refl
+in_either false false e = absurd (true≢false (sym e))
+
 found_left_of : (left right : List ℕ → Bool) (a b found : List (List ℕ)) → FoundNames left right a b found → (f : LeftFirst a b) → FoundNames left right (tail a) b (found ++ f.x ∷ [])
 found_left_of left right a b found known f =
     let before : AreBefore found (f.x ∷ f.rest) = subst (AreBefore found) f.first.is known.before_left in
@@ -335,6 +342,28 @@ same_texts a b each = set.same_set nat_list_cmp_total texts_same a b each
 pub contains-view : (names others : List (List ℕ)) (s : set.FinSet text_cmp) → others ≡ names → set.from_list names ≡ s → (t : List ℕ) → set.contains s t ≡ is_named others t
 contains-view names others s others_is s_is t = ap (λ r. set.contains r t) (sym s_is) ∙ contains-names names t ∙ ap (λ xs. is_named xs t) (sym others_is)
 
+-- the set of names that are labels
+pub IsLabelSet-names : (names : List (List ℕ)) → All IsLabel names → IsLabelSet (set.from_list names)
+IsLabelSet-names names labels = record {
+  each = λ t is.
+      let found = Any-from_list_any (eq_by_cmp text_cmp t) names (sym (contains-names names t) ∙ is) in
+      let same : t ≡ found.1 = texts_same t found.1 ((Equal-is (text_cmp t found.1)).0 found.4) in
+      subst IsLabel (sym same) (subst IsLabel found.3 (All-get_or IsLabel names found.0 found.1 found.2 labels));
+}
+
+-- each of the names of a set of labels is one
+pub labels_of : (names : List (List ℕ)) → IsLabelSet (set.from_list names) → All IsLabel names
+labels_of names given =
+    All-from_get_or IsLabel names [] (λ k below.
+    given.each (get_or names k []) (contains-names names (get_or names k []) ∙ list_any_at (eq_by_cmp text_cmp (get_or names k [])) names k [] below (ap is_eq (tied_itself nat_list_cmp_total (get_or names k [])))))
+
+-- a set whose members are each in one of two sets of labels
+pub IsLabelSet-differ : (a b found : set.FinSet text_cmp) → IsLabelSet a → IsLabelSet b → ((t : List ℕ) → set.contains found t ≡ differ (set.contains a t) (set.contains b t)) → IsLabelSet found
+IsLabelSet-differ a b found a_given b_given is = record {
+  each = λ t in_found.
+      elim (in_either (set.contains a t) (set.contains b t) (sym (is t) ∙ in_found)) [ inl in_a ↦ a_given.each t in_a | inr in_b ↦ b_given.each t in_b ];
+}
+
 -- the set of names that were sorted, each kept once
 deduped : (k : List ℕ) (xs : List (List ℕ)) (t : List ℕ) → is_named (dedup_from (pointwise nat_eq) k xs) t ≡ (eq_by_cmp text_cmp t k || is_named xs t)
 deduped k [] t = refl
@@ -350,7 +379,7 @@ is_named-dedup : (xs : List (List ℕ)) (t : List ℕ) → is_named (dedup (poin
 is_named-dedup [] t = refl
 is_named-dedup (x ∷ xs) t = deduped x xs t
 
-pub kept_ascending : (sorted kept : List (List ℕ)) → IsSorted text_cmp sorted → IsFiltered (DiffersFromLast (pointwise nat_eq)) [] sorted kept → AreAscending kept
+kept_ascending : (sorted kept : List (List ℕ)) → IsSorted text_cmp sorted → IsFiltered (DiffersFromLast (pointwise nat_eq)) [] sorted kept → AreAscending kept
 kept_ascending sorted kept up is = rw (dedup_is (pointwise nat_eq) sorted kept is) (IsStrictlySortedBy-dedup nat_list_cmp_total texts_ties sorted up)
 
 pub same_kept : (names sorted kept : List (List ℕ)) → IsPermutation names sorted → IsFiltered (DiffersFromLast (pointwise nat_eq)) [] sorted kept → set.from_list {R = text_cmp} kept ≡ set.from_list names
@@ -362,6 +391,12 @@ same_kept names sorted kept moved is =
     ∙ is_named-dedup sorted t
     ∙ sym (list_any-IsPermutation (eq_by_cmp text_cmp t) names sorted moved)
     ∙ sym (contains-names names t))
+
+pub kept_names : (names sorted kept : List (List ℕ)) → All IsLabel names → IsPermutation names sorted → IsSorted text_cmp sorted → IsFiltered (DiffersFromLast (pointwise nat_eq)) [] sorted kept → AreNamesOfSet kept
+kept_names names sorted kept labels moved up is = record { ascending = kept_ascending sorted kept up is; given = subst IsLabelSet (sym (same_kept names sorted kept moved is)) (IsLabelSet-names names labels) }
+
+pub no_names_of_set : AreNamesOfSet []
+no_names_of_set = record { ascending = ascending_nil; given = IsLabelSet-names [] (All-nil IsLabel) }
 
 -- what a binary search finds
 turned : (x y : List ℕ) (r : Ordering) → text_cmp x y ≡ r → text_cmp y x ≡ ordering_reverse r

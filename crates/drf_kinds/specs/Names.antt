@@ -1,4 +1,4 @@
--- Finite sets of texts, as lists in order of bytes.
+-- Finite sets of labels, as lists in order of bytes.
 use Rattle.std.specs.Prelude.{ℕ, Bool, List, [], ◌∷◌, Option, Some, None}
 use Rattle.std.specs.declared.cmp.Ordering.{Ordering}
 use Rattle.std.specs.declared.cmp.Ordering.TheVariants.{Less, Equal, Greater}
@@ -7,6 +7,7 @@ use Rattle.std.specs.List.{list_any}
 use Rattle.std.specs.List.Sorted.{IsStrictlySortedBy}
 use Rattle.std.specs.Ordering.{nat_cmp, eq_by_cmp}
 use Rattle.std.specs.FinSet as set
+use Rattle.drf_role.specs.Name.{IsLabel}
 use Rattle.drf_kinds.specs.Sets.{IsSetOf}
 use Rattle.drf_kinds.specs.declared.merge.Side.{Side}
 use Rattle.drf_kinds.specs.declared.merge.Side.TheVariants.{Left, Right, Both}
@@ -15,13 +16,18 @@ use Rattle.drf_kinds.specs.declared.merge.Side.TheVariants.{Left, Right, Both}
 abbrev pub text_cmp : List ℕ → List ℕ → Ordering
 text_cmp = slice_cmp nat_cmp
 
--- any set of texts: the laws of sets ask no more
-abbrev pub IsTextSet : set.FinSet text_cmp → Type 0
-IsTextSet = IsSetOf (λ _. Unit {0})
+-- a set of labels
+abbrev pub IsLabelSet : set.FinSet text_cmp → Type 0
+IsLabelSet = IsSetOf IsLabel
 
 -- each text is before all later ones
 abbrev pub AreAscending : List (List ℕ) → Type 0
 AreAscending = IsStrictlySortedBy text_cmp
+
+-- the names of a set of labels, in order and each once
+pub record AreNamesOfSet (names : List (List ℕ)) : Type 0 where
+  pub ascending : AreAscending names
+  pub given : IsLabelSet (set.from_list names)
 
 -- whether a text is one of the names
 abbrev pub is_named : List (List ℕ) → List ℕ → Bool

@@ -1,10 +1,11 @@
--- Finite sets of texts keep the laws of amounts.
+-- Finite sets of labels keep the laws of amounts.
 use Rattle.std.specs.Cmp.Lexicographic.{nat_list_cmp_total}
 use Rattle.std.specs.FinSet as set
 use Rattle.drf_amount.specs.Algebra.{AlgebraLaws}
-use Rattle.drf_kinds.specs.Names.{IsTextSet}
+use Rattle.drf_role.specs.Name.{IsLabel}
+use Rattle.drf_kinds.specs.Names.{IsLabelSet}
 use Rattle.drf_kinds.specs.Sets.{set_join, set_refusal}
 use Rattle.drf_kinds.specs.SetLaws.{set_laws}
 
-pub text_set_laws : AlgebraLaws IsTextSet set.empty set_join set_refusal set.len
-text_set_laws = set_laws nat_list_cmp_total (set.slice_cmp-IsAntisymmetric set.nat_cmp-IsAntisymmetric) (λ _. Unit {0})
+pub text_set_laws : AlgebraLaws IsLabelSet set.empty set_join set_refusal set.len
+text_set_laws = set_laws nat_list_cmp_total (set.slice_cmp-IsAntisymmetric set.nat_cmp-IsAntisymmetric) IsLabel

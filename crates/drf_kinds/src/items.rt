@@ -1,9 +1,10 @@
-ghost use Rattle.std.specs.Prelude.{◌≡◌, ℕ, List, IfOk};
+ghost use Rattle.std.specs.Prelude.{◌≡◌, ℕ, List, All, IfOk};
 ghost use Rattle.std.specs.FinSet as set;
 ghost use Rattle.drf_kinds.specs.Sets.{set_join, set_refusal};
-ghost use Rattle.drf_kinds.specs.Names.{IsTextSet, AreAscending, is_named};
+ghost use Rattle.drf_kinds.specs.Names.{IsLabelSet, AreAscending, is_named};
 ghost use Rattle.drf_kinds.specs.Places.{differ};
 ghost use Rattle.drf_kinds.specs.TextSetLaws.{text_set_laws};
+ghost use Rattle.drf_role.specs.Name.{IsLabel};
 
 use crate::merge::{copies, meets, symmetric_difference};
 use drf_amount::{Algebra, AlgebraFault};
@@ -22,7 +23,7 @@ impl Model for Items {
     ghost use Rattle.std.specs.Prelude.{ℕ};
     ghost use Rattle.std.specs.FinSet as set;
     ghost use Rattle.std.specs.Coded.{coded_ℕ, coded_list};
-    ghost use Rattle.drf_kinds.specs.Names.{text_cmp, AreAscending};
+    ghost use Rattle.drf_kinds.specs.Names.{text_cmp, AreNamesOfSet};
 
     ghost Value = { set.FinSet text_cmp };
 
@@ -30,7 +31,16 @@ impl Model for Items {
 
     ghost view = { λ i. set.from_list i.names.items };
 
-    ghost invariant = { λ i. AreAscending i.names.items };
+    ghost invariant = { λ i. AreNamesOfSet i.names.items };
+}
+
+// Each of them is a label: only a call of its text tells the proof so.
+fn recall(labels: &[Label])
+    ensures { All IsLabel labels.now }
+{
+    for label in labels {
+        let _ = label.text();
+    }
 }
 
 impl Items {
@@ -38,6 +48,7 @@ impl Items {
     pub fn from_names(_alloc: Global, names: Vec<Label>) -> Result<Items, AllocError>
         ensures { IfOk result (λ items. items ≡ set.from_list names.items) }
     {
+        recall(&names);
         let mut names = names;
         names.sort()?;
         names.dedup();
@@ -47,6 +58,7 @@ impl Items {
     /// The labels, in order of bytes.
     pub fn names(&self) -> &[Label]
         ensures ascending { AreAscending result.now }
+        ensures labels { All IsLabel result.now }
         ensures value { set.from_list result.now ≡ self.now }
         ensures members { (text : List ℕ) → set.contains self.now text ≡ is_named result.now text }
     {
@@ -74,7 +86,7 @@ impl Items {
 }
 
 impl Algebra for Items {
-    ghost is_given = { IsTextSet };
+    ghost is_given = { IsLabelSet };
 
     ghost empty = { set.empty };
 

@@ -1,7 +1,7 @@
 use super::{Interval, Items, Ranges, RangesFault};
-use drf_amount::{Algebra, AlgebraFault};
-use drf_role::Label;
-use std::alloc::Global;
+use drf_amount::{Algebra, AlgebraFault, Pool, PoolFault};
+use drf_role::{Label, NameFault};
+use std::alloc::{AllocError, Global};
 use std::process::Abort;
 use std::test::Fail;
 
@@ -31,6 +31,31 @@ fn call_algebra<A: Algebra>(
     Ok(())
 }
 
+// Each call of a pool of `both`, of which `one` is taken, and then `other`.
+fn call_pool<A: Algebra>(
+    rt: &impl Abort,
+    alloc: Global,
+    one: &A,
+    other: &A,
+    both: &A,
+) -> Result<(), Fail> {
+    let mut pool = Pool::new(alloc, both.copy()?)?;
+    assert_eq!(rt; pool.take(one)?, 0);
+    assert!(rt; same(pool.free(), other));
+    assert_eq!(rt; pool.take(other)?, 1);
+    assert!(rt; pool.free().is_empty());
+    assert!(rt; pool.part(0).is_some_and(|part| same(part, one)));
+    pool.shrink(0, &A::empty(alloc))?;
+    assert!(rt; same(pool.free(), one));
+    assert!(rt; same(&pool.give_back(1)?, other));
+    assert!(rt; pool.give_back(0)?.is_empty());
+    assert!(rt; same(pool.free(), both));
+    pool.replace_free(both, one)?;
+    assert!(rt; same(pool.total(), one));
+    assert!(rt; same(pool.free(), one));
+    Ok(())
+}
+
 fn ranges(alloc: Global, pairs: &[(u32, u32)]) -> Result<Ranges, RangesFault> {
     Ranges::from_pairs(alloc, pairs)
 }
@@ -39,12 +64,13 @@ fn interval(first: u32, last: u32) -> Interval {
     Interval { first, last }
 }
 
-fn items(alloc: Global, texts: &[&str]) -> Result<Items, Fail> {
+fn items(alloc: Global, texts: &[&str]) -> Result<Items, NameFault> {
     let mut names = Vec::new(alloc);
     for text in texts {
-        names.push(Label::read(alloc, text)?)?;
+        let name = Label::read(alloc, text)?;
+        names.push(name).map_err(|_| NameFault::Memory)?;
     }
-    Ok(Items::from_names(alloc, names)?)
+    Items::from_names(alloc, names).map_err(|_| NameFault::Memory)
 }
 
 fn has_names(items: &Items, texts: &[&str]) -> bool {
@@ -65,10 +91,12 @@ fn answers_with_ample_memory(rt: HostRuntime) -> Result<(), Fail> {
     let other = ranges(alloc, &[(3, 4), (20, 20)])?;
     let both = ranges(alloc, &[(1, 4), (7, 9), (20, 20)])?;
     call_algebra(&rt, alloc, &one, &other, &both)?;
+    call_pool(&rt, alloc, &one, &other, &both)?;
     let one = items(alloc, &["x"])?;
     let other = items(alloc, &["a", "y"])?;
     let both = items(alloc, &["a", "x", "y"])?;
     call_algebra(&rt, alloc, &one, &other, &both)?;
+    call_pool(&rt, alloc, &one, &other, &both)?;
     Ok(())
 }
 
@@ -166,4 +194,192 @@ fn tells_faults_in_words(rt: HostRuntime) -> Result<(), Fail> {
         assert_eq!(rt; told.as_str(), text);
     }
     Ok(())
+}
+
+#[test]
+fn refuses_what_a_pool_lacks(rt: HostRuntime) -> Result<(), Fail> {
+    let alloc = rt.alloc();
+    let mut pool = Pool::new(alloc, ranges(alloc, &[(1, 9)])?)?;
+    let (part, last) = (ranges(alloc, &[(1, 4)])?, ranges(alloc, &[(9, 9)])?);
+    assert_eq!(rt; pool.take(&part)?, 0);
+    assert_eq!(rt; pool.shrink(1, &part), Err(PoolFault::UnknownPart));
+    assert_eq!(rt; pool.shrink(0, &last), Err(PoolFault::NotCovered));
+    assert_eq!(rt; pool.replace_free(&last, &part), Err(PoolFault::Overlap));
+    assert_eq!(rt; pool.total().intervals(), [interval(1, 9)].as_slice());
+    assert_eq!(rt; pool.free().intervals(), [interval(5, 9)].as_slice());
+    assert!(rt; pool.part(0).is_some_and(|kept| same(kept, &part)));
+    Ok(())
+}
+
+// Only the first call that asks for memory may be refused it.
+fn ranges_again(alloc: Global, pairs: &[(u32, u32)]) -> Result<Ranges, RangesFault> {
+    match ranges(alloc, pairs) {
+        Err(RangesFault::Memory) => ranges(alloc, pairs),
+        answer => answer,
+    }
+}
+
+fn items_again(alloc: Global, texts: &[&str]) -> Result<Items, NameFault> {
+    match items(alloc, texts) {
+        Err(NameFault::Memory) => items(alloc, texts),
+        answer => answer,
+    }
+}
+
+fn pool_again(alloc: Global, pairs: &[(u32, u32)]) -> Result<Pool<Ranges>, Fail> {
+    match Pool::new(alloc, ranges_again(alloc, pairs)?) {
+        Err(_) => Ok(Pool::new(alloc, ranges(alloc, pairs)?)?),
+        Ok(pool) => Ok(pool),
+    }
+}
+
+fn copy_again(amount: &Ranges) -> Result<Ranges, AllocError> {
+    match amount.copy() {
+        Err(_) => amount.copy(),
+        answer => answer,
+    }
+}
+
+// What a pool has, its part 0 empty where none is out.
+#[derive(Drop)]
+struct State {
+    total: Ranges,
+    free: Ranges,
+    part: Ranges,
+}
+
+fn state_of(alloc: Global, pool: &Pool<Ranges>) -> Result<State, AllocError> {
+    Ok(State {
+        total: copy_again(pool.total())?,
+        free: copy_again(pool.free())?,
+        part: match pool.part(0) {
+            Some(part) => copy_again(part)?,
+            None => Ranges::empty(alloc),
+        },
+    })
+}
+
+fn is_in_state(pool: &Pool<Ranges>, state: &State) -> bool {
+    let part = match pool.part(0) {
+        Some(part) => same(part, &state.part),
+        None => state.part.is_empty(),
+    };
+    part && same(pool.total(), &state.total) && same(pool.free(), &state.free)
+}
+
+// The calls of a pool that ask for memory, in turn.
+fn change_pool(
+    pool: &mut Pool<Ranges>,
+    number: usize,
+    amounts: &[Ranges; 4],
+) -> Result<(), PoolFault> {
+    let [part, less, old, new] = amounts;
+    match number {
+        0 => {
+            pool.take(part)?;
+        }
+        1 => pool.shrink(0, less)?,
+        2 => pool.replace_free(old, new)?,
+        _ => {
+            pool.give_back(0)?;
+        }
+    }
+    Ok(())
+}
+
+fn pool_amounts(alloc: Global) -> Result<[Ranges; 4], RangesFault> {
+    Ok([
+        ranges_again(alloc, &[(1, 4)])?,
+        ranges_again(alloc, &[(1, 2)])?,
+        ranges_again(alloc, &[(3, 3)])?,
+        ranges_again(alloc, &[(20, 20)])?,
+    ])
+}
+
+fn change_pool_again(
+    rt: &impl Abort,
+    alloc: Global,
+    pool: &mut Pool<Ranges>,
+    number: usize,
+    amounts: &[Ranges; 4],
+) -> Result<(), Fail> {
+    let before = state_of(alloc, pool)?;
+    let mut answer = change_pool(pool, number, amounts);
+    if answer == Err(PoolFault::Memory) {
+        assert!(rt; is_in_state(pool, &before), "call {number}");
+        answer = change_pool(pool, number, amounts);
+    }
+    assert_eq!(rt; answer, Ok(()));
+    Ok(())
+}
+
+// Run with `rt try --test --fail-alloc N`, this meets each refused growth in turn.
+#[test]
+fn pool_goes_on_after_a_refused_growth(rt: HostRuntime) -> Result<(), Fail> {
+    let alloc = rt.alloc();
+    let mut pool = pool_again(alloc, &[(1, 9)])?;
+    let amounts = pool_amounts(alloc)?;
+    for number in 0..4 {
+        change_pool_again(&rt, alloc, &mut pool, number, &amounts)?;
+    }
+    let replaced = [interval(1, 2), interval(4, 9), interval(20, 20)];
+    assert_eq!(rt; pool.free().intervals(), replaced.as_slice());
+    assert_eq!(rt; pool.total().intervals(), replaced.as_slice());
+    assert!(rt; pool.part(0).is_none());
+    Ok(())
+}
+
+// The calls of an algebra that ask for memory, in turn: their answers are both, other and both.
+fn make_amount<A: Algebra>(number: usize, one: &A, other: &A, both: &A) -> Result<A, AlgebraFault> {
+    match number {
+        0 => one.try_join(other),
+        1 => both.try_minus(one),
+        _ => Ok(both.copy()?),
+    }
+}
+
+// One amount, another, and their join; `before` has the same once more.
+fn make_amounts<A: Algebra>(
+    rt: &impl Abort,
+    amounts: &[A; 3],
+    before: &[A; 3],
+) -> Result<(), Fail> {
+    let [one, other, both] = amounts;
+    for (number, want) in [both, other, both].into_iter().enumerate() {
+        let mut answer = make_amount(number, one, other, both);
+        if let Err(AlgebraFault::Memory) = answer {
+            for (amount, kept) in amounts.iter().zip(before) {
+                assert!(rt; same(amount, kept));
+            }
+            answer = make_amount(number, one, other, both);
+        }
+        assert!(rt; same(&answer?, want), "call {number}");
+    }
+    Ok(())
+}
+
+fn three_ranges(alloc: Global) -> Result<[Ranges; 3], RangesFault> {
+    Ok([
+        ranges_again(alloc, &[(7, 9), (1, 2)])?,
+        ranges_again(alloc, &[(20, 20), (3, 4)])?,
+        ranges_again(alloc, &[(20, 20), (7, 9), (1, 4)])?,
+    ])
+}
+
+fn three_items(alloc: Global) -> Result<[Items; 3], NameFault> {
+    Ok([
+        items_again(alloc, &["x"])?,
+        items_again(alloc, &["y", "a"])?,
+        items_again(alloc, &["y", "x", "a"])?,
+    ])
+}
+
+#[test]
+fn ranges_go_on_after_a_refused_growth(rt: HostRuntime) -> Result<(), Fail> {
+    make_amounts(&rt, &three_ranges(rt.alloc())?, &three_ranges(rt.alloc())?)
+}
+
+#[test]
+fn items_go_on_after_a_refused_growth(rt: HostRuntime) -> Result<(), Fail> {
+    make_amounts(&rt, &three_items(rt.alloc())?, &three_items(rt.alloc())?)
 }

@@ -95,6 +95,11 @@ impl Joined {
         Joined::cut(alloc, String::from_str(alloc, text)?)
     }
 
+    /// The allocator that its text came from.
+    pub fn alloc(&self) -> Global {
+        *self.text.allocator()
+    }
+
     pub fn text(&self) -> &str
         ensures text { result.now ≡ text_of self.now }
         ensures parts { parts_of result.now ≡ self.now }
@@ -123,22 +128,25 @@ impl Joined {
     }
 
     /// The first parts, `len` of them.
-    pub fn front(&self, alloc: Global, len: usize) -> Result<Joined, AllocError>
+    pub fn front(&self, len: usize) -> Result<Joined, AllocError>
         requires some { 1 ≤ len }
         requires within { len ≤ length self.now }
         ensures { IfOk result (λ front. front ≡ take len self.now) }
     {
         let end = self.spans[len - 1].end;
-        Joined::from_text(alloc, &self.text.as_str()[..end])
+        Joined::from_text(self.alloc(), &self.text.as_str()[..end])
+    }
+
+    pub fn copy_in(&self, alloc: Global) -> Result<Joined, AllocError>
+        ensures { IfOk result (λ parts. parts ≡ self.now) }
+    {
+        Joined::from_text(alloc, self.text.as_str())
     }
 
     pub fn copy(&self) -> Result<Joined, AllocError>
         ensures { IfOk result (λ parts. parts ≡ self.now) }
     {
-        Ok(Joined {
-            text: self.text.clone()?,
-            spans: self.spans.clone()?,
-        })
+        self.copy_in(self.alloc())
     }
 
     pub fn begins_with(&self, front: &Joined) -> bool

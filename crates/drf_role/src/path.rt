@@ -50,10 +50,10 @@ impl Model for ClientPath {
 }
 
 impl ClientPath {
-    pub fn new(role: &Role, framework: &Name) -> Result<ClientPath, AllocError>
+    pub fn new(alloc: Global, role: &Role, framework: &Name) -> Result<ClientPath, AllocError>
         ensures { IfOk result (λ path. path ≡ client_path role.now framework.now) }
     {
-        Ok(ClientPath::from_parts(role.copy()?, framework.copy()?))
+        Ok(ClientPath::from_parts(role.copy_in(alloc)?, framework.copy_in(alloc)?))
     }
 
     /// The path of a framework in a role, which it keeps; no memory is asked for.
@@ -106,27 +106,28 @@ impl ClientPath {
     pub fn copy(&self) -> Result<ClientPath, AllocError>
         ensures { IfOk result (λ path. path ≡ self.now) }
     {
-        ClientPath::new(&self.role, &self.framework)
+        ClientPath::new(self.role.alloc(), &self.role, &self.framework)
     }
 
     // The parts in one text, of which a node is a front.
-    fn joined(&self, alloc: Global) -> Result<Joined, AllocError>
+    fn joined(&self) -> Result<Joined, AllocError>
         ensures parts { IfOk result (λ joined. joined ≡ self.now) }
         ensures right { IsClientPath self.now }
     {
+        let alloc = self.role.alloc();
         let text = client_text(alloc, self.role.text(), self.framework.text())?;
         let joined = Joined::cut(alloc, text)?;
         Ok(joined)
     }
 
     /// The node that the first parts name, `len` of them.
-    pub fn node(&self, alloc: Global, len: usize) -> Result<NodePath, AllocError>
+    pub fn node(&self, len: usize) -> Result<NodePath, AllocError>
         requires some { 1 ≤ len }
         requires within { len ≤ length self.now }
         ensures { IfOk result (λ node. node ≡ take len self.now) }
     {
         Ok(NodePath {
-            joined: self.joined(alloc)?.front(alloc, len)?,
+            joined: self.joined()?.front(len)?,
         })
     }
 }

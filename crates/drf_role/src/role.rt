@@ -159,12 +159,23 @@ impl Role {
         self.joined.parts()
     }
 
-    pub fn copy(&self) -> Result<Role, AllocError>
+    /// The allocator that its text came from.
+    pub(crate) fn alloc(&self) -> Global {
+        self.joined.alloc()
+    }
+
+    pub(crate) fn copy_in(&self, alloc: Global) -> Result<Role, AllocError>
         ensures { IfOk result (λ role. role ≡ self.now) }
     {
         Ok(Role {
-            joined: self.joined.copy()?,
+            joined: self.joined.copy_in(alloc)?,
         })
+    }
+
+    pub fn copy(&self) -> Result<Role, AllocError>
+        ensures { IfOk result (λ role. role ≡ self.now) }
+    {
+        self.copy_in(self.alloc())
     }
 
     /// Whether the role is `*`.

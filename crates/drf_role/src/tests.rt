@@ -13,6 +13,10 @@ const ROLE_64: &str = "aaaaaaa/aaaaaaa/aaaaaaa/aaaaaaa/aaaaaaa/aaaaaaa/aaaaaaa/a
 
 const ROLE_65: &str = "aaaaaaa/aaaaaaa/aaaaaaa/aaaaaaa/aaaaaaa/aaaaaaa/aaaaaaa/aaaaaaaaa";
 
+// the client of a role of 64 bytes and a name of 64 bytes
+const LONGEST_PATH: &str =
+    "aaaaaaa/aaaaaaa/aaaaaaa/aaaaaaa/aaaaaaa/aaaaaaa/aaaaaaa/aaaaaaaa/./aaaaaaaaaaaaaaaaaaaaaaaaaaaaaaaaaaaaaaaaaaaaaaaaaaaaaaaaaaaaaaaa";
+
 fn name_is_kept(alloc: Global, text: &str) -> Result<bool, NameFault> {
     Ok(Name::read(alloc, text)?.text() == text)
 }
@@ -65,6 +69,7 @@ fn reads_roles(rt: HostRuntime) {
         "eng/!x",
         "...",
         "a-/*b",
+        "~",
         BYTES_64,
         ROLE_64,
     ] {
@@ -87,6 +92,7 @@ fn reads_roles(rt: HostRuntime) {
         "a)",
         "a:b",
         "a;b",
+        "a\u{7f}",
         "a/b/c/d/e/f/g/h/i",
         "\u{e9}",
         BYTES_65,
@@ -129,6 +135,7 @@ fn roles_stand_within_roles(rt: HostRuntime) {
 fn the_default_role_is_a_star(rt: HostRuntime) -> Result<(), Fail> {
     let default = Role::default_role(rt.alloc())?;
     assert_eq!(rt; default.text(), "*");
+    assert_eq!(rt; default, Role::read(rt.alloc(), "*")?);
     assert!(rt; default.is_default());
     assert!(rt; !Role::read(rt.alloc(), "eng")?.is_default());
     Ok(())
@@ -149,12 +156,12 @@ fn roles_give_their_parts(rt: HostRuntime) -> Result<(), Fail> {
 fn client(alloc: Global, role: &str, framework: &str) -> Result<ClientPath, Fail> {
     let role = Role::read(alloc, role)?;
     let framework = Name::read(alloc, framework)?;
-    Ok(ClientPath::new(&role, &framework)?)
+    Ok(ClientPath::new(alloc, &role, &framework)?)
 }
 
-fn first_parts(alloc: Global, path: &ClientPath, len: usize) -> Result<NodePath, AllocError> {
+fn first_parts(path: &ClientPath, len: usize) -> Result<NodePath, AllocError> {
     if 0 < len && len <= path.len() {
-        path.node(alloc, len)
+        path.node(len)
     } else {
         Err(AllocError)
     }
@@ -162,7 +169,7 @@ fn first_parts(alloc: Global, path: &ClientPath, len: usize) -> Result<NodePath,
 
 fn node(alloc: Global, role: &str, framework: &str, len: usize) -> Result<NodePath, Fail> {
     let path = client(alloc, role, framework)?;
-    Ok(first_parts(alloc, &path, len)?)
+    Ok(first_parts(&path, len)?)
 }
 
 #[test]
@@ -195,6 +202,30 @@ fn paths_give_their_parts(rt: HostRuntime) -> Result<(), Fail> {
     let node = node(rt.alloc(), "eng/web", "f2", 3)?;
     assert_eq!(rt; node.len(), 3);
     assert_eq!(rt; node.part(2), ".");
+    Ok(())
+}
+
+fn last_part(node: &NodePath) -> &str {
+    node.part(node.len() - 1)
+}
+
+#[test]
+fn the_longest_path_has_ten_nodes(rt: HostRuntime) -> Result<(), Fail> {
+    let path = client(rt.alloc(), ROLE_64, BYTES_64)?;
+    assert_eq!(rt; path.len(), 10);
+    for i in 0..path.len() {
+        let node = path.node(i + 1)?;
+        assert_eq!(rt; node.len(), i + 1);
+        assert_eq!(rt; last_part(&node), path.part(i));
+    }
+    Ok(())
+}
+
+#[test]
+fn the_longest_path_is_whole(rt: HostRuntime) -> Result<(), Fail> {
+    let path = client(rt.alloc(), ROLE_64, BYTES_64)?;
+    assert_eq!(rt; path.copy()?, path);
+    assert_eq!(rt; path.node(path.len())?.text(), LONGEST_PATH);
     Ok(())
 }
 
@@ -301,5 +332,87 @@ fn roles_and_nodes_are_keys(rt: HostRuntime) -> Result<(), Fail> {
     let node_copy = node.copy()?;
     assert_eq!(rt; node_copy, node);
     assert_eq!(rt; hash_of(&node_copy), hash_of(&node));
+    Ok(())
+}
+
+#[test]
+fn tells_faults_in_words(rt: HostRuntime) -> Result<(), Fail> {
+    for (fault, text) in [
+        (NameFault::BadName, "not a name"),
+        (NameFault::Memory, "out of memory"),
+    ] {
+        assert_eq!(rt; fault.to_string(rt.alloc())?.as_str(), text);
+    }
+    for (fault, text) in [
+        (RoleFault::BadRole, "not a role"),
+        (RoleFault::Memory, "out of memory"),
+    ] {
+        assert_eq!(rt; fault.to_string(rt.alloc())?.as_str(), text);
+    }
+    Ok(())
+}
+
+// These ask once more where memory was refused. Run with `rt try --test --fail-alloc N`, they
+// meet each refused growth in turn.
+
+fn name_at_last(alloc: Global, text: &str) -> Result<Name, NameFault> {
+    match Name::read(alloc, text) {
+        Err(NameFault::Memory) => Name::read(alloc, text),
+        answer => answer,
+    }
+}
+
+fn label_at_last(alloc: Global, text: &str) -> Result<Label, NameFault> {
+    match Label::read(alloc, text) {
+        Err(NameFault::Memory) => Label::read(alloc, text),
+        answer => answer,
+    }
+}
+
+fn role_at_last(alloc: Global, text: &str) -> Result<Role, RoleFault> {
+    match Role::read(alloc, text) {
+        Err(RoleFault::Memory) => Role::read(alloc, text),
+        answer => answer,
+    }
+}
+
+#[test]
+fn names_go_on_after_a_refused_growth(rt: HostRuntime) -> Result<(), Fail> {
+    let name = name_at_last(rt.alloc(), "f1")?;
+    assert_eq!(rt; name.text(), "f1");
+    assert_eq!(rt; name.copy().or_else(|_| name.copy())?, name);
+    let label = label_at_last(rt.alloc(), "a/b")?;
+    assert_eq!(rt; label.text(), "a/b");
+    assert_eq!(rt; label.copy().or_else(|_| label.copy())?, label);
+    Ok(())
+}
+
+#[test]
+fn roles_go_on_after_a_refused_growth(rt: HostRuntime) -> Result<(), Fail> {
+    let fault = Role::read(rt.alloc(), "a//b").err();
+    assert_eq!(rt; fault, Some(RoleFault::BadRole));
+    let role = role_at_last(rt.alloc(), "eng/web")?;
+    assert_eq!(rt; role.text(), "eng/web");
+    assert_eq!(rt; role.copy().or_else(|_| role.copy())?, role);
+    let default = Role::default_role(rt.alloc()).or_else(|_| Role::default_role(rt.alloc()))?;
+    assert_eq!(rt; default.text(), "*");
+    Ok(())
+}
+
+fn client_at_last(alloc: Global) -> Result<ClientPath, Fail> {
+    let role = role_at_last(alloc, "eng/web")?;
+    let name = name_at_last(alloc, "f2")?;
+    Ok(ClientPath::new(alloc, &role, &name).or_else(|_| ClientPath::new(alloc, &role, &name))?)
+}
+
+#[test]
+fn paths_go_on_after_a_refused_growth(rt: HostRuntime) -> Result<(), Fail> {
+    let path = client_at_last(rt.alloc())?;
+    assert_eq!(rt; path.copy().or_else(|_| path.copy())?, path);
+    for (len, text) in [(2, "eng/web"), (4, "eng/web/./f2")] {
+        let node = first_parts(&path, len).or_else(|_| first_parts(&path, len))?;
+        assert_eq!(rt; node.text(), text);
+        assert_eq!(rt; node.copy().or_else(|_| node.copy())?, node);
+    }
     Ok(())
 }

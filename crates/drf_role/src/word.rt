@@ -39,12 +39,21 @@ impl Word {
         self.text.as_str()
     }
 
+    /// The allocator that its text came from.
+    pub fn alloc(&self) -> Global {
+        *self.text.allocator()
+    }
+
+    pub fn copy_in(&self, alloc: Global) -> Result<Word, AllocError>
+        ensures { IfOk result (λ word. word ≡ self.now) }
+    {
+        Word::from_text(alloc, self.text())
+    }
+
     pub fn copy(&self) -> Result<Word, AllocError>
         ensures { IfOk result (λ word. word ≡ self.now) }
     {
-        Ok(Word {
-            text: self.text.clone()?,
-        })
+        self.copy_in(self.alloc())
     }
 }
 

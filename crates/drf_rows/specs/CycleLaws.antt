@@ -1,5 +1,5 @@
 -- The rows with one more offer, and turns step by step.
-use Rattle.std.specs.Prelude.{◌≡◌, ℕ, ◌+◌, ◌-◌, ◌≤◌, Bool, nat_lt, sum_by, true, false, not, List, [], ◌∷◌, ◌++◌, length, map, filter, if◌then◌else◌, IsTrue}
+use Rattle.std.specs.Prelude.{◌≡◌, ℕ, ◌+◌, ◌-◌, ◌≤◌, Bool, nat_lt, sum_by, true, false, not, List, [], ◌∷◌, ◌++◌, length, map, filter, Option, Some, None, if◌then◌else◌, IsTrue}
 use Rattle.std.specs.List.{flat_map}
 use Rattle.std.proofs.Common.{refl, ap, ◌∙◌, inl, inr, arith, zero-add, ltb-false}
 use Rattle.std.proofs.lemmas.Bool.{cases_Bool}
@@ -15,7 +15,7 @@ use Rattle.drf_bundle.specs.QuantitiesLaws.{rest-itself}
 use Rattle.drf_bundle.specs.declared.quantities.Entry.{Entry}
 use Rattle.drf_rows.specs.Paths.{Client, same_path}
 use Rattle.drf_rows.specs.Held.{client_of, clients_of, active_clients}
-use Rattle.drf_rows.specs.Cycle.{offers_on, offered_on, free_of, is_allocatable, counted, count_offer, with_offer, tried, all_tried, turn, turns}
+use Rattle.drf_rows.specs.Cycle.{offers_on, offered_on, free_of, is_allocatable, grant, counted, count_offer, with_offer, tried, all_tried, turn, turns}
 use Rattle.drf_rows.specs.Step.{new_offers}
 use Rattle.drf_rows.specs.declared.rows.AgentRow.{AgentRow}
 use Rattle.drf_rows.specs.declared.rows.ClientRow.{ClientRow}
@@ -193,6 +193,19 @@ all_tried_first rows agent c cs enough ordered =
     let left : free_of after agent ≡ [] =
     free_of-with_offer rows agent c (free_of rows agent) ∙ rest-itself (free_of rows agent) ordered in
     rw enough (all_tried_none after agent cs (ap is_allocatable left))
+
+-- so is a client that is granted it
+pub all_tried_granted : (rows : Rows) (agent : AgentRow) (c : Client) (cs : List Client)
+    → grant rows agent c ≡ Some (free_of rows agent)
+    → IsTrue (is_in_order (free_of rows agent))
+    → all_tried rows agent (c ∷ cs) ≡ with_offer rows agent c (free_of rows agent)
+all_tried_granted rows agent c cs granted ordered =
+    elim (cases_Bool (is_allocatable (free_of rows agent))) [
+      | inl enough ↦ all_tried_first rows agent c cs enough ordered
+      | inr little ↦
+          let none : ◌≡◌ {A = Option (List Entry)} None (Some (free_of rows agent)) = rw little at granted in
+          cc
+    ]
 
 pub turns-append : (rows : Rows) (agents others : List AgentRow)
     → turns rows (agents ++ others) ≡ turns (turns rows agents) others

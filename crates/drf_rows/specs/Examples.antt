@@ -111,3 +111,34 @@ two_agents = AddAgent (codes "n1") (cpus 1000 ∷ []) ∷ AddAgent (codes "n2") 
 -- one event more than the limit of two
 abbrev pub two_events : LimitNumbers
 two_events = record ceilings { events = 2 }
+
+-- a name of a scalar more than the limit of two
+abbrev pub two_names : LimitNumbers
+two_names = record ceilings { scalar_names = 2 }
+
+abbrev pub three_names : List Event
+three_names =
+    AddAgent (codes "n1") (cpus 1000 ∷ mem 1000 ∷ [])
+    ∷ AddAgent (codes "n2") (gpus 1000 ∷ mem 1000 ∷ [])
+    ∷ AddAgent (codes "n3") (mem 1000 ∷ [])
+    ∷ []
+
+-- one framework, or one client, more than the limit of one
+abbrev pub one_framework : LimitNumbers
+one_framework = record ceilings { frameworks = 1 }
+
+abbrev pub one_client : LimitNumbers
+one_client = record ceilings { clients = 1 }
+
+abbrev pub two_registrations : List Event
+two_registrations = in_role (codes "f1") (codes "a") ∷ in_role (codes "f2") (codes "a") ∷ []
+
+-- a role listed twice is one role; one more is over the limit of one
+abbrev pub one_role : LimitNumbers
+one_role = record ceilings { roles = 1 }
+
+abbrev pub roles_listed : List Event
+roles_listed =
+    AddFramework (codes "f1") ((codes "a" ∷ []) ∷ (codes "a" ∷ []) ∷ [])
+    ∷ AddFramework (codes "f2") ((codes "a" ∷ []) ∷ (codes "b" ∷ []) ∷ [])
+    ∷ []

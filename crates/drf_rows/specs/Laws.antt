@@ -5,7 +5,7 @@ use Rattle.drf_bundle.specs.Quantities.{is_in_order}
 use Rattle.drf_rows.specs.LimitNumbers.{LimitNumbers}
 use Rattle.drf_rows.specs.Paths.{Client, path_of}
 use Rattle.drf_rows.specs.Share.{Standing, stands_before, is_serving_order}
-use Rattle.drf_rows.specs.Cycle.{free_of, is_allocatable, with_offer, all_tried, serving_order}
+use Rattle.drf_rows.specs.Cycle.{free_of, is_allocatable, grant, with_offer, all_tried, serving_order}
 use Rattle.drf_rows.specs.Step.{refusal_of, effect, answer, rows_after, reply_to, rows_after_all, replies_to}
 use Rattle.drf_rows.specs.declared.rows.AgentRow.{AgentRow}
 use Rattle.drf_rows.specs.declared.rows.Rows.{Rows}
@@ -37,11 +37,11 @@ TooLittleIsNotGranted =
     → is_allocatable (free_of rows agent) ≡ false
     → all_tried rows agent clients ≡ rows
 
--- where enough is free, the first client is granted all of it, and the others nothing
+-- where the first client is granted all that is free, it is offered that, and the others nothing
 abbrev pub FirstIsGrantedAll : Type 0
 FirstIsGrantedAll =
     (rows : Rows) (agent : AgentRow) (first : Client) (others : List Client)
-    → is_allocatable (free_of rows agent) ≡ true
+    → grant rows agent first ≡ Some (free_of rows agent)
     → IsTrue (is_in_order (free_of rows agent))
     → all_tried rows agent (first ∷ others) ≡ with_offer rows agent first (free_of rows agent)
 

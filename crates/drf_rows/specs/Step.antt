@@ -26,6 +26,10 @@ use Rattle.drf_rows.specs.declared.reply.OfferLine.{OfferLine}
 abbrev pub opening : Rows
 opening = record { agents = []; frameworks = []; offers = []; weights = []; clock = 0; next_offer = 1; accepted = 0 }
 
+-- the rows that still tell of something: all of them, as there are no filters yet that could have run out
+abbrev pub live_rows : Rows → Rows
+live_rows rows = rows
+
 -- the greatest moment, in milliseconds
 abbrev pub latest_moment : ℕ
 latest_moment = 4611686018427387904

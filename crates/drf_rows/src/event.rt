@@ -3,7 +3,7 @@ ghost use Rattle.std.specs.Prelude.{◌≡◌, IfOk};
 use crate::table::Table;
 use drf_bundle::Bundle;
 use drf_role::{Name, Role};
-use std::alloc::{AllocError, Global};
+use std::alloc::AllocError;
 
 /// What happens to the cluster. The allocator takes one event at a time, whole or not at all.
 #[derive(Debug, Drop)]
@@ -16,10 +16,10 @@ pub enum Event {
     Cycle { at: u64 },
 }
 
-fn copy_roles(alloc: Global, roles: &Table<Role>) -> Result<Table<Role>, AllocError>
+fn copy_roles(roles: &Table<Role>) -> Result<Table<Role>, AllocError>
     ensures { IfOk result (λ copy. copy ≡ roles.now) }
 {
-    let mut copy = Vec::new(alloc);
+    let mut copy = Vec::new(roles.alloc());
     for role in roles.as_slice() {
         copy.push(role.copy()?)?;
     }
@@ -27,17 +27,17 @@ fn copy_roles(alloc: Global, roles: &Table<Role>) -> Result<Table<Role>, AllocEr
 }
 
 impl Event {
-    pub fn copy(&self, alloc: Global) -> Result<Event, AllocError>
+    pub fn copy(&self) -> Result<Event, AllocError>
         ensures { IfOk result (λ copy. copy ≡ self.now) }
     {
         match self {
             Event::AddAgent { agent, total } => Ok(Event::AddAgent {
                 agent: agent.copy()?,
-                total: total.copy(alloc)?,
+                total: total.copy()?,
             }),
             Event::AddFramework { framework, roles } => Ok(Event::AddFramework {
                 framework: framework.copy()?,
-                roles: copy_roles(alloc, roles)?,
+                roles: copy_roles(roles)?,
             }),
             Event::Cycle { at } => Ok(Event::Cycle { at: *at }),
         }

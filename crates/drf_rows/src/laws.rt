@@ -6,7 +6,7 @@ ghost use Rattle.std.specs.Prelude.{◌≡◌, [], ◌∷◌, codes};
 ghost use Rattle.drf_rows.specs.LimitNumbers.{ceilings};
 ghost use Rattle.drf_rows.specs.Step.{opening, replies_to};
 ghost use Rattle.drf_rows.specs.Laws.{NoneBeforeItself, AtMostOneBefore, OneServingOrder, TooLittleIsNotGranted, FirstIsGrantedAll, RefusedChangesNothing, AcceptedIsCounted, RunsGoOn};
-ghost use Rattle.drf_rows.specs.Examples.{one_cycle, two_cycles, two_cycles_replies, two_frameworks, two_frameworks_replies, replies_with, not_offered, offered_whole, refused_as_too_large, one_agent, two_agents, two_events, cpus, mem, gpus};
+ghost use Rattle.drf_rows.specs.Examples.{one_cycle, two_cycles, two_cycles_replies, two_frameworks, two_frameworks_replies, replies_with, not_offered, offered_whole, refused_as_too_large, one_agent, two_agents, two_events, two_names, three_names, one_framework, one_client, two_registrations, one_role, roles_listed, cpus, mem, gpus};
 ghost use Rattle.drf_rows.specs.OrderExamples.{served, close_shares, equal_shares, weighted_shares, shares_of, first_agent, second_agent, role_tree, more_for_ops, half_weight_of_eng, nothing_held};
 
 use crate::reply::{Refusal, Reply};
@@ -18,7 +18,7 @@ pub fn serving_order_law()
     ensures unique { OneServingOrder }
 {}
 
-/// The turn of an agent, as long as a client may have all that is free.
+/// The turn of an agent on which too little is free, or all that is free is granted to the first client.
 pub fn turn_law()
     ensures little { TooLittleIsNotGranted }
     ensures enough { FirstIsGrantedAll }
@@ -51,6 +51,10 @@ pub fn limits_example()
     ensures largest { replies_with (cpus 1099511627775 ∷ []) ≡ offered_whole (cpus 1099511627775 ∷ []) }
     ensures too_large { replies_with (cpus 1099511627776 ∷ []) ≡ refused_as_too_large }
     ensures agents { replies_to one_agent opening two_agents ≡ Reply.Done ∷ Reply.Refused Refusal.TooMany ∷ [] }
+    ensures names { replies_to two_names opening three_names ≡ Reply.Done ∷ Reply.Refused Refusal.TooMany ∷ Reply.Done ∷ [] }
+    ensures frameworks { replies_to one_framework opening two_registrations ≡ Reply.Done ∷ Reply.Refused Refusal.TooMany ∷ [] }
+    ensures clients { replies_to one_client opening two_registrations ≡ Reply.Done ∷ Reply.Refused Refusal.TooMany ∷ [] }
+    ensures roles { replies_to one_role opening roles_listed ≡ Reply.Done ∷ Reply.Refused Refusal.TooMany ∷ [] }
     ensures events { replies_to two_events opening one_cycle ≡ Reply.Done ∷ Reply.Done ∷ Reply.Refused Refusal.HistoryFull ∷ [] }
 {}
 

@@ -2,7 +2,7 @@
 use Rattle.std.specs.Prelude.{◌≡◌, ℕ, ◌+◌, ◌-◌, ◌^◌, ◌<◌, ◌≤◌, Bool, true, List, [], ◌∷◌, ◌++◌, map, filter, sum_by, if◌then◌else◌, IsTrue}
 use Rattle.std.specs.List.{list_any, AllByRecursion}
 use Rattle.std.specs.List.Sorted.{IsPermutation}
-use Rattle.drf_bundle.specs.Quantities.{amount_of, is_in_order}
+use Rattle.drf_bundle.specs.Quantities.{amount_of}
 use Rattle.drf_bundle.specs.declared.quantities.Entry.{Entry}
 use Rattle.drf_rows.specs.Paths.{same_path, begins_with}
 use Rattle.drf_rows.specs.Share.{Standing, is_serving_order}
@@ -77,10 +77,7 @@ standing_of content = record {
 pub record IsSound (content : Content) : Type 0 where
   pub held : (label : List ℕ) → sum_by (λ c. c.held label) content.clients ≤ amount_of content.total label
   pub total : (label : List ℕ) → amount_of content.total label < 2 ^ 52
-  pub ordered : IsTrue (is_in_order content.total)
   pub count : sum_by (λ c. c.count) content.clients < 2 ^ 64
-  pub light : (node : List (List ℕ)) → 1 ≤ weight_of content.weights node
-  pub heavy : (node : List (List ℕ)) → weight_of content.weights node ≤ 1000000
 
 -- the paths of the clients that are to be served
 abbrev pub active_paths : Content → List (List (List ℕ))

@@ -6,6 +6,8 @@ mod plain;
 mod rank;
 mod share;
 mod sorter;
+#[cfg(test)]
+mod tests;
 
 pub use laws::{client_order_law, client_path_law, share_order_law};
 pub use plain::PlainSorter;

@@ -198,12 +198,11 @@ impl Sorter for PlainSorter {
     }
 
     fn charge(&mut self, path: &ClientPath, quantities: &Quantities) -> Result<(), AllocError> {
-        let alloc = self.alloc();
         // Its labels are in order.
         let _ = quantities.entries();
         if let Some(at) = index_of(&self.clients, path) {
             let client = &mut self.clients[at];
-            client.held = client.held.plus(alloc, quantities)?;
+            client.held = client.held.plus(quantities)?;
             client.count += 1;
         }
         Ok(())

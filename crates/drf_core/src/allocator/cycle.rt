@@ -1,5 +1,5 @@
 //! The allocation cycle.
-ghost use Rattle.std.specs.Prelude.{◌≡◌, ◌<◌, ◌+◌, ◌++◌, length, map, IfOk, OnOk, OnErr};
+ghost use Rattle.std.specs.Prelude.{◌≡◌, ◌<◌, ◌+◌, ◌++◌, None, length, map, IfOk, OnOk, OnErr};
 ghost use Rattle.drf_role.specs.Path.{role_part, framework_part};
 ghost use Rattle.drf_rows.specs.Cycle.{is_allocatable};
 
@@ -8,7 +8,7 @@ use drf_bundle::Bundle;
 use drf_role::{ClientPath, Name, Role};
 use drf_rows::{OfferLine, OfferRow, Refusal, Reply, Table};
 use drf_sorter::Sorter;
-use std::alloc::{AllocError, Global};
+use std::alloc::AllocError;
 use std::mem;
 
 /// The greatest moment of an event, in milliseconds.
@@ -66,7 +66,6 @@ impl Names {
 
 /// An offer, as it is told.
 fn line_for(
-    alloc: Global,
     number: u64,
     agent: &Name,
     client: &ClientPath,
@@ -85,7 +84,7 @@ fn line_for(
         agent: agent.copy()?,
         framework: client.framework().copy()?,
         role: client.role().copy()?,
-        resources: bundle.copy(alloc)?,
+        resources: bundle.copy()?,
     })
 }
 
@@ -117,7 +116,7 @@ impl<S: Sorter> Core<S> {
         let Some(place) = self.frameworks.get_index_of(client.framework()) else {
             unreachable!()
         };
-        let line = line_for(self.alloc, self.next_offer, name, client, &self.free[agent])?;
+        let line = line_for(self.next_offer, name, client, &self.free[agent])?;
         let names = Names::of(name, client)?;
         lines.reserve(1)?;
         self.offers.reserve(1)?;
@@ -252,6 +251,7 @@ impl<S: Sorter> Core<S> {
         ensures reply { IfOk result (λ reply. reply ≡ reply_to self.old.limits self.old.rows (Cycle at)) }
         ensures ok { OnOk result (self.new ≡ after self.old (Cycle at)) }
         ensures err { OnErr result (self.new ≡ self.old) }
+        ensures not_refused { OnErr result (refusal_of self.old.limits self.old.rows (Cycle at) ≡ None) }
     {
         if let Some(refusal) = self.cycle_refusal(at) {
             return Ok(Reply::Refused(refusal));

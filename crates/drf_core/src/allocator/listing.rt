@@ -18,7 +18,7 @@ pub(super) fn agent_rows(
     for (name, agent) in agents {
         rows.push(AgentRow {
             name: name.copy()?,
-            total: agent.total.copy(alloc)?,
+            total: agent.total.copy()?,
             active: agent.active,
         })?;
     }
@@ -64,7 +64,7 @@ pub(super) fn offer_rows(alloc: Global, offers: &[OfferRow]) -> Result<Table<Off
             agent: offer.agent.copy()?,
             framework: offer.framework.copy()?,
             role: offer.role.copy()?,
-            bundle: offer.bundle.copy(alloc)?,
+            bundle: offer.bundle.copy()?,
         })?;
     }
     Ok(Table::from_vec(rows))

@@ -1,5 +1,5 @@
 //! Agents and frameworks register.
-ghost use Rattle.std.specs.Prelude.{◌≡◌, ◌≤◌, length, IfOk, OnOk, OnErr};
+ghost use Rattle.std.specs.Prelude.{◌≡◌, ◌≤◌, None, length, IfOk, OnOk, OnErr};
 ghost use Rattle.drf_rows.specs.Step.{reply_to, refusal_of};
 ghost use Rattle.drf_rows.specs.declared.event.Event.TheVariants.{AddAgent, AddFramework};
 ghost use Rattle.drf_core.specs.Machine.{after, HasPlainRoles};
@@ -44,13 +44,14 @@ impl<S: Sorter> Core<S> {
         ensures reply { IfOk result (λ reply. reply ≡ reply_to self.old.limits self.old.rows (AddAgent name total)) }
         ensures ok { OnOk result (self.new ≡ after self.old (AddAgent name total)) }
         ensures err { OnErr result (self.new ≡ self.old) }
+        ensures not_refused { OnErr result (refusal_of self.old.limits self.old.rows (AddAgent name total) ≡ None) }
     {
         if let Some(refusal) = self.agent_refusal(&name, &total) {
             return Ok(Reply::Refused(refusal));
         }
-        let sum = self.total.plus(self.alloc, total.quantities())?;
-        let known = sum.copy(self.alloc)?;
-        let free = total.copy(self.alloc)?;
+        let sum = self.total.plus(total.quantities())?;
+        let known = sum.copy()?;
+        let free = total.copy()?;
         self.free.reserve(1)?;
         self.agents.insert(
             name,
@@ -96,6 +97,7 @@ impl<S: Sorter> Core<S> {
         ensures reply { IfOk result (λ reply. reply ≡ reply_to self.old.limits self.old.rows (AddFramework name roles)) }
         ensures ok { OnOk result (self.new ≡ after self.old (AddFramework name roles)) }
         ensures err { OnErr result (self.new ≡ self.old) }
+        ensures not_refused { OnErr result (refusal_of self.old.limits self.old.rows (AddFramework name roles) ≡ None) }
     {
         if let Some(refusal) = self.framework_refusal(&name, &roles) {
             return Ok(Reply::Refused(refusal));
@@ -103,7 +105,7 @@ impl<S: Sorter> Core<S> {
         let Some(role) = roles.into_vec().pop() else {
             unreachable!()
         };
-        let path = ClientPath::new(&role, &name)?;
+        let path = ClientPath::new(self.alloc, &role, &name)?;
         self.frameworks.reserve(1)?;
         self.sorter.add(path)?;
         let client = ClientRow {

@@ -1,4 +1,4 @@
-use Rattle.std.proofs.Common.{refl}
+use Rattle.std.proofs.Common.{refl, rules, arith}
 use Rattle.drf_amount.proofs.Kept.{IsPool-take}
 use Rattle.drf_amount.proofs.Numbered.{insert_entry-last}
 use Rattle.drf_amount.proofs.pool.Pool.take.Goals as goal
@@ -12,6 +12,7 @@ pub returns-clause-ok : goal.returns-clause-ok
 returns-clause-ok g c =
     rw (← c.self.view_is) (record {
       number_is = refl;
+      number_left = search (rules, arith);
       taken = c.in_ok-rest.ensures.rest;
       parts = rw (c.in_ok-insert.ensures.entries, c.in_ok-part.ensures.same) (insert_entry-last 0 _ _ _ c.self.invariant.numbered);
       next = refl;

@@ -5,4 +5,4 @@ use Rattle.drf_kinds.proofs.items.ItemsAlgebra.amount.Goals as goal
 
 pub returns-clause-amount : goal.returns-clause-amount
 returns-clause-amount c =
-    c.len.ensures ∙ c.self.inside.names.ok.0 ∙ sym (len-names c.self.inside.names.items c.self.invariant) ∙ ap set.len c.self.view_is
+    c.len.ensures ∙ c.self.inside.names.ok.0 ∙ sym (len-names c.self.inside.names.items c.self.invariant.ascending) ∙ ap set.len c.self.view_is

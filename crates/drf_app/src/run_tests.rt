@@ -280,14 +280,24 @@ struct Sharing<'a> {
 fn expect_sharing(rt: &impl Abort, alloc: Global, sharing: &Sharing) -> Result<(), LineError> {
     let mut core = open(alloc, Limits::full())?;
     for (framework, role) in sharing.frameworks {
-        let line = format!(in alloc; "{{\"event\":\"add_framework\",\"framework\":\"{framework}\",\"roles\":[\"{role}\"]}}")?;
+        let line = format!(in alloc;
+            "{{\"event\":\"add_framework\",\"framework\":\"{framework}\",\"roles\":[\"{role}\"]}}"
+        )?;
         expect_line(rt, alloc, &mut core, &line, "done")?;
     }
     for (agent, total) in sharing.agents {
-        let line = format!(in alloc; "{{\"event\":\"add_agent\",\"agent\":\"{agent}\",\"total\":\"{total}\"}}")?;
+        let line = format!(in alloc;
+            "{{\"event\":\"add_agent\",\"agent\":\"{agent}\",\"total\":\"{total}\"}}"
+        )?;
         expect_line(rt, alloc, &mut core, &line, "done")?;
     }
-    expect_line(rt, alloc, &mut core, "{\"event\":\"cycle\",\"at\":0}", sharing.offers)
+    expect_line(
+        rt,
+        alloc,
+        &mut core,
+        "{\"event\":\"cycle\",\"at\":0}",
+        sharing.offers,
+    )
 }
 
 #[test]
@@ -298,19 +308,33 @@ fn serves_the_least_share_then_the_least_count_then_the_name(
         // Equal shares and counts: by name, each in its turn.
         Sharing {
             frameworks: &[("fa", "a"), ("fb", "b"), ("fc", "c")],
-            agents: &[("n1", "cpus:1"), ("n2", "cpus:1"), ("n3", "cpus:1"), ("n4", "cpus:1")],
+            agents: &[
+                ("n1", "cpus:1"),
+                ("n2", "cpus:1"),
+                ("n3", "cpus:1"),
+                ("n4", "cpus:1"),
+            ],
             offers: "#1 fa@a n1 {cpus:1}, #2 fb@b n2 {cpus:1}, #3 fc@c n3 {cpus:1}, #4 fa@a n4 {cpus:1}",
         },
         // 333/1000 is less than 1/3.
         Sharing {
             frameworks: &[("fa", "a"), ("fb", "b")],
-            agents: &[("n1", "cpus:1"), ("n2", "mem:333"), ("n3", "cpus:2;mem:667")],
+            agents: &[
+                ("n1", "cpus:1"),
+                ("n2", "mem:333"),
+                ("n3", "cpus:2;mem:667"),
+            ],
             offers: "#1 fa@a n1 {cpus:1}, #2 fb@b n2 {mem:333}, #3 fb@b n3 {cpus:2;mem:667}",
         },
         // 2/5 each at the fourth turn, by two offers and by one.
         Sharing {
             frameworks: &[("fa", "a"), ("fb", "b")],
-            agents: &[("n1", "cpus:1"), ("n2", "cpus:2"), ("n3", "cpus:1"), ("n4", "cpus:1")],
+            agents: &[
+                ("n1", "cpus:1"),
+                ("n2", "cpus:2"),
+                ("n3", "cpus:1"),
+                ("n4", "cpus:1"),
+            ],
             offers: "#1 fa@a n1 {cpus:1}, #2 fb@b n2 {cpus:2}, #3 fa@a n3 {cpus:1}, #4 fb@b n4 {cpus:1}",
         },
         // Two frameworks of one role, the lesser name registered last.

@@ -1,22 +1,19 @@
 -- A cycle, from the turns of its agents to the step that it is.
-use Rattle.std.proofs.Common.{◌≡◌, ℕ, ◌+◌, ◌<◌, ◌≤◌, List, [], ◌∷◌, Option, Some, None, true, false, Bool, refl, sym, ap, ◌∙◌, subst, map, cond, arith, max}
-use Rattle.std.specs.Prelude.{filter, nat_le, nat_lt}
+use Rattle.std.proofs.Common.{◌≡◌, ℕ, ◌+◌, ◌<◌, ◌≤◌, List, [], ◌∷◌, Option, Some, None, refl, sym, ap, ◌∙◌, map, arith}
+use Rattle.std.specs.Prelude.{filter}
 use Rattle.std.specs.Option.{option_map_or}
-use Rattle.std.proofs.lemmas.Bool.{le-leb, leb-true}
 use Rattle.std.proofs.lemmas.Bool.Decides.{nat_tests}
 use Rattle.drf_bundle.specs.declared.quantities.Entry.{Entry}
 use Rattle.drf_rows.specs.LimitNumbers.{LimitNumbers}
 use Rattle.drf_rows.specs.Paths.{Client}
 use Rattle.drf_rows.specs.Cycle.{with_offer, grant, tried, all_tried, turn, turns, turn_order, at_moment, cycle}
-use Rattle.drf_rows.specs.Step.{refusal_of, rows_after, reply_to, effect, answer, line_of, new_offers, latest_moment}
-use Rattle.drf_rows.specs.StepLaws.{reply_to-accepted, rows_after-accepted, reply_to-refused, rows_after-refused}
+use Rattle.drf_rows.specs.Step.{refusal_of, reply_to, effect, line_of, new_offers, latest_moment}
+use Rattle.drf_rows.specs.StepLaws.{reply_to-accepted, rows_after-accepted, rows_after-refused}
 use Rattle.drf_rows.specs.declared.event.Event.{Event}
 use Rattle.drf_rows.specs.declared.event.Event.TheVariants.{Cycle}
-use Rattle.drf_rows.specs.declared.reply.Reply.{Reply}
-use Rattle.drf_rows.specs.declared.reply.Reply.TheVariants.{Offers, Refused}
+use Rattle.drf_rows.specs.declared.reply.Reply.TheVariants.{Offers}
 use Rattle.drf_rows.specs.declared.reply.Refusal.{Refusal}
 use Rattle.drf_rows.specs.declared.reply.Refusal.TheVariants.{HistoryFull, BadMoment}
-use Rattle.drf_rows.specs.declared.reply.OfferLine.{OfferLine}
 use Rattle.drf_rows.specs.declared.rows.AgentRow.{AgentRow}
 use Rattle.drf_rows.specs.declared.rows.Rows.{Rows}
 use Rattle.drf_core.specs.Machine.{Machine, after}

@@ -1,7 +1,5 @@
 -- An offer of all that is free on an agent, and how the last is taken back, over the rows of a core.
-use Rattle.std.specs.Prelude.{◌≡◌, ℕ, ◌+◌, ◌-◌, ◌^◌, ◌<◌, ◌≤◌, true, List, [], ◌∷◌, ◌++◌, length, map, slice_get, slice_set, Some}
-use Rattle.std.specs.List.{position, AllByRecursion}
-use Rattle.std.specs.Map.{keys_of, values_of}
+use Rattle.std.specs.Prelude.{◌≡◌, ℕ, ◌+◌, ◌^◌, ◌<◌, ◌≤◌, true, List, [], ◌∷◌, ◌++◌, length, map, slice_get, slice_set, Some}
 use Rattle.std.specs.Option.{option_map}
 use Rattle.std.proofs.Common.{refl, sym, ap, ◌∙◌, subst, get_or, arith}
 use Rattle.std.proofs.lemmas.List.{length_push, same_from_push}
@@ -13,13 +11,12 @@ use Rattle.drf_rows.specs.Held.{clients_of, offered_to, cluster_total}
 use Rattle.drf_rows.specs.Cycle.{free_of, with_offer}
 use Rattle.drf_rows.specs.CycleLaws.{clients_of-with_offer}
 use Rattle.drf_rows.specs.Step.{line_of, new_offers}
-use Rattle.drf_rows.specs.declared.reply.OfferLine.{OfferLine}
 use Rattle.drf_rows.specs.declared.rows.AgentRow.{AgentRow}
 use Rattle.drf_rows.specs.declared.rows.OfferRow.{OfferRow}
 use Rattle.drf_rows.specs.declared.rows.Rows.{Rows}
 use Rattle.drf_sorter.specs.Content.{Content, IsSound, HasChargeAt, has_client, with_change, charged, discharged}
 use Rattle.drf_core.specs.Kept.{AreRight, IsKept, IsRightAgent, content_of}
-use Rattle.drf_core.specs.Grants.{IsGrant, IsLastGrant, IsOffered, before_last}
+use Rattle.drf_core.specs.Grants.{IsLastGrant, IsOffered, before_last}
 use Rattle.drf_core.specs.Machine.{Machine}
 use Rattle.drf_core.proofs.ClientLemmas.{has_client-at}
 use Rattle.drf_core.proofs.DistinctLemmas.{each_at}

@@ -1,11 +1,11 @@
 -- The fields of a core, before and after an offer.
-use Rattle.std.specs.Prelude.{◌≡◌, ℕ, ◌+◌, ◌-◌, ◌^◌, ◌<◌, ◌≤◌, true, false, List, [], ◌∷◌, ◌++◌, length, map, flat_map, slice_get, slice_set, take, Some}
+use Rattle.std.specs.Prelude.{◌≡◌, ℕ, ◌+◌, ◌-◌, ◌≤◌, true, false, List, [], ◌∷◌, ◌++◌, length, map, flat_map, slice_get, take, Some}
 use Rattle.std.specs.List.{position, AllByRecursion}
 use Rattle.std.specs.Map.{keys_of, values_of}
 use Rattle.std.specs.Option.{option_map, option_map_or}
-use Rattle.std.proofs.Common.{refl, zero, suc, sym, ap, ◌∙◌, subst, get_or, arith}
+use Rattle.std.proofs.Common.{refl, zero, suc, sym, ap, ◌∙◌, arith}
 use Rattle.std.proofs.lemmas.List.{length_push, length-map}
-use Rattle.std.proofs.lemmas.Option.{slice_get-map, get_or_from_slice_get}
+use Rattle.std.proofs.lemmas.Option.{slice_get-map}
 use Rattle.indexmap.specs.Layout.{set_value_at}
 use Rattle.drf_bundle.specs.Text.{same_text}
 use Rattle.drf_bundle.specs.TextLaws.{same_itself}
@@ -13,24 +13,19 @@ use Rattle.drf_bundle.specs.declared.quantities.Entry.{Entry}
 use Rattle.drf_rows.specs.LimitNumbers.{LimitNumbers}
 use Rattle.drf_rows.specs.Paths.{Client, path_of, same_path}
 use Rattle.drf_rows.specs.Held.{client_of, clients_of, offered_to}
-use Rattle.drf_rows.specs.Cycle.{free_of, with_offer, count_offer}
+use Rattle.drf_rows.specs.Cycle.{with_offer, count_offer}
 use Rattle.drf_rows.specs.declared.rows.AgentRow.{AgentRow}
 use Rattle.drf_rows.specs.declared.rows.ClientRow.{ClientRow}
 use Rattle.drf_rows.specs.declared.rows.FrameworkRow.{FrameworkRow}
 use Rattle.drf_rows.specs.declared.rows.OfferRow.{OfferRow}
-use Rattle.drf_rows.specs.declared.rows.Rows.{Rows}
 use Rattle.drf_sorter.specs.Content.{HasCharge, HasChargeAt}
 use Rattle.drf_core.specs.declared.allocator.Agent.{Agent}
 use Rattle.drf_core.specs.Inside.{agent_row, framework_row, rows_of}
 use Rattle.drf_core.specs.Kept.{AreRight, content_of, ranked, are_distinct}
-use Rattle.drf_core.specs.Grants.{IsGrant, IsOffered, uncount_offer, before_offer, before_last}
-use Rattle.drf_core.specs.Machine.{Machine}
-use Rattle.drf_core.proofs.DistinctLemmas.{same_text-swap, each_at}
-use Rattle.drf_core.proofs.FreeLemmas.{free_of-same}
-use Rattle.drf_core.proofs.OfferLemmas.{has_client-known, content_of-with_offer, AreRight-with_offer, IsKept-with_offer}
+use Rattle.drf_core.specs.Grants.{uncount_offer, before_offer, before_last}
+use Rattle.drf_core.proofs.DistinctLemmas.{same_text-swap}
 use Rattle.drf_core.proofs.PathOfLemmas.{path_itself}
-use Rattle.drf_core.proofs.Sound.{IsSound-content_of}
-use Rattle.drf_core.proofs.TurnLemmas.{row_of, offers-with_offer}
+use Rattle.drf_core.proofs.TurnLemmas.{row_of}
 use Rattle.drf_core.proofs.ViewLemmas.{IsClientAt, client_at, client_found, changed-frameworks, names-frameworks, names-agents, count-le}
 
 -- ---- what the rows of a core are

@@ -1,5 +1,5 @@
 -- A run goes on by one event.
-use Rattle.std.proofs.Common.{◌≡◌, ℕ, ◌+◌, ◌<◌, List, [], ◌∷◌, ◌++◌, refl, sym, ap, ◌∙◌, length, take, get_or, append_assoc}
+use Rattle.std.proofs.Common.{◌≡◌, ℕ, ◌+◌, ◌<◌, List, [], ◌∷◌, ◌++◌, sym, ap, ◌∙◌, length, take, get_or, append_assoc}
 use Rattle.std.proofs.lemmas.List.{take_more}
 use Rattle.drf_rows.specs.Step.{rows_after_all, replies_to, reply_to}
 use Rattle.drf_rows.specs.RunLaws.{rows_after_all-append, replies_to-append}

@@ -1,13 +1,12 @@
 -- What a turn tells.
-use Rattle.std.proofs.Common.{◌≡◌, ℕ, zero, suc, ◌+◌, List, [], ◌∷◌, ◌++◌, Result, Ok, Err, refl, sym, ap, ◌∙◌, subst, length, arith, map, length-append}
+use Rattle.std.proofs.Common.{◌≡◌, ℕ, List, [], ◌∷◌, ◌++◌, Result, Ok, Err, refl, sym, ap, ◌∙◌, subst, length, arith, map, length-append}
 use Rattle.std.specs.Prelude.{OnOk, OnErr}
 use Rattle.drf_rows.specs.Step.{line_of, new_offers}
-use Rattle.drf_rows.specs.Cycle.{free_of, with_offer}
+use Rattle.drf_rows.specs.Cycle.{free_of}
 use Rattle.drf_rows.specs.declared.reply.OfferLine.{OfferLine}
 use Rattle.drf_rows.specs.declared.rows.OfferRow.{OfferRow}
-use Rattle.drf_rows.specs.declared.rows.Rows.{Rows}
 use Rattle.drf_core.specs.Machine.{Machine}
-use Rattle.drf_core.specs.Grants.{Granted, none, more, HasTold, IsOffered, IsGrant}
+use Rattle.drf_core.specs.Grants.{none, more, HasTold, IsOffered}
 use Rattle.drf_core.proofs.TurnLemmas.{new_offers_none, new_offers-with_offer, row_of}
 
 nothing_more : (xs : List OfferLine) → xs ++ [] ≡ xs

@@ -1,13 +1,12 @@
 -- The turn of an agent: the first client in order is offered all that is free, and nothing is left for the others.
-use Rattle.std.proofs.Common.{◌≡◌, ℕ, zero, suc, ◌+◌, ◌-◌, List, [], ◌∷◌, ◌++◌, Some, None, Option, true, false, Bool, refl, sym, ap, ◌∙◌, subst, length, cond, arith, take, map, length-append}
+use Rattle.std.proofs.Common.{◌≡◌, ℕ, ◌+◌, ◌-◌, List, [], ◌∷◌, ◌++◌, Some, None, Option, true, false, Bool, refl, sym, ap, ◌∙◌, length, cond, arith, take, map, length-append}
 use Rattle.std.specs.Prelude.{slice_get, slice_index_or, ◌&&◌}
 use Rattle.std.specs.Option.{option_map_or}
 use Rattle.std.proofs.Math.Seq.{take-append_seam}
 use Rattle.std.proofs.lemmas.List.{get_or-append-add}
-use Rattle.drf_role.specs.Path.{client_path, role_part, framework_part}
-use Rattle.drf_bundle.specs.declared.quantities.Entry.{Entry}
+use Rattle.drf_role.specs.Path.{role_part, framework_part}
 use Rattle.drf_rows.specs.Paths.{Client, path_of}
-use Rattle.drf_rows.specs.Held.{clients_of, active_clients, standing_of}
+use Rattle.drf_rows.specs.Held.{active_clients, standing_of}
 use Rattle.drf_rows.specs.Cycle.{free_of, with_offer, is_allocatable, all_tried, turn, turn_order}
 use Rattle.drf_rows.specs.declared.rows.AgentRow.{AgentRow}
 use Rattle.drf_rows.specs.declared.rows.Rows.{Rows}

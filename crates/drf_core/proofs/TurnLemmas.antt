@@ -1,20 +1,17 @@
 -- Turns, as a walk over the clients in order, and grants, one after another.
-use Rattle.std.proofs.Common.{◌≡◌, ℕ, zero, suc, ◌+◌, ◌-◌, ◌<◌, List, [], ◌∷◌, ◌++◌, Some, None, Option, true, false, Bool, refl, sym, ap, ◌∙◌, subst, length, cond, arith, take, drop, map, add-one, append_assoc, length-append}
-use Rattle.std.specs.Prelude.{slice_get, filter, fold, ◌&&◌}
-use Rattle.std.specs.List.{list_all}
+use Rattle.std.proofs.Common.{◌≡◌, ℕ, zero, suc, ◌+◌, ◌-◌, ◌<◌, List, [], ◌∷◌, ◌++◌, Some, None, Option, true, false, Bool, refl, sym, ap, ◌∙◌, subst, length, cond, arith, add-one, append_assoc, length-append}
+use Rattle.std.specs.Prelude.{slice_get, ◌&&◌}
 use Rattle.std.specs.Option.{option_map_or}
 use Rattle.std.proofs.Math.Seq.{drop-append_seam, drop-length}
 use Rattle.drf_bundle.specs.declared.quantities.Entry.{Entry}
 use Rattle.drf_rows.specs.LimitNumbers.{LimitNumbers}
-use Rattle.drf_rows.specs.Paths.{Client, path_of, same_path}
-use Rattle.drf_rows.specs.Share.{Standing, stands_before}
-use Rattle.drf_rows.specs.Held.{clients_of, active_clients, standing_of, client_of}
-use Rattle.drf_rows.specs.Cycle.{free_of, with_offer, is_allocatable, grant, tried, all_tried, turn, turns, turn_order, serving_order, first_of}
-use Rattle.drf_rows.specs.Step.{line_of, new_offers}
+use Rattle.drf_rows.specs.Paths.{Client}
+use Rattle.drf_rows.specs.Cycle.{free_of, with_offer, is_allocatable, all_tried, turn, turn_order}
+use Rattle.drf_rows.specs.Step.{new_offers}
 use Rattle.drf_rows.specs.declared.rows.AgentRow.{AgentRow}
 use Rattle.drf_rows.specs.declared.rows.OfferRow.{OfferRow}
 use Rattle.drf_rows.specs.declared.rows.Rows.{Rows}
-use Rattle.drf_core.specs.Grants.{Granted, none, more, IsGrant, IsLastGrant, IsKnownClient, HasTold, turn_at, turns_of, is_open_at, before_last}
+use Rattle.drf_core.specs.Grants.{Granted, none, more, IsGrant, IsLastGrant, turn_at, is_open_at, before_last}
 use Rattle.drf_core.proofs.OfferLemmas.{before_last-with_offer}
 
 -- where what is free is not worth an offer nobody is granted anything

@@ -1,5 +1,5 @@
 -- The turns of all agents, one after another.
-use Rattle.std.proofs.Common.{◌≡◌, ℕ, zero, suc, ◌+◌, ◌-◌, ◌<◌, List, [], ◌∷◌, ◌++◌, Some, None, Option, true, false, Bool, refl, sym, ap, ◌∙◌, subst, length, cond, arith, drop, map, add-one, append_assoc}
+use Rattle.std.proofs.Common.{◌≡◌, ℕ, zero, suc, ◌+◌, ◌<◌, List, [], ◌∷◌, ◌++◌, Some, true, false, Bool, refl, sym, ap, ◌∙◌, length, cond, arith, drop, map, add-one, append_assoc}
 use Rattle.std.specs.Prelude.{slice_get, filter}
 use Rattle.std.specs.Option.{option_map_or}
 use Rattle.std.proofs.Math.Seq.{drop-append_seam}
@@ -9,10 +9,8 @@ use Rattle.drf_rows.specs.Step.{line_of, new_offers}
 use Rattle.drf_rows.specs.declared.rows.AgentRow.{AgentRow}
 use Rattle.drf_rows.specs.declared.rows.OfferRow.{OfferRow}
 use Rattle.drf_rows.specs.declared.rows.Rows.{Rows}
-use Rattle.drf_rows.specs.declared.reply.OfferLine.{OfferLine}
-use Rattle.drf_core.specs.Grants.{Granted, HasTold, turn_at, turns_of}
-use Rattle.drf_core.specs.Machine.{Machine}
-use Rattle.drf_core.proofs.TurnLemmas.{Granted-adds, Granted-agents, Granted-trans, Adds}
+use Rattle.drf_core.specs.Grants.{Granted, turn_at, turns_of}
+use Rattle.drf_core.proofs.TurnLemmas.{Granted-adds, Granted-agents}
 
 -- what is left of a list from a place on begins with the element there
 pub record BeginsAt {A : Type 0} (xs : List A) (i : ℕ) : Type 0 where

@@ -1,24 +1,21 @@
 -- The rows that the fields of a core stand for, entry by entry.
-use Rattle.std.specs.Prelude.{◌≡◌, ℕ, ◌+◌, ◌<◌, ◌≤◌, Bool, true, false, not, List, [], ◌∷◌, length, map, flat_map, slice_get, slice_set, sum_by, Some, None, nat_lt}
+use Rattle.std.specs.Prelude.{◌≡◌, ℕ, ◌+◌, ◌<◌, ◌≤◌, true, false, List, [], ◌∷◌, length, map, flat_map, slice_get, slice_set, sum_by, Some, None}
 use Rattle.std.specs.List.{position, position_or_len}
 use Rattle.std.specs.Map.{keys_of, values_of}
-use Rattle.std.proofs.Common.{refl, sym, ap, ◌∙◌, subst, cond, zero, suc, arith}
-use Rattle.std.proofs.lemmas.Bool.{and_parts, not-true, lt-ltb}
+use Rattle.std.proofs.Common.{refl, sym, ap, ◌∙◌, zero, suc, arith}
+use Rattle.std.proofs.lemmas.Bool.{and_parts, lt-ltb}
 use Rattle.std.proofs.lemmas.List.{length-map}
 use Rattle.std.proofs.lemmas.List.Sums.{sum_by-cons}
-use Rattle.std.proofs.lemmas.Option.{slice_get-map, get_or_from_slice_get, slice_get_within}
+use Rattle.std.proofs.lemmas.Option.{slice_get_within}
 use Rattle.indexmap.specs.Layout.{set_value_at}
 use Rattle.drf_bundle.specs.Text.{same_text}
 use Rattle.drf_bundle.specs.TextLaws.{same_itself}
-use Rattle.drf_rows.specs.Paths.{Client, path_of}
-use Rattle.drf_rows.specs.Held.{client_of, clients_of}
-use Rattle.drf_rows.specs.declared.rows.AgentRow.{AgentRow}
+use Rattle.drf_rows.specs.Paths.{Client}
+use Rattle.drf_rows.specs.Held.{client_of}
 use Rattle.drf_rows.specs.declared.rows.ClientRow.{ClientRow}
 use Rattle.drf_rows.specs.declared.rows.FrameworkRow.{FrameworkRow}
-use Rattle.drf_rows.specs.declared.rows.OfferRow.{OfferRow}
-use Rattle.drf_rows.specs.declared.rows.Rows.{Rows}
 use Rattle.drf_core.specs.declared.allocator.Agent.{Agent}
-use Rattle.drf_core.specs.Inside.{agent_row, framework_row, rows_of}
+use Rattle.drf_core.specs.Inside.{agent_row, framework_row}
 use Rattle.drf_core.specs.Kept.{are_distinct}
 use Rattle.drf_core.proofs.DistinctLemmas.{same_text-swap, has_no_at, slice_set-map}
 

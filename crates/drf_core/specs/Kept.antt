@@ -1,5 +1,5 @@
 -- What a core keeps beside its rows, and what holds of its rows.
-use Rattle.std.specs.Prelude.{◌≡◌, ℕ, ◌+◌, ◌<◌, ◌≤◌, ◌&&◌, Bool, true, false, not, List, [], ◌∷◌, length, map, filter, flat_map, sum_by}
+use Rattle.std.specs.Prelude.{◌≡◌, ℕ, ◌+◌, ◌≤◌, ◌&&◌, Bool, true, not, List, [], ◌∷◌, length, map, filter, flat_map, sum_by}
 use Rattle.std.specs.List.{AllByRecursion, list_all}
 use Rattle.drf_bundle.specs.Text.{same_text}
 use Rattle.drf_bundle.specs.Quantities.{amount_of}

@@ -1,6 +1,6 @@
 -- The order of paths, part by part.
-use Rattle.std.proofs.Common.{Decides, eqb, ◌≡◌, ◌⊎◌, ℕ, ◌+◌, ◌-◌, ◌≤◌, true, false, List, [], ◌∷◌, length, drop, slice_get, Some, Ordering, refl, sym, ◌∙◌, ap, inl, inr, ⊎_elim, arith, length-drop}
-use Rattle.std.specs.Cmp.Lexicographic.{slice_cmp, pointwise, bytes_decides, pointwise_decides}
+use Rattle.std.proofs.Common.{◌≡◌, ◌⊎◌, ℕ, ◌+◌, ◌-◌, ◌≤◌, true, false, List, [], ◌∷◌, length, drop, slice_get, Some, Ordering, refl, sym, ◌∙◌, ap, inl, inr, ⊎_elim, arith, length-drop}
+use Rattle.std.specs.Cmp.Lexicographic.{slice_cmp}
 use Rattle.std.specs.Ordering.{nat_cmp, ordering_then, is_ne}
 use Rattle.std.specs.declared.cmp.Ordering.TheVariants.{Less, Equal, Greater}
 use Rattle.std.proofs.lemmas.Bool.{false≢true}

@@ -1,15 +1,14 @@
 -- The texts of the paths of clients.
-use Rattle.std.proofs.Common.{◌≡◌, ◌≢◌, ◌⊎◌, ℕ, ◌<◌, ◌≤◌, false, eqb, List, [], ◌∷◌, ◌++◌, length, take, drop, All, codes, sym, ◌∙◌, ap, subst, ⊎_elim, arith, append_assoc, take-append-drop, length-append, length-take-le, lit<}
+use Rattle.std.proofs.Common.{◌≡◌, ℕ, ◌<◌, ◌≤◌, false, eqb, List, [], ◌∷◌, ◌++◌, length, take, drop, codes, ◌∙◌, ap, ⊎_elim, arith, append_assoc, take-append-drop, length-append, length-take-le, lit<}
 use Rattle.std.specs.Str.{IsAscii}
 use Rattle.std.proofs.lemmas.Bool.Decides.{nat_tests}
-use Rattle.std.proofs.lemmas.List.Elements.{All-weaker, All-cons, All-nil, All-head, All-tail}
-use Rattle.std.proofs.lemmas.List.{append-nil, take_all}
+use Rattle.std.proofs.lemmas.List.Elements.{All-weaker}
 use Rattle.std.proofs.lemmas.List.Splits.{slice_split_none}
 use Rattle.std.proofs.lemmas.Str.{IsAscii-append}
 use Rattle.std.proofs.lemmas.Str.Ascii.{IsAscii-nil, IsAscii-cons, IsAscii-from_all}
 use Rattle.drf_role.specs.Name.{IsNameByte, IsName}
-use Rattle.drf_role.specs.Parts.{parts_of, text_of, BeginsWith}
-use Rattle.drf_role.specs.Role.{IsComponent, IsRole}
+use Rattle.drf_role.specs.Parts.{parts_of, text_of}
+use Rattle.drf_role.specs.Role.{IsRole}
 use Rattle.drf_role.specs.Path.{client_path, IsClientPath, IsNodePath}
 use Rattle.drf_role.proofs.PartLemmas.{HasNoSlash, parts_of-append}
 use Rattle.drf_role.proofs.RoleLemmas.{parts_of_role, role_ascii}

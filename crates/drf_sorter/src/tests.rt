@@ -5,12 +5,24 @@ use std::cmp::Ordering;
 fn compares_exact_fractions(rt: HostRuntime) {
     let third = Share::new(1, 3, 1000);
     let order = [
-        (Share::new(0, 1, 1000), Share::new(1, 1 << 40, 1000), Ordering::Less),
+        (
+            Share::new(0, 1, 1000),
+            Share::new(1, 1 << 40, 1000),
+            Ordering::Less,
+        ),
         (Share::new(333, 1000, 1000), third, Ordering::Less),
         (Share::new(334, 1000, 1000), third, Ordering::Greater),
         (Share::new(6000, 18_000, 1000), third, Ordering::Equal),
-        (Share::new(12_288, 18_432, 1000), Share::new(6000, 9000, 1000), Ordering::Equal),
-        (Share::new(3, 10, 1000), Share::new(4, 27, 1000), Ordering::Greater),
+        (
+            Share::new(12_288, 18_432, 1000),
+            Share::new(6000, 9000, 1000),
+            Ordering::Equal,
+        ),
+        (
+            Share::new(3, 10, 1000),
+            Share::new(4, 27, 1000),
+            Ordering::Greater,
+        ),
     ];
     for (share, other, expected) in order {
         assert_eq!(rt; share.cmp(&other), expected);

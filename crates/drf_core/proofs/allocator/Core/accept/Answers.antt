@@ -1,4 +1,4 @@
-use Rattle.std.proofs.Common.{◌≡◌, ◌<◌, ◌≤◌, ◌+◌, refl, arith, sym, subst}
+use Rattle.std.proofs.Common.{◌<◌, ◌≤◌, ◌+◌, refl, arith, sym, subst}
 use Rattle.drf_core.specs.Machine.{Machine}
 use Rattle.drf_core.specs.Inside.{rows_of}
 use Rattle.drf_core.proofs.ClockLemmas.{IsKept-at_time}

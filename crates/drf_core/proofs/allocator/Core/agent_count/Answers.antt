@@ -1,6 +1,5 @@
-use Rattle.std.proofs.Common.{◌≡◌, length, map, sym, ap, ◌∙◌, refl}
+use Rattle.std.proofs.Common.{sym, ◌∙◌}
 use Rattle.std.proofs.lemmas.List.{length-map}
-use Rattle.drf_core.specs.Machine.{Machine}
 use Rattle.drf_core.specs.Inside.{rows_of, agent_row}
 use Rattle.drf_core.proofs.allocator.Core.agent_count.Goals as goal
 

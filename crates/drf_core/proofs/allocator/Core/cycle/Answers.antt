@@ -1,9 +1,8 @@
-use Rattle.std.proofs.Common.{◌≡◌, ◌<◌, ◌+◌, None, refl, sym, ap, ◌∙◌, subst, max, map}
+use Rattle.std.proofs.Common.{◌≡◌, ◌<◌, ◌+◌, None, sym, ap, ◌∙◌, subst, max, map}
 use Rattle.drf_rows.specs.Cycle.{at_moment}
 use Rattle.drf_rows.specs.Step.{refusal_of, line_of, new_offers}
 use Rattle.drf_rows.specs.declared.event.Event.TheVariants.{Cycle}
 use Rattle.drf_rows.specs.declared.reply.Reply.TheVariants.{Offers}
-use Rattle.drf_rows.specs.declared.rows.Rows.{Rows}
 use Rattle.drf_rows.specs.StepLaws.{reply_to-refused}
 use Rattle.drf_core.specs.Machine.{Machine}
 use Rattle.drf_core.specs.Grants.{turns_of}

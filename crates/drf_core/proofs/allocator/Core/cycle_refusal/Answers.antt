@@ -1,6 +1,5 @@
-use Rattle.std.proofs.Common.{◌≡◌, ◌<◌, ◌≤◌, sym, subst, arith}
+use Rattle.std.proofs.Common.{sym, arith}
 use Rattle.drf_core.specs.Inside.{rows_of}
-use Rattle.drf_core.specs.Machine.{Machine}
 use Rattle.drf_core.proofs.CycleLemmas.{refusal_of-cycle_full, refusal_of-cycle_late, refusal_of-cycle_none}
 use Rattle.drf_core.proofs.allocator.Core.cycle_refusal.Goals as goal
 

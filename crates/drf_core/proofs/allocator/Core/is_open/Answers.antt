@@ -1,7 +1,4 @@
-use Rattle.std.proofs.Common.{◌≡◌, ◌<◌, ℕ, length, sym, ap, ◌∙◌, arith, Bool}
-use Rattle.std.specs.Prelude.{slice_get, Some, ◌&&◌, false}
-use Rattle.std.specs.Option.{option_map_or}
-use Rattle.drf_rows.specs.Cycle.{free_of, is_allocatable}
+use Rattle.std.proofs.Common.{◌≡◌, length, sym, ap, ◌∙◌, arith}
 use Rattle.drf_core.specs.Machine.{Machine}
 use Rattle.drf_core.specs.Grants.{is_open_at}
 use Rattle.drf_core.proofs.OfferingLemmas.{length-agents}

@@ -1,23 +1,20 @@
-use Rattle.std.proofs.Common.{◌≡◌, ◌+◌, ◌<◌, ◌≤◌, ◌^◌, ◌++◌, ℕ, length, map, get_or, refl, sym, ap, subst, ◌∙◌, inl, inr, arith, true, List, [], ◌∷◌}
-use Rattle.std.specs.Prelude.{slice_get, Some, None}
+use Rattle.std.proofs.Common.{◌≡◌, ◌+◌, ◌<◌, ◌≤◌, ◌^◌, ◌++◌, ℕ, length, map, get_or, sym, ap, subst, ◌∙◌, inl, inr, arith, true, List, [], ◌∷◌}
+use Rattle.std.specs.Prelude.{slice_get, Some}
 use Rattle.std.specs.List.{position}
 use Rattle.std.specs.Map.{keys_of, values_of}
 use Rattle.std.proofs.lemmas.Option.{slice_get_cases}
 use Rattle.drf_role.specs.Path.{role_part, framework_part}
 use Rattle.drf_bundle.specs.Text.{same_text}
-use Rattle.drf_bundle.specs.declared.quantities.Entry.{Entry}
 use Rattle.drf_rows.specs.Paths.{Client, path_of}
 use Rattle.drf_rows.specs.Cycle.{free_of, with_offer}
 use Rattle.drf_rows.specs.Step.{line_of, new_offers}
 use Rattle.drf_rows.specs.declared.reply.OfferLine.{OfferLine}
-use Rattle.drf_rows.specs.declared.rows.AgentRow.{AgentRow}
-use Rattle.drf_rows.specs.declared.rows.OfferRow.{OfferRow}
 use Rattle.drf_rows.specs.declared.rows.Rows.{Rows}
 use Rattle.drf_sorter.specs.Content.{with_change, charged}
 use Rattle.drf_core.specs.Kept.{are_distinct}
 use Rattle.drf_core.specs.Machine.{Machine}
 use Rattle.drf_core.specs.Inside.{agent_row, rows_of}
-use Rattle.drf_core.specs.Grants.{IsKnownClient, IsOffered}
+use Rattle.drf_core.specs.Grants.{IsKnownClient}
 use Rattle.drf_core.proofs.GrantLemmas.{CanOffer, known_to_sorter, sound_after, IsKept-after, IsOffered-after, told_after, free_at}
 use Rattle.drf_core.proofs.OfferingLemmas.{length-agents, agent_at, registered, distinct_frameworks, small_count, next_is, rows_of-with_offer}
 use Rattle.drf_core.proofs.TurnFirst.{role_part-path_of, framework_part-path_of}

@@ -1,4 +1,4 @@
-use Rattle.std.proofs.Common.{◌≡◌, List, ◌∷◌, [], subst, ◌∙◌}
+use Rattle.std.proofs.Common.{List, ◌∷◌, [], subst, ◌∙◌}
 use Rattle.std.specs.List.{AllByRecursion}
 use Rattle.drf_rows.specs.declared.rows.AgentRow.{AgentRow}
 use Rattle.drf_rows.specs.declared.rows.Rows.{Rows}

@@ -1,7 +1,7 @@
 use Rattle.std.proofs.Common.{◌≡◌, ◌<◌, List, ◌++◌, ◌∷◌, [], sym, ap, ◌∙◌, arith, length, take}
 use Rattle.drf_rows.specs.Step.{reply_to, replies_to}
 use Rattle.drf_rows.specs.declared.reply.Reply.{Reply}
-use Rattle.drf_core.specs.Machine.{Machine, after, after_all}
+use Rattle.drf_core.specs.Machine.{Machine, after}
 use Rattle.drf_core.proofs.RunLemmas.{after_all_more, replies_more}
 use Rattle.drf_core.proofs.allocator.Core.run.Goals as goal
 

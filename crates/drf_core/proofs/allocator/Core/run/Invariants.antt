@@ -1,7 +1,6 @@
-use Rattle.std.proofs.Common.{◌≡◌, ◌++◌, take, drop}
-use Rattle.std.specs.List.{AllByRecursion}
+use Rattle.std.proofs.Common.{◌≡◌, ◌++◌, take}
 use Rattle.drf_rows.specs.Step.{replies_to}
-use Rattle.drf_core.specs.Machine.{after_all, HasPlainRoles}
+use Rattle.drf_core.specs.Machine.{after_all}
 use Rattle.drf_core.proofs.allocator.Core.run.Given as goal
 
 -- the events so far were taken, and their replies appended

@@ -1,17 +1,15 @@
-use Rattle.std.proofs.Common.{◌≡◌, ◌+◌, ◌-◌, ◌<◌, ◌≤◌, ◌++◌, ℕ, length, map, take, refl, sym, ap, subst, ◌∙◌, arith, List, [], ◌∷◌, true}
-use Rattle.std.specs.Prelude.{slice_get, Some, None}
+use Rattle.std.proofs.Common.{◌≡◌, ◌-◌, ◌<◌, ◌++◌, ℕ, length, take, refl, sym, ap, subst, ◌∙◌, arith, [], ◌∷◌, true}
+use Rattle.std.specs.Prelude.{slice_get, Some}
 use Rattle.std.specs.List.{position}
 use Rattle.std.specs.Map.{keys_of, values_of}
 use Rattle.std.proofs.lemmas.List.{length-map}
 use Rattle.indexmap.specs.Layout.{set_value_at}
 use Rattle.drf_bundle.specs.Text.{same_text}
-use Rattle.drf_bundle.specs.declared.quantities.Entry.{Entry}
 use Rattle.drf_rows.specs.Cycle.{free_of}
-use Rattle.drf_rows.specs.Held.{clients_of, offered_to}
+use Rattle.drf_rows.specs.Held.{offered_to}
 use Rattle.drf_rows.specs.Paths.{Client, path_of}
-use Rattle.drf_rows.specs.declared.rows.OfferRow.{OfferRow}
 use Rattle.drf_rows.specs.declared.rows.Rows.{Rows}
-use Rattle.drf_sorter.specs.Content.{Content, HasChargeAt, with_change, discharged}
+use Rattle.drf_sorter.specs.Content.{with_change, discharged}
 use Rattle.drf_core.specs.Grants.{IsLastGrant, before_last}
 use Rattle.drf_core.specs.Inside.{rows_of}
 use Rattle.drf_core.specs.Kept.{content_of, are_distinct}

@@ -1,6 +1,5 @@
-use Rattle.std.proofs.Common.{◌≡◌, ℕ, ◌-◌, ◌+◌, refl, sym, subst, ap, ◌∙◌, arith}
-use Rattle.drf_rows.specs.declared.rows.Rows.{Rows}
-use Rattle.drf_core.specs.Grants.{Granted, IsLastGrant, before_last}
+use Rattle.std.proofs.Common.{◌-◌, ◌+◌, refl, sym, subst, ◌∙◌, arith}
+use Rattle.drf_core.specs.Grants.{Granted, IsLastGrant}
 use Rattle.drf_core.proofs.TurnLemmas.{Granted-left, Granted-last, Granted-before, Granted-none}
 use Rattle.drf_core.proofs.allocator.Core.take_back_all.Goals as goal
 

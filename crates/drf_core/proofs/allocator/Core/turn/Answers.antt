@@ -1,10 +1,9 @@
-use Rattle.std.proofs.Common.{◌≡◌, ℕ, List, [], ◌∷◌, Some, None, true, refl, sym, ap, ◌∙◌, subst, map}
-use Rattle.std.specs.Prelude.{slice_get, OnOk}
+use Rattle.std.proofs.Common.{◌≡◌, [], ◌∷◌, true, sym, ap, ◌∙◌, subst, map}
+use Rattle.std.specs.Prelude.{OnOk}
 use Rattle.drf_rows.specs.Paths.{path_of}
 use Rattle.drf_rows.specs.Cycle.{turn_order}
-use Rattle.drf_rows.specs.declared.rows.Rows.{Rows}
 use Rattle.drf_core.specs.Machine.{Machine}
-use Rattle.drf_core.specs.Grants.{HasTold, IsKnownClient, IsOffered, turn_at, is_open_at}
+use Rattle.drf_core.specs.Grants.{HasTold, IsKnownClient, IsOffered, is_open_at}
 use Rattle.drf_core.proofs.TurnLemmas.{turn_at-closed}
 use Rattle.drf_core.proofs.TurnFirst.{turn_at-nobody, turn_at-offered, IsKnownClient-first, begins, nothing_first}
 use Rattle.drf_core.proofs.Told.{HasTold-nothing, HasTold-result, at_ok}

@@ -1,10 +1,7 @@
-use Rattle.std.proofs.Common.{◌≡◌, ℕ, ◌+◌, ◌<◌, List, [], ◌∷◌, ◌++◌, Result, Ok, Err, refl, sym, ap, ◌∙◌, subst, length, arith, map, drop}
-use Rattle.std.specs.Prelude.{filter, OnOk}
-use Rattle.drf_rows.specs.Cycle.{turns}
+use Rattle.std.proofs.Common.{◌≡◌, ◌+◌, ◌<◌, List, ◌++◌, refl, sym, ap, ◌∙◌, subst, length, arith, map}
 use Rattle.drf_rows.specs.Step.{line_of, new_offers}
 use Rattle.drf_rows.specs.declared.rows.AgentRow.{AgentRow}
-use Rattle.drf_rows.specs.declared.rows.Rows.{Rows}
-use Rattle.drf_core.specs.Grants.{Granted, none, turn_at, turns_of}
+use Rattle.drf_core.specs.Grants.{Granted, none}
 use Rattle.drf_core.proofs.TurnLemmas.{Granted-trans, Granted-agents, new_offers_none}
 use Rattle.drf_core.proofs.Turns.{turns-next, lines-trans}
 use Rattle.drf_core.proofs.allocator.Core.turns.Goals as goal

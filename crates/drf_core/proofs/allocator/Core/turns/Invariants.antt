@@ -1,4 +1,4 @@
-use Rattle.std.proofs.Common.{◌≡◌, ◌≤◌, length, map, drop}
+use Rattle.std.proofs.Common.{◌≡◌, length, map, drop}
 use Rattle.std.specs.Prelude.{filter}
 use Rattle.drf_rows.specs.Cycle.{turns}
 use Rattle.drf_rows.specs.Step.{line_of, new_offers}

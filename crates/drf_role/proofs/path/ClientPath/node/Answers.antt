@@ -1,4 +1,4 @@
-use Rattle.std.proofs.Common.{◌≡◌, ap, take, sym, ◌∙◌, subst}
+use Rattle.std.proofs.Common.{ap, take, sym, ◌∙◌, subst}
 use Rattle.drf_role.specs.Path.{IsNodePath}
 use Rattle.drf_role.proofs.PathLemmas.{node_from_path}
 use Rattle.drf_role.proofs.path.ClientPath.node.Goals as goal

@@ -5,7 +5,7 @@ use Rattle.std.specs.Option.{ok_or}
 use Rattle.std.proofs.lemmas.Option.{cond_some, same_Some}
 use Rattle.serde_json.specs.Data.{Data}
 use Rattle.serde_json.specs.View.{view}
-use Rattle.drf_bundle.specs.Text.{same_text}
+use Rattle.drf_role.specs.Text.{same_text}
 use Rattle.drf_core.specs.Machine.{HasPlainRoles}
 use Rattle.drf_rows.specs.declared.event.Event.{Event}
 use Rattle.drf_rows.specs.declared.event.Event.TheVariants.{AddAgent, AddFramework, Cycle}

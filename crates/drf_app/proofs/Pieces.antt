@@ -3,8 +3,8 @@ use Rattle.std.proofs.Common.{◌≡◌, ℕ, ◌<◌, Bool, true, false, not, c
 use Rattle.std.specs.List.{list_any, list_all, slice_split, position_or_len, before_first, after_first, join_with_byte}
 use Rattle.std.proofs.lemmas.List.{map-append}
 use Rattle.std.proofs.lemmas.Bool.{lt-ltb, and_right, ne_eqb}
-use Rattle.drf_bundle.specs.TextLaws.{cases_same, test_from_other}
-use Rattle.drf_bundle.specs.Text.{same_text}
+use Rattle.drf_role.specs.TextLaws.{cases_same, test_from_other}
+use Rattle.drf_role.specs.Text.{same_text}
 use Rattle.drf_bundle.specs.Quantities.{is_named, with_amount, without_zeros}
 use Rattle.drf_bundle.specs.QuantitiesLaws.{named-with}
 use Rattle.drf_bundle.specs.declared.quantities.Entry.{Entry}

@@ -6,8 +6,8 @@ use Rattle.std.proofs.lemmas.Bool.{leb-true, le-leb, eq-eqb, ne_eqb, and_parts, 
 use Rattle.std.proofs.lemmas.Bool.Decides.{Decides-eqb, Decides-or, Decides-and, Decides-by_and, Decides-like, Decides-not}
 use Rattle.std.proofs.lemmas.List.Elements.{All-head, All-cons, All-nil}
 use Rattle.std.proofs.lemmas.Option.{none-some, same_Some}
-use Rattle.drf_bundle.specs.Text.{same_text}
-use Rattle.drf_bundle.specs.TextLaws.{same_from_test, test_from_same, test_from_other}
+use Rattle.drf_role.specs.Text.{same_text}
+use Rattle.drf_role.specs.TextLaws.{same_from_test, test_from_same, test_from_other}
 use Rattle.drf_role.specs.Name.{IsNameByte, IsLabelByte, IsName, IsLabel}
 use Rattle.drf_role.specs.Parts.{text_of}
 use Rattle.drf_role.specs.Role.{IsComponentByte, IsComponent, IsRole, IsRoleText, default_role}

@@ -2,7 +2,7 @@
 use Rattle.std.specs.Prelude.{ℕ, Bool, not, ◌&&◌, ◌||◌, ◌==◌, List, length, nat_le, slice_index, codes}
 use Rattle.std.specs.List.{list_all}
 use Rattle.std.specs.Char.{is_ascii_alphanumeric}
-use Rattle.drf_bundle.specs.Text.{same_text}
+use Rattle.drf_role.specs.Text.{same_text}
 
 -- a letter, a digit, `_`, `-` or `.`
 abbrev pub is_name_byte : ℕ → Bool

@@ -8,8 +8,8 @@ use Rattle.std.specs.Cmp.Lexicographic.{slice_cmp, nat_list_cmp_total}
 use Rattle.std.proofs.lemmas.Bool.{and_parts, cases_lt}
 use Rattle.std.proofs.lemmas.List.Recursion.{and_at, found_at, found_nowhere, or_at, or_from_places}
 use Rattle.std.proofs.lemmas.List.Sorted.{searchable_from_sorted}
-use Rattle.drf_bundle.specs.Text.{same_text, text_below}
-use Rattle.drf_bundle.specs.TextLaws.{same_from_cmp, test_from_same, cmp_below, cmp_above, cmp_itself, above_from_cmp, below_other, above_other}
+use Rattle.drf_role.specs.Text.{same_text, text_below}
+use Rattle.drf_role.specs.TextLaws.{same_from_cmp, test_from_same, cmp_below, cmp_above, cmp_itself, above_from_cmp, below_other, above_other}
 use Rattle.drf_bundle.specs.Quantities.{amount_of, is_named, is_in_order, with_amount}
 use Rattle.drf_bundle.specs.QuantitiesLaws.{stands_first}
 use Rattle.drf_bundle.specs.Places.{IsAt, IsGapFor}

@@ -1,6 +1,6 @@
 -- Where a label stands among the entries, or would stand.
 use Rattle.std.specs.Prelude.{◌≡◌, ℕ, ◌<◌, ◌≤◌, List, length, slice_index_or, IsTrue}
-use Rattle.drf_bundle.specs.Text.{text_below}
+use Rattle.drf_role.specs.Text.{text_below}
 use Rattle.drf_bundle.specs.declared.quantities.Entry.{Entry}
 
 -- the entry at place i has the label

@@ -3,7 +3,7 @@ use Rattle.std.specs.Prelude.{ℕ, ◌+◌, ◌-◌, Bool, true, ◌&&◌, List,
 use Rattle.std.specs.List.{filter, list_all, list_any}
 use Rattle.std.specs.Ordering.{nat_cmp, match_ordering}
 use Rattle.std.specs.Cmp.Lexicographic.{slice_cmp}
-use Rattle.drf_bundle.specs.Text.{same_text, text_below}
+use Rattle.drf_role.specs.Text.{same_text, text_below}
 use Rattle.drf_bundle.specs.declared.quantities.Entry.{Entry}
 
 -- the amount of a label; 0 where it is not named

@@ -3,9 +3,10 @@ use Rattle.std.specs.Prelude.{◌≡◌, ℕ, ◌+◌, ◌≤◌, ◌&&◌, Bool
 use Rattle.std.specs.List.{count_by, AllByRecursion}
 use Rattle.std.proofs.Common.{refl, ap, ◌∙◌, inl, inr, cond, arith}
 use Rattle.std.proofs.lemmas.Bool.{cases_Bool}
-use Rattle.drf_bundle.specs.Text.{same_text}
+use Rattle.drf_role.specs.Text.{same_text}
 use Rattle.drf_bundle.specs.declared.quantities.Entry.{Entry}
-use Rattle.drf_rows.specs.Paths.{Client, path_of, same_path}
+use Rattle.drf_role.specs.Path.{same_path}
+use Rattle.drf_rows.specs.Client.{Client, path_of}
 use Rattle.drf_rows.specs.Held.{client_of}
 use Rattle.drf_rows.specs.declared.rows.ClientRow.{ClientRow}
 use Rattle.drf_rows.specs.declared.rows.FrameworkRow.{FrameworkRow}

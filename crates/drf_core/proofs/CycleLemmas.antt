@@ -5,7 +5,7 @@ use Rattle.std.specs.Option.{option_map_or}
 use Rattle.std.proofs.lemmas.Bool.Decides.{nat_tests}
 use Rattle.drf_bundle.specs.declared.quantities.Entry.{Entry}
 use Rattle.drf_rows.specs.LimitNumbers.{LimitNumbers}
-use Rattle.drf_rows.specs.Paths.{Client}
+use Rattle.drf_rows.specs.Client.{Client}
 use Rattle.drf_rows.specs.Cycle.{with_offer, grant, tried, all_tried, turn, turns, turn_order, at_moment, cycle}
 use Rattle.drf_rows.specs.Step.{refusal_of, reply_to, effect, line_of, new_offers, latest_moment}
 use Rattle.drf_rows.specs.StepLaws.{reply_to-accepted, rows_after-accepted, rows_after-refused}

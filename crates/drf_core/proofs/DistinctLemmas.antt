@@ -5,8 +5,8 @@ use Rattle.std.specs.List.{list_all, count_by, AllByRecursion}
 use Rattle.std.proofs.Common.{refl, sym, ap, ◌∙◌, subst, inl, inr, cond, zero, suc, arith}
 use Rattle.std.proofs.lemmas.Bool.{cases_Bool, false≢true, and_parts, not-true}
 use Rattle.std.proofs.lemmas.Bool.Decides.{same_from_decides, Decides-like}
-use Rattle.drf_bundle.specs.Text.{same_text}
-use Rattle.drf_bundle.specs.TextLaws.{same_from_test}
+use Rattle.drf_role.specs.Text.{same_text}
+use Rattle.drf_role.specs.TextLaws.{same_from_test}
 use Rattle.drf_core.specs.Kept.{are_distinct}
 use Rattle.drf_core.proofs.SumLemmas.{count_by-cons}
 

@@ -4,13 +4,13 @@ use Rattle.std.proofs.Common.{refl, sym, ap, ◌∙◌, inl, inr, cond, arith}
 use Rattle.std.proofs.lemmas.Bool.{cases_Bool}
 use Rattle.std.proofs.lemmas.List.Elements.{filter-append}
 use Rattle.std.proofs.lemmas.List.Sums.{sum_by-append}
-use Rattle.drf_bundle.specs.Text.{same_text, text_below}
-use Rattle.drf_bundle.specs.TextLaws.{cases_same, same_itself}
+use Rattle.drf_role.specs.Text.{same_text, text_below}
+use Rattle.drf_role.specs.TextLaws.{cases_same, same_itself}
 use Rattle.drf_bundle.specs.Quantities.{amount_of, is_in_order, without_zeros}
 use Rattle.drf_bundle.specs.QuantitiesLaws.{stands_first, amount-without_zeros, bundle-without_zeros, bundle-empty, same_bundles}
 use Rattle.drf_bundle.specs.Bundle.{IsBundle}
 use Rattle.drf_bundle.specs.declared.quantities.Entry.{Entry}
-use Rattle.drf_rows.specs.Paths.{Client}
+use Rattle.drf_rows.specs.Client.{Client}
 use Rattle.drf_rows.specs.Cycle.{free_of, offered_on, with_offer}
 use Rattle.drf_rows.specs.declared.rows.AgentRow.{AgentRow}
 use Rattle.drf_rows.specs.declared.rows.OfferRow.{OfferRow}

@@ -6,7 +6,7 @@ use Rattle.std.proofs.lemmas.List.{length_push, same_from_push}
 use Rattle.std.proofs.lemmas.Option.{slice_get-map, get_or_from_slice_get}
 use Rattle.drf_bundle.specs.declared.quantities.Entry.{Entry}
 use Rattle.drf_rows.specs.LimitNumbers.{LimitNumbers}
-use Rattle.drf_rows.specs.Paths.{Client, path_of}
+use Rattle.drf_rows.specs.Client.{Client, path_of}
 use Rattle.drf_rows.specs.Held.{clients_of, offered_to, cluster_total}
 use Rattle.drf_rows.specs.Cycle.{free_of, with_offer}
 use Rattle.drf_rows.specs.CycleLaws.{clients_of-with_offer}

@@ -7,8 +7,9 @@ use Rattle.std.proofs.lemmas.List.Sums.{sum_by-cons}
 use Rattle.drf_bundle.specs.Quantities.{amount_of}
 use Rattle.drf_bundle.specs.Bundle.{quantities_of}
 use Rattle.drf_rows.specs.LimitNumbers.{LimitNumbers}
-use Rattle.drf_rows.specs.PathLaws.{same_path-true}
-use Rattle.drf_rows.specs.Paths.{path_of, same_path, begins_with}
+use Rattle.drf_role.specs.PathLaws.{same_path-true}
+use Rattle.drf_role.specs.Path.{same_path, begins_with}
+use Rattle.drf_rows.specs.Client.{path_of}
 use Rattle.drf_rows.specs.Held.{client_of, offered_to, held_by, count_of}
 use Rattle.drf_rows.specs.declared.rows.ClientRow.{ClientRow}
 use Rattle.drf_rows.specs.declared.rows.FrameworkRow.{FrameworkRow}

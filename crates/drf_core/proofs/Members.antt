@@ -2,7 +2,7 @@
 use Rattle.std.proofs.Common.{◌≡◌, ℕ, zero, suc, List, [], ◌∷◌, ◌++◌, Some, None, Option, true, false, Bool, refl, subst, inl, inr, ◌⊎◌, cond, map, not}
 use Rattle.std.specs.Prelude.{slice_get, filter, find, flat_map}
 use Rattle.std.specs.Option.{option_map_or}
-use Rattle.drf_rows.specs.Paths.{Client}
+use Rattle.drf_rows.specs.Client.{Client}
 use Rattle.drf_rows.specs.Share.{Standing}
 use Rattle.drf_rows.specs.Held.{clients_of, active_clients, client_of}
 use Rattle.drf_rows.specs.Cycle.{serving_order, first_of, without}

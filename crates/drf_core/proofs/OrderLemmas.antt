@@ -6,7 +6,7 @@ use Rattle.std.proofs.lemmas.Bool.{cases_Bool}
 use Rattle.std.proofs.lemmas.List.{map-append}
 use Rattle.std.proofs.lemmas.List.Elements.{filter-append}
 use Rattle.drf_rows.specs.LimitNumbers.{LimitNumbers}
-use Rattle.drf_rows.specs.Paths.{path_of}
+use Rattle.drf_rows.specs.Client.{path_of}
 use Rattle.drf_rows.specs.Held.{client_of, active_clients, cluster_total, weight_of}
 use Rattle.drf_rows.specs.Share.{is_serving_order}
 use Rattle.drf_rows.specs.Cycle.{turn_order}

@@ -5,9 +5,9 @@ use Rattle.std.specs.Cmp.Lexicographic.{pointwise_decides, bytes_decides}
 use Rattle.std.proofs.Common.{refl, sym, ◌∙◌, append_assoc}
 use Rattle.std.proofs.lemmas.Bool.Decides.{same_from_decides, Decides-and, Decides-like}
 use Rattle.std.proofs.lemmas.List.{same_from_push}
-use Rattle.drf_bundle.specs.Text.{same_text}
-use Rattle.drf_role.specs.Path.{client_path}
-use Rattle.drf_rows.specs.Paths.{Client, path_of, same_path}
+use Rattle.drf_role.specs.Text.{same_text}
+use Rattle.drf_role.specs.Path.{client_path, same_path}
+use Rattle.drf_rows.specs.Client.{Client, path_of}
 
 pub path_decides : (a b : List (List ℕ)) → Decides (same_path a b) (a ≡ b)
 path_decides a b = pointwise_decides {E = same_text} bytes_decides a b

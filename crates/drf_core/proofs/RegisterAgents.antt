@@ -4,14 +4,14 @@ use Rattle.std.specs.List.{list_any, AllByRecursion}
 use Rattle.std.proofs.Common.{refl, sym, ap, ◌∙◌, subst, inl, inr, arith}
 use Rattle.std.proofs.lemmas.Bool.{cases_Bool, false≢true, or_left}
 use Rattle.std.proofs.lemmas.List.{length_push, map-append}
-use Rattle.drf_bundle.specs.Text.{same_text}
-use Rattle.drf_bundle.specs.TextLaws.{same_from_test}
+use Rattle.drf_role.specs.Text.{same_text}
+use Rattle.drf_role.specs.TextLaws.{same_from_test}
 use Rattle.drf_bundle.specs.Bundle.{IsBundle}
 use Rattle.drf_bundle.specs.Quantities.{amount_of, plus}
 use Rattle.drf_bundle.specs.QuantitiesLaws.{same_bundles}
 use Rattle.drf_bundle.specs.declared.quantities.Entry.{Entry}
 use Rattle.drf_rows.specs.LimitNumbers.{LimitNumbers}
-use Rattle.drf_rows.specs.Paths.{path_of}
+use Rattle.drf_rows.specs.Client.{path_of}
 use Rattle.drf_rows.specs.Held.{cluster_total, offered_to}
 use Rattle.drf_rows.specs.Cycle.{free_of, offered_on}
 use Rattle.drf_rows.specs.Step.{has_agent, with_agent}

@@ -3,7 +3,7 @@ use Rattle.std.specs.Prelude.{◌≡◌, ℕ, ◌+◌, ◌^◌, ◌<◌, true, f
 use Rattle.std.specs.Map.{lookup}
 use Rattle.std.proofs.Common.{sym, ap, ◌∙◌, arith}
 use Rattle.indexmap.specs.IndexMap.{insert_entry}
-use Rattle.drf_bundle.specs.Text.{same_text}
+use Rattle.drf_role.specs.Text.{same_text}
 use Rattle.drf_bundle.specs.Bundle.{IsBundle}
 use Rattle.drf_bundle.specs.Quantities.{amount_of, plus}
 use Rattle.drf_bundle.specs.declared.quantities.Entry.{Entry}
@@ -13,7 +13,7 @@ use Rattle.drf_rows.specs.declared.event.Event.TheVariants.{AddAgent, AddFramewo
 use Rattle.drf_rows.specs.declared.rows.ClientRow.{ClientRow}
 use Rattle.drf_rows.specs.declared.rows.OfferRow.{OfferRow}
 use Rattle.drf_rows.specs.declared.rows.Rows.{Rows}
-use Rattle.drf_rows.specs.Paths.{path_of}
+use Rattle.drf_rows.specs.Client.{path_of}
 use Rattle.drf_sorter.specs.Content.{Content, has_client, with_client}
 use Rattle.drf_core.specs.declared.allocator.Agent.{Agent}
 use Rattle.drf_core.specs.Machine.{Machine, after}

@@ -4,11 +4,12 @@ use Rattle.std.specs.List.{list_any, AllByRecursion}
 use Rattle.std.proofs.Common.{refl, sym, ap, ◌∙◌, inl, inr, arith}
 use Rattle.std.proofs.lemmas.Bool.{cases_Bool}
 use Rattle.std.proofs.lemmas.List.{length-map, length_push}
-use Rattle.drf_bundle.specs.Text.{same_text}
-use Rattle.drf_bundle.specs.TextLaws.{same_itself}
+use Rattle.drf_role.specs.Text.{same_text}
+use Rattle.drf_role.specs.TextLaws.{same_itself}
 use Rattle.drf_bundle.specs.declared.quantities.Entry.{Entry}
 use Rattle.drf_rows.specs.LimitNumbers.{LimitNumbers}
-use Rattle.drf_rows.specs.Paths.{Client, path_of, same_path}
+use Rattle.drf_role.specs.Path.{same_path}
+use Rattle.drf_rows.specs.Client.{Client, path_of}
 use Rattle.drf_rows.specs.Held.{offered_to}
 use Rattle.drf_rows.specs.Cycle.{free_of, with_offer, counted, count_offer}
 use Rattle.drf_rows.specs.declared.rows.AgentRow.{AgentRow}

@@ -4,13 +4,14 @@ use Rattle.std.specs.List.{count_by, list_any, AllByRecursion}
 use Rattle.std.proofs.Common.{sym, ◌∙◌, arith}
 use Rattle.std.proofs.lemmas.List.Sums.{sum_by-cons, sum_by-le}
 use Rattle.std.proofs.lemmas.List.Elements.{All-from_recursion}
-use Rattle.drf_bundle.specs.Text.{same_text}
+use Rattle.drf_role.specs.Text.{same_text}
 use Rattle.drf_bundle.specs.Quantities.{amount_of, plus}
 use Rattle.drf_bundle.specs.QuantitiesLaws.{amount-plus}
 use Rattle.drf_bundle.specs.Bundle.{IsBundle}
 use Rattle.drf_bundle.specs.declared.quantities.Entry.{Entry}
 use Rattle.drf_rows.specs.LimitNumbers.{LimitNumbers}
-use Rattle.drf_rows.specs.Paths.{path_of, same_path}
+use Rattle.drf_role.specs.Path.{same_path}
+use Rattle.drf_rows.specs.Client.{path_of}
 use Rattle.drf_rows.specs.Held.{cluster_total, offered_to}
 use Rattle.drf_rows.specs.Cycle.{offered_on}
 use Rattle.drf_rows.specs.declared.rows.AgentRow.{AgentRow}

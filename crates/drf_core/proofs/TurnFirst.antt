@@ -5,7 +5,7 @@ use Rattle.std.specs.Option.{option_map_or}
 use Rattle.std.proofs.Math.Seq.{take-append_seam}
 use Rattle.std.proofs.lemmas.List.{get_or-append-add}
 use Rattle.drf_role.specs.Path.{role_part, framework_part}
-use Rattle.drf_rows.specs.Paths.{Client, path_of}
+use Rattle.drf_rows.specs.Client.{Client, path_of}
 use Rattle.drf_rows.specs.Held.{active_clients, standing_of}
 use Rattle.drf_rows.specs.Cycle.{free_of, with_offer, is_allocatable, all_tried, turn, turn_order}
 use Rattle.drf_rows.specs.declared.rows.AgentRow.{AgentRow}

@@ -5,7 +5,7 @@ use Rattle.std.specs.Option.{option_map_or}
 use Rattle.std.proofs.Math.Seq.{drop-append_seam, drop-length}
 use Rattle.drf_bundle.specs.declared.quantities.Entry.{Entry}
 use Rattle.drf_rows.specs.LimitNumbers.{LimitNumbers}
-use Rattle.drf_rows.specs.Paths.{Client}
+use Rattle.drf_rows.specs.Client.{Client}
 use Rattle.drf_rows.specs.Cycle.{free_of, with_offer, is_allocatable, all_tried, turn, turn_order}
 use Rattle.drf_rows.specs.Step.{new_offers}
 use Rattle.drf_rows.specs.declared.rows.AgentRow.{AgentRow}

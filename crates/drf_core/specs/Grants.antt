@@ -1,8 +1,9 @@
 -- Grants, one after another, and how they are taken back.
 use Rattle.std.specs.Prelude.{◌≡◌, ℕ, zero, suc, ◌+◌, ◌-◌, ◌&&◌, Bool, false, List, [], ◌++◌, length, map, filter, take, slice_get, Some, if◌then◌else◌}
 use Rattle.std.specs.Option.{option_map_or}
-use Rattle.drf_bundle.specs.Text.{same_text}
-use Rattle.drf_rows.specs.Paths.{Client, path_of, same_path}
+use Rattle.drf_role.specs.Text.{same_text}
+use Rattle.drf_role.specs.Path.{same_path}
+use Rattle.drf_rows.specs.Client.{Client, path_of}
 use Rattle.drf_rows.specs.Held.{offered_to, clients_of}
 use Rattle.drf_rows.specs.Cycle.{free_of, with_offer, is_allocatable, turn, turns}
 use Rattle.drf_rows.specs.Step.{line_of, new_offers}

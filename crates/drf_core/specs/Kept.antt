@@ -1,12 +1,13 @@
 -- What a core keeps beside its rows, and what holds of its rows.
 use Rattle.std.specs.Prelude.{◌≡◌, ℕ, ◌+◌, ◌≤◌, ◌&&◌, Bool, true, not, List, [], ◌∷◌, length, map, filter, flat_map, sum_by}
 use Rattle.std.specs.List.{AllByRecursion, list_all}
-use Rattle.drf_bundle.specs.Text.{same_text}
+use Rattle.drf_role.specs.Text.{same_text}
 use Rattle.drf_bundle.specs.Quantities.{amount_of}
 use Rattle.drf_bundle.specs.Bundle.{IsBundle, quantities_of}
 use Rattle.drf_bundle.specs.declared.quantities.Entry.{Entry}
 use Rattle.drf_rows.specs.LimitNumbers.{LimitNumbers, IsWithinCeilings}
-use Rattle.drf_rows.specs.Paths.{path_of, same_path}
+use Rattle.drf_role.specs.Path.{same_path}
+use Rattle.drf_rows.specs.Client.{path_of}
 use Rattle.drf_rows.specs.Held.{client_of, offered_to, cluster_total}
 use Rattle.drf_rows.specs.Cycle.{free_of, offered_on}
 use Rattle.drf_rows.specs.Step.{largest_amount, has_agent}

@@ -2,6 +2,7 @@
 #![tactic(auto)]
 
 mod joined;
+mod laws;
 mod name;
 mod parts;
 mod path;
@@ -10,6 +11,7 @@ mod role;
 mod tests;
 mod word;
 
+pub use laws::client_path_law;
 pub use name::{Label, Name, NameFault};
 pub use parts::Parts;
 pub use path::{ClientPath, NodePath};

@@ -7,13 +7,14 @@ use Rattle.std.proofs.lemmas.List.{append-nil, drop_at}
 use Rattle.std.proofs.lemmas.List.Elements.{filter-append}
 use Rattle.std.proofs.lemmas.List.Sums.{sum_by-append}
 use Rattle.std.proofs.lemmas.Grind.{fold-append}
-use Rattle.drf_bundle.specs.Text.{same_text}
-use Rattle.drf_bundle.specs.TextLaws.{same_itself}
+use Rattle.drf_role.specs.Text.{same_text}
+use Rattle.drf_role.specs.TextLaws.{same_itself}
 use Rattle.drf_bundle.specs.Quantities.{amount_of, without_zeros, rest, is_in_order}
 use Rattle.drf_bundle.specs.Bundle.{quantities_of}
 use Rattle.drf_bundle.specs.QuantitiesLaws.{rest-itself}
 use Rattle.drf_bundle.specs.declared.quantities.Entry.{Entry}
-use Rattle.drf_rows.specs.Paths.{Client, same_path}
+use Rattle.drf_role.specs.Path.{same_path}
+use Rattle.drf_rows.specs.Client.{Client}
 use Rattle.drf_rows.specs.Held.{client_of, clients_of, active_clients}
 use Rattle.drf_rows.specs.Cycle.{offers_on, offered_on, free_of, is_allocatable, grant, counted, count_offer, with_offer, tried, all_tried, turn, turns}
 use Rattle.drf_rows.specs.Step.{new_offers}

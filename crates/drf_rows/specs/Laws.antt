@@ -3,7 +3,7 @@ use Rattle.std.specs.Prelude.{◌≡◌, ◌+◌, true, false, List, ◌∷◌, 
 use Rattle.std.specs.List.Sorted.{IsPermutation}
 use Rattle.drf_bundle.specs.Quantities.{is_in_order}
 use Rattle.drf_rows.specs.LimitNumbers.{LimitNumbers}
-use Rattle.drf_rows.specs.Paths.{Client, path_of}
+use Rattle.drf_rows.specs.Client.{Client, path_of}
 use Rattle.drf_rows.specs.Share.{Standing, stands_before, is_serving_order}
 use Rattle.drf_rows.specs.Cycle.{free_of, is_allocatable, grant, with_offer, all_tried, serving_order}
 use Rattle.drf_rows.specs.Step.{refusal_of, effect, answer, rows_after, reply_to, rows_after_all, replies_to}

@@ -1,7 +1,6 @@
 pub mod LimitNumbers
 pub mod Limits
-pub mod Paths
-pub mod PathLaws
+pub mod Client
 pub mod Share
 pub mod Held
 pub mod Cycle

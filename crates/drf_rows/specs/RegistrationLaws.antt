@@ -3,10 +3,10 @@ use Rattle.std.specs.Prelude.{◌≡◌, ℕ, Bool, not, ◌||◌, true, false, 
 use Rattle.std.proofs.Common.{refl, ap, ◌∙◌, append-nil}
 use Rattle.std.proofs.lemmas.Grind.{flat_map-append, fold-append}
 use Rattle.std.proofs.lemmas.List.Folds.{list_any-append}
-use Rattle.drf_bundle.specs.Text.{same_text}
+use Rattle.drf_role.specs.Text.{same_text}
 use Rattle.drf_bundle.specs.Quantities.{plus}
 use Rattle.drf_bundle.specs.declared.quantities.Entry.{Entry}
-use Rattle.drf_rows.specs.Paths.{Client}
+use Rattle.drf_rows.specs.Client.{Client}
 use Rattle.drf_rows.specs.Held.{client_of, clients_of, active_clients, cluster_total}
 use Rattle.drf_rows.specs.Step.{distinct, new_client, with_agent, with_framework, has_agent, has_framework}
 use Rattle.drf_rows.specs.declared.rows.FrameworkRow.{FrameworkRow}

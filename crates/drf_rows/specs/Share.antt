@@ -3,7 +3,7 @@
 -- order of siblings, are those of the Mesos hierarchical sorter.
 use Rattle.std.specs.Prelude.{ℕ, ◌*◌, Bool, true, false, ◌&&◌, ◌||◌, List, [], ◌∷◌, ◌++◌, map, if◌then◌else◌, nat_lt, ◌==◌}
 use Rattle.std.specs.List.{filter, list_all}
-use Rattle.drf_bundle.specs.Text.{same_text, text_below}
+use Rattle.drf_role.specs.Text.{same_text, text_below}
 use Rattle.drf_bundle.specs.declared.quantities.Entry.{Entry}
 
 -- part / whole

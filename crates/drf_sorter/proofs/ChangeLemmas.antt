@@ -13,7 +13,7 @@ use Rattle.std.proofs.lemmas.Map.Keys.{IsDistinct-head, IsDistinct-tail, IsDisti
 use Rattle.drf_bundle.specs.Quantities.{amount_of, is_in_order, plus, minus}
 use Rattle.drf_bundle.specs.QuantitiesLaws.{amount-plus, amount-minus}
 use Rattle.drf_bundle.specs.declared.quantities.Entry.{Entry}
-use Rattle.drf_rows.specs.Paths.{same_path}
+use Rattle.drf_role.specs.Path.{same_path}
 use Rattle.drf_sorter.specs.declared.plain.Client.{Client}
 use Rattle.drf_sorter.specs.declared.plain.PlainSorter.{PlainSorter}
 use Rattle.drf_sorter.specs.Content.{Ranked, Content, charged, discharged}

@@ -13,12 +13,12 @@ use Rattle.std.proofs.lemmas.List.{get_or-map, length-map}
 use Rattle.std.proofs.lemmas.List.Elements.{All-get_or}
 use Rattle.std.proofs.lemmas.List.Sorted.{ranks_by, sorted_far}
 use Rattle.std.proofs.lemmas.Map.Keys.{IsDistinct-head, IsDistinct-tail, IsDistinct-cons, IsDistinct-IsPermutation, apart_from_distinct}
-use Rattle.drf_rows.specs.Paths.{same_path}
+use Rattle.drf_role.specs.Path.{same_path}
 use Rattle.drf_rows.specs.Share.{Standing, stands_before, is_serving_order}
 use Rattle.drf_sorter.specs.declared.rank.Rank.{Rank}
 use Rattle.drf_sorter.specs.declared.rank.Candidate.{Candidate}
 use Rattle.drf_sorter.specs.Candidate.{place_by, HasPlaces}
-use Rattle.drf_sorter.specs.ClientPaths.{client_paths-apart}
+use Rattle.drf_role.specs.PathLaws.{client_paths-apart}
 use Rattle.drf_sorter.specs.OrderLaws.{is_lt-places, stands_before-total}
 use Rattle.drf_sorter.specs.Places.{place_cmp}
 use Rattle.drf_sorter.specs.ShareLaws.{share_total}

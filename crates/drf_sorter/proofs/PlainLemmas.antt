@@ -6,7 +6,7 @@ use Rattle.std.proofs.lemmas.List.Elements.{filter-append}
 use Rattle.std.proofs.lemmas.Simd.{map-map}
 use Rattle.std.specs.List.{IsDistinct, sum_by, filter}
 use Rattle.drf_bundle.specs.Quantities.{amount_of}
-use Rattle.drf_rows.specs.Paths.{same_path, begins_with}
+use Rattle.drf_role.specs.Path.{same_path, begins_with}
 use Rattle.drf_sorter.specs.declared.plain.Client.{Client}
 use Rattle.drf_sorter.specs.declared.plain.PlainSorter.{PlainSorter}
 use Rattle.drf_sorter.specs.Content.{Ranked, IsSound, standing_of, active_paths}

@@ -4,8 +4,8 @@ use Rattle.std.specs.Cmp.Lexicographic.{pointwise_decides, bytes_decides}
 use Rattle.std.proofs.lemmas.Bool.{false≢true, false_from_ne_true}
 use Rattle.std.proofs.lemmas.List.{length-take, length-take-le, get_or-take, take_more_same}
 use Rattle.std.proofs.lemmas.Option.{get_or_from_slice_get}
-use Rattle.drf_bundle.specs.Text.{same_text}
-use Rattle.drf_rows.specs.Paths.{begins_with}
+use Rattle.drf_role.specs.Text.{same_text}
+use Rattle.drf_role.specs.Path.{begins_with}
 
 module _ (path other : List (List ℕ)) (len : ℕ) (within : len ≤ length other) where
   pub begins_from : take len path ≡ take len other → begins_with path (take len other) ≡ true

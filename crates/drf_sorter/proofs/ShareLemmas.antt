@@ -7,8 +7,8 @@ use Rattle.std.proofs.lemmas.Bool.{and_parts, lt-ltb}
 use Rattle.std.proofs.lemmas.List.{drop_more}
 use Rattle.std.proofs.lemmas.List.Elements.{All-get_or}
 use Rattle.std.proofs.lemmas.List.Sums.{AllPass-from_list_all}
-use Rattle.drf_bundle.specs.Text.{text_below}
-use Rattle.drf_bundle.specs.TextLaws.{below_other}
+use Rattle.drf_role.specs.Text.{text_below}
+use Rattle.drf_role.specs.TextLaws.{below_other}
 use Rattle.drf_bundle.specs.Quantities.{amount_of, is_in_order}
 use Rattle.drf_bundle.specs.QuantitiesLaws.{amount_head}
 use Rattle.drf_bundle.specs.declared.quantities.Entry.{Entry}

@@ -4,7 +4,7 @@ use Rattle.std.specs.List.{list_any, AllByRecursion}
 use Rattle.std.specs.List.Sorted.{IsPermutation}
 use Rattle.drf_bundle.specs.Quantities.{amount_of}
 use Rattle.drf_bundle.specs.declared.quantities.Entry.{Entry}
-use Rattle.drf_rows.specs.Paths.{same_path, begins_with}
+use Rattle.drf_role.specs.Path.{same_path, begins_with}
 use Rattle.drf_rows.specs.Share.{Standing, is_serving_order}
 use Rattle.drf_rows.specs.Held.{weight_of}
 use Rattle.drf_rows.specs.declared.rows.WeightRow.{WeightRow}

@@ -5,6 +5,5 @@ pub mod Share
 pub mod ShareLaws
 pub mod Places
 pub mod OrderLaws
-pub mod ClientPaths
 pub mod Plain
 pub mod Candidate

@@ -8,10 +8,10 @@ use Rattle.std.specs.Cmp.{IsTotalOrder, nat_cmp_total, then_flip, unsigned_tied}
 use Rattle.std.specs.Cmp.Lexicographic.{slice_cmp, nat_list_cmp_total, nat_list_eq_equiv}
 use Rattle.std.proofs.lemmas.Bool.{false≢true, cases_Bool, ltb-true}
 use Rattle.std.proofs.lemmas.Cmp.{then_total, on_total, tied_itself}
-use Rattle.drf_bundle.specs.Text.{same_text}
-use Rattle.drf_bundle.specs.TextLaws.{cases_same, same_from_cmp, same_itself}
+use Rattle.drf_role.specs.Text.{same_text}
+use Rattle.drf_role.specs.TextLaws.{cases_same, same_from_cmp, same_itself}
 use Rattle.drf_bundle.specs.declared.quantities.Entry.{Entry}
-use Rattle.drf_rows.specs.Paths.{begins_with}
+use Rattle.drf_role.specs.Path.{begins_with}
 use Rattle.drf_rows.specs.Share.{Fraction, is_less, greatest, Standing, share_of, weighted_share_of, is_ahead, stands_before_below, stands_before}
 use Rattle.drf_rows.specs.ServingOrder.{is_ahead-back}
 use Rattle.drf_sorter.specs.Fractions.{fraction_cmp}

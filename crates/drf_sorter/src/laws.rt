@@ -1,9 +1,8 @@
 //! Laws of shares and of the order of clients. The functions do nothing: what they promise is proved of the definitions
 //! alone.
-ghost use Rattle.std.specs.Prelude.{◌≡◌, ◌≢◌, ◌≤◌, ℕ, List, true, false, not};
+ghost use Rattle.std.specs.Prelude.{◌≡◌, ◌≤◌, ℕ, List, true, false, not};
 ghost use Rattle.std.specs.Ordering.{is_lt, is_eq};
-ghost use Rattle.drf_role.specs.Path.{IsClientPath};
-ghost use Rattle.drf_rows.specs.Paths.{begins_with};
+ghost use Rattle.drf_role.specs.Path.{begins_with};
 ghost use Rattle.drf_rows.specs.Share.{Standing, is_less, is_same, stands_before};
 ghost use Rattle.drf_sorter.specs.Share.{fraction_of, share_cmp, share_eq};
 ghost use Rattle.drf_sorter.specs.declared.share.Share.{Share};
@@ -13,11 +12,6 @@ pub fn share_order_law()
     ensures less { (a b : Share) → is_lt (share_cmp a b) ≡ is_less (fraction_of a) (fraction_of b) }
     ensures same { (a b : Share) → share_eq a b ≡ is_same (fraction_of a) (fraction_of b) }
     ensures tied { (a b : Share) → share_eq a b ≡ is_eq (share_cmp a b) }
-{}
-
-/// No client path begins with another.
-pub fn client_path_law()
-    ensures { (a b : List (List ℕ)) → IsClientPath a → IsClientPath b → a ≢ b → begins_with a b ≡ false }
 {}
 
 /// Of two clients at most one stands before the other, and exactly one where neither path begins with the other. Who

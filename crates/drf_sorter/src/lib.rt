@@ -9,7 +9,7 @@ mod sorter;
 #[cfg(test)]
 mod tests;
 
-pub use laws::{client_order_law, client_path_law, share_order_law};
+pub use laws::{client_order_law, share_order_law};
 pub use plain::PlainSorter;
 pub use share::Share;
 pub use sorter::Sorter;

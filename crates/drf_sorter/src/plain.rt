@@ -2,7 +2,7 @@
 ghost use Rattle.std.specs.Prelude.{◌≡◌, ◌≤◌, ◌<◌, ◌+◌, [], ◌∷◌, ◌++◌, All, IfOk, length, map, take};
 ghost use Rattle.std.specs.List.{IsDistinct, IsDistinct-prop, position};
 ghost use Rattle.drf_bundle.specs.Quantities.{amount_of};
-ghost use Rattle.drf_rows.specs.Paths.{same_path, begins_with};
+ghost use Rattle.drf_role.specs.Path.{same_path, begins_with};
 ghost use Rattle.drf_rows.specs.Share.{weighted_share_of};
 ghost use Rattle.drf_sorter.specs.Content.{IsSound, active_paths};
 ghost use Rattle.drf_sorter.specs.Places.{places_of};

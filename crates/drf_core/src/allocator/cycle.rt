@@ -89,7 +89,7 @@ fn line_for(
 }
 
 impl<S: Sorter> Core<S> {
-    ghost use Rattle.drf_rows.specs.Paths.{path_of};
+    ghost use Rattle.drf_rows.specs.Client.{path_of};
     ghost use Rattle.drf_rows.specs.Cycle.{turn_order, at_moment};
     ghost use Rattle.drf_rows.specs.Step.{line_of, new_offers, reply_to, refusal_of};
     ghost use Rattle.drf_rows.specs.declared.event.Event.TheVariants.{Cycle};

@@ -1,6 +1,6 @@
 use Rattle.std.proofs.Common.{ℕ, ◌<◌, ◌^◌, List, arith}
 use Rattle.std.proofs.lemmas.Bool.{cond_both}
-use Rattle.drf_bundle.specs.Text.{same_text}
+use Rattle.drf_role.specs.Text.{same_text}
 use Rattle.drf_bundle.specs.Quantities.{amount_of, with_amount}
 use Rattle.drf_bundle.specs.QuantitiesLaws.{amount-with}
 use Rattle.drf_bundle.specs.declared.quantities.Entry.{Entry}

@@ -2,7 +2,7 @@ use Rattle.std.proofs.Common.{◌≡◌, None, List, [], ◌∷◌, ℕ, length,
 use Rattle.std.proofs.lemmas.Bool.{false≢true}
 use Rattle.std.proofs.lemmas.List.{nil_from_length}
 use Rattle.indexmap.specs.IndexMap.{insert_entry}
-use Rattle.drf_bundle.specs.Text.{same_text}
+use Rattle.drf_role.specs.Text.{same_text}
 use Rattle.drf_rows.specs.declared.rows.ClientRow.{ClientRow}
 use Rattle.drf_sorter.specs.Content.{with_client}
 use Rattle.drf_rows.specs.Step.{refusal_of, is_empty, new_client}

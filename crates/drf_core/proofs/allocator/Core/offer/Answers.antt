@@ -4,8 +4,8 @@ use Rattle.std.specs.List.{position}
 use Rattle.std.specs.Map.{keys_of, values_of}
 use Rattle.std.proofs.lemmas.Option.{slice_get_cases}
 use Rattle.drf_role.specs.Path.{role_part, framework_part}
-use Rattle.drf_bundle.specs.Text.{same_text}
-use Rattle.drf_rows.specs.Paths.{Client, path_of}
+use Rattle.drf_role.specs.Text.{same_text}
+use Rattle.drf_rows.specs.Client.{Client, path_of}
 use Rattle.drf_rows.specs.Cycle.{free_of, with_offer}
 use Rattle.drf_rows.specs.Step.{line_of, new_offers}
 use Rattle.drf_rows.specs.declared.reply.OfferLine.{OfferLine}

@@ -1,6 +1,6 @@
 use Rattle.std.proofs.Common.{◌≡◌, ◌<◌, ◌^◌, length, sym, ap, subst, ◌∙◌, arith, map}
 use Rattle.std.proofs.lemmas.Result.{IfOk-weaker}
-use Rattle.drf_rows.specs.Paths.{path_of}
+use Rattle.drf_rows.specs.Client.{path_of}
 use Rattle.drf_rows.specs.Cycle.{turn_order}
 use Rattle.drf_sorter.specs.Content.{Content, IsSound, IsOrderOf}
 use Rattle.drf_core.specs.Inside.{rows_of}

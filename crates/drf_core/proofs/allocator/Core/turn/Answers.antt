@@ -1,6 +1,6 @@
 use Rattle.std.proofs.Common.{◌≡◌, [], ◌∷◌, true, sym, ap, ◌∙◌, subst, map}
 use Rattle.std.specs.Prelude.{OnOk}
-use Rattle.drf_rows.specs.Paths.{path_of}
+use Rattle.drf_rows.specs.Client.{path_of}
 use Rattle.drf_rows.specs.Cycle.{turn_order}
 use Rattle.drf_core.specs.Machine.{Machine}
 use Rattle.drf_core.specs.Grants.{HasTold, IsKnownClient, IsOffered, is_open_at}

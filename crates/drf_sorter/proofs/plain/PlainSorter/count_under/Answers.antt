@@ -1,5 +1,5 @@
 use Rattle.std.proofs.Common.{take, ◌∙◌, arith, rules}
-use Rattle.drf_rows.specs.Paths.{begins_with}
+use Rattle.drf_role.specs.Path.{begins_with}
 use Rattle.drf_sorter.specs.declared.plain.Client.{Client}
 use Rattle.drf_sorter.proofs.SumLemmas.{sum_part_more, sum_part_same, sum_part_fits, sum_part_all}
 use Rattle.drf_sorter.proofs.PlainLemmas.{counts_fit, count-standing}

@@ -1,6 +1,6 @@
 use Rattle.std.proofs.Common.{◌≡◌, take}
 use Rattle.std.specs.List.{sum_by}
-use Rattle.drf_rows.specs.Paths.{begins_with}
+use Rattle.drf_role.specs.Path.{begins_with}
 use Rattle.drf_sorter.proofs.SumLemmas.{part_of}
 use Rattle.drf_sorter.proofs.plain.PlainSorter.count_under.Given as goal
 

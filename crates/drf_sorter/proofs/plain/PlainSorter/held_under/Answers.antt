@@ -1,6 +1,6 @@
 use Rattle.std.proofs.Common.{◌+◌, take, ap, ◌∙◌, arith, rules}
 use Rattle.drf_bundle.specs.Quantities.{amount_of}
-use Rattle.drf_rows.specs.Paths.{begins_with}
+use Rattle.drf_role.specs.Path.{begins_with}
 use Rattle.drf_sorter.specs.declared.plain.Client.{Client}
 use Rattle.drf_sorter.proofs.SumLemmas.{sum_part_more, sum_part_same, sum_part_fits, sum_part_all, sum_part_le}
 use Rattle.drf_sorter.proofs.PlainLemmas.{held_in_total, held-standing}

@@ -1,6 +1,6 @@
 use Rattle.std.proofs.Common.{◌+◌, refl, ap, ◌∙◌, arith}
 use Rattle.std.specs.List.{position}
-use Rattle.drf_rows.specs.Paths.{same_path}
+use Rattle.drf_role.specs.Path.{same_path}
 use Rattle.drf_sorter.specs.declared.plain.Client.{Client}
 use Rattle.drf_sorter.specs.Content.{charged}
 use Rattle.drf_sorter.proofs.ChangeLemmas.{place-found, changed_in_sum, known-found, charged_is, changed_one, paths_stay, with_clients}

@@ -5,7 +5,7 @@ use Rattle.std.specs.Ordering.{nat_cmp, is_lt, is_eq, ordering_reverse}
 use Rattle.std.proofs.Common.{Ordering, Less, Equal, Greater, refl, sym, ap, ◌∙◌, subst, inl, inr}
 use Rattle.std.proofs.lemmas.Bool.{false≢true, cases_Bool, false_from_ne_true}
 use Rattle.std.proofs.lemmas.Cmp.{tied_itself}
-use Rattle.drf_bundle.specs.Text.{same_text, text_below}
+use Rattle.drf_role.specs.Text.{same_text, text_below}
 
 pub same_from_test : (a b : List ℕ) → IsTrue (same_text a b) → a ≡ b
 same_from_test a b same = (bytes_decides a b).0 same

@@ -1,0 +1,5 @@
+use Rattle.drf_role.specs.PathLaws.{client_paths-apart}
+use Rattle.drf_role.proofs.laws.client_path_law.Goals as goal
+
+pub returns : goal.returns
+returns c = client_paths-apart

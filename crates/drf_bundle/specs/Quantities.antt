@@ -45,6 +45,10 @@ covers entries others = list_all (λ e. nat_le e.amount (amount_of entries e.lab
 abbrev pub without_zeros : List Entry → List Entry
 without_zeros entries = filter (λ e. nat_lt 0 e.amount) entries
 
+-- what is left of a bundle when of each label so much is taken from it
+abbrev pub rest_by : List Entry → (List ℕ → ℕ) → List Entry
+rest_by entries by = without_zeros (map (λ e. record { label = e.label; amount = e.amount - by e.label }) entries)
+
 -- what is left of a bundle when another is taken from it
 abbrev pub rest : List Entry → List Entry → List Entry
-rest entries others = without_zeros (minus entries others)
+rest entries others = rest_by entries (amount_of others)

@@ -1,12 +1,12 @@
 -- Laws of amounts by label, for the crates above: what each change does to each amount, and what keeps the order.
-use Rattle.std.specs.Prelude.{◌≡◌, ℕ, ◌+◌, ◌-◌, ◌<◌, ◌≤◌, ◌&&◌, ◌||◌, Bool, true, false, List, [], ◌∷◌, length, filter, not, IsTrue, if◌then◌else◌, nat_lt, nat_le}
+use Rattle.std.specs.Prelude.{◌≡◌, ℕ, ◌+◌, ◌-◌, ◌<◌, ◌≤◌, ◌&&◌, ◌||◌, Bool, true, false, List, [], ◌∷◌, length, map, filter, not, IsTrue, if◌then◌else◌, nat_lt, nat_le}
 use Rattle.std.specs.List.{list_all}
 use Rattle.std.proofs.Common.{refl, sym, ap, ◌∙◌, subst, inl, inr, cond, arith}
 use Rattle.std.proofs.lemmas.Bool.{false≢true, cases_Bool, and_parts, and_from, leb-true, le-leb, ltb-true, lt-ltb}
 use Rattle.std.proofs.lemmas.Bool.Decides.{nat_tests}
 use Rattle.drf_role.specs.Text.{same_text, text_below}
 use Rattle.drf_role.specs.TextLaws.{same_itself, same_from_test, test_from_same, cases_same, cases_cmp, same_from_cmp, below_from_cmp, above_from_cmp, below_other, above_other, below_trans}
-use Rattle.drf_bundle.specs.Quantities.{amount_of, is_named, is_in_order, with_amount, plus, minus, covers, without_zeros, rest}
+use Rattle.drf_bundle.specs.Quantities.{amount_of, is_named, is_in_order, with_amount, plus, minus, covers, without_zeros, rest_by, rest}
 use Rattle.drf_bundle.specs.Bundle.{IsBundle}
 use Rattle.drf_bundle.specs.declared.quantities.Entry.{Entry}
 
@@ -384,3 +384,45 @@ length-plus a (e ∷ es) first second =
       | inl named ↦ rw named (omega (arith, more, others, rw named at here))
       | inr new ↦ rw new (omega (arith, more, others, rw new at here))
     ]
+
+-- ---- what is left when of each label so much is taken
+
+-- each amount less what stands against its label
+abbrev lowered : (List ℕ → ℕ) → List Entry → List Entry
+lowered by es = map (λ e. record { label = e.label; amount = e.amount - by e.label }) es
+
+amount-lowered : (by : List ℕ → ℕ) (es : List Entry) (n : List ℕ) → amount_of (lowered by es) n ≡ amount_of es n - by n
+amount-lowered by [] n = omega arith
+amount-lowered by (e ∷ es) n = elim (cases_same e.label n) [
+  | inl same ↦ rw same.0 (ap (λ (t : List ℕ). e.amount - by t) same.1)
+  | inr other ↦ rw other.0 (amount-lowered by es n)
+]
+
+first-lowered : (by : List ℕ → ℕ) (es : List Entry) (n : List ℕ) → stands_first n (lowered by es) ≡ stands_first n es
+first-lowered by [] n = refl
+first-lowered by (e ∷ es) n = ap (λ (t : Bool). text_below n e.label && t) (first-lowered by es n)
+
+in_order-lowered : (by : List ℕ → ℕ) (es : List Entry) → is_in_order (lowered by es) ≡ is_in_order es
+in_order-lowered by [] = refl
+in_order-lowered by (e ∷ es) = λ i. first-lowered by es e.label i && in_order-lowered by es i
+
+pub amount-rest_by : (es : List Entry) (by : List ℕ → ℕ) (n : List ℕ) → IsTrue (is_in_order es) → amount_of (rest_by es by) n ≡ amount_of es n - by n
+amount-rest_by es by n ordered = amount-without_zeros (lowered by es) n (in_order-lowered by es ∙ ordered) ∙ amount-lowered by es n
+
+pub bundle-rest_by : (es : List Entry) (by : List ℕ → ℕ) → IsTrue (is_in_order es) → IsBundle (rest_by es by)
+bundle-rest_by es by ordered = bundle-without_zeros (lowered by es) (in_order-lowered by es ∙ ordered)
+
+-- what is taken at once can be taken one after the other
+pub rest_by-plus : (es : List Entry) (by : List ℕ → ℕ) (bundle : List Entry) → IsTrue (is_in_order es)
+    → rest_by es (λ label. by label + amount_of bundle label) ≡ rest (rest_by es by) bundle
+rest_by-plus es by bundle ordered =
+    let both : List ℕ → ℕ = λ label. by label + amount_of bundle label in
+    let left = bundle-rest_by es by ordered in
+    same_bundles (rest_by es both) (rest (rest_by es by) bundle) (bundle-rest_by es both ordered) (bundle-rest (rest_by es by) bundle left.in_order)
+    (λ n. omega (arith, amount-rest_by es both n ordered, amount-rest_by es by n ordered, amount-rest (rest_by es by) bundle n left.in_order))
+
+-- of nothing taken all is left
+pub rest_by-nothing : (es : List Entry) (by : List ℕ → ℕ) → IsBundle es → ((n : List ℕ) → by n ≡ 0) → rest_by es by ≡ es
+rest_by-nothing es by bundle none =
+    same_bundles (rest_by es by) es (bundle-rest_by es by bundle.in_order) bundle
+    (λ n. omega (arith, amount-rest_by es by n bundle.in_order, none n))

@@ -1,9 +1,10 @@
 -- The allocation cycle.
-use Rattle.std.specs.Prelude.{ℕ, zero, suc, ◌+◌, ◌-◌, sum_by, max, Bool, not, ◌||◌, List, [], ◌∷◌, ◌++◌, length, map, fold, filter, find, Option, Some, None, if◌then◌else◌, nat_le, codes}
+use Rattle.std.specs.Prelude.{ℕ, zero, suc, ◌+◌, max, Bool, not, ◌||◌, List, [], ◌∷◌, ◌++◌, length, map, fold, filter, find, Option, Some, None, if◌then◌else◌, nat_le, codes}
 use Rattle.std.specs.List.{list_all}
 use Rattle.std.specs.Option.{option_map_or}
 use Rattle.drf_role.specs.Text.{same_text}
-use Rattle.drf_bundle.specs.Quantities.{amount_of, without_zeros}
+use Rattle.drf_bundle.specs.Quantities.{amount_of, rest_by}
+use Rattle.drf_rows.specs.Holdings.{holdings_of, held_where, is_on, of_offer}
 use Rattle.drf_bundle.specs.Bundle.{quantities_of}
 use Rattle.drf_bundle.specs.declared.quantities.Entry.{Entry}
 use Rattle.drf_role.specs.Path.{same_path}
@@ -16,18 +17,9 @@ use Rattle.drf_rows.specs.declared.rows.FrameworkRow.{FrameworkRow}
 use Rattle.drf_rows.specs.declared.rows.OfferRow.{OfferRow}
 use Rattle.drf_rows.specs.declared.rows.Rows.{Rows}
 
--- the offers on an agent
-abbrev pub offers_on : Rows → List ℕ → List OfferRow
-offers_on rows agent = filter (λ o. same_text o.agent agent) rows.offers
-
--- how much of a scalar is offered on an agent
-abbrev pub offered_on : Rows → List ℕ → List ℕ → ℕ
-offered_on rows agent label = sum_by (λ o. amount_of (quantities_of o.bundle) label) (offers_on rows agent)
-
--- what is free on an agent: entry by entry, its total less all that is offered there
+-- what is free on an agent: its total less all that is held there
 unfoldable pub free_of : Rows → AgentRow → List Entry
-free_of rows agent =
-    without_zeros (map (λ e. record { label = e.label; amount = e.amount - offered_on rows agent.name e.label }) agent.total)
+free_of rows agent = rest_by agent.total (held_where (is_on agent.name) (holdings_of rows))
 
 -- a grant is worth an offer with 0.01 `cpus` or with 32 `mem`
 abbrev pub is_allocatable : List Entry → Bool
@@ -51,17 +43,22 @@ counted client c = if same_path c.role client.role then record c { count = c.cou
 abbrev pub count_offer : Client → FrameworkRow → FrameworkRow
 count_offer client f = if same_text f.name client.framework then record f { clients = map (counted client) f.clients } else f
 
--- the rows, with a bundle of an agent offered to a client
-unfoldable pub with_offer : Rows → AgentRow → Client → List Entry → Rows
-with_offer rows agent client bundle = record rows {
-  frameworks = map (count_offer client) rows.frameworks;
-  offers = rows.offers ++ record { number = rows.next_offer; agent = agent.name; framework = client.framework; role = client.role; bundle = bundle } ∷ [];
+-- the offer of a bundle that is made next
+abbrev pub new_offer : Rows → AgentRow → Client → List Entry → OfferRow
+new_offer rows agent client bundle =
+    record { number = rows.next_offer; agent = agent.name; framework = client.framework; role = client.role; bundle = bundle }
+
+-- the rows, with one more offer: it stands last, and its client got one more
+unfoldable pub with_offer : Rows → OfferRow → Rows
+with_offer rows offer = record rows {
+  frameworks = map (count_offer (of_offer offer).client) rows.frameworks;
+  offers = rows.offers ++ offer ∷ [];
   next_offer = rows.next_offer + 1;
 }
 
 -- a client is tried: it is offered what it is granted, if anything
 abbrev pub tried : Rows → AgentRow → Client → Rows
-tried rows agent client = option_map_or (with_offer rows agent client) (grant rows agent client) rows
+tried rows agent client = option_map_or (λ bundle. with_offer rows (new_offer rows agent client bundle)) (grant rows agent client) rows
 
 -- clients are tried, one after another
 abbrev pub all_tried : Rows → AgentRow → List Client → Rows

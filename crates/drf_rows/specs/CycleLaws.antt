@@ -1,38 +1,28 @@
 -- The rows with one more offer, and turns step by step.
-use Rattle.std.specs.Prelude.{◌≡◌, ℕ, ◌+◌, ◌-◌, ◌≤◌, Bool, nat_lt, sum_by, true, false, not, List, [], ◌∷◌, ◌++◌, length, map, filter, Option, Some, None, if◌then◌else◌, IsTrue}
+use Rattle.std.specs.Prelude.{◌≡◌, ℕ, ◌+◌, ◌-◌, Bool, true, false, not, List, [], ◌∷◌, ◌++◌, map, filter, Option, Some, None, if◌then◌else◌, IsTrue}
 use Rattle.std.specs.List.{flat_map}
-use Rattle.std.proofs.Common.{refl, ap, ◌∙◌, inl, inr, arith, zero-add, ltb-false}
+use Rattle.std.proofs.Common.{refl, sym, ap, ◌∙◌, inl, inr, cond, arith}
 use Rattle.std.proofs.lemmas.Bool.{cases_Bool}
-use Rattle.std.proofs.lemmas.List.{append-nil, drop_at}
-use Rattle.std.proofs.lemmas.List.Elements.{filter-append}
-use Rattle.std.proofs.lemmas.List.Sums.{sum_by-append}
+use Rattle.std.proofs.lemmas.List.{drop_at}
 use Rattle.std.proofs.lemmas.Grind.{fold-append}
-use Rattle.drf_role.specs.Text.{same_text}
+use Rattle.drf_role.specs.Text.{Text, same_text}
 use Rattle.drf_role.specs.TextLaws.{same_itself}
-use Rattle.drf_bundle.specs.Quantities.{amount_of, without_zeros, rest, is_in_order}
-use Rattle.drf_bundle.specs.Bundle.{quantities_of}
-use Rattle.drf_bundle.specs.QuantitiesLaws.{rest-itself}
-use Rattle.drf_bundle.specs.declared.quantities.Entry.{Entry}
 use Rattle.drf_role.specs.Path.{same_path}
+use Rattle.drf_bundle.specs.Quantities.{amount_of, rest_by, rest, is_in_order}
+use Rattle.drf_bundle.specs.Bundle.{IsBundle, quantities_of}
+use Rattle.drf_bundle.specs.QuantitiesLaws.{rest-itself, rest_by-plus, amount-rest_by, bundle-rest_by}
+use Rattle.drf_bundle.specs.declared.quantities.Entry.{Entry}
 use Rattle.drf_rows.specs.Client.{Client}
+use Rattle.drf_rows.specs.Holdings.{Holding, of_offer, holdings_of, amount_in, held_where, is_on}
+use Rattle.drf_rows.specs.HoldingsLaws.{held_where-with_offer}
 use Rattle.drf_rows.specs.Held.{client_of, clients_of, active_clients}
-use Rattle.drf_rows.specs.Cycle.{offers_on, offered_on, free_of, is_allocatable, grant, counted, count_offer, with_offer, tried, all_tried, turn, turns}
+use Rattle.drf_rows.specs.Cycle.{free_of, is_allocatable, grant, counted, count_offer, new_offer, with_offer, tried, all_tried, turn, turns}
 use Rattle.drf_rows.specs.Step.{new_offers}
 use Rattle.drf_rows.specs.declared.rows.AgentRow.{AgentRow}
 use Rattle.drf_rows.specs.declared.rows.ClientRow.{ClientRow}
 use Rattle.drf_rows.specs.declared.rows.FrameworkRow.{FrameworkRow}
 use Rattle.drf_rows.specs.declared.rows.OfferRow.{OfferRow}
 use Rattle.drf_rows.specs.declared.rows.Rows.{Rows}
-
--- the offer that is made next
-abbrev pub next_offer : Rows → AgentRow → Client → List Entry → OfferRow
-next_offer rows agent client bundle = record {
-  number = rows.next_offer;
-  agent = agent.name;
-  framework = client.framework;
-  role = client.role;
-  bundle = bundle;
-}
 
 -- ---- one more offer
 
@@ -95,81 +85,51 @@ over_frameworks : (client : Client) (h : FrameworkRow → List Client) (fs : Lis
 over_frameworks client h [] same = refl
 over_frameworks client h (f ∷ fs) same = λ i. same f i ++ over_frameworks client h fs same i
 
--- entries, each less an amount of its label
-abbrev less_by : (List ℕ → ℕ) → List Entry → List Entry
-less_by by entries = map (λ e. record { label = e.label; amount = e.amount - by e.label }) entries
-
--- what is taken from entries at once can be taken one after the other
-without_zeros-less_by : (by : List ℕ → ℕ) (bundle entries : List Entry)
-    → without_zeros (less_by (λ label. by label + amount_of bundle label) entries)
-    ≡ rest (without_zeros (less_by by entries)) bundle
-without_zeros-less_by by bundle [] = refl
-without_zeros-less_by by bundle (e ∷ es) =
-    let part : ℕ = amount_of bundle e.label in
-    let later = without_zeros-less_by by bundle es in
-    let split : e.amount - (by e.label + part) ≡ (e.amount - by e.label) - part = omega arith in
-    elim (cases_Bool (nat_lt 0 (e.amount - by e.label))) [
-      | inl some ↦
-          rw (split, some)
-          (ap (λ es. if nat_lt 0 ((e.amount - by e.label) - part)
-          then record { label = e.label; amount = (e.amount - by e.label) - part } ∷ es else es) later)
-      | inr none ↦
-          let nothing : e.amount - by e.label ≤ 0 = ltb-false 0 (e.amount - by e.label) none in
-          let no_rest : e.amount - (by e.label + part) ≡ 0 = omega arith in
-          rw (no_rest, none) later
-    ]
-
-module _ (rows : Rows) (agent : AgentRow) (client : Client) (bundle : List Entry) where
-  pub clients_of-with_offer : clients_of (with_offer rows agent client bundle) ≡ clients_of rows
+module _ (rows : Rows) (offer : OfferRow) where
+  pub clients_of-with_offer : clients_of (with_offer rows offer) ≡ clients_of rows
   unfolding with_offer
   clients_of-with_offer =
-      over_frameworks client (λ f. map (client_of f) f.clients) rows.frameworks (count_offer-clients client)
+      over_frameworks (of_offer offer).client (λ f. map (client_of f) f.clients) rows.frameworks (count_offer-clients (of_offer offer).client)
 
-  pub active_clients-with_offer : active_clients (with_offer rows agent client bundle) ≡ active_clients rows
+  pub active_clients-with_offer : active_clients (with_offer rows offer) ≡ active_clients rows
   unfolding with_offer
   active_clients-with_offer =
-      over_frameworks client (λ f. map (client_of f) (filter (λ c. not c.suppressed) f.clients)) rows.frameworks
-      (count_offer-active client)
+      over_frameworks (of_offer offer).client (λ f. map (client_of f) (filter (λ c. not c.suppressed) f.clients)) rows.frameworks
+      (count_offer-active (of_offer offer).client)
 
-  pub new_offers-with_offer :
-      new_offers rows (with_offer rows agent client bundle) ≡ next_offer rows agent client bundle ∷ []
-  unfolding with_offer
-  new_offers-with_offer = drop_at rows.offers (next_offer rows agent client bundle ∷ []) (length rows.offers) refl
+-- ---- what is free
 
-  -- more is offered on the agent
-  offers_on-with_offer : offers_on (with_offer rows agent client bundle) agent.name
-      ≡ offers_on rows agent.name ++ next_offer rows agent client bundle ∷ []
-  unfolding with_offer
-  offers_on-with_offer =
-      filter-append (λ o. same_text o.agent agent.name) rows.offers (next_offer rows agent client bundle ∷ [])
-      ∙ ap (λ os. offers_on rows agent.name ++ os) (rw (same_itself agent.name))
+-- by its amounts: the total less what is held
+pub amount-free_of : (rows : Rows) (agent : AgentRow) (label : Text) → IsBundle agent.total
+    → amount_of (quantities_of (free_of rows agent)) label ≡ amount_of (quantities_of agent.total) label - held_where (is_on agent.name) (holdings_of rows) label
+unfolding free_of
+amount-free_of rows agent label total = amount-rest_by agent.total (held_where (is_on agent.name) (holdings_of rows)) label total.in_order
 
-  offered_on-with_offer : (label : List ℕ)
-      → offered_on (with_offer rows agent client bundle) agent.name label
-      ≡ offered_on rows agent.name label + amount_of bundle label
-  offered_on-with_offer label =
-      ap (sum_by (λ o. amount_of (quantities_of o.bundle) label)) offers_on-with_offer
-      ∙ sum_by-append (λ o. amount_of (quantities_of o.bundle) label) (offers_on rows agent.name)
-      (next_offer rows agent client bundle ∷ [])
-      ∙ ap (λ n. offered_on rows agent.name label + n) (zero-add (amount_of bundle label))
+pub bundle-free_of : (rows : Rows) (agent : AgentRow) → IsBundle agent.total → IsBundle (free_of rows agent)
+unfolding free_of
+bundle-free_of rows agent total = bundle-rest_by agent.total (held_where (is_on agent.name) (holdings_of rows)) total.in_order
 
-  -- what was free on the agent is less by the bundle
-  pub free_of-with_offer : free_of (with_offer rows agent client bundle) agent ≡ rest (free_of rows agent) bundle
-  unfolding free_of
-  free_of-with_offer =
-      ap (λ by. without_zeros (less_by by agent.total)) (λ i label. offered_on-with_offer label i)
-      ∙ without_zeros-less_by (offered_on rows agent.name) bundle agent.total
+-- on its agent an offer leaves the rest
+pub free_of-with_offer : (rows : Rows) (offer : OfferRow) (agent : AgentRow) → IsBundle agent.total → same_text offer.agent agent.name ≡ true
+    → free_of (with_offer rows offer) agent ≡ rest (free_of rows agent) offer.bundle
+unfolding free_of
+free_of-with_offer rows offer agent total here =
+    let more : (label : Text) → held_where (is_on agent.name) (holdings_of (with_offer rows offer)) label
+    ≡ held_where (is_on agent.name) (holdings_of rows) label + amount_of offer.bundle label
+    = λ label. held_where-with_offer (is_on agent.name) rows offer label
+    ∙ ap (λ (b : Bool). held_where (is_on agent.name) (holdings_of rows) label + cond b (amount_in label (of_offer offer)) 0) here in
+    ap (rest_by agent.total) (λ i label. more label i)
+    ∙ rest_by-plus agent.total (held_where (is_on agent.name) (holdings_of rows)) offer.bundle total.in_order
 
-  -- on other agents it stays
-  pub free_of-with_offer_other : (other : AgentRow) → same_text agent.name other.name ≡ false
-      → free_of (with_offer rows agent client bundle) other ≡ free_of rows other
-  unfolding with_offer free_of
-  free_of-with_offer_other other apart =
-      let same : offers_on (with_offer rows agent client bundle) other.name ≡ offers_on rows other.name =
-      filter-append (λ o. same_text o.agent other.name) rows.offers (next_offer rows agent client bundle ∷ [])
-      ∙ ap (λ os. offers_on rows other.name ++ os) (rw apart)
-      ∙ append-nil (offers_on rows other.name) in
-      ap (λ os. without_zeros (less_by (λ label. sum_by (λ o. amount_of (quantities_of o.bundle) label) os) other.total)) same
+-- on other agents all that was free
+pub free_of-with_offer_other : (rows : Rows) (offer : OfferRow) (agent : AgentRow) → same_text offer.agent agent.name ≡ false
+    → free_of (with_offer rows offer) agent ≡ free_of rows agent
+unfolding free_of
+free_of-with_offer_other rows offer agent past =
+    let stays : (label : Text) → held_where (is_on agent.name) (holdings_of (with_offer rows offer)) label ≡ held_where (is_on agent.name) (holdings_of rows) label
+    = λ label. held_where-with_offer (is_on agent.name) rows offer label
+    ∙ ap (λ (b : Bool). held_where (is_on agent.name) (holdings_of rows) label + cond b (amount_in label (of_offer offer)) 0) past ∙ omega arith in
+    ap (rest_by agent.total) (λ i label. stays label i)
 
 -- ---- turns
 
@@ -187,22 +147,24 @@ all_tried_none rows agent (c ∷ cs) little = rw little (all_tried_none rows age
 -- and else the first is granted all that is free
 pub all_tried_first : (rows : Rows) (agent : AgentRow) (c : Client) (cs : List Client)
     → is_allocatable (free_of rows agent) ≡ true
-    → IsTrue (is_in_order (free_of rows agent))
-    → all_tried rows agent (c ∷ cs) ≡ with_offer rows agent c (free_of rows agent)
-all_tried_first rows agent c cs enough ordered =
-    let after : Rows = with_offer rows agent c (free_of rows agent) in
+    → IsBundle agent.total
+    → all_tried rows agent (c ∷ cs) ≡ with_offer rows (new_offer rows agent c (free_of rows agent))
+all_tried_first rows agent c cs enough total =
+    let offer : OfferRow = new_offer rows agent c (free_of rows agent) in
+    let after : Rows = with_offer rows offer in
     let left : free_of after agent ≡ [] =
-    free_of-with_offer rows agent c (free_of rows agent) ∙ rest-itself (free_of rows agent) ordered in
+    free_of-with_offer rows offer agent total (same_itself agent.name)
+    ∙ rest-itself (free_of rows agent) (bundle-free_of rows agent total).in_order in
     rw enough (all_tried_none after agent cs (ap is_allocatable left))
 
 -- so is a client that is granted it
 pub all_tried_granted : (rows : Rows) (agent : AgentRow) (c : Client) (cs : List Client)
     → grant rows agent c ≡ Some (free_of rows agent)
-    → IsTrue (is_in_order (free_of rows agent))
-    → all_tried rows agent (c ∷ cs) ≡ with_offer rows agent c (free_of rows agent)
-all_tried_granted rows agent c cs granted ordered =
+    → IsBundle agent.total
+    → all_tried rows agent (c ∷ cs) ≡ with_offer rows (new_offer rows agent c (free_of rows agent))
+all_tried_granted rows agent c cs granted total =
     elim (cases_Bool (is_allocatable (free_of rows agent))) [
-      | inl enough ↦ all_tried_first rows agent c cs enough ordered
+      | inl enough ↦ all_tried_first rows agent c cs enough total
       | inr little ↦
           let none : ◌≡◌ {A = Option (List Entry)} None (Some (free_of rows agent)) = rw little at granted in
           cc

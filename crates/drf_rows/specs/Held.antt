@@ -1,16 +1,17 @@
 -- Who is registered, what they hold, and what there is, by the rows.
 use Rattle.std.specs.Prelude.{ℕ, not, List, [], map, fold, filter, find, flat_map, sum_by}
 use Rattle.std.specs.Option.{option_map_or}
-use Rattle.drf_bundle.specs.Quantities.{amount_of, plus}
+use Rattle.drf_role.specs.Text.{Text}
+use Rattle.drf_role.specs.Path.{Path, same_path, begins_with}
+use Rattle.drf_bundle.specs.Quantities.{plus}
 use Rattle.drf_bundle.specs.Bundle.{quantities_of}
 use Rattle.drf_bundle.specs.declared.quantities.Entry.{Entry}
-use Rattle.drf_role.specs.Path.{same_path, begins_with}
 use Rattle.drf_rows.specs.Client.{Client, path_of}
+use Rattle.drf_rows.specs.Holdings.{holdings_of, held_where, is_under}
 use Rattle.drf_rows.specs.Share.{Standing}
 use Rattle.drf_rows.specs.declared.rows.AgentRow.{AgentRow}
 use Rattle.drf_rows.specs.declared.rows.ClientRow.{ClientRow}
 use Rattle.drf_rows.specs.declared.rows.FrameworkRow.{FrameworkRow}
-use Rattle.drf_rows.specs.declared.rows.OfferRow.{OfferRow}
 use Rattle.drf_rows.specs.declared.rows.WeightRow.{WeightRow}
 use Rattle.drf_rows.specs.declared.rows.Rows.{Rows}
 
@@ -26,20 +27,12 @@ clients_of rows = flat_map (λ f. map (client_of f) f.clients) rows.frameworks
 abbrev pub active_clients : Rows → List Client
 active_clients rows = flat_map (λ f. map (client_of f) (filter (λ c. not c.suppressed) f.clients)) rows.frameworks
 
--- the client that an offer was made to
-abbrev pub offered_to : OfferRow → Client
-offered_to offer = record { role = offer.role; framework = offer.framework }
-
--- the offers to the clients of a node
-abbrev pub offers_under : Rows → List (List ℕ) → List OfferRow
-offers_under rows node = filter (λ o. begins_with (path_of (offered_to o)) node) rows.offers
-
 -- how much of a scalar the clients of a node hold
-abbrev pub held_by : Rows → List (List ℕ) → List ℕ → ℕ
-held_by rows node label = sum_by (λ o. amount_of (quantities_of o.bundle) label) (offers_under rows node)
+abbrev pub held_by : Rows → Path → Text → ℕ
+held_by rows node label = held_where (is_under node) (holdings_of rows) label
 
 -- the offers that the clients of a node got, counted
-abbrev pub count_of : Rows → List (List ℕ) → ℕ
+abbrev pub count_of : Rows → Path → ℕ
 count_of rows node =
     sum_by (λ f. sum_by (λ c. c.count) (filter (λ c. begins_with (path_of (client_of f c)) node) f.clients)) rows.frameworks
 
@@ -48,7 +41,7 @@ abbrev pub cluster_total : List AgentRow → List Entry
 cluster_total agents = fold (λ sum agent. plus sum (quantities_of agent.total)) [] agents
 
 -- the weight of a role that has a row; every other node has weight 1
-abbrev pub weight_of : List WeightRow → List (List ℕ) → ℕ
+abbrev pub weight_of : List WeightRow → Path → ℕ
 weight_of weights node = option_map_or (λ w. w.weight) (find (λ w. same_path w.role node) weights) 1000
 
 -- what the order of clients depends on

@@ -1,12 +1,13 @@
 -- What is proved of the definitions.
 use Rattle.std.specs.Prelude.{◌≡◌, ◌+◌, true, false, List, ◌∷◌, ◌++◌, ℕ, map, length, Some, None, IsTrue}
 use Rattle.std.specs.List.Sorted.{IsPermutation}
-use Rattle.drf_bundle.specs.Quantities.{is_in_order}
+use Rattle.drf_role.specs.Path.{Path}
+use Rattle.drf_bundle.specs.Bundle.{IsBundle}
 use Rattle.drf_rows.specs.LimitNumbers.{LimitNumbers}
 use Rattle.drf_rows.specs.Client.{Client, path_of}
 use Rattle.drf_rows.specs.Share.{Standing, stands_before, is_serving_order}
-use Rattle.drf_rows.specs.Cycle.{free_of, is_allocatable, grant, with_offer, all_tried, serving_order}
-use Rattle.drf_rows.specs.Step.{refusal_of, effect, answer, rows_after, reply_to, rows_after_all, replies_to}
+use Rattle.drf_rows.specs.Cycle.{free_of, is_allocatable, grant, new_offer, with_offer, all_tried, serving_order}
+use Rattle.drf_rows.specs.Step.{live_rows, refusal_of, effect, answer, rows_after, reply_to, rows_after_all, replies_to}
 use Rattle.drf_rows.specs.declared.rows.AgentRow.{AgentRow}
 use Rattle.drf_rows.specs.declared.rows.Rows.{Rows}
 use Rattle.drf_rows.specs.declared.event.Event.{Event}
@@ -15,17 +16,17 @@ use Rattle.drf_rows.specs.declared.reply.Reply.TheVariants.{Refused}
 
 -- no path stands before itself
 abbrev pub NoneBeforeItself : Type 0
-NoneBeforeItself = (s : Standing) (path : List (List ℕ)) → stands_before s path path ≡ false
+NoneBeforeItself = (s : Standing) (path : Path) → stands_before s path path ≡ false
 
 -- of two paths at most one stands before the other
 abbrev pub AtMostOneBefore : Type 0
 AtMostOneBefore =
-    (s : Standing) (a b : List (List ℕ)) → stands_before s a b ≡ true → stands_before s b a ≡ false
+    (s : Standing) (a b : Path) → stands_before s a b ≡ true → stands_before s b a ≡ false
 
 -- where the paths of some clients stand in a serving order, a turn serves the clients in that order
 abbrev pub OneServingOrder : Type 0
 OneServingOrder =
-    (s : Standing) (clients : List Client) (paths : List (List (List ℕ)))
+    (s : Standing) (clients : List Client) (paths : List Path)
     → IsPermutation (map path_of clients) paths
     → IsTrue (is_serving_order s paths)
     → map path_of (serving_order s (length clients) clients) ≡ paths
@@ -42,8 +43,8 @@ abbrev pub FirstIsGrantedAll : Type 0
 FirstIsGrantedAll =
     (rows : Rows) (agent : AgentRow) (first : Client) (others : List Client)
     → grant rows agent first ≡ Some (free_of rows agent)
-    → IsTrue (is_in_order (free_of rows agent))
-    → all_tried rows agent (first ∷ others) ≡ with_offer rows agent first (free_of rows agent)
+    → IsBundle agent.total
+    → all_tried rows agent (first ∷ others) ≡ with_offer rows (new_offer rows agent first (free_of rows agent))
 
 -- a refused event is told so, and changes nothing
 abbrev pub RefusedChangesNothing : Type 0
@@ -67,3 +68,22 @@ RunsGoOn =
     → (replies_to limits rows (first ++ second)
     ≡ replies_to limits rows first ++ replies_to limits (rows_after_all limits rows first) second)
     × (rows_after_all limits rows (first ++ second) ≡ rows_after_all limits (rows_after_all limits rows first) second)
+
+-- spent filters change no reply
+abbrev pub LiveRowsReply : Type 0
+LiveRowsReply =
+    (limits : LimitNumbers) (rows : Rows) (event : Event)
+    → reply_to limits (live_rows rows) event ≡ reply_to limits rows event
+
+-- nor the live rows after an event
+abbrev pub LiveRowsGoOn : Type 0
+LiveRowsGoOn =
+    (limits : LimitNumbers) (rows : Rows) (event : Event)
+    → live_rows (rows_after limits (live_rows rows) event) ≡ live_rows (rows_after limits rows event)
+
+-- the same of a run
+abbrev pub LiveRowsRun : Type 0
+LiveRowsRun =
+    (limits : LimitNumbers) (rows : Rows) (events : List Event)
+    → (replies_to limits (live_rows rows) events ≡ replies_to limits rows events)
+    × (live_rows (rows_after_all limits (live_rows rows) events) ≡ live_rows (rows_after_all limits rows events))

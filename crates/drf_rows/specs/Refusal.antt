@@ -1,5 +1,6 @@
 -- The numbers and the names that refusals are told by.
-use Rattle.std.specs.Prelude.{ℕ, List, codes}
+use Rattle.std.specs.Prelude.{ℕ, codes}
+use Rattle.drf_role.specs.Text.{Text}
 use Rattle.drf_rows.specs.declared.reply.Refusal.{Refusal}
 use Rattle.drf_rows.specs.declared.reply.Refusal.TheVariants.{HistoryFull, BadMoment, KnownAgent, KnownFramework, Empty, TooLarge, TooMany}
 
@@ -14,7 +15,7 @@ number_of TooLarge = 18
 number_of TooMany = 19
 
 -- the name of a refusal
-abbrev pub name_of : Refusal → List ℕ
+abbrev pub name_of : Refusal → Text
 name_of HistoryFull = codes "HistoryFull"
 name_of BadMoment = codes "BadMoment"
 name_of KnownAgent = codes "KnownAgent"

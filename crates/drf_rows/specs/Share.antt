@@ -3,7 +3,8 @@
 -- order of siblings, are those of the Mesos hierarchical sorter.
 use Rattle.std.specs.Prelude.{ℕ, ◌*◌, Bool, true, false, ◌&&◌, ◌||◌, List, [], ◌∷◌, ◌++◌, map, if◌then◌else◌, nat_lt, ◌==◌}
 use Rattle.std.specs.List.{filter, list_all}
-use Rattle.drf_role.specs.Text.{same_text, text_below}
+use Rattle.drf_role.specs.Text.{Text, same_text, text_below}
+use Rattle.drf_role.specs.Path.{Path}
 use Rattle.drf_bundle.specs.declared.quantities.Entry.{Entry}
 
 -- part / whole
@@ -29,25 +30,25 @@ greatest (f ∷ fs) = greater f (greatest fs)
 -- what the order of clients depends on
 pub record Standing : Type 0 where
   -- how much of a scalar a node holds
-  pub held : List (List ℕ) → List ℕ → ℕ
+  pub held : Path → Text → ℕ
   -- how many offers were made to the clients of a node
-  pub count : List (List ℕ) → ℕ
+  pub count : Path → ℕ
   -- how much of each scalar there is in the cluster
   pub total : List Entry
   -- the weight of a node, in thousandths
-  pub weight : List (List ℕ) → ℕ
+  pub weight : Path → ℕ
 
 -- held/total of each scalar that there is
-abbrev pub fractions_of : Standing → List (List ℕ) → List Fraction
+abbrev pub fractions_of : Standing → Path → List Fraction
 fractions_of s node =
     map (λ e. record { part = s.held node e.label; whole = e.amount }) (filter (λ e. nat_lt 0 e.amount) s.total)
 
 -- the dominant share of a node
-abbrev pub share_of : Standing → List (List ℕ) → Fraction
+abbrev pub share_of : Standing → Path → Fraction
 share_of s node = greatest (fractions_of s node)
 
 -- the dominant share, divided by the node's weight
-abbrev pub weighted_share_of : Standing → List (List ℕ) → Fraction
+abbrev pub weighted_share_of : Standing → Path → Fraction
 weighted_share_of s node = record {
   part = (share_of s node).part * 1000;
   whole = (share_of s node).whole * s.weight node;
@@ -55,7 +56,7 @@ weighted_share_of s node = record {
 
 -- of two siblings, the one of the less weighted share is served first, then that of the less count, and then the one
 -- whose name is less by bytes
-unfoldable pub is_ahead : Standing → List (List ℕ) → List ℕ → List ℕ → Bool
+unfoldable pub is_ahead : Standing → Path → Text → Text → Bool
 is_ahead s parent a b =
     is_less (weighted_share_of s (parent ++ a ∷ [])) (weighted_share_of s (parent ++ b ∷ []))
     || (is_same (weighted_share_of s (parent ++ a ∷ [])) (weighted_share_of s (parent ++ b ∷ []))
@@ -63,17 +64,17 @@ is_ahead s parent a b =
     || (s.count (parent ++ a ∷ []) == s.count (parent ++ b ∷ []) && text_below a b)))
 
 -- below a node that two paths share, the first parts where they differ decide
-abbrev pub stands_before_below : Standing → List (List ℕ) → List (List ℕ) → List (List ℕ) → Bool
+abbrev pub stands_before_below : Standing → Path → Path → Path → Bool
 stands_before_below s parent [] others = false
 stands_before_below s parent (a ∷ below_a) [] = false
 stands_before_below s parent (a ∷ below_a) (b ∷ below_b) =
     if same_text a b then stands_before_below s (parent ++ a ∷ []) below_a below_b else is_ahead s parent a b
 
 -- the first client path is served before the second
-abbrev pub stands_before : Standing → List (List ℕ) → List (List ℕ) → Bool
+abbrev pub stands_before : Standing → Path → Path → Bool
 stands_before s a b = stands_before_below s [] a b
 
 -- each path stands before all later ones
-abbrev pub is_serving_order : Standing → List (List (List ℕ)) → Bool
+abbrev pub is_serving_order : Standing → List Path → Bool
 is_serving_order s [] = true
 is_serving_order s (path ∷ paths) = list_all (stands_before s path) paths && is_serving_order s paths

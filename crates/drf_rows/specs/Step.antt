@@ -2,13 +2,14 @@
 use Rattle.std.specs.Prelude.{ℕ, ◌+◌, Bool, true, false, not, ◌||◌, List, [], ◌∷◌, ◌++◌, length, map, filter, drop, Option, Some, None, if◌then◌else◌, nat_lt, nat_le}
 use Rattle.std.specs.List.{list_any}
 use Rattle.std.specs.Option.{option_map_or}
-use Rattle.drf_role.specs.Text.{same_text}
+use Rattle.drf_role.specs.Text.{Text, same_text}
 use Rattle.drf_bundle.specs.Bundle.{quantities_of}
 use Rattle.drf_bundle.specs.declared.quantities.Entry.{Entry}
 use Rattle.drf_rows.specs.LimitNumbers.{LimitNumbers}
-use Rattle.drf_role.specs.Path.{same_path}
+use Rattle.drf_role.specs.Path.{Path, same_path}
 use Rattle.drf_rows.specs.Held.{cluster_total, clients_of}
 use Rattle.drf_rows.specs.Cycle.{cycle}
+use Rattle.drf_rows.specs.declared.limits.TheConstants.{LATEST_MOMENT, LARGEST_AMOUNT}
 use Rattle.drf_rows.specs.declared.rows.AgentRow.{AgentRow}
 use Rattle.drf_rows.specs.declared.rows.ClientRow.{ClientRow}
 use Rattle.drf_rows.specs.declared.rows.FrameworkRow.{FrameworkRow}
@@ -24,41 +25,44 @@ use Rattle.drf_rows.specs.declared.reply.OfferLine.{OfferLine}
 
 -- the rows of an allocator that has just been opened
 abbrev pub opening : Rows
-opening = record { agents = []; frameworks = []; offers = []; weights = []; clock = 0; next_offer = 1; accepted = 0 }
+opening = record {
+  agents = [];
+  frameworks = [];
+  offers = [];
+  tasks = [];
+  weights = [];
+  limits = [];
+  filters = [];
+  clock = 0;
+  next_offer = 1;
+  accepted = 0;
+}
 
--- the rows that still tell of something: all of them, as there are no filters yet that could have run out
+-- the rows that still tell of something: all but the filters that are not in force
 abbrev pub live_rows : Rows → Rows
-live_rows rows = rows
+live_rows rows = record rows { filters = filter (λ f. nat_lt rows.clock f.until) rows.filters }
 
--- the greatest moment, in milliseconds
-abbrev pub latest_moment : ℕ
-latest_moment = 4611686018427387904
-
--- the greatest amount of a scalar on one agent, in thousandths
-abbrev pub largest_amount : ℕ
-largest_amount = 1099511627775
-
-abbrev pub has_agent : Rows → List ℕ → Bool
+abbrev pub has_agent : Rows → Text → Bool
 has_agent rows name = list_any (λ a. same_text a.name name) rows.agents
 
-abbrev pub has_framework : Rows → List ℕ → Bool
+abbrev pub has_framework : Rows → Text → Bool
 has_framework rows name = list_any (λ f. same_text f.name name) rows.frameworks
 
 -- each role once, where it first stands
-abbrev pub distinct : List (List (List ℕ)) → List (List (List ℕ))
+abbrev pub distinct : List Path → List Path
 distinct [] = []
 distinct (role ∷ roles) = role ∷ filter (λ r. not (same_path role r)) (distinct roles)
 
 -- the agents' rows, with one that registers last
-abbrev pub with_agent : Rows → List ℕ → List Entry → List AgentRow
+abbrev pub with_agent : Rows → Text → List Entry → List AgentRow
 with_agent rows name total = rows.agents ++ record { name = name; total = total; active = true } ∷ []
 
 -- a client of a framework that registers
-abbrev pub new_client : List (List ℕ) → ClientRow
+abbrev pub new_client : Path → ClientRow
 new_client role = record { role = role; count = 0; suppressed = false }
 
 -- the frameworks' rows, with one that registers last
-abbrev pub with_framework : Rows → List ℕ → List (List (List ℕ)) → List FrameworkRow
+abbrev pub with_framework : Rows → Text → List Path → List FrameworkRow
 with_framework rows name roles = rows.frameworks ++ record { name = name; clients = map new_client (distinct roles) } ∷ []
 
 abbrev pub is_full : LimitNumbers → Rows → Bool
@@ -69,7 +73,7 @@ abbrev pub too_many_agents : LimitNumbers → List AgentRow → Bool
 too_many_agents limits agents = nat_lt limits.agents (length agents) || nat_lt limits.scalar_names (length (cluster_total agents))
 
 -- the frameworks, the roles of this one, or the clients would be too many
-abbrev pub too_many_frameworks : LimitNumbers → Rows → List (List (List ℕ)) → Bool
+abbrev pub too_many_frameworks : LimitNumbers → Rows → List Path → Bool
 too_many_frameworks limits rows roles =
     nat_lt limits.frameworks (length rows.frameworks + 1)
     || (nat_lt limits.roles (length (distinct roles)) || nat_lt limits.clients (length (clients_of rows) + length (distinct roles)))
@@ -88,7 +92,7 @@ unfoldable pub refusal_of : LimitNumbers → Rows → Event → Option Refusal
 refusal_of limits rows (AddAgent agent total) = first_case (
     (is_full limits rows, HistoryFull)
     ∷ (has_agent rows agent, KnownAgent)
-    ∷ (list_any (λ e. nat_lt largest_amount e.amount) (quantities_of total), TooLarge)
+    ∷ (list_any (λ e. nat_lt LARGEST_AMOUNT e.amount) (quantities_of total), TooLarge)
     ∷ (too_many_agents limits (with_agent rows agent total), TooMany)
     ∷ [])
 refusal_of limits rows (AddFramework framework roles) = first_case (
@@ -99,7 +103,7 @@ refusal_of limits rows (AddFramework framework roles) = first_case (
     ∷ [])
 refusal_of limits rows (Cycle at) = first_case (
     (is_full limits rows, HistoryFull)
-    ∷ (nat_lt latest_moment at, BadMoment)
+    ∷ (nat_lt LATEST_MOMENT at, BadMoment)
     ∷ [])
 
 -- the rows after an event that is not refused

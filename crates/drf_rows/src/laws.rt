@@ -5,7 +5,7 @@
 ghost use Rattle.std.specs.Prelude.{◌≡◌, [], ◌∷◌, codes};
 ghost use Rattle.drf_rows.specs.LimitNumbers.{ceilings};
 ghost use Rattle.drf_rows.specs.Step.{opening, replies_to};
-ghost use Rattle.drf_rows.specs.Laws.{NoneBeforeItself, AtMostOneBefore, OneServingOrder, TooLittleIsNotGranted, FirstIsGrantedAll, RefusedChangesNothing, AcceptedIsCounted, RunsGoOn};
+ghost use Rattle.drf_rows.specs.Laws.{NoneBeforeItself, AtMostOneBefore, OneServingOrder, TooLittleIsNotGranted, FirstIsGrantedAll, RefusedChangesNothing, AcceptedIsCounted, RunsGoOn, LiveRowsReply, LiveRowsGoOn, LiveRowsRun};
 ghost use Rattle.drf_rows.specs.Examples.{one_cycle, two_cycles, two_cycles_replies, two_frameworks, two_frameworks_replies, replies_with, not_offered, offered_whole, refused_as_too_large, one_agent, two_agents, two_events, two_names, three_names, one_framework, one_client, two_registrations, one_role, roles_listed, cpus, mem, gpus};
 ghost use Rattle.drf_rows.specs.OrderExamples.{served, close_shares, equal_shares, weighted_shares, shares_of, first_agent, second_agent, role_tree, more_for_ops, half_weight_of_eng, nothing_held};
 
@@ -29,6 +29,13 @@ pub fn step_law()
     ensures refused { RefusedChangesNothing }
     ensures accepted { AcceptedIsCounted }
     ensures runs { RunsGoOn }
+{}
+
+/// The filters that are no longer in force change no reply, and no live row.
+pub fn live_rows_law()
+    ensures reply { LiveRowsReply }
+    ensures go_on { LiveRowsGoOn }
+    ensures run { LiveRowsRun }
 {}
 
 /// What is offered is not offered again, and each offer changes who is served first.

@@ -7,15 +7,15 @@ mod limits;
 mod reply;
 mod rows;
 mod table;
-#[cfg(test)]
-mod tests;
 
 pub use event::Event;
 pub use laws::{
-    cycles_example, least_offer_example, limits_example, order_example, serving_order_law,
-    step_law, turn_law,
+    cycles_example, least_offer_example, limits_example, live_rows_law, order_example,
+    serving_order_law, step_law, turn_law,
 };
-pub use limits::Limits;
+pub use limits::{LARGEST_AMOUNT, LATEST_MOMENT, Limits};
 pub use reply::{OfferLine, Refusal, Reply};
-pub use rows::{AgentRow, ClientRow, FrameworkRow, OfferRow, Rows, WeightRow};
+pub use rows::{
+    AgentRow, ClientRow, FilterRow, FrameworkRow, LimitRow, OfferRow, Rows, TaskRow, WeightRow,
+};
 pub use table::Table;

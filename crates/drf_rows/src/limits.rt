@@ -4,6 +4,12 @@ ghost use Rattle.drf_rows.specs.LimitNumbers.{LimitNumbers, ceilings, IsWithin, 
 
 use std::marker::Model;
 
+/// The latest moment of an event, in milliseconds.
+pub const LATEST_MOMENT: u64 = 1 << 62;
+
+/// The greatest amount of a scalar on one agent, in thousandths.
+pub const LARGEST_AMOUNT: u64 = (1 << 40) - 1;
+
 /// How large each table of the allocator may grow. Each number is at least 1 and at most its ceiling.
 #[derive(Clone, Copy, Debug)]
 pub struct Limits {

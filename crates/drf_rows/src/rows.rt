@@ -1,5 +1,5 @@
 use crate::table::Table;
-use drf_bundle::Bundle;
+use drf_bundle::{Bundle, Quantities};
 use drf_role::{Name, Role};
 
 /// A registered agent with all its resources.
@@ -35,11 +35,38 @@ pub struct OfferRow {
     pub bundle: Bundle,
 }
 
+/// A task that runs. Its name is its framework's: another framework may have a task of that name.
+#[derive(Debug, Drop)]
+pub struct TaskRow {
+    pub name: Name,
+    pub agent: Name,
+    pub framework: Name,
+    pub role: Role,
+    pub bundle: Bundle,
+}
+
 /// The weight of a role, in thousandths.
 #[derive(Debug, Drop)]
 pub struct WeightRow {
     pub role: Role,
     pub weight: u64,
+}
+
+/// The quota limit of a role: the most that it may consume of each scalar named, in thousandths.
+#[derive(Debug, Drop)]
+pub struct LimitRow {
+    pub role: Role,
+    pub limit: Quantities,
+}
+
+/// A filter of a client on an agent: what its bundle covers is not offered before a moment in milliseconds.
+#[derive(Debug, Drop)]
+pub struct FilterRow {
+    pub framework: Name,
+    pub role: Role,
+    pub agent: Name,
+    pub bundle: Bundle,
+    pub until: u64,
 }
 
 /// All that the allocator knows.
@@ -48,7 +75,10 @@ pub struct Rows {
     pub agents: Table<AgentRow>,
     pub frameworks: Table<FrameworkRow>,
     pub offers: Table<OfferRow>,
+    pub tasks: Table<TaskRow>,
     pub weights: Table<WeightRow>,
+    pub limits: Table<LimitRow>,
+    pub filters: Table<FilterRow>,
     pub clock: u64,
     pub next_offer: u64,
     pub accepted: u64,

@@ -1,0 +1,82 @@
+-- What holds of the rows of an allocator at all times, rule by rule, each over the tables that it reads.
+use Rattle.std.specs.Prelude.{◌≡◌, ℕ, ◌+◌, ◌*◌, ◌^◌, ◌<◌, ◌≤◌, Bool, true, not, ◌&&◌, List, [], ◌∷◌, map, sum_by, nat_lt}
+use Rattle.std.specs.List.{list_all, list_any, AllByRecursion}
+use Rattle.drf_role.specs.Text.{Text, same_text}
+use Rattle.drf_role.specs.Path.{Path, same_path}
+use Rattle.drf_bundle.specs.Quantities.{amount_of}
+use Rattle.drf_bundle.specs.Bundle.{IsBundle, quantities_of}
+use Rattle.drf_rows.specs.Client.{Client}
+use Rattle.drf_rows.specs.Holdings.{Holding, holdings_of, held_where, is_on}
+use Rattle.drf_rows.specs.Cycle.{free_of}
+use Rattle.drf_rows.specs.declared.limits.TheConstants.{LARGEST_AMOUNT}
+use Rattle.drf_rows.specs.declared.rows.AgentRow.{AgentRow}
+use Rattle.drf_rows.specs.declared.rows.ClientRow.{ClientRow}
+use Rattle.drf_rows.specs.declared.rows.FrameworkRow.{FrameworkRow}
+use Rattle.drf_rows.specs.declared.rows.Rows.{Rows}
+
+-- no name stands twice
+abbrev pub are_distinct : List Text → Bool
+are_distinct [] = true
+are_distinct (text ∷ texts) = list_all (λ t. not (same_text text t)) texts && are_distinct texts
+
+-- no role stands twice
+abbrev pub are_distinct_roles : List Path → Bool
+are_distinct_roles [] = true
+are_distinct_roles (role ∷ roles) = list_all (λ r. not (same_path role r)) roles && are_distinct_roles roles
+
+-- an agent has a bundle, of which no scalar is too large
+pub record IsAgent (agent : AgentRow) : Type 0 where
+  pub total : IsBundle agent.total
+  pub small : (label : Text) → amount_of (quantities_of agent.total) label ≤ LARGEST_AMOUNT
+
+pub record AreAgents (agents : List AgentRow) : Type 0 where
+  pub names : are_distinct (map (λ a. a.name) agents) ≡ true
+  pub each : AllByRecursion IsAgent agents
+
+-- a framework has one client for each of its roles
+pub record AreFrameworks (frameworks : List FrameworkRow) : Type 0 where
+  pub names : are_distinct (map (λ f. f.name) frameworks) ≡ true
+  pub roles : AllByRecursion (λ f. are_distinct_roles (map (λ c. c.role) f.clients) ≡ true) frameworks
+
+-- the framework is registered in the role
+abbrev pub is_registered : List FrameworkRow → Client → Bool
+is_registered frameworks client =
+    list_any (λ f. same_text f.name client.framework && list_any (λ c. same_path c.role client.role) f.clients) frameworks
+
+-- a registered client holds a bundle on a registered agent
+pub record IsHeld (agents : List AgentRow) (frameworks : List FrameworkRow) (h : Holding) : Type 0 where
+  pub agent : list_any (λ a. same_text a.name h.agent) agents ≡ true
+  pub client : is_registered frameworks h.client ≡ true
+  pub bundle : IsBundle h.bundle
+
+-- on an agent no more is held than there is
+abbrev pub IsCovered : List Holding → AgentRow → Type 0
+IsCovered holdings agent =
+    (label : Text) → held_where (is_on agent.name) holdings label ≤ amount_of (quantities_of agent.total) label
+
+-- how many offers were made to the clients that are registered
+abbrev pub offers_counted : List FrameworkRow → ℕ
+offers_counted frameworks = sum_by (λ f. sum_by (λ c. c.count) f.clients) frameworks
+
+-- each number is below all later ones, and below the next
+abbrev pub are_rising : List ℕ → ℕ → Bool
+are_rising [] next = true
+are_rising (n ∷ ns) next = nat_lt n next && list_all (nat_lt n) ns && are_rising ns next
+
+pub record IsConsistent (rows : Rows) : Type 0 where
+  pub agents : AreAgents rows.agents
+  pub frameworks : AreFrameworks rows.frameworks
+  pub holdings : AllByRecursion (IsHeld rows.agents rows.frameworks) (holdings_of rows)
+  pub covered : AllByRecursion (IsCovered (holdings_of rows)) rows.agents
+  pub counted : offers_counted rows.frameworks < rows.next_offer
+  pub numbered : are_rising (map (λ o. o.number) rows.offers) rows.next_offer ≡ true
+
+-- a cycle makes at most 2^24 offers, so that numbers of offers stay at most 2^56
+abbrev pub IsNumberedByEvents : Rows → Type 0
+IsNumberedByEvents rows = rows.next_offer ≤ 1 + rows.accepted * 2 ^ 24
+
+-- nothing on the agent is granted twice: its total is what is free there and what is held there
+abbrev pub IsConserved : Rows → AgentRow → Type 0
+IsConserved rows agent = (label : Text)
+    → amount_of (quantities_of (free_of rows agent)) label + held_where (is_on agent.name) (holdings_of rows) label
+    ≡ amount_of (quantities_of agent.total) label

@@ -1,0 +1,39 @@
+-- What ends: one word for all events by which holdings end.
+use Rattle.std.specs.Prelude.{ℕ, ◌==◌, Bool, false, not, ◌&&◌, filter}
+use Rattle.drf_role.specs.Text.{Text, same_text}
+use Rattle.drf_rows.specs.declared.rows.OfferRow.{OfferRow}
+use Rattle.drf_rows.specs.declared.rows.TaskRow.{TaskRow}
+use Rattle.drf_rows.specs.declared.rows.Rows.{Rows}
+
+pub data Ending : Type 0 where
+  -- the offer of a number
+  one_offer : ℕ → Ending
+  -- the task of a framework and a name
+  one_task : Text → Text → Ending
+  -- the offers on an agent
+  offers_on : Text → Ending
+  -- all that is held on an agent
+  all_on : Text → Ending
+  -- all that a framework holds
+  all_of : Text → Ending
+
+abbrev pub ends_offer : Ending → OfferRow → Bool
+ends_offer (one_offer number) o = o.number == number
+ends_offer (one_task framework name) o = false
+ends_offer (offers_on agent) o = same_text o.agent agent
+ends_offer (all_on agent) o = same_text o.agent agent
+ends_offer (all_of framework) o = same_text o.framework framework
+
+abbrev pub ends_task : Ending → TaskRow → Bool
+ends_task (one_offer number) t = false
+ends_task (one_task framework name) t = same_text t.framework framework && same_text t.name name
+ends_task (offers_on agent) t = false
+ends_task (all_on agent) t = same_text t.agent agent
+ends_task (all_of framework) t = same_text t.framework framework
+
+-- the rows without what ends; the other rows close up
+abbrev pub without_ended : Rows → Ending → Rows
+without_ended rows ending = record rows {
+  offers = filter (λ o. not (ends_offer ending o)) rows.offers;
+  tasks = filter (λ t. not (ends_task ending t)) rows.tasks;
+}

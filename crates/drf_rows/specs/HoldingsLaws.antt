@@ -1,0 +1,111 @@
+-- What a holding that is added, and holdings that end, change in what is held.
+use Rattle.std.specs.Prelude.{◌≡◌, ℕ, ◌+◌, Bool, true, false, not, ◌&&◌, List, [], ◌∷◌, ◌++◌, map, filter, sum_by}
+use Rattle.std.specs.List.{AllByRecursion}
+use Rattle.std.proofs.Common.{refl, sym, ap, ◌∙◌, inl, inr, cond, arith}
+use Rattle.std.proofs.lemmas.Bool.{cases_Bool}
+use Rattle.std.proofs.lemmas.List.{map-append}
+use Rattle.std.proofs.lemmas.List.Elements.{filter-append}
+use Rattle.std.proofs.lemmas.List.Sums.{sum_by-cons, sum_by-append}
+use Rattle.drf_role.specs.Text.{Text}
+use Rattle.drf_rows.specs.Holdings.{Holding, of_offer, of_task, holdings_of, amount_in, held_where}
+use Rattle.drf_rows.specs.Cycle.{with_offer}
+use Rattle.drf_rows.specs.Endings.{Ending, ends_offer, ends_task, without_ended}
+use Rattle.drf_rows.specs.declared.rows.OfferRow.{OfferRow}
+use Rattle.drf_rows.specs.declared.rows.TaskRow.{TaskRow}
+use Rattle.drf_rows.specs.declared.rows.Rows.{Rows}
+
+pub held_where-append : (test : Holding → Bool) (hs gs : List Holding) (label : Text)
+    → held_where test (hs ++ gs) label ≡ held_where test hs label + held_where test gs label
+held_where-append test hs gs label =
+    ap (sum_by (amount_in label)) (filter-append test hs gs) ∙ sum_by-append (amount_in label) (filter test hs) (filter test gs)
+
+pub held_where-cons : (test : Holding → Bool) (h : Holding) (hs : List Holding) (label : Text)
+    → held_where test (h ∷ hs) label ≡ cond (test h) (amount_in label h) 0 + held_where test hs label
+held_where-cons test h hs label = elim (cases_Bool (test h)) [
+  | inl here ↦ rw here (sum_by-cons (amount_in label) h (filter test hs))
+  | inr past ↦ rw past (omega arith)
+]
+
+-- ---- a holding is added
+
+-- the holdings with one more offer
+pub holdings_of-with_offer : (rows : Rows) (offer : OfferRow)
+    → holdings_of (with_offer rows offer) ≡ map of_offer rows.offers ++ (of_offer offer ∷ map of_task rows.tasks)
+unfolding with_offer
+holdings_of-with_offer rows offer =
+    ap (λ (hs : List Holding). hs ++ map of_task rows.tasks) (map-append of_offer rows.offers (offer ∷ []))
+    ∙ append_one (map of_offer rows.offers) (of_offer offer) (map of_task rows.tasks)
+  where
+    append_one : (hs : List Holding) (h : Holding) (gs : List Holding) → (hs ++ h ∷ []) ++ gs ≡ hs ++ (h ∷ gs)
+    append_one [] h gs = refl
+    append_one (x ∷ hs) h gs = ap (λ (zs : List Holding). x ∷ zs) (append_one hs h gs)
+
+-- it adds what it has where it passes the test
+pub held_where-with_offer : (test : Holding → Bool) (rows : Rows) (offer : OfferRow) (label : Text)
+    → held_where test (holdings_of (with_offer rows offer)) label
+    ≡ held_where test (holdings_of rows) label + cond (test (of_offer offer)) (amount_in label (of_offer offer)) 0
+held_where-with_offer test rows offer label =
+    let before : List Holding = map of_offer rows.offers in
+    let after : List Holding = map of_task rows.tasks in
+    ap (λ (hs : List Holding). held_where test hs label) (holdings_of-with_offer rows offer)
+    ∙ held_where-append test before (of_offer offer ∷ after) label
+    ∙ omega (arith, held_where-cons test (of_offer offer) after label, held_where-append test before after label)
+
+-- what holds of each holding, and of the new one
+each-insert : (P : Holding → Type 0) (hs gs : List Holding) (h : Holding)
+    → AllByRecursion P (hs ++ gs) → P h → AllByRecursion P (hs ++ (h ∷ gs))
+each-insert P [] gs h all here = (here, all)
+each-insert P (x ∷ hs) gs h all here = (all.0, each-insert P hs gs h all.1 here)
+
+pub each-with_offer : (P : Holding → Type 0) (rows : Rows) (offer : OfferRow)
+    → AllByRecursion P (holdings_of rows) → P (of_offer offer) → AllByRecursion P (holdings_of (with_offer rows offer))
+each-with_offer P rows offer all here =
+    rw (holdings_of-with_offer rows offer) (each-insert P (map of_offer rows.offers) (map of_task rows.tasks) (of_offer offer) all here)
+
+-- ---- holdings end
+
+-- those that stay and those that end have it together
+module _ {X : Type 0} (to : X → Holding) (ends : X → Bool) (test : Holding → Bool) (label : Text) where
+  split_one : (past passes : Bool) (n stays gone : ℕ)
+      → cond passes n 0 + (stays + gone) ≡ cond (not past && passes) n 0 + stays + (cond (past && passes) n 0 + gone)
+  split_one true true n stays gone = omega arith
+  split_one true false n stays gone = omega arith
+  split_one false true n stays gone = omega arith
+  split_one false false n stays gone = omega arith
+
+  kept : (b : Bool) (x : X) (xs : List X)
+      → held_where test (map to (cond b (x ∷ xs) xs)) label ≡ cond (b && test (to x)) (amount_in label (to x)) 0 + held_where test (map to xs) label
+  kept true x xs = held_where-cons test (to x) (map to xs) label
+  kept false x xs = omega arith
+
+  pub held_where-parted : (xs : List X)
+      → held_where test (map to xs) label
+      ≡ held_where test (map to (filter (λ x. not (ends x)) xs)) label + held_where test (map to (filter ends xs)) label
+  held_where-parted [] = refl
+  held_where-parted (x ∷ xs) =
+      held_where-cons test (to x) (map to xs) label
+      ∙ ap (λ (n : ℕ). cond (test (to x)) (amount_in label (to x)) 0 + n) (held_where-parted xs)
+      ∙ split_one (ends x) (test (to x)) (amount_in label (to x))
+      (held_where test (map to (filter (λ x. not (ends x)) xs)) label) (held_where test (map to (filter ends xs)) label)
+      ∙ sym (λ i. kept (not (ends x)) x (filter (λ x. not (ends x)) xs) i + kept (ends x) x (filter ends xs) i)
+
+-- what ended
+abbrev pub ended : Rows → Ending → List Holding
+ended rows ending = map of_offer (filter (ends_offer ending) rows.offers) ++ map of_task (filter (ends_task ending) rows.tasks)
+
+pub held_where-without_ended : (test : Holding → Bool) (rows : Rows) (ending : Ending) (label : Text)
+    → held_where test (holdings_of rows) label
+    ≡ held_where test (holdings_of (without_ended rows ending)) label + held_where test (ended rows ending) label
+held_where-without_ended test rows ending label =
+    let offers = held_where-parted of_offer (ends_offer ending) test label rows.offers in
+    let tasks = held_where-parted of_task (ends_task ending) test label rows.tasks in
+    let stay : List Holding = map of_offer (filter (λ o. not (ends_offer ending o)) rows.offers) in
+    let run : List Holding = map of_task (filter (λ t. not (ends_task ending t)) rows.tasks) in
+    omega (
+      arith,
+      offers,
+      tasks,
+      held_where-append test (map of_offer rows.offers) (map of_task rows.tasks) label,
+      held_where-append test stay run label,
+      held_where-append test (map of_offer (filter (ends_offer ending) rows.offers)) (map of_task (filter (ends_task ending) rows.tasks)) label,
+    )

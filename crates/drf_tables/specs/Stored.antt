@@ -1,0 +1,8 @@
+-- What tables are to their callers: the rows, and room for more frameworks.
+use Rattle.std.specs.Prelude.{ℕ}
+use Rattle.drf_rows.specs.declared.rows.Rows.{Rows}
+
+pub record Stored : Type 0 where
+  pub rows : Rows
+  -- so many frameworks can be added without memory
+  pub room : ℕ

@@ -1,78 +1,174 @@
--- A cycle, from the turns of its agents to the step that it is.
-use Rattle.std.proofs.Common.{◌≡◌, ℕ, ◌+◌, ◌<◌, ◌≤◌, List, [], ◌∷◌, Option, Some, None, refl, sym, ap, ◌∙◌, map, arith}
-use Rattle.std.specs.Prelude.{filter}
+-- The turns of all agents, and the cycle that they are.
+use Rattle.std.proofs.Common.{◌≡◌, ℕ, zero, suc, ◌+◌, ◌*◌, ◌<◌, ◌≤◌, List, [], ◌∷◌, ◌++◌, Option, Some, None, true, false, Bool, refl, sym, ap, ◌∙◌, length, cond, arith, drop, map, add-one, subst}
+use Rattle.std.specs.Prelude.{◌^◌, max, slice_get, filter, All}
+use Rattle.std.specs.List.{AllByRecursion}
 use Rattle.std.specs.Option.{option_map_or}
-use Rattle.std.proofs.lemmas.Bool.Decides.{nat_tests}
+use Rattle.std.proofs.Math.Seq.{drop-append_seam}
+use Rattle.std.proofs.lemmas.List.Elements.{All-from_recursion}
 use Rattle.drf_bundle.specs.declared.quantities.Entry.{Entry}
-use Rattle.drf_rows.specs.LimitNumbers.{LimitNumbers}
 use Rattle.drf_rows.specs.Client.{Client}
-use Rattle.drf_rows.specs.Cycle.{with_offer, grant, tried, all_tried, turn, turns, turn_order, at_moment, cycle}
-use Rattle.drf_rows.specs.Step.{refusal_of, reply_to, effect, line_of, new_offers, latest_moment}
-use Rattle.drf_rows.specs.StepLaws.{reply_to-accepted, rows_after-accepted, rows_after-refused}
-use Rattle.drf_rows.specs.declared.event.Event.{Event}
+use Rattle.drf_rows.specs.Held.{clients_of}
+use Rattle.drf_rows.specs.Cycle.{grant, new_offer, with_offer, tried, all_tried, turn_order, turn, turns, at_moment, cycle}
+use Rattle.drf_rows.specs.CycleLaws.{clients_of-with_offer}
+use Rattle.drf_rows.specs.LimitNumbers.{LimitNumbers}
+use Rattle.drf_rows.specs.Consistent.{IsConsistent}
+use Rattle.drf_rows.specs.Step.{line_of, new_offers, effect}
 use Rattle.drf_rows.specs.declared.event.Event.TheVariants.{Cycle}
-use Rattle.drf_rows.specs.declared.reply.Reply.TheVariants.{Offers}
-use Rattle.drf_rows.specs.declared.reply.Refusal.{Refusal}
-use Rattle.drf_rows.specs.declared.reply.Refusal.TheVariants.{HistoryFull, BadMoment}
+use Rattle.drf_rows.specs.declared.reply.OfferLine.{OfferLine}
 use Rattle.drf_rows.specs.declared.rows.AgentRow.{AgentRow}
+use Rattle.drf_rows.specs.declared.rows.OfferRow.{OfferRow}
 use Rattle.drf_rows.specs.declared.rows.Rows.{Rows}
-use Rattle.drf_core.specs.Machine.{Machine, after}
-use Rattle.drf_core.specs.Grants.{turns_of}
+use Rattle.drf_tables.specs.Drafts.{with_offers, frees_of, frees_after}
+use Rattle.drf_tables.specs.declared.tables.Left.{Left}
+use Rattle.drf_sorter.specs.Content.{Content}
+use Rattle.drf_core.specs.Content.{content_of}
+use Rattle.drf_core.specs.Kept.{IsKept}
+use Rattle.drf_core.specs.Drafting.{IsDrafting, HasLeft, turn_at, turns_of}
+use Rattle.drf_core.proofs.ContentOrder.{length-turn_order}
+use Rattle.drf_core.proofs.DraftLemmas.{offers-with_offers}
 
--- offers do not count as events
-offered : (rows : Rows) (agent : AgentRow) (client : Client) (o : Option (List Entry)) → (option_map_or (with_offer rows agent client) o rows).accepted ≡ rows.accepted
+-- what is left of a list from a place on begins with the element there
+record BeginsAt {A : Type 0} (xs : List A) (i : ℕ) : Type 0 where
+  pub first : A
+  pub at : slice_get xs i ≡ Some first
+  pub rest : drop i xs ≡ first ∷ drop (i + 1) xs
+
+begins_at : {A : Type 0} (xs : List A) (i : ℕ) → i < length xs → BeginsAt xs i
+begins_at [] i h = absurd (omega arith)
+begins_at (x ∷ xs) zero h = record { first = x; at = refl; rest = refl }
+begins_at (x ∷ xs) (suc i) h =
+    let later = begins_at xs i (omega arith) in
+    record { first = later.first; at = later.at; rest = later.rest ∙ rw (add-one i, add-one (suc i)) refl }
+
+-- the next agent has its turn
+turns-step : (rows : Rows) (i : ℕ) → i < length rows.agents
+    → turns (turn_at rows i) (filter (λ a. a.active) (drop (i + 1) rows.agents)) ≡ turns rows (filter (λ a. a.active) (drop i rows.agents))
+turns-step rows i h =
+    let b = begins_at rows.agents i h in
+    ap (λ o. turns (option_map_or (λ a. cond a.active (turn rows a) rows) o rows) (filter (λ a. a.active) (drop (i + 1) rows.agents))) b.at
+    ∙ (by b.first.active refl ∙ sym (ap (λ as'. turns rows (filter (λ a. a.active) as')) b.rest))
+  where
+    b' : BeginsAt rows.agents i
+    b' = begins_at rows.agents i h
+
+    by : (active : Bool) → b'.first.active ≡ active → turns (cond b'.first.active (turn rows b'.first) rows) (filter (λ a. a.active) (drop (i + 1) rows.agents))
+        ≡ turns rows (cond b'.first.active (b'.first ∷ filter (λ a. a.active) (drop (i + 1) rows.agents)) (filter (λ a. a.active) (drop (i + 1) rows.agents)))
+    by true e = rw e refl
+    by false e = rw e refl
+
+pub turns-next : (rows before after : Rows) (i : ℕ) → i < length rows.agents → before.agents ≡ rows.agents → after ≡ turn_at before i
+    → turns before (filter (λ a. a.active) (drop i rows.agents)) ≡ turns_of rows
+    → turns after (filter (λ a. a.active) (drop (i + 1) rows.agents)) ≡ turns_of rows
+turns-next rows before after i within same turned so_far =
+    let there : i < length before.agents = rw same within in
+    ap (λ (r : Rows). turns r (filter (λ a. a.active) (drop (i + 1) rows.agents))) turned
+    ∙ ap (λ (as' : List AgentRow). turns (turn_at before i) (filter (λ a. a.active) (drop (i + 1) as'))) (sym same)
+    ∙ turns-step before i there
+    ∙ ap (λ (as' : List AgentRow). turns before (filter (λ a. a.active) (drop i as'))) same
+    ∙ so_far
+
+-- all agents had their turns
+pub turns-done : (rows after : Rows) (i : ℕ) → length rows.agents ≤ i
+    → turns after (filter (λ a. a.active) (drop i rows.agents)) ≡ turns_of rows → after ≡ turns_of rows
+turns-done rows after i done so_far = sym (ap (λ as'. turns after (filter (λ a. a.active) as')) (nothing rows.agents i done)) ∙ so_far
+  where
+    nothing : (xs : List AgentRow) (i : ℕ) → length xs ≤ i → drop i xs ≡ []
+    nothing [] zero h = refl
+    nothing [] (suc i) h = refl
+    nothing (x ∷ xs) zero h = absurd (omega arith)
+    nothing (x ∷ xs) (suc i) h = nothing xs i (omega arith)
+
+-- with no drafts nothing is left, and no agent had its turn
+pub HasLeft-nothing : (rows : Rows) (offers : List OfferRow) (lefts : List Left) → offers ≡ [] → lefts ≡ [] → HasLeft rows offers lefts 0
+HasLeft-nothing rows offers lefts none nothing =
+    rw (none, nothing) (record { frees = refl; past = tt })
+
+-- what is left has the places of agents
+pub all_places : (lefts : List Left) (n : ℕ) → AllByRecursion (λ l. l.agent < n) lefts → All (λ l. l.agent < n) lefts
+all_places lefts n past = All-from_recursion (λ (l : Left). l.agent < n) lefts past
+
+-- the drafts are the new offers
+pub new_offers-drafts : (rows : Rows) (offers : List OfferRow) → with_offers rows offers ≡ turns_of rows → new_offers rows (turns_of rows) ≡ offers
+new_offers-drafts rows offers turned =
+    ap (λ (r : Rows). drop (length rows.offers) r.offers) (sym turned)
+    ∙ ap (drop (length rows.offers)) (offers-with_offers rows offers)
+    ∙ drop-append_seam rows.offers offers
+
+-- ---- how many offers a cycle makes at most
+
+tried-next : (rows : Rows) (agent : AgentRow) (client : Client) (granted : Option (List Entry))
+    → (option_map_or (λ b. with_offer rows (new_offer rows agent client b)) granted rows).next_offer ≤ rows.next_offer + 1
 unfolding with_offer
-offered rows agent client None = refl
-offered rows agent client (Some bundle) = refl
+tried-next rows agent client None = omega arith
+tried-next rows agent client (Some bundle) = omega arith
 
-accepted-all_tried : (rows : Rows) (agent : AgentRow) (clients : List Client) → (all_tried rows agent clients).accepted ≡ rows.accepted
-accepted-all_tried rows agent [] = refl
-accepted-all_tried rows agent (client ∷ clients) = accepted-all_tried (tried rows agent client) agent clients ∙ offered rows agent client (grant rows agent client)
+all_tried-next : (rows : Rows) (agent : AgentRow) (clients : List Client) → (all_tried rows agent clients).next_offer ≤ rows.next_offer + length clients
+all_tried-next rows agent [] = omega arith
+all_tried-next rows agent (client ∷ clients) =
+    omega (arith, all_tried-next (tried rows agent client) agent clients, tried-next rows agent client (grant rows agent client))
 
-accepted-turn : (rows : Rows) (agent : AgentRow) → (turn rows agent).accepted ≡ rows.accepted
+tried-clients : (rows : Rows) (agent : AgentRow) (client : Client) (granted : Option (List Entry))
+    → clients_of (option_map_or (λ b. with_offer rows (new_offer rows agent client b)) granted rows) ≡ clients_of rows
+tried-clients rows agent client None = refl
+tried-clients rows agent client (Some bundle) = clients_of-with_offer rows (new_offer rows agent client bundle)
+
+all_tried-clients : (rows : Rows) (agent : AgentRow) (clients : List Client) → clients_of (all_tried rows agent clients) ≡ clients_of rows
+all_tried-clients rows agent [] = refl
+all_tried-clients rows agent (client ∷ clients) =
+    all_tried-clients (tried rows agent client) agent clients ∙ tried-clients rows agent client (grant rows agent client)
+
+pub turns-clients : (rows : Rows) (agents : List AgentRow) → clients_of (turns rows agents) ≡ clients_of rows
 unfolding turn
-accepted-turn rows agent = accepted-all_tried rows agent (turn_order rows)
+turns-clients rows [] = refl
+turns-clients rows (agent ∷ agents) = turns-clients (turn rows agent) agents ∙ all_tried-clients rows agent (turn_order rows)
 
-pub accepted-turns : (rows : Rows) (agents : List AgentRow) → (turns rows agents).accepted ≡ rows.accepted
-accepted-turns rows [] = refl
-accepted-turns rows (agent ∷ agents) = accepted-turns (turn rows agent) agents ∙ accepted-turn rows agent
+pub turns-next_offer : (rows : Rows) (agents : List AgentRow) → (turns rows agents).next_offer ≤ rows.next_offer + length agents * length (clients_of rows)
+unfolding turn
+turns-next_offer rows [] = omega arith
+turns-next_offer rows (agent ∷ agents) =
+    let later = turns-next_offer (turn rows agent) agents in
+    let first = all_tried-next rows agent (turn_order rows) in
+    let order = length-turn_order rows in
+    let same : length (clients_of (turn rows agent)) ≡ length (clients_of rows) = ap length (all_tried-clients rows agent (turn_order rows)) in
+    let rest : (turns (turn rows agent) agents).next_offer ≤ (turn rows agent).next_offer + length agents * length (clients_of rows) =
+    subst (λ n. (turns (turn rows agent) agents).next_offer ≤ (turn rows agent).next_offer + length agents * n) same later in
+    omega (arith, rest, first, order)
 
--- a refused event changes nothing
-pub after-refused : (machine : Machine) (event : Event) (refusal : Refusal) → refusal_of machine.limits machine.rows event ≡ Some refusal → after machine event ≡ machine
-after-refused machine event refusal case = ap (λ (rows : Rows). record machine { rows = rows }) (rows_after-refused machine.limits machine.rows event refusal case)
+-- ---- a cycle begins, and is ended
 
--- what a cycle is refused for
-pub refusal_of-cycle_full : (limits : LimitNumbers) (rows : Rows) (at : ℕ) → limits.events ≤ rows.accepted → refusal_of limits rows (Cycle at) ≡ Some HistoryFull
-unfolding refusal_of
-refusal_of-cycle_full limits rows at full = grind (arith, nat_tests)
+-- consistent rows stay so when the clock moves
+pub consistent-clock : (rows : Rows) (clock : ℕ) → IsConsistent rows → IsConsistent (record rows { clock = clock })
+consistent-clock rows clock right = record {
+  agents = right.agents;
+  frameworks = right.frameworks;
+  holdings = right.holdings;
+  covered = right.covered;
+  counted = right.counted;
+  numbered = right.numbered;
+}
 
-pub refusal_of-cycle_late : (limits : LimitNumbers) (rows : Rows) (at : ℕ) → rows.accepted < limits.events → latest_moment < at → refusal_of limits rows (Cycle at) ≡ Some BadMoment
-unfolding refusal_of
-refusal_of-cycle_late limits rows at room late = grind (arith, nat_tests)
+pub content_of-clock : (rows : Rows) (clock : ℕ) → content_of (record rows { clock = clock }) ≡ content_of rows
+unfolding content_of
+content_of-clock rows clock = refl
 
-pub refusal_of-cycle_none : (limits : LimitNumbers) (rows : Rows) (at : ℕ) → rows.accepted < limits.events → at ≤ latest_moment → refusal_of limits rows (Cycle at) ≡ None
-unfolding refusal_of
-refusal_of-cycle_none limits rows at room early = grind (arith, nat_tests)
+-- there are no drafts yet
+pub drafting-begins : (content : Content) (limits : LimitNumbers) (rows tables : Rows) (clock : ℕ) (offers : List OfferRow) → IsKept content limits rows → IsConsistent rows
+    → tables ≡ record rows { clock = clock } → offers ≡ [] → IsDrafting content tables offers
+drafting-begins content limits rows tables clock offers kept right same none =
+    let events : rows.accepted ≤ 4294967295 = omega (arith, kept.few.events, kept.few.ceilings.events.1) in
+    let numbered : rows.next_offer ≤ 1 + rows.accepted * 2 ^ 24 = kept.numbered in
+    rw (same, none) (record {
+      sorted = kept.sorted ∙ sym (content_of-clock rows clock);
+      consistent = consistent-clock rows clock right;
+      clients = tt;
+      few_agents = omega (arith, kept.few.agents, kept.few.ceilings.agents.1);
+      early = omega (arith, numbered, events);
+    })
 
-pub cycle_has_room : (limits : LimitNumbers) (rows : Rows) (at : ℕ) → refusal_of limits rows (Cycle at) ≡ None → rows.accepted < limits.events
-unfolding refusal_of
-cycle_has_room limits rows at none = grind (arith, nat_tests)
+-- the turns are the cycle
+pub turns_of-cycle : (rows tables : Rows) (at clock : ℕ) → clock ≡ max rows.clock at → tables ≡ record rows { clock = clock } → turns_of tables ≡ effect rows (Cycle at)
+unfolding effect cycle
+turns_of-cycle rows tables at clock moment same = ap turns_of same ∙ ap (λ n. turns_of (record rows { clock = n })) moment
 
--- a cycle that is not refused
-pub cycle-reply : (limits : LimitNumbers) (rows : Rows) (at : ℕ) → refusal_of limits rows (Cycle at) ≡ None
-    → reply_to limits rows (Cycle at) ≡ Offers (map line_of (new_offers (at_moment rows at) (turns_of (at_moment rows at))))
-unfolding cycle effect
-cycle-reply limits rows at none = reply_to-accepted limits rows (Cycle at) none
-
-pub cycle-after : (machine : Machine) (at : ℕ) → refusal_of machine.limits machine.rows (Cycle at) ≡ None
-    → after machine (Cycle at) ≡ record machine { rows = record (turns_of (at_moment machine.rows at)) { accepted = (turns_of (at_moment machine.rows at)).accepted + 1 } }
-unfolding cycle effect
-cycle-after machine at none =
-    ap (λ (rows : Rows). record machine { rows = rows }) (rows_after-accepted machine.limits machine.rows (Cycle at) none)
-    ∙ ap (λ n. record machine { rows = record (turns_of (at_moment machine.rows at)) { accepted = n + 1 } }) (sym (accepted-turns (at_moment machine.rows at) (filter (λ a. a.active) machine.rows.agents)))
-
-pub cycle_ends_with_room : (machine : Machine) (at : ℕ) → refusal_of machine.limits machine.rows (Cycle at) ≡ None → (turns_of (at_moment machine.rows at)).accepted < machine.limits.events
-cycle_ends_with_room machine at none =
-    let room = cycle_has_room machine.limits machine.rows at none in
-    let same = accepted-turns (at_moment machine.rows at) (filter (λ a. a.active) machine.rows.agents) in
-    omega (arith, room, same)
+pub new_offers-cycle : (rows tables : Rows) (clock : ℕ) (after : Rows) → tables ≡ record rows { clock = clock } → new_offers tables after ≡ new_offers rows after
+new_offers-cycle rows tables clock after same = ap (λ (r : Rows). new_offers r after) same

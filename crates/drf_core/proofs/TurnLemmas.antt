@@ -1,109 +1,257 @@
--- Turns, as a walk over the clients in order, and grants, one after another.
-use Rattle.std.proofs.Common.{◌≡◌, ℕ, zero, suc, ◌+◌, ◌-◌, ◌<◌, List, [], ◌∷◌, ◌++◌, Some, None, Option, true, false, Bool, refl, sym, ap, ◌∙◌, subst, length, cond, arith, add-one, append_assoc, length-append}
-use Rattle.std.specs.Prelude.{slice_get, ◌&&◌}
-use Rattle.std.specs.Option.{option_map_or}
-use Rattle.std.proofs.Math.Seq.{drop-append_seam, drop-length}
+-- The turn of an agent, from its first client to its last.
+use Rattle.std.proofs.Common.{◌≡◌, ℕ, ◌+◌, ◌<◌, ◌≤◌, ◌^◌, zero, suc, Bool, true, false, ◌&&◌, List, [], ◌∷◌, ◌++◌, Option, Some, None, length, map, take, refl, sym, ap, subst, ◌∙◌, inl, inr, cond, arith, add-one}
+use Rattle.std.specs.Prelude.{slice_get, slice_set, not}
+use Rattle.std.specs.List.{list_all, AllByRecursion}
+use Rattle.std.specs.Option.{option_map, option_map_or}
+use Rattle.std.proofs.lemmas.Bool.{cases_Bool, and_parts, not-true}
+use Rattle.std.proofs.lemmas.List.{take_all}
+use Rattle.std.proofs.lemmas.Option.{slice_get-map}
+use Rattle.std.proofs.lemmas.Grind.{fold-append}
+use Rattle.drf_role.specs.Text.{Text, same_text}
+use Rattle.drf_role.specs.Path.{Path}
+use Rattle.drf_bundle.specs.Bundle.{IsBundle}
 use Rattle.drf_bundle.specs.declared.quantities.Entry.{Entry}
-use Rattle.drf_rows.specs.LimitNumbers.{LimitNumbers}
-use Rattle.drf_rows.specs.Client.{Client}
-use Rattle.drf_rows.specs.Cycle.{free_of, with_offer, is_allocatable, all_tried, turn, turn_order}
-use Rattle.drf_rows.specs.Step.{new_offers}
+use Rattle.drf_rows.specs.Client.{Client, path_of}
+use Rattle.drf_rows.specs.Cycle.{free_of, grant, is_allocatable, new_offer, with_offer, tried, all_tried, turn, turn_order}
+use Rattle.drf_rows.specs.CycleLaws.{free_of-with_offer_other, all_tried-append, all_tried_none}
+use Rattle.drf_rows.specs.ListLaws.{each_at, each_from}
+use Rattle.drf_rows.specs.Consistent.{IsConsistent, are_distinct, is_registered}
+use Rattle.drf_rows.specs.ConsistentLaws.{same_text-swap}
 use Rattle.drf_rows.specs.declared.rows.AgentRow.{AgentRow}
 use Rattle.drf_rows.specs.declared.rows.OfferRow.{OfferRow}
 use Rattle.drf_rows.specs.declared.rows.Rows.{Rows}
-use Rattle.drf_core.specs.Grants.{Granted, none, more, IsGrant, IsLastGrant, turn_at, is_open_at, before_last}
-use Rattle.drf_core.proofs.OfferLemmas.{before_last-with_offer}
+use Rattle.drf_tables.specs.Drafts.{with_offers, frees_of, frees_after}
+use Rattle.drf_tables.specs.declared.tables.Left.{Left}
+use Rattle.drf_core.specs.Drafting.{IsDrafting, IsRegisteredPath, IsFreeAt, IsTried, HasLeft, is_open_at, turn_at}
+use Rattle.drf_sorter.specs.Content.{Content, IsSound, IsOrderOf}
+use Rattle.drf_core.proofs.DraftLemmas.{agents-with_offers, is_registered-with_offers, next_offer-with_offers}
+use Rattle.drf_core.proofs.ContentSound.{IsSound-content_of}
+use Rattle.drf_core.proofs.ContentOrder.{IsOrderOf-turn_order, turn_order-registered}
 
--- where what is free is not worth an offer nobody is granted anything
-pub all_tried-closed : (rows : Rows) (agent : AgentRow) (clients : List Client) → is_allocatable (free_of rows agent) ≡ false → all_tried rows agent clients ≡ rows
-all_tried-closed rows agent [] closed = refl
-all_tried-closed rows agent (client ∷ clients) closed = rw closed (all_tried-closed rows agent clients closed)
+-- ---- lists
 
--- where it is, the first client is offered it
-pub all_tried-first : (rows : Rows) (agent : AgentRow) (client : Client) (clients : List Client) → is_allocatable (free_of rows agent) ≡ true
-    → all_tried rows agent (client ∷ clients) ≡ all_tried (with_offer rows agent client (free_of rows agent)) agent clients
-all_tried-first rows agent client clients worth = rw worth refl
+-- the elements up to one, and that one
+pub take_one_more : {X : Type 0} (xs : List X) (i : ℕ) (x : X) → slice_get xs i ≡ Some x → take (i + 1) xs ≡ take i xs ++ x ∷ []
+take_one_more [] i x at = cc
+take_one_more (y ∷ xs) zero x at = let same : y ≡ x = cc in ap (λ z. z ∷ []) same
+take_one_more (y ∷ xs) (suc i) x at = rw (add-one (suc i)) (ap (λ zs. y ∷ zs) (rw (add-one i) at (take_one_more xs i x at)))
 
--- a turn where nothing is worth an offer changes nothing
-pub turn_at-closed : (rows : Rows) (place : ℕ) → is_open_at rows place ≡ false → turn_at rows place ≡ rows
+-- no element has that name
+abbrev has_no : {X : Type 0} → (X → Text) → Text → List X → Bool
+has_no name n xs = list_all (λ t. not (same_text n t)) (map name xs)
+
+has_no_at : {X : Type 0} (name : X → Text) (n : Text) (xs : List X) (i : ℕ) (a : X) → has_no name n xs ≡ true → slice_get xs i ≡ Some a → same_text n (name a) ≡ false
+has_no_at name n [] i a none at = cc
+has_no_at name n (x ∷ xs) zero a none at =
+    let parts = and_parts (not (same_text n (name x))) (has_no name n xs) none in
+    let same : x ≡ a = cc in
+    ap (λ y. same_text n (name y)) (sym same) ∙ not-true (same_text n (name x)) parts.0
+has_no_at name n (x ∷ xs) (suc i) a none at = has_no_at name n xs i a (and_parts (not (same_text n (name x))) (has_no name n xs) none).1 at
+
+map_none : {X Y : Type 0} (name : X → Text) (f g : X → Y) (n : Text) (xs : List X) → has_no name n xs ≡ true → ((x : X) → same_text n (name x) ≡ false → f x ≡ g x) → map f xs ≡ map g xs
+map_none name f g n [] none agree = refl
+map_none name f g n (x ∷ xs) none agree =
+    let parts = and_parts (not (same_text n (name x))) (has_no name n xs) none in
+    let head = agree x (not-true (same_text n (name x)) parts.0) in
+    let tail = map_none name f g n xs parts.1 agree in
+    λ i. head i ∷ tail i
+
+-- two functions that agree but at one name give two lists that agree but at one place
+slice_set-map : {X Y : Type 0} (name : X → Text) (f g : X → Y) (xs : List X) (i : ℕ) (a : X) → are_distinct (map name xs) ≡ true → slice_get xs i ≡ Some a
+    → ((x : X) → same_text (name a) (name x) ≡ false → f x ≡ g x) → slice_set (map f xs) i (g a) ≡ map g xs
+slice_set-map name f g [] i a apart at agree = cc
+slice_set-map {X} name f g (x ∷ xs) zero a apart at agree =
+    let parts = and_parts (has_no name (name x) xs) (are_distinct (map name xs)) apart in
+    let same : x ≡ a = cc in
+    let none : has_no name (name a) xs ≡ true = subst (λ (y : X). has_no name (name y) xs ≡ true) same parts.0 in
+    let tail = map_none name f g (name a) xs none agree in
+    λ j. g (sym same j) ∷ tail j
+slice_set-map name f g (x ∷ xs) (suc i) a apart at agree =
+    let parts = and_parts (has_no name (name x) xs) (are_distinct (map name xs)) apart in
+    let head = agree x (same_text-swap (name a) (name x) ∙ has_no_at name (name x) xs i a parts.0 at) in
+    let tail = slice_set-map name f g xs i a parts.1 at agree in
+    λ j. head j ∷ tail j
+
+-- ---- what is left free
+
+slice_get-set_other : {X : Type 0} (xs : List X) (i j : ℕ) (x : X) → i < j → slice_get (slice_set xs i x) j ≡ slice_get xs j
+slice_get-set_other [] i j x below = refl
+slice_get-set_other (y ∷ ys) zero zero x below = absurd (omega arith)
+slice_get-set_other (y ∷ ys) zero (suc j) x below = refl
+slice_get-set_other (y ∷ ys) (suc i) zero x below = absurd (omega arith)
+slice_get-set_other (y ∷ ys) (suc i) (suc j) x below = slice_get-set_other ys i j x (omega arith)
+
+frees_after-later : (frees : List (List Entry)) (lefts : List Left) (place : ℕ) → AllByRecursion (λ l. l.agent < place) lefts
+    → slice_get (frees_after frees lefts) place ≡ slice_get frees place
+frees_after-later frees [] place past = refl
+frees_after-later frees (l ∷ lefts) place past =
+    frees_after-later (slice_set frees l.agent l.free) lefts place past.1 ∙ slice_get-set_other frees l.agent place l.free past.0
+
+-- an agent whose turn has not come has what it had
+pub free-before : (rows : Rows) (offers : List OfferRow) (lefts : List Left) (place : ℕ) (agent : AgentRow) → HasLeft rows offers lefts place
+    → slice_get rows.agents place ≡ Some agent → free_of (with_offers rows offers) agent ≡ free_of rows agent
+free-before rows offers lefts place agent left at =
+    let before : slice_get (frees_of rows) place ≡ Some (free_of rows agent) =
+    slice_get-map (free_of rows) rows.agents place ∙ ap (option_map (free_of rows)) at in
+    let after : slice_get (frees_of (with_offers rows offers)) place ≡ Some (free_of (with_offers rows offers) agent) =
+    slice_get-map (free_of (with_offers rows offers)) (with_offers rows offers).agents place
+    ∙ ap (λ (as' : List AgentRow). option_map (free_of (with_offers rows offers)) (slice_get as' place)) (agents-with_offers rows offers)
+    ∙ ap (option_map (free_of (with_offers rows offers))) at in
+    let same : Some (free_of (with_offers rows offers) agent) ≡ Some (free_of rows agent) =
+    sym after ∙ ap (λ fs. slice_get fs place) (sym left.frees) ∙ frees_after-later (frees_of rows) lefts place left.past ∙ before in
+    cc
+
+past-more : (lefts : List Left) (place : ℕ) → AllByRecursion (λ l. l.agent < place) lefts → AllByRecursion (λ l. l.agent < place + 1) lefts
+past-more [] place past = tt
+past-more (l ∷ lefts) place past = (omega (arith, past.0), past-more lefts place past.1)
+
+past-push : (lefts : List Left) (place : ℕ) (left : Left) → AllByRecursion (λ l. l.agent < place) lefts → left.agent ≡ place
+    → AllByRecursion (λ l. l.agent < place + 1) (lefts ++ left ∷ [])
+past-push [] place left past here = (omega (arith, here), tt)
+past-push (l ∷ lefts) place left past here = (omega (arith, past.0), past-push lefts place left past.1 here)
+
+pub HasLeft-closed : (rows : Rows) (offers : List OfferRow) (lefts : List Left) (place : ℕ) → HasLeft rows offers lefts place → HasLeft rows offers lefts (place + 1)
+HasLeft-closed rows offers lefts place left = record { frees = left.frees; past = past-more lefts place left.past }
+
+-- trying clients on one agent leaves what is free on another
+free_of-tried_other : (rows : Rows) (agent : AgentRow) (client : Client) (other : AgentRow) → same_text agent.name other.name ≡ false
+    → (granted : Option (List Entry))
+    → free_of (option_map_or (λ b. with_offer rows (new_offer rows agent client b)) granted rows) other ≡ free_of rows other
+free_of-tried_other rows agent client other apart None = refl
+free_of-tried_other rows agent client other apart (Some bundle) = free_of-with_offer_other rows (new_offer rows agent client bundle) other apart
+
+pub free_of-all_tried_other : (rows : Rows) (agent : AgentRow) (clients : List Client) (other : AgentRow) → same_text agent.name other.name ≡ false
+    → free_of (all_tried rows agent clients) other ≡ free_of rows other
+free_of-all_tried_other rows agent [] other apart = refl
+free_of-all_tried_other rows agent (client ∷ clients) other apart =
+    free_of-all_tried_other (tried rows agent client) agent clients other apart ∙ free_of-tried_other rows agent client other apart (grant rows agent client)
+
+pub HasLeft-turn : (rows : Rows) (offers drafts : List OfferRow) (lefts : List Left) (place : ℕ) (agent : AgentRow) (clients : List Client) (free : List Entry)
+    → are_distinct (map (λ a. a.name) rows.agents) ≡ true
+    → HasLeft rows offers lefts place
+    → slice_get rows.agents place ≡ Some agent
+    → with_offers rows drafts ≡ all_tried (with_offers rows offers) agent clients
+    → IsFreeAt (with_offers rows drafts) place free
+    → HasLeft rows drafts (lefts ++ record { agent = place; free = free } ∷ []) (place + 1)
+HasLeft-turn rows offers drafts lefts place agent clients free apart left at turned is_free =
+    let mine : slice_get (with_offers rows drafts).agents place ≡ Some agent =
+    ap (λ (as' : List AgentRow). slice_get as' place) (agents-with_offers rows drafts) ∙ at in
+    let same : is_free.agent ≡ agent = let e : Some is_free.agent ≡ Some agent = sym is_free.at ∙ mine in cc in
+    let others : (b : AgentRow) → same_text agent.name b.name ≡ false → free_of (with_offers rows offers) b ≡ free_of (with_offers rows drafts) b =
+    λ b other. sym (free_of-all_tried_other (with_offers rows offers) agent clients b other) ∙ ap (λ (r : Rows). free_of r b) (sym turned) in
+    let set = slice_set-map (λ (a : AgentRow). a.name) (free_of (with_offers rows offers)) (free_of (with_offers rows drafts)) rows.agents place agent apart at others in
+    record {
+      frees =
+          fold-append (λ frees l. slice_set frees l.agent l.free) (frees_of rows) lefts (record { agent = place; free = free } ∷ [])
+          ∙ (λ i. slice_set (left.frees i) place ((is_free.free ∙ ap (free_of (with_offers rows drafts)) same) i))
+          ∙ (λ i. slice_set (map (free_of (with_offers rows offers)) (agents-with_offers rows offers i)) place (free_of (with_offers rows drafts) agent))
+          ∙ set
+          ∙ (λ i. map (free_of (with_offers rows drafts)) (sym (agents-with_offers rows drafts) i));
+      past = past-push lefts place (record { agent = place; free = free }) left.past refl;
+    }
+
+-- ---- the turn
+
+-- an agent that is not open has its turn without an offer
+pub turn_at-closed : (rows : Rows) (place : ℕ) → is_open_at rows place ≡ false → rows ≡ turn_at rows place
 unfolding turn
 turn_at-closed rows place closed = by (slice_get rows.agents place) closed
   where
-    at_agent : (a : AgentRow) → (active allocatable : Bool) → is_allocatable (free_of rows a) ≡ allocatable → (active && allocatable) ≡ false → cond active (all_tried rows a (turn_order rows)) rows ≡ rows
-    at_agent a false allocatable e h = refl
-    at_agent a true false e h = all_tried-closed rows a (turn_order rows) e
-    at_agent a true true e h = cc
+    choose : (a : AgentRow) (active : Bool) → (active && is_allocatable (free_of rows a)) ≡ false → rows ≡ cond active (all_tried rows a (turn_order rows)) rows
+    choose a false closed = refl
+    choose a true closed = sym (all_tried_none rows a (turn_order rows) closed)
 
-    by : (found : Option AgentRow) → option_map_or (λ a. a.active && is_allocatable (free_of rows a)) found false ≡ false → option_map_or (λ a. cond a.active (all_tried rows a (turn_order rows)) rows) found rows ≡ rows
-    by None h = refl
-    by (Some a) h = at_agent a a.active (is_allocatable (free_of rows a)) refl h
+    by : (o : Option AgentRow) → option_map_or (λ a. a.active && is_allocatable (free_of rows a)) o false ≡ false
+        → rows ≡ option_map_or (λ a. cond a.active (turn rows a) rows) o rows
+    by None closed = refl
+    by (Some a) closed = choose a a.active closed
 
--- an offer changes no agent
-pub agents-with_offer : (rows : Rows) (agent : AgentRow) (client : Client) (bundle : List Entry) → (with_offer rows agent client bundle).agents ≡ rows.agents
-unfolding with_offer
-agents-with_offer rows agent client bundle = refl
+-- another has the turn in which all clients are tried
+pub turn_at-open : (rows : Rows) (place : ℕ) (agent : AgentRow) → slice_get rows.agents place ≡ Some agent → is_open_at rows place ≡ true
+    → all_tried rows agent (turn_order rows) ≡ turn_at rows place
+unfolding turn
+turn_at-open rows place agent at is_open =
+    let here : (agent.active && is_allocatable (free_of rows agent)) ≡ true =
+    ap (λ o. option_map_or (λ a. a.active && is_allocatable (free_of rows a)) o false) (sym at) ∙ is_open in
+    let active = (and_parts agent.active (is_allocatable (free_of rows agent)) here).0 in
+    sym (ap (λ o. option_map_or (λ a. cond a.active (all_tried rows a (turn_order rows)) rows) o rows) at
+    ∙ ap (λ b. cond b (all_tried rows agent (turn_order rows)) rows) active)
 
--- an offer's row
-abbrev pub row_of : Rows → AgentRow → Client → List Entry → OfferRow
-row_of rows agent client bundle = record { number = rows.next_offer; agent = agent.name; framework = client.framework; role = client.role; bundle = bundle }
+-- whether it is open can be told by the tables, until its turn has come
+pub is_open_at-before : (rows : Rows) (offers : List OfferRow) (lefts : List Left) (place : ℕ) → HasLeft rows offers lefts place
+    → is_open_at (with_offers rows offers) place ≡ is_open_at rows place
+is_open_at-before rows offers lefts place left =
+    ap (λ (as' : List AgentRow). option_map_or (λ a. a.active && is_allocatable (free_of (with_offers rows offers) a)) (slice_get as' place) false) (agents-with_offers rows offers)
+    ∙ by (slice_get rows.agents place) refl
+  where
+    by : (o : Option AgentRow) → slice_get rows.agents place ≡ o
+        → option_map_or (λ a. a.active && is_allocatable (free_of (with_offers rows offers) a)) o false
+        ≡ option_map_or (λ a. a.active && is_allocatable (free_of rows a)) o false
+    by None at = refl
+    by (Some a) at = ap (λ f. a.active && is_allocatable f) (free-before rows offers lefts place a left at)
 
-pub offers-with_offer : (rows : Rows) (agent : AgentRow) (client : Client) (bundle : List Entry) → (with_offer rows agent client bundle).offers ≡ rows.offers ++ row_of rows agent client bundle ∷ []
-unfolding with_offer
-offers-with_offer rows agent client bundle = refl
+-- the next client is tried
+pub tried-step : (rows middle after : Rows) (agent : AgentRow) (clients : List Client) (i : ℕ) (client : Client)
+    → slice_get clients i ≡ Some client
+    → middle ≡ all_tried rows agent (take i clients)
+    → after ≡ tried middle agent client
+    → after ≡ all_tried rows agent (take (i + 1) clients)
+tried-step rows middle after agent clients i client at so_far next =
+    next ∙ ap (λ (r : Rows). tried r agent client) so_far
+    ∙ sym (all_tried-append rows agent (take i clients) (client ∷ []))
+    ∙ ap (all_tried rows agent) (sym (take_one_more clients i client at))
 
-pub new_offers-with_offer : (rows : Rows) (agent : AgentRow) (client : Client) (bundle : List Entry) → new_offers rows (with_offer rows agent client bundle) ≡ row_of rows agent client bundle ∷ []
-new_offers-with_offer rows agent client bundle = rw offers-with_offer (drop-append_seam rows.offers (row_of rows agent client bundle ∷ []))
+-- the client at a place of an order
+pub record IsClientAt (rows : Rows) (clients : List Client) (i : ℕ) (path : Path) : Type 0 where
+  pub client : Client
+  pub at : slice_get clients i ≡ Some client
+  pub joined : path ≡ path_of client
+  pub known : is_registered rows.frameworks client ≡ true
 
-pub new_offers_none : (rows : Rows) → new_offers rows rows ≡ []
-new_offers_none rows = drop-length rows.offers
+pub client_at : (rows : Rows) (clients : List Client) (paths : List Path) (i : ℕ) (path : Path) → paths ≡ map path_of clients → slice_get paths i ≡ Some path
+    → AllByRecursion (λ c. is_registered rows.frameworks c ≡ true) clients
+    → IsClientAt rows clients i path
+client_at rows clients paths i path same at known = by (slice_get clients i) refl
+  where
+    by : (o : Option Client) → slice_get clients i ≡ o → IsClientAt rows clients i path
+    by None none =
+        let nothing : Some path ≡ None = sym at ∙ ap (λ ps. slice_get ps i) same ∙ slice_get-map path_of clients i ∙ ap (option_map path_of) none in
+        cc
+    by (Some c) some =
+        let here : Some path ≡ Some (path_of c) = sym at ∙ ap (λ ps. slice_get ps i) same ∙ slice_get-map path_of clients i ∙ ap (option_map path_of) some in
+        record { client = c; at = some; joined = cc; known = each_at (λ c. is_registered rows.frameworks c ≡ true) clients i c known some }
 
--- grants only add offers, one each
-pub record Adds (n : ℕ) (first last : Rows) : Type 0 where
-  pub added : List OfferRow
-  pub offers : last.offers ≡ first.offers ++ added
-  pub number : length added ≡ n
+-- ---- the order of a turn
 
-append-nil : (xs : List OfferRow) → xs ++ [] ≡ xs
-append-nil [] = refl
-append-nil (x ∷ xs) = ap (λ ys. x ∷ ys) (append-nil xs)
+-- a list has an element at each place below its length
+pub element_at : {X : Type 0} (xs : List X) (i : ℕ) → i < length xs → (x : X) × (slice_get xs i ≡ Some x)
+element_at [] i below = absurd (omega arith)
+element_at (x ∷ xs) zero below = (x, refl)
+element_at (x ∷ xs) (suc i) below = element_at xs i (omega arith)
 
-pub Granted-adds : (limits : LimitNumbers) {n : ℕ} {first last : Rows} → Granted limits n first last → Adds n first last
-Granted-adds limits (none {rows}) = record { added = []; offers = sym (append-nil rows.offers); number = refl }
-Granted-adds limits (more {n} {first} {middle} {last} granted g) =
-    let before = Granted-adds limits granted in
-    let row = row_of middle g.agent g.client (free_of middle g.agent) in
-    record {
-      added = before.added ++ row ∷ [];
-      offers = ap (λ (r : Rows). r.offers) g.granted ∙ (offers-with_offer middle g.agent g.client (free_of middle g.agent) ∙ (ap (λ (os : List OfferRow). os ++ row ∷ []) before.offers ∙ append_assoc first.offers before.added (row ∷ [])));
-      number = length-append before.added (row ∷ []) ∙ (ap (λ k. k + 1) before.number ∙ add-one n);
-    }
+-- the paths are those of the turn's clients, each of which is registered
+pub record IsOrdered (rows : Rows) (offers : List OfferRow) (paths : List Path) : Type 0 where
+  pub same : paths ≡ map path_of (turn_order (with_offers rows offers))
+  pub known : AllByRecursion (λ c. is_registered rows.frameworks c ≡ true) (turn_order (with_offers rows offers))
 
-pub Granted-agents : (limits : LimitNumbers) {n : ℕ} {first last : Rows} → Granted limits n first last → last.agents ≡ first.agents
-Granted-agents limits none = refl
-Granted-agents limits (more {n} {first} {middle} {last} granted g) =
-    ap (λ (r : Rows). r.agents) g.granted ∙ (agents-with_offer middle g.agent g.client (free_of middle g.agent) ∙ Granted-agents limits granted)
+module _ (content : Content) (rows : Rows) (offers : List OfferRow) (drafting : IsDrafting content rows offers) where
+  pub sound_now : length offers < 2 ^ 63 → IsSound content
+  sound_now few =
+      subst IsSound (sym drafting.sorted)
+      (IsSound-content_of (with_offers rows offers) drafting.consistent
+      (rw (agents-with_offers rows offers) drafting.few_agents)
+      (let early : rows.next_offer ≤ 2 ^ 57 = drafting.early in omega (arith, next_offer-with_offers rows offers)))
 
-pub Granted-trans : (limits : LimitNumbers) (m : ℕ) {first middle : Rows} → Granted limits m first middle → {n : ℕ} {last : Rows} → Granted limits n middle last → Granted limits (n + m) first last
-Granted-trans limits m {first} {middle} granted none = subst (λ k. Granted limits k first middle) (omega arith) granted
-Granted-trans limits m {first} {middle} granted (more {n} {middle = between} {last} later g) =
-    let so_far : Granted limits (n + m) first between = Granted-trans limits m granted later in
-    subst (λ k. Granted limits k first last) (omega arith) (more so_far g)
+  pub ordered_from : (paths : List Path) → IsOrderOf content paths → IsOrdered rows offers paths
+  ordered_from paths order =
+      let same = IsOrderOf-turn_order (with_offers rows offers) paths drafting.consistent (subst (λ (c : Content). IsOrderOf c paths) drafting.sorted order) in
+      record {
+        same = same;
+        known = each_from (λ c. is_registered (with_offers rows offers).frameworks c ≡ true) (λ c. is_registered rows.frameworks c ≡ true) (turn_order (with_offers rows offers))
+            (λ c known. sym (is_registered-with_offers rows offers c) ∙ known) (turn_order-registered (with_offers rows offers));
+      }
 
--- the last grant is taken back
-pub Granted-last : (limits : LimitNumbers) (n : ℕ) {first last : Rows} → Granted limits (suc n) first last → IsLastGrant limits last
-Granted-last limits n (more {middle} granted g) = record { before = middle; grant = g }
-
--- a grant is taken back
-pub IsGrant-back : (limits : LimitNumbers) (before after : Rows) → IsGrant limits before after → before_last after ≡ before
-IsGrant-back limits before after g =
-    ap before_last g.granted ∙ before_last-with_offer limits before g.right g.known_agent.0 g.agent g.known_agent.1 g.known_client.0 g.client g.known_client.1 (free_of before g.agent)
-
-pub Granted-before : (limits : LimitNumbers) (n : ℕ) (first last : Rows) → Granted limits (suc n) first last → Granted limits n first (before_last last)
-Granted-before limits n first last (more {middle} granted g) = subst (λ r. Granted limits n first r) (sym (IsGrant-back limits middle last g)) granted
-
-pub Granted-none : (limits : LimitNumbers) {first last : Rows} → Granted limits zero first last → last ≡ first
-Granted-none limits none = refl
-
--- some grants are left to be taken back
-pub Granted-left : (limits : LimitNumbers) (count taken : ℕ) (first rows : Rows) → taken < count → Granted limits (count - taken) first rows → Granted limits (suc (count - (taken + 1))) first rows
-Granted-left limits count taken first rows left granted = subst (λ n. Granted limits n first rows) (omega arith) granted
+-- all clients were tried
+pub tried_all : (rows after : Rows) (agent : AgentRow) (clients : List Client) (n : ℕ) → length clients ≤ n
+    → after ≡ all_tried rows agent (take n clients) → after ≡ all_tried rows agent clients
+tried_all rows after agent clients n all so_far = so_far ∙ ap (all_tried rows agent) (take_all n clients all)

@@ -1,4 +1,4 @@
 pub mod Machine
+pub mod Content
 pub mod Kept
-pub mod Inside
-pub mod Grants
+pub mod Drafting

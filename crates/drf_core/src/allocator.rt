@@ -1,41 +1,20 @@
 ghost use Rattle.std.specs.Prelude.{◌≡◌, ◌++◌, None, IfOk, OnOk, OnErr};
-ghost use Rattle.drf_core.specs.Machine.{opened, after, after_all, HasPlainRoles, HasRun};
+ghost use Rattle.drf_core.specs.Machine.{IsOpened, IsSame, IsAfter, IsAfterAll, IsSupported, HasRun};
 
-use drf_bundle::{Bundle, Quantities};
-use drf_role::Name;
-use drf_rows::{ClientRow, Event, Limits, OfferRow, Reply, Rows, Table};
+use crate::apply::apply;
+use crate::refusal::refusal;
+use drf_rows::{Event, Limits, Reply, Rows};
 use drf_sorter::Sorter;
-use indexmap::IndexMap;
-use listing::{agent_rows, framework_rows, offer_rows};
+use drf_tables::Tables;
 use std::alloc::{AllocError, Global};
 use std::marker::Model;
-
-mod cycle;
-mod listing;
-mod register;
-
-/// A registered agent. What is free of its total stands in `Core::free`, at the same place.
-#[derive(Drop)]
-struct Agent {
-    total: Bundle,
-    active: bool,
-}
 
 /// The allocator, over any lawful sorter.
 #[derive(Drop)]
 pub struct Core<S: Sorter> {
     alloc: Global,
     limits: Limits,
-    agents: IndexMap<Name, Agent>,
-    frameworks: IndexMap<Name, ClientRow>,
-    offers: Vec<OfferRow>,
-    clock: u64,
-    next_offer: u64,
-    accepted: u64,
-    // What is free of each agent, in the order of the agents.
-    free: Vec<Bundle>,
-    // What the agents have together.
-    total: Quantities,
+    tables: Tables,
     sorter: S,
 }
 
@@ -45,39 +24,27 @@ impl<S: Sorter> Model for Core<S> {
     ghost Value = { Machine };
 
     ghost use Rattle.drf_core.specs.Kept.{IsKept};
-    ghost use Rattle.drf_core.specs.Inside.{rows_of};
 
-    ghost view = { λ c. record {
-      limits = c.limits;
-      rows = rows_of c.agents.entries c.frameworks.entries c.offers.items c.clock c.next_offer c.accepted;
-    } };
+    ghost view = { λ c. record { limits = c.limits; rows = c.tables.rows } };
 
-    ghost invariant = { λ c. IsKept (S.content c.sorter) c.limits
-        (rows_of c.agents.entries c.frameworks.entries c.offers.items c.clock c.next_offer c.accepted)
-        c.free.items c.total };
+    ghost invariant = { λ c. IsKept (S.content c.sorter) c.limits c.tables.rows };
 }
 
 impl<S: Sorter> Core<S> {
     ghost use Rattle.std.specs.List.{AllByRecursion};
     ghost use Rattle.drf_rows.specs.Step.{live_rows, reply_to, replies_to, refusal_of};
-    ghost use Rattle.drf_core.specs.Kept.{IsConserved};
+    ghost use Rattle.drf_rows.specs.Consistent.{IsConserved, IsNumberedByEvents};
 
     /// An allocator with no rows.
     pub fn open(alloc: Global, limits: Limits) -> Result<Core<S>, AllocError>
-        ensures { IfOk result (λ core. core ≡ opened limits) }
+        ensures { IfOk result (IsOpened limits) }
     {
+        // Its limits are within the ceilings.
         let _ = limits.agents();
         Ok(Core {
             alloc,
             limits,
-            agents: IndexMap::new(alloc),
-            frameworks: IndexMap::new(alloc),
-            offers: Vec::new(alloc),
-            clock: 0,
-            next_offer: 1,
-            accepted: 0,
-            free: Vec::new(alloc),
-            total: Quantities::empty(alloc),
+            tables: Tables::new(alloc),
             sorter: S::open(alloc)?,
         })
     }
@@ -85,25 +52,32 @@ impl<S: Sorter> Core<S> {
     /// Takes one event, whole or not at all. A refusal is a reply; a refused event changes nothing, nor does want of
     /// memory, which no refused event meets.
     pub fn step(&mut self, event: Event) -> Result<Reply, AllocError>
-        requires { HasPlainRoles event }
+        requires { IsSupported event }
         ensures reply { IfOk result (λ reply. reply ≡ reply_to self.old.limits self.old.rows event) }
-        ensures ok { OnOk result (self.new ≡ after self.old event) }
-        ensures err { OnErr result (self.new ≡ self.old) }
+        ensures ok { OnOk result (IsAfter self.old self.new event) }
+        ensures err { OnErr result (IsSame self.old self.new) }
         ensures not_refused { OnErr result (refusal_of self.old.limits self.old.rows event ≡ None) }
     {
-        match event {
-            Event::AddAgent { agent, total } => self.add_agent(agent, total),
-            Event::AddFramework { framework, roles } => self.add_framework(framework, roles),
-            Event::Cycle { at } => self.cycle(at),
+        if let Some(refusal) = refusal(&self.limits, &self.tables, &event) {
+            return Ok(Reply::Refused(refusal));
         }
+        let reply = apply(
+            self.alloc,
+            &self.limits,
+            &mut self.tables,
+            &mut self.sorter,
+            event,
+        )?;
+        self.tables.count_event();
+        Ok(reply)
     }
 
     /// Takes events in order, and appends their replies. At an `Err` it stands after the events whose replies it has
     /// appended.
     pub fn run(&mut self, events: &[Event], replies: &mut Vec<Reply>) -> Result<(), AllocError>
-        requires { AllByRecursion HasPlainRoles events.now }
+        requires { AllByRecursion IsSupported events.now }
         ensures run { HasRun self.old self.new events.now replies.old.items replies.new.items }
-        ensures ok { OnOk result (self.new ≡ after_all self.old events.now) }
+        ensures ok { OnOk result (IsAfterAll self.old self.new events.now) }
         ensures replies { OnOk result (replies.new.items ≡ replies.old.items ++ replies_to self.old.limits self.old.rows events.now) }
     {
         for event in events {
@@ -115,19 +89,12 @@ impl<S: Sorter> Core<S> {
         Ok(())
     }
 
-    /// The rows as they stand.
+    /// The rows as they stand. No number of an offer is above 2^56, and nothing is granted twice.
     pub fn rows(&self) -> Result<Rows, AllocError>
         ensures rows { IfOk result (λ rows. rows ≡ live_rows self.now.rows) }
         ensures conserved { AllByRecursion (IsConserved self.now.rows) self.now.rows.agents }
+        ensures numbered { IsNumberedByEvents self.now.rows }
     {
-        Ok(Rows {
-            agents: agent_rows(self.alloc, &self.agents)?,
-            frameworks: framework_rows(self.alloc, &self.frameworks)?,
-            offers: offer_rows(self.alloc, &self.offers)?,
-            weights: Table::from_vec(Vec::new(self.alloc)),
-            clock: self.clock,
-            next_offer: self.next_offer,
-            accepted: self.accepted,
-        })
+        self.tables.rows()
     }
 }

@@ -2,5 +2,8 @@
 #![tactic(auto)]
 
 mod allocator;
+mod apply;
+mod cycle;
+mod refusal;
 
 pub use allocator::Core;

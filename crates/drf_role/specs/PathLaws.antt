@@ -1,15 +1,16 @@
 -- What comparing paths gives, and that no client path begins with another.
-use Rattle.std.specs.Prelude.{◌&&◌, codes}
+use Rattle.std.specs.Prelude.{◌-◌, ◌&&◌, slice_index_or, take, codes}
+use Rattle.std.proofs.Math.Seq.{take-append_seam}
 use Rattle.std.specs.Bool.{Decides}
-use Rattle.std.proofs.Common.{◌≡◌, ◌≢◌, true, false, [], ◌∷◌, ◌++◌, All, length, drop, refl, sym, ap, subst, ◌∙◌, inl, inr, append_assoc}
+use Rattle.std.proofs.Common.{◌≡◌, ◌≢◌, true, false, [], ◌∷◌, ◌++◌, All, length, drop, refl, sym, ap, subst, ◌∙◌, inl, inr, append_assoc, ◌+◌, arith, length-append}
 use Rattle.std.specs.Cmp.Lexicographic.{pointwise_decides, bytes_decides}
 use Rattle.std.proofs.lemmas.Bool.{false_from_ne_true}
 use Rattle.std.proofs.lemmas.Bool.Decides.{same_from_decides, Decides-and, Decides-like}
-use Rattle.std.proofs.lemmas.List.{append-nil, same_from_push}
+use Rattle.std.proofs.lemmas.List.{append-nil, same_from_push, get_or-append-add}
 use Rattle.std.proofs.lemmas.List.Elements.{All-head, All-tail}
 use Rattle.std.proofs.lemmas.Slice.Eq.{starts_is}
 use Rattle.drf_role.specs.Text.{Text, same_text}
-use Rattle.drf_role.specs.Path.{Path, same_path, begins_with, client_path, IsClientPath}
+use Rattle.drf_role.specs.Path.{Path, same_path, begins_with, client_path, IsClientPath, role_part, framework_part}
 use Rattle.drf_role.specs.Role.{IsComponent, IsRole}
 
 pub path_decides : (a b : Path) → Decides (same_path a b) (a ≡ b)
@@ -45,6 +46,23 @@ same_path-client_path r s f g =
     (λ (h : (f ≡ g) × (r ≡ s)). λ i. client_path (h.1 i) (h.0 i))
     (same_ends r s f g)
     (Decides-and (same_text f g) (same_path r s) (bytes_decides f g) (path_decides r s)))
+
+-- a client path gives back its role and its framework
+role_at : (r : Path) (a b : Text) → take (length (r ++ a ∷ b ∷ []) - 2) (r ++ a ∷ b ∷ []) ≡ r
+role_at r a b =
+    let e : length (r ++ a ∷ b ∷ []) - 2 ≡ length r = omega (arith, length-append r (a ∷ b ∷ [])) in
+    rw e (take-append_seam r (a ∷ b ∷ []))
+
+framework_at : (r : Path) (a b : Text) → slice_index_or (r ++ a ∷ b ∷ []) (length (r ++ a ∷ b ∷ []) - 1) [] ≡ b
+framework_at r a b =
+    let e : length (r ++ a ∷ b ∷ []) - 1 ≡ length r + 1 = omega (arith, length-append r (a ∷ b ∷ [])) in
+    rw e (get_or-append-add r (a ∷ b ∷ []) 1 [])
+
+pub role_part-client_path : (role : Path) (framework : Text) → role_part (client_path role framework) ≡ role
+role_part-client_path role framework = role_at role _ framework
+
+pub framework_part-client_path : (role : Path) (framework : Text) → framework_part (client_path role framework) ≡ framework
+framework_part-client_path role framework = framework_at role _ framework
 
 -- ---- no client path begins with another
 

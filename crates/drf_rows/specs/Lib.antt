@@ -11,10 +11,13 @@ pub mod Refusal
 pub mod Step
 pub mod ServingOrder
 pub mod HoldingsLaws
+pub mod ListLaws
 pub mod StepLaws
 pub mod RunLaws
 pub mod LiveLaws
 pub mod CycleLaws
+pub mod ConsistentLaws
+pub mod RegistrationLaws
 pub mod Examples
 pub mod OrderExamples
 pub mod Laws

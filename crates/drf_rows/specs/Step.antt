@@ -1,7 +1,7 @@
 -- The step of the allocator, and its run over a list of events.
-use Rattle.std.specs.Prelude.{ℕ, ◌+◌, Bool, true, false, not, ◌||◌, List, [], ◌∷◌, ◌++◌, length, map, filter, drop, Option, Some, None, if◌then◌else◌, nat_lt, nat_le}
+use Rattle.std.specs.Prelude.{ℕ, ◌+◌, Bool, true, false, not, ◌||◌, List, [], ◌∷◌, ◌++◌, length, map, filter, find, drop, Option, Some, None, if◌then◌else◌, nat_lt, nat_le}
 use Rattle.std.specs.List.{list_any}
-use Rattle.std.specs.Option.{option_map_or}
+use Rattle.std.specs.Option.{option_map, option_map_or}
 use Rattle.drf_role.specs.Text.{Text, same_text}
 use Rattle.drf_bundle.specs.Bundle.{quantities_of}
 use Rattle.drf_bundle.specs.declared.quantities.Entry.{Entry}
@@ -84,8 +84,7 @@ is_empty (x ∷ xs) = false
 
 -- the first of some cases that holds
 abbrev pub first_case : List (Bool × Refusal) → Option Refusal
-first_case [] = None
-first_case (c ∷ cs) = if c.0 then Some c.1 else first_case cs
+first_case cases = option_map (λ c. c.1) (find (λ c. c.0) cases)
 
 -- why an event is refused, if it is; where several cases hold, the least number is told
 unfoldable pub refusal_of : LimitNumbers → Rows → Event → Option Refusal

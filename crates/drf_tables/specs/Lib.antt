@@ -1,2 +1,4 @@
 pub mod Drafts
 pub mod Stored
+pub mod Inside
+pub mod Counting

@@ -1,8 +1,15 @@
 -- What tables are to their callers: the rows, and room for more frameworks.
-use Rattle.std.specs.Prelude.{ℕ}
+use Rattle.std.specs.Prelude.{◌≡◌, ℕ, []}
 use Rattle.drf_rows.specs.declared.rows.Rows.{Rows}
 
 pub record Stored : Type 0 where
   pub rows : Rows
   -- so many frameworks can be added without memory
   pub room : ℕ
+
+-- nothing but agents, frameworks and offers
+pub record IsPlain (rows : Rows) : Type 0 where
+  pub tasks : rows.tasks ≡ []
+  pub weights : rows.weights ≡ []
+  pub limits : rows.limits ≡ []
+  pub filters : rows.filters ≡ []

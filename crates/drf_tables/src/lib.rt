@@ -3,6 +3,7 @@
 #![tactic(auto)]
 
 mod listing;
+mod offers;
 mod tables;
 
 pub use tables::{Left, Tables};

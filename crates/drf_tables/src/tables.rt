@@ -1,10 +1,22 @@
-ghost use Rattle.std.specs.Prelude.{◌≡◌, ◌+◌, ◌<◌, ◌≤◌, ◌^◌, [], ◌∷◌, ◌++◌, true, false, length, slice_get, Some, All, IfOk, OnOk, OnErr};
+#![tactic(auto, unfolding(crate::specs::Inside::rows_of))]
+
+ghost use Rattle.std.specs.Prelude.{◌≡◌, ◌+◌, ◌<◌, ◌≤◌, ◌^◌, ℕ, List, [], ◌∷◌, ◌++◌, true, false, length, map, slice_get, Some, All, IfOk, OnOk, OnErr};
+ghost use Rattle.std.specs.List.{AllByRecursion};
+ghost use Rattle.drf_role.specs.Text.{Text};
+ghost use Rattle.drf_bundle.specs.Quantities.{amount_of};
+ghost use Rattle.drf_bundle.specs.Bundle.{quantities_of};
 ghost use Rattle.drf_rows.specs.Held.{clients_of, cluster_total};
 ghost use Rattle.drf_rows.specs.Cycle.{free_of};
 ghost use Rattle.drf_rows.specs.Step.{opening, live_rows, has_agent, has_framework, with_agent};
-ghost use Rattle.drf_rows.specs.Consistent.{IsAgent, IsConsistent, are_distinct_roles};
+ghost use Rattle.drf_rows.specs.Consistent.{IsConsistent, are_distinct_roles};
+ghost use Rattle.drf_rows.specs.declared.limits.TheConstants.{LARGEST_AMOUNT};
+ghost use Rattle.drf_rows.specs.declared.rows.AgentRow.{AgentRow};
+ghost use Rattle.drf_rows.specs.declared.rows.FrameworkRow.{FrameworkRow};
 ghost use Rattle.drf_tables.specs.Drafts.{with_offers, frees_of, frees_after};
+ghost use Rattle.drf_tables.specs.Stored.{IsPlain};
 
+use crate::listing::{agent_rows, framework_rows, offer_rows};
+use crate::offers::{count_offers, put_lefts};
 use drf_bundle::{Bundle, Quantities};
 use drf_role::Name;
 use drf_rows::{ClientRow, OfferRow, Rows, Table};
@@ -14,15 +26,16 @@ use std::marker::Model;
 
 /// A registered agent, and what is free of its total.
 #[derive(Drop)]
-struct Agent {
-    total: Bundle,
-    active: bool,
-    free: Bundle,
+pub(crate) struct Agent {
+    pub(crate) total: Bundle,
+    pub(crate) active: bool,
+    pub(crate) free: Bundle,
 }
 
 /// What an agent's turn leaves of its free part.
 #[derive(Drop)]
 pub struct Left {
+    /// The place of the agent, by registration.
     pub agent: usize,
     pub free: Bundle,
 }
@@ -31,7 +44,7 @@ pub struct Left {
 #[derive(Drop)]
 pub struct Tables {
     agents: IndexMap<Name, Agent>,
-    frameworks: IndexMap<Name, Table<ClientRow>>,
+    frameworks: IndexMap<Name, Vec<ClientRow>>,
     offers: Vec<OfferRow>,
     clock: u64,
     next_offer: u64,
@@ -40,4 +53,223 @@ pub struct Tables {
     total: Quantities,
     // How many clients the frameworks have together.
     clients: usize,
+}
+
+impl Model for Tables {
+    ghost use Rattle.drf_tables.specs.Stored.{Stored};
+
+    ghost Value = { Stored };
+
+    ghost use Rattle.indexmap.specs.IndexMap.{spare};
+    ghost use Rattle.drf_tables.specs.Inside.{rows_of, frees_in, IsKept};
+
+    ghost view = { λ t. record {
+      rows = rows_of t.agents.entries t.frameworks.entries t.offers.items t.clock t.next_offer t.accepted;
+      room = spare t.frameworks;
+    } };
+
+    ghost invariant = { λ t. IsKept
+        (rows_of t.agents.entries t.frameworks.entries t.offers.items t.clock t.next_offer t.accepted)
+        (frees_in t.agents.entries) t.total t.clients };
+}
+
+impl Tables {
+    /// Tables with no rows.
+    pub fn new(alloc: Global) -> Tables
+        ensures { result.rows ≡ opening }
+    {
+        Tables {
+            agents: IndexMap::new(alloc),
+            frameworks: IndexMap::new(alloc),
+            offers: Vec::new(alloc),
+            clock: 0,
+            next_offer: 1,
+            accepted: 0,
+            total: Quantities::empty(alloc),
+            clients: 0,
+        }
+    }
+
+    /// The greatest moment of all cycles, in milliseconds.
+    pub fn clock(&self) -> u64
+        ensures value { result ≡ self.now.rows.clock }
+        ensures consistent { IsConsistent self.now.rows }
+    {
+        self.clock
+    }
+
+    /// The number of the offer that is made next.
+    pub fn next_offer(&self) -> u64
+        ensures { result ≡ self.now.rows.next_offer }
+    {
+        self.next_offer
+    }
+
+    /// How many events were accepted.
+    pub fn accepted(&self) -> u64
+        ensures value { result ≡ self.now.rows.accepted }
+        ensures consistent { IsConsistent self.now.rows }
+        ensures plain { IsPlain self.now.rows }
+    {
+        self.accepted
+    }
+
+    pub fn agent_count(&self) -> usize
+        ensures { result ≡ length self.now.rows.agents }
+    {
+        self.agents.len()
+    }
+
+    pub fn framework_count(&self) -> usize
+        ensures { result ≡ length self.now.rows.frameworks }
+    {
+        self.frameworks.len()
+    }
+
+    /// How many clients the frameworks have together.
+    pub fn client_count(&self) -> usize
+        ensures { result ≡ length (clients_of self.now.rows) }
+    {
+        self.clients
+    }
+
+    pub fn has_agent(&self, name: &Name) -> bool
+        ensures { result ≡ has_agent self.now.rows name.now }
+    {
+        self.agents.contains_key(name)
+    }
+
+    pub fn has_framework(&self, name: &Name) -> bool
+        ensures { result ≡ has_framework self.now.rows name.now }
+    {
+        self.frameworks.contains_key(name)
+    }
+
+    /// What the agents have together, those that are not active among them.
+    pub fn total(&self) -> &Quantities
+        ensures { result.now ≡ cluster_total self.now.rows.agents }
+    {
+        &self.total
+    }
+
+    /// The name of the agent at a place, by registration.
+    pub fn agent_name(&self, place: usize) -> &Name
+        requires { place < length self.now.rows.agents }
+        ensures { (a : AgentRow) → slice_get self.now.rows.agents place ≡ Some a → result.now ≡ a.name }
+    {
+        let (name, _) = self.agents.get_index(place).unwrap();
+        name
+    }
+
+    /// Whether the agent at a place is active.
+    pub fn is_active(&self, place: usize) -> bool
+        requires { place < length self.now.rows.agents }
+        ensures { (a : AgentRow) → slice_get self.now.rows.agents place ≡ Some a → result ≡ a.active }
+    {
+        self.agents[place].active
+    }
+
+    /// What is free on the agent at a place.
+    pub fn free(&self, place: usize) -> &Bundle
+        requires { place < length self.now.rows.agents }
+        ensures { (a : AgentRow) → slice_get self.now.rows.agents place ≡ Some a → result.now ≡ free_of self.now.rows a }
+    {
+        &self.agents[place].free
+    }
+
+    pub fn set_clock(&mut self, clock: u64)
+        ensures { self.new.rows ≡ record self.old.rows { clock = clock } }
+    {
+        self.clock = clock;
+    }
+
+    /// Counts an accepted event.
+    pub fn count_event(&mut self)
+        requires { self.old.rows.accepted + 1 < 2 ^ 64 }
+        ensures { self.new.rows ≡ record self.old.rows { accepted = self.old.rows.accepted + 1 } }
+    {
+        self.accepted += 1;
+    }
+
+    /// Adds an agent that is active. An `Err` changes no row.
+    pub fn add_agent(&mut self, name: Name, total: Bundle) -> Result<(), AllocError>
+        requires new { has_agent self.old.rows name ≡ false }
+        requires small { (label : Text) → amount_of (quantities_of total) label ≤ LARGEST_AMOUNT }
+        requires few { length self.old.rows.agents < 4096 }
+        ensures ok { OnOk result (self.new.rows ≡ record self.old.rows { agents = with_agent self.old.rows name total }) }
+        ensures err { OnErr result (self.new.rows ≡ self.old.rows) }
+    {
+        let sum = self.total.plus(total.quantities())?;
+        let free = total.copy()?;
+        self.agents.insert(
+            name,
+            Agent {
+                total,
+                active: true,
+                free,
+            },
+        )?;
+        self.total = sum;
+        Ok(())
+    }
+
+    /// Makes room for a framework, so that it can be added without memory.
+    pub fn reserve_framework(&mut self) -> Result<(), AllocError>
+        ensures ok { OnOk result (1 ≤ self.new.room) }
+        ensures same { self.new.rows ≡ self.old.rows }
+    {
+        self.frameworks.reserve(1)
+    }
+
+    /// Adds a framework with its clients, to which no offer was made yet. It needs no memory.
+    pub fn add_framework(&mut self, name: Name, clients: Table<ClientRow>)
+        requires room { 1 ≤ self.old.room }
+        requires new { has_framework self.old.rows name ≡ false }
+        requires roles { are_distinct_roles (map (λ c. c.role) clients) ≡ true }
+        requires uncounted { AllByRecursion (λ c. c.count ≡ 0) clients }
+        requires few { length (clients_of self.old.rows) + length clients < 2 ^ 64 }
+        ensures { self.new.rows ≡ record self.old.rows { frameworks = self.old.rows.frameworks ++ record { name = name; clients = clients } ∷ [] } }
+    {
+        self.clients += clients.len();
+        let _ = self.frameworks.insert(name, clients.into_vec()).unwrap();
+    }
+
+    /// Takes the offers of a whole cycle over: they stand last, each is counted at its client, and on the agents is free
+    /// what they left. An `Err` changes no row and no offer.
+    pub fn commit(&mut self, offers: &mut Vec<OfferRow>, lefts: Vec<Left>) -> Result<(), AllocError>
+        requires consistent { IsConsistent (with_offers self.old.rows offers.old.items) }
+        requires left { frees_after (frees_of self.old.rows) lefts.items ≡ frees_of (with_offers self.old.rows offers.old.items) }
+        requires places { All (λ left. left.agent < length self.old.rows.agents) lefts.items }
+        requires fits { (with_offers self.old.rows offers.old.items).next_offer < 2 ^ 64 }
+        ensures ok { OnOk result (self.new.rows ≡ with_offers self.old.rows offers.old.items) }
+        ensures moved { OnOk result (offers.new.items ≡ []) }
+        ensures err { OnErr result ((self.new.rows ≡ self.old.rows) × (offers.new.items ≡ offers.old.items)) }
+    {
+        let before = self.offers.len();
+        let made = offers.len();
+        self.offers.append(offers)?;
+        count_offers(&mut self.frameworks, &self.offers[before..]);
+        put_lefts(&mut self.agents, lefts);
+        self.next_offer += made as u64;
+        Ok(())
+    }
+
+    /// The rows as they stand.
+    pub fn rows(&self) -> Result<Rows, AllocError>
+        ensures { IfOk result (λ rows. rows ≡ live_rows self.now.rows) }
+    {
+        let alloc = *self.offers.allocator();
+        Ok(Rows {
+            agents: agent_rows(alloc, &self.agents)?,
+            frameworks: framework_rows(alloc, &self.frameworks)?,
+            offers: offer_rows(alloc, &self.offers)?,
+            tasks: Table::from_vec(Vec::new(alloc)),
+            weights: Table::from_vec(Vec::new(alloc)),
+            limits: Table::from_vec(Vec::new(alloc)),
+            filters: Table::from_vec(Vec::new(alloc)),
+            clock: self.clock,
+            next_offer: self.next_offer,
+            accepted: self.accepted,
+        })
+    }
 }

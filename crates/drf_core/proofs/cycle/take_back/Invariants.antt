@@ -1,0 +1,17 @@
+use Rattle.std.proofs.Common.{◌≡◌, true, vec_len}
+use Rattle.std.specs.List.{AllByRecursion}
+use Rattle.drf_rows.specs.Holdings.{of_offer}
+use Rattle.drf_rows.specs.Consistent.{is_registered}
+use Rattle.drf_tables.specs.Drafts.{with_offers}
+use Rattle.drf_core.specs.Content.{content_of}
+use Rattle.drf_core.proofs.cycle.take_back.Given as goal
+
+-- the sorter knows the drafts that are left, each of a registered client
+abbrev pub invariant-loop-offer : goal.invariant-loop-offer
+invariant-loop-offer g l = record {
+  sorted : g.S.Sorter.content l.sorter ≡ content_of (with_offers l.tables.rows l.offers.items);
+  clients : AllByRecursion (λ o. is_registered l.tables.rows.frameworks (of_offer o).client ≡ true) l.offers.items;
+}
+
+abbrev pub decreases-loop-offer : goal.decreases-loop-offer
+decreases-loop-offer g l = vec_len l.offers

@@ -1,0 +1,73 @@
+use Rattle.std.proofs.Common.{◌≡◌, ◌+◌, ◌<◌, ◌^◌, ◌∷◌, ◌++◌, [], length, ap, ◌∙◌, sym, subst, arith}
+use Rattle.drf_bundle.specs.declared.quantities.Entry.{Entry}
+use Rattle.drf_rows.specs.declared.rows.OfferRow.{OfferRow}
+use Rattle.drf_sorter.specs.Content.{Content, IsSound, with_change, charged}
+use Rattle.drf_tables.specs.Drafts.{with_offers}
+use Rattle.drf_core.specs.Drafting.{IsDrafting, IsFreeAt, IsTried}
+use Rattle.drf_core.proofs.DraftTried.{IsNext, next_from, known_next, sound_next, drafting_next, tried_next, free_next, tried_nothing}
+use Rattle.drf_core.proofs.cycle.try_client.Given as given
+use Rattle.drf_core.proofs.cycle.try_client.Goals.{After-quantities}
+use Rattle.drf_core.proofs.cycle.try_client.Goals as goal
+
+-- the row that is made is that of the next draft
+next_at : (g : given.Over) (c : After-quantities g)
+    → IsNext c.args.tables.now.rows c.args.offers.now.items c.args.place c.args.client.now c.args.free.now c.in-Some.bundle c.in_ok-offer.offer
+next_at g c =
+    next_from c.args.tables.now.rows c.args.offers.now.items c.args.place c.args.client.now c.args.free.now c.in-Some.bundle c.in_ok-offer.offer
+    (c.next_offer.result + c.len.result) c.agent_name.result.now
+    c.requires.free c.requires.client c.in-Some.ensures.granted c.agent_name.ensures
+    (omega (arith, c.next_offer.ensures, c.len.ensures, c.args.offers.now.ok.0)) c.in_ok-offer.ensures
+
+fits_at : (g : given.Over) (c : After-quantities g) → c.args.tables.now.rows.next_offer + length c.args.offers.now.items + 1 < 2 ^ 64
+fits_at g c = omega arith
+
+bundle_at : (g : given.Over) (c : After-quantities g) → c.quantities.result.now ≡ c.in-Some.bundle
+bundle_at g c = c.quantities.ensures.value ∙ ap (λ (o : OfferRow). o.bundle) (c.in_ok-offer.ensures)
+
+pub charge-requires-clause-known : goal.charge-requires-clause-known
+charge-requires-clause-known g c =
+    known_next (g.S.Sorter.content c.args.sorter.now) c.args.tables.now.rows c.args.offers.now.items c.requires.drafting c.args.place c.args.client.now
+    c.args.free.now c.in-Some.bundle c.in_ok-offer.offer (next_at g c) (fits_at g c)
+
+pub charge-requires-clause-sound : goal.charge-requires-clause-sound
+charge-requires-clause-sound g c =
+    rw (bundle_at g c)
+    (sound_next (g.S.Sorter.content c.args.sorter.now) c.args.tables.now.rows c.args.offers.now.items c.requires.drafting c.args.place c.args.client.now
+    c.args.free.now c.in-Some.bundle c.in_ok-offer.offer (next_at g c) (fits_at g c))
+
+pub returns-clause-drafting : goal.returns-clause-drafting
+returns-clause-drafting g c =
+    let b = (goal.at.returns-clause-drafting g c).After-quantities in
+    let content = g.S.Sorter.content c.args.sorter.now in
+    let items : c.push_reserved.new.self.items ≡ c.args.offers.now.items ++ c.in_ok-offer.offer ∷ [] =
+    c.push_reserved.ensures.items ∙ ap (λ os. os ++ c.in_ok-offer.offer ∷ []) c.reserve.ensures.items in
+    let charge : g.S.Sorter.content c.charge.new.self ≡ with_change content c.args.client.now (charged c.in-Some.bundle) =
+    c.in_ok-charge.ensures.ok ∙ ap (λ q. with_change content c.args.client.now (charged q)) (bundle_at g b) in
+    rw items
+    (drafting_next content c.args.tables.now.rows c.args.offers.now.items c.requires.drafting c.args.place c.args.client.now
+    c.args.free.now c.in-Some.bundle c.in_ok-offer.offer (next_at g b) (fits_at g b) (g.S.Sorter.content c.charge.new.self) charge)
+
+pub returns-clause-tried : goal.returns-clause-tried
+returns-clause-tried g c =
+    let b = (goal.at.returns-clause-tried g c).After-quantities in
+    let items : c.push_reserved.new.self.items ≡ c.args.offers.now.items ++ c.in_ok-offer.offer ∷ [] =
+    c.push_reserved.ensures.items ∙ ap (λ os. os ++ c.in_ok-offer.offer ∷ []) c.reserve.ensures.items in
+    rw items
+    (tried_next (g.S.Sorter.content c.args.sorter.now) c.args.tables.now.rows c.args.offers.now.items c.requires.drafting c.args.place c.args.client.now
+    c.args.free.now c.in-Some.bundle c.in_ok-offer.offer (next_at g b) (fits_at g b))
+
+pub returns-clause-free : goal.returns-clause-free
+returns-clause-free g c =
+    let b = (goal.at.returns-clause-free g c).After-quantities in
+    let items : c.push_reserved.new.self.items ≡ c.args.offers.now.items ++ c.in_ok-offer.offer ∷ [] =
+    c.push_reserved.ensures.items ∙ ap (λ os. os ++ c.in_ok-offer.offer ∷ []) c.reserve.ensures.items in
+    rw items
+    (free_next (g.S.Sorter.content c.args.sorter.now) c.args.tables.now.rows c.args.offers.now.items c.requires.drafting c.args.place c.args.client.now
+    c.args.free.now c.in-Some.bundle c.in_ok-offer.offer (next_at g b) (fits_at g b) c.grant.new.free c.in-Some.ensures.left)
+
+pub returns-in_default-clause-tried : goal.returns-in_default-clause-tried
+returns-in_default-clause-tried g c =
+    tried_nothing (with_offers c.args.tables.now.rows c.args.offers.now.items) c.args.place c.args.client.now c.args.free.now c.requires.free c.in_default.ensures.granted
+
+pub returns-in_default-clause-free : goal.returns-in_default-clause-free
+returns-in_default-clause-free g c = rw c.in_default.ensures.left c.requires.free

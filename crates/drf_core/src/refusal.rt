@@ -1,0 +1,83 @@
+//! Why an event is refused. No test needs memory.
+ghost use Rattle.std.specs.Prelude.{◌≡◌, ◌≤◌, length, nat_lt};
+ghost use Rattle.std.specs.List.{list_any};
+ghost use Rattle.drf_bundle.specs.Bundle.{quantities_of};
+ghost use Rattle.drf_rows.specs.Step.{first_case, is_empty, is_full, too_many_agents, too_many_frameworks, with_agent, refusal_of};
+ghost use Rattle.drf_core.specs.Machine.{IsSupported};
+ghost use Rattle.drf_core.specs.Kept.{AreFew};
+
+use drf_bundle::Bundle;
+use drf_role::{Name, Role};
+use drf_rows::{Event, LARGEST_AMOUNT, LATEST_MOMENT, Limits, Refusal, Table};
+use drf_tables::Tables;
+
+/// The first of some cases that holds.
+fn first_case(cases: &[(bool, Refusal)]) -> Option<Refusal>
+    ensures { result ≡ first_case cases.now }
+{
+    cases.iter().find(|case| case.0).map(|case| case.1)
+}
+
+/// As many events as the limit were accepted.
+fn is_full(limits: &Limits, tables: &Tables) -> bool
+    ensures { result ≡ is_full limits.now tables.now.rows }
+{
+    limits.events() <= tables.accepted()
+}
+
+/// A scalar of the total is above the largest amount.
+fn is_too_large(total: &Bundle) -> bool
+    ensures { result ≡ list_any (λ e. nat_lt LARGEST_AMOUNT e.amount) (quantities_of total.now) }
+{
+    total
+        .quantities()
+        .entries()
+        .iter()
+        .any(|entry| LARGEST_AMOUNT < entry.amount.thousandths())
+}
+
+/// With one more agent the agents, or the names of scalars over all of them, would be too many.
+fn too_many_agents(limits: &Limits, tables: &Tables, agent: &Name, total: &Bundle) -> bool
+    requires { AreFew limits.now tables.now.rows }
+    ensures { result ≡ too_many_agents limits.now (with_agent tables.now.rows agent.now total.now) }
+{
+    let agents = tables.agent_count() as u64 + 1;
+    let names = tables.total().count_with(total.quantities());
+    limits.agents() < agents || limits.scalar_names() < names
+}
+
+/// With one more framework the frameworks, its roles, or the clients would be too many.
+fn too_many_frameworks(limits: &Limits, tables: &Tables, roles: &Table<Role>) -> bool
+    requires few { AreFew limits.now tables.now.rows }
+    requires supported { length roles.now ≤ 1 }
+    ensures { result ≡ too_many_frameworks limits.now tables.now.rows roles.now }
+{
+    let frameworks = tables.framework_count() as u64 + 1;
+    let roles = roles.len() as u64;
+    let clients = tables.client_count() as u64 + roles;
+    limits.frameworks() < frameworks || limits.roles() < roles || limits.clients() < clients
+}
+
+/// Why an event is refused, if it is: of several cases the one of the least number.
+pub fn refusal(limits: &Limits, tables: &Tables, event: &Event) -> Option<Refusal>
+    requires few { AreFew limits.now tables.now.rows }
+    requires supported { IsSupported event.now }
+    ensures { result ≡ refusal_of limits.now tables.now.rows event.now }
+{
+    let full = (is_full(limits, tables), Refusal::HistoryFull);
+    match event {
+        Event::AddAgent { agent, total } => first_case(&[
+            full,
+            (tables.has_agent(agent), Refusal::KnownAgent),
+            (is_too_large(total), Refusal::TooLarge),
+            (too_many_agents(limits, tables, agent, total), Refusal::TooMany),
+        ]),
+        Event::AddFramework { framework, roles } => first_case(&[
+            full,
+            (tables.has_framework(framework), Refusal::KnownFramework),
+            (roles.is_empty(), Refusal::Empty),
+            (too_many_frameworks(limits, tables, roles), Refusal::TooMany),
+        ]),
+        Event::Cycle { at } => first_case(&[full, (LATEST_MOMENT < *at, Refusal::BadMoment)]),
+    }
+}

@@ -1,0 +1,4 @@
+pub mod Entries
+pub mod Counted
+pub mod Kept
+pub mod Fields

@@ -1,0 +1,22 @@
+-- Offers that are counted at their clients.
+use Rattle.std.specs.Prelude.{ℕ, ◌+◌, ◌^◌, ◌<◌, List, fold, map}
+use Rattle.std.specs.List.{AllByRecursion}
+use Rattle.drf_rows.specs.Cycle.{count_offer}
+use Rattle.drf_rows.specs.Holdings.{of_offer}
+use Rattle.drf_rows.specs.declared.rows.ClientRow.{ClientRow}
+use Rattle.drf_rows.specs.declared.rows.FrameworkRow.{FrameworkRow}
+use Rattle.drf_rows.specs.declared.rows.OfferRow.{OfferRow}
+
+-- the frameworks, an offer counted at its client
+abbrev pub counting : List FrameworkRow → OfferRow → List FrameworkRow
+counting frameworks offer = map (count_offer (of_offer offer).client) frameworks
+
+abbrev pub counting_all : List FrameworkRow → List OfferRow → List FrameworkRow
+counting_all frameworks offers = fold counting frameworks offers
+
+-- so many more offers can be counted at each of the clients
+abbrev pub CanCount : ℕ → List ClientRow → Type 0
+CanCount number clients = AllByRecursion (λ c. c.count + number < 2 ^ 64) clients
+
+abbrev pub CanCountAll : ℕ → List FrameworkRow → Type 0
+CanCountAll number frameworks = AllByRecursion (λ f. CanCount number f.clients) frameworks

@@ -1,0 +1,48 @@
+-- The rows that the fields of tables stand for, and what the fields keep beside the rows.
+use Rattle.std.specs.Prelude.{◌≡◌, ℕ, List, [], length, map}
+use Rattle.std.specs.Global.{Vec}
+use Rattle.drf_role.specs.Text.{Text}
+use Rattle.drf_bundle.specs.declared.quantities.Entry.{Entry}
+use Rattle.drf_rows.specs.Held.{clients_of, cluster_total}
+use Rattle.drf_rows.specs.Consistent.{IsConsistent}
+use Rattle.drf_rows.specs.declared.rows.AgentRow.{AgentRow}
+use Rattle.drf_rows.specs.declared.rows.ClientRow.{ClientRow}
+use Rattle.drf_rows.specs.declared.rows.FrameworkRow.{FrameworkRow}
+use Rattle.drf_rows.specs.declared.rows.OfferRow.{OfferRow}
+use Rattle.drf_rows.specs.declared.rows.Rows.{Rows}
+use Rattle.drf_tables.specs.Drafts.{frees_of}
+use Rattle.drf_tables.specs.declared.tables.Agent.{Agent}
+
+abbrev pub agent_row : Text × Agent → AgentRow
+agent_row e = record { name = e.0; total = e.1.total; active = e.1.active }
+
+abbrev pub framework_row : Text × Vec ClientRow → FrameworkRow
+framework_row e = record { name = e.0; clients = e.1.items }
+
+abbrev pub framework_rows : List (Text × Vec ClientRow) → List FrameworkRow
+framework_rows entries = map framework_row entries
+
+-- the free part of each agent
+abbrev pub frees_in : List (Text × Agent) → List (List Entry)
+frees_in entries = map (λ e. e.1.free) entries
+
+unfoldable pub rows_of : List (Text × Agent) → List (Text × Vec ClientRow) → List OfferRow → ℕ → ℕ → ℕ → Rows
+rows_of agents frameworks offers clock next_offer accepted = record {
+  agents = map agent_row agents;
+  frameworks = framework_rows frameworks;
+  offers = offers;
+  tasks = [];
+  weights = [];
+  limits = [];
+  filters = [];
+  clock = clock;
+  next_offer = next_offer;
+  accepted = accepted;
+}
+
+-- what is kept beside the rows is what they say
+pub record IsKept (rows : Rows) (frees : List (List Entry)) (sum : List Entry) (number : ℕ) : Type 0 where
+  pub consistent : IsConsistent rows
+  pub free : frees ≡ frees_of rows
+  pub total : sum ≡ cluster_total rows.agents
+  pub clients : number ≡ length (clients_of rows)

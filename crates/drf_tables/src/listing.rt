@@ -1,0 +1,72 @@
+//! The rows, as they are handed out.
+ghost use Rattle.std.specs.Prelude.{◌≡◌, map, IfOk};
+ghost use Rattle.drf_tables.specs.Inside.{agent_row, framework_rows};
+
+use crate::tables::Agent;
+use drf_role::Name;
+use drf_rows::{AgentRow, ClientRow, FrameworkRow, OfferRow, Table};
+use indexmap::IndexMap;
+use std::alloc::{AllocError, Global};
+
+pub(crate) fn agent_rows(
+    alloc: Global,
+    agents: &IndexMap<Name, Agent>,
+) -> Result<Table<AgentRow>, AllocError>
+    ensures { IfOk result (λ rows. rows ≡ map agent_row agents.now.entries) }
+{
+    let mut rows = Vec::with_capacity(alloc, agents.len())?;
+    for (name, agent) in agents {
+        rows.push(AgentRow {
+            name: name.copy()?,
+            total: agent.total.copy()?,
+            active: agent.active,
+        })?;
+    }
+    Ok(Table::from_vec(rows))
+}
+
+fn client_rows(alloc: Global, clients: &[ClientRow]) -> Result<Table<ClientRow>, AllocError>
+    ensures { IfOk result (λ rows. rows ≡ clients.now) }
+{
+    let mut rows = Vec::with_capacity(alloc, clients.len())?;
+    for client in clients {
+        rows.push(ClientRow {
+            role: client.role.copy()?,
+            count: client.count,
+            suppressed: client.suppressed,
+        })?;
+    }
+    Ok(Table::from_vec(rows))
+}
+
+pub(crate) fn framework_rows(
+    alloc: Global,
+    frameworks: &IndexMap<Name, Vec<ClientRow>>,
+) -> Result<Table<FrameworkRow>, AllocError>
+    ensures { IfOk result (λ rows. rows ≡ framework_rows frameworks.now.entries) }
+{
+    let mut rows = Vec::with_capacity(alloc, frameworks.len())?;
+    for (name, clients) in frameworks {
+        rows.push(FrameworkRow {
+            name: name.copy()?,
+            clients: client_rows(alloc, clients)?,
+        })?;
+    }
+    Ok(Table::from_vec(rows))
+}
+
+pub(crate) fn offer_rows(alloc: Global, offers: &[OfferRow]) -> Result<Table<OfferRow>, AllocError>
+    ensures { IfOk result (λ rows. rows ≡ offers.now) }
+{
+    let mut rows = Vec::with_capacity(alloc, offers.len())?;
+    for offer in offers {
+        rows.push(OfferRow {
+            number: offer.number,
+            agent: offer.agent.copy()?,
+            framework: offer.framework.copy()?,
+            role: offer.role.copy()?,
+            bundle: offer.bundle.copy()?,
+        })?;
+    }
+    Ok(Table::from_vec(rows))
+}

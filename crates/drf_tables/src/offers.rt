@@ -1,0 +1,58 @@
+//! What the offers of a cycle change: the counts of their clients, and what is free on the agents.
+ghost use Rattle.std.specs.Prelude.{◌≡◌, ◌<◌, map, length, All, true};
+ghost use Rattle.drf_rows.specs.Cycle.{counted};
+ghost use Rattle.drf_rows.specs.Holdings.{of_offer};
+ghost use Rattle.drf_rows.specs.Consistent.{are_distinct};
+ghost use Rattle.drf_tables.specs.Drafts.{frees_after};
+ghost use Rattle.drf_tables.specs.Counting.{counting, counting_all, CanCount, CanCountAll};
+ghost use Rattle.drf_tables.specs.Inside.{agent_row, framework_rows, frees_in};
+
+use crate::tables::{Agent, Left};
+use drf_role::Name;
+use drf_rows::{ClientRow, OfferRow};
+use indexmap::IndexMap;
+
+/// Counts an offer at the client, of those of its framework, that has its role.
+fn count_at(clients: &mut [ClientRow], offer: &OfferRow)
+    requires { CanCount 1 clients.old }
+    ensures { clients.new ≡ map (counted (of_offer offer.now).client) clients.old }
+{
+    for client in clients.iter_mut() {
+        if client.role == offer.role {
+            client.count += 1;
+        }
+    }
+}
+
+/// Counts an offer at its client.
+fn count_offer(frameworks: &mut IndexMap<Name, Vec<ClientRow>>, offer: &OfferRow)
+    requires names { are_distinct (map (λ f. f.name) (framework_rows frameworks.old.entries)) ≡ true }
+    requires fits { CanCountAll 1 (framework_rows frameworks.old.entries) }
+    ensures { framework_rows frameworks.new.entries ≡ counting (framework_rows frameworks.old.entries) offer.now }
+{
+    if let Some(place) = frameworks.get_index_of(&offer.framework) {
+        count_at(&mut frameworks[place], offer);
+    }
+}
+
+/// Counts each offer at its client.
+pub(crate) fn count_offers(frameworks: &mut IndexMap<Name, Vec<ClientRow>>, offers: &[OfferRow])
+    requires names { are_distinct (map (λ f. f.name) (framework_rows frameworks.old.entries)) ≡ true }
+    requires fits { CanCountAll (length offers.now) (framework_rows frameworks.old.entries) }
+    ensures { framework_rows frameworks.new.entries ≡ counting_all (framework_rows frameworks.old.entries) offers.now }
+{
+    for offer in offers {
+        count_offer(frameworks, offer);
+    }
+}
+
+/// Puts what is left on agents in the place of what was free there.
+pub(crate) fn put_lefts(agents: &mut IndexMap<Name, Agent>, lefts: Vec<Left>)
+    requires { All (λ left. left.agent < length agents.old.entries) lefts.items }
+    ensures rows { map agent_row agents.new.entries ≡ map agent_row agents.old.entries }
+    ensures free { frees_in agents.new.entries ≡ frees_after (frees_in agents.old.entries) lefts.items }
+{
+    for left in lefts {
+        agents[left.agent].free = left.free;
+    }
+}

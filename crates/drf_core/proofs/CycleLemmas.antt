@@ -4,11 +4,12 @@ use Rattle.std.specs.Prelude.{◌^◌, max, slice_get, filter, All}
 use Rattle.std.specs.List.{AllByRecursion}
 use Rattle.std.specs.Option.{option_map_or}
 use Rattle.std.proofs.Math.Seq.{drop-append_seam}
+use Rattle.std.proofs.lemmas.List.{length-map}
 use Rattle.std.proofs.lemmas.List.Elements.{All-from_recursion}
 use Rattle.drf_bundle.specs.declared.quantities.Entry.{Entry}
 use Rattle.drf_rows.specs.Client.{Client}
 use Rattle.drf_rows.specs.Held.{clients_of}
-use Rattle.drf_rows.specs.Cycle.{grant, new_offer, with_offer, tried, all_tried, turn_order, turn, turns, at_moment, cycle}
+use Rattle.drf_rows.specs.Cycle.{grant, count_offer, new_offer, with_offer, tried, all_tried, turn_order, turn, turns, at_moment, cycle}
 use Rattle.drf_rows.specs.CycleLaws.{clients_of-with_offer}
 use Rattle.drf_rows.specs.LimitNumbers.{LimitNumbers}
 use Rattle.drf_rows.specs.Consistent.{IsConsistent}
@@ -122,6 +123,31 @@ unfolding turn
 turns-clients rows [] = refl
 turns-clients rows (agent ∷ agents) = turns-clients (turn rows agent) agents ∙ all_tried-clients rows agent (turn_order rows)
 
+-- the agents stay, and as many frameworks
+tried-tables : (rows : Rows) (agent : AgentRow) (client : Client) (granted : Option (List Entry))
+    → let after : Rows = option_map_or (λ b. with_offer rows (new_offer rows agent client b)) granted rows in
+    (after.agents ≡ rows.agents) × (length after.frameworks ≡ length rows.frameworks) × (after.accepted ≡ rows.accepted)
+unfolding with_offer
+tried-tables rows agent client None = (refl, refl, refl)
+tried-tables rows agent client (Some bundle) = (refl, length-map rows.frameworks (count_offer client), refl)
+
+all_tried-tables : (rows : Rows) (agent : AgentRow) (clients : List Client)
+    → ((all_tried rows agent clients).agents ≡ rows.agents) × (length (all_tried rows agent clients).frameworks ≡ length rows.frameworks) × ((all_tried rows agent clients).accepted ≡ rows.accepted)
+all_tried-tables rows agent [] = (refl, refl, refl)
+all_tried-tables rows agent (client ∷ clients) =
+    let later = all_tried-tables (tried rows agent client) agent clients in
+    let first = tried-tables rows agent client (grant rows agent client) in
+    (later.0 ∙ first.0, later.1 ∙ first.1, later.2 ∙ first.2)
+
+pub turns-tables : (rows : Rows) (agents : List AgentRow)
+    → ((turns rows agents).agents ≡ rows.agents) × (length (turns rows agents).frameworks ≡ length rows.frameworks) × ((turns rows agents).accepted ≡ rows.accepted)
+unfolding turn
+turns-tables rows [] = (refl, refl, refl)
+turns-tables rows (agent ∷ agents) =
+    let later = turns-tables (turn rows agent) agents in
+    let first = all_tried-tables rows agent (turn_order rows) in
+    (later.0 ∙ first.0, later.1 ∙ first.1, later.2 ∙ first.2)
+
 pub turns-next_offer : (rows : Rows) (agents : List AgentRow) → (turns rows agents).next_offer ≤ rows.next_offer + length agents * length (clients_of rows)
 unfolding turn
 turns-next_offer rows [] = omega arith
@@ -152,14 +178,14 @@ unfolding content_of
 content_of-clock rows clock = refl
 
 -- there are no drafts yet
-pub drafting-begins : (content : Content) (limits : LimitNumbers) (rows tables : Rows) (clock : ℕ) (offers : List OfferRow) → IsKept content limits rows → IsConsistent rows
+pub drafting-begins : (content : Content) (limits : LimitNumbers) (rows tables : Rows) (clock : ℕ) (offers : List OfferRow) → IsKept content limits rows
     → tables ≡ record rows { clock = clock } → offers ≡ [] → IsDrafting content tables offers
-drafting-begins content limits rows tables clock offers kept right same none =
+drafting-begins content limits rows tables clock offers kept same none =
     let events : rows.accepted ≤ 4294967295 = omega (arith, kept.few.events, kept.few.ceilings.events.1) in
     let numbered : rows.next_offer ≤ 1 + rows.accepted * 2 ^ 24 = kept.numbered in
     rw (same, none) (record {
       sorted = kept.sorted ∙ sym (content_of-clock rows clock);
-      consistent = consistent-clock rows clock right;
+      consistent = consistent-clock rows clock kept.consistent;
       clients = tt;
       few_agents = omega (arith, kept.few.agents, kept.few.ceilings.agents.1);
       early = omega (arith, numbered, events);

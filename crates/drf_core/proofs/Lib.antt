@@ -7,3 +7,5 @@ pub mod DraftLemmas
 pub mod DraftTried
 pub mod TurnLemmas
 pub mod CycleLemmas
+pub mod ApplyLemmas
+pub mod StepLemmas

@@ -2,7 +2,7 @@
 use Rattle.std.specs.Prelude.{◌≡◌, ◌≤◌, length}
 use Rattle.drf_rows.specs.LimitNumbers.{LimitNumbers, IsWithinCeilings}
 use Rattle.drf_rows.specs.Held.{clients_of}
-use Rattle.drf_rows.specs.Consistent.{IsNumberedByEvents}
+use Rattle.drf_rows.specs.Consistent.{IsConsistent, IsNumberedByEvents}
 use Rattle.drf_rows.specs.declared.rows.Rows.{Rows}
 use Rattle.drf_sorter.specs.Content.{Content}
 use Rattle.drf_core.specs.Content.{content_of}
@@ -18,6 +18,7 @@ pub record AreFew (limits : LimitNumbers) (rows : Rows) : Type 0 where
 -- the sorter holds what the rows say
 pub record IsKept (content : Content) (limits : LimitNumbers) (rows : Rows) : Type 0 where
   pub sorted : content ≡ content_of rows
+  pub consistent : IsConsistent rows
   pub few : AreFew limits rows
   pub numbered : IsNumberedByEvents rows
 

@@ -55,7 +55,7 @@ fn too_many_frameworks(limits: &Limits, tables: &Tables, roles: &Table<Role>) ->
     let frameworks = tables.framework_count() as u64 + 1;
     let roles = roles.len() as u64;
     let clients = tables.client_count() as u64 + roles;
-    limits.frameworks() < frameworks || limits.roles() < roles || limits.clients() < clients
+    (limits.frameworks() < frameworks) | ((limits.roles() < roles) | (limits.clients() < clients))
 }
 
 /// Why an event is refused, if it is: of several cases the one of the least number.

@@ -92,8 +92,7 @@ impl Tables {
 
     /// The greatest moment of all cycles, in milliseconds.
     pub fn clock(&self) -> u64
-        ensures value { result ≡ self.now.rows.clock }
-        ensures consistent { IsConsistent self.now.rows }
+        ensures { result ≡ self.now.rows.clock }
     {
         self.clock
     }
@@ -108,7 +107,6 @@ impl Tables {
     /// How many events were accepted.
     pub fn accepted(&self) -> u64
         ensures value { result ≡ self.now.rows.accepted }
-        ensures consistent { IsConsistent self.now.rows }
         ensures plain { IsPlain self.now.rows }
     {
         self.accepted
@@ -186,7 +184,8 @@ impl Tables {
     /// Counts an accepted event.
     pub fn count_event(&mut self)
         requires { self.old.rows.accepted + 1 < 2 ^ 64 }
-        ensures { self.new.rows ≡ record self.old.rows { accepted = self.old.rows.accepted + 1 } }
+        ensures counted { self.new.rows ≡ record self.old.rows { accepted = self.old.rows.accepted + 1 } }
+        ensures consistent { IsConsistent self.new.rows }
     {
         self.accepted += 1;
     }

@@ -11,12 +11,12 @@ use Rattle.drf_core.proofs.cycle.cycle.Goals as goal
 pub offer_all-requires-clause-drafting : goal.offer_all-requires-clause-drafting
 offer_all-requires-clause-drafting g c =
     drafting-begins (g.S.Sorter.content c.args.sorter.now) c.args.limits.now c.args.tables.now.rows c.set_clock.new.self.rows c.max.result c.new.result.items
-    c.requires.kept c.clock-before.ensures.consistent c.set_clock.ensures c.new.ensures.items
+    c.requires.kept c.set_clock.ensures c.new.ensures.items
 
 pub returns-in-Ok-clause-lines : goal.returns-in-Ok-clause-lines
 returns-in-Ok-clause-lines g c =
     let rows : Rows = c.args.tables.now.rows in
-    let moment = c.max.ensures ∙ ap (λ n. max n c.args.at) c.clock-before.ensures.value in
+    let moment = c.max.ensures ∙ ap (λ n. max n c.args.at) c.clock-before.ensures in
     let turned = turns_of-cycle rows c.set_clock.new.self.rows c.args.at c.max.result moment c.set_clock.ensures in
     c.in-Ok.ensures.lines
     ∙ ap (map line_of) (new_offers-cycle rows c.set_clock.new.self.rows c.max.result (turns_of c.set_clock.new.self.rows) c.set_clock.ensures
@@ -25,7 +25,7 @@ returns-in-Ok-clause-lines g c =
 pub returns-in-Ok-clause-ok : goal.returns-in-Ok-clause-ok
 returns-in-Ok-clause-ok g c =
     let rows : Rows = c.args.tables.now.rows in
-    let moment = c.max.ensures ∙ ap (λ n. max n c.args.at) c.clock-before.ensures.value in
+    let moment = c.max.ensures ∙ ap (λ n. max n c.args.at) c.clock-before.ensures in
     let turned = turns_of-cycle rows c.set_clock.new.self.rows c.args.at c.max.result moment c.set_clock.ensures in
     subst (λ (r : Rows). StandAt r c.offer_all.new.tables.rows (g.S.Sorter.content c.offer_all.new.sorter)) turned c.in-Ok.ensures.ok
 
@@ -34,6 +34,6 @@ returns-clause-err g c =
     let rows : Rows = c.args.tables.now.rows in
     let same : c.offer_all.new.tables.rows ≡ record rows { clock = c.max.result } = c.in-Err.ensures.err ∙ c.set_clock.ensures in
     record {
-      same = c.set_clock-in-Err.ensures ∙ (λ i. record (same i) { clock = c.clock-before.ensures.value i });
+      same = c.set_clock-in-Err.ensures ∙ (λ i. record (same i) { clock = c.clock-before.ensures i });
       sorted = c.take_back.ensures ∙ ap content_of same ∙ content_of-clock rows c.max.result;
     }

@@ -1,0 +1,26 @@
+use Rattle.std.proofs.Common.{◌≡◌, ◌+◌, List, ◌++◌, ◌∷◌, [], refl, ap, ◌∙◌, sym, length, take, append_assoc}
+use Rattle.std.proofs.lemmas.Option.{slice_get_read}
+use Rattle.drf_rows.specs.Step.{replies_to}
+use Rattle.drf_rows.specs.declared.event.Event.{Event}
+use Rattle.drf_rows.specs.declared.reply.Reply.{Reply}
+use Rattle.drf_core.proofs.TurnLemmas.{take_one_more}
+use Rattle.drf_core.proofs.StepLemmas.{IsAfterAll-more, reply-more}
+use Rattle.drf_core.proofs.allocator.Core.run.Goals as goal
+
+pub loop-event-preserved : goal.loop-event-preserved
+loop-event-preserved g c =
+    let events = c.args.events.now in
+    let i = c.loop-event.event-index in
+    let before : List Event = take i events in
+    let at = slice_get_read events (length events) i c.event-item.result refl c.loop-event-test.true c.event-item.is in
+    let more : take (i + 1) events ≡ before ++ c.in_ok-event.event ∷ [] =
+    take_one_more events i c.event-item.result at ∙ ap (λ (e : Event). before ++ e ∷ []) (sym c.in_ok-event.ensures) in
+    let told : c.push_reserved.new.self.items ≡ (c.args.replies.now.items ++ replies_to c.args.self.now.limits c.args.self.now.rows before) ++ c.in_ok-reply.reply ∷ [] =
+    c.push_reserved.ensures.items ∙ ap (λ (rs : List Reply). rs ++ c.in_ok-reply.reply ∷ []) (c.reserve.ensures.items ∙ c.loop-event.invariant.told) in
+    rw more (record {
+      after = IsAfterAll-more c.args.self.now c.loop-event.self c.step.new.self before c.in_ok-event.event c.loop-event.invariant.after c.in_ok-reply.ensures.ok;
+      told = told
+          ∙ append_assoc c.args.replies.now.items (replies_to c.args.self.now.limits c.args.self.now.rows before) (c.in_ok-reply.reply ∷ [])
+          ∙ ap (λ (rs : List Reply). c.args.replies.now.items ++ rs)
+          (reply-more c.args.self.now c.loop-event.self before c.in_ok-event.event c.in_ok-reply.reply c.loop-event.invariant.after c.in_ok-reply.ensures.reply);
+    })

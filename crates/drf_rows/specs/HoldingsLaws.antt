@@ -11,7 +11,6 @@ use Rattle.drf_rows.specs.Holdings.{Holding, of_offer, of_task, holdings_of, amo
 use Rattle.drf_rows.specs.Cycle.{with_offer}
 use Rattle.drf_rows.specs.Endings.{Ending, ends_offer, ends_task, without_ended}
 use Rattle.drf_rows.specs.declared.rows.OfferRow.{OfferRow}
-use Rattle.drf_rows.specs.declared.rows.TaskRow.{TaskRow}
 use Rattle.drf_rows.specs.declared.rows.Rows.{Rows}
 
 pub held_where-append : (test : Holding → Bool) (hs gs : List Holding) (label : Text)

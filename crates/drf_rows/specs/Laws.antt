@@ -1,5 +1,5 @@
 -- What is proved of the definitions.
-use Rattle.std.specs.Prelude.{◌≡◌, ◌+◌, true, false, List, ◌∷◌, ◌++◌, ℕ, map, length, Some, None, IsTrue}
+use Rattle.std.specs.Prelude.{◌≡◌, ◌+◌, true, false, List, ◌∷◌, ◌++◌, map, length, Some, None, IsTrue}
 use Rattle.std.specs.List.Sorted.{IsPermutation}
 use Rattle.drf_role.specs.Path.{Path}
 use Rattle.drf_bundle.specs.Bundle.{IsBundle}

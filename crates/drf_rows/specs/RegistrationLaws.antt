@@ -1,12 +1,10 @@
 -- The rows with one more agent, or one more framework: what they say of it, and that they stay consistent.
 use Rattle.std.specs.Prelude.{◌≡◌, ◌+◌, ◌&&◌, ◌||◌, Bool, true, false, not, List, [], ◌∷◌, ◌++◌, length, map, filter, sum_by}
-use Rattle.std.specs.List.{list_all, list_any, AllByRecursion}
-use Rattle.std.specs.Cmp.Lexicographic.{bytes_decides}
+use Rattle.std.specs.List.{list_any, AllByRecursion}
 use Rattle.std.proofs.Common.{refl, sym, ap, ◌∙◌, inl, inr, arith}
 use Rattle.std.proofs.lemmas.Bool.{cases_Bool, false≢true, and_parts, or_left}
-use Rattle.std.proofs.lemmas.Bool.Decides.{same_from_decides, Decides-like}
 use Rattle.std.proofs.lemmas.Grind.{flat_map-append, fold-append}
-use Rattle.std.proofs.lemmas.List.{append-nil, map-append, length-append, length-map}
+use Rattle.std.proofs.lemmas.List.{append-nil, length-append, length-map}
 use Rattle.std.proofs.lemmas.List.Folds.{list_any-append}
 use Rattle.std.proofs.lemmas.List.Sums.{sum_by-cons, sum_by-append}
 use Rattle.drf_role.specs.Text.{Text, same_text}
@@ -21,6 +19,7 @@ use Rattle.drf_rows.specs.Holdings.{Holding, holdings_of, amount_in, held_where,
 use Rattle.drf_rows.specs.Held.{client_of, clients_of, cluster_total}
 use Rattle.drf_rows.specs.Cycle.{free_of}
 use Rattle.drf_rows.specs.Step.{opening, has_agent, has_framework, with_agent}
+use Rattle.drf_rows.specs.ListLaws.{each_from, each_append, none_has}
 use Rattle.drf_rows.specs.Consistent.{are_distinct, are_distinct_roles, is_registered, offers_counted, IsAgent, IsHeld, IsCovered, IsConsistent}
 use Rattle.drf_rows.specs.declared.rows.AgentRow.{AgentRow}
 use Rattle.drf_rows.specs.declared.rows.ClientRow.{ClientRow}
@@ -39,44 +38,28 @@ agent_added rows name total = record rows { agents = with_agent rows name total 
 abbrev pub framework_added : Rows → FrameworkRow → Rows
 framework_added rows f = record rows { frameworks = rows.frameworks ++ f ∷ [] }
 
--- ---- what holds of each element
-
-each_from : {X : Type 0} (P R : X → Type 0) (xs : List X) → ((x : X) → P x → R x) → AllByRecursion P xs → AllByRecursion R xs
-each_from P R [] so all = tt
-each_from P R (x ∷ xs) so all = (so x all.0, each_from P R xs so all.1)
-
-each_push : {X : Type 0} (P : X → Type 0) (xs : List X) (x : X) → AllByRecursion P xs → P x → AllByRecursion P (xs ++ x ∷ [])
-each_push P [] y all here = (here, tt)
-each_push P (x ∷ xs) y all here = (all.0, each_push P xs y all.1 here)
-
 -- ---- names
-
-same_text-swap : (a b : Text) → same_text a b ≡ same_text b a
-same_text-swap a b =
-    same_from_decides (same_text a b) (same_text b a) (bytes_decides a b) (Decides-like (same_text b a) sym sym (bytes_decides b a))
 
 or_neither : (a b : Bool) → (a || b) ≡ false → (a ≡ false) × (b ≡ false)
 or_neither true b none = cc
 or_neither false b none = (refl, none)
 
-others-push : (t : Text) (ts : List Text) (n : Text)
-    → list_all (λ u. not (same_text t u)) ts ≡ true → same_text t n ≡ false → list_all (λ u. not (same_text t u)) (ts ++ n ∷ []) ≡ true
-others-push t [] n all other = rw other refl
-others-push t (u ∷ ts) n all other =
-    let parts = and_parts (not (same_text t u)) (list_all (λ u. not (same_text t u)) ts) all in
-    rw (parts.0) (others-push t ts n parts.1 other)
+none_has-push : {X : Type 0} (name : X → Text) (n : Text) (xs : List X) (x : X)
+    → none_has same_text name n xs ≡ true → same_text n (name x) ≡ false → none_has same_text name n (xs ++ x ∷ []) ≡ true
+none_has-push name n [] x all other = rw other refl
+none_has-push name n (y ∷ ys) x all other =
+    let parts = and_parts (not (same_text n (name y))) (none_has same_text name n ys) all in
+    rw (parts.0) (none_has-push name n ys x parts.1 other)
 
 -- a new name stays apart from the others
 are_distinct-push : {X : Type 0} (name : X → Text) (xs : List X) (x : X)
-    → are_distinct (map name xs) ≡ true → list_any (λ y. same_text (name y) (name x)) xs ≡ false → are_distinct (map name (xs ++ x ∷ [])) ≡ true
+    → are_distinct (map name xs) ≡ true → list_any (λ y. same_text (name y) (name x)) xs ≡ false
+    → are_distinct (map name (xs ++ x ∷ [])) ≡ true
 are_distinct-push name [] x apart new = refl
 are_distinct-push name (y ∷ ys) x apart new =
-    let parts = and_parts (list_all (λ u. not (same_text (name y) u)) (map name ys)) (are_distinct (map name ys)) apart in
+    let parts = and_parts (none_has same_text name (name y) ys) (are_distinct (map name ys)) apart in
     let none = or_neither (same_text (name y) (name x)) (list_any (λ y. same_text (name y) (name x)) ys) new in
-    let others = others-push (name y) (map name ys) (name x) parts.0 none.0 in
-    let told : list_all (λ u. not (same_text (name y) u)) (map name (ys ++ x ∷ [])) ≡ true =
-    ap (list_all (λ u. not (same_text (name y) u))) (map-append name ys (x ∷ [])) ∙ others in
-    rw told (are_distinct-push name ys x parts.1 none.1)
+    rw (none_has-push name (name y) ys x parts.0 none.0) (are_distinct-push name ys x parts.1 none.1)
 
 -- ---- one more agent
 
@@ -115,31 +98,38 @@ cluster_total-with_agent rows name total =
     fold-append (λ sum agent. plus sum (quantities_of agent.total)) [] rows.agents (new_agent name total ∷ [])
 
 pub IsConsistent-agent_added : (rows : Rows) (name : Text) (total : List Entry)
-    → IsConsistent rows → has_agent rows name ≡ false → IsAgent (new_agent name total) → IsConsistent (agent_added rows name total)
+    → IsConsistent rows → has_agent rows name ≡ false → IsAgent (new_agent name total)
+    → IsConsistent (agent_added rows name total)
 IsConsistent-agent_added rows name total consistent new right =
     let agent = new_agent name total in
-    let stays : (h : Holding) → IsHeld rows.agents rows.frameworks h → IsHeld (with_agent rows name total) rows.frameworks h = λ h here. record {
+    let stays : (h : Holding)
+    → IsHeld rows.agents rows.frameworks h → IsHeld (with_agent rows name total) rows.frameworks h =
+    λ h here. record {
       agent = list_any-append (λ (a : AgentRow). same_text a.name h.agent) rows.agents (agent ∷ [])
           ∙ or_left (has_agent rows h.agent) (list_any (λ (a : AgentRow). same_text a.name h.agent) (agent ∷ [])) here.agent;
       client = here.client;
       bundle = here.bundle;
     } in
-    let covers : IsCovered (holdings_of rows) agent = λ label. omega (arith, held_where-nothing_on rows name label consistent new) in
+    let covers : IsCovered (holdings_of rows) agent =
+    λ label. omega (arith, held_where-nothing_on rows name label consistent new) in
     record {
       agents = record {
         names = are_distinct-push (λ (a : AgentRow). a.name) rows.agents agent consistent.agents.names new;
-        each = each_push IsAgent rows.agents agent consistent.agents.each right;
+        each = each_append IsAgent rows.agents (agent ∷ []) consistent.agents.each (right, tt);
       };
       frameworks = consistent.frameworks;
-      holdings = each_from (IsHeld rows.agents rows.frameworks) (IsHeld (with_agent rows name total) rows.frameworks) (holdings_of rows) stays consistent.holdings;
-      covered = each_push (IsCovered (holdings_of rows)) rows.agents agent consistent.covered covers;
+      holdings =
+          each_from (IsHeld rows.agents rows.frameworks) (IsHeld (with_agent rows name total) rows.frameworks)
+          (holdings_of rows) stays consistent.holdings;
+      covered = each_append (IsCovered (holdings_of rows)) rows.agents (agent ∷ []) consistent.covered (covers, tt);
       counted = consistent.counted;
       numbered = consistent.numbered;
     }
 
 -- ---- one more framework
 
-pub free_of-framework_added : (rows : Rows) (f : FrameworkRow) (agent : AgentRow) → free_of (framework_added rows f) agent ≡ free_of rows agent
+pub free_of-framework_added : (rows : Rows) (f : FrameworkRow) (agent : AgentRow)
+    → free_of (framework_added rows f) agent ≡ free_of rows agent
 unfolding free_of
 free_of-framework_added rows f agent = refl
 
@@ -168,9 +158,12 @@ offers_counted-push fs f none =
     let counts = λ (f : FrameworkRow). sum_by (λ (c : ClientRow). c.count) f.clients in
     omega (arith, sum_by-append counts fs (f ∷ []), sum_by-cons counts f [], nothing_counted f.clients none)
 
-registered-push : (fs : List FrameworkRow) (f : FrameworkRow) (client : Client) → is_registered fs client ≡ true → is_registered (fs ++ f ∷ []) client ≡ true
+registered-push : (fs : List FrameworkRow) (f : FrameworkRow) (client : Client)
+    → is_registered fs client ≡ true → is_registered (fs ++ f ∷ []) client ≡ true
 registered-push fs f client known =
-    let test = λ (f : FrameworkRow). same_text f.name client.framework && list_any (λ (c : ClientRow). same_path c.role client.role) f.clients in
+    let test =
+    λ (f : FrameworkRow).
+    same_text f.name client.framework && list_any (λ (c : ClientRow). same_path c.role client.role) f.clients in
     list_any-append test fs (f ∷ []) ∙ or_left (list_any test fs) (list_any test (f ∷ [])) known
 
 pub IsConsistent-framework_added : (rows : Rows) (f : FrameworkRow)
@@ -187,9 +180,13 @@ IsConsistent-framework_added rows f consistent new apart none =
       agents = consistent.agents;
       frameworks = record {
         names = are_distinct-push (λ (f : FrameworkRow). f.name) rows.frameworks f consistent.frameworks.names new;
-        roles = each_push (λ f. are_distinct_roles (map (λ c. c.role) f.clients) ≡ true) rows.frameworks f consistent.frameworks.roles apart;
+        roles =
+            each_append (λ f. are_distinct_roles (map (λ c. c.role) f.clients) ≡ true) rows.frameworks (f ∷ [])
+            consistent.frameworks.roles (apart, tt);
       };
-      holdings = each_from (IsHeld rows.agents rows.frameworks) (IsHeld rows.agents frameworks) (holdings_of rows) stays consistent.holdings;
+      holdings =
+          each_from (IsHeld rows.agents rows.frameworks) (IsHeld rows.agents frameworks)
+          (holdings_of rows) stays consistent.holdings;
       covered = consistent.covered;
       counted = omega (arith, offers_counted-push rows.frameworks f none, consistent.counted);
       numbered = consistent.numbered;

@@ -17,7 +17,7 @@ use Rattle.drf_rows.specs.declared.rows.ClientRow.{ClientRow}
 use Rattle.drf_rows.specs.declared.rows.FrameworkRow.{FrameworkRow}
 use Rattle.drf_rows.specs.declared.rows.OfferRow.{OfferRow}
 use Rattle.drf_tables.specs.Counting.{counting, counting_all, CanCount, CanCountAll}
-use Rattle.drf_tables.proofs.Entries.{same_text-swap}
+use Rattle.drf_rows.specs.ConsistentLaws.{same_text-swap}
 
 -- ---- one client after another
 
@@ -28,7 +28,8 @@ module _ {X : Type 0} (f : X → X) where
   map_next xs ys i n d next within so = rw so (at xs i n next within)
     where
       at : (xs : List X) (i n : ℕ) → n ≡ i + 1 → i < length xs
-          → set (map f (take i xs) ++ drop i xs) i (f (get_or (map f (take i xs) ++ drop i xs) i d)) ≡ map f (take n xs) ++ drop n xs
+          → set (map f (take i xs) ++ drop i xs) i (f (get_or (map f (take i xs) ++ drop i xs) i d))
+          ≡ map f (take n xs) ++ drop n xs
       at [] i n next within = absurd (omega arith)
       at (x ∷ xs) zero zero next within = absurd (omega arith)
       at (x ∷ xs) zero (suc n) next within =
@@ -39,22 +40,26 @@ module _ {X : Type 0} (f : X → X) where
 
 -- ---- what is counted
 
-pub counted_here : (client : Client) (c : ClientRow) → same_path c.role client.role ≡ true → counted client c ≡ record c { count = c.count + 1 }
+pub counted_here : (client : Client) (c : ClientRow)
+    → same_path c.role client.role ≡ true → counted client c ≡ record c { count = c.count + 1 }
 counted_here client c same = rw same refl
 
 pub counted_other : (client : Client) (c : ClientRow) → same_path c.role client.role ≡ false → counted client c ≡ c
 counted_other client c other = rw other refl
 
 -- one more offer fits, and then one less
-counted_fits : (n m : ℕ) (client : Client) (c : ClientRow) → m ≡ n + 1 → c.count + m < 2 ^ 64 → (counted client c).count + n < 2 ^ 64
+counted_fits : (n m : ℕ) (client : Client) (c : ClientRow)
+    → m ≡ n + 1 → c.count + m < 2 ^ 64 → (counted client c).count + n < 2 ^ 64
 counted_fits n m client c next fits = elim (cases_Bool (same_path c.role client.role)) [
   | inl same ↦ rw same (omega (arith, next, fits))
   | inr other ↦ rw other (omega (arith, next, fits))
 ]
 
-pub CanCount-counted : (n m : ℕ) (client : Client) (cs : List ClientRow) → m ≡ n + 1 → CanCount m cs → CanCount n (map (counted client) cs)
+pub CanCount-counted : (n m : ℕ) (client : Client) (cs : List ClientRow)
+    → m ≡ n + 1 → CanCount m cs → CanCount n (map (counted client) cs)
 CanCount-counted n m client [] next all = tt
-CanCount-counted n m client (c ∷ cs) next all = (counted_fits n m client c next all.0, CanCount-counted n m client cs next all.1)
+CanCount-counted n m client (c ∷ cs) next all =
+    (counted_fits n m client c next all.0, CanCount-counted n m client cs next all.1)
 
 CanCount-less : (n m : ℕ) (cs : List ClientRow) → n ≤ m → CanCount m cs → CanCount n cs
 CanCount-less n m [] less all = tt
@@ -64,13 +69,15 @@ pub CanCountAll-less : (n m : ℕ) (fs : List FrameworkRow) → n ≤ m → CanC
 CanCountAll-less n m [] less all = tt
 CanCountAll-less n m (f ∷ fs) less all = (CanCount-less n m f.clients less all.0, CanCountAll-less n m fs less all.1)
 
-counted_in : (n m : ℕ) (client : Client) (f : FrameworkRow) → m ≡ n + 1 → CanCount m f.clients → CanCount n (count_offer client f).clients
+counted_in : (n m : ℕ) (client : Client) (f : FrameworkRow)
+    → m ≡ n + 1 → CanCount m f.clients → CanCount n (count_offer client f).clients
 counted_in n m client f next all = elim (cases_Bool (same_text f.name client.framework)) [
   | inl same ↦ rw same (CanCount-counted n m client f.clients next all)
   | inr other ↦ rw other (CanCount-less n m f.clients (omega arith) all)
 ]
 
-pub CanCountAll-counting : (n m : ℕ) (fs : List FrameworkRow) (offer : OfferRow) → m ≡ n + 1 → CanCountAll m fs → CanCountAll n (counting fs offer)
+pub CanCountAll-counting : (n m : ℕ) (fs : List FrameworkRow) (offer : OfferRow)
+    → m ≡ n + 1 → CanCountAll m fs → CanCountAll n (counting fs offer)
 CanCountAll-counting n m [] offer next all = tt
 CanCountAll-counting n m (f ∷ fs) offer next all =
     (counted_in n m (of_offer offer).client f next all.0, CanCountAll-counting n m fs offer next all.1)
@@ -96,7 +103,8 @@ name-count_offer client f = elim (cases_Bool (same_text f.name client.framework)
   | inr other ↦ rw other refl
 ]
 
-pub names-counting : (fs : List FrameworkRow) (offer : OfferRow) → map (λ f. f.name) (counting fs offer) ≡ map (λ f. f.name) fs
+pub names-counting : (fs : List FrameworkRow) (offer : OfferRow)
+    → map (λ f. f.name) (counting fs offer) ≡ map (λ f. f.name) fs
 names-counting [] offer = refl
 names-counting (f ∷ fs) offer = λ i. name-count_offer (of_offer offer).client f i ∷ names-counting fs offer i
 
@@ -107,42 +115,50 @@ length-count_offer client f = elim (cases_Bool (same_text f.name client.framewor
 ]
 
 -- a framework that no row names is counted nowhere
-pub counting-unknown : (fs : List FrameworkRow) (offer : OfferRow) → list_any (λ f. same_text f.name offer.framework) fs ≡ false → counting fs offer ≡ fs
+pub counting-unknown : (fs : List FrameworkRow) (offer : OfferRow)
+    → list_any (λ f. same_text f.name offer.framework) fs ≡ false → counting fs offer ≡ fs
 counting-unknown [] offer none = refl
 counting-unknown (f ∷ fs) offer none = elim (cases_Bool (same_text f.name offer.framework)) [
-  | inl same ↦ absurd (false≢true (sym none ∙ ap (λ (b : Bool). b || list_any (λ f. same_text f.name offer.framework) fs) same))
+  | inl same ↦
+      absurd (false≢true (sym none ∙ ap (λ (b : Bool). b || list_any (λ f. same_text f.name offer.framework) fs) same))
   | inr other ↦
       let rest : list_any (λ f. same_text f.name offer.framework) fs ≡ false
       = sym (ap (λ (b : Bool). b || list_any (λ f. same_text f.name offer.framework) fs) other) ∙ none in
       rw other (ap (λ gs. f ∷ gs) (counting-unknown fs offer rest))
 ]
 
-pub count_offer-other : (client : Client) (f : FrameworkRow) → same_text client.framework f.name ≡ false → count_offer client f ≡ f
+pub count_offer-other : (client : Client) (f : FrameworkRow)
+    → same_text client.framework f.name ≡ false → count_offer client f ≡ f
 count_offer-other client f other =
     let none : same_text f.name client.framework ≡ false = same_text-swap f.name client.framework ∙ other in
     rw none refl
 
-pub count_offer-here : (client : Client) (f : FrameworkRow) → f.name ≡ client.framework → count_offer client f ≡ record f { clients = map (counted client) f.clients }
+pub count_offer-here : (client : Client) (f : FrameworkRow)
+    → f.name ≡ client.framework → count_offer client f ≡ record f { clients = map (counted client) f.clients }
 count_offer-here client f named =
-    let same : same_text f.name client.framework ≡ true = ap (λ n. same_text n client.framework) named ∙ same_itself client.framework in
+    let same : same_text f.name client.framework ≡ true =
+    ap (λ n. same_text n client.framework) named ∙ same_itself client.framework in
     rw same refl
 
 -- the number of all clients
 abbrev pub count_clients : List FrameworkRow → ℕ
 count_clients fs = length (flat_map (λ f. map (client_of f) f.clients) fs)
 
-count_clients-cons : (f : FrameworkRow) (fs : List FrameworkRow) → count_clients (f ∷ fs) ≡ length f.clients + count_clients fs
+count_clients-cons : (f : FrameworkRow) (fs : List FrameworkRow)
+    → count_clients (f ∷ fs) ≡ length f.clients + count_clients fs
 count_clients-cons f fs =
     length-append (map (client_of f) f.clients) (flat_map (λ f. map (client_of f) f.clients) fs)
     ∙ ap (λ n. n + count_clients fs) (length-map f.clients (client_of f))
 
-count_clients-counting : (fs : List FrameworkRow) (offer : OfferRow) → count_clients (counting fs offer) ≡ count_clients fs
+count_clients-counting : (fs : List FrameworkRow) (offer : OfferRow)
+    → count_clients (counting fs offer) ≡ count_clients fs
 count_clients-counting [] offer = refl
 count_clients-counting (f ∷ fs) offer =
     count_clients-cons (count_offer (of_offer offer).client f) (counting fs offer)
     ∙ (λ i. length-count_offer (of_offer offer).client f i + count_clients-counting fs offer i)
     ∙ sym (count_clients-cons f fs)
 
-pub count_clients-counting_all : (fs : List FrameworkRow) (offers : List OfferRow) → count_clients (counting_all fs offers) ≡ count_clients fs
+pub count_clients-counting_all : (fs : List FrameworkRow) (offers : List OfferRow)
+    → count_clients (counting_all fs offers) ≡ count_clients fs
 count_clients-counting_all fs [] = refl
 count_clients-counting_all fs (o ∷ os) = count_clients-counting_all (counting fs o) os ∙ count_clients-counting fs o

@@ -1,5 +1,5 @@
 -- The rows that the fields of tables stand for, before and after each change.
-use Rattle.std.specs.Prelude.{◌≡◌, ℕ, ◌+◌, ◌*◌, ◌<◌, ◌≤◌, ◌^◌, true, false, List, [], ◌∷◌, ◌++◌, length, map, fold, slice_get, Some, is_some}
+use Rattle.std.specs.Prelude.{◌≡◌, ℕ, ◌+◌, ◌*◌, ◌<◌, ◌≤◌, ◌^◌, Bool, true, false, List, [], ◌∷◌, ◌++◌, length, map, fold, slice_get, Some, is_some}
 use Rattle.std.specs.List.{AllByRecursion}
 use Rattle.std.specs.Global.{Vec}
 use Rattle.std.specs.Map.{lookup, values_of}
@@ -24,11 +24,12 @@ use Rattle.drf_rows.specs.declared.rows.ClientRow.{ClientRow}
 use Rattle.drf_rows.specs.declared.rows.OfferRow.{OfferRow}
 use Rattle.drf_rows.specs.declared.rows.Rows.{Rows}
 use Rattle.drf_tables.specs.Drafts.{with_offers, frees_of}
+use Rattle.drf_tables.specs.DraftLaws.{offers_added, with_offers-added}
 use Rattle.drf_tables.specs.Counting.{counting_all}
-use Rattle.drf_tables.specs.Inside.{agent_row, framework_row, framework_rows, frees_in, rows_of}
+use Rattle.drf_tables.specs.Inside.{agent_row, framework_row, framework_rows, frees_in, rows_of, rows_in}
 use Rattle.drf_tables.specs.declared.tables.Agent.{Agent}
+use Rattle.drf_tables.specs.declared.tables.Tables.TheInside.{Inside}
 use Rattle.drf_tables.proofs.Entries.{known-lookup, insert_entry-new}
-use Rattle.drf_tables.proofs.Kept.{offers_added, with_offers-added}
 
 -- ---- an agent by its place
 
@@ -41,7 +42,8 @@ active_at (e ∷ agents) zero v a value row =
     (λ i. (sym same i).active) ∙ (λ i. (read i).active)
 active_at (e ∷ agents) (suc i) v a value row = active_at agents i v a value row
 
-free_at : (agents : List (Text × Agent)) (i : ℕ) (v : Agent) → slice_get (values_of agents) i ≡ Some v → slice_get (frees_in agents) i ≡ Some v.free
+free_at : (agents : List (Text × Agent)) (i : ℕ) (v : Agent)
+    → slice_get (values_of agents) i ≡ Some v → slice_get (frees_in agents) i ≡ Some v.free
 free_at [] i v value = cc
 free_at (e ∷ agents) zero v value =
     let same : e.1 ≡ v = cc in
@@ -49,57 +51,70 @@ free_at (e ∷ agents) zero v value =
 free_at (e ∷ agents) (suc i) v value = free_at agents i v value
 
 pub free_of-at : (rows : Rows) (agents : List (Text × Agent)) (i : ℕ) (v : Agent) (a : AgentRow)
-    → frees_in agents ≡ frees_of rows → slice_get (values_of agents) i ≡ Some v → slice_get rows.agents i ≡ Some a → v.free ≡ free_of rows a
+    → frees_in agents ≡ frees_of rows → slice_get (values_of agents) i ≡ Some v → slice_get rows.agents i ≡ Some a
+    → v.free ≡ free_of rows a
 free_of-at rows agents i v a kept value row =
     let here : slice_get (frees_in agents) i ≡ Some v.free = free_at agents i v value in
-    let there : slice_get (frees_of rows) i ≡ Some (free_of rows a) = slice_get-map (free_of rows) rows.agents i ∙ ap (option_map (free_of rows)) row in
+    let there : slice_get (frees_of rows) i ≡ Some (free_of rows a) =
+    slice_get-map (free_of rows) rows.agents i ∙ ap (option_map (free_of rows)) row in
     let both : slice_get (frees_in agents) i ≡ slice_get (frees_of rows) i = ap (λ fs. slice_get fs i) kept in
     cc
 
 -- ---- the fields
 
-module _ (agents : List (Text × Agent)) (fs : List (Text × Vec ClientRow)) (os : List OfferRow) (clock next accepted : ℕ) where
-  pub has_agent-rows_of : (name : Text) → has_agent (rows_of agents fs os clock next accepted) name ≡ is_some (lookup (same_text name) agents)
+module _ (t : Inside) where
+  pub has_agent-rows_in : (name : Text) → has_agent (rows_in t) name ≡ is_some (lookup (same_text name) t.agents.entries)
   unfolding rows_of
-  has_agent-rows_of name = known-lookup (λ a. a.name) agent_row name agents (λ e. refl)
+  has_agent-rows_in name = known-lookup (λ a. a.name) agent_row name t.agents.entries (λ e. refl)
 
-  pub has_framework-rows_of : (name : Text) → has_framework (rows_of agents fs os clock next accepted) name ≡ is_some (lookup (same_text name) fs)
+  pub has_framework-rows_in : (name : Text)
+      → has_framework (rows_in t) name ≡ is_some (lookup (same_text name) t.frameworks.entries)
   unfolding rows_of
-  has_framework-rows_of name = known-lookup (λ f. f.name) framework_row name fs (λ e. refl)
+  has_framework-rows_in name = known-lookup (λ f. f.name) framework_row name t.frameworks.entries (λ e. refl)
 
   -- an agent that is inserted comes last
-  pub rows_of-agent : (entries : List (Text × Agent)) (name : Text) (a : Agent) → has_agent (rows_of agents fs os clock next accepted) name ≡ false
-      → entries ≡ insert_entry same_text agents name a → a.active ≡ true
-      → rows_of entries fs os clock next accepted ≡ agent_added (rows_of agents fs os clock next accepted) name a.total
-  unfolding rows_of
-  rows_of-agent entries name a new inserted active =
-      let last = inserted ∙ insert_entry-new name a agents (sym (has_agent-rows_of name) ∙ new) in
-      let read : map agent_row entries ≡ map agent_row agents ++ record { name = name; total = a.total; active = true } ∷ [] =
-      ap (map agent_row) last ∙ map-append agent_row agents ((name, a) ∷ []) ∙ (λ i. map agent_row agents ++ record { name = name; total = a.total; active = active i } ∷ []) in
-      λ i. record (rows_of agents fs os clock next accepted) { agents = read i }
+  module _ (entries : List (Text × Agent)) (name : Text) (a : Agent) (new : has_agent (rows_in t) name ≡ false)
+      (inserted : entries ≡ insert_entry same_text t.agents.entries name a) where
+    last_agent : entries ≡ t.agents.entries ++ (name, a) ∷ []
+    last_agent = inserted ∙ insert_entry-new name a t.agents.entries (sym (has_agent-rows_in name) ∙ new)
 
-  pub frees-agent : (entries : List (Text × Agent)) (name : Text) (a : Agent) → has_agent (rows_of agents fs os clock next accepted) name ≡ false
-      → entries ≡ insert_entry same_text agents name a → frees_in entries ≡ frees_in agents ++ a.free ∷ []
-  frees-agent entries name a new inserted =
-      ap frees_in (inserted ∙ insert_entry-new name a agents (sym (has_agent-rows_of name) ∙ new)) ∙ map-append (λ e. e.1.free) agents ((name, a) ∷ [])
+    pub rows_of-agent : a.active ≡ true
+        → rows_of entries t.frameworks.entries t.offers.items t.clock t.next_offer t.accepted
+        ≡ agent_added (rows_in t) name a.total
+    unfolding rows_of
+    rows_of-agent active =
+        let row : Bool → AgentRow = λ b. record { name = name; total = a.total; active = b } in
+        let read : map agent_row entries ≡ map agent_row t.agents.entries ++ row true ∷ [] =
+        ap (map agent_row) last_agent
+        ∙ map-append agent_row t.agents.entries ((name, a) ∷ [])
+        ∙ (λ i. map agent_row t.agents.entries ++ row (active i) ∷ []) in
+        λ i. record (rows_in t) { agents = read i }
 
+    pub frees-agent : frees_in entries ≡ frees_in t.agents.entries ++ a.free ∷ []
+    frees-agent = ap frees_in last_agent ∙ map-append (λ e. e.1.free) t.agents.entries ((name, a) ∷ [])
+
+  -- and so does a framework
   pub rows_of-framework : (entries : List (Text × Vec ClientRow)) (name : Text) (v : Vec ClientRow)
-      → has_framework (rows_of agents fs os clock next accepted) name ≡ false → entries ≡ insert_entry same_text fs name v
-      → rows_of agents entries os clock next accepted ≡ framework_added (rows_of agents fs os clock next accepted) (framework_row (name, v))
+      → has_framework (rows_in t) name ≡ false → entries ≡ insert_entry same_text t.frameworks.entries name v
+      → rows_of t.agents.entries entries t.offers.items t.clock t.next_offer t.accepted
+      ≡ framework_added (rows_in t) (framework_row (name, v))
   unfolding rows_of
   rows_of-framework entries name v new inserted =
-      let last = inserted ∙ insert_entry-new name v fs (sym (has_framework-rows_of name) ∙ new) in
-      let read : framework_rows entries ≡ framework_rows fs ++ framework_row (name, v) ∷ [] = ap framework_rows last ∙ map-append framework_row fs ((name, v) ∷ []) in
-      λ i. record (rows_of agents fs os clock next accepted) { frameworks = read i }
+      let fs : List (Text × Vec ClientRow) = t.frameworks.entries in
+      let last = inserted ∙ insert_entry-new name v fs (sym (has_framework-rows_in name) ∙ new) in
+      let read : framework_rows entries ≡ framework_rows fs ++ framework_row (name, v) ∷ [] =
+      ap framework_rows last ∙ map-append framework_row fs ((name, v) ∷ []) in
+      λ i. record (rows_in t) { frameworks = read i }
 
   pub rows_of-offers : (entries : List (Text × Agent)) (counted : List (Text × Vec ClientRow)) (all made : List OfferRow)
-      → map agent_row entries ≡ map agent_row agents → framework_rows counted ≡ counting_all (framework_rows fs) made → all ≡ os ++ made
-      → rows_of entries counted all clock (next + length made) accepted ≡ with_offers (rows_of agents fs os clock next accepted) made
+      → map agent_row entries ≡ map agent_row t.agents.entries
+      → framework_rows counted ≡ counting_all (framework_rows t.frameworks.entries) made
+      → all ≡ t.offers.items ++ made
+      → rows_of entries counted all t.clock (t.next_offer + length made) t.accepted ≡ with_offers (rows_in t) made
   unfolding rows_of
-  rows_of-offers entries counted all made agent_rows framework_rows stand =
-      let rows = rows_of agents fs os clock next accepted in
-      (λ i. record (offers_added rows made) { agents = agent_rows i; frameworks = framework_rows i; offers = stand i })
-      ∙ sym (with_offers-added rows made)
+  rows_of-offers entries counted all made agents frameworks offers =
+      (λ i. record (offers_added (rows_in t) made) { agents = agents i; frameworks = frameworks i; offers = offers i })
+      ∙ sym (with_offers-added (rows_in t) made)
 
 -- ---- the total
 
@@ -117,11 +132,8 @@ small_sum start (a ∷ agents) label all =
     let small = all.0.small label in
     omega (arith, more, one, small)
 
-pub sums_fit : (agents : List AgentRow) (label : Text) (amount : ℕ) → AllByRecursion IsAgent agents → length agents < 4096 → amount ≤ LARGEST_AMOUNT
+pub sums_fit : (agents : List AgentRow) (label : Text) (amount : ℕ)
+    → AllByRecursion IsAgent agents → length agents < 4096 → amount ≤ LARGEST_AMOUNT
     → amount_of (cluster_total agents) label + amount < 2 ^ 64
 unfolding added
 sums_fit agents label amount all few small = omega (arith, small_sum [] agents label all, few, small)
-
--- each offer has a number of its own
-pub next-with_offers : (rows : Rows) (offers : List OfferRow) → (with_offers rows offers).next_offer ≡ rows.next_offer + length offers
-next-with_offers rows offers = ap (λ (rs : Rows). rs.next_offer) (with_offers-added rows offers)

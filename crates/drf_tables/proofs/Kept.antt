@@ -1,14 +1,14 @@
 -- What tables keep beside their rows, change by change.
 use Rattle.std.specs.Prelude.{◌≡◌, ℕ, ◌+◌, true, false, List, [], ◌∷◌, ◌++◌, length, map}
 use Rattle.std.specs.List.{AllByRecursion}
-use Rattle.std.proofs.Common.{refl, sym, ap, ◌∙◌, arith}
-use Rattle.std.proofs.lemmas.List.{map-append, append-nil, append_assoc}
+use Rattle.std.proofs.Common.{refl, sym, ap, ◌∙◌}
+use Rattle.std.proofs.lemmas.List.{map-append}
 use Rattle.drf_role.specs.Text.{Text}
 use Rattle.drf_bundle.specs.Quantities.{plus}
 use Rattle.drf_bundle.specs.Bundle.{quantities_of}
 use Rattle.drf_bundle.specs.declared.quantities.Entry.{Entry}
 use Rattle.drf_rows.specs.Held.{clients_of, cluster_total}
-use Rattle.drf_rows.specs.Cycle.{free_of, with_offer}
+use Rattle.drf_rows.specs.Cycle.{free_of}
 use Rattle.drf_rows.specs.Step.{has_agent, has_framework, with_agent}
 use Rattle.drf_rows.specs.Consistent.{IsAgent, IsConsistent, are_distinct_roles}
 use Rattle.drf_rows.specs.RegistrationLaws.{new_agent, agent_added, framework_added, free_of-agent_added, free_of-new, free_of-framework_added, cluster_total-with_agent, length-clients_of-framework_added, IsConsistent-agent_added, IsConsistent-framework_added}
@@ -16,13 +16,14 @@ use Rattle.drf_rows.specs.declared.rows.FrameworkRow.{FrameworkRow}
 use Rattle.drf_rows.specs.declared.rows.OfferRow.{OfferRow}
 use Rattle.drf_rows.specs.declared.rows.Rows.{Rows}
 use Rattle.drf_tables.specs.Drafts.{with_offers, frees_of}
-use Rattle.drf_tables.specs.Counting.{counting, counting_all}
+use Rattle.drf_tables.specs.DraftLaws.{with_offers-added}
 use Rattle.drf_tables.specs.Inside.{IsKept}
 use Rattle.drf_tables.proofs.Counted.{count_clients-counting_all}
 
 -- ---- another clock, and another number of events
 
-frees-clocked : (rows : Rows) (clock accepted : ℕ) → frees_of (record rows { clock = clock; accepted = accepted }) ≡ frees_of rows
+frees-clocked : (rows : Rows) (clock accepted : ℕ)
+    → frees_of (record rows { clock = clock; accepted = accepted }) ≡ frees_of rows
 unfolding free_of
 frees-clocked rows clock accepted = refl
 
@@ -44,14 +45,16 @@ IsKept-clocked rows frees sum number clock accepted kept = record {
 
 -- ---- one more agent
 
-frees-agent_added : (rows : Rows) (name : Text) (total : List Entry) → IsConsistent rows → has_agent rows name ≡ false → IsAgent (new_agent name total)
+frees-agent_added : (rows : Rows) (name : Text) (total : List Entry)
+    → IsConsistent rows → has_agent rows name ≡ false → IsAgent (new_agent name total)
     → frees_of rows ++ total ∷ [] ≡ frees_of (agent_added rows name total)
 frees-agent_added rows name total consistent new right =
     ap (λ (free : List Entry). frees_of rows ++ free ∷ []) (sym (free_of-new rows name total consistent new right.total))
     ∙ sym (map-append (free_of rows) rows.agents (new_agent name total ∷ []))
     ∙ sym (λ i. map (λ a. free_of-agent_added rows name total a i) (with_agent rows name total))
 
-pub IsKept-agent_added : (rows : Rows) (frees : List (List Entry)) (sum : List Entry) (number : ℕ) (name : Text) (total : List Entry)
+pub IsKept-agent_added :
+    (rows : Rows) (frees : List (List Entry)) (sum : List Entry) (number : ℕ) (name : Text) (total : List Entry)
     → IsKept rows frees sum number → has_agent rows name ≡ false → IsAgent (new_agent name total)
     → IsKept (agent_added rows name total) (frees ++ total ∷ []) (plus sum (quantities_of total)) number
 IsKept-agent_added rows frees sum number name total kept new right = record {
@@ -64,7 +67,8 @@ IsKept-agent_added rows frees sum number name total kept new right = record {
 -- ---- one more framework
 
 pub IsKept-framework_added : (rows : Rows) (frees : List (List Entry)) (sum : List Entry) (number : ℕ) (f : FrameworkRow)
-    → IsKept rows frees sum number → has_framework rows f.name ≡ false → are_distinct_roles (map (λ c. c.role) f.clients) ≡ true
+    → IsKept rows frees sum number → has_framework rows f.name ≡ false
+    → are_distinct_roles (map (λ c. c.role) f.clients) ≡ true
     → AllByRecursion (λ c. c.count ≡ 0) f.clients → IsKept (framework_added rows f) frees sum (number + length f.clients)
 IsKept-framework_added rows frees sum number f kept new apart none = record {
   consistent = IsConsistent-framework_added rows f kept.consistent new apart none;
@@ -75,31 +79,8 @@ IsKept-framework_added rows frees sum number f kept new apart none = record {
 
 -- ---- offers
 
--- the rows with offers, table by table
-abbrev pub offers_added : Rows → List OfferRow → Rows
-offers_added rows offers = record rows {
-  frameworks = counting_all rows.frameworks offers;
-  offers = rows.offers ++ offers;
-  next_offer = rows.next_offer + length offers;
-}
-
-offers_added-one : (rows : Rows) (o : OfferRow) (os : List OfferRow) → offers_added (with_offer rows o) os ≡ offers_added rows (o ∷ os)
-unfolding with_offer
-offers_added-one rows o os =
-    let number : rows.next_offer + 1 + length os ≡ rows.next_offer + length (o ∷ os) = omega arith in
-    λ i. record rows {
-      frameworks = counting_all (counting rows.frameworks o) os;
-      offers = append_assoc rows.offers (o ∷ []) os i;
-      next_offer = number i;
-    }
-
-pub with_offers-added : (rows : Rows) (offers : List OfferRow) → with_offers rows offers ≡ offers_added rows offers
-with_offers-added rows [] =
-    let none : rows.next_offer ≡ rows.next_offer + 0 = omega arith in
-    λ i. record rows { offers = sym (append-nil rows.offers) i; next_offer = none i }
-with_offers-added rows (o ∷ os) = with_offers-added (with_offer rows o) os ∙ offers_added-one rows o os
-
-pub IsKept-with_offers : (rows : Rows) (frees before : List (List Entry)) (sum : List Entry) (number : ℕ) (offers : List OfferRow)
+pub IsKept-with_offers :
+    (rows : Rows) (frees before : List (List Entry)) (sum : List Entry) (number : ℕ) (offers : List OfferRow)
     → IsKept rows before sum number → IsConsistent (with_offers rows offers) → frees ≡ frees_of (with_offers rows offers)
     → IsKept (with_offers rows offers) frees sum number
 IsKept-with_offers rows frees before sum number offers kept consistent left =
@@ -108,5 +89,6 @@ IsKept-with_offers rows frees before sum number offers kept consistent left =
       consistent = consistent;
       free = left;
       total = kept.total ∙ sym (ap (λ (rs : Rows). cluster_total rs.agents) added);
-      clients = kept.clients ∙ sym (count_clients-counting_all rows.frameworks offers) ∙ sym (ap (λ (rs : Rows). length (clients_of rs)) added);
+      clients = kept.clients ∙ sym (count_clients-counting_all rows.frameworks offers)
+          ∙ sym (ap (λ (rs : Rows). length (clients_of rs)) added);
     }

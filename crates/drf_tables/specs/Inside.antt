@@ -12,6 +12,7 @@ use Rattle.drf_rows.specs.declared.rows.OfferRow.{OfferRow}
 use Rattle.drf_rows.specs.declared.rows.Rows.{Rows}
 use Rattle.drf_tables.specs.Drafts.{frees_of}
 use Rattle.drf_tables.specs.declared.tables.Agent.{Agent}
+use Rattle.drf_tables.specs.declared.tables.Tables.TheInside.{Inside}
 
 abbrev pub agent_row : Text × Agent → AgentRow
 agent_row e = record { name = e.0; total = e.1.total; active = e.1.active }
@@ -39,6 +40,10 @@ rows_of agents frameworks offers clock next_offer accepted = record {
   next_offer = next_offer;
   accepted = accepted;
 }
+
+-- the rows that the fields stand for
+abbrev pub rows_in : Inside → Rows
+rows_in t = rows_of t.agents.entries t.frameworks.entries t.offers.items t.clock t.next_offer t.accepted
 
 -- what is kept beside the rows is what they say
 pub record IsKept (rows : Rows) (frees : List (List Entry)) (sum : List Entry) (number : ℕ) : Type 0 where

@@ -2,3 +2,4 @@ pub mod Drafts
 pub mod Stored
 pub mod Inside
 pub mod Counting
+pub mod DraftLaws

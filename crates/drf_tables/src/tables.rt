@@ -61,16 +61,11 @@ impl Model for Tables {
     ghost Value = { Stored };
 
     ghost use Rattle.indexmap.specs.IndexMap.{spare};
-    ghost use Rattle.drf_tables.specs.Inside.{rows_of, frees_in, IsKept};
+    ghost use Rattle.drf_tables.specs.Inside.{rows_in, frees_in, IsKept};
 
-    ghost view = { λ t. record {
-      rows = rows_of t.agents.entries t.frameworks.entries t.offers.items t.clock t.next_offer t.accepted;
-      room = spare t.frameworks;
-    } };
+    ghost view = { λ t. record { rows = rows_in t; room = spare t.frameworks } };
 
-    ghost invariant = { λ t. IsKept
-        (rows_of t.agents.entries t.frameworks.entries t.offers.items t.clock t.next_offer t.accepted)
-        (frees_in t.agents.entries) t.total t.clients };
+    ghost invariant = { λ t. IsKept (rows_in t) (frees_in t.agents.entries) t.total t.clients };
 }
 
 impl Tables {

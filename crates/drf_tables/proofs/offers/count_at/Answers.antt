@@ -13,7 +13,9 @@ loop-client-preserved c =
     let at = c.loop-client in
     let client : Client = (of_offer c.args.offer.now).client in
     let here : ClientRow = get_or at.clients at.client-index c.client-item.result in
-    let next = map_next (counted client) c.args.clients.now at.clients at.client-index (at.client-index + 1) c.client-item.result refl c.loop-client-test.true at.invariant in
+    let next =
+    map_next (counted client) c.args.clients.now at.clients at.client-index (at.client-index + 1) c.client-item.result
+    refl c.loop-client-test.true at.invariant in
     elim c.if-eq.branch [
       | then-eq w ↦
           let test : same_path here.role client.role ≡ true = sym c.eq.ensures ∙ w.if-eq.true in

@@ -22,7 +22,8 @@ loop-left-preserved c =
       places =
           let within : AllByRecursion (λ left. left.agent < length at.agents.entries) (left ∷ rest) =
           subst (AllByRecursion (λ (l : Left). l.agent < length at.agents.entries)) split at.invariant.places in
-          subst (λ (n : ℕ). AllByRecursion (λ (l : Left). l.agent < n) rest) (sym (length-set_value_at at.agents.entries left.agent now)) within.1;
+          subst (λ (n : ℕ). AllByRecursion (λ (l : Left). l.agent < n) rest)
+          (sym (length-set_value_at at.agents.entries left.agent now)) within.1;
       free = ap (λ (frees : List (List _)). frees_after frees rest) (frees-set at.agents.entries left.agent now)
           ∙ sym (ap (frees_after (frees_in at.agents.entries)) split) ∙ at.invariant.free;
       number =

@@ -1,9 +1,9 @@
-use Rattle.drf_tables.specs.Inside.{rows_of}
+use Rattle.drf_tables.specs.Inside.{rows_of, rows_in}
 use Rattle.drf_tables.proofs.Kept.{IsKept-clocked}
 use Rattle.drf_tables.proofs.tables.Tables.set_clock.Goals as goal
 
 pub invariant_of-self : goal.invariant_of-self
 unfolding rows_of
 invariant_of-self c =
-    let s = c.self.inside in
-    IsKept-clocked (rows_of s.agents.entries s.frameworks.entries s.offers.items s.clock s.next_offer s.accepted) _ _ _ c.args.clock s.accepted c.self.invariant
+    let t = c.self.inside in
+    IsKept-clocked (rows_in t) _ _ _ c.args.clock t.accepted c.self.invariant

@@ -1,5 +1,5 @@
 -- An event that a line spells has at most one role, of one component.
-use Rattle.std.proofs.Common.{◌≡◌, ℕ, ◌≤◌, Bool, true, false, cond, List, [], ◌∷◌, length, Option, Some, None, Result, Ok, Err, option_map, codes, refl, ap, subst, arith}
+use Rattle.std.proofs.Common.{◌≡◌, ℕ, ◌≤◌, Bool, true, false, cond, nat_lt, List, [], ◌∷◌, length, Option, Some, None, Result, Ok, Err, option_map, codes, refl, ap, subst, arith}
 use Rattle.std.specs.List.{AllByRecursion}
 use Rattle.std.specs.Option.{ok_or}
 use Rattle.std.proofs.lemmas.Option.{cond_some, same_Some}
@@ -9,10 +9,10 @@ use Rattle.drf_core.specs.Machine.{HasPlainRoles}
 use Rattle.drf_rows.specs.declared.event.Event.{Event}
 use Rattle.drf_rows.specs.declared.event.Event.TheVariants.{AddAgent, AddFramework, Cycle}
 use Rattle.drf_lines.specs.declared.fault.LineFault.{LineFault}
-use Rattle.drf_lines.specs.declared.fault.LineFault.TheVariants.{BadShape, BadText}
+use Rattle.drf_lines.specs.declared.fault.LineFault.TheVariants.{LineTooLong, BadShape, BadText}
 use Rattle.drf_lines.specs.Words.{is_name}
 use Rattle.drf_lines.specs.Total.{total_of}
-use Rattle.drf_lines.specs.Meaning.{value_of, text_at, agent_shape, framework_shape, cycle_shape, agent_event, framework_event, roles_of, event_by, meaning_by, meaning_or, meaning_of_value, meaning_of}
+use Rattle.drf_lines.specs.Meaning.{value_of, text_at, agent_shape, framework_shape, cycle_shape, agent_event, framework_event, roles_of, event_by, meaning_by, meaning_or, meaning_of_value, longest_line, meaning_of}
 
 plain_roles : (texts : List (List ℕ)) (roles : List (List (List ℕ))) → roles_of texts ≡ Some roles → (length roles ≤ 1) × AllByRecursion (λ role. length role ≤ 1) roles
 plain_roles [] roles e = subst (λ rs. (length rs ≤ 1) × AllByRecursion (λ role. length role ≤ 1) rs) (same_Some _ _ e) (omega arith, tt)
@@ -70,6 +70,10 @@ unfolding meaning_of_value
 plain_value None event e = cc
 plain_value (Some value) event e = plain_meaning (text_at (codes "event") value) value event e
 
+plain_short : (long : Bool) (o : Option Data) (event : Event) → cond long (Err LineTooLong) (meaning_of_value o) ≡ Ok event → HasPlainRoles event
+plain_short true o event e = cc
+plain_short false o event e = plain_value o event e
+
 pub line_is_plain : (line : List ℕ) (event : Event) → meaning_of line ≡ Ok event → HasPlainRoles event
 unfolding meaning_of
-line_is_plain line event e = plain_value (value_of line) event e
+line_is_plain line event e = plain_short (nat_lt longest_line (length line)) (value_of line) event e

@@ -1,5 +1,5 @@
 -- What a line means: an event, or the fault for which it is none.
-use Rattle.std.specs.Prelude.{ℕ, Bool, false, ◌==◌, suc, List, [], ◌∷◌, Option, Some, None, Result, Err, option_map, option_and_then, if◌then◌else◌, codes}
+use Rattle.std.specs.Prelude.{ℕ, Bool, false, ◌==◌, suc, List, [], ◌∷◌, length, nat_lt, Option, Some, None, Result, Err, option_map, option_and_then, if◌then◌else◌, codes}
 use Rattle.std.specs.Option.{ok_or, option_map_or}
 use Rattle.std.specs.Str.{is_utf8}
 use Rattle.serde_json.specs.Data.{Data, Items, no_items, item, Members, no_members, member}
@@ -9,7 +9,7 @@ use Rattle.drf_role.specs.Text.{same_text}
 use Rattle.drf_rows.specs.declared.event.Event.{Event}
 use Rattle.drf_rows.specs.declared.event.Event.TheVariants.{AddAgent, AddFramework, Cycle}
 use Rattle.drf_lines.specs.declared.fault.LineFault.{LineFault}
-use Rattle.drf_lines.specs.declared.fault.LineFault.TheVariants.{NotJson, BadShape, BadText}
+use Rattle.drf_lines.specs.declared.fault.LineFault.TheVariants.{LineTooLong, NotJson, BadShape, BadText}
 use Rattle.drf_lines.specs.Words.{is_name, is_plain_role}
 use Rattle.drf_lines.specs.Total.{total_of}
 
@@ -95,6 +95,10 @@ unfoldable pub meaning_of_value : Option Data → Result Event LineFault
 meaning_of_value None = Err NotJson
 meaning_of_value (Some value) = meaning_or (text_at (codes "event") value) value
 
+-- how many bytes a line has at most, without its line feed
+abbrev pub longest_line : ℕ
+longest_line = 65536
+
 -- what a line means
 unfoldable pub meaning_of : List ℕ → Result Event LineFault
-meaning_of line = meaning_of_value (value_of line)
+meaning_of line = if nat_lt longest_line (length line) then Err LineTooLong else meaning_of_value (value_of line)

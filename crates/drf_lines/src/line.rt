@@ -151,10 +151,16 @@ fn read_object(alloc: Global, value: &Value) -> Result<Event, LineError>
     }
 }
 
+/// How many bytes a line has at most, without its line feed.
+const LONGEST_LINE: usize = 65_536;
+
 /// Reads a line, which is an event or has a fault. All shapes are looked at before any text.
 pub fn read_event(alloc: Global, line: &[u8]) -> Result<Event, LineError>
     ensures { IsReadOf result (meaning_of line.now) }
 {
+    if line.len() > LONGEST_LINE {
+        return Err(LineError::Fault(LineFault::LineTooLong));
+    }
     let value = read_value(alloc, line)?;
     read_object(alloc, &value)
 }

@@ -23,6 +23,17 @@ fault_name NotJson = codes "NotJson"
 fault_name BadShape = codes "BadShape"
 fault_name BadText = codes "BadText"
 
+infixr 10 ◌>>=◌
+-- a step, and the next one with what it found
+abbrev pub ◌>>=◌ : {A B : Type 0} → Result A LineFault → (A → Result B LineFault) → Result B LineFault
+◌>>=◌ (Ok x) next = next x
+◌>>=◌ (Err fault) next = Err fault
+
+-- a step gave what is meant, seen by `view`, or told the fault that there is
+abbrev pub IsFoundAs : {A B : Type 0} → (A → B) → Result A LineFault → Result B LineFault → Type 0
+IsFoundAs view (Ok x) meaning = meaning ≡ Ok (view x)
+IsFoundAs view (Err fault) meaning = meaning ≡ Err fault
+
 -- a reader gave what is meant, seen by `view`, or told the fault that there is, or memory ran out
 abbrev pub IsReadAs : {A B : Type 0} → (A → B) → Result A LineError → Result B LineFault → Type 0
 IsReadAs view (Ok x) meaning = meaning ≡ Ok (view x)

@@ -1,7 +1,6 @@
 use Rattle.std.proofs.Common.{arith}
 use Rattle.std.proofs.lemmas.Bool.Decides.{nat_tests}
 use Rattle.std.proofs.lemmas.Result.{err_from_is_err_and}
-use Rattle.drf_lines.proofs.Exits.{some_from_ok}
 use Rattle.drf_lines.proofs.Meanings.{meaning_refused, meaning_read, meaning_long}
 use Rattle.drf_lines.proofs.line.read_event.Goals as goal
 
@@ -14,4 +13,4 @@ returns-in_err-value c =
     rw (p.1, p.2) (meaning_refused _ c.args.line.now (grind (arith, nat_tests)) c.in_err-value.ensures)
 
 pub returns : goal.returns
-returns c = rw (meaning_read c.args.line.now _ (grind (arith, nat_tests)) (some_from_ok _ _ _ c.in_ok-value.ensures)) c.read_object.ensures
+returns c = rw (meaning_read c.args.line.now _ (grind (arith, nat_tests)) c.in_ok-value.ensures) c.read_object.ensures

@@ -1,0 +1,36 @@
+//! The command `run`: the allocator within its full limits, on three streams.
+ghost use Rattle.std.specs.Prelude.{◌≡◌, ℕ, Result, false};
+ghost use Rattle.drf_rows.specs.LimitNumbers.{ceilings};
+ghost use Rattle.drf_journal.specs.Device.{IsNew};
+ghost use Rattle.drf_journal.specs.Ended.{HasRun};
+ghost use Rattle.drf_journal.specs.declared.fault.RunFault.{RunFault};
+ghost use Rattle.drf_app.specs.Status.{status_of};
+
+use drf_journal::{Device, run};
+use drf_rows::Limits;
+use std::alloc::Global;
+use std::io::{Read, Write};
+
+/// Answers the lines of `input` on `output`, and gives the program's status: 0, or 1 where a fault ended the run, whose
+/// text is then a line on `errors`.
+pub fn command<R: Read, W: Write, E: Write>(
+    alloc: Global,
+    input: &mut Device<R>,
+    output: &mut Device<W>,
+    errors: &mut E,
+) -> u8
+    requires input { IsNew input.old.calls input.old.failed }
+    requires output { IsNew output.old.calls output.old.failed }
+    ensures run { (ended : Result ℕ RunFault) × HasRun ceilings false (R.remaining input.old.inner) (R.remaining input.new.inner)
+        (W.contents output.old.inner) (W.contents output.new.inner) ended × (result ≡ status_of ended) }
+    ensures errors { result ≡ 0 → errors.new ≡ errors.old }
+{
+    match run(alloc, Limits::full(), false, input, output) {
+        Ok(_) => 0,
+        Err(fault) => {
+            // Where this fails too, the status alone tells of the fault.
+            let _ = writeln!(errors, "drf: {fault}");
+            1
+        }
+    }
+}

@@ -1,0 +1,8 @@
+pub mod Supported
+pub mod Cuts
+pub mod Kept
+pub mod Pieces
+pub mod Fronts
+pub mod Devices
+pub mod Texts
+pub mod Served

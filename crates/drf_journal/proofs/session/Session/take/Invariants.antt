@@ -1,0 +1,12 @@
+use Rattle.std.proofs.Common.{◌+◌, ◌≤◌, length}
+use Rattle.drf_journal.proofs.Fronts.{TookFront}
+use Rattle.drf_journal.proofs.session.Session.take.Given as goal
+
+abbrev pub invariant-loop-at : goal.invariant-loop-at
+invariant-loop-at g l = record {
+  front : TookFront l.fn.self l.self l.fn.piece l.rest;
+  few : l.self.lines + length l.rest ≤ l.fn.self.lines + length l.fn.piece;
+}
+
+abbrev pub decreases-loop-at : goal.decreases-loop-at
+decreases-loop-at g l = length l.rest

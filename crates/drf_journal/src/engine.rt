@@ -1,0 +1,74 @@
+//! The engine: lines in, reply lines out.
+ghost use Rattle.std.specs.Prelude.{◌≡◌, false, OnOk};
+ghost use Rattle.std.specs.Io.KnownBytes.{IsAtEnd};
+ghost use Rattle.drf_journal.specs.Device.{IsNew};
+ghost use Rattle.drf_journal.specs.Ended.{HasRun, HasCause};
+
+use crate::device::Device;
+use crate::fault::RunFault;
+use crate::session::Session;
+use drf_rows::Limits;
+use drf_sorter::{PlainSorter, Sorter};
+use std::alloc::Global;
+use std::io::{Read, Write};
+
+/// How many bytes a read asks for.
+const CHUNK: usize = 65_536;
+
+/// How often a run reads at most.
+const MAX_READS: u64 = 1_099_511_627_776;
+
+/// Answers the lines of a reader's bytes on a writer, and tells how many lines there were. With `echo` each line is
+/// written before its answer. The answers to all lines that a read brought are written and flushed before the next read,
+/// so that none waits for more input.
+pub fn serve<S: Sorter, R: Read, W: Write>(
+    alloc: Global,
+    limits: Limits,
+    echo: bool,
+    reader: &mut Device<R>,
+    writer: &mut Device<W>,
+) -> Result<u64, RunFault>
+    requires reader { IsNew reader.old.calls reader.old.failed }
+    requires writer { IsNew writer.old.calls writer.old.failed }
+    ensures run { HasRun limits echo (R.remaining reader.old.inner) (R.remaining reader.new.inner)
+        (W.contents writer.old.inner) (W.contents writer.new.inner) result }
+    ensures read { OnOk result (IsAtEnd (R.remaining reader.new.inner)) }
+    ensures cause { HasCause result reader.new.failed reader.new.calls writer.new.failed }
+{
+    let mut session = Session::<S>::open(alloc, limits, echo)?;
+    let mut buffer = vec![in alloc; 0u8; CHUNK]?;
+    let chunk = buffer.as_mut_slice();
+    for _turn in 0..MAX_READS {
+        let Ok(count) = reader.read(chunk) else {
+            return Err(RunFault::Read);
+        };
+        if count == 0 {
+            session.close(alloc)?;
+            session.send(writer)?;
+            return Ok(session.lines());
+        }
+        let taken = session.take(alloc, &chunk[..count]);
+        // What was answered before memory ran out is written too.
+        session.send(writer)?;
+        taken?;
+    }
+    Err(RunFault::Read)
+}
+
+/// The same, by the sorter that the program uses.
+pub fn run<R: Read, W: Write>(
+    alloc: Global,
+    limits: Limits,
+    echo: bool,
+    reader: &mut Device<R>,
+    writer: &mut Device<W>,
+) -> Result<u64, RunFault>
+    requires reader { IsNew reader.old.calls reader.old.failed }
+    requires writer { IsNew writer.old.calls writer.old.failed }
+    ensures run { HasRun limits echo (R.remaining reader.old.inner) (R.remaining reader.new.inner)
+        (W.contents writer.old.inner) (W.contents writer.new.inner) result }
+    ensures read { OnOk result (IsAtEnd (R.remaining reader.new.inner)) }
+    ensures cause { HasCause result reader.new.failed reader.new.calls writer.new.failed }
+{
+    serve::<PlainSorter, _, _>(alloc, limits, echo, reader, writer)
+}

@@ -1,0 +1,47 @@
+-- The tests on the texts that events name: names, labels and roles.
+use Rattle.std.specs.Prelude.{ℕ, Bool, not, ◌&&◌, ◌||◌, ◌==◌, List, [], ◌∷◌, Result, Ok, Err, if◌then◌else◌, length, nat_le, slice_index, codes}
+use Rattle.std.specs.List.{list_all}
+use Rattle.std.specs.Char.{is_ascii_alphanumeric}
+use Rattle.drf_role.specs.Text.{same_text}
+use Rattle.drf_lines.specs.declared.fault.LineFault.{LineFault}
+use Rattle.drf_lines.specs.declared.fault.LineFault.TheVariants.{BadText}
+
+-- a letter, a digit, `_`, `-` or `.`
+abbrev pub is_name_byte : ℕ → Bool
+is_name_byte b = is_ascii_alphanumeric b || (b == 95 || (b == 45 || b == 46))
+
+-- one of those, or `/`
+abbrev pub is_label_byte : ℕ → Bool
+is_label_byte b = is_name_byte b || b == 47
+
+abbrev pub is_short : List ℕ → Bool
+is_short text = nat_le 1 (length text) && nat_le (length text) 64
+
+-- the name of an agent or a framework
+unfoldable pub is_name : List ℕ → Bool
+is_name text = is_short text && list_all is_name_byte text
+
+-- the name of a resource
+unfoldable pub is_label : List ℕ → Bool
+is_label text = is_short text && list_all is_label_byte text
+
+-- a visible ASCII character other than `/`, `(`, `)`, `:` and `;`
+abbrev pub is_role_byte : ℕ → Bool
+is_role_byte b = nat_le 33 b && nat_le b 126 && not (b == 47 || (b == 40 || (b == 41 || (b == 58 || b == 59))))
+
+-- a role of one component, or `*`
+unfoldable pub is_plain_role : List ℕ → Bool
+is_plain_role text =
+    is_short text && list_all is_role_byte text
+    && not (slice_index text 0 == 45 || (same_text text (codes ".") || same_text text (codes "..")))
+
+-- ---- what a text says, if it is what is asked for
+
+unfoldable pub name_in : List ℕ → Result (List ℕ) LineFault
+name_in text = if is_name text then Ok text else Err BadText
+
+-- no role, or one of one component
+unfoldable pub roles_in : List (List ℕ) → Result (List (List (List ℕ))) LineFault
+roles_in [] = Ok []
+roles_in (role ∷ []) = if is_plain_role role then Ok ((role ∷ []) ∷ []) else Err BadText
+roles_in (role ∷ other ∷ roles) = Err BadText

@@ -7,8 +7,6 @@ mod limits;
 mod reply;
 mod rows;
 mod table;
-#[cfg(test)]
-mod tests;
 
 pub use event::Event;
 pub use laws::{

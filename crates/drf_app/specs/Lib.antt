@@ -1,9 +1,0 @@
-pub mod Fault
-pub mod Words
-pub mod Amount
-pub mod Total
-pub mod Meaning
-pub mod Lines
-pub mod ReplyLine
-pub mod Output
-pub mod Session

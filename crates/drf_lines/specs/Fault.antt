@@ -1,0 +1,41 @@
+-- Why a line is no event, and what a reader answers.
+use Rattle.std.specs.Prelude.{◌≡◌, ℕ, List, Result, Ok, Err, codes}
+use Rattle.drf_lines.specs.declared.fault.LineFault.{LineFault}
+use Rattle.drf_lines.specs.declared.fault.LineFault.TheVariants.{NotJson, BadShape, BadText}
+use Rattle.drf_lines.specs.declared.fault.LineError.{LineError}
+use Rattle.drf_lines.specs.declared.fault.LineError.TheVariants.{Fault, Memory}
+use Rattle.drf_role.specs.declared.name.NameFault.{NameFault}
+use Rattle.drf_role.specs.declared.name.NameFault.TheVariants as name_faults
+use Rattle.drf_role.specs.declared.role.RoleFault.{RoleFault}
+use Rattle.drf_role.specs.declared.role.RoleFault.TheVariants as role_faults
+
+-- the number that a fault is told by
+abbrev pub fault_number : LineFault → ℕ
+fault_number NotJson = 31
+fault_number BadShape = 32
+fault_number BadText = 33
+
+-- the name that it is told by
+abbrev pub fault_name : LineFault → List ℕ
+fault_name NotJson = codes "NotJson"
+fault_name BadShape = codes "BadShape"
+fault_name BadText = codes "BadText"
+
+-- a reader gave what is meant, seen by `view`, or told the fault that there is, or memory ran out
+abbrev pub IsReadAs : {A B : Type 0} → (A → B) → Result A LineError → Result B LineFault → Type 0
+IsReadAs view (Ok x) meaning = meaning ≡ Ok (view x)
+IsReadAs view (Err (Fault fault)) meaning = meaning ≡ Err fault
+IsReadAs view (Err Memory) meaning = Unit {0}
+
+abbrev pub IsReadOf : {A : Type 0} → Result A LineError → Result A LineFault → Type 0
+IsReadOf = IsReadAs (λ x. x)
+
+-- a text that is no name is a bad text
+abbrev pub name_error : NameFault → LineError
+name_error name_faults.BadName = Fault BadText
+name_error name_faults.Memory = Memory
+
+-- a text that is no role is a bad text
+abbrev pub role_error : RoleFault → LineError
+role_error role_faults.BadRole = Fault BadText
+role_error role_faults.Memory = Memory

@@ -1,0 +1,47 @@
+-- The line of a reply: compact JSON, the keys in order of bytes, and a line feed (RFC 8259).
+use Rattle.std.specs.Prelude.{ℕ, true, List, [], ◌∷◌, ◌++◌, map, codes}
+use Rattle.serde_json.specs.Data.{Data, boolean, number, unsigned, string, array, object, member, no_members}
+use Rattle.serde_json.specs.View.{items_of}
+use Rattle.serde_json.specs.Written.{compact_text}
+use Rattle.drf_role.specs.Parts.{text_of}
+use Rattle.drf_rows.specs.Refusal.{number_of, name_of}
+use Rattle.drf_rows.specs.declared.reply.OfferLine.{OfferLine}
+use Rattle.drf_rows.specs.declared.reply.Reply.{Reply}
+use Rattle.drf_rows.specs.declared.reply.Reply.TheVariants.{Done, Offers, Refused}
+use Rattle.drf_lines.specs.declared.fault.LineFault.{LineFault}
+use Rattle.drf_lines.specs.Fault.{fault_number, fault_name}
+use Rattle.drf_lines.specs.Total.{resources_text}
+
+abbrev pub offer_value : OfferLine → Data
+offer_value offer = object (
+    member (codes "agent") (string offer.agent)
+    (member (codes "framework") (string offer.framework)
+    (member (codes "offer") (number (unsigned offer.number))
+    (member (codes "resources") (string (resources_text offer.resources))
+    (member (codes "role") (string (text_of offer.role))
+    no_members)))))
+
+abbrev pub offers_value : List OfferLine → Data
+offers_value offers = object (member (codes "offers") (array (items_of (map offer_value offers))) no_members)
+
+-- why something was refused
+abbrev pub refused_value : List ℕ → ℕ → Data
+refused_value name reason = object (member (codes "name") (string name) (member (codes "refused") (number (unsigned reason)) no_members))
+
+-- a reply as JSON
+abbrev pub reply_value : Reply → Data
+reply_value Done = object (member (codes "ok") (boolean true) no_members)
+reply_value (Offers offers) = offers_value offers
+reply_value (Refused refusal) = refused_value (name_of refusal) (number_of refusal)
+
+-- a value's line
+abbrev pub line_of : Data → List ℕ
+line_of value = compact_text value ++ 10 ∷ []
+
+-- the line that tells a reply
+unfoldable pub reply_line : Reply → List ℕ
+reply_line reply = line_of (reply_value reply)
+
+-- the line that tells why a line is no event
+unfoldable pub fault_line : LineFault → List ℕ
+fault_line fault = line_of (refused_value (fault_name fault) (fault_number fault))

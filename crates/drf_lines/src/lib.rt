@@ -1,0 +1,13 @@
+//! The lines of a journal: an event is read from a line, and a reply or a fault is written as one.
+#![tactic(auto)]
+
+mod amount;
+mod fault;
+mod line;
+mod reply;
+mod total;
+mod words;
+
+pub use fault::{LineError, LineFault};
+pub use line::read_event;
+pub use reply::{write_fault, write_reply};

@@ -9,9 +9,9 @@ import os
 import subprocess
 import sys
 import tempfile
-import time
 
 ROOT = os.path.dirname(os.path.dirname(os.path.realpath(__file__)))
+PROGRAM = f"{ROOT}/crates/drf_app/out/drf_app"
 SHORTER = int(sys.argv[1]) if len(sys.argv) > 1 else 1
 AGENTS, FRAMEWORKS = 4096 // SHORTER, 1024 // SHORTER
 
@@ -52,19 +52,19 @@ INPUTS = {
 
 
 def measure(lines):
-    with tempfile.TemporaryFile() as given:
-        given.write("".join(it + "\n" for it in lines).encode())
-        given.seek(0)
-        start = time.time()
-        child = subprocess.Popen([f"{ROOT}/drf", "run"], stdin=given, stdout=subprocess.DEVNULL)
-        _, status, usage = os.wait4(child.pid, 0)
-        child.returncode = os.waitstatus_to_exitcode(status)
-        assert child.returncode == 0, child.returncode
-        return time.time() - start, usage.ru_maxrss / 1024
+    """The seconds and the megabytes that the program took for the lines."""
+    with tempfile.TemporaryDirectory() as room:
+        with open(f"{room}/input", "w") as given:
+            given.write("".join(it + "\n" for it in lines))
+        words = ["/usr/bin/time", "-f", "%e %M", "-o", f"{room}/figures", PROGRAM, "run"]
+        with open(f"{room}/input") as given:
+            subprocess.run(words, stdin=given, stdout=subprocess.DEVNULL, check=True)
+        seconds, kilobytes = open(f"{room}/figures").read().split()
+        return max(float(seconds), 0.01), int(kilobytes) / 1024
 
 
 def main():
-    # the first call builds the program where it must
+    # builds the program where it must
     subprocess.run([f"{ROOT}/drf", "run"], stdin=subprocess.DEVNULL, check=True)
     print(f"{'input':40}{'lines':>9}{'seconds':>9}{'lines/s':>10}{'peak MB':>9}")
     for name, lines in INPUTS.items():

@@ -40,14 +40,15 @@ def each_followed(lines, by):
 INPUTS = {
     "agents": agents(AGENTS),
     "frameworks": frameworks(FRAMEWORKS),
-    "refused agents": agents(1) * (100_000 // SHORTER),
-    "one cycle, an offer for each agent": frameworks(16) + agents(AGENTS) + cycles(1),
+    "refused agents": agents(1) * (400_000 // SHORTER),
+    "one cycle, 4,096 offers, 16 frameworks": frameworks(16) + agents(AGENTS) + cycles(1),
+    "one cycle, 256 offers, 1,024 frameworks": frameworks(FRAMEWORKS) + agents(AGENTS // 16) + cycles(1),
     "a cycle for each agent, 16 frameworks": frameworks(16) + each_followed(agents(AGENTS), cycles(AGENTS)),
     "a cycle for each agent, 1 framework": frameworks(1) + each_followed(agents(AGENTS), cycles(AGENTS)),
-    "empty cycles, 1 agent": frameworks(1) + agents(1) + cycles(100_000 // SHORTER),
-    "empty cycles, 1,000 agents": frameworks(16) + agents(1000) + cycles(10_000 // SHORTER),
+    "empty cycles, 1 agent": frameworks(1) + agents(1) + cycles(400_000 // SHORTER),
+    "empty cycles, 4,096 agents": frameworks(16) + agents(AGENTS) + cycles(40_000 // SHORTER),
     "lines of 1 KB": [it.ljust(1023) for it in cycles(100_000 // SHORTER)],
-    "lines that are no JSON": ["{" * 20] * (100_000 // SHORTER),
+    "lines that are no JSON": ["{" * 20] * (400_000 // SHORTER),
 }
 
 
@@ -66,10 +67,10 @@ def measure(lines):
 def main():
     # builds the program where it must
     subprocess.run([f"{ROOT}/drf", "run"], stdin=subprocess.DEVNULL, check=True)
-    print(f"{'input':40}{'lines':>9}{'seconds':>9}{'lines/s':>10}{'peak MB':>9}")
+    print(f"{'input':42}{'lines':>9}{'seconds':>9}{'lines/s':>10}{'peak MB':>9}")
     for name, lines in INPUTS.items():
         seconds, peak = measure(lines)
-        print(f"{name:40}{len(lines):9}{seconds:9.2f}{len(lines) / seconds:10.0f}{peak:9.1f}", flush=True)
+        print(f"{name:42}{len(lines):9}{seconds:9.2f}{len(lines) / seconds:10.0f}{peak:9.1f}", flush=True)
     print(f"cores: {os.cpu_count()}")
 
 

@@ -5,6 +5,7 @@ mod amounts;
 mod paths;
 mod pools;
 mod quantities;
+mod shares;
 mod words;
 
 use anyhow::{Context, Result, bail};
@@ -59,6 +60,7 @@ fn answer(alloc: Global, question: &str) -> Result<String> {
         "pool_of_ranges" => pools::answers::<Ranges>(alloc, text),
         "pool_of_items" => pools::answers::<Items>(alloc, text),
         "quantities" => quantities::compared(alloc, text),
+        "shares" => shares::compared(alloc, text),
         _ => answer_of_paths(alloc, kind, text),
     }
 }

@@ -2,6 +2,7 @@
 //! what was written is, byte for byte, what it must be.
 #![tactic(auto)]
 
+mod events;
 mod rows;
 mod streams;
 
@@ -9,5 +10,6 @@ use anyhow::Result;
 
 fn main(rt: HostRuntime) -> Result<()> {
     rows::run_all(&rt)?;
-    streams::run_all(&rt)
+    streams::run_all(&rt)?;
+    events::run_all(&rt)
 }

@@ -5,8 +5,6 @@
 mod algebra;
 mod pool;
 mod scalar;
-#[cfg(test)]
-mod tests;
 
 pub use algebra::{Algebra, AlgebraFault};
 pub use pool::{Pool, PoolFault};

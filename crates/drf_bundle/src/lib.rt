@@ -4,8 +4,6 @@
 mod bundle;
 mod laws;
 mod quantities;
-#[cfg(test)]
-mod tests;
 
 pub use bundle::Bundle;
 pub use laws::{

@@ -7,8 +7,6 @@ mod items;
 mod merge;
 mod ranges;
 mod sweep;
-#[cfg(test)]
-mod tests;
 
 pub use interval::Interval;
 pub use items::Items;

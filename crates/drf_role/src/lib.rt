@@ -7,8 +7,6 @@ mod name;
 mod parts;
 mod path;
 mod role;
-#[cfg(test)]
-mod tests;
 mod word;
 
 pub use laws::client_path_law;

@@ -1,0 +1,89 @@
+#!/usr/bin/env python3
+"""Runs the gate (`rt ci`) on a clone of the last commit, and prints for each crate the seconds of its proof, its tests,
+its must-fail edits and its runs, then the whole time and the processor time. The gate's own lines go to standard error.
+
+    bench/gate.py              the whole repository
+    bench/gate.py CRATE..      these crates and those below them
+
+Parts run side by side, so a part's seconds are its own only where nothing else needs the processors; RT_JOBS=1 runs one
+part at a time."""
+import collections
+import importlib.machinery
+import importlib.util
+import os
+import resource
+import shutil
+import subprocess
+import sys
+import tempfile
+import time
+
+ROOT = os.path.dirname(os.path.dirname(os.path.realpath(__file__)))
+PARTS = ["proof", "tests", "edits", "runs"]
+
+
+def load_rt():
+    path = os.path.realpath(shutil.which("rt"))
+    loader = importlib.machinery.SourceFileLoader("rt", path)
+    rt = importlib.util.module_from_spec(importlib.util.spec_from_loader("rt", loader))
+    sys.modules["rt"] = rt
+    loader.exec_module(rt)
+    return rt
+
+
+def keep_crates(names):
+    """Leaves only those crates, and what they stand on, in the clone's crates.txt."""
+    lines = [it for it in open("crates.txt").read().splitlines() if it and not it.startswith("#")]
+    needs = {it.split(":")[0].split()[0]: it.split(":")[1].split() for it in lines}
+    kept, left = set(), list(names)
+    while left:
+        name = left.pop()
+        if name in needs and name not in kept:
+            kept.add(name)
+            left += needs[name]
+    open("crates.txt", "w").write("".join(f"{it}\n" for it in lines if it.split(":")[0].split()[0] in kept))
+    for name in set(os.listdir("crates")) - kept:
+        shutil.rmtree(f"crates/{name}")
+
+
+def main(names):
+    rt, seconds, edits = load_rt(), collections.Counter(), collections.Counter()
+
+    def timed(call, part_of):
+        def run(*args, **named):
+            start = time.time()
+            try:
+                return call(*args, **named)
+            finally:
+                name, part = part_of(*args)
+                seconds[name, part] += time.time() - start
+                edits[name] += part == "edits"
+        return run
+
+    rt.Crate.ci = timed(rt.Crate.ci, lambda crate, flags, tests: (crate.name, "tests" if tests else "proof"))
+    rt.must_fail = timed(rt.must_fail, lambda crate, *_: (crate.name, "edits"))
+    rt.run = timed(rt.run, lambda crate, *_: (crate.name, "runs"))
+    with tempfile.TemporaryDirectory() as room:
+        subprocess.run(["git", "clone", "-q", ROOT, f"{room}/clone"], check=True)
+        os.chdir(f"{room}/clone")
+        if names:
+            keep_crates(names)
+        start, table = time.time(), os.dup(1)
+        os.dup2(2, 1)
+        status = rt.ci()
+        sys.stdout.flush()
+        os.dup2(table, 1)
+        os.chdir("/")
+    wall, used = time.time() - start, resource.getrusage(resource.RUSAGE_CHILDREN)
+    print(f"{'crate':16}" + "".join(f"{it:>8}" for it in PARTS) + "     all  edits")
+    for name in sorted({name for name, _ in seconds}, key=lambda name: -sum(seconds[name, it] for it in PARTS)):
+        row = [seconds[name, it] for it in PARTS]
+        print(f"{name:16}" + "".join(f"{it:8.0f}" for it in [*row, sum(row)]) + f"{edits[name]:7}")
+    row = [sum(seconds[name, it] for name, part in seconds if part == it) for it in PARTS]
+    print(f"{'all':16}" + "".join(f"{it:8.0f}" for it in [*row, sum(row)]) + f"{sum(edits.values()):7}")
+    print(f"seconds: {wall:.0f} in all, {used.ru_utime + used.ru_stime:.0f} of a processor; status {status}")
+    return status
+
+
+if __name__ == "__main__":
+    sys.exit(main(sys.argv[1:]))

@@ -1,0 +1,77 @@
+#!/usr/bin/env python3
+"""Times the program on inputs of several kinds: seconds, lines a second and peak memory of each.
+
+    bench/speed.py           inputs of full length
+    bench/speed.py 100       a hundredth of it, for a try"""
+import itertools
+import json
+import os
+import subprocess
+import sys
+import tempfile
+
+ROOT = os.path.dirname(os.path.dirname(os.path.realpath(__file__)))
+PROGRAM = f"{ROOT}/crates/drf_app/out/drf_app"
+SHORTER = int(sys.argv[1]) if len(sys.argv) > 1 else 1
+AGENTS, FRAMEWORKS = 4096 // SHORTER, 1024 // SHORTER
+
+
+def line(event, **keys):
+    return json.dumps({"event": event, **keys}, separators=(",", ":"))
+
+
+def agents(count):
+    totals = (f"cpus:{i % 16 + 1};mem:{(i % 64 + 1) * 512}" for i in itertools.count())
+    return [line("add_agent", agent=f"n{i}", total=total) for i, total in zip(range(count), totals)]
+
+
+def frameworks(count, roles=10):
+    return [line("add_framework", framework=f"f{i}", roles=[f"r{i % roles}"]) for i in range(count)]
+
+
+def cycles(count):
+    return [line("cycle", at=i) for i in range(count)]
+
+
+def each_followed(lines, by):
+    return list(itertools.chain.from_iterable(zip(lines, by)))
+
+
+INPUTS = {
+    "agents": agents(AGENTS),
+    "frameworks": frameworks(FRAMEWORKS),
+    "refused agents": agents(1) * (400_000 // SHORTER),
+    "one cycle, 4,096 offers, 16 frameworks": frameworks(16) + agents(AGENTS) + cycles(1),
+    "one cycle, 256 offers, 1,024 frameworks": frameworks(FRAMEWORKS) + agents(AGENTS // 16) + cycles(1),
+    "a cycle for each agent, 16 frameworks": frameworks(16) + each_followed(agents(AGENTS), cycles(AGENTS)),
+    "a cycle for each agent, 1 framework": frameworks(1) + each_followed(agents(AGENTS), cycles(AGENTS)),
+    "empty cycles, 1 agent": frameworks(1) + agents(1) + cycles(400_000 // SHORTER),
+    "empty cycles, 4,096 agents": frameworks(16) + agents(AGENTS) + cycles(40_000 // SHORTER),
+    "lines of 1 KB": [it.ljust(1023) for it in cycles(100_000 // SHORTER)],
+    "lines that are no JSON": ["{" * 20] * (400_000 // SHORTER),
+}
+
+
+def measure(lines):
+    """The seconds and the megabytes that the program took for the lines."""
+    with tempfile.TemporaryDirectory() as room:
+        with open(f"{room}/input", "w") as given:
+            given.write("".join(it + "\n" for it in lines))
+        words = ["/usr/bin/time", "-f", "%e %M", "-o", f"{room}/figures", PROGRAM, "run"]
+        with open(f"{room}/input") as given:
+            subprocess.run(words, stdin=given, stdout=subprocess.DEVNULL, check=True)
+        seconds, kilobytes = open(f"{room}/figures").read().split()
+        return max(float(seconds), 0.01), int(kilobytes) / 1024
+
+
+def main():
+    # builds the program where it must
+    subprocess.run([f"{ROOT}/drf", "run"], stdin=subprocess.DEVNULL, check=True)
+    print(f"{'input':42}{'lines':>9}{'seconds':>9}{'lines/s':>10}{'peak MB':>9}")
+    for name, lines in INPUTS.items():
+        seconds, peak = measure(lines)
+        print(f"{name:42}{len(lines):9}{seconds:9.2f}{len(lines) / seconds:10.0f}{peak:9.1f}", flush=True)
+    print(f"cores: {os.cpu_count()}")
+
+
+main()

@@ -1,0 +1,15 @@
+//! Runs the worked examples of `data/`, and one of them over streams that are slow or fail, and tells of each whether
+//! what was written is, byte for byte, what it must be.
+#![tactic(auto)]
+
+mod events;
+mod rows;
+mod streams;
+
+use anyhow::Result;
+
+fn main(rt: HostRuntime) -> Result<()> {
+    rows::run_all(&rt)?;
+    streams::run_all(&rt)?;
+    events::run_all(&rt)
+}

@@ -1,0 +1,51 @@
+//! The worked examples: `rows` names each, with its limits on agents and events where they are not the greatest. The
+//! lines of `NAME.in` are answered by those of `NAME.out`.
+use anyhow::{Context, Result};
+use drf_journal::run;
+use drf_rows::Limits;
+use std::alloc::Global;
+use std::rt::{Files, Runtime};
+use std::{fs, io};
+
+/// The bytes of an example's file.
+pub fn bytes<R: Files + AllocGlobal>(rt: &R, name: &str, ending: &str) -> io::Result<Vec<u8>> {
+    let path = format!(in rt.alloc(); "{name}.{ending}")?;
+    fs::read(rt, path.as_str())
+}
+
+fn limits(words: &str) -> Option<Limits> {
+    let Some((agents, events)) = words.split_once(' ') else {
+        return Some(Limits::full());
+    };
+    let agents = agents.parse::<u64>().ok()?;
+    let events = events.parse::<u64>().ok()?;
+    Limits::new(agents, 1024, 8, 4096, 65_536, 4096, 4096, 32, events)
+}
+
+fn answered(alloc: Global, limits: Limits, input: &[u8]) -> Result<Vec<u8>> {
+    let mut reader = input;
+    let mut output = Vec::new(alloc);
+    run(alloc, limits, &mut reader, &mut output)?;
+    Ok(output)
+}
+
+fn is_exact<R: Files + AllocGlobal>(rt: &R, row: &str) -> Result<bool> {
+    let (name, words) = row.split_once(' ').unwrap_or((row, ""));
+    let limits = limits(words).context("no limits")?;
+    let told = answered(rt.alloc(), limits, &bytes(rt, name, "in")?)?;
+    Ok(told.as_slice() == bytes(rt, name, "out")?.as_slice())
+}
+
+pub fn run_all<R: Runtime + AllocGlobal>(rt: &R) -> Result<()> {
+    let list = fs::read_to_string(rt, "rows")?;
+    let mut others = 0u64;
+    for row in list.as_str().lines() {
+        let is_exact = is_exact(rt, row)?;
+        println!(rt; "{row}: {}", if is_exact { "exact" } else { "OTHER" })?;
+        if !is_exact {
+            others = others.saturating_add(1);
+        }
+    }
+    println!(rt; "{others} examples are not exact")?;
+    Ok(())
+}

@@ -1,0 +1,244 @@
+//! Streams that are slow or fail: what was written when a run ends, and that a reply does not wait for more input.
+use crate::rows::bytes;
+use anyhow::Result;
+use drf_journal::{RunFault, run};
+use drf_rows::Limits;
+use std::alloc::Global;
+use std::cell::Cell;
+use std::io;
+use std::io::{ErrorKind, Read, Write};
+use std::rt::Runtime;
+
+/// The example that is run: each of its lines has one reply.
+const EXAMPLE: &str = "three_agents";
+
+/// Gives at most some bytes a call and never more than a line, and fails once its calls are used up.
+#[derive(Drop)]
+struct Slow<'a> {
+    rest: &'a [u8],
+    most: usize,
+    calls: usize,
+}
+
+impl Read for Slow<'_> {
+    fn read(&mut self, buf: &mut [u8]) -> io::Result<usize> {
+        if self.calls == 0 {
+            return Err(io::Error::from(ErrorKind::BrokenPipe));
+        }
+        self.calls -= 1;
+        let line = self.rest.iter().position(|byte| *byte == b'\n');
+        let line = line.map_or(self.rest.len(), |end| end.saturating_add(1));
+        let count = self.most.min(line).min(self.rest.len()).min(buf.len());
+        buf[..count].copy_from_slice(&self.rest[..count]);
+        self.rest = &self.rest[count..];
+        Ok(count)
+    }
+}
+
+/// Keeps what is written, and fails once its calls are used up, be they writes or flushes.
+#[derive(Drop)]
+struct Full {
+    taken: Vec<u8>,
+    calls: usize,
+}
+
+impl Full {
+    fn call(&mut self) -> io::Result<()> {
+        if self.calls == 0 {
+            return Err(io::Error::from(ErrorKind::StorageFull));
+        }
+        self.calls -= 1;
+        Ok(())
+    }
+}
+
+impl Write for Full {
+    fn write(&mut self, buf: &[u8]) -> io::Result<usize> {
+        self.call()?;
+        self.taken.extend_from_slice(buf)?;
+        Ok(buf.len())
+    }
+
+    fn flush(&mut self) -> io::Result<()> {
+        self.call()
+    }
+}
+
+/// How many bytes a read gives at most, and how many reads and how many writes and flushes come before one fails.
+#[derive(Clone, Copy, Drop)]
+struct Bounds {
+    bytes: usize,
+    reads: usize,
+    writes: usize,
+}
+
+const NO_BOUNDS: Bounds = Bounds {
+    bytes: usize::MAX,
+    reads: usize::MAX,
+    writes: usize::MAX,
+};
+
+/// How a run ended, and what it wrote.
+#[derive(Drop)]
+struct Ended {
+    fault: Option<RunFault>,
+    taken: Vec<u8>,
+}
+
+fn run_within(alloc: Global, input: &[u8], bounds: Bounds) -> Ended {
+    let mut reader = Slow {
+        rest: input,
+        most: bounds.bytes,
+        calls: bounds.reads,
+    };
+    let mut writer = Full {
+        taken: Vec::new(alloc),
+        calls: bounds.writes,
+    };
+    let fault = run(alloc, Limits::full(), &mut reader, &mut writer).err();
+    let Full { taken, calls: _ } = writer;
+    Ended { fault, taken }
+}
+
+/// The first lines of a text, `count` of them.
+fn first_lines(text: &[u8], count: usize) -> &[u8] {
+    let mut left = count;
+    let mut end = 0;
+    for (i, byte) in text.iter().enumerate() {
+        if left == 0 {
+            break;
+        }
+        if *byte == b'\n' {
+            left -= 1;
+            end = i + 1;
+        }
+    }
+    &text[..end.min(text.len())]
+}
+
+/// Pieces of any length are answered by the same bytes.
+fn pieces_are_exact(alloc: Global, input: &[u8], output: &[u8]) -> bool {
+    [1, 2, 7, 64].iter().all(|bytes| {
+        let bounds = Bounds {
+            bytes: *bytes,
+            ..NO_BOUNDS
+        };
+        let ended = run_within(alloc, input, bounds);
+        ended.fault.is_none() && ended.taken.as_slice() == output
+    })
+}
+
+/// Where a read fails, the lines that earlier reads gave are answered, and no other.
+fn failing_reads_are_exact(alloc: Global, input: &[u8], output: &[u8]) -> bool {
+    let lines = input.iter().filter(|byte| **byte == b'\n').count();
+    (0..=lines).all(|reads| {
+        let bounds = Bounds { reads, ..NO_BOUNDS };
+        let ended = run_within(alloc, input, bounds);
+        ended.fault == Some(RunFault::Read) && ended.taken.as_slice() == first_lines(output, reads)
+    })
+}
+
+/// Where a write or a flush fails, what earlier writes took is whole replies: each line has a write, then a flush.
+fn failing_writes_are_exact(alloc: Global, input: &[u8], output: &[u8]) -> bool {
+    let lines = input.iter().filter(|byte| **byte == b'\n').count();
+    (0..lines.saturating_mul(2)).all(|writes| {
+        let bounds = Bounds {
+            writes,
+            ..NO_BOUNDS
+        };
+        let ended = run_within(alloc, input, bounds);
+        ended.fault == Some(RunFault::Write)
+            && ended.taken.as_slice() == first_lines(output, writes.div_ceil(2))
+    })
+}
+
+/// Gives a line a call, and notes a call that comes before all earlier lines were answered.
+#[derive(Drop)]
+struct Asking<'a> {
+    slow: Slow<'a>,
+    given: usize,
+    flushed: &'a Cell<usize>,
+    is_late: bool,
+}
+
+impl Read for Asking<'_> {
+    fn read(&mut self, buf: &mut [u8]) -> io::Result<usize> {
+        self.is_late = self.is_late || self.flushed.get() != self.given;
+        let count = self.slow.read(buf)?;
+        if count > 0 {
+            self.given = self.given.wrapping_add(1);
+        }
+        Ok(count)
+    }
+}
+
+/// Counts the lines that were written, and tells their number at each flush.
+#[derive(Drop)]
+struct Counting<'a> {
+    written: usize,
+    flushed: &'a Cell<usize>,
+}
+
+impl Write for Counting<'_> {
+    fn write(&mut self, buf: &[u8]) -> io::Result<usize> {
+        let lines = buf.iter().filter(|byte| **byte == b'\n').count();
+        self.written = self.written.wrapping_add(lines);
+        Ok(buf.len())
+    }
+
+    fn flush(&mut self) -> io::Result<()> {
+        self.flushed.set(self.written);
+        Ok(())
+    }
+}
+
+/// Whether each line is answered, and the answer flushed, before the next one is asked for.
+fn answers_at_once(alloc: Global, input: &[u8]) -> Result<bool> {
+    let flushed = Cell::new(0);
+    let mut reader = Asking {
+        slow: Slow {
+            rest: input,
+            most: usize::MAX,
+            calls: usize::MAX,
+        },
+        given: 0,
+        flushed: &flushed,
+        is_late: false,
+    };
+    let mut writer = Counting {
+        written: 0,
+        flushed: &flushed,
+    };
+    run(alloc, Limits::full(), &mut reader, &mut writer)?;
+    Ok(!reader.is_late)
+}
+
+fn tell(rt: &impl Print, what: &str, is_exact: bool) -> Result<()> {
+    println!(rt; "{what}: {}", if is_exact { "exact" } else { "OTHER" })?;
+    Ok(())
+}
+
+pub fn run_all<R: Runtime + AllocGlobal>(rt: &R) -> Result<()> {
+    let alloc = rt.alloc();
+    let (input, output) = (bytes(rt, EXAMPLE, "in")?, bytes(rt, EXAMPLE, "out")?);
+    tell(
+        rt,
+        "pieces of some bytes",
+        pieces_are_exact(alloc, &input, &output),
+    )?;
+    tell(
+        rt,
+        "reads that fail",
+        failing_reads_are_exact(alloc, &input, &output),
+    )?;
+    tell(
+        rt,
+        "writes that fail",
+        failing_writes_are_exact(alloc, &input, &output),
+    )?;
+    tell(
+        rt,
+        "answers before the next read",
+        answers_at_once(alloc, &input)?,
+    )
+}

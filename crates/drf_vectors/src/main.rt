@@ -1,0 +1,77 @@
+//! Answers questions about names, roles, paths, sets, amounts and pools, one a line: the vectors of the libraries.
+#![tactic(auto)]
+
+mod amounts;
+mod paths;
+mod pools;
+mod quantities;
+mod shares;
+mod words;
+
+use anyhow::{Context, Result, bail};
+use drf_amount::Scalar;
+use drf_kinds::{Items, Ranges};
+use drf_role::{Label, Name, NodePath, Role};
+use std::alloc::Global;
+use std::io;
+
+/// The two texts before and after the first `mark`.
+fn halves(text: &str, mark: char) -> Result<(&str, &str)> {
+    text.split_once(mark).context("half a question")
+}
+
+fn answer_of_words(alloc: Global, kind: &str, text: &str) -> Result<String> {
+    match kind {
+        "name" => words::copied::<Name>(alloc, text),
+        "label" => words::copied::<Label>(alloc, text),
+        "role" => words::copied::<Role>(alloc, text),
+        "distinct_names" => words::distinct::<Name>(alloc, text),
+        "distinct_labels" => words::distinct::<Label>(alloc, text),
+        "distinct_roles" => words::distinct::<Role>(alloc, text),
+        "node" => words::copied::<NodePath>(alloc, text),
+        "distinct_nodes" => words::distinct::<NodePath>(alloc, text),
+        "sorted_names" => words::sorted::<Name>(alloc, text),
+        "sorted_nodes" => words::sorted::<NodePath>(alloc, text),
+        _ => bail!("no question"),
+    }
+}
+
+fn answer_of_paths(alloc: Global, kind: &str, text: &str) -> Result<String> {
+    match kind {
+        "parts" => paths::parts(alloc, text),
+        "is_default" => paths::is_default(alloc, text),
+        "is_within" => paths::is_within(alloc, text),
+        "client" => paths::client_parts(alloc, text),
+        "nodes" => paths::nodes(alloc, text),
+        "is_same_client" => paths::is_same_client(alloc, text),
+        _ => answer_of_words(alloc, kind, text),
+    }
+}
+
+fn answer(alloc: Global, question: &str) -> Result<String> {
+    let (kind, text) = question.split_once(' ').unwrap_or((question, ""));
+    match kind {
+        "scalars" => amounts::compared::<Scalar>(alloc, text),
+        "ranges" => amounts::compared::<Ranges>(alloc, text),
+        "items" => amounts::compared::<Items>(alloc, text),
+        "has_number" => amounts::has_number(alloc, text),
+        "has_name" => amounts::has_name(alloc, text),
+        "pool_of_scalars" => pools::answers::<Scalar>(alloc, text),
+        "pool_of_ranges" => pools::answers::<Ranges>(alloc, text),
+        "pool_of_items" => pools::answers::<Items>(alloc, text),
+        "quantities" => quantities::compared(alloc, text),
+        "shares" => shares::compared(alloc, text),
+        _ => answer_of_paths(alloc, kind, text),
+    }
+}
+
+fn main(rt: HostRuntime) -> io::Result<()> {
+    for line in rt.lines(rt.alloc()) {
+        let question = line?;
+        match answer(rt.alloc(), question.as_str()) {
+            Ok(text) => println!(rt; "{question} -> {text}")?,
+            Err(fault) => println!(rt; "{question} -> {fault}")?,
+        }
+    }
+    Ok(())
+}

@@ -1,0 +1,56 @@
+//! A pool of one kind of amounts: its total, then calls, each after `; `.
+use crate::amounts::{Amount, read, show};
+use crate::halves;
+use anyhow::{Context, Result, bail};
+use drf_amount::Pool;
+use std::alloc::Global;
+use std::fmt::Write;
+
+fn take<A: Amount>(alloc: Global, pool: &mut Pool<A>, text: &str) -> Result<String> {
+    let number = pool.take(&read(alloc, text)?)?;
+    Ok(format!(in alloc; "part {number}")?)
+}
+
+fn shrink<A: Amount>(alloc: Global, pool: &mut Pool<A>, text: &str) -> Result<String> {
+    let (number, smaller) = halves(text, ' ')?;
+    pool.shrink(number.parse::<u64>()?, &read(alloc, smaller)?)?;
+    Ok(String::from_str(alloc, "done")?)
+}
+
+fn replace_free<A: Amount>(alloc: Global, pool: &mut Pool<A>, text: &str) -> Result<String> {
+    let (old, new) = halves(text, ' ')?;
+    pool.replace_free(&read(alloc, old)?, &read(alloc, new)?)?;
+    Ok(String::from_str(alloc, "done")?)
+}
+
+fn call<A: Amount>(alloc: Global, pool: &mut Pool<A>, text: &str) -> Result<String> {
+    let (call, text) = halves(text, ' ')?;
+    match call {
+        "take" => take(alloc, pool, text),
+        "shrink" => shrink(alloc, pool, text),
+        "replace_free" => replace_free(alloc, pool, text),
+        "give_back" => show(alloc, &pool.give_back(text.parse::<u64>()?)?),
+        "part" => show(alloc, pool.part(text.parse::<u64>()?).context("no part")?),
+        _ => bail!("no call"),
+    }
+}
+
+fn state<A: Amount>(alloc: Global, pool: &Pool<A>) -> Result<String> {
+    let (free, total) = (show(alloc, pool.free())?, show(alloc, pool.total())?);
+    Ok(format!(in alloc; "{free} of {total}")?)
+}
+
+/// What is free of the total, then what each call answers and what is free after it.
+pub fn answers<A: Amount>(alloc: Global, text: &str) -> Result<String> {
+    let (total, calls) = text.split_once("; ").context("no calls")?;
+    let mut pool = Pool::new(alloc, read::<A>(alloc, total)?)?;
+    let mut answers = state(alloc, &pool)?;
+    for text in calls.split("; ") {
+        match call(alloc, &mut pool, text) {
+            Ok(answer) => write!(answers, "; {answer}")?,
+            Err(fault) => write!(answers, "; {fault}")?,
+        }
+        write!(answers, ": {}", state(alloc, &pool)?)?;
+    }
+    Ok(answers)
+}

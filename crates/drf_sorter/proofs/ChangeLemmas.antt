@@ -14,9 +14,9 @@ use Rattle.drf_bundle.specs.Quantities.{amount_of, is_in_order, plus, minus}
 use Rattle.drf_bundle.specs.QuantitiesLaws.{amount-plus, amount-minus}
 use Rattle.drf_bundle.specs.declared.quantities.Entry.{Entry}
 use Rattle.drf_role.specs.Path.{same_path}
-use Rattle.drf_sorter.specs.declared.plain.Client.{Client}
+use Rattle.drf_sorter.specs.declared.client.Client.{Client}
 use Rattle.drf_sorter.specs.declared.plain.PlainSorter.{PlainSorter}
-use Rattle.drf_sorter.specs.Content.{Ranked, Content, charged, discharged}
+use Rattle.drf_sorter.specs.Content.{Ranked, Content, charged, discharged, refunded}
 use Rattle.drf_sorter.specs.Plain.{ranked}
 
 paths_equiv : IsEquivalence same_path
@@ -106,7 +106,7 @@ module _ (path : List (List ℕ)) (change : Ranked → Ranked) where
       ∙ rw found.there in
       rw at at (get_or-le-sum_by f (map step (map ranked clients)) i (ranked x) longer)
 
-any_ranked : (p : Ranked → Bool) (clients : List Client) → list_any p (map ranked clients) ≡ list_any (λ x. p (ranked x)) clients
+pub any_ranked : (p : Ranked → Bool) (clients : List Client) → list_any p (map ranked clients) ≡ list_any (λ x. p (ranked x)) clients
 any_ranked p [] = refl
 any_ranked p (x ∷ xs) = ap (λ b. p (ranked x) || b) (any_ranked p xs)
 
@@ -143,6 +143,14 @@ discharged_is x quantities rest is = λ i. record {
   count = x.count - 1;
 }
 
+pub refunded_is : (x : Client) (quantities rest : List Entry) → rest ≡ minus x.held quantities → ranked (record x { held = rest }) ≡ refunded quantities (ranked x)
+refunded_is x quantities rest is = λ i. record {
+  path = x.path;
+  active = x.active;
+  held = λ label. (ap (λ es. amount_of es label) is ∙ amount-minus x.held quantities label) i;
+  count = x.count;
+}
+
 -- the content with other clients
 abbrev pub with_clients : PlainSorter → List Ranked → Content
-with_clients sorter clients = record { clients = clients; total = sorter.total; weights = [] }
+with_clients sorter clients = record { clients = clients; total = sorter.total; weights = sorter.weights.items }

@@ -3,7 +3,7 @@ use Rattle.std.proofs.Common.{◌≡◌, ◌<◌, ◌≤◌, ◌+◌, ℕ, Bool,
 use Rattle.std.specs.List.{filter, sum_by}
 use Rattle.std.proofs.lemmas.Bool.{cases_Bool}
 use Rattle.std.proofs.lemmas.List.{take_all}
-use Rattle.std.proofs.lemmas.List.Sums.{sum_by-cons, sum_by_more, sum_by_more_le_part, sum_by-take-le, sum_by-le-sum_by}
+use Rattle.std.proofs.lemmas.List.Sums.{sum_by-cons, sum_by_more, sum_by-take-le, sum_by-le-sum_by}
 
 -- f at the elements that pass, and 0 at the others
 abbrev pub part_of : {X : Type 0} → (X → Bool) → (X → ℕ) → X → ℕ
@@ -37,15 +37,14 @@ module _ {X : Type 0} (p : X → Bool) (f : X → ℕ) (xs : List X) (i : ℕ) (
       let here : part_of p f (get_or xs i x) ≡ 0 = rw (← is) (rw fails) in
       omega (arith, so_far, more, here)
 
-  pub sum_part_fits : n + f x ≤ sum_by f xs
-  sum_part_fits =
-      let whole = sum_by_more_le_part (part_of p f) f xs i x inside (λ y. part_below (p y) (f y)) in
-      let here : f (get_or xs i x) ≡ f x = ap f (sym is) in
-      omega (arith, so_far, whole, here)
+  pub sum_part_fits : p x ≡ true → n + f x ≤ sum_by f (filter p xs)
+  sum_part_fits passes =
+      omega (arith, sum_part_more passes, sum_by-take-le (part_of p f) xs (i + 1), sum_by-filter p f xs)
 
 pub sum_part_all : {X : Type 0} (p : X → Bool) (f : X → ℕ) (xs : List X) (i n : ℕ) → length xs ≤ i → n ≡ sum_by (part_of p f) (take i xs) → n ≡ sum_by f (filter p xs)
 sum_part_all p f xs i n end so_far = so_far ∙ ap (λ ys. sum_by (part_of p f) ys) (take_all i xs end) ∙ sym (sum_by-filter p f xs)
 
-pub sum_part_le : {X : Type 0} (p : X → Bool) (f : X → ℕ) (xs : List X) (i n : ℕ) → n ≡ sum_by (part_of p f) (take i xs) → n ≤ sum_by f xs
-sum_part_le p f xs i n so_far =
-    omega (arith, so_far, sum_by-take-le (part_of p f) xs i, sum_by-le-sum_by (part_of p f) f xs (λ y. part_below (p y) (f y)))
+-- those that pass have no more than all have
+pub sum_part_le : {X : Type 0} (p : X → Bool) (f : X → ℕ) (xs : List X) → sum_by f (filter p xs) ≤ sum_by f xs
+sum_part_le p f xs =
+    omega (arith, sum_by-filter p f xs, sum_by-le-sum_by (part_of p f) f xs (λ y. part_below (p y) (f y)))

@@ -3,7 +3,7 @@ pub mod Fractions
 pub mod FractionLaws
 pub mod Share
 pub mod ShareLaws
-pub mod Places
+pub mod Keys
 pub mod OrderLaws
 pub mod Plain
-pub mod Candidate
+pub mod Candidates

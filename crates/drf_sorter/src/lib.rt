@@ -1,14 +1,15 @@
 //! The order in which clients are served.
 #![tactic(auto)]
 
+mod candidate;
+mod client;
+mod key;
 mod laws;
 mod plain;
-mod rank;
 mod share;
 mod sorter;
-#[cfg(test)]
-mod tests;
 
+pub use key::{Holding, Key, weighted_share};
 pub use laws::{client_order_law, share_order_law};
 pub use plain::PlainSorter;
 pub use share::Share;

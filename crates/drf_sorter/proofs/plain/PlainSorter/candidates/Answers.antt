@@ -2,10 +2,10 @@ use Rattle.std.proofs.Common.{◌∷◌, ◌++◌, [], map, ap, sym, ◌∙◌}
 use Rattle.std.specs.List.{filter}
 use Rattle.std.proofs.lemmas.List.{map_push, take_all}
 use Rattle.std.proofs.lemmas.List.Elements.{All-push}
-use Rattle.drf_sorter.specs.declared.rank.Candidate.{Candidate}
-use Rattle.drf_sorter.specs.Candidate.{HasPlaces}
-use Rattle.drf_sorter.specs.Plain.{standing}
-use Rattle.drf_sorter.specs.declared.plain.Client.{Client}
+use Rattle.drf_sorter.specs.declared.candidate.Candidate.{Candidate}
+use Rattle.drf_sorter.specs.Candidates.{HasKeys}
+use Rattle.drf_sorter.specs.Plain.{plain_standing}
+use Rattle.drf_sorter.specs.declared.client.Client.{Client}
 use Rattle.drf_sorter.proofs.PlainLemmas.{passed_more, passed_same, active_paths-ranked}
 use Rattle.drf_sorter.proofs.plain.PlainSorter.candidates.Goals.{then-client+in_ok-candidate+in_ok-push, else-client}
 use Rattle.drf_sorter.proofs.plain.PlainSorter.candidates.Goals as goal
@@ -24,13 +24,13 @@ loop-client-preserved c =
                 ∙ map_push (λ (d : Candidate). d.path) c.loop-client.candidates.items w.in_ok-candidate.field-0
                 ∙ (λ j. c.loop-client.invariant.paths j ++ w.in_ok-candidate.ensures.path j ∷ [])
                 ∙ sym more;
-            places = rw items (All-push (HasPlaces (standing c.args.self.now)) c.loop-client.candidates.items w.in_ok-candidate.field-0 c.loop-client.invariant.places w.in_ok-candidate.ensures.places);
+            keys = rw items (All-push (HasKeys (plain_standing c.args.self.now)) c.loop-client.candidates.items w.in_ok-candidate.field-0 c.loop-client.invariant.keys w.in_ok-candidate.ensures.keys);
           }
       | else-client w ↦
           let same = passed_same (λ (x : Client). x.active) (λ x. x.path) clients c.loop-client.client-index c.client-item.result inside is w.if-client.false in
           record {
             paths = ap (λ v. map (λ (d : Candidate). d.path) v.items) w.candidates-is ∙ c.loop-client.invariant.paths ∙ sym same;
-            places = rw w.candidates-is c.loop-client.invariant.places;
+            keys = rw w.candidates-is c.loop-client.invariant.keys;
           }
     ]
 

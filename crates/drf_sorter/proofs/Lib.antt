@@ -6,3 +6,6 @@ pub mod KeyLemmas
 pub mod ChangeLemmas
 pub mod OrderLemmas
 pub mod WeightLemmas
+pub mod SiblingLemmas
+pub mod WeighingLemmas
+pub mod ArrivalLemmas

@@ -80,7 +80,7 @@ greater_above : (b : Bool) (f g : Fraction) → 0 < f.whole → 0 < g.whole → 
 greater_above true f g p q = q
 greater_above false f g p q = p
 
-greatest_above : (held : List ℕ → ℕ) (total : List Entry) → 0 < (greatest (held_fractions held total)).whole
+pub greatest_above : (held : List ℕ → ℕ) (total : List Entry) → 0 < (greatest (held_fractions held total)).whole
 greatest_above held [] = omega arith
 greatest_above held (e ∷ es) = elim (cases_Bool (nat_lt 0 e.amount)) [
   | inl some ↦ rw some (greater_above (is_less (record { part = held e.label; whole = e.amount }) (greatest (held_fractions held es))) (record { part = held e.label; whole = e.amount }) (greatest (held_fractions held es)) (ltb-true 0 e.amount some) (greatest_above held es))

@@ -1,5 +1,5 @@
 -- Shares, as the fractions that they are.
-use Rattle.std.specs.Prelude.{◌≡◌, ℕ, Bool, List, IsTrue}
+use Rattle.std.specs.Prelude.{◌≡◌, ◌*◌, ℕ, Bool, List, IsTrue}
 use Rattle.std.specs.declared.cmp.Ordering.{Ordering}
 use Rattle.drf_rows.specs.Share.{Fraction, is_same, share_of, weighted_share_of}
 use Rattle.drf_sorter.specs.Content.{Content, standing_in}
@@ -9,6 +9,14 @@ use Rattle.drf_sorter.specs.declared.share.Share.{Share}
 -- the fraction that a share is
 abbrev pub fraction_of : Share → Fraction
 fraction_of s = weighted s.part s.whole s.weight
+
+-- the fraction that two numbers are the terms of
+abbrev pub terms : ℕ × ℕ → Fraction
+terms numbers = record { part = numbers.0; whole = numbers.1 }
+
+-- the part of one share by the whole of the other, without the 1000 that both have
+abbrev pub cross_product : Share → Share → ℕ
+cross_product a b = a.part * (b.whole * b.weight)
 
 -- shares are ordered as fractions are
 abbrev pub share_cmp : Share → Share → Ordering

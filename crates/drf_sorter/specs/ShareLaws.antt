@@ -7,7 +7,7 @@ use Rattle.drf_sorter.specs.declared.share.Share.{Share}
 use Rattle.drf_sorter.specs.FractionLaws.{fraction_cmp-antisymm, fraction_cmp-trans, fraction_cmp-congr, product_above, is_eq-fraction_cmp}
 use Rattle.drf_sorter.specs.Share.{fraction_of, share_cmp, share_eq}
 
-above_zero : (s : Share) → 0 < (fraction_of s).whole
+pub above_zero : (s : Share) → 0 < (fraction_of s).whole
 above_zero s = product_above s.whole s.weight s.some s.weighs
 
 pub share_total : IsTotalOrder share_cmp

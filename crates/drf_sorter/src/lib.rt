@@ -10,7 +10,9 @@ mod share;
 mod sorter;
 
 pub use key::{Holding, Key, weighted_share};
-pub use laws::{client_order_law, share_order_law};
+pub use laws::{
+    arrival_law, client_order_law, lowest_terms_law, share_order_law, sibling_law, weight_law,
+};
 pub use plain::PlainSorter;
 pub use share::Share;
 pub use sorter::Sorter;

@@ -169,8 +169,7 @@ impl Sorter for PlainSorter {
 
     fn set_active(&mut self, path: &ClientPath, active: bool) {
         if let Some(at) = index_of(&self.clients, path) {
-            let client = &mut self.clients[at];
-            client.active = active;
+            self.clients[at].active = active;
         }
     }
 
@@ -199,8 +198,7 @@ impl Sorter for PlainSorter {
         // Its labels are in order.
         let _ = quantities.entries();
         if let Some(at) = index_of(&self.clients, path) {
-            let client = &mut self.clients[at];
-            client.held.lower(quantities);
+            self.clients[at].held.lower(quantities);
         }
     }
 

@@ -10,8 +10,8 @@ use Rattle.drf_sorter.proofs.plain.PlainSorterSorter.refund.Goals as goal
 pub lower-requires : goal.lower-requires
 lower-requires c =
     let clients = c.args.self.now.clients.items in
-    let x = c.index_mut-client.result.now in
-    let found = place-found clients c.deref.result.now c.args.path.now c.in-Some.at x c.deref.ensures.value c.in-Some.ensures c.index_mut-client.ensures.value in
+    let x = c.index_mut.result.now in
+    let found = place-found clients c.deref.result.now c.args.path.now c.in-Some.at x c.deref.ensures.value c.in-Some.ensures c.index_mut.ensures.value in
     covers_from x.held c.args.quantities.now c.entries.ensures.in_order
     (at_found (Holds c.args.quantities.now) clients c.args.path.now c.in-Some.at x found c.requires.held)
 
@@ -19,17 +19,17 @@ pub invariant_of-self-clause-distinct : goal.invariant_of-self-clause-distinct
 invariant_of-self-clause-distinct c =
     let sorter = c.args.self.now in
     let clients = sorter.clients.items in
-    let x = c.index_mut-client.result.now in
+    let x = c.index_mut.result.now in
     let y : Client = record x { held = c.lower.new.self } in
-    rw (paths_stay clients c.in-Some.at x y c.index_mut-client.ensures.value refl) sorter.distinct
+    rw (paths_stay clients c.in-Some.at x y c.index_mut.ensures.value refl) sorter.distinct
 
 pub returns-in-Some : goal.returns-in-Some
 returns-in-Some c =
     let sorter = c.args.self.now in
     let clients = sorter.clients.items in
-    let x = c.index_mut-client.result.now in
+    let x = c.index_mut.result.now in
     let y : Client = record x { held = c.lower.new.self } in
-    let found = place-found clients c.deref.result.now c.args.path.now c.in-Some.at x c.deref.ensures.value c.in-Some.ensures c.index_mut-client.ensures.value in
+    let found = place-found clients c.deref.result.now c.args.path.now c.in-Some.at x c.deref.ensures.value c.in-Some.ensures c.index_mut.ensures.value in
     let made = refunded_is x c.args.quantities.now c.lower.new.self c.lower.ensures in
     ap (with_clients sorter) (changed_one c.args.path.now (refunded c.args.quantities.now) clients c.in-Some.at x y sorter.distinct found made)
 

@@ -10,17 +10,17 @@ pub invariant_of-self-clause-distinct : goal.invariant_of-self-clause-distinct
 invariant_of-self-clause-distinct c =
     let sorter = c.args.self.now in
     let clients = sorter.clients.items in
-    let x = c.index_mut-client.result.now in
+    let x = c.index_mut.result.now in
     let y : Client = record x { active = c.args.active } in
-    rw (paths_stay clients c.in-Some.at x y c.index_mut-client.ensures.value refl) sorter.distinct
+    rw (paths_stay clients c.in-Some.at x y c.index_mut.ensures.value refl) sorter.distinct
 
 pub returns-in-Some : goal.returns-in-Some
 returns-in-Some c =
     let sorter = c.args.self.now in
     let clients = sorter.clients.items in
-    let x = c.index_mut-client.result.now in
+    let x = c.index_mut.result.now in
     let y : Client = record x { active = c.args.active } in
-    let found = place-found clients c.deref.result.now c.args.path.now c.in-Some.at x c.deref.ensures.value c.in-Some.ensures c.index_mut-client.ensures.value in
+    let found = place-found clients c.deref.result.now c.args.path.now c.in-Some.at x c.deref.ensures.value c.in-Some.ensures c.index_mut.ensures.value in
     ap (with_clients sorter) (changed_one c.args.path.now (activated c.args.active) clients c.in-Some.at x y sorter.distinct found refl)
 
 pub returns-in_default : goal.returns-in_default

@@ -17,7 +17,8 @@ use Rattle.drf_sorter.proofs.SumLemmas.{part_of, sum_by-filter}
 abbrev SameMembers : List (List (List ℕ)) → List (List (List ℕ)) → Type 0
 SameMembers xs ys = (t : List (List ℕ) → Bool) → list_any t xs ≡ list_any t ys
 
-all_at : (t : List (List ℕ) → Bool) (x : List (List ℕ)) (ps : List (List (List ℕ))) → list_any (same_path x) ps ≡ true → list_all t ps ≡ true → t x ≡ true
+all_at : (t : List (List ℕ) → Bool) (x : List (List ℕ)) (ps : List (List (List ℕ))) → list_any (same_path x) ps ≡ true
+    → list_all t ps ≡ true → t x ≡ true
 all_at t x [] there all = absurd (true≢false (sym there))
 all_at t x (p ∷ ps) there all = elim (or_cases (same_path x p) (list_any (same_path x) ps) there) [
   | inl same ↦ rw (same_path-true x p same) ((and_parts (t p) (list_all t ps) all).0)
@@ -26,28 +27,38 @@ all_at t x (p ∷ ps) there all = elim (or_cases (same_path x p) (list_any (same
 
 module _ (s : Standing) where
   -- the first path is no later one
-  none_later : (p : List (List ℕ)) (t : List (List ℕ) → Bool) (ps : List (List (List ℕ))) → list_all (stands_before s p) ps ≡ true → list_any (λ q. not (same_path p q) && t q) ps ≡ list_any t ps
+  none_later : (p : List (List ℕ)) (t : List (List ℕ) → Bool) (ps : List (List (List ℕ)))
+      → list_all (stands_before s p) ps ≡ true → list_any (λ q. not (same_path p q) && t q) ps ≡ list_any t ps
   none_later p t [] all = refl
   none_later p t (q ∷ ps) all =
       let here = and_parts (stands_before s p q) (list_all (stands_before s p) ps) all in
       rw (same_path-before s p q here.0) (ap (λ b. t q || b) (none_later p t ps here.1))
 
-  others : (p : List (List ℕ)) (t : List (List ℕ) → Bool) (ps : List (List (List ℕ))) → list_all (stands_before s p) ps ≡ true → list_any (λ q. not (same_path p q) && t q) (p ∷ ps) ≡ list_any t ps
+  others : (p : List (List ℕ)) (t : List (List ℕ) → Bool) (ps : List (List (List ℕ)))
+      → list_all (stands_before s p) ps ≡ true → list_any (λ q. not (same_path p q) && t q) (p ∷ ps) ≡ list_any t ps
   others p t ps all = rw (same_path_itself p) (none_later p t ps all)
 
-  same_first : (x y : List (List ℕ)) (xs ys : List (List (List ℕ))) → list_all (stands_before s x) xs ≡ true → list_all (stands_before s y) ys ≡ true → SameMembers (x ∷ xs) (y ∷ ys) → x ≡ y
-  same_first x y xs ys first second same = elim (or_cases (same_path x y) (list_any (same_path x) ys) (sym (same (same_path x)) ∙ or_left (same_path x x) (list_any (same_path x) xs) (same_path_itself x))) [
-    | inl here ↦ same_path-true x y here
-    | inr later ↦ elim (or_cases (same_path y x) (list_any (same_path y) xs) (same (same_path y) ∙ or_left (same_path y y) (list_any (same_path y) ys) (same_path_itself y))) [
-      | inl here ↦ sym (same_path-true y x here)
-      | inr back ↦
-          let before = all_at (stands_before s x) y xs back first in
-          let after = all_at (stands_before s y) x ys later second in
-          absurd (true≢false (sym after ∙ stands_before-back s x y before))
-    ]
-  ]
+  same_first : (x y : List (List ℕ)) (xs ys : List (List (List ℕ))) → list_all (stands_before s x) xs ≡ true
+      → list_all (stands_before s y) ys ≡ true → SameMembers (x ∷ xs) (y ∷ ys) → x ≡ y
+  same_first x y xs ys first second same =
+      elim
+      (or_cases (same_path x y) (list_any (same_path x) ys)
+      (sym (same (same_path x)) ∙ or_left (same_path x x) (list_any (same_path x) xs) (same_path_itself x))) [
+        | inl here ↦ same_path-true x y here
+        | inr later ↦
+            elim
+            (or_cases (same_path y x) (list_any (same_path y) xs)
+            (same (same_path y) ∙ or_left (same_path y y) (list_any (same_path y) ys) (same_path_itself y))) [
+              | inl here ↦ sym (same_path-true y x here)
+              | inr back ↦
+                  let before = all_at (stands_before s x) y xs back first in
+                  let after = all_at (stands_before s y) x ys later second in
+                  absurd (true≢false (sym after ∙ stands_before-back s x y before))
+            ]
+      ]
 
-  one_order : (xs ys : List (List (List ℕ))) → SameMembers xs ys → IsTrue (is_serving_order s xs) → IsTrue (is_serving_order s ys) → xs ≡ ys
+  one_order : (xs ys : List (List (List ℕ))) → SameMembers xs ys → IsTrue (is_serving_order s xs)
+      → IsTrue (is_serving_order s ys) → xs ≡ ys
   one_order [] [] same first second = refl
   one_order [] (y ∷ ys) same first second = absurd (true≢false (sym (same (λ p. true))))
   one_order (x ∷ xs) [] same first second = absurd (true≢false (same (λ p. true)))
@@ -63,7 +74,8 @@ module _ (s : Standing) where
 
 -- ---- what an order depends on does not depend on arrival
 
-any_active : (t : List (List ℕ) → Bool) (cs : List Ranked) → list_any t (map (λ c. c.path) (filter (λ c. c.active) cs)) ≡ list_any (λ c. c.active && t c.path) cs
+any_active : (t : List (List ℕ) → Bool) (cs : List Ranked)
+    → list_any t (map (λ c. c.path) (filter (λ c. c.active) cs)) ≡ list_any (λ c. c.active && t c.path) cs
 any_active t [] = refl
 any_active t (c ∷ cs) = elim (cases_Bool c.active) [
   | inl active ↦ rw active (ap (λ b. t c.path || b) (any_active t cs))
@@ -77,7 +89,8 @@ module _ (one other : Content) (moved : IsPermutation one.clients other.clients)
       ∙ list_any-IsPermutation (λ c. c.active && t c.path) one.clients other.clients moved
       ∙ sym (any_active t other.clients)
 
-  same_sum : (f : Ranked → ℕ) (node : List (List ℕ)) → sum_by f (clients_under one node) ≡ sum_by f (clients_under other node)
+  same_sum : (f : Ranked → ℕ) (node : List (List ℕ))
+      → sum_by f (clients_under one node) ≡ sum_by f (clients_under other node)
   same_sum f node =
       let under : Ranked → Bool = λ c. begins_with c.path node in
       sum_by-filter under f one.clients
@@ -93,9 +106,12 @@ module _ (one other : Content) (moved : IsPermutation one.clients other.clients)
     weight = λ node. weight_of (weights i) node;
   }
 
-pub arrival_does_not_matter : (one other : Content) (first second : List (List (List ℕ))) → IsPermutation one.clients other.clients → one.total ≡ other.total → one.weights ≡ other.weights → IsOrderOf one first → IsOrderOf other second → first ≡ second
+pub arrival_does_not_matter : (one other : Content) (first second : List (List (List ℕ)))
+    → IsPermutation one.clients other.clients → one.total ≡ other.total → one.weights ≡ other.weights
+    → IsOrderOf one first → IsOrderOf other second → first ≡ second
 arrival_does_not_matter one other first second moved total weights here there =
     one_order (standing_in other) first second
-    (λ t. sym (list_any-IsPermutation t (active_paths one) first here.active) ∙ same_active one other moved t ∙ list_any-IsPermutation t (active_paths other) second there.active)
+    (λ t. sym (list_any-IsPermutation t (active_paths one) first here.active) ∙ same_active one other moved t
+    ∙ list_any-IsPermutation t (active_paths other) second there.active)
     (ap (λ s. is_serving_order s first) (sym (same_standing one other moved total weights)) ∙ here.in_order)
     there.in_order

@@ -11,12 +11,16 @@ part_of p f x = cond (p x) (f x) 0
 
 pub sum_by-map : {X Y : Type 0} (f : Y → ℕ) (g : X → Y) (xs : List X) → sum_by f (map g xs) ≡ sum_by (λ x. f (g x)) xs
 sum_by-map f g [] = refl
-sum_by-map f g (x ∷ xs) = sum_by-cons f (g x) (map g xs) ∙ ap (λ n. f (g x) + n) (sum_by-map f g xs) ∙ sym (sum_by-cons (λ x. f (g x)) x xs)
+sum_by-map f g (x ∷ xs) =
+    sum_by-cons f (g x) (map g xs) ∙ ap (λ n. f (g x) + n) (sum_by-map f g xs) ∙ sym (sum_by-cons (λ x. f (g x)) x xs)
 
-pub sum_by-filter : {X : Type 0} (p : X → Bool) (f : X → ℕ) (xs : List X) → sum_by f (filter p xs) ≡ sum_by (part_of p f) xs
+pub sum_by-filter : {X : Type 0} (p : X → Bool) (f : X → ℕ) (xs : List X)
+    → sum_by f (filter p xs) ≡ sum_by (part_of p f) xs
 sum_by-filter p f [] = refl
 sum_by-filter p f (x ∷ xs) = elim (cases_Bool (p x)) [
-  | inl passes ↦ rw (sum_by-cons (part_of p f) x xs, passes, sum_by-cons f x (filter p xs)) (ap (λ n. f x + n) (sum_by-filter p f xs))
+  | inl passes ↦
+      rw (sum_by-cons (part_of p f) x xs, passes, sum_by-cons f x (filter p xs))
+      (ap (λ n. f x + n) (sum_by-filter p f xs))
   | inr fails ↦ rw (sum_by-cons (part_of p f) x xs, fails) (omega (arith, sum_by-filter p f xs))
 ]
 
@@ -24,7 +28,8 @@ part_below : (b : Bool) (n : ℕ) → cond b n 0 ≤ n
 part_below true n = omega arith
 part_below false n = omega arith
 
-module _ {X : Type 0} (p : X → Bool) (f : X → ℕ) (xs : List X) (i : ℕ) (x : X) (n : ℕ) (inside : i < length xs) (is : x ≡ get_or xs i x) (so_far : n ≡ sum_by (part_of p f) (take i xs)) where
+module _ {X : Type 0} (p : X → Bool) (f : X → ℕ) (xs : List X) (i : ℕ) (x : X) (n : ℕ) (inside : i < length xs)
+    (is : x ≡ get_or xs i x) (so_far : n ≡ sum_by (part_of p f) (take i xs)) where
   pub sum_part_more : p x ≡ true → n + f x ≡ sum_by (part_of p f) (take (i + 1) xs)
   sum_part_more passes =
       let more = sum_by_more (part_of p f) xs i x inside in
@@ -41,8 +46,10 @@ module _ {X : Type 0} (p : X → Bool) (f : X → ℕ) (xs : List X) (i : ℕ) (
   sum_part_fits passes =
       omega (arith, sum_part_more passes, sum_by-take-le (part_of p f) xs (i + 1), sum_by-filter p f xs)
 
-pub sum_part_all : {X : Type 0} (p : X → Bool) (f : X → ℕ) (xs : List X) (i n : ℕ) → length xs ≤ i → n ≡ sum_by (part_of p f) (take i xs) → n ≡ sum_by f (filter p xs)
-sum_part_all p f xs i n end so_far = so_far ∙ ap (λ ys. sum_by (part_of p f) ys) (take_all i xs end) ∙ sym (sum_by-filter p f xs)
+pub sum_part_all : {X : Type 0} (p : X → Bool) (f : X → ℕ) (xs : List X) (i n : ℕ) → length xs ≤ i
+    → n ≡ sum_by (part_of p f) (take i xs) → n ≡ sum_by f (filter p xs)
+sum_part_all p f xs i n end so_far =
+    so_far ∙ ap (λ ys. sum_by (part_of p f) ys) (take_all i xs end) ∙ sym (sum_by-filter p f xs)
 
 -- those that pass have no more than all have
 pub sum_part_le : {X : Type 0} (p : X → Bool) (f : X → ℕ) (xs : List X) → sum_by f (filter p xs) ≤ sum_by f xs

@@ -42,48 +42,63 @@ greater_other f g part whole = elim (cases_Bool (is_less f g)) [
       rw not_less (factor_above f.part g.whole (omega (arith, above, mul-pos part whole)))
 ]
 
-held_some : (held : List ℕ → ℕ) (label : List ℕ) (total : List Entry) → 0 < held label → 0 < amount_of total label → 0 < (dominant_of held total).part
+held_some : (held : List ℕ → ℕ) (label : List ℕ) (total : List Entry) → 0 < held label → 0 < amount_of total label
+    → 0 < (dominant_of held total).part
 held_some held label [] some there = absurd (omega (arith, there))
 held_some held label (e ∷ es) some there = elim (cases_same e.label label) [
   | inl same ↦
       let whole : 0 < e.amount = rw same.0 at there in
       let part : 0 < held e.label = subst (λ (n : List ℕ). 0 < held n) (sym same.1) some in
-      rw (lt-ltb 0 e.amount whole) (greater_some (record { part = held e.label; whole = e.amount }) (dominant_of held es) part whole)
+      rw (lt-ltb 0 e.amount whole)
+      (greater_some (record { part = held e.label; whole = e.amount }) (dominant_of held es) part whole)
   | inr other ↦
       let below = held_some held label es some (rw other.0 at there) in
       elim (cases_Bool (nat_lt 0 e.amount)) [
-        | inl there_is ↦ rw there_is (greater_other (record { part = held e.label; whole = e.amount }) (dominant_of held es) below (ltb-true 0 e.amount there_is))
+        | inl there_is ↦
+            rw there_is
+            (greater_other (record { part = held e.label; whole = e.amount }) (dominant_of held es) below
+            (ltb-true 0 e.amount there_is))
         | inr none ↦ rw none below
       ]
 ]
 
 -- ---- a role is weighed
 
-weight-with : (role : List (List ℕ)) (weight : ℕ) (ws : List WeightRow) → weight_of (weights_with ws role weight) role ≡ weight
+weight-with : (role : List (List ℕ)) (weight : ℕ) (ws : List WeightRow)
+    → weight_of (weights_with ws role weight) role ≡ weight
 weight-with role weight [] = rw (same_path_itself role)
 weight-with role weight (x ∷ xs) = elim (cases_Bool (same_path x.role role)) [
   | inl here ↦ rw (here, here)
   | inr past ↦ rw (past, past) (weight-with role weight xs)
 ]
 
-weighed : (content : Content) (role : List (List ℕ)) (weight : ℕ) → weighted_share_of (standing_in (with_weight content role weight)) role ≡ weigh (share_of (standing_in content) role) weight
+weighed : (content : Content) (role : List (List ℕ)) (weight : ℕ)
+    → weighted_share_of (standing_in (with_weight content role weight)) role
+    ≡ weigh (share_of (standing_in content) role) weight
 unfolding standing_in
-weighed content role weight = ap (weigh (share_of (standing_in content) role)) (weight-with role weight content.weights)
+weighed content role weight =
+    ap (weigh (share_of (standing_in content) role)) (weight-with role weight content.weights)
 
-less_under : (f : Fraction) (light heavy : ℕ) → 0 < f.part → 0 < f.whole → light < heavy → is_less (weigh f heavy) (weigh f light) ≡ true
+less_under : (f : Fraction) (light heavy : ℕ) → 0 < f.part → 0 < f.whole → light < heavy
+    → is_less (weigh f heavy) (weigh f light) ≡ true
 less_under f light heavy part whole more =
     lt-ltb (f.part * 1000 * (f.whole * light)) (f.part * 1000 * (f.whole * heavy))
     (mul-lt-mul_of_pos_left (mul-lt-mul_of_pos_left more whole) (omega (arith, part)))
 
-share-above : (content : Content) (role : List (List ℕ)) (label : List ℕ) → 0 < (standing_in content).held role label → 0 < amount_of content.total label → 0 < (share_of (standing_in content) role).part
+share-above : (content : Content) (role : List (List ℕ)) (label : List ℕ) → 0 < (standing_in content).held role label
+    → 0 < amount_of content.total label → 0 < (share_of (standing_in content) role).part
 unfolding standing_in
 share-above content role label some there = held_some ((standing_in content).held role) label content.total some there
 
-pub heavier_has_less : (content : Content) (role : List (List ℕ)) (label : List ℕ) (light heavy : ℕ) → 0 < (standing_in content).held role label → 0 < amount_of content.total label → light < heavy → IsTrue (is_less (weighted_share_of (standing_in (with_weight content role heavy)) role) (weighted_share_of (standing_in (with_weight content role light)) role))
+pub heavier_has_less : (content : Content) (role : List (List ℕ)) (label : List ℕ) (light heavy : ℕ)
+    → 0 < (standing_in content).held role label → 0 < amount_of content.total label → light < heavy
+    → IsTrue (is_less (weighted_share_of (standing_in (with_weight content role heavy)) role)
+    (weighted_share_of (standing_in (with_weight content role light)) role))
 heavier_has_less content role label light heavy some there more =
     let s = standing_in content in
     (λ i. is_less (weighed content role heavy i) (weighed content role light i))
-    ∙ less_under (share_of s role) light heavy (share-above content role label some there) (greatest_above (s.held role) s.total) more
+    ∙ less_under (share_of s role) light heavy (share-above content role label some there)
+    (greatest_above (s.held role) s.total) more
 
 -- ---- which nodes have a weight
 
@@ -100,12 +115,17 @@ no_dot : (role : List (List ℕ)) (rest node : List (List ℕ)) → IsRole node 
 no_dot role rest node (inl default) same = default_ends role rest (same ∙ default)
 no_dot role rest node (inr path) same = components_end role rest (subst (All IsComponent) (sym same) path.each)
 
-default_weight : (weights : List WeightRow) (role rest : List (List ℕ)) → AllByRecursion (λ w. IsRole w.role) weights → weight_of weights (role ++ codes "." ∷ rest) ≡ 1000
+default_weight : (weights : List WeightRow) (role rest : List (List ℕ)) → AllByRecursion (λ w. IsRole w.role) weights
+    → weight_of weights (role ++ codes "." ∷ rest) ≡ 1000
 default_weight [] role rest roles = refl
 default_weight (x ∷ xs) role rest roles =
     let other : same_path x.role (role ++ codes "." ∷ rest) ≡ false =
-    false_from_ne_true (same_path x.role (role ++ codes "." ∷ rest)) (λ same. no_dot role rest x.role roles.0 (sym (same_path-true x.role (role ++ codes "." ∷ rest) same))) in
+    false_from_ne_true (same_path x.role (role ++ codes "." ∷ rest))
+    (λ same. no_dot role rest x.role roles.0 (sym (same_path-true x.role (role ++ codes "." ∷ rest) same))) in
     rw other (default_weight xs role rest roles.1)
 
-pub clients_have_default_weight : (weights : List WeightRow) (role : List (List ℕ)) (framework : List ℕ) → AllByRecursion (λ w. IsRole w.role) weights → (weight_of weights (role ++ codes "." ∷ []) ≡ 1000) × (weight_of weights (client_path role framework) ≡ 1000)
-clients_have_default_weight weights role framework roles = (default_weight weights role [] roles, default_weight weights role (framework ∷ []) roles)
+pub clients_have_default_weight : (weights : List WeightRow) (role : List (List ℕ)) (framework : List ℕ)
+    → AllByRecursion (λ w. IsRole w.role) weights
+    → (weight_of weights (role ++ codes "." ∷ []) ≡ 1000) × (weight_of weights (client_path role framework) ≡ 1000)
+clients_have_default_weight weights role framework roles =
+    (default_weight weights role [] roles, default_weight weights role (framework ∷ []) roles)

@@ -18,7 +18,8 @@ in_range n is =
     let parts = and_parts (nat_le 1 n) (nat_le n 1000000) is in
     (leb-true 1 n parts.0, leb-true n 1000000 parts.1)
 
-pub weight-found : (p : WeightRow → Bool) (ws : List WeightRow) (w : WeightRow) → IsTrue (are_weights ws) → Some w ≡ find p ws → (1 ≤ w.weight) × (w.weight ≤ 1000000)
+pub weight-found : (p : WeightRow → Bool) (ws : List WeightRow) (w : WeightRow) → IsTrue (are_weights ws)
+    → Some w ≡ find p ws → (1 ≤ w.weight) × (w.weight ≤ 1000000)
 weight-found p [] w all is = absurd cc
 weight-found p (x ∷ xs) w all is =
     let parts = and_parts (is_weight x.weight) (are_weights xs) all in
@@ -30,7 +31,8 @@ weight-found p (x ∷ xs) w all is =
       | inr fails ↦ weight-found p xs w parts.1 (rw fails at is)
     ]
 
-pub weights-in_range : (role : List (List ℕ)) (weight : ℕ) (ws : List WeightRow) → 1 ≤ weight → weight ≤ 1000000 → IsTrue (are_weights ws) → IsTrue (are_weights (weights_with ws role weight))
+pub weights-in_range : (role : List (List ℕ)) (weight : ℕ) (ws : List WeightRow) → 1 ≤ weight → weight ≤ 1000000
+    → IsTrue (are_weights ws) → IsTrue (are_weights (weights_with ws role weight))
 weights-in_range role weight ws some most all = along ws all
   where
     new : IsTrue (is_weight weight)
@@ -42,12 +44,16 @@ weights-in_range role weight ws some most all = along ws all
         let parts = and_parts (is_weight x.weight) (are_weights xs) all in
         elim (cases_Bool (same_path x.role role)) [
           | inl here ↦ rw here (and_from (is_weight weight) (are_weights xs) new parts.1)
-          | inr past ↦ rw past (and_from (is_weight x.weight) (are_weights (weights_with xs role weight)) parts.0 (along xs parts.1))
+          | inr past ↦
+              rw past
+              (and_from (is_weight x.weight) (are_weights (weights_with xs role weight)) parts.0 (along xs parts.1))
         ]
 
 module _ (role : List (List ℕ)) (weight : ℕ) where
   -- the row that was found is the first of the role
-  set_at : (ws : List WeightRow) (i : ℕ) (w : WeightRow) → i ≡ position_or_len (λ (w : WeightRow). same_path w.role role) ws → i < length ws → w ≡ get_or ws i w → set ws i (record w { weight = weight }) ≡ weights_with ws role weight
+  set_at : (ws : List WeightRow) (i : ℕ) (w : WeightRow)
+      → i ≡ position_or_len (λ (w : WeightRow). same_path w.role role) ws → i < length ws → w ≡ get_or ws i w
+      → set ws i (record w { weight = weight }) ≡ weights_with ws role weight
   set_at [] i w first inside is = absurd (omega arith)
   set_at (x ∷ xs) zero w first inside is = elim (cases_Bool (same_path x.role role)) [
     | inl here ↦ rw here (λ j. record (is j) { weight = weight } ∷ xs)
@@ -58,19 +64,24 @@ module _ (role : List (List ℕ)) (weight : ℕ) where
     | inr past ↦ rw past (ap (λ ws. x ∷ ws) (set_at xs i w (omega (arith, rw past at first)) (omega arith) is))
   ]
 
-  pub weights-set : (ws : List WeightRow) (i : ℕ) (w : WeightRow) → Some i ≡ position (λ (w : WeightRow). same_path w.role role) ws → w ≡ get_or ws i w → set ws i (record w { weight = weight }) ≡ weights_with ws role weight
+  pub weights-set : (ws : List WeightRow) (i : ℕ) (w : WeightRow)
+      → Some i ≡ position (λ (w : WeightRow). same_path w.role role) ws → w ≡ get_or ws i w
+      → set ws i (record w { weight = weight }) ≡ weights_with ws role weight
   weights-set ws i w at is =
       let found = position-Some (λ (w : WeightRow). same_path w.role role) ws i w (sym at) in
       set_at ws i w (first found.0 at) found.0 is
     where
-      first : i < length ws → Some i ≡ position (λ (w : WeightRow). same_path w.role role) ws → i ≡ position_or_len (λ (w : WeightRow). same_path w.role role) ws
-      first inside at = elim (cases_Bool (nat_lt (position_or_len (λ (w : WeightRow). same_path w.role role) ws) (length ws))) [
-        | inl within ↦ let same = rw within at at in cc
-        | inr past ↦ absurd (let bad = rw past at at in cc)
-      ]
+      first : i < length ws → Some i ≡ position (λ (w : WeightRow). same_path w.role role) ws
+          → i ≡ position_or_len (λ (w : WeightRow). same_path w.role role) ws
+      first inside at =
+          elim (cases_Bool (nat_lt (position_or_len (λ (w : WeightRow). same_path w.role role) ws) (length ws))) [
+            | inl within ↦ let same = rw within at at in cc
+            | inr past ↦ absurd (let bad = rw past at at in cc)
+          ]
 
   -- a role that had no weight
-  pub weights-push : (ws : List WeightRow) → list_any (λ (w : WeightRow). same_path w.role role) ws ≡ false → ws ++ record { role = role; weight = weight } ∷ [] ≡ weights_with ws role weight
+  pub weights-push : (ws : List WeightRow) → list_any (λ (w : WeightRow). same_path w.role role) ws ≡ false
+      → ws ++ record { role = role; weight = weight } ∷ [] ≡ weights_with ws role weight
   weights-push [] none = refl
   weights-push (x ∷ xs) none = elim (cases_Bool (same_path x.role role)) [
     | inl here ↦ absurd (true≢false (rw here at none))

@@ -20,7 +20,8 @@ weigh f weight = weighted f.part f.whole weight
 
 -- what is held of each scalar that there is, as a fraction of its total
 abbrev pub held_fractions : (List ℕ → ℕ) → List Entry → List Fraction
-held_fractions held total = map (λ e. record { part = held e.label; whole = e.amount }) (filter (λ e. nat_lt 0 e.amount) total)
+held_fractions held total =
+    map (λ e. record { part = held e.label; whole = e.amount }) (filter (λ e. nat_lt 0 e.amount) total)
 
 -- the greatest of them
 abbrev pub dominant_of : (List ℕ → ℕ) → List Entry → Fraction

@@ -17,7 +17,9 @@ pub record Key : Type 0 where
 
 -- by weighted share, then by count, then by name
 abbrev pub key_cmp : Key → Key → Ordering
-key_cmp a b = ordering_then (fraction_cmp a.share b.share) (ordering_then (nat_cmp a.count b.count) (slice_cmp nat_cmp a.name b.name))
+key_cmp a b =
+    ordering_then (fraction_cmp a.share b.share)
+    (ordering_then (nat_cmp a.count b.count) (slice_cmp nat_cmp a.name b.name))
 
 -- the key of a child of a node
 abbrev pub key_of : Standing → List (List ℕ) → List ℕ → Key

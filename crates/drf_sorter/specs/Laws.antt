@@ -16,7 +16,8 @@ use Rattle.drf_sorter.specs.declared.share.Share.{Share}
 
 -- shares are compared by products that fit in 124 bits
 abbrev pub ProductsFit : Type 0
-ProductsFit = (a b : Share) → (share_cmp a b ≡ nat_cmp (cross_product a b) (cross_product b a)) × (cross_product a b < 2 ^ 124)
+ProductsFit =
+    (a b : Share) → (share_cmp a b ≡ nat_cmp (cross_product a b) (cross_product b a)) × (cross_product a b < 2 ^ 124)
 
 -- a fraction has one form in lowest terms
 abbrev pub OneLowestForm : Type 0
@@ -32,7 +33,8 @@ SameLowestForm = (f g : Fraction) → 1 ≤ f.whole → 1 ≤ g.whole → IsTrue
 
 -- that of nothing is 0/1
 abbrev pub NothingIsZero : Type 0
-NothingIsZero = (whole : ℕ) → 1 ≤ whole → lowest_terms (record { part = 0; whole = whole }) ≡ record { part = 0; whole = 1 }
+NothingIsZero =
+    (whole : ℕ) → 1 ≤ whole → lowest_terms (record { part = 0; whole = whole }) ≡ record { part = 0; whole = 1 }
 
 -- of two siblings of one weight that hold the same and got as many offers, the one whose name is less comes first, with
 -- all clients below it
@@ -52,7 +54,9 @@ HeavierHasLess =
     → 0 < (standing_in content).held role label
     → 0 < amount_of content.total label
     → light < heavy
-    → IsTrue (is_less (weighted_share_of (standing_in (with_weight content role heavy)) role) (weighted_share_of (standing_in (with_weight content role light)) role))
+    → IsTrue
+    (is_less (weighted_share_of (standing_in (with_weight content role heavy)) role)
+    (weighted_share_of (standing_in (with_weight content role light)) role))
 
 -- `.` and a framework have no weight of their own, since no component of a role is `.`
 abbrev pub ClientsHaveDefaultWeight : Type 0

@@ -13,8 +13,10 @@ above_zero s = product_above s.whole s.weight s.some s.weighs
 pub share_total : IsTotalOrder share_cmp
 share_total = record {
   antisymm = λ a b. fraction_cmp-antisymm (fraction_of a) (fraction_of b);
-  trans = λ a b c. fraction_cmp-trans (fraction_of a) (fraction_of b) (fraction_of c) (above_zero a) (above_zero b) (above_zero c);
-  congr = λ a b c. fraction_cmp-congr (fraction_of a) (fraction_of b) (fraction_of c) (above_zero a) (above_zero b) (above_zero c);
+  trans = λ a b c. fraction_cmp-trans (fraction_of a) (fraction_of b) (fraction_of c) (above_zero a) (above_zero b)
+      (above_zero c);
+  congr = λ a b c. fraction_cmp-congr (fraction_of a) (fraction_of b) (fraction_of c) (above_zero a) (above_zero b)
+      (above_zero c);
 }
 
 pub share_ties : (a b : Share) → share_eq a b ≡ eq_by_cmp share_cmp a b

@@ -7,11 +7,14 @@ returns-then-len c = sym (begins_short c.args.path.now c.args.node.now (omega ar
 
 pub returns-then-ne : goal.returns-then-ne
 returns-then-ne c =
-    sym (begins_differ c.args.path.now c.args.node.now c.loop-i.i c.part.result.now c.part-in-loop-i.result.now (omega arith) c.part.ensures c.part-in-loop-i.ensures (search rules))
+    sym
+    (begins_differ c.args.path.now c.args.node.now c.loop-i.i c.part.result.now c.part-in-loop-i.result.now
+    (omega arith) c.part.ensures c.part-in-loop-i.ensures (search rules))
 
 pub loop-i-preserved : goal.loop-i-preserved
 loop-i-preserved c =
-    heads_more c.args.path.now c.args.node.now c.loop-i.i c.part.result.now c.part-in-loop-i.result.now (omega arith) (omega arith) c.part.ensures c.part-in-loop-i.ensures (search rules) c.loop-i.invariant
+    heads_more c.args.path.now c.args.node.now c.loop-i.i c.part.result.now c.part-in-loop-i.result.now (omega arith)
+    (omega arith) c.part.ensures c.part-in-loop-i.ensures (search rules) c.loop-i.invariant
 
 pub returns : goal.returns
 returns c =

@@ -6,4 +6,5 @@ use Rattle.drf_sorter.proofs.client.NodeClients.count.Given as goal
 
 abbrev pub invariant-loop-client : goal.invariant-loop-client
 invariant-loop-client l =
-    l.count ≡ sum_by (part_of (λ c. begins_with c.path l.self.node.now) (λ c. c.count)) (take l.client-index l.self.clients.now)
+    l.count ≡ sum_by (part_of (λ c. begins_with c.path l.self.node.now) (λ c. c.count))
+    (take l.client-index l.self.clients.now)

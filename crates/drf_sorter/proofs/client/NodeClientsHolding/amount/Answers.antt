@@ -10,7 +10,10 @@ overflow_add-held c =
     let clients = c.args.self.now.clients.now in
     let node = c.args.self.now.node.now in
     let label = c.args.label.now in
-    let fits = sum_part_fits (λ (x : Client). begins_with x.path node) (λ x. amount_of x.held label) clients c.loop-client.client-index c.client-item.result c.loop-client.held c.loop-client-test.true c.client-item.is c.loop-client.invariant (search rules) in
+    let fits =
+    sum_part_fits (λ (x : Client). begins_with x.path node) (λ x. amount_of x.held label) clients
+    c.loop-client.client-index c.client-item.result c.loop-client.held c.loop-client-test.true c.client-item.is
+    c.loop-client.invariant (search rules) in
     omega (arith, fits, c.requires, c.get-held.ensures)
 
 pub returns : goal.returns
@@ -18,4 +21,5 @@ returns c =
     let clients = c.args.self.now.clients.now in
     let node = c.args.self.now.node.now in
     let label = c.args.label.now in
-    sum_part_all (λ (x : Client). begins_with x.path node) (λ x. amount_of x.held label) clients c.loop-client.client-index c.loop-client.held c.loop-client-test.false c.loop-client.invariant
+    sum_part_all (λ (x : Client). begins_with x.path node) (λ x. amount_of x.held label) clients
+    c.loop-client.client-index c.loop-client.held c.loop-client-test.false c.loop-client.invariant

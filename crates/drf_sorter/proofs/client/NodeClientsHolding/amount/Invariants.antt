@@ -7,4 +7,5 @@ use Rattle.drf_sorter.proofs.client.NodeClientsHolding.amount.Given as goal
 
 abbrev pub invariant-loop-client : goal.invariant-loop-client
 invariant-loop-client l =
-    l.held ≡ sum_by (part_of (λ c. begins_with c.path l.self.node.now) (λ c. amount_of c.held l.label)) (take l.client-index l.self.clients.now)
+    l.held ≡ sum_by (part_of (λ c. begins_with c.path l.self.node.now) (λ c. amount_of c.held l.label))
+    (take l.client-index l.self.clients.now)

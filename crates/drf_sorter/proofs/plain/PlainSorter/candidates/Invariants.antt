@@ -6,6 +6,7 @@ use Rattle.drf_sorter.proofs.plain.PlainSorter.candidates.Given as goal
 
 abbrev pub invariant-loop-client : goal.invariant-loop-client
 invariant-loop-client l = record {
-  paths : map (λ c. c.path) l.candidates.items ≡ map (λ c. c.path) (filter (λ c. c.active) (take l.client-index l.self.clients.items));
+  paths : map (λ c. c.path) l.candidates.items
+      ≡ map (λ c. c.path) (filter (λ c. c.active) (take l.client-index l.self.clients.items));
   keys : All (HasKeys (plain_standing l.self)) l.candidates.items;
 }

@@ -16,9 +16,19 @@ returns-clause-order c =
     let before = c.in_ok-candidates.candidates.items in
     let after = c.sort_unstable.new.self.items in
     let moved = IsPermutation-map (λ (d : Candidate). d.path) before after c.sort_unstable.ensures.permutation in
-    let active : IsPermutation (active_paths (plain_content sorter)) (map (λ (d : Candidate). d.path) after) = rw c.in_ok-candidates.ensures.paths at moved in
-    let distinct = distinct_moved (active_paths (plain_content sorter)) (map (λ (d : Candidate). d.path) after) active (distinct_active sorter) in
-    let keys = All-permutation (HasKeys (plain_standing sorter)) before after c.sort_unstable.ensures.permutation c.in_ok-candidates.ensures.keys in
+    let active : IsPermutation (active_paths (plain_content sorter)) (map (λ (d : Candidate). d.path) after) =
+    rw c.in_ok-candidates.ensures.paths at moved in
+    let distinct =
+    distinct_moved (active_paths (plain_content sorter)) (map (λ (d : Candidate). d.path) after) active
+    (distinct_active sorter) in
+    let keys =
+    All-permutation (HasKeys (plain_standing sorter)) before after c.sort_unstable.ensures.permutation
+    c.in_ok-candidates.ensures.keys in
     let order : IsOrderOf (plain_content sorter) (map (λ (d : Candidate). d.path) after) =
-    record { active = active; in_order = sorted_serving (plain_standing sorter) after keys distinct c.sort_unstable.ensures.sorted } in
-    IfOk-weaker c.paths.result (λ paths. paths.items ≡ map (λ (d : Candidate). d.path) after) (λ paths. IsOrderOf (plain_content sorter) paths.items) (λ paths is. rw is order) c.paths.ensures
+    record {
+      active = active;
+      in_order = sorted_serving (plain_standing sorter) after keys distinct
+          c.sort_unstable.ensures.sorted;
+    } in
+    IfOk-weaker c.paths.result (λ paths. paths.items ≡ map (λ (d : Candidate). d.path) after)
+    (λ paths. IsOrderOf (plain_content sorter) paths.items) (λ paths is. rw is order) c.paths.ensures

@@ -19,4 +19,5 @@ returns c =
     let clients = c.args.self.now.clients.items in
     let others = λ (x : Client). not (same_path x.path c.args.path.now) in
     let kept = filter_same _ others _ (λ x b f' k. (search rules, search rules)) _ _ c.retain.ensures.filtered in
-    ap (with_clients c.args.self.now) (ap (map ranked) kept ∙ sym (filter-map (λ r. not (same_path r.path c.args.path.now)) ranked clients))
+    ap (with_clients c.args.self.now)
+    (ap (map ranked) kept ∙ sym (filter-map (λ r. not (same_path r.path c.args.path.now)) ranked clients))

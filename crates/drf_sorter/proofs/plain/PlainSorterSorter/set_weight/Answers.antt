@@ -12,19 +12,25 @@ invariant_of-self-clause-weighs c =
     let rows = c.args.self.now.weights.items in
     let is_row = λ (w : WeightRow). same_path w.role c.args.role.now in
     let at = c.in-Some.ensures ∙ ap (position is_row) c.deref.ensures.value in
-    rw (weights-set c.args.role.now c.args.weight rows c.in-Some.at c.index_mut-row.result.now at c.index_mut-row.ensures.value)
+    rw
+    (weights-set c.args.role.now c.args.weight rows c.in-Some.at c.index_mut-row.result.now
+    at c.index_mut-row.ensures.value)
     (weights-in_range c.args.role.now c.args.weight rows c.requires.weighs c.requires.light c.args.self.now.weighs)
 
 pub returns-in_err-role-in-None-clause-replaced : goal.returns-in_err-role-in-None-clause-replaced
 returns-in_err-role-in-None-clause-replaced c there =
     let is_row = λ (w : WeightRow). same_path w.role c.args.role.now in
-    let none = position-none is_row c.args.self.now.weights.items (c.in-None.ensures ∙ ap (position is_row) c.deref.ensures.value) in
+    let none =
+    position-none is_row c.args.self.now.weights.items
+    (c.in-None.ensures ∙ ap (position is_row) c.deref.ensures.value) in
     absurd (false≢true (sym none ∙ there))
 
 pub returns-in_err-push-in-None-clause-replaced : goal.returns-in_err-push-in-None-clause-replaced
 returns-in_err-push-in-None-clause-replaced c there =
     let is_row = λ (w : WeightRow). same_path w.role c.args.role.now in
-    let none = position-none is_row c.args.self.now.weights.items (c.in-None.ensures ∙ ap (position is_row) c.deref.ensures.value) in
+    let none =
+    position-none is_row c.args.self.now.weights.items
+    (c.in-None.ensures ∙ ap (position is_row) c.deref.ensures.value) in
     absurd (false≢true (sym none ∙ there))
 
 pub returns-in-Some-clause-ok : goal.returns-in-Some-clause-ok
@@ -33,7 +39,8 @@ returns-in-Some-clause-ok c =
     let is_row = λ (w : WeightRow). same_path w.role c.args.role.now in
     let at = c.in-Some.ensures ∙ ap (position is_row) c.deref.ensures.value in
     ap (with_weights c.args.self.now)
-    (weights-set c.args.role.now c.args.weight rows c.in-Some.at c.index_mut-row.result.now at c.index_mut-row.ensures.value)
+    (weights-set c.args.role.now c.args.weight rows c.in-Some.at c.index_mut-row.result.now
+    at c.index_mut-row.ensures.value)
 
 pub returns-in_ok-push-in-None-clause-ok : goal.returns-in_ok-push-in-None-clause-ok
 returns-in_ok-push-in-None-clause-ok c =

@@ -27,14 +27,15 @@ abbrev pub greatest : List Fraction → Fraction
 greatest [] = record { part = 0; whole = 1 }
 greatest (f ∷ fs) = greater f (greatest fs)
 
--- Euclid's algorithm; as many steps as the second number says are enough
+-- Euclid's algorithm, two divisions a step: each halves the second number
 abbrev pub divisor_within : ℕ → ℕ → ℕ → ℕ
 divisor_within zero a b = a
-divisor_within (suc steps) a b = if b == 0 then a else divisor_within steps b (a % b)
+divisor_within (suc steps) a b =
+    if b == 0 then a else if a % b == 0 then b else divisor_within steps (a % b) (b % (a % b))
 
--- the greatest number that divides both
-abbrev pub common_divisor : ℕ → ℕ → ℕ
-common_divisor a b = divisor_within b a b
+-- the greatest number that divides both, of which the second is below 2 ^ 128
+unfoldable pub common_divisor : ℕ → ℕ → ℕ
+common_divisor a b = divisor_within 128 a b
 
 -- the fraction in lowest terms
 abbrev pub lowest_terms : Fraction → Fraction

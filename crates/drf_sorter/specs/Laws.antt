@@ -25,16 +25,26 @@ OneLowestForm = (f a b : Fraction) → 1 ≤ f.whole → IsLowest f a → IsLowe
 
 -- it is found
 abbrev pub LowestIsFound : Type 0
-LowestIsFound = (f : Fraction) → 1 ≤ f.whole → IsLowest f (lowest_terms f)
+LowestIsFound = (f : Fraction) → 1 ≤ f.whole → f.whole < 2 ^ 128 → IsLowest f (lowest_terms f)
 
 -- equal fractions have the same
 abbrev pub SameLowestForm : Type 0
-SameLowestForm = (f g : Fraction) → 1 ≤ f.whole → 1 ≤ g.whole → IsTrue (is_same f g) → lowest_terms f ≡ lowest_terms g
+SameLowestForm =
+    (f g : Fraction)
+    → 1 ≤ f.whole
+    → f.whole < 2 ^ 128
+    → 1 ≤ g.whole
+    → g.whole < 2 ^ 128
+    → IsTrue (is_same f g)
+    → lowest_terms f ≡ lowest_terms g
 
 -- that of nothing is 0/1
 abbrev pub NothingIsZero : Type 0
 NothingIsZero =
-    (whole : ℕ) → 1 ≤ whole → lowest_terms (record { part = 0; whole = whole }) ≡ record { part = 0; whole = 1 }
+    (whole : ℕ)
+    → 1 ≤ whole
+    → whole < 2 ^ 128
+    → lowest_terms (record { part = 0; whole = whole }) ≡ record { part = 0; whole = 1 }
 
 -- of two siblings of one weight that hold the same and got as many offers, the one whose name is less comes first, with
 -- all clients below it

@@ -9,3 +9,4 @@ pub mod OrderLaws
 pub mod Plain
 pub mod Candidates
 pub mod Laws
+pub mod Examples

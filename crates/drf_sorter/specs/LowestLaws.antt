@@ -1,7 +1,7 @@
 -- Each fraction has one form in lowest terms, and `lowest_terms` is it.
-use Rattle.std.proofs.Common.{◌≡◌, ◌≢◌, ◌<◌, ◌≤◌, ◌+◌, ◌*◌, ◌/◌, ◌%◌, ◌==◌, ℕ, zero, suc, IsTrue, refl, sym, ap, subst, ◌∙◌, inl, inr, arith}
+use Rattle.std.proofs.Common.{◌≡◌, ◌≢◌, ◌<◌, ◌≤◌, ◌+◌, ◌*◌, ◌/◌, ◌%◌, ◌^◌, ◌==◌, ℕ, zero, suc, IsTrue, refl, sym, ap, subst, ◌∙◌, inl, inr, arith}
 use Rattle.std.specs.Int.{◌∣◌, IsGcd}
-use Rattle.std.proofs.Math.Nat.{mul_assoc, mul_right_comm, mul-one, one-mul, zero-mul, add-mul, mod-lt, dvd-add_iff_right, dvd-mul_left, dvd-mul_right, dvd-mul_left_of_dvd, div-mul_cancel, eq-zero_of_zero-dvd, eq_of_mul-eq-mul_right}
+use Rattle.std.proofs.Math.Nat.{mul_assoc, mul_right_comm, mul-one, one-mul, zero-mul, add-mul, mul-le-mul_right, two-pow-succ, mod-lt, dvd-add_iff_right, dvd-mul_left, dvd-mul_right, dvd-mul_left_of_dvd, div-mul_cancel, eq-zero_of_zero-dvd, eq_of_mul-eq-mul_right}
 use Rattle.std.proofs.lemmas.Nat.{div-add-mod'}
 use Rattle.std.proofs.lemmas.Nat.Gcd.{IsGcd-from_zero, IsGcd-swap, same_from_IsGcd, dvd_antisymm}
 use Rattle.std.proofs.lemmas.Bool.{cases_Bool, eqb-true, eqb-false, eq-eqb}
@@ -20,28 +20,70 @@ step_by a b k g h =
       λ d p q. h.2 d q ((dvd-add_iff_right d (dvd-mul_left_of_dvd d q (a / b))).1 (subst (λ n. d ∣ n) (sym whole) p)),
     )
 
--- as many steps as the second number says lead to it
-divisor-by : (steps a b k : ℕ) → b ≤ steps → IsGcd (a * k) (b * k) (divisor_within steps a b * k)
-divisor-by zero a b k enough =
-    let none : b ≡ 0 = omega arith in
+-- two divisions halve
+halved : (a b : ℕ) → 0 < a % b → 0 < b → b % (a % b) + b % (a % b) < b
+halved a b rest some =
+    let r = a % b in
+    let below : r < b = mod-lt a some in
+    let whole : b / r * r + b % r ≡ b = div-add-mod' b r in
+    let less : b % r < r = mod-lt b rest in
+    let times : 1 ≤ b / r = quotient-above b r below whole less in
+    let once : 1 * r ≤ b / r * r = mul-le-mul_right r times in
+    omega (arith, whole, less, once, one-mul r)
+  where
+    quotient-above : (b r : ℕ) → r < b → b / r * r + b % r ≡ b → b % r < r → 1 ≤ b / r
+    quotient-above b r below whole less = of (b / r) whole
+      where
+        of : (q : ℕ) → q * r + b % r ≡ b → 1 ≤ q
+        of zero whole = absurd (omega (arith, whole, below, less, zero-mul r))
+        of (suc q) whole = omega arith
+
+-- so many steps lead to the divisor of numbers below that power of two
+divisor-by : (steps a b k : ℕ) → b < 2 ^ steps → IsGcd (a * k) (b * k) (divisor_within steps a b * k)
+divisor-by zero a b k small =
+    let none : b ≡ 0 = omega (arith, small) in
     IsGcd-from_zero (a * k) (b * k) (ap (λ n. n * k) none ∙ zero-mul k)
-divisor-by (suc steps) a b k enough = elim (cases_Bool (b == 0)) [
+divisor-by (suc steps) a b k small = elim (cases_Bool (b == 0)) [
   | inl none ↦ rw none (IsGcd-from_zero (a * k) (b * k) (ap (λ n. n * k) (eqb-true b 0 none) ∙ zero-mul k))
   | inr some ↦
       let other : b ≢ 0 = eqb-false b 0 some in
-      let above : 0 < b = omega (arith, other) in
-      let less = mod-lt a above in
-      rw some
-      (step_by a b k (divisor_within steps b (a % b) * k) (divisor-by steps b (a % b) k (omega (arith, less))))
+      elim (cases_Bool (a % b == 0)) [
+        | inl done ↦
+            rw (some, done)
+            (step_by a b k (b * k)
+            (IsGcd-from_zero (b * k) (a % b * k) (ap (λ n. n * k) (eqb-true (a % b) 0 done) ∙ zero-mul k)))
+        | inr more ↦
+            let rest : a % b ≢ 0 = eqb-false (a % b) 0 more in
+            let half = halved a b (omega (arith, rest)) (omega (arith, other)) in
+            let below : b % (a % b) < 2 ^ steps = omega (arith, half, small, two-pow-succ steps) in
+            rw (some, more)
+            (step_by a b k (divisor_within steps (a % b) (b % (a % b)) * k)
+            (step_by b (a % b) k (divisor_within steps (a % b) (b % (a % b)) * k)
+            (divisor-by steps (a % b) (b % (a % b)) k below)))
+      ]
 ]
 
-divisor-is : (a b : ℕ) → IsGcd a b (common_divisor a b)
-divisor-is a b = rw (mul-one a, mul-one b, mul-one (common_divisor a b)) at (divisor-by b a b 1 (omega arith))
+-- a number is below the power of two by itself
+below_power : (n : ℕ) → n < 2 ^ n
+below_power zero = omega arith
+below_power (suc n) = omega (arith, below_power n, two-pow-succ n)
+
+divisor-of : (steps a b : ℕ) → b < 2 ^ steps → IsGcd a b (divisor_within steps a b)
+divisor-of steps a b small =
+    rw (mul-one a, mul-one b, mul-one (divisor_within steps a b)) at (divisor-by steps a b 1 small)
+
+divisor-some : (a b : ℕ) → IsGcd a b (divisor_within b a b)
+divisor-some a b = divisor-of b a b (below_power b)
+
+divisor-is : (a b : ℕ) → b < 2 ^ 128 → IsGcd a b (common_divisor a b)
+unfolding common_divisor
+divisor-is a b small = divisor-of 128 a b small
 
 pub IsGcd-times : (a b g k : ℕ) → IsGcd a b g → IsGcd (a * k) (b * k) (g * k)
 IsGcd-times a b g k is =
-    subst (λ n. IsGcd (a * k) (b * k) (n * k)) (same_from_IsGcd a b (common_divisor a b) g (divisor-is a b) is)
-    (divisor-by b a b k (omega arith))
+    subst (λ n. IsGcd (a * k) (b * k) (n * k))
+    (same_from_IsGcd a b (divisor_within b a b) g (divisor-some a b) is)
+    (divisor-by b a b k (below_power b))
 
 pub divisor-above : (a b g : ℕ) → 1 ≤ b → IsGcd a b g → 1 ≤ g
 divisor-above a b zero some is = absurd (omega (arith, eq-zero_of_zero-dvd is.1))
@@ -87,14 +129,14 @@ IsLowest-by f g some is =
     let y = f.whole / g in
     let part : x * g ≡ f.part = div-mul_cancel g is.0 in
     let whole : y * g ≡ f.whole = div-mul_cancel g is.1 in
-    let rest = common_divisor x y in
-    let times : IsGcd f.part f.whole (rest * g) = rw (part, whole) at (IsGcd-times x y rest g (divisor-is x y)) in
+    let rest = divisor_within y x y in
+    let times : IsGcd f.part f.whole (rest * g) = rw (part, whole) at (IsGcd-times x y rest g (divisor-some x y)) in
     let one : rest ≡ 1 =
     eq_of_mul-eq-mul_right g above rest 1 (same_from_IsGcd f.part f.whole (rest * g) g times is ∙ sym (one-mul g)) in
     record {
       same = eq-eqb (x * f.whole) (f.part * y)
           (ap (λ n. x * n) (sym whole) ∙ sym (mul_assoc x y g) ∙ sym (mul_right_comm x g y) ∙ ap (λ n. n * y) part);
-      reduced = subst (λ n. IsGcd x y n) one (divisor-is x y);
+      reduced = subst (λ n. IsGcd x y n) one (divisor-some x y);
       some = factor_above y g (omega (arith, whole));
     }
   where
@@ -102,34 +144,35 @@ IsLowest-by f g some is =
     factor_above zero g h = absurd (omega (arith, h))
     factor_above (suc y) g h = omega arith
 
-pub lowest_terms-is : (f : Fraction) → 1 ≤ f.whole → IsLowest f (lowest_terms f)
-lowest_terms-is f some = IsLowest-by f (common_divisor f.part f.whole) some (divisor-is f.part f.whole)
+pub lowest_terms-is : (f : Fraction) → 1 ≤ f.whole → f.whole < 2 ^ 128 → IsLowest f (lowest_terms f)
+lowest_terms-is f some small =
+    IsLowest-by f (common_divisor f.part f.whole) some (divisor-is f.part f.whole small)
 
-pub lowest_terms-by : (f : Fraction) (g : ℕ) → 1 ≤ f.whole → IsGcd f.part f.whole g
+pub lowest_terms-by : (f : Fraction) (g : ℕ) → 1 ≤ f.whole → f.whole < 2 ^ 128 → IsGcd f.part f.whole g
     → record { part = f.part / g; whole = f.whole / g } ≡ lowest_terms f
-lowest_terms-by f g some is =
+lowest_terms-by f g some small is =
     lowest-unique f (record { part = f.part / g; whole = f.whole / g }) (lowest_terms f) some
-    (IsLowest-by f g some is) (lowest_terms-is f some)
+    (IsLowest-by f g some is) (lowest_terms-is f some small)
 
 -- equal fractions have one form
-pub lowest_terms-same : (f g : Fraction) → 1 ≤ f.whole → 1 ≤ g.whole → IsTrue (is_same f g)
-    → lowest_terms f ≡ lowest_terms g
-lowest_terms-same f g first second same =
-    let form = lowest_terms-is g second in
+pub lowest_terms-same : (f g : Fraction) → 1 ≤ f.whole → f.whole < 2 ^ 128 → 1 ≤ g.whole → g.whole < 2 ^ 128
+    → IsTrue (is_same f g) → lowest_terms f ≡ lowest_terms g
+lowest_terms-same f g some_f small_f some_g small_g same =
+    let form = lowest_terms-is g some_g small_g in
     let terms = lowest_terms g in
     let there = eqb-true (terms.part * g.whole) (g.part * terms.whole) form.same in
     let back = eqb-true (f.part * g.whole) (g.part * f.whole) same in
-    lowest-unique f (lowest_terms f) terms first (lowest_terms-is f first) (record {
-      same = eq-eqb (terms.part * f.whole) (f.part * terms.whole) (same_through terms g f second there (sym back));
+    lowest-unique f (lowest_terms f) terms some_f (lowest_terms-is f some_f small_f) (record {
+      same = eq-eqb (terms.part * f.whole) (f.part * terms.whole) (same_through terms g f some_g there (sym back));
       reduced = form.reduced;
       some = form.some;
     })
 
-pub lowest_terms-nothing : (whole : ℕ) → 1 ≤ whole
+pub lowest_terms-nothing : (whole : ℕ) → 1 ≤ whole → whole < 2 ^ 128
     → lowest_terms (record { part = 0; whole = whole }) ≡ record { part = 0; whole = 1 }
-lowest_terms-nothing whole some =
+lowest_terms-nothing whole some small =
     let f : Fraction = record { part = 0; whole = whole } in
-    lowest-unique f (lowest_terms f) (record { part = 0; whole = 1 }) some (lowest_terms-is f some) (record {
+    lowest-unique f (lowest_terms f) (record { part = 0; whole = 1 }) some (lowest_terms-is f some small) (record {
       same = eq-eqb (0 * whole) (0 * 1) (omega arith);
       reduced = IsGcd-swap 1 0 1 (IsGcd-from_zero 1 0 refl);
       some = omega arith;

@@ -1,5 +1,6 @@
 -- The laws of the order of shares.
-use Rattle.std.proofs.Common.{◌≡◌, ◌<◌, ◌∙◌, sym, refl}
+use Rattle.std.proofs.Common.{◌≡◌, ◌<◌, ◌≤◌, ◌*◌, ◌^◌, arith, ◌∙◌, sym, refl}
+use Rattle.std.proofs.Math.Nat.{mul-le-mul}
 use Rattle.std.specs.Cmp.{IsTotalOrder, IsEquivalence, IsPartialOrder, partial_order_from_agreeing_total}
 use Rattle.std.specs.Ordering.{eq_by_cmp, as_partial_cmp}
 use Rattle.std.proofs.lemmas.Cmp.{eq_by_cmp_equiv}
@@ -9,6 +10,11 @@ use Rattle.drf_sorter.specs.Share.{fraction_of, share_cmp, share_eq}
 
 pub above_zero : (s : Share) → 0 < (fraction_of s).whole
 above_zero s = product_above s.whole s.weight s.some s.weighs
+
+pub below_128 : (s : Share) → (fraction_of s).whole < 2 ^ 128
+below_128 s =
+    let product : s.whole * s.weight ≤ 2 ^ 52 * 1000000 = mul-le-mul {n₁ = s.whole} {m₁ = s.weight} {n₂ = 2 ^ 52} {m₂ = 1000000} (omega (arith, s.fits)) s.light in
+    omega (arith, product)
 
 pub share_total : IsTotalOrder share_cmp
 share_total = record {

@@ -3,12 +3,14 @@
 
 mod candidate;
 mod client;
+mod examples;
 mod key;
 mod laws;
 mod plain;
 mod share;
 mod sorter;
 
+pub use examples::{order_of_three_example, share_of_a_role_example};
 pub use key::{Holding, Key, weighted_share};
 pub use laws::{
     arrival_law, client_order_law, lowest_terms_law, share_order_law, sibling_law, weight_law,

@@ -13,7 +13,8 @@ above_zero s = product_above s.whole s.weight s.some s.weighs
 
 pub below_128 : (s : Share) → (fraction_of s).whole < 2 ^ 128
 below_128 s =
-    let product : s.whole * s.weight ≤ 2 ^ 52 * 1000000 = mul-le-mul {n₁ = s.whole} {m₁ = s.weight} {n₂ = 2 ^ 52} {m₂ = 1000000} (omega (arith, s.fits)) s.light in
+    let product : s.whole * s.weight ≤ 2 ^ 52 * 1000000 =
+    mul-le-mul {n₁ = s.whole} {m₁ = s.weight} {n₂ = 2 ^ 52} {m₂ = 1000000} (omega (arith, s.fits)) s.light in
     omega (arith, product)
 
 pub share_total : IsTotalOrder share_cmp

@@ -38,7 +38,7 @@ fn index_of(clients: &[Client], path: &ClientPath) -> Option<usize>
 }
 
 /// Where the weight of that role is.
-fn row_of(weights: &[WeightRow], role: &Role) -> Option<usize>
+fn row_index(weights: &[WeightRow], role: &Role) -> Option<usize>
     ensures { result ≡ position (λ w. same_path w.role role.now) weights.now }
 {
     weights.iter().position(|row| row.role == *role)
@@ -52,7 +52,7 @@ fn is_node_of(role: &Role, node: &NodePath) -> bool
 }
 
 /// The weight row of the role that is the node.
-fn row_at<'a>(weights: &'a [WeightRow], node: &NodePath) -> Option<&'a WeightRow>
+fn row_of_node<'a>(weights: &'a [WeightRow], node: &NodePath) -> Option<&'a WeightRow>
     ensures { option_copied result ≡ find (λ w. same_path w.role node.now) weights.now }
 {
     weights.iter().find(|row| is_node_of(&row.role, node))
@@ -82,7 +82,7 @@ impl PlainSorter {
         ensures weighs { 1 ≤ result }
         ensures light { result ≤ 1000000 }
     {
-        match row_at(&self.weights, node) {
+        match row_of_node(&self.weights, node) {
             Some(row) => row.weight,
             None => DEFAULT_WEIGHT,
         }
@@ -207,7 +207,7 @@ impl Sorter for PlainSorter {
     }
 
     fn set_weight(&mut self, role: &Role, weight: u64) -> Result<(), AllocError> {
-        match row_of(&self.weights, role) {
+        match row_index(&self.weights, role) {
             Some(at) => {
                 let row = &mut self.weights[at];
                 row.weight = weight;

@@ -9,3 +9,4 @@ pub mod WeightLemmas
 pub mod SiblingLemmas
 pub mod WeighingLemmas
 pub mod ArrivalLemmas
+pub mod EffectLemmas

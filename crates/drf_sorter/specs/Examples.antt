@@ -26,7 +26,8 @@ client_of_ops = client_path (codes "ops" ∷ []) (codes "f3")
 -- a cluster of 8 cpus and three clients that hold nothing
 abbrev pub three_clients : Content
 three_clients =
-    with_client (with_client (with_client (record empty { total = cpus 8000 }) client_of_eng) client_of_eng_web) client_of_ops
+    with_client
+    (with_client (with_client (record empty { total = cpus 8000 }) client_of_eng) client_of_eng_web) client_of_ops
 
 abbrev pub with_charge : List (List ℕ) → ℕ → Content → Content
 with_charge path amount content = with_change content path (charged (cpus amount))

@@ -1,16 +1,17 @@
 -- What is proved of shares and of the order of clients.
-use Rattle.std.specs.Prelude.{◌≡◌, ◌<◌, ◌≤◌, ◌^◌, ℕ, List, [], ◌∷◌, ◌++◌, IsTrue, codes}
+use Rattle.std.specs.Prelude.{◌≡◌, ◌<◌, ◌≤◌, ◌^◌, ℕ, Bool, List, [], ◌∷◌, ◌++◌, IsTrue, codes}
 use Rattle.std.specs.List.{AllByRecursion}
 use Rattle.std.specs.List.Sorted.{IsPermutation}
 use Rattle.std.specs.Ordering.{nat_cmp}
 use Rattle.drf_bundle.specs.Quantities.{amount_of}
+use Rattle.drf_bundle.specs.declared.quantities.Entry.{Entry}
 use Rattle.drf_role.specs.Path.{client_path}
 use Rattle.drf_role.specs.Role.{IsRole}
 use Rattle.drf_role.specs.Text.{text_below}
 use Rattle.drf_rows.specs.Held.{weight_of}
 use Rattle.drf_rows.specs.Share.{Fraction, Standing, IsLowest, is_less, is_same, lowest_terms, stands_before, weighted_share_of}
 use Rattle.drf_rows.specs.declared.rows.WeightRow.{WeightRow}
-use Rattle.drf_sorter.specs.Content.{Content, IsOrderOf, standing_in, with_weight}
+use Rattle.drf_sorter.specs.Content.{Content, IsOrderOf, activated, charged, discharged, standing_in, with_change, with_weight}
 use Rattle.drf_sorter.specs.Share.{cross_product, share_cmp}
 use Rattle.drf_sorter.specs.declared.share.Share.{Share}
 
@@ -74,6 +75,18 @@ ClientsHaveDefaultWeight =
     (weights : List WeightRow) (role : List (List ℕ)) (framework : List ℕ)
     → AllByRecursion (λ w. IsRole w.role) weights
     → (weight_of weights (role ++ codes "." ∷ []) ≡ 1000) × (weight_of weights (client_path role framework) ≡ 1000)
+
+-- a charge that is taken back leaves all as it was
+abbrev pub UndoneChargeChangesNothing : Type 0
+UndoneChargeChangesNothing =
+    (content : Content) (path : List (List ℕ)) (quantities : List Entry)
+    → with_change (with_change content path (charged quantities)) path (discharged quantities) ≡ content
+
+-- a client that is suppressed, or is not any more, counts as before in all shares and counts
+abbrev pub SuppressedCounts : Type 0
+SuppressedCounts =
+    (content : Content) (path : List (List ℕ)) (active : Bool)
+    → standing_in (with_change content path (activated active)) ≡ standing_in content
 
 -- in whichever order clients were added, they are served in one order
 abbrev pub ArrivalDoesNotMatter : Type 0

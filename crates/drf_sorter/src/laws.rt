@@ -4,7 +4,7 @@ ghost use Rattle.std.specs.Prelude.{◌≡◌, ◌≤◌, ℕ, List, true, false
 ghost use Rattle.std.specs.Ordering.{is_lt, is_eq};
 ghost use Rattle.drf_role.specs.Path.{begins_with};
 ghost use Rattle.drf_rows.specs.Share.{Standing, is_less, is_same, stands_before};
-ghost use Rattle.drf_sorter.specs.Laws.{ArrivalDoesNotMatter, ClientsHaveDefaultWeight, HeavierHasLess, LesserNameFirst, LowestIsFound, NothingIsZero, OneLowestForm, ProductsFit, SameLowestForm};
+ghost use Rattle.drf_sorter.specs.Laws.{ArrivalDoesNotMatter, ClientsHaveDefaultWeight, HeavierHasLess, LesserNameFirst, LowestIsFound, NothingIsZero, OneLowestForm, ProductsFit, SameLowestForm, SuppressedCounts, UndoneChargeChangesNothing};
 ghost use Rattle.drf_sorter.specs.Share.{fraction_of, share_cmp, share_eq};
 ghost use Rattle.drf_sorter.specs.declared.share.Share.{Share};
 
@@ -44,6 +44,12 @@ pub fn sibling_law()
 pub fn weight_law()
     ensures heavier { HeavierHasLess }
     ensures roles_alone { ClientsHaveDefaultWeight }
+{}
+
+/// What a charge did is undone whole, and a client that is not served still counts.
+pub fn change_law()
+    ensures undone { UndoneChargeChangesNothing }
+    ensures suppressed { SuppressedCounts }
 {}
 
 /// The order in which clients were added is not that in which they are served.

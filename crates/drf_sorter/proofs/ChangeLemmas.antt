@@ -74,10 +74,12 @@ distinct_tried false clients x distinct fresh = distinct
 
 -- ---- a client is changed
 
-pub paths_stay : (clients : List Client) (i : ℕ) (x y : Client) → x ≡ get_or clients i x → y.path ≡ x.path
-    → map (λ (x : Client). x.path) (set clients i y) ≡ map (λ (x : Client). x.path) clients
-paths_stay clients i x y is same =
-    map-set_same (λ (x : Client). x.path) clients i y x (same ∙ ap (λ (x : Client). x.path) is)
+-- a client that keeps its path is put in place of one
+pub distinct_stays : (clients : List Client) (i : ℕ) (x y : Client) → x ≡ get_or clients i x → y.path ≡ x.path
+    → IsDistinct same_path (map (λ (x : Client). x.path) clients)
+    → IsDistinct same_path (map (λ (x : Client). x.path) (set clients i y))
+distinct_stays clients i x y is same distinct =
+    rw (map-set_same (λ (x : Client). x.path) clients i y x (same ∙ ap (λ (x : Client). x.path) is)) distinct
 
 module _ (path : List (List ℕ)) (change : Ranked → Ranked) where
   abbrev step : Ranked → Ranked

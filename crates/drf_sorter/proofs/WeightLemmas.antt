@@ -1,5 +1,5 @@
 -- The weights of roles: each in its range, and one put in its place.
-use Rattle.std.proofs.Common.{◌≡◌, ◌<◌, ◌≤◌, ℕ, zero, suc, Bool, true, false, IsTrue, List, [], ◌∷◌, ◌++◌, Some, length, get_or, set, refl, sym, ap, subst, inl, inr, arith, nat_le, nat_lt}
+use Rattle.std.proofs.Common.{◌≡◌, ◌<◌, ◌≤◌, ℕ, zero, suc, Bool, false, IsTrue, List, [], ◌∷◌, ◌++◌, Some, length, get_or, set, refl, sym, ap, subst, inl, inr, arith, nat_le, nat_lt}
 use Rattle.std.specs.List.{find, list_all, list_any, position, position_or_len}
 use Rattle.std.proofs.lemmas.Bool.{true≢false, cases_Bool, and_parts, and_from, leb-true, le-leb}
 use Rattle.std.proofs.lemmas.List.Quantifiers.{position-Some}
@@ -31,23 +31,18 @@ weight-found p (x ∷ xs) w all is =
       | inr fails ↦ weight-found p xs w parts.1 (rw fails at is)
     ]
 
-pub weights-in_range : (role : List (List ℕ)) (weight : ℕ) (ws : List WeightRow) → 1 ≤ weight → weight ≤ 1000000
-    → IsTrue (are_weights ws) → IsTrue (are_weights (weights_with ws role weight))
-weights-in_range role weight ws some most all = along ws all
-  where
-    new : IsTrue (is_weight weight)
-    new = and_from (nat_le 1 weight) (nat_le weight 1000000) (le-leb 1 weight some) (le-leb weight 1000000 most)
-
-    along : (ws : List WeightRow) → IsTrue (are_weights ws) → IsTrue (are_weights (weights_with ws role weight))
-    along [] all = and_from (is_weight weight) true new refl
-    along (x ∷ xs) all =
-        let parts = and_parts (is_weight x.weight) (are_weights xs) all in
-        elim (cases_Bool (same_path x.role role)) [
-          | inl here ↦ rw here (and_from (is_weight weight) (are_weights xs) new parts.1)
-          | inr past ↦
-              rw past
-              (and_from (is_weight x.weight) (are_weights (weights_with xs role weight)) parts.0 (along xs parts.1))
-        ]
+-- a weight that is in its range is put in place of one
+pub weights-stay : (ws : List WeightRow) (i : ℕ) (w : WeightRow) → 1 ≤ w.weight → w.weight ≤ 1000000
+    → IsTrue (are_weights ws) → IsTrue (are_weights (set ws i w))
+weights-stay [] i w some most all = refl
+weights-stay (x ∷ xs) zero w some most all =
+    let parts = and_parts (is_weight x.weight) (are_weights xs) all in
+    let new = and_from (nat_le 1 w.weight) (nat_le w.weight 1000000) (le-leb 1 w.weight some)
+    (le-leb w.weight 1000000 most) in
+    and_from (is_weight w.weight) (are_weights xs) new parts.1
+weights-stay (x ∷ xs) (suc i) w some most all =
+    let parts = and_parts (is_weight x.weight) (are_weights xs) all in
+    and_from (is_weight x.weight) (are_weights (set xs i w)) parts.0 (weights-stay xs i w some most parts.1)
 
 module _ (role : List (List ℕ)) (weight : ℕ) where
   -- the row that was found is the first of the role

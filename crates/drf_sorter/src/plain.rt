@@ -167,12 +167,14 @@ impl Sorter for PlainSorter {
         self.clients.retain(|client| client.path != *path);
     }
 
+    #[tactic(auto, using(crate::proofs::ChangeLemmas::distinct_stays))]
     fn set_active(&mut self, path: &ClientPath, active: bool) {
         if let Some(at) = index_of(&self.clients, path) {
             self.clients[at].active = active;
         }
     }
 
+    #[tactic(auto, using(crate::proofs::ChangeLemmas::distinct_stays))]
     fn charge(&mut self, path: &ClientPath, quantities: &Quantities) -> Result<(), AllocError> {
         // Its labels are in order.
         let _ = quantities.entries();
@@ -184,6 +186,7 @@ impl Sorter for PlainSorter {
         Ok(())
     }
 
+    #[tactic(auto, using(crate::proofs::ChangeLemmas::distinct_stays))]
     fn undo_charge(&mut self, path: &ClientPath, quantities: &Quantities) {
         // Its labels are in order.
         let _ = quantities.entries();
@@ -194,6 +197,7 @@ impl Sorter for PlainSorter {
         }
     }
 
+    #[tactic(auto, using(crate::proofs::ChangeLemmas::distinct_stays))]
     fn refund(&mut self, path: &ClientPath, quantities: &Quantities) {
         // Its labels are in order.
         let _ = quantities.entries();

@@ -1,4 +1,4 @@
-use Rattle.std.proofs.Common.{◌≡◌, ◌-◌, length, ap, ◌∙◌, arith}
+use Rattle.std.proofs.Common.{◌≡◌, ◌-◌, length, ap, arith}
 use Rattle.std.proofs.lemmas.List.{drop_all}
 use Rattle.drf_sorter.specs.Fractions.{weighted}
 use Rattle.drf_sorter.specs.Share.{fraction_of}
@@ -21,7 +21,7 @@ new-requires-clause-of_whole g c =
     amount_at total (c.loop-i.i - 1) e c.entries-entries.ensures.in_order (omega arith)
     (rw c.entries-entries.ensures.value at c.index-entries-i.is) in
     let held = g.H.Holding.held c.args.holding.now in
-    let part : c.amount-part.result ≡ held e.label = c.amount-part.ensures ∙ ap held c.text.ensures.text in
+    let part : c.amount-part.result ≡ held e.label = rw c.text.ensures.text at c.amount-part.ensures in
     omega (arith, whole, part, c.thousandths-whole.ensures, c.requires.within e.label)
 
 pub new-requires-clause-fits : goal.new-requires-clause-fits
@@ -41,9 +41,9 @@ loop-i-preserved-then-whole-gt0 g c =
     let weight = c.args.weight in
     let e = c.index-entries-i.result in
     let long = ap length c.entries-entries.ensures.value in
-    let part : c.amount-part.result ≡ held e.label = c.amount-part.ensures ∙ ap held c.text.ensures.text in
+    let part : c.amount-part.result ≡ held e.label = rw c.text.ensures.text at c.amount-part.ensures in
     let new : fraction_of c.new.result ≡ weighted (held e.label) e.amount weight =
-    c.new.ensures ∙ (λ j. weighted (part j) (c.thousandths-whole.ensures j) weight) in
+    rw (part, c.thousandths-whole.ensures) at c.new.ensures in
     rw c.max-dominant.ensures
     (max-more held total c.loop-i.i e (omega arith) (omega arith)
     (rw c.entries-entries.ensures.value at c.index-entries-i.is)

@@ -1,9 +1,9 @@
-use Rattle.std.proofs.Common.{◌+◌, refl, ap, ◌∙◌, arith}
+use Rattle.std.proofs.Common.{◌+◌, ap, ◌∙◌, arith}
 use Rattle.std.specs.List.{position}
 use Rattle.drf_role.specs.Path.{same_path}
 use Rattle.drf_sorter.specs.declared.client.Client.{Client}
 use Rattle.drf_sorter.specs.Content.{charged}
-use Rattle.drf_sorter.proofs.ChangeLemmas.{place-found, changed_in_sum, known-found, charged_is, changed_one, paths_stay, with_clients}
+use Rattle.drf_sorter.proofs.ChangeLemmas.{place-found, changed_in_sum, known-found, charged_is, changed_one, with_clients}
 use Rattle.drf_sorter.proofs.plain.PlainSorterSorter.charge.Goals as goal
 
 pub plus-requires : goal.plus-requires
@@ -27,13 +27,6 @@ overflow_add-client c =
     let part =
     changed_in_sum c.args.path.now (charged c.args.quantities.now) (λ r. r.count) clients c.in-Some.at x found in
     omega (arith, part, c.requires.sound.count)
-
-pub invariant_of-self-in-Some-clause-distinct : goal.invariant_of-self-in-Some-clause-distinct
-invariant_of-self-in-Some-clause-distinct c =
-    let clients = c.args.self.now.clients.items in
-    let x = c.index_mut-client.result.now in
-    let y : Client = record x { held = c.in_ok-client.field-0; count = x.count + 1 } in
-    rw (paths_stay clients c.in-Some.at x y c.index_mut-client.ensures.value refl) c.args.self.now.distinct
 
 pub returns-in_ok-client-clause-ok : goal.returns-in_ok-client-clause-ok
 returns-in_ok-client-clause-ok c =

@@ -1,10 +1,10 @@
-use Rattle.std.proofs.Common.{refl, ap, ◌∙◌}
+use Rattle.std.proofs.Common.{ap, ◌∙◌}
 use Rattle.std.specs.List.{position}
 use Rattle.drf_bundle.specs.QuantitiesLaws.{covers_from}
 use Rattle.drf_role.specs.Path.{same_path}
 use Rattle.drf_sorter.specs.declared.client.Client.{Client}
 use Rattle.drf_sorter.specs.Content.{Holds, refunded}
-use Rattle.drf_sorter.proofs.ChangeLemmas.{place-found, at_found, known-found, refunded_is, changed_one, paths_stay, with_clients}
+use Rattle.drf_sorter.proofs.ChangeLemmas.{place-found, at_found, known-found, refunded_is, changed_one, with_clients}
 use Rattle.drf_sorter.proofs.plain.PlainSorterSorter.refund.Goals as goal
 
 pub lower-requires : goal.lower-requires
@@ -16,14 +16,6 @@ lower-requires c =
     c.index_mut.ensures.value in
     covers_from x.held c.args.quantities.now c.entries.ensures.in_order
     (at_found (Holds c.args.quantities.now) clients c.args.path.now c.in-Some.at x found c.requires.held)
-
-pub invariant_of-self-clause-distinct : goal.invariant_of-self-clause-distinct
-invariant_of-self-clause-distinct c =
-    let sorter = c.args.self.now in
-    let clients = sorter.clients.items in
-    let x = c.index_mut.result.now in
-    let y : Client = record x { held = c.lower.new.self } in
-    rw (paths_stay clients c.in-Some.at x y c.index_mut.ensures.value refl) sorter.distinct
 
 pub returns-in-Some : goal.returns-in-Some
 returns-in-Some c =

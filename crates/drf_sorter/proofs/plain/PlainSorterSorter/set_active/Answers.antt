@@ -3,16 +3,8 @@ use Rattle.std.specs.List.{position}
 use Rattle.drf_role.specs.Path.{same_path}
 use Rattle.drf_sorter.specs.declared.client.Client.{Client}
 use Rattle.drf_sorter.specs.Content.{activated}
-use Rattle.drf_sorter.proofs.ChangeLemmas.{place-found, known-found, changed_one, paths_stay, with_clients}
+use Rattle.drf_sorter.proofs.ChangeLemmas.{place-found, known-found, changed_one, with_clients}
 use Rattle.drf_sorter.proofs.plain.PlainSorterSorter.set_active.Goals as goal
-
-pub invariant_of-self-clause-distinct : goal.invariant_of-self-clause-distinct
-invariant_of-self-clause-distinct c =
-    let sorter = c.args.self.now in
-    let clients = sorter.clients.items in
-    let x = c.index_mut.result.now in
-    let y : Client = record x { active = c.args.active } in
-    rw (paths_stay clients c.in-Some.at x y c.index_mut.ensures.value refl) sorter.distinct
 
 pub returns-in-Some : goal.returns-in-Some
 returns-in-Some c =

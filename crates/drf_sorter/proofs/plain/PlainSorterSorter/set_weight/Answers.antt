@@ -1,21 +1,16 @@
-use Rattle.std.proofs.Common.{ap, sym, ◌∙◌, ◌++◌, ◌∷◌, []}
+use Rattle.std.proofs.Common.{arith, ap, sym, ◌∙◌, ◌++◌, ◌∷◌, []}
 use Rattle.std.specs.List.{position}
 use Rattle.std.proofs.lemmas.Bool.{false≢true}
 use Rattle.drf_role.specs.Path.{same_path}
 use Rattle.drf_rows.specs.declared.rows.WeightRow.{WeightRow}
 use Rattle.drf_sorter.proofs.ChangeLemmas.{position-none}
-use Rattle.drf_sorter.proofs.WeightLemmas.{weights-in_range, weights-set, weights-push, with_weights}
+use Rattle.drf_sorter.proofs.WeightLemmas.{weights-stay, weights-set, weights-push, with_weights}
 use Rattle.drf_sorter.proofs.plain.PlainSorterSorter.set_weight.Goals as goal
 
 pub invariant_of-self-clause-weighs : goal.invariant_of-self-clause-weighs
 invariant_of-self-clause-weighs c =
-    let rows = c.args.self.now.weights.items in
-    let is_row = λ (w : WeightRow). same_path w.role c.args.role.now in
-    let at = c.in-Some.ensures ∙ ap (position is_row) c.deref.ensures.value in
-    rw
-    (weights-set c.args.role.now c.args.weight rows c.in-Some.at c.index_mut-row.result.now
-    at c.index_mut-row.ensures.value)
-    (weights-in_range c.args.role.now c.args.weight rows c.requires.weighs c.requires.light c.args.self.now.weighs)
+    weights-stay c.args.self.now.weights.items c.in-Some.at _ (omega (arith, c.requires.weighs))
+    (omega (arith, c.requires.light)) c.args.self.now.weighs
 
 pub returns-in_err-role-in-None-clause-replaced : goal.returns-in_err-role-in-None-clause-replaced
 returns-in_err-role-in-None-clause-replaced c there =

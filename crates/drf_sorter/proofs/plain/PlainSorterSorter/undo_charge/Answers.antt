@@ -1,10 +1,10 @@
-use Rattle.std.proofs.Common.{◌-◌, refl, ap, ◌∙◌}
+use Rattle.std.proofs.Common.{◌-◌, ap, ◌∙◌}
 use Rattle.std.specs.List.{position}
 use Rattle.drf_bundle.specs.QuantitiesLaws.{covers_from}
 use Rattle.drf_role.specs.Path.{same_path}
 use Rattle.drf_sorter.specs.declared.client.Client.{Client}
 use Rattle.drf_sorter.specs.Content.{HasCharge, discharged}
-use Rattle.drf_sorter.proofs.ChangeLemmas.{place-found, at_found, known-found, discharged_is, changed_one, paths_stay, with_clients}
+use Rattle.drf_sorter.proofs.ChangeLemmas.{place-found, at_found, known-found, discharged_is, changed_one, with_clients}
 use Rattle.drf_sorter.proofs.plain.PlainSorterSorter.undo_charge.Goals as goal
 
 pub lower-requires : goal.lower-requires
@@ -28,13 +28,6 @@ overflow_sub-client c =
     let charge =
     at_found (HasCharge c.args.quantities.now) clients c.args.path.now c.in-Some.at x found c.requires.charged in
     charge.count
-
-pub invariant_of-self-clause-distinct : goal.invariant_of-self-clause-distinct
-invariant_of-self-clause-distinct c =
-    let clients = c.args.self.now.clients.items in
-    let x = c.index_mut-client.result.now in
-    let y : Client = record x { held = c.lower.new.self; count = x.count - 1 } in
-    rw (paths_stay clients c.in-Some.at x y c.index_mut-client.ensures.value refl) c.args.self.now.distinct
 
 pub returns-in-Some : goal.returns-in-Some
 returns-in-Some c =

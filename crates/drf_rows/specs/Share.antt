@@ -1,7 +1,8 @@
 -- Dominant shares as exact fractions, and the order in which clients are served.
 -- The dominant share is that of Ghodsi et al., "Dominant Resource Fairness" (NSDI 2011); the tree of roles, and the
 -- order of siblings, are those of the Mesos hierarchical sorter.
-use Rattle.std.specs.Prelude.{ℕ, ◌*◌, Bool, true, false, ◌&&◌, ◌||◌, List, [], ◌∷◌, ◌++◌, map, if◌then◌else◌, nat_lt, ◌==◌}
+use Rattle.std.specs.Prelude.{ℕ, zero, suc, ◌*◌, ◌/◌, ◌%◌, ◌≤◌, IsTrue, Bool, true, false, ◌&&◌, ◌||◌, List, [], ◌∷◌, ◌++◌, map, if◌then◌else◌, nat_lt, ◌==◌}
+use Rattle.std.specs.Int.{IsGcd}
 use Rattle.std.specs.List.{filter, list_all}
 use Rattle.drf_role.specs.Text.{Text, same_text, text_below}
 use Rattle.drf_role.specs.Path.{Path}
@@ -26,6 +27,29 @@ greater a b = if is_less a b then b else a
 abbrev pub greatest : List Fraction → Fraction
 greatest [] = record { part = 0; whole = 1 }
 greatest (f ∷ fs) = greater f (greatest fs)
+
+-- Euclid's algorithm, two divisions a step: each halves the second number
+abbrev pub divisor_within : ℕ → ℕ → ℕ → ℕ
+divisor_within zero a b = a
+divisor_within (suc steps) a b =
+    if b == 0 then a else if a % b == 0 then b else divisor_within steps (a % b) (b % (a % b))
+
+-- the greatest number that divides both, of which the second is below 2 ^ 128
+unfoldable pub common_divisor : ℕ → ℕ → ℕ
+common_divisor a b = divisor_within 128 a b
+
+-- the fraction in lowest terms
+abbrev pub lowest_terms : Fraction → Fraction
+lowest_terms f = record {
+  part = f.part / common_divisor f.part f.whole;
+  whole = f.whole / common_divisor f.part f.whole;
+}
+
+-- the second fraction is the first one, in terms that no number but 1 divides both
+pub record IsLowest (f terms : Fraction) : Type 0 where
+  pub same : IsTrue (is_same terms f)
+  pub reduced : IsGcd terms.part terms.whole 1
+  pub some : 1 ≤ terms.whole
 
 -- what the order of clients depends on
 pub record Standing : Type 0 where

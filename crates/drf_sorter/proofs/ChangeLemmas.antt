@@ -14,9 +14,9 @@ use Rattle.drf_bundle.specs.Quantities.{amount_of, is_in_order, plus, minus}
 use Rattle.drf_bundle.specs.QuantitiesLaws.{amount-plus, amount-minus}
 use Rattle.drf_bundle.specs.declared.quantities.Entry.{Entry}
 use Rattle.drf_role.specs.Path.{same_path}
-use Rattle.drf_sorter.specs.declared.plain.Client.{Client}
+use Rattle.drf_sorter.specs.declared.client.Client.{Client}
 use Rattle.drf_sorter.specs.declared.plain.PlainSorter.{PlainSorter}
-use Rattle.drf_sorter.specs.Content.{Ranked, Content, charged, discharged}
+use Rattle.drf_sorter.specs.Content.{Ranked, Content, charged, discharged, refunded}
 use Rattle.drf_sorter.specs.Plain.{ranked}
 
 paths_equiv : IsEquivalence same_path
@@ -41,62 +41,95 @@ pub record IsFound (clients : List Client) (path : List (List ℕ)) (i : ℕ) (x
   pub is : x ≡ get_or clients i x
   pub there : same_path x.path path ≡ true
 
-pub place-found : (clients slice : List Client) (path : List (List ℕ)) (i : ℕ) (x : Client) → slice ≡ clients → Some i ≡ position (λ (x : Client). same_path x.path path) slice → x ≡ get_or clients i x → IsFound clients path i x
+pub place-found : (clients slice : List Client) (path : List (List ℕ)) (i : ℕ) (x : Client) → slice ≡ clients
+    → Some i ≡ position (λ (x : Client). same_path x.path path) slice → x ≡ get_or clients i x
+    → IsFound clients path i x
 place-found clients slice path i x same at is =
     let found = position-Some (λ (x : Client). same_path x.path path) clients i x (sym (rw same at at)) in
     record { inside = found.0; is = is; there = rw (← is) at (found.1) }
 
 -- ---- a client is added
 
-any_other_way : (path : List (List ℕ)) (clients : List Client) → list_any (same_path path) (map (λ (x : Client). x.path) clients) ≡ list_any (λ c. same_path c.path path) (map ranked clients)
+any_other_way : (path : List (List ℕ)) (clients : List Client)
+    → list_any (same_path path) (map (λ (x : Client). x.path) clients)
+    ≡ list_any (λ c. same_path c.path path) (map ranked clients)
 any_other_way path [] = refl
 any_other_way path (x ∷ xs) = λ i. paths_equiv.symm path x.path i || any_other_way path xs i
 
-distinct_added : (clients : List Client) (x : Client) → IsDistinct same_path (map (λ (x : Client). x.path) clients) → list_any (λ c. same_path c.path x.path) (map ranked clients) ≡ false → IsDistinct same_path (map (λ (x : Client). x.path) (clients ++ x ∷ []))
+distinct_added : (clients : List Client) (x : Client) → IsDistinct same_path (map (λ (x : Client). x.path) clients)
+    → list_any (λ c. same_path c.path x.path) (map ranked clients) ≡ false
+    → IsDistinct same_path (map (λ (x : Client). x.path) (clients ++ x ∷ []))
 distinct_added clients x distinct fresh =
-    rw (map_push (λ (x : Client). x.path) clients x) (IsDistinct-push paths_equiv (map (λ (x : Client). x.path) clients) x.path distinct (any_other_way x.path clients ∙ fresh))
+    rw (map_push (λ (x : Client). x.path) clients x)
+    (IsDistinct-push paths_equiv (map (λ (x : Client). x.path) clients) x.path distinct
+    (any_other_way x.path clients ∙ fresh))
 
 -- whether or not it is
-pub distinct_tried : (b : Bool) (clients : List Client) (x : Client) → IsDistinct same_path (map (λ (x : Client). x.path) clients) → list_any (λ c. same_path c.path x.path) (map ranked clients) ≡ false → IsDistinct same_path (map (λ (x : Client). x.path) (cond b (clients ++ x ∷ []) clients))
+pub distinct_tried : (b : Bool) (clients : List Client) (x : Client)
+    → IsDistinct same_path (map (λ (x : Client). x.path) clients)
+    → list_any (λ c. same_path c.path x.path) (map ranked clients) ≡ false
+    → IsDistinct same_path (map (λ (x : Client). x.path) (cond b (clients ++ x ∷ []) clients))
 distinct_tried true clients x distinct fresh = distinct_added clients x distinct fresh
 distinct_tried false clients x distinct fresh = distinct
 
 -- ---- a client is changed
 
-pub paths_stay : (clients : List Client) (i : ℕ) (x y : Client) → x ≡ get_or clients i x → y.path ≡ x.path → map (λ (x : Client). x.path) (set clients i y) ≡ map (λ (x : Client). x.path) clients
-paths_stay clients i x y is same = map-set_same (λ (x : Client). x.path) clients i y x (same ∙ ap (λ (x : Client). x.path) is)
+-- a client that keeps its path is put in place of one
+pub distinct_stays : (clients : List Client) (i : ℕ) (x y : Client) → x ≡ get_or clients i x → y.path ≡ x.path
+    → IsDistinct same_path (map (λ (x : Client). x.path) clients)
+    → IsDistinct same_path (map (λ (x : Client). x.path) (set clients i y))
+distinct_stays clients i x y is same distinct =
+    rw (map-set_same (λ (x : Client). x.path) clients i y x (same ∙ ap (λ (x : Client). x.path) is)) distinct
 
 module _ (path : List (List ℕ)) (change : Ranked → Ranked) where
   abbrev step : Ranked → Ranked
   step c = cond (same_path c.path path) (change c) c
 
-  others : (clients : List Client) → AllByRecursion (λ p. same_path path p ≡ false) (map (λ (x : Client). x.path) clients) → map step (map ranked clients) ≡ map ranked clients
+  others : (clients : List Client)
+      → AllByRecursion (λ p. same_path path p ≡ false) (map (λ (x : Client). x.path) clients)
+      → map step (map ranked clients) ≡ map ranked clients
   others [] all = refl
   others (x ∷ xs) all = rw (paths_equiv.symm x.path path ∙ all.0) (ap (λ cs. ranked x ∷ cs) (others xs all.1))
 
-  apart_at : (p : List (List ℕ)) (clients : List Client) (i : ℕ) (x : Client) → i < length clients → x ≡ get_or clients i x → AllByRecursion (λ q. same_path p q ≡ false) (map (λ (x : Client). x.path) clients) → same_path p x.path ≡ false
+  apart_at : (p : List (List ℕ)) (clients : List Client) (i : ℕ) (x : Client) → i < length clients
+      → x ≡ get_or clients i x → AllByRecursion (λ q. same_path p q ≡ false) (map (λ (x : Client). x.path) clients)
+      → same_path p x.path ≡ false
   apart_at p [] i x inside is all = absurd (omega arith)
   apart_at p (y ∷ ys) zero x inside is all = subst (λ (z : Client). same_path p z.path ≡ false) (sym is) all.0
   apart_at p (y ∷ ys) (suc i) x inside is all = apart_at p ys i x (omega arith) is all.1
 
-  changed_at : (clients : List Client) (i : ℕ) (x y : Client) → IsDistinct same_path (map (λ (x : Client). x.path) clients) → i < length clients → x ≡ get_or clients i x → same_path x.path path ≡ true → ranked y ≡ change (ranked x) → map ranked (set clients i y) ≡ map step (map ranked clients)
+  changed_at : (clients : List Client) (i : ℕ) (x y : Client)
+      → IsDistinct same_path (map (λ (x : Client). x.path) clients) → i < length clients → x ≡ get_or clients i x
+      → same_path x.path path ≡ true → ranked y ≡ change (ranked x)
+      → map ranked (set clients i y) ≡ map step (map ranked clients)
   changed_at [] i x y distinct inside is there made = absurd (omega arith)
   changed_at (z ∷ zs) zero x y distinct inside is there made =
       let here : same_path z.path path ≡ true = subst (λ (w : Client). same_path w.path path ≡ true) is there in
       let far = IsDistinct-head same_path z.path (map (λ (x : Client). x.path) zs) distinct in
-      let far_path = subst (λ (p : List (List ℕ)). AllByRecursion (λ q. same_path p q ≡ false) (map (λ (x : Client). x.path) zs)) (same_from_paths z.path path here) far in
+      let far_path =
+      subst (λ (p : List (List ℕ)). AllByRecursion (λ q. same_path p q ≡ false) (map (λ (x : Client). x.path) zs))
+      (same_from_paths z.path path here) far in
       rw here (λ j. (made ∙ ap (λ (w : Client). change (ranked w)) is) j ∷ sym (others zs far_path) j)
   changed_at (z ∷ zs) (suc i) x y distinct inside is there made =
       let within : i < length zs = omega arith in
-      let apart = apart_at z.path zs i x within is (IsDistinct-head same_path z.path (map (λ (x : Client). x.path) zs) distinct) in
-      let other : same_path z.path path ≡ false = subst (λ (p : List (List ℕ)). same_path z.path p ≡ false) (same_from_paths x.path path there) apart in
-      rw other (ap (λ cs. ranked z ∷ cs) (changed_at zs i x y (IsDistinct-tail same_path z.path (map (λ (x : Client). x.path) zs) distinct) within is there made))
+      let apart =
+      apart_at z.path zs i x within is
+      (IsDistinct-head same_path z.path (map (λ (x : Client). x.path) zs) distinct) in
+      let other : same_path z.path path ≡ false =
+      subst (λ (p : List (List ℕ)). same_path z.path p ≡ false) (same_from_paths x.path path there) apart in
+      rw other
+      (ap (λ cs. ranked z ∷ cs) (changed_at zs i x y
+      (IsDistinct-tail same_path z.path (map (λ (x : Client). x.path) zs) distinct) within is there made))
 
-  pub changed_one : (clients : List Client) (i : ℕ) (x y : Client) → IsDistinct same_path (map (λ (x : Client). x.path) clients) → IsFound clients path i x → ranked y ≡ change (ranked x) → map ranked (set clients i y) ≡ map step (map ranked clients)
-  changed_one clients i x y distinct found made = changed_at clients i x y distinct found.inside found.is found.there made
+  pub changed_one : (clients : List Client) (i : ℕ) (x y : Client)
+      → IsDistinct same_path (map (λ (x : Client). x.path) clients) → IsFound clients path i x
+      → ranked y ≡ change (ranked x) → map ranked (set clients i y) ≡ map step (map ranked clients)
+  changed_one clients i x y distinct found made =
+      changed_at clients i x y distinct found.inside found.is found.there made
 
   -- what is changed is part of each sum
-  pub changed_in_sum : (f : Ranked → ℕ) (clients : List Client) (i : ℕ) (x : Client) → IsFound clients path i x → f (change (ranked x)) ≤ sum_by f (map step (map ranked clients))
+  pub changed_in_sum : (f : Ranked → ℕ) (clients : List Client) (i : ℕ) (x : Client) → IsFound clients path i x
+      → f (change (ranked x)) ≤ sum_by f (map step (map ranked clients))
   changed_in_sum f clients i x found =
       let long : i < length (map ranked clients) = rw (length-map clients ranked) found.inside in
       let longer : i < length (map step (map ranked clients)) = rw (length-map (map ranked clients) step) long in
@@ -106,16 +139,23 @@ module _ (path : List (List ℕ)) (change : Ranked → Ranked) where
       ∙ rw found.there in
       rw at at (get_or-le-sum_by f (map step (map ranked clients)) i (ranked x) longer)
 
-any_ranked : (p : Ranked → Bool) (clients : List Client) → list_any p (map ranked clients) ≡ list_any (λ x. p (ranked x)) clients
+pub any_ranked : (p : Ranked → Bool) (clients : List Client)
+    → list_any p (map ranked clients) ≡ list_any (λ x. p (ranked x)) clients
 any_ranked p [] = refl
 any_ranked p (x ∷ xs) = ap (λ b. p (ranked x) || b) (any_ranked p xs)
 
 -- a client that is there is found
-pub known-found : (clients : List Client) (path : List (List ℕ)) → list_any (λ c. same_path c.path path) (map ranked clients) ≡ true → None ≡ position (λ (x : Client). same_path x.path path) clients → ⊥
+pub known-found : (clients : List Client) (path : List (List ℕ))
+    → list_any (λ c. same_path c.path path) (map ranked clients) ≡ true
+    → None ≡ position (λ (x : Client). same_path x.path path) clients → ⊥
 known-found clients path known none =
-    false≢true (sym (position-none (λ (x : Client). same_path x.path path) clients none) ∙ sym (any_ranked (λ c. same_path c.path path) clients) ∙ known)
+    false≢true
+    (sym (position-none (λ (x : Client). same_path x.path path) clients none)
+    ∙ sym (any_ranked (λ c. same_path c.path path) clients) ∙ known)
 
-pub charged_is : (x : Client) (quantities sum : List Entry) → IsTrue (is_in_order quantities) → sum ≡ plus x.held quantities → ranked (record x { held = sum; count = x.count + 1 }) ≡ charged quantities (ranked x)
+pub charged_is : (x : Client) (quantities sum : List Entry) → IsTrue (is_in_order quantities)
+    → sum ≡ plus x.held quantities
+    → ranked (record x { held = sum; count = x.count + 1 }) ≡ charged quantities (ranked x)
 charged_is x quantities sum ordered is = λ i. record {
   path = x.path;
   active = x.active;
@@ -124,10 +164,13 @@ charged_is x quantities sum ordered is = λ i. record {
 }
 
 -- what holds of each client holds of the one that was found
-pub at_found : (P : Ranked → Type 0) (clients : List Client) (path : List (List ℕ)) (i : ℕ) (x : Client) → IsFound clients path i x → AllByRecursion (λ c. same_path c.path path ≡ true → P c) (map ranked clients) → P (ranked x)
+pub at_found : (P : Ranked → Type 0) (clients : List Client) (path : List (List ℕ)) (i : ℕ) (x : Client)
+    → IsFound clients path i x → AllByRecursion (λ c. same_path c.path path ≡ true → P c) (map ranked clients)
+    → P (ranked x)
 at_found P clients path i x found all = along clients i found.inside found.is all
   where
-    along : (clients : List Client) (i : ℕ) → i < length clients → x ≡ get_or clients i x → AllByRecursion (λ c. same_path c.path path ≡ true → P c) (map ranked clients) → P (ranked x)
+    along : (clients : List Client) (i : ℕ) → i < length clients → x ≡ get_or clients i x
+        → AllByRecursion (λ c. same_path c.path path ≡ true → P c) (map ranked clients) → P (ranked x)
     along [] i inside is all = absurd (omega arith)
     along (y ∷ ys) zero inside is all = all_at y is all.0
       where
@@ -135,7 +178,8 @@ at_found P clients path i x found all = along clients i found.inside found.is al
         all_at y is h = subst (λ (z : Client). (same_path z.path path ≡ true → P (ranked z))) (sym is) h found.there
     along (y ∷ ys) (suc i) inside is all = along ys i (omega arith) is all.1
 
-pub discharged_is : (x : Client) (quantities rest : List Entry) → rest ≡ minus x.held quantities → ranked (record x { held = rest; count = x.count - 1 }) ≡ discharged quantities (ranked x)
+pub discharged_is : (x : Client) (quantities rest : List Entry) → rest ≡ minus x.held quantities
+    → ranked (record x { held = rest; count = x.count - 1 }) ≡ discharged quantities (ranked x)
 discharged_is x quantities rest is = λ i. record {
   path = x.path;
   active = x.active;
@@ -143,6 +187,15 @@ discharged_is x quantities rest is = λ i. record {
   count = x.count - 1;
 }
 
+pub refunded_is : (x : Client) (quantities rest : List Entry) → rest ≡ minus x.held quantities
+    → ranked (record x { held = rest }) ≡ refunded quantities (ranked x)
+refunded_is x quantities rest is = λ i. record {
+  path = x.path;
+  active = x.active;
+  held = λ label. (ap (λ es. amount_of es label) is ∙ amount-minus x.held quantities label) i;
+  count = x.count;
+}
+
 -- the content with other clients
 abbrev pub with_clients : PlainSorter → List Ranked → Content
-with_clients sorter clients = record { clients = clients; total = sorter.total; weights = [] }
+with_clients sorter clients = record { clients = clients; total = sorter.total; weights = sorter.weights.items }

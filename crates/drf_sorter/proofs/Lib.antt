@@ -2,6 +2,11 @@ pub mod PrefixLemmas
 pub mod SumLemmas
 pub mod PlainLemmas
 pub mod ShareLemmas
-pub mod PlaceLemmas
+pub mod KeyLemmas
 pub mod ChangeLemmas
 pub mod OrderLemmas
+pub mod WeightLemmas
+pub mod SiblingLemmas
+pub mod WeighingLemmas
+pub mod ArrivalLemmas
+pub mod EffectLemmas

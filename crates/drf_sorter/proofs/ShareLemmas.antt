@@ -1,9 +1,9 @@
 -- The greatest of some fractions, found among weighted shares from the last one on.
 use Rattle.std.proofs.Common.{◌≡◌, ◌<◌, ◌≤◌, ◌+◌, ◌-◌, ◌*◌, ℕ, zero, suc, Bool, true, false, cond, IsTrue, List, [], ◌∷◌, length, drop, get_or, sym, ap, subst, ◌∙◌, arith}
-use Rattle.std.proofs.Math.Nat.{mul-mul-mul_comm}
+use Rattle.std.proofs.Math.Nat.{mul-mul-mul_comm, mul_right_comm, mul_assoc}
 use Rattle.std.specs.List.{list_all}
 use Rattle.std.specs.Ordering.{is_lt, nat_cmp, ord_max}
-use Rattle.std.proofs.lemmas.Bool.{and_parts, lt-ltb}
+use Rattle.std.proofs.lemmas.Bool.{and_parts, lt-ltb, eq-eqb}
 use Rattle.std.proofs.lemmas.List.{drop_more}
 use Rattle.std.proofs.lemmas.List.Elements.{All-get_or}
 use Rattle.std.proofs.lemmas.List.Sums.{AllPass-from_list_all}
@@ -12,51 +12,76 @@ use Rattle.drf_role.specs.TextLaws.{below_other}
 use Rattle.drf_bundle.specs.Quantities.{amount_of, is_in_order}
 use Rattle.drf_bundle.specs.QuantitiesLaws.{amount_head}
 use Rattle.drf_bundle.specs.declared.quantities.Entry.{Entry}
-use Rattle.drf_rows.specs.Share.{Fraction, is_less, greatest}
+use Rattle.drf_rows.specs.Share.{Fraction, is_less, is_same, greater}
 use Rattle.drf_sorter.specs.declared.share.Share.{Share}
-use Rattle.drf_sorter.specs.Fractions.{fraction_cmp, weighted}
+use Rattle.drf_sorter.specs.Fractions.{fraction_cmp, weigh, dominant_of}
 use Rattle.drf_sorter.specs.FractionLaws.{nat_cmp-scale, product_above, is_lt-fraction_cmp}
 use Rattle.drf_sorter.specs.Share.{fraction_of, share_cmp}
-use Rattle.drf_sorter.specs.OrderLaws.{held_fractions}
-
--- the fraction, divided by a weight
-abbrev pub weigh : Fraction → ℕ → Fraction
-weigh f weight = weighted f.part f.whole weight
 
 -- one weight on both sides does not matter
-fraction_cmp-weigh : (f g : Fraction) (weight : ℕ) → 1 ≤ weight → fraction_cmp (weigh f weight) (weigh g weight) ≡ fraction_cmp f g
+fraction_cmp-weigh : (f g : Fraction) (weight : ℕ) → 1 ≤ weight
+    → fraction_cmp (weigh f weight) (weigh g weight) ≡ fraction_cmp f g
 fraction_cmp-weigh f g weight weighs =
     ap (λ n. nat_cmp n (g.part * 1000 * (f.whole * weight))) (mul-mul-mul_comm f.part 1000 g.whole weight)
     ∙ ap (λ n. nat_cmp (f.part * g.whole * (1000 * weight)) n) (mul-mul-mul_comm g.part 1000 f.whole weight)
-    ∙ sym (nat_cmp-scale (f.part * g.whole) (g.part * f.whole) (1000 * weight) (product_above 1000 weight (omega arith) weighs))
+    ∙ sym
+    (nat_cmp-scale (f.part * g.whole) (g.part * f.whole) (1000 * weight) (product_above 1000 weight (omega arith) weighs))
 
-chosen : (b : Bool) (d e : Share) (f g : Fraction) (weight : ℕ) → fraction_of d ≡ weigh g weight → fraction_of e ≡ weigh f weight → fraction_of (cond b d e) ≡ weigh (cond b g f) weight
+chosen : (b : Bool) (d e : Share) (f g : Fraction) (weight : ℕ) → fraction_of d ≡ weigh g weight
+    → fraction_of e ≡ weigh f weight → fraction_of (cond b d e) ≡ weigh (cond b g f) weight
 chosen true d e f g weight p q = p
 chosen false d e f g weight p q = q
 
-pub max-weigh : (d e : Share) (f g : Fraction) (weight : ℕ) → 1 ≤ weight → fraction_of d ≡ weigh g weight → fraction_of e ≡ weigh f weight → fraction_of (ord_max share_cmp d e) ≡ weigh (cond (is_less f g) g f) weight
+max-weigh : (d e : Share) (f g : Fraction) (weight : ℕ) → 1 ≤ weight → fraction_of d ≡ weigh g weight
+    → fraction_of e ≡ weigh f weight → fraction_of (ord_max share_cmp d e) ≡ weigh (cond (is_less f g) g f) weight
 max-weigh d e f g weight weighs p q =
     let test : is_lt (share_cmp e d) ≡ is_less f g =
-    (λ i. is_lt (fraction_cmp (q i) (p i))) ∙ ap is_lt (fraction_cmp-weigh f g weight weighs) ∙ is_lt-fraction_cmp f g in
+    (λ i. is_lt (fraction_cmp (q i) (p i))) ∙ ap is_lt (fraction_cmp-weigh f g weight weighs)
+    ∙ is_lt-fraction_cmp f g in
     ap (λ b. fraction_of (cond b d e)) test ∙ chosen (is_less f g) d e f g weight p q
 
-module _ (held : List ℕ → ℕ) (total : List Entry) (i : ℕ) (e : Entry) (some : 0 < i) (inside : i - 1 < length total) (is : e ≡ get_or total (i - 1) e) where
+-- one more scalar, from the last one on
+module _ (held : List ℕ → ℕ) (total : List Entry) (i : ℕ) (e : Entry) (some : 0 < i) (inside : i - 1 < length total)
+    (is : e ≡ get_or total (i - 1) e) where
   ends : drop (i - 1) total ≡ e ∷ drop i total
   ends = drop_more total (i - 1) e inside ∙ (λ j. sym is j ∷ drop (back j) total)
     where
       back : i - 1 + 1 ≡ i
       back = omega arith
 
-  pub greatest-drop_more : 0 < e.amount → greatest (held_fractions held (drop (i - 1) total)) ≡ (let f : Fraction = record { part = held e.label; whole = e.amount } in cond (is_less f (greatest (held_fractions held (drop i total)))) (greatest (held_fractions held (drop i total))) f)
-  greatest-drop_more above = rw (ends) (rw (lt-ltb 0 e.amount above))
+  dominant-more : 0 < e.amount
+      → dominant_of held (drop (i - 1) total)
+      ≡ greater (record { part = held e.label; whole = e.amount }) (dominant_of held (drop i total))
+  dominant-more above = rw (ends) (rw (lt-ltb 0 e.amount above))
+
+  pub max-more : (d new : Share) (weight : ℕ) → 0 < e.amount → 1 ≤ weight
+      → fraction_of d ≡ weigh (dominant_of held (drop i total)) weight
+      → fraction_of new ≡ weigh (record { part = held e.label; whole = e.amount }) weight
+      → fraction_of (ord_max share_cmp d new) ≡ weigh (dominant_of held (drop (i - 1) total)) weight
+  max-more d new weight above weighs so_far more =
+      let f : Fraction = record { part = held e.label; whole = e.amount } in
+      max-weigh d new f (dominant_of held (drop i total)) weight weighs so_far more
+      ∙ ap (λ g. weigh g weight) (sym (dominant-more above))
+
+-- 1000 thousandths change nothing
+pub same_as_weighed : (f g : Fraction) → f ≡ weigh g 1000 → is_same f g ≡ true
+same_as_weighed f g is =
+    ap (λ h. is_same h g) is
+    ∙ eq-eqb (g.part * 1000 * g.whole) (g.part * (g.whole * 1000))
+    (mul_right_comm g.part 1000 g.whole ∙ mul_assoc g.part g.whole 1000)
 
 -- an entry's amount is that of its label
-pub amount_at : (total : List Entry) (i : ℕ) (e : Entry) → IsTrue (is_in_order total) → i < length total → e ≡ get_or total i e → amount_of total e.label ≡ e.amount
+pub amount_at : (total : List Entry) (i : ℕ) (e : Entry) → IsTrue (is_in_order total) → i < length total
+    → e ≡ get_or total i e → amount_of total e.label ≡ e.amount
 amount_at [] i e ordered inside is = absurd (omega arith)
-amount_at (x ∷ xs) zero e ordered inside is = subst (λ (y : Entry). amount_of (x ∷ xs) y.label ≡ y.amount) (sym is) (amount_head x xs)
+amount_at (x ∷ xs) zero e ordered inside is =
+    subst (λ (y : Entry). amount_of (x ∷ xs) y.label ≡ y.amount) (sym is) (amount_head x xs)
 amount_at (x ∷ xs) (suc i) e ordered inside is =
     let parts = and_parts (list_all (λ f. text_below x.label f.label) xs) (is_in_order xs) ordered in
     let within : i < length xs = omega arith in
-    let there = All-get_or (λ f. text_below x.label f.label ≡ true) xs i e within (AllPass-from_list_all (λ f. text_below x.label f.label) xs parts.0) in
-    let below : IsTrue (text_below x.label e.label) = subst (λ (y : Entry). text_below x.label y.label ≡ true) (sym is) there in
+    let there =
+    All-get_or (λ f. text_below x.label f.label ≡ true) xs i e within
+    (AllPass-from_list_all (λ f. text_below x.label f.label) xs parts.0) in
+    let below : IsTrue (text_below x.label e.label) =
+    subst (λ (y : Entry). text_below x.label y.label ≡ true) (sym is) there in
     rw (below_other x.label e.label below) (amount_at xs i e parts.1 within is)

@@ -3,7 +3,7 @@ use Rattle.std.proofs.Common.{◌≡◌, ◌<◌, ◌≤◌, ◌+◌, ℕ, Bool,
 use Rattle.std.specs.List.{filter, sum_by}
 use Rattle.std.proofs.lemmas.Bool.{cases_Bool}
 use Rattle.std.proofs.lemmas.List.{take_all}
-use Rattle.std.proofs.lemmas.List.Sums.{sum_by-cons, sum_by_more, sum_by_more_le_part, sum_by-take-le, sum_by-le-sum_by}
+use Rattle.std.proofs.lemmas.List.Sums.{sum_by-cons, sum_by_more, sum_by-take-le, sum_by-le-sum_by}
 
 -- f at the elements that pass, and 0 at the others
 abbrev pub part_of : {X : Type 0} → (X → Bool) → (X → ℕ) → X → ℕ
@@ -11,12 +11,16 @@ part_of p f x = cond (p x) (f x) 0
 
 pub sum_by-map : {X Y : Type 0} (f : Y → ℕ) (g : X → Y) (xs : List X) → sum_by f (map g xs) ≡ sum_by (λ x. f (g x)) xs
 sum_by-map f g [] = refl
-sum_by-map f g (x ∷ xs) = sum_by-cons f (g x) (map g xs) ∙ ap (λ n. f (g x) + n) (sum_by-map f g xs) ∙ sym (sum_by-cons (λ x. f (g x)) x xs)
+sum_by-map f g (x ∷ xs) =
+    sum_by-cons f (g x) (map g xs) ∙ ap (λ n. f (g x) + n) (sum_by-map f g xs) ∙ sym (sum_by-cons (λ x. f (g x)) x xs)
 
-pub sum_by-filter : {X : Type 0} (p : X → Bool) (f : X → ℕ) (xs : List X) → sum_by f (filter p xs) ≡ sum_by (part_of p f) xs
+pub sum_by-filter : {X : Type 0} (p : X → Bool) (f : X → ℕ) (xs : List X)
+    → sum_by f (filter p xs) ≡ sum_by (part_of p f) xs
 sum_by-filter p f [] = refl
 sum_by-filter p f (x ∷ xs) = elim (cases_Bool (p x)) [
-  | inl passes ↦ rw (sum_by-cons (part_of p f) x xs, passes, sum_by-cons f x (filter p xs)) (ap (λ n. f x + n) (sum_by-filter p f xs))
+  | inl passes ↦
+      rw (sum_by-cons (part_of p f) x xs, passes, sum_by-cons f x (filter p xs))
+      (ap (λ n. f x + n) (sum_by-filter p f xs))
   | inr fails ↦ rw (sum_by-cons (part_of p f) x xs, fails) (omega (arith, sum_by-filter p f xs))
 ]
 
@@ -24,7 +28,8 @@ part_below : (b : Bool) (n : ℕ) → cond b n 0 ≤ n
 part_below true n = omega arith
 part_below false n = omega arith
 
-module _ {X : Type 0} (p : X → Bool) (f : X → ℕ) (xs : List X) (i : ℕ) (x : X) (n : ℕ) (inside : i < length xs) (is : x ≡ get_or xs i x) (so_far : n ≡ sum_by (part_of p f) (take i xs)) where
+module _ {X : Type 0} (p : X → Bool) (f : X → ℕ) (xs : List X) (i : ℕ) (x : X) (n : ℕ) (inside : i < length xs)
+    (is : x ≡ get_or xs i x) (so_far : n ≡ sum_by (part_of p f) (take i xs)) where
   pub sum_part_more : p x ≡ true → n + f x ≡ sum_by (part_of p f) (take (i + 1) xs)
   sum_part_more passes =
       let more = sum_by_more (part_of p f) xs i x inside in
@@ -37,15 +42,16 @@ module _ {X : Type 0} (p : X → Bool) (f : X → ℕ) (xs : List X) (i : ℕ) (
       let here : part_of p f (get_or xs i x) ≡ 0 = rw (← is) (rw fails) in
       omega (arith, so_far, more, here)
 
-  pub sum_part_fits : n + f x ≤ sum_by f xs
-  sum_part_fits =
-      let whole = sum_by_more_le_part (part_of p f) f xs i x inside (λ y. part_below (p y) (f y)) in
-      let here : f (get_or xs i x) ≡ f x = ap f (sym is) in
-      omega (arith, so_far, whole, here)
+  pub sum_part_fits : p x ≡ true → n + f x ≤ sum_by f (filter p xs)
+  sum_part_fits passes =
+      omega (arith, sum_part_more passes, sum_by-take-le (part_of p f) xs (i + 1), sum_by-filter p f xs)
 
-pub sum_part_all : {X : Type 0} (p : X → Bool) (f : X → ℕ) (xs : List X) (i n : ℕ) → length xs ≤ i → n ≡ sum_by (part_of p f) (take i xs) → n ≡ sum_by f (filter p xs)
-sum_part_all p f xs i n end so_far = so_far ∙ ap (λ ys. sum_by (part_of p f) ys) (take_all i xs end) ∙ sym (sum_by-filter p f xs)
+pub sum_part_all : {X : Type 0} (p : X → Bool) (f : X → ℕ) (xs : List X) (i n : ℕ) → length xs ≤ i
+    → n ≡ sum_by (part_of p f) (take i xs) → n ≡ sum_by f (filter p xs)
+sum_part_all p f xs i n end so_far =
+    so_far ∙ ap (λ ys. sum_by (part_of p f) ys) (take_all i xs end) ∙ sym (sum_by-filter p f xs)
 
-pub sum_part_le : {X : Type 0} (p : X → Bool) (f : X → ℕ) (xs : List X) (i n : ℕ) → n ≡ sum_by (part_of p f) (take i xs) → n ≤ sum_by f xs
-sum_part_le p f xs i n so_far =
-    omega (arith, so_far, sum_by-take-le (part_of p f) xs i, sum_by-le-sum_by (part_of p f) f xs (λ y. part_below (p y) (f y)))
+-- those that pass have no more than all have
+pub sum_part_le : {X : Type 0} (p : X → Bool) (f : X → ℕ) (xs : List X) → sum_by f (filter p xs) ≤ sum_by f xs
+sum_part_le p f xs =
+    omega (arith, sum_by-filter p f xs, sum_by-le-sum_by (part_of p f) f xs (λ y. part_below (p y) (f y)))

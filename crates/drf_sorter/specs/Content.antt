@@ -1,5 +1,5 @@
 -- What a sorter holds: clients with what they hold, the total of the cluster, and weights.
-use Rattle.std.specs.Prelude.{◌≡◌, ℕ, ◌+◌, ◌-◌, ◌^◌, ◌<◌, ◌≤◌, Bool, true, List, [], ◌∷◌, ◌++◌, map, filter, sum_by, if◌then◌else◌, IsTrue}
+use Rattle.std.specs.Prelude.{◌≡◌, ℕ, ◌+◌, ◌-◌, ◌^◌, ◌<◌, ◌≤◌, Bool, true, not, ◌&&◌, List, [], ◌∷◌, ◌++◌, map, filter, sum_by, if◌then◌else◌, nat_le, IsTrue}
 use Rattle.std.specs.List.{list_any, AllByRecursion}
 use Rattle.std.specs.List.Sorted.{IsPermutation}
 use Rattle.drf_bundle.specs.Quantities.{amount_of}
@@ -36,11 +36,19 @@ with_client content path = record content {
   clients = content.clients ++ record { path = path; active = true; held = λ _. 0; count = 0 } ∷ [];
 }
 
+-- the client of that path taken out, with all that it holds
+abbrev pub without_client : Content → List (List ℕ) → Content
+without_client content path = record content { clients = filter (λ c. not (same_path c.path path)) content.clients }
+
 -- one client is changed
 abbrev pub with_change : Content → List (List ℕ) → (Ranked → Ranked) → Content
 with_change content path change = record content {
   clients = map (λ c. if same_path c.path path then change c else c) content.clients;
 }
+
+-- a client that is to be served, or not
+abbrev pub activated : Bool → Ranked → Ranked
+activated active c = record c { active = active }
 
 -- a client that was made one more offer, of these quantities
 abbrev pub charged : List Entry → Ranked → Ranked
@@ -50,9 +58,22 @@ charged quantities c = record c { held = λ label. c.held label + amount_of quan
 abbrev pub discharged : List Entry → Ranked → Ranked
 discharged quantities c = record c { held = λ label. c.held label - amount_of quantities label; count = c.count - 1 }
 
+-- a client that gave these quantities back; its offers still count
+abbrev pub refunded : List Entry → Ranked → Ranked
+refunded quantities c = record c { held = λ label. c.held label - amount_of quantities label }
+
+-- the client holds these quantities
+abbrev pub Holds : List Entry → Ranked → Type 0
+Holds quantities c = (label : List ℕ) → amount_of quantities label ≤ c.held label
+
+-- the client of that path does
+abbrev pub HoldsAt : Content → List (List ℕ) → List Entry → Type 0
+HoldsAt content path quantities =
+    AllByRecursion (λ c. same_path c.path path ≡ true → Holds quantities c) content.clients
+
 -- the client holds these quantities, and was made an offer
 pub record HasCharge (quantities : List Entry) (c : Ranked) : Type 0 where
-  pub held : (label : List ℕ) → amount_of quantities label ≤ c.held label
+  pub held : Holds quantities c
   pub count : 1 ≤ c.count
 
 -- the client of that path does
@@ -60,13 +81,35 @@ abbrev pub HasChargeAt : Content → List (List ℕ) → List Entry → Type 0
 HasChargeAt content path quantities =
     AllByRecursion (λ c. same_path c.path path ≡ true → HasCharge quantities c) content.clients
 
+-- a weight, in thousandths
+abbrev pub is_weight : ℕ → Bool
+is_weight weight = nat_le 1 weight && nat_le weight 1000000
+
+-- the role has a weight of its own
+abbrev pub has_weight : Content → List (List ℕ) → Bool
+has_weight content role = list_any (λ w. same_path w.role role) content.weights
+
+-- a weight that is replaced keeps its place, and a new one stands last
+abbrev pub weights_with : List WeightRow → List (List ℕ) → ℕ → List WeightRow
+weights_with [] role weight = record { role = role; weight = weight } ∷ []
+weights_with (w ∷ ws) role weight =
+    if same_path w.role role then record w { weight = weight } ∷ ws else w ∷ weights_with ws role weight
+
+-- a role is given a weight
+abbrev pub with_weight : Content → List (List ℕ) → ℕ → Content
+with_weight content role weight = record content { weights = weights_with content.weights role weight }
+
+-- some client's path begins with the node
+abbrev pub has_node : Content → List (List ℕ) → Bool
+has_node content node = list_any (λ c. begins_with c.path node) content.clients
+
 -- the clients of a node
 abbrev pub clients_under : Content → List (List ℕ) → List Ranked
 clients_under content node = filter (λ c. begins_with c.path node) content.clients
 
 -- what the order of clients depends on
-unfoldable pub standing_of : Content → Standing
-standing_of content = record {
+unfoldable pub standing_in : Content → Standing
+standing_in content = record {
   held = λ node label. sum_by (λ c. c.held label) (clients_under content node);
   count = λ node. sum_by (λ c. c.count) (clients_under content node);
   total = content.total;
@@ -86,4 +129,4 @@ active_paths content = map (λ c. c.path) (filter (λ c. c.active) content.clien
 -- each active client stands there once, before all later ones
 pub record IsOrderOf (content : Content) (paths : List (List (List ℕ))) : Type 0 where
   pub active : IsPermutation (active_paths content) paths
-  pub in_order : IsTrue (is_serving_order (standing_of content) paths)
+  pub in_order : IsTrue (is_serving_order (standing_in content) paths)

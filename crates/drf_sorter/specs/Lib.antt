@@ -1,9 +1,12 @@
 pub mod Content
 pub mod Fractions
 pub mod FractionLaws
+pub mod LowestLaws
 pub mod Share
 pub mod ShareLaws
-pub mod Places
+pub mod Keys
 pub mod OrderLaws
 pub mod Plain
-pub mod Candidate
+pub mod Candidates
+pub mod Laws
+pub mod Examples

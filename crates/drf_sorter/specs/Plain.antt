@@ -1,18 +1,31 @@
 -- What a sorter over a list of clients holds.
-use Rattle.std.specs.Prelude.{[], map}
+use Rattle.std.specs.Prelude.{ℕ, List, filter, map, sum_by}
 use Rattle.drf_bundle.specs.Quantities.{amount_of}
+use Rattle.drf_role.specs.Path.{begins_with}
 use Rattle.drf_rows.specs.Share.{Standing}
-use Rattle.drf_sorter.specs.Content.{Ranked, Content, standing_of}
-use Rattle.drf_sorter.specs.declared.plain.Client.{Client}
+use Rattle.drf_sorter.specs.Content.{Ranked, Content, standing_in}
+use Rattle.drf_sorter.specs.declared.client.Client.{Client}
 use Rattle.drf_sorter.specs.declared.plain.PlainSorter.{PlainSorter}
 
 -- the client, as contracts see it
 abbrev pub ranked : Client → Ranked
 ranked c = record { path = c.path; active = c.active; held = amount_of c.held; count = c.count }
 
-abbrev pub content_of : PlainSorter → Content
-content_of sorter = record { clients = map ranked sorter.clients.items; total = sorter.total; weights = [] }
+-- how much of a scalar the clients of a node hold
+abbrev pub held_by : List Client → List (List ℕ) → List ℕ → ℕ
+held_by clients node label = sum_by (λ c. amount_of c.held label) (filter (λ c. begins_with c.path node) clients)
+
+-- how many offers were made to the clients of a node
+abbrev pub count_by : List Client → List (List ℕ) → ℕ
+count_by clients node = sum_by (λ c. c.count) (filter (λ c. begins_with c.path node) clients)
+
+abbrev pub plain_content : PlainSorter → Content
+plain_content sorter = record {
+  clients = map ranked sorter.clients.items;
+  total = sorter.total;
+  weights = sorter.weights.items;
+}
 
 -- what its order depends on
-abbrev pub standing : PlainSorter → Standing
-standing sorter = standing_of (content_of sorter)
+abbrev pub plain_standing : PlainSorter → Standing
+plain_standing sorter = standing_in (plain_content sorter)

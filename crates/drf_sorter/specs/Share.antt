@@ -1,7 +1,8 @@
 -- Shares, as the fractions that they are.
-use Rattle.std.specs.Prelude.{Bool}
+use Rattle.std.specs.Prelude.{◌≡◌, ◌*◌, ℕ, Bool, List, IsTrue}
 use Rattle.std.specs.declared.cmp.Ordering.{Ordering}
-use Rattle.drf_rows.specs.Share.{Fraction, is_same}
+use Rattle.drf_rows.specs.Share.{Fraction, is_same, share_of, weighted_share_of}
+use Rattle.drf_sorter.specs.Content.{Content, standing_in}
 use Rattle.drf_sorter.specs.Fractions.{fraction_cmp, weighted}
 use Rattle.drf_sorter.specs.declared.share.Share.{Share}
 
@@ -9,9 +10,23 @@ use Rattle.drf_sorter.specs.declared.share.Share.{Share}
 abbrev pub fraction_of : Share → Fraction
 fraction_of s = weighted s.part s.whole s.weight
 
+-- the fraction that two numbers are the terms of
+abbrev pub terms : ℕ × ℕ → Fraction
+terms numbers = record { part = numbers.0; whole = numbers.1 }
+
+-- the part of one share by the whole of the other, without the 1000 that both have
+abbrev pub cross_product : Share → Share → ℕ
+cross_product a b = a.part * (b.whole * b.weight)
+
 -- shares are ordered as fractions are
 abbrev pub share_cmp : Share → Share → Ordering
 share_cmp a b = fraction_cmp (fraction_of a) (fraction_of b)
 
 abbrev pub share_eq : Share → Share → Bool
 share_eq a b = is_same (fraction_of a) (fraction_of b)
+
+-- the share of a node, its weighted share and its count
+pub record IsShareOf (content : Content) (node : List (List ℕ)) (answer : Share × Share × ℕ) : Type 0 where
+  pub share : IsTrue (is_same (fraction_of answer.0) (share_of (standing_in content) node))
+  pub weighted : fraction_of answer.1 ≡ weighted_share_of (standing_in content) node
+  pub count : answer.2 ≡ (standing_in content).count node

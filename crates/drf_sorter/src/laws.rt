@@ -4,14 +4,24 @@ ghost use Rattle.std.specs.Prelude.{◌≡◌, ◌≤◌, ℕ, List, true, false
 ghost use Rattle.std.specs.Ordering.{is_lt, is_eq};
 ghost use Rattle.drf_role.specs.Path.{begins_with};
 ghost use Rattle.drf_rows.specs.Share.{Standing, is_less, is_same, stands_before};
+ghost use Rattle.drf_sorter.specs.Laws.{ArrivalDoesNotMatter, ClientsHaveDefaultWeight, HeavierHasLess, LesserNameFirst, LowestIsFound, NothingIsZero, OneLowestForm, ProductsFit, SameLowestForm, SuppressedCounts, UndoneChargeChangesNothing};
 ghost use Rattle.drf_sorter.specs.Share.{fraction_of, share_cmp, share_eq};
 ghost use Rattle.drf_sorter.specs.declared.share.Share.{Share};
 
-/// Shares are ordered as the fractions that they are, and tied where they are equal.
+/// Shares are ordered as the fractions that they are, and tied where they are equal. They are compared in 124 bits.
 pub fn share_order_law()
     ensures less { (a b : Share) → is_lt (share_cmp a b) ≡ is_less (fraction_of a) (fraction_of b) }
     ensures same { (a b : Share) → share_eq a b ≡ is_same (fraction_of a) (fraction_of b) }
     ensures tied { (a b : Share) → share_eq a b ≡ is_eq (share_cmp a b) }
+    ensures products { ProductsFit }
+{}
+
+/// A fraction has one form in lowest terms, which equal fractions share.
+pub fn lowest_terms_law()
+    ensures found { LowestIsFound }
+    ensures one { OneLowestForm }
+    ensures same { SameLowestForm }
+    ensures nothing { NothingIsZero }
 {}
 
 /// Of two clients at most one stands before the other, and exactly one where neither path begins with the other. Who
@@ -23,4 +33,26 @@ pub fn client_order_law()
         begins_with a b ≡ false → begins_with b a ≡ false → stands_before s b a ≡ not (stands_before s a b) }
     ensures transitive { (s : Standing) → ((node : List (List ℕ)) → 1 ≤ s.weight node) →
         (a b c : List (List ℕ)) → stands_before s a b ≡ true → stands_before s b c ≡ true → stands_before s a c ≡ true }
+{}
+
+/// Of two siblings that differ in nothing but their names, the one whose name is less comes first.
+pub fn sibling_law()
+    ensures { LesserNameFirst }
+{}
+
+/// A greater weight gives a less weighted share. It is a role's alone.
+pub fn weight_law()
+    ensures heavier { HeavierHasLess }
+    ensures roles_alone { ClientsHaveDefaultWeight }
+{}
+
+/// What a charge did is undone whole, and a client that is not served still counts.
+pub fn change_law()
+    ensures undone { UndoneChargeChangesNothing }
+    ensures suppressed { SuppressedCounts }
+{}
+
+/// The order in which clients were added is not that in which they are served.
+pub fn arrival_law()
+    ensures { ArrivalDoesNotMatter }
 {}

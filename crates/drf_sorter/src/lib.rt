@@ -1,15 +1,20 @@
 //! The order in which clients are served.
 #![tactic(auto)]
 
+mod candidate;
+mod client;
+mod examples;
+mod key;
 mod laws;
 mod plain;
-mod rank;
 mod share;
 mod sorter;
-#[cfg(test)]
-mod tests;
 
-pub use laws::{client_order_law, share_order_law};
+pub use examples::{order_of_three_example, share_of_a_role_example};
+pub use key::{Holding, Key, weighted_share};
+pub use laws::{
+    arrival_law, client_order_law, lowest_terms_law, share_order_law, sibling_law, weight_law,
+};
 pub use plain::PlainSorter;
 pub use share::Share;
 pub use sorter::Sorter;

@@ -1,38 +1,33 @@
 //! A sorter over a list of clients.
-ghost use Rattle.std.specs.Prelude.{◌≡◌, ◌≤◌, ◌<◌, ◌+◌, [], ◌∷◌, ◌++◌, All, IfOk, length, map, take};
-ghost use Rattle.std.specs.List.{IsDistinct, IsDistinct-prop, position};
-ghost use Rattle.drf_bundle.specs.Quantities.{amount_of};
-ghost use Rattle.drf_role.specs.Path.{same_path, begins_with};
-ghost use Rattle.drf_rows.specs.Share.{weighted_share_of};
-ghost use Rattle.drf_sorter.specs.Content.{IsSound, active_paths};
-ghost use Rattle.drf_sorter.specs.Places.{places_of};
-ghost use Rattle.drf_sorter.specs.Share.{fraction_of};
+ghost use Rattle.std.specs.Prelude.{◌≡◌, ◌≤◌, ◌<◌, ◌+◌, [], ◌∷◌, ◌++◌, All, IfOk, IsTrue, length, map, take};
+ghost use Rattle.std.specs.Option.{option_copied};
+ghost use Rattle.std.specs.List.{IsDistinct, IsDistinct-prop, find, list_all, position};
+ghost use Rattle.drf_role.specs.Path.{same_path};
+ghost use Rattle.drf_rows.specs.Held.{weight_of};
+ghost use Rattle.drf_sorter.specs.Content.{IsSound, active_paths, is_weight};
+ghost use Rattle.drf_sorter.specs.Keys.{keys_of, key_by};
 
-use crate::rank::{Candidate, Rank};
+use crate::candidate::Candidate;
+use crate::client::{Client, NodeClients};
+use crate::key::{Key, weighted_share};
 use crate::share::Share;
 use crate::sorter::Sorter;
 use drf_bundle::Quantities;
-use drf_role::ClientPath;
+use drf_role::{ClientPath, NodePath, Role};
+use drf_rows::WeightRow;
 use std::alloc::{AllocError, Global};
 
 /// The weight of a node with no weight of its own, in thousandths.
 const DEFAULT_WEIGHT: u64 = 1000;
-
-/// A client with what it holds, and the number of offers that were made to it.
-#[derive(Debug, Drop)]
-struct Client {
-    path: ClientPath,
-    active: bool,
-    held: Quantities,
-    count: u64,
-}
 
 /// A sorter that keeps a list of its clients, and forms each sum when it is asked for the order.
 #[derive(Debug, Drop)]
 pub struct PlainSorter {
     clients: Vec<Client>,
     total: Quantities,
+    weights: Vec<WeightRow>,
     ghost distinct: { IsDistinct same_path (map (λ c. c.path) clients.items) } by { IsDistinct-prop same_path (map (λ c. c.path) clients.items) },
+    ghost weighs: { IsTrue (list_all (λ w. is_weight w.weight) weights.items) },
 }
 
 /// Where the client of that path is.
@@ -42,20 +37,25 @@ fn index_of(clients: &[Client], path: &ClientPath) -> Option<usize>
     clients.iter().position(|client| client.path == *path)
 }
 
-/// Whether the path begins with the first `len` parts of the other.
-fn begins_with(path: &ClientPath, other: &ClientPath, len: usize) -> bool
-    requires { len ≤ length other.now }
-    ensures { result ≡ begins_with path.now (take len other.now) }
+/// Where the weight of that role is.
+fn row_index(weights: &[WeightRow], role: &Role) -> Option<usize>
+    ensures { result ≡ position (λ w. same_path w.role role.now) weights.now }
 {
-    if path.len() < len {
-        return false;
-    }
-    for i in 0..len {
-        if path.part(i) != other.part(i) {
-            return false;
-        }
-    }
-    true
+    weights.iter().position(|row| row.role == *role)
+}
+
+/// Whether the node is that of a role.
+fn is_node_of(role: &Role, node: &NodePath) -> bool
+    ensures { result ≡ same_path role.now node.now }
+{
+    role.text() == node.text()
+}
+
+/// The weight row of the role that is the node.
+fn row_of_node<'a>(weights: &'a [WeightRow], node: &NodePath) -> Option<&'a WeightRow>
+    ensures { option_copied result ≡ find (λ w. same_path w.role node.now) weights.now }
+{
+    weights.iter().find(|row| is_node_of(&row.role, node))
 }
 
 /// The paths of the candidates, in their order.
@@ -69,100 +69,65 @@ fn paths(alloc: Global, candidates: Vec<Candidate>) -> Result<Vec<ClientPath>, A
 }
 
 impl PlainSorter {
-    ghost use Rattle.drf_sorter.specs.Plain.{content_of, standing};
-    ghost use Rattle.drf_sorter.specs.Candidate.{place_by, HasPlaces};
+    ghost use Rattle.drf_sorter.specs.Plain.{plain_content, plain_standing};
+    ghost use Rattle.drf_sorter.specs.Candidates.{HasKeys};
 
     fn alloc(&self) -> Global {
         *self.clients.allocator()
     }
 
-    /// How much of a scalar the clients of a node hold.
-    fn held_under(&self, path: &ClientPath, len: usize, label: &str) -> u64
-        requires sound { IsSound (content_of self.now) }
-        requires in_path { len ≤ length path.now }
-        ensures value { result ≡ (standing self.now).held (take len path.now) label.now }
-        ensures bound { result ≤ amount_of self.now.total label.now }
+    /// The weight of a node, in thousandths.
+    fn weight_of(&self, node: &NodePath) -> u64
+        ensures value { result ≡ weight_of self.now.weights.items node.now }
+        ensures weighs { 1 ≤ result }
+        ensures light { result ≤ 1000000 }
     {
-        let mut held = 0;
-        for client in &self.clients {
-            if begins_with(&client.path, path, len) {
-                held += client.held.get(label);
-            }
+        match row_of_node(&self.weights, node) {
+            Some(row) => row.weight,
+            None => DEFAULT_WEIGHT,
         }
-        held
     }
 
-    /// How many offers were made to the clients of a node.
-    fn count_under(&self, path: &ClientPath, len: usize) -> u64
-        requires sound { IsSound (content_of self.now) }
-        requires in_path { len ≤ length path.now }
-        ensures { result ≡ (standing self.now).count (take len path.now) }
-    {
-        let mut count = 0;
-        for client in &self.clients {
-            if begins_with(&client.path, path, len) {
-                count += client.count;
-            }
-        }
-        count
-    }
-
-    /// The weighted dominant share of a node.
-    fn weighted_share(&self, path: &ClientPath, len: usize) -> Share
-        requires sound { IsSound (content_of self.now) }
-        requires in_path { len ≤ length path.now }
-        ensures { fraction_of result ≡ weighted_share_of (standing self.now) (take len path.now) }
-    {
-        let entries = self.total.entries();
-        let mut dominant = Share::new(0, 1, DEFAULT_WEIGHT);
-        for i in (0..entries.len()).rev() {
-            let entry = &entries[i];
-            let whole = entry.amount.thousandths();
-            if whole > 0 {
-                let part = self.held_under(path, len, entry.label.text());
-                dominant = dominant.max(Share::new(part, whole, DEFAULT_WEIGHT));
-            }
-        }
-        dominant
-    }
-
-    /// The rank of the node that ends with the part at `i`.
-    fn rank(&self, path: &ClientPath, i: usize) -> Result<Rank, AllocError>
-        requires sound { IsSound (content_of self.now) }
+    /// The key of the node that ends with the part at `i`.
+    fn key(&self, path: &ClientPath, i: usize) -> Result<Key, AllocError>
+        requires sound { IsSound (plain_content self.now) }
         requires short { length path.now ≤ 10 }
         requires in_path { i < length path.now }
-        ensures { IfOk result (λ rank.
-            places_of (standing self.now) [] (take (i + 1) path.now)
-            ≡ places_of (standing self.now) [] (take i path.now) ++ place_by rank ∷ []) }
+        ensures { IfOk result (λ key.
+            keys_of (plain_standing self.now) [] (take (i + 1) path.now)
+            ≡ keys_of (plain_standing self.now) [] (take i path.now) ++ key_by key ∷ []) }
     {
-        Ok(Rank {
-            share: self.weighted_share(path, i + 1),
-            count: self.count_under(path, i + 1),
-            name: String::from_str(self.alloc(), path.part(i))?,
-        })
+        let node = path.node(i + 1)?;
+        let name = String::from_str(self.alloc(), path.part(i))?;
+        let clients = NodeClients {
+            clients: &self.clients,
+            node: &node,
+        };
+        let weight = self.weight_of(&node);
+        Ok(Key::new(&self.total, weight, &clients, clients.count(), name))
     }
 
-    /// The client of that path, with its ranks.
+    /// The client of that path, with its keys.
     fn candidate(&self, path: &ClientPath) -> Result<Candidate, AllocError>
-        requires { IsSound (content_of self.now) }
+        requires { IsSound (plain_content self.now) }
         ensures path { IfOk result (λ c. c.path ≡ path.now) }
-        ensures places { IfOk result (HasPlaces (standing self.now)) }
+        ensures keys { IfOk result (HasKeys (plain_standing self.now)) }
     {
-        let mut ranks = Vec::with_capacity(self.alloc(), path.len())?;
+        let mut keys = Vec::with_capacity(self.alloc(), path.len())?;
         for i in 0..path.len() {
-            ranks.push(self.rank(path, i)?)?;
+            keys.push(self.key(path, i)?)?;
         }
         Ok(Candidate {
-            ranks,
+            keys,
             path: path.copy()?,
         })
     }
 
     /// The clients that are to be served.
     fn candidates(&self) -> Result<Vec<Candidate>, AllocError>
-        requires { IsSound (content_of self.now) }
-        ensures paths { IfOk result (λ all. map (λ c. c.path) all.items ≡ active_paths (content_of self.now)) }
-        ensures places { IfOk result (λ all. All (HasPlaces (standing self.now)) all.items) }
+        requires { IsSound (plain_content self.now) }
+        ensures paths { IfOk result (λ all. map (λ c. c.path) all.items ≡ active_paths (plain_content self.now)) }
+        ensures keys { IfOk result (λ all. All (HasKeys (plain_standing self.now)) all.items) }
     {
         let mut candidates = Vec::new(self.alloc());
         for client in &self.clients {
@@ -175,14 +140,15 @@ impl PlainSorter {
 }
 
 impl Sorter for PlainSorter {
-    ghost use Rattle.drf_sorter.specs.Plain.{content_of};
+    ghost use Rattle.drf_sorter.specs.Plain.{plain_content};
 
-    ghost content = { content_of };
+    ghost content = { plain_content };
 
     fn open(alloc: Global) -> Result<Self, AllocError> {
         Ok(PlainSorter {
             clients: Vec::new(alloc),
             total: Quantities::empty(alloc),
+            weights: Vec::new(alloc),
         })
     }
 
@@ -197,6 +163,18 @@ impl Sorter for PlainSorter {
         Ok(())
     }
 
+    fn remove(&mut self, path: &ClientPath) {
+        self.clients.retain(|client| client.path != *path);
+    }
+
+    #[tactic(auto, using(crate::proofs::ChangeLemmas::distinct_stays))]
+    fn set_active(&mut self, path: &ClientPath, active: bool) {
+        if let Some(at) = index_of(&self.clients, path) {
+            self.clients[at].active = active;
+        }
+    }
+
+    #[tactic(auto, using(crate::proofs::ChangeLemmas::distinct_stays))]
     fn charge(&mut self, path: &ClientPath, quantities: &Quantities) -> Result<(), AllocError> {
         // Its labels are in order.
         let _ = quantities.entries();
@@ -208,6 +186,7 @@ impl Sorter for PlainSorter {
         Ok(())
     }
 
+    #[tactic(auto, using(crate::proofs::ChangeLemmas::distinct_stays))]
     fn undo_charge(&mut self, path: &ClientPath, quantities: &Quantities) {
         // Its labels are in order.
         let _ = quantities.entries();
@@ -218,13 +197,49 @@ impl Sorter for PlainSorter {
         }
     }
 
+    #[tactic(auto, using(crate::proofs::ChangeLemmas::distinct_stays))]
+    fn refund(&mut self, path: &ClientPath, quantities: &Quantities) {
+        // Its labels are in order.
+        let _ = quantities.entries();
+        if let Some(at) = index_of(&self.clients, path) {
+            self.clients[at].held.lower(quantities);
+        }
+    }
+
     fn set_total(&mut self, total: Quantities) {
         self.total = total;
+    }
+
+    fn set_weight(&mut self, role: &Role, weight: u64) -> Result<(), AllocError> {
+        match row_index(&self.weights, role) {
+            Some(at) => {
+                let row = &mut self.weights[at];
+                row.weight = weight;
+                Ok(())
+            }
+            None => {
+                let role = role.copy()?;
+                Ok(self.weights.push(WeightRow { role, weight })?)
+            }
+        }
     }
 
     fn order(&mut self) -> Result<Vec<ClientPath>, AllocError> {
         let mut candidates = self.candidates()?;
         candidates.sort_unstable();
         paths(self.alloc(), candidates)
+    }
+
+    fn share(&self, node: &NodePath) -> Option<(Share, Share, u64)> {
+        let clients = NodeClients {
+            clients: &self.clients,
+            node,
+        };
+        if !clients.has_some() {
+            return None;
+        }
+        let share = weighted_share(&self.total, DEFAULT_WEIGHT, &clients);
+        let weighted = weighted_share(&self.total, self.weight_of(node), &clients);
+        Some((share, weighted, clients.count()))
     }
 }

@@ -1,5 +1,6 @@
 //! Shares of the cluster as exact fractions.
 ghost use Rattle.std.specs.Prelude.{◌≡◌, ◌≤◌, ◌<◌, ◌^◌, ◌*◌};
+ghost use Rattle.std.specs.Int.{IsGcd};
 
 use std::cmp::Ordering;
 
@@ -19,7 +20,8 @@ pub struct Share {
 
 impl Share {
     ghost use Rattle.drf_sorter.specs.Fractions.{weighted};
-    ghost use Rattle.drf_sorter.specs.Share.{fraction_of};
+    ghost use Rattle.drf_rows.specs.Share.{IsLowest, lowest_terms};
+    ghost use Rattle.drf_sorter.specs.Share.{fraction_of, terms};
 
     /// `weight` is in thousandths.
     pub fn new(part: u64, whole: u64, weight: u64) -> Share
@@ -36,6 +38,31 @@ impl Share {
             weight,
         }
     }
+
+    /// The share over its weight, in lowest terms: 0/1 where nothing is held.
+    pub fn lowest(&self) -> (u128, u128)
+        ensures lowest { IsLowest (fraction_of self.now) (terms result) }
+        ensures value { terms result ≡ lowest_terms (fraction_of self.now) }
+    {
+        let part = u128::from(self.part) * 1000;
+        let whole = u128::from(self.whole) * u128::from(self.weight);
+        let divisor = common_divisor(part, whole);
+        (part / divisor, whole / divisor)
+    }
+}
+
+/// The greatest number that divides both.
+fn common_divisor(part: u128, whole: u128) -> u128
+    ensures { IsGcd part whole result }
+{
+    let mut divisor = part;
+    let mut next = whole;
+    while next != 0 {
+        let rest = divisor % next;
+        divisor = next;
+        next = rest;
+    }
+    divisor
 }
 
 /// `part * (whole * weight)`, which is below 2^124.

@@ -2,10 +2,10 @@ use Rattle.std.proofs.Common.{◌∷◌, ◌++◌, [], map, ap, sym, ◌∙◌}
 use Rattle.std.specs.List.{filter}
 use Rattle.std.proofs.lemmas.List.{map_push, take_all}
 use Rattle.std.proofs.lemmas.List.Elements.{All-push}
-use Rattle.drf_sorter.specs.declared.rank.Candidate.{Candidate}
-use Rattle.drf_sorter.specs.Candidate.{HasPlaces}
-use Rattle.drf_sorter.specs.Plain.{standing}
-use Rattle.drf_sorter.specs.declared.plain.Client.{Client}
+use Rattle.drf_sorter.specs.declared.candidate.Candidate.{Candidate}
+use Rattle.drf_sorter.specs.Candidates.{HasKeys}
+use Rattle.drf_sorter.specs.Plain.{plain_standing}
+use Rattle.drf_sorter.specs.declared.client.Client.{Client}
 use Rattle.drf_sorter.proofs.PlainLemmas.{passed_more, passed_same, active_paths-ranked}
 use Rattle.drf_sorter.proofs.plain.PlainSorter.candidates.Goals.{then-client+in_ok-candidate+in_ok-push, else-client}
 use Rattle.drf_sorter.proofs.plain.PlainSorter.candidates.Goals as goal
@@ -17,20 +17,26 @@ loop-client-preserved c =
     let is = rw c.deref-client-items.ensures.value at c.client-item.is in
     elim c.if-client.branch [
       | then-client+in_ok-candidate+in_ok-push w ↦
-          let more = passed_more (λ (x : Client). x.active) (λ x. x.path) clients c.loop-client.client-index c.client-item.result inside is w.if-client.true in
+          let more =
+          passed_more (λ (x : Client). x.active) (λ x. x.path) clients c.loop-client.client-index c.client-item.result
+          inside is w.if-client.true in
           let items = ap (λ v. v.items) w.candidates-is ∙ w.in_ok-push.ensures.items in
           record {
             paths = ap (map (λ (d : Candidate). d.path)) items
                 ∙ map_push (λ (d : Candidate). d.path) c.loop-client.candidates.items w.in_ok-candidate.field-0
                 ∙ (λ j. c.loop-client.invariant.paths j ++ w.in_ok-candidate.ensures.path j ∷ [])
                 ∙ sym more;
-            places = rw items (All-push (HasPlaces (standing c.args.self.now)) c.loop-client.candidates.items w.in_ok-candidate.field-0 c.loop-client.invariant.places w.in_ok-candidate.ensures.places);
+            keys = rw items (All-push (HasKeys (plain_standing c.args.self.now)) c.loop-client.candidates.items
+                w.in_ok-candidate.field-0 c.loop-client.invariant.keys w.in_ok-candidate.ensures.keys);
           }
       | else-client w ↦
-          let same = passed_same (λ (x : Client). x.active) (λ x. x.path) clients c.loop-client.client-index c.client-item.result inside is w.if-client.false in
+          let same =
+          passed_same (λ (x : Client). x.active) (λ x. x.path) clients c.loop-client.client-index c.client-item.result
+          inside is w.if-client.false in
           record {
-            paths = ap (λ v. map (λ (d : Candidate). d.path) v.items) w.candidates-is ∙ c.loop-client.invariant.paths ∙ sym same;
-            places = rw w.candidates-is c.loop-client.invariant.places;
+            paths = ap (λ v. map (λ (d : Candidate). d.path) v.items) w.candidates-is ∙ c.loop-client.invariant.paths
+                ∙ sym same;
+            keys = rw w.candidates-is c.loop-client.invariant.keys;
           }
     ]
 
@@ -38,5 +44,6 @@ pub returns-clause-paths : goal.returns-clause-paths
 returns-clause-paths c =
     let clients = c.args.self.now.clients.items in
     c.loop-client.invariant.paths
-    ∙ ap (λ cs. map (λ (x : Client). x.path) (filter (λ x. x.active) cs)) (take_all c.loop-client.client-index clients (rw c.deref-client-items.ensures.value at c.loop-client-test.false))
+    ∙ ap (λ cs. map (λ (x : Client). x.path) (filter (λ x. x.active) cs))
+    (take_all c.loop-client.client-index clients (rw c.deref-client-items.ensures.value at c.loop-client-test.false))
     ∙ active_paths-ranked c.args.self.now

@@ -1,11 +1,12 @@
 use Rattle.std.proofs.Common.{◌≡◌, All, map, take}
 use Rattle.std.specs.List.{filter}
-use Rattle.drf_sorter.specs.Candidate.{HasPlaces}
-use Rattle.drf_sorter.specs.Plain.{standing}
+use Rattle.drf_sorter.specs.Candidates.{HasKeys}
+use Rattle.drf_sorter.specs.Plain.{plain_standing}
 use Rattle.drf_sorter.proofs.plain.PlainSorter.candidates.Given as goal
 
 abbrev pub invariant-loop-client : goal.invariant-loop-client
 invariant-loop-client l = record {
-  paths : map (λ c. c.path) l.candidates.items ≡ map (λ c. c.path) (filter (λ c. c.active) (take l.client-index l.self.clients.items));
-  places : All (HasPlaces (standing l.self)) l.candidates.items;
+  paths : map (λ c. c.path) l.candidates.items
+      ≡ map (λ c. c.path) (filter (λ c. c.active) (take l.client-index l.self.clients.items));
+  keys : All (HasKeys (plain_standing l.self)) l.candidates.items;
 }

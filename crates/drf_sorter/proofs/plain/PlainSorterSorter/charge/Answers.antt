@@ -1,33 +1,32 @@
-use Rattle.std.proofs.Common.{◌+◌, refl, ap, ◌∙◌, arith}
+use Rattle.std.proofs.Common.{◌+◌, ap, ◌∙◌, arith}
 use Rattle.std.specs.List.{position}
 use Rattle.drf_role.specs.Path.{same_path}
-use Rattle.drf_sorter.specs.declared.plain.Client.{Client}
+use Rattle.drf_sorter.specs.declared.client.Client.{Client}
 use Rattle.drf_sorter.specs.Content.{charged}
-use Rattle.drf_sorter.proofs.ChangeLemmas.{place-found, changed_in_sum, known-found, charged_is, changed_one, paths_stay, with_clients}
+use Rattle.drf_sorter.proofs.ChangeLemmas.{place-found, changed_in_sum, known-found, charged_is, changed_one, with_clients}
 use Rattle.drf_sorter.proofs.plain.PlainSorterSorter.charge.Goals as goal
 
 pub plus-requires : goal.plus-requires
 plus-requires c label =
     let clients = c.args.self.now.clients.items in
     let x = c.index_mut-client.result.now in
-    let found = place-found clients c.deref.result.now c.args.path.now c.in-Some.at x c.deref.ensures.value c.in-Some.ensures c.index_mut-client.ensures.value in
-    let part = changed_in_sum c.args.path.now (charged c.args.quantities.now) (λ r. r.held label) clients c.in-Some.at x found in
+    let found =
+    place-found clients c.deref.result.now c.args.path.now c.in-Some.at x c.deref.ensures.value c.in-Some.ensures
+    c.index_mut-client.ensures.value in
+    let part =
+    changed_in_sum c.args.path.now (charged c.args.quantities.now) (λ r. r.held label) clients c.in-Some.at x found in
     omega (arith, part, c.requires.sound.held label, c.requires.sound.total label)
 
 pub overflow_add-client : goal.overflow_add-client
 overflow_add-client c =
     let clients = c.args.self.now.clients.items in
     let x = c.index_mut-client.result.now in
-    let found = place-found clients c.deref.result.now c.args.path.now c.in-Some.at x c.deref.ensures.value c.in-Some.ensures c.index_mut-client.ensures.value in
-    let part = changed_in_sum c.args.path.now (charged c.args.quantities.now) (λ r. r.count) clients c.in-Some.at x found in
+    let found =
+    place-found clients c.deref.result.now c.args.path.now c.in-Some.at x c.deref.ensures.value c.in-Some.ensures
+    c.index_mut-client.ensures.value in
+    let part =
+    changed_in_sum c.args.path.now (charged c.args.quantities.now) (λ r. r.count) clients c.in-Some.at x found in
     omega (arith, part, c.requires.sound.count)
-
-pub invariant_of-self-in-Some : goal.invariant_of-self-in-Some
-invariant_of-self-in-Some c =
-    let clients = c.args.self.now.clients.items in
-    let x = c.index_mut-client.result.now in
-    let y : Client = record x { held = c.in_ok-client.field-0; count = x.count + 1 } in
-    record { distinct = rw (paths_stay clients c.in-Some.at x y c.index_mut-client.ensures.value refl) c.args.self.now.distinct }
 
 pub returns-in_ok-client-clause-ok : goal.returns-in_ok-client-clause-ok
 returns-in_ok-client-clause-ok c =
@@ -35,11 +34,17 @@ returns-in_ok-client-clause-ok c =
     let clients = sorter.clients.items in
     let x = c.index_mut-client.result.now in
     let y : Client = record x { held = c.in_ok-client.field-0; count = x.count + 1 } in
-    let found = place-found clients c.deref.result.now c.args.path.now c.in-Some.at x c.deref.ensures.value c.in-Some.ensures c.index_mut-client.ensures.value in
-    let made = charged_is x c.args.quantities.now c.in_ok-client.field-0 c.entries.ensures.in_order c.in_ok-client.ensures in
-    ap (with_clients sorter) (changed_one c.args.path.now (charged c.args.quantities.now) clients c.in-Some.at x y sorter.distinct found made)
+    let found =
+    place-found clients c.deref.result.now c.args.path.now c.in-Some.at x c.deref.ensures.value c.in-Some.ensures
+    c.index_mut-client.ensures.value in
+    let made =
+    charged_is x c.args.quantities.now c.in_ok-client.field-0 c.entries.ensures.in_order c.in_ok-client.ensures in
+    ap (with_clients sorter)
+    (changed_one c.args.path.now (charged c.args.quantities.now) clients c.in-Some.at x y sorter.distinct found made)
 
 pub returns-in_default-clause-ok : goal.returns-in_default-clause-ok
 returns-in_default-clause-ok c =
     let clients = c.args.self.now.clients.items in
-    absurd (known-found clients c.args.path.now c.requires.known (c.in_default.ensures ∙ ap (position (λ (x : Client). same_path x.path c.args.path.now)) c.deref.ensures.value))
+    absurd
+    (known-found clients c.args.path.now c.requires.known
+    (c.in_default.ensures ∙ ap (position (λ (x : Client). same_path x.path c.args.path.now)) c.deref.ensures.value))

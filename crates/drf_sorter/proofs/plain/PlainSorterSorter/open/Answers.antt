@@ -1,6 +1,6 @@
 use Rattle.std.specs.List.{IsDistinct}
 use Rattle.drf_sorter.proofs.plain.PlainSorterSorter.open.Goals as goal
 
-pub invariant_of-result : goal.invariant_of-result
+pub invariant_of-result-clause-distinct : goal.invariant_of-result-clause-distinct
 unfolding IsDistinct
-invariant_of-result c = record { distinct = rw c.new.ensures.items tt }
+invariant_of-result-clause-distinct c = rw c.new.ensures.items tt

@@ -2,10 +2,10 @@ use Rattle.std.proofs.Common.{◌≡◌, map}
 use Rattle.std.specs.List.Sorted.{IsPermutation}
 use Rattle.std.proofs.lemmas.List.Sorted.{IsPermutation-map, All-permutation}
 use Rattle.std.proofs.lemmas.Result.{IfOk-weaker}
-use Rattle.drf_sorter.specs.declared.rank.Candidate.{Candidate}
-use Rattle.drf_sorter.specs.Candidate.{HasPlaces}
+use Rattle.drf_sorter.specs.declared.candidate.Candidate.{Candidate}
+use Rattle.drf_sorter.specs.Candidates.{HasKeys}
 use Rattle.drf_sorter.specs.Content.{IsOrderOf, active_paths}
-use Rattle.drf_sorter.specs.Plain.{content_of, standing}
+use Rattle.drf_sorter.specs.Plain.{plain_content, plain_standing}
 use Rattle.drf_sorter.proofs.OrderLemmas.{sorted_serving, distinct_moved}
 use Rattle.drf_sorter.proofs.PlainLemmas.{distinct_active}
 use Rattle.drf_sorter.proofs.plain.PlainSorterSorter.order.Goals as goal
@@ -16,9 +16,19 @@ returns-clause-order c =
     let before = c.in_ok-candidates.candidates.items in
     let after = c.sort_unstable.new.self.items in
     let moved = IsPermutation-map (λ (d : Candidate). d.path) before after c.sort_unstable.ensures.permutation in
-    let active : IsPermutation (active_paths (content_of sorter)) (map (λ (d : Candidate). d.path) after) = rw c.in_ok-candidates.ensures.paths at moved in
-    let distinct = distinct_moved (active_paths (content_of sorter)) (map (λ (d : Candidate). d.path) after) active (distinct_active sorter) in
-    let places = All-permutation (HasPlaces (standing sorter)) before after c.sort_unstable.ensures.permutation c.in_ok-candidates.ensures.places in
-    let order : IsOrderOf (content_of sorter) (map (λ (d : Candidate). d.path) after) =
-    record { active = active; in_order = sorted_serving (standing sorter) after places distinct c.sort_unstable.ensures.sorted } in
-    IfOk-weaker c.paths.result (λ paths. paths.items ≡ map (λ (d : Candidate). d.path) after) (λ paths. IsOrderOf (content_of sorter) paths.items) (λ paths is. rw is order) c.paths.ensures
+    let active : IsPermutation (active_paths (plain_content sorter)) (map (λ (d : Candidate). d.path) after) =
+    rw c.in_ok-candidates.ensures.paths at moved in
+    let distinct =
+    distinct_moved (active_paths (plain_content sorter)) (map (λ (d : Candidate). d.path) after) active
+    (distinct_active sorter) in
+    let keys =
+    All-permutation (HasKeys (plain_standing sorter)) before after c.sort_unstable.ensures.permutation
+    c.in_ok-candidates.ensures.keys in
+    let order : IsOrderOf (plain_content sorter) (map (λ (d : Candidate). d.path) after) =
+    record {
+      active = active;
+      in_order = sorted_serving (plain_standing sorter) after keys distinct
+          c.sort_unstable.ensures.sorted;
+    } in
+    IfOk-weaker c.paths.result (λ paths. paths.items ≡ map (λ (d : Candidate). d.path) after)
+    (λ paths. IsOrderOf (plain_content sorter) paths.items) (λ paths is. rw is order) c.paths.ensures

@@ -1,34 +1,33 @@
-use Rattle.std.proofs.Common.{◌-◌, refl, ap, ◌∙◌}
+use Rattle.std.proofs.Common.{◌-◌, ap, ◌∙◌}
 use Rattle.std.specs.List.{position}
 use Rattle.drf_bundle.specs.QuantitiesLaws.{covers_from}
 use Rattle.drf_role.specs.Path.{same_path}
-use Rattle.drf_sorter.specs.declared.plain.Client.{Client}
+use Rattle.drf_sorter.specs.declared.client.Client.{Client}
 use Rattle.drf_sorter.specs.Content.{HasCharge, discharged}
-use Rattle.drf_sorter.proofs.ChangeLemmas.{place-found, at_found, known-found, discharged_is, changed_one, paths_stay, with_clients}
+use Rattle.drf_sorter.proofs.ChangeLemmas.{place-found, at_found, known-found, discharged_is, changed_one, with_clients}
 use Rattle.drf_sorter.proofs.plain.PlainSorterSorter.undo_charge.Goals as goal
 
 pub lower-requires : goal.lower-requires
 lower-requires c =
     let clients = c.args.self.now.clients.items in
     let x = c.index_mut-client.result.now in
-    let found = place-found clients c.deref.result.now c.args.path.now c.in-Some.at x c.deref.ensures.value c.in-Some.ensures c.index_mut-client.ensures.value in
-    let charge = at_found (HasCharge c.args.quantities.now) clients c.args.path.now c.in-Some.at x found c.requires.charged in
+    let found =
+    place-found clients c.deref.result.now c.args.path.now c.in-Some.at x c.deref.ensures.value c.in-Some.ensures
+    c.index_mut-client.ensures.value in
+    let charge =
+    at_found (HasCharge c.args.quantities.now) clients c.args.path.now c.in-Some.at x found c.requires.charged in
     covers_from x.held c.args.quantities.now c.entries.ensures.in_order charge.held
 
 pub overflow_sub-client : goal.overflow_sub-client
 overflow_sub-client c =
     let clients = c.args.self.now.clients.items in
     let x = c.index_mut-client.result.now in
-    let found = place-found clients c.deref.result.now c.args.path.now c.in-Some.at x c.deref.ensures.value c.in-Some.ensures c.index_mut-client.ensures.value in
-    let charge = at_found (HasCharge c.args.quantities.now) clients c.args.path.now c.in-Some.at x found c.requires.charged in
+    let found =
+    place-found clients c.deref.result.now c.args.path.now c.in-Some.at x c.deref.ensures.value c.in-Some.ensures
+    c.index_mut-client.ensures.value in
+    let charge =
+    at_found (HasCharge c.args.quantities.now) clients c.args.path.now c.in-Some.at x found c.requires.charged in
     charge.count
-
-pub invariant_of-self : goal.invariant_of-self
-invariant_of-self c =
-    let clients = c.args.self.now.clients.items in
-    let x = c.index_mut-client.result.now in
-    let y : Client = record x { held = c.lower.new.self; count = x.count - 1 } in
-    record { distinct = rw (paths_stay clients c.in-Some.at x y c.index_mut-client.ensures.value refl) c.args.self.now.distinct }
 
 pub returns-in-Some : goal.returns-in-Some
 returns-in-Some c =
@@ -36,11 +35,16 @@ returns-in-Some c =
     let clients = sorter.clients.items in
     let x = c.index_mut-client.result.now in
     let y : Client = record x { held = c.lower.new.self; count = x.count - 1 } in
-    let found = place-found clients c.deref.result.now c.args.path.now c.in-Some.at x c.deref.ensures.value c.in-Some.ensures c.index_mut-client.ensures.value in
+    let found =
+    place-found clients c.deref.result.now c.args.path.now c.in-Some.at x c.deref.ensures.value c.in-Some.ensures
+    c.index_mut-client.ensures.value in
     let made = discharged_is x c.args.quantities.now c.lower.new.self c.lower.ensures in
-    ap (with_clients sorter) (changed_one c.args.path.now (discharged c.args.quantities.now) clients c.in-Some.at x y sorter.distinct found made)
+    ap (with_clients sorter)
+    (changed_one c.args.path.now (discharged c.args.quantities.now) clients c.in-Some.at x y sorter.distinct found made)
 
 pub returns-in_default : goal.returns-in_default
 returns-in_default c =
     let clients = c.args.self.now.clients.items in
-    absurd (known-found clients c.args.path.now c.requires.known (c.in_default.ensures ∙ ap (position (λ (x : Client). same_path x.path c.args.path.now)) c.deref.ensures.value))
+    absurd
+    (known-found clients c.args.path.now c.requires.known
+    (c.in_default.ensures ∙ ap (position (λ (x : Client). same_path x.path c.args.path.now)) c.deref.ensures.value))

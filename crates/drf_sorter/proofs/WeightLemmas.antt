@@ -1,0 +1,88 @@
+-- The weights of roles: each in its range, and one put in its place.
+use Rattle.std.proofs.Common.{◌≡◌, ◌<◌, ◌≤◌, ℕ, zero, suc, Bool, false, IsTrue, List, [], ◌∷◌, ◌++◌, Some, length, get_or, set, refl, sym, ap, subst, inl, inr, arith, nat_le, nat_lt}
+use Rattle.std.specs.List.{find, list_all, list_any, position, position_or_len}
+use Rattle.std.proofs.lemmas.Bool.{true≢false, cases_Bool, and_parts, and_from, leb-true, le-leb}
+use Rattle.std.proofs.lemmas.List.Quantifiers.{position-Some}
+use Rattle.drf_role.specs.Path.{same_path}
+use Rattle.drf_rows.specs.declared.rows.WeightRow.{WeightRow}
+use Rattle.drf_sorter.specs.Content.{Content, is_weight, weights_with}
+use Rattle.drf_sorter.specs.Plain.{plain_content}
+use Rattle.drf_sorter.specs.declared.plain.PlainSorter.{PlainSorter}
+
+-- each weight is in its range
+abbrev pub are_weights : List WeightRow → Bool
+are_weights ws = list_all (λ w. is_weight w.weight) ws
+
+in_range : (n : ℕ) → IsTrue (is_weight n) → (1 ≤ n) × (n ≤ 1000000)
+in_range n is =
+    let parts = and_parts (nat_le 1 n) (nat_le n 1000000) is in
+    (leb-true 1 n parts.0, leb-true n 1000000 parts.1)
+
+pub weight-found : (p : WeightRow → Bool) (ws : List WeightRow) (w : WeightRow) → IsTrue (are_weights ws)
+    → Some w ≡ find p ws → (1 ≤ w.weight) × (w.weight ≤ 1000000)
+weight-found p [] w all is = absurd cc
+weight-found p (x ∷ xs) w all is =
+    let parts = and_parts (is_weight x.weight) (are_weights xs) all in
+    elim (cases_Bool (p x)) [
+      | inl passes ↦
+          let here : Some w ≡ Some x = rw passes at is in
+          let same : w ≡ x = cc in
+          in_range w.weight (subst (λ (y : WeightRow). IsTrue (is_weight y.weight)) (sym same) parts.0)
+      | inr fails ↦ weight-found p xs w parts.1 (rw fails at is)
+    ]
+
+-- a weight that is in its range is put in place of one
+pub weights-stay : (ws : List WeightRow) (i : ℕ) (w : WeightRow) → 1 ≤ w.weight → w.weight ≤ 1000000
+    → IsTrue (are_weights ws) → IsTrue (are_weights (set ws i w))
+weights-stay [] i w some most all = refl
+weights-stay (x ∷ xs) zero w some most all =
+    let parts = and_parts (is_weight x.weight) (are_weights xs) all in
+    let new = and_from (nat_le 1 w.weight) (nat_le w.weight 1000000) (le-leb 1 w.weight some)
+    (le-leb w.weight 1000000 most) in
+    and_from (is_weight w.weight) (are_weights xs) new parts.1
+weights-stay (x ∷ xs) (suc i) w some most all =
+    let parts = and_parts (is_weight x.weight) (are_weights xs) all in
+    and_from (is_weight x.weight) (are_weights (set xs i w)) parts.0 (weights-stay xs i w some most parts.1)
+
+module _ (role : List (List ℕ)) (weight : ℕ) where
+  -- the row that was found is the first of the role
+  set_at : (ws : List WeightRow) (i : ℕ) (w : WeightRow)
+      → i ≡ position_or_len (λ (w : WeightRow). same_path w.role role) ws → i < length ws → w ≡ get_or ws i w
+      → set ws i (record w { weight = weight }) ≡ weights_with ws role weight
+  set_at [] i w first inside is = absurd (omega arith)
+  set_at (x ∷ xs) zero w first inside is = elim (cases_Bool (same_path x.role role)) [
+    | inl here ↦ rw here (λ j. record (is j) { weight = weight } ∷ xs)
+    | inr past ↦ absurd (omega (arith, rw past at first))
+  ]
+  set_at (x ∷ xs) (suc i) w first inside is = elim (cases_Bool (same_path x.role role)) [
+    | inl here ↦ absurd (omega (arith, rw here at first))
+    | inr past ↦ rw past (ap (λ ws. x ∷ ws) (set_at xs i w (omega (arith, rw past at first)) (omega arith) is))
+  ]
+
+  pub weights-set : (ws : List WeightRow) (i : ℕ) (w : WeightRow)
+      → Some i ≡ position (λ (w : WeightRow). same_path w.role role) ws → w ≡ get_or ws i w
+      → set ws i (record w { weight = weight }) ≡ weights_with ws role weight
+  weights-set ws i w at is =
+      let found = position-Some (λ (w : WeightRow). same_path w.role role) ws i w (sym at) in
+      set_at ws i w (first found.0 at) found.0 is
+    where
+      first : i < length ws → Some i ≡ position (λ (w : WeightRow). same_path w.role role) ws
+          → i ≡ position_or_len (λ (w : WeightRow). same_path w.role role) ws
+      first inside at =
+          elim (cases_Bool (nat_lt (position_or_len (λ (w : WeightRow). same_path w.role role) ws) (length ws))) [
+            | inl within ↦ let same = rw within at at in cc
+            | inr past ↦ absurd (let bad = rw past at at in cc)
+          ]
+
+  -- a role that had no weight
+  pub weights-push : (ws : List WeightRow) → list_any (λ (w : WeightRow). same_path w.role role) ws ≡ false
+      → ws ++ record { role = role; weight = weight } ∷ [] ≡ weights_with ws role weight
+  weights-push [] none = refl
+  weights-push (x ∷ xs) none = elim (cases_Bool (same_path x.role role)) [
+    | inl here ↦ absurd (true≢false (rw here at none))
+    | inr past ↦ rw past (ap (λ ws. x ∷ ws) (weights-push xs (rw past at none)))
+  ]
+
+-- the content with other weights
+abbrev pub with_weights : PlainSorter → List WeightRow → Content
+with_weights sorter weights = record (plain_content sorter) { weights = weights }

@@ -1,0 +1,10 @@
+use Rattle.std.proofs.Common.{◌≡◌, take}
+use Rattle.std.specs.List.{sum_by}
+use Rattle.drf_role.specs.Path.{begins_with}
+use Rattle.drf_sorter.proofs.SumLemmas.{part_of}
+use Rattle.drf_sorter.proofs.client.NodeClients.count.Given as goal
+
+abbrev pub invariant-loop-client : goal.invariant-loop-client
+invariant-loop-client l =
+    l.count ≡ sum_by (part_of (λ c. begins_with c.path l.self.node.now) (λ c. c.count))
+    (take l.client-index l.self.clients.now)

@@ -1,0 +1,26 @@
+use Rattle.std.proofs.Common.{refl, ap, ◌∙◌}
+use Rattle.std.specs.List.{position}
+use Rattle.drf_role.specs.Path.{same_path}
+use Rattle.drf_sorter.specs.declared.client.Client.{Client}
+use Rattle.drf_sorter.specs.Content.{activated}
+use Rattle.drf_sorter.proofs.ChangeLemmas.{place-found, known-found, changed_one, with_clients}
+use Rattle.drf_sorter.proofs.plain.PlainSorterSorter.set_active.Goals as goal
+
+pub returns-in-Some : goal.returns-in-Some
+returns-in-Some c =
+    let sorter = c.args.self.now in
+    let clients = sorter.clients.items in
+    let x = c.index_mut.result.now in
+    let y : Client = record x { active = c.args.active } in
+    let found =
+    place-found clients c.deref.result.now c.args.path.now c.in-Some.at x c.deref.ensures.value c.in-Some.ensures
+    c.index_mut.ensures.value in
+    ap (with_clients sorter)
+    (changed_one c.args.path.now (activated c.args.active) clients c.in-Some.at x y sorter.distinct found refl)
+
+pub returns-in_default : goal.returns-in_default
+returns-in_default c =
+    let clients = c.args.self.now.clients.items in
+    absurd
+    (known-found clients c.args.path.now c.requires
+    (c.in_default.ensures ∙ ap (position (λ (x : Client). same_path x.path c.args.path.now)) c.deref.ensures.value))

@@ -1,0 +1,82 @@
+//! The clients of a sorter that lists them, and those of one node.
+ghost use Rattle.std.specs.Prelude.{◌≡◌, ◌<◌, ◌^◌};
+ghost use Rattle.std.specs.List.{list_any};
+ghost use Rattle.drf_role.specs.Path.{begins_with};
+
+use crate::key::Holding;
+use drf_bundle::Quantities;
+use drf_role::{ClientPath, NodePath};
+
+/// A client with what it holds, and the number of offers that were made to it.
+#[derive(Debug, Drop)]
+pub struct Client {
+    pub path: ClientPath,
+    pub active: bool,
+    pub held: Quantities,
+    pub count: u64,
+}
+
+/// Whether the path begins with the node's parts.
+fn begins_with(path: &ClientPath, node: &NodePath) -> bool
+    ensures { result ≡ begins_with path.now node.now }
+{
+    if path.len() < node.len() {
+        return false;
+    }
+    for i in 0..node.len() {
+        if path.part(i) != node.part(i) {
+            return false;
+        }
+    }
+    true
+}
+
+/// The clients of a node, among others.
+#[derive(Clone, Copy)]
+pub struct NodeClients<'a> {
+    pub clients: &'a [Client],
+    pub node: &'a NodePath,
+}
+
+impl<'a> NodeClients<'a> {
+    ghost use Rattle.drf_sorter.specs.Plain.{count_by};
+
+    /// Whether the node has a client.
+    pub fn has_some(&self) -> bool
+        ensures { result ≡ list_any (λ c. begins_with c.path self.now.node.now) self.now.clients.now }
+    {
+        self.clients
+            .iter()
+            .any(|client| begins_with(&client.path, self.node))
+    }
+
+    /// How many offers were made to them.
+    pub fn count(&self) -> u64
+        requires { count_by self.now.clients.now self.now.node.now < 2 ^ 64 }
+        ensures { result ≡ count_by self.now.clients.now self.now.node.now }
+    {
+        let mut count = 0;
+        for client in self.clients {
+            if begins_with(&client.path, self.node) {
+                count += client.count;
+            }
+        }
+        count
+    }
+}
+
+impl<'a> Holding for NodeClients<'a> {
+    ghost use Rattle.drf_sorter.specs.Plain.{held_by};
+
+    ghost held = { λ clients. held_by clients.clients.now clients.node.now };
+
+    fn amount(&self, label: &str) -> u64 {
+        let mut held = 0;
+        for client in self.clients {
+            if begins_with(&client.path, self.node) {
+                held += client.held.get(label);
+            }
+        }
+        held
+    }
+}

@@ -1,0 +1,86 @@
+//! What decides between siblings.
+ghost use Rattle.std.specs.Prelude.{◌≡◌, ◌≤◌, ◌<◌, ◌^◌, ℕ, List};
+ghost use Rattle.std.specs.String.{string_bytes};
+ghost use Rattle.drf_bundle.specs.Quantities.{amount_of};
+ghost use Rattle.drf_sorter.specs.Fractions.{weigh, dominant_of};
+ghost use Rattle.drf_sorter.specs.Share.{fraction_of};
+
+use crate::share::Share;
+use drf_bundle::Quantities;
+
+/// What holds amounts of scalars.
+pub trait Holding {
+    /// The thousandths that are held of each label.
+    ghost held: { Self → List ℕ → ℕ };
+
+    /// The thousandths of one label.
+    fn amount(&self, label: &str) -> u64
+        requires { held self.now label.now < 2 ^ 64 }
+        ensures { result ≡ held self.now label.now };
+}
+
+impl Holding for Quantities {
+    ghost held = { amount_of };
+
+    fn amount(&self, label: &str) -> u64 {
+        self.get(label)
+    }
+}
+
+/// The dominant share of what is held of the total, over a weight in thousandths.
+pub fn weighted_share<H: Holding>(total: &Quantities, weight: u64, holding: &H) -> Share
+    requires within { (label : List ℕ) → H.held holding.now label ≤ amount_of total.now label }
+    requires fits { (label : List ℕ) → amount_of total.now label < 2 ^ 52 }
+    requires weighs { 1 ≤ weight }
+    requires light { weight ≤ 1000000 }
+    ensures { fraction_of result ≡ weigh (dominant_of (H.held holding.now) total.now) weight }
+{
+    let entries = total.entries();
+    let mut dominant = Share::new(0, 1, weight);
+    for i in (0..entries.len()).rev() {
+        let entry = &entries[i];
+        let whole = entry.amount.thousandths();
+        if whole > 0 {
+            let part = holding.amount(entry.label.text());
+            dominant = dominant.max(Share::new(part, whole, weight));
+        }
+    }
+    dominant
+}
+
+/// What places a node among its siblings: its weighted share, then its count, then its name.
+#[derive(Debug, Drop, PartialEq, Eq, PartialOrd, Ord)]
+pub struct Key {
+    share: Share,
+    count: u64,
+    name: String,
+}
+
+impl Key {
+    ghost use Rattle.drf_sorter.specs.Keys.{key_by};
+
+    /// The key of a node of that weight, in thousandths, by what its clients hold of the total. Every key is made here.
+    pub fn new<H: Holding>(
+        total: &Quantities,
+        weight: u64,
+        holding: &H,
+        count: u64,
+        name: String,
+    ) -> Key
+        requires within { (label : List ℕ) → H.held holding.now label ≤ amount_of total.now label }
+        requires fits { (label : List ℕ) → amount_of total.now label < 2 ^ 52 }
+        requires weighs { 1 ≤ weight }
+        requires light { weight ≤ 1000000 }
+        ensures { key_by result ≡ record {
+          share = weigh (dominant_of (H.held holding.now) total.now) weight;
+          count = count;
+          name = string_bytes name;
+        } }
+    {
+        Key {
+            share: weighted_share(total, weight, holding),
+            count,
+            name,
+        }
+    }
+}

@@ -72,8 +72,8 @@ count_of-content_of rows node =
 
 -- so the sorter's order depends on what the rows' order does
 standing-content_of : (rows : Rows) → IsConsistent rows
-    → sorter_word.standing_of (content_of rows) ≡ rows_word.standing_of rows
-unfolding sorter_word.standing_of rows_word.standing_of content_of
+    → sorter_word.standing_in (content_of rows) ≡ rows_word.standing_of rows
+unfolding sorter_word.standing_in rows_word.standing_of content_of
 standing-content_of rows consistent = λ i. record {
   held = λ node label. held_by-content_of rows node label consistent i;
   count = λ node. count_of-content_of rows node i;

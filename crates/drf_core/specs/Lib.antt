@@ -1,4 +1,5 @@
 pub mod Machine
+pub mod MachineLaws
 pub mod Content
 pub mod Kept
 pub mod Drafting

@@ -11,6 +11,17 @@ pub record Machine : Type 0 where
   pub limits : LimitNumbers
   pub rows : Rows
 
+-- the allocator as callers see it: with its live rows
+unfoldable pub live : Machine → Machine
+live machine = record { limits = machine.limits; rows = live_rows machine.rows }
+
+-- as it is seen when it has just been opened, and after an event
+abbrev pub opened : LimitNumbers → Machine
+opened limits = record { limits = limits; rows = opening }
+
+unfoldable pub after : Machine → Event → Machine
+after machine event = record { limits = machine.limits; rows = live_rows (rows_after machine.limits machine.rows event) }
+
 -- an allocator that has just been opened
 pub record IsOpened (given : LimitNumbers) (new : Machine) : Type 0 where
   pub limits : new.limits ≡ given

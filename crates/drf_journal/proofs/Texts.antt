@@ -1,8 +1,10 @@
 -- The text for lines, line by line.
 use Rattle.std.proofs.Common.{◌≡◌, ℕ, Bool, List, [], ◌∷◌, ◌++◌, map, Result, Ok, Err, refl, sym, ap, ◌∙◌, append_assoc}
-use Rattle.drf_core.specs.Machine.{Machine, opened}
+use Rattle.drf_core.specs.Machine.{Machine, opened, after}
 use Rattle.drf_rows.specs.LimitNumbers.{LimitNumbers}
-use Rattle.drf_rows.specs.Step.{replies_to}
+use Rattle.drf_rows.specs.Step.{live_rows, rows_after, replies_to}
+use Rattle.drf_rows.specs.LiveLaws.{replies_to-same_live, live_rows-twice}
+use Rattle.drf_rows.specs.declared.rows.Rows.{Rows}
 use Rattle.drf_rows.specs.declared.event.Event.{Event}
 use Rattle.drf_lines.specs.declared.fault.LineFault.{LineFault}
 use Rattle.drf_lines.specs.Meaning.{meaning_of}
@@ -12,6 +14,7 @@ use Rattle.drf_journal.proofs.Pieces.{machine_after_lines, answers_from}
 
 told-lines : (echo : Bool) (machine : Machine) (lines : List (List ℕ))
     → told echo lines (replies_to machine.limits machine.rows (events_among (map meaning_of lines))) ≡ answers_from echo machine lines
+unfolding after
 told-lines echo machine [] = refl
 told-lines echo machine (line ∷ lines) = by_meaning (meaning_of line) (λ machine. told-lines echo machine lines)
   where
@@ -21,7 +24,10 @@ told-lines echo machine (line ∷ lines) = by_meaning (meaning_of line) (λ mach
         ++ told echo lines (replies_left meaning (replies_to machine.limits machine.rows (events_among (meaning ∷ map meaning_of lines)))))
         ≡ (echo_of echo line ++ reply_line_of machine meaning) ++ answers_from echo (machine_after machine meaning) lines
     by_meaning (Ok event) rest =
-        ap (λ l. echo_of echo line ++ (reply_line_of machine (Ok event) ++ l)) (rest (machine_after machine (Ok event)))
+        let next : Rows = rows_after machine.limits machine.rows event in
+        ap (λ l. echo_of echo line ++ (reply_line_of machine (Ok event) ++ l))
+        (ap (told echo lines) (replies_to-same_live machine.limits next (live_rows next) (events_among (map meaning_of lines)) (sym (live_rows-twice next)))
+        ∙ rest (machine_after machine (Ok event)))
         ∙ sym (append_assoc (echo_of echo line) (reply_line_of machine (Ok event)) _)
     by_meaning (Err fault) rest =
         ap (λ l. echo_of echo line ++ (reply_line_of machine (Err fault) ++ l)) (rest machine)

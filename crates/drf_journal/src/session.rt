@@ -1,6 +1,8 @@
 //! What a run keeps between reads.
 ghost use Rattle.std.specs.Prelude.{◌≡◌, ℕ, ◌+◌, ◌^◌, ◌<◌, ◌≤◌, [], ◌∷◌, ◌++◌, false, is_err, length, take, slice_index, IfOk, OnOk, OnErr, IfErr, IfSome, IfNone};
 ghost use Rattle.std.specs.Io.KnownBytes.{Appends};
+ghost use Rattle.drf_rows.specs.Step.{reply_to};
+ghost use Rattle.drf_core.specs.Machine.{live, after, IsSupported};
 ghost use Rattle.drf_lines.specs.Meaning.{meaning_of};
 ghost use Rattle.drf_journal.specs.Device.{AppendsFrontOf};
 ghost use Rattle.drf_journal.specs.Output.{kept_of};
@@ -10,7 +12,7 @@ use crate::device::{Device, write_whole};
 use crate::fault::RunFault;
 use drf_core::Core;
 use drf_lines::{LineError, read_event, write_fault, write_reply};
-use drf_rows::Limits;
+use drf_rows::{Event, Limits, Reply};
 use drf_sorter::Sorter;
 use std::alloc::{AllocError, Global};
 use std::io::Write;
@@ -19,18 +21,27 @@ use std::marker::Model;
 /// How many bytes of a line are kept: one more than it may have, so that one that is too long is told from the longest.
 const KEPT: usize = 65_537;
 
+/// Takes an event, as it is seen from outside.
+fn take_event<S: Sorter>(core: &mut Core<S>, event: Event) -> Result<Reply, AllocError>
+    requires { IsSupported event }
+    ensures told { IfOk result (λ reply. reply ≡ reply_to (live core.old).limits (live core.old).rows event) }
+    ensures ok { OnOk result (live core.new ≡ after (live core.old) event) }
+{
+    core.step(event)
+}
+
 /// Takes a line's event, and tells its reply line.
 fn reply_to<S: Sorter>(
     alloc: Global,
     core: &mut Core<S>,
     line: &[u8],
 ) -> Result<Vec<u8>, AllocError>
-    ensures told { IfOk result (λ told. told.items ≡ reply_line_of core.old (meaning_of line.now)) }
-    ensures ok { OnOk result (core.new ≡ machine_after core.old (meaning_of line.now)) }
+    ensures told { IfOk result (λ told. told.items ≡ reply_line_of (live core.old) (meaning_of line.now)) }
+    ensures ok { OnOk result (live core.new ≡ machine_after (live core.old) (meaning_of line.now)) }
 {
     match read_event(alloc, line) {
         Ok(event) => {
-            let reply = core.step(event)?;
+            let reply = take_event(core, event)?;
             write_reply(alloc, &reply)
         }
         Err(LineError::Fault(fault)) => write_fault(alloc, fault),
@@ -54,8 +65,8 @@ fn answer<S: Sorter>(
     echo: bool,
     line: &[u8],
 ) -> Result<Vec<u8>, AllocError>
-    ensures told { IfOk result (λ told. told.items ≡ answer_to echo core.old line.now) }
-    ensures ok { OnOk result (core.new ≡ machine_after core.old (meaning_of line.now)) }
+    ensures told { IfOk result (λ told. told.items ≡ answer_to echo (live core.old) line.now) }
+    ensures ok { OnOk result (live core.new ≡ machine_after (live core.old) (meaning_of line.now)) }
 {
     let reply = reply_to(alloc, core, line)?;
     if !echo {
@@ -76,8 +87,8 @@ fn answer_end<S: Sorter>(
     pending: &mut Vec<u8>,
     end: &[u8],
 ) -> Result<Vec<u8>, AllocError>
-    ensures told { IfOk result (λ told. told.items ≡ answer_to echo core.old (pending.old.items ++ end.now)) }
-    ensures ok { OnOk result (core.new ≡ machine_after core.old (meaning_of (pending.old.items ++ end.now))) }
+    ensures told { IfOk result (λ told. told.items ≡ answer_to echo (live core.old) (pending.old.items ++ end.now)) }
+    ensures ok { OnOk result (live core.new ≡ machine_after (live core.old) (meaning_of (pending.old.items ++ end.now))) }
 {
     if pending.is_empty() {
         return answer(alloc, core, echo, end);
@@ -108,12 +119,13 @@ pub struct Session<S: Sorter> {
 }
 
 impl<S: Sorter> Model for Session<S> {
+    ghost use Rattle.drf_core.specs.Machine.{live};
     ghost use Rattle.drf_journal.specs.State.{State};
 
     ghost Value = { State };
 
     ghost view = { λ s. record {
-      machine = s.core;
+      machine = live s.core;
       echo = s.echo;
       pending = s.pending.items;
       unsent = s.unsent.items;

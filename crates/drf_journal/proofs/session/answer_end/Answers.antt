@@ -1,18 +1,29 @@
-use Rattle.std.proofs.Common.{◌≡◌, ◌++◌, ◌∙◌, IfOk, OnOk, ap, subst}
+use Rattle.std.proofs.Common.{◌≡◌, ℕ, List, ◌++◌, sym, subst, ◌∙◌, ap, Result, Ok, Err}
+use Rattle.std.specs.Prelude.{OnOk}
+use Rattle.std.proofs.lemmas.Result.{IfOk-weaker}
+use Rattle.drf_core.specs.Machine.{Machine, live}
 use Rattle.drf_lines.specs.Meaning.{meaning_of}
-use Rattle.drf_journal.specs.Output.{kept_of}
 use Rattle.drf_journal.specs.State.{answer_to, machine_after}
-use Rattle.drf_journal.proofs.Kept.{meaning-kept, answer-kept}
+use Rattle.drf_journal.proofs.Kept.{answer-kept, meaning-kept}
 use Rattle.drf_journal.proofs.session.answer_end.Goals as goal
+
+-- what follows from what holds at Ok
+at_ok : {T E A B : Type 0} (r : Result T E) → (A → B) → OnOk r A → OnOk r B
+at_ok (Ok x) f h = f h
+at_ok (Err e) f h = h
 
 pub returns-clause-told : goal.returns-clause-told
 returns-clause-told g c =
-    let line : c.deref.result.now ≡ kept_of (c.args.pending.now.items ++ c.args.end.now) = c.deref.ensures.value ∙ c.in_ok-keep.ensures in
-    subst (λ text. IfOk c.answer-2.result (λ told. told.items ≡ text))
-    (ap (answer_to c.args.echo c.args.core.now) line ∙ answer-kept _ _ _) c.answer-2.ensures.told
+    let machine : Machine = live c.args.core.now in
+    let line = c.args.pending.now.items ++ c.args.end.now in
+    let kept : answer_to c.args.echo machine c.deref.result.now ≡ answer_to c.args.echo machine line =
+    ap (answer_to c.args.echo machine) (c.deref.ensures.value ∙ c.in_ok-keep.ensures) ∙ answer-kept c.args.echo machine line in
+    IfOk-weaker c.answer-2.result (λ told. told.items ≡ answer_to c.args.echo machine c.deref.result.now) (λ told. told.items ≡ answer_to c.args.echo machine line)
+    (λ told is. is ∙ kept) c.answer-2.ensures.told
 
 pub returns-clause-ok : goal.returns-clause-ok
 returns-clause-ok g c =
-    let line : c.deref.result.now ≡ kept_of (c.args.pending.now.items ++ c.args.end.now) = c.deref.ensures.value ∙ c.in_ok-keep.ensures in
-    subst (λ meaning. OnOk c.answer-2.result (c.answer-2.new.core ≡ machine_after c.args.core.now meaning))
-    (ap meaning_of line ∙ meaning-kept _) c.answer-2.ensures.ok
+    let machine : Machine = live c.args.core.now in
+    let line = c.args.pending.now.items ++ c.args.end.now in
+    let kept = ap (λ (l : List ℕ). machine_after machine (meaning_of l)) (c.deref.ensures.value ∙ c.in_ok-keep.ensures) ∙ ap (machine_after machine) (meaning-kept line) in
+    at_ok c.answer-2.result (λ is. is ∙ kept) c.answer-2.ensures.ok

@@ -2,6 +2,7 @@ use Rattle.std.proofs.Common.{◌≡◌, ℕ, List, ◌+◌, ◌-◌, ◌≤◌,
 use Rattle.std.proofs.lemmas.Bool.Decides.{nat_tests}
 use Rattle.std.proofs.lemmas.Result.{on_ok_weaker}
 use Rattle.std.proofs.lemmas.List.{take_all, length-drop, length-take-le, length-append}
+use Rattle.drf_core.specs.Machine.{live}
 use Rattle.drf_journal.specs.State.{State, after_piece}
 use Rattle.drf_journal.specs.Output.{kept_of}
 use Rattle.drf_journal.proofs.Fronts.{front-begins, front-line, front-answers, front-keeps}
@@ -47,7 +48,7 @@ pub returns-clause-ok : goal.returns-clause-ok
 returns-clause-ok g c =
     let inside = c.self.inside in
     let rest = c.loop-at.rest.now in
-    let now : State = record { machine = inside.core; echo = inside.echo; pending = inside.pending.items; unsent = inside.unsent.items; lines = inside.lines } in
+    let now : State = record { machine = live inside.core; echo = inside.echo; pending = inside.pending.items; unsent = inside.unsent.items; lines = inside.lines } in
     let some : 0 < length rest = grind (arith, nat_tests) in
     on_ok_weaker c.keep.result
     (λ (kept : c.keep.new.pending.items ≡ kept_of (inside.pending.items ++ rest)).

@@ -4,16 +4,17 @@ use Rattle.std.specs.List.{list_any, AllByRecursion}
 use Rattle.std.specs.List.Sorted.{IsPermutation}
 use Rattle.drf_bundle.specs.Quantities.{amount_of}
 use Rattle.drf_bundle.specs.declared.quantities.Entry.{Entry}
-use Rattle.drf_role.specs.Path.{same_path, begins_with}
+use Rattle.drf_role.specs.Path.{Path, same_path, begins_with}
 use Rattle.drf_rows.specs.Share.{Standing, is_serving_order}
 use Rattle.drf_rows.specs.Held.{weight_of}
+use Rattle.drf_role.specs.Text.{Text}
 use Rattle.drf_rows.specs.declared.rows.WeightRow.{WeightRow}
 
 -- a client: its path, whether it is to be served, how much of each scalar it holds, and how many offers were made to it
 pub record Ranked : Type 0 where
-  pub path : List (List ℕ)
+  pub path : Path
   pub active : Bool
-  pub held : List ℕ → ℕ
+  pub held : Text → ℕ
   pub count : ℕ
 
 -- all that an order depends on
@@ -27,21 +28,21 @@ abbrev pub empty : Content
 empty = record { clients = []; total = []; weights = [] }
 
 -- a client has that path
-abbrev pub has_client : Content → List (List ℕ) → Bool
+abbrev pub has_client : Content → Path → Bool
 has_client content path = list_any (λ c. same_path c.path path) content.clients
 
 -- a client that was added last: it is active, and holds nothing
-abbrev pub with_client : Content → List (List ℕ) → Content
+abbrev pub with_client : Content → Path → Content
 with_client content path = record content {
   clients = content.clients ++ record { path = path; active = true; held = λ _. 0; count = 0 } ∷ [];
 }
 
 -- the client of that path taken out, with all that it holds
-abbrev pub without_client : Content → List (List ℕ) → Content
+abbrev pub without_client : Content → Path → Content
 without_client content path = record content { clients = filter (λ c. not (same_path c.path path)) content.clients }
 
 -- one client is changed
-abbrev pub with_change : Content → List (List ℕ) → (Ranked → Ranked) → Content
+abbrev pub with_change : Content → Path → (Ranked → Ranked) → Content
 with_change content path change = record content {
   clients = map (λ c. if same_path c.path path then change c else c) content.clients;
 }
@@ -64,10 +65,10 @@ refunded quantities c = record c { held = λ label. c.held label - amount_of qua
 
 -- the client holds these quantities
 abbrev pub Holds : List Entry → Ranked → Type 0
-Holds quantities c = (label : List ℕ) → amount_of quantities label ≤ c.held label
+Holds quantities c = (label : Text) → amount_of quantities label ≤ c.held label
 
 -- the client of that path does
-abbrev pub HoldsAt : Content → List (List ℕ) → List Entry → Type 0
+abbrev pub HoldsAt : Content → Path → List Entry → Type 0
 HoldsAt content path quantities =
     AllByRecursion (λ c. same_path c.path path ≡ true → Holds quantities c) content.clients
 
@@ -77,7 +78,7 @@ pub record HasCharge (quantities : List Entry) (c : Ranked) : Type 0 where
   pub count : 1 ≤ c.count
 
 -- the client of that path does
-abbrev pub HasChargeAt : Content → List (List ℕ) → List Entry → Type 0
+abbrev pub HasChargeAt : Content → Path → List Entry → Type 0
 HasChargeAt content path quantities =
     AllByRecursion (λ c. same_path c.path path ≡ true → HasCharge quantities c) content.clients
 
@@ -86,25 +87,25 @@ abbrev pub is_weight : ℕ → Bool
 is_weight weight = nat_le 1 weight && nat_le weight 1000000
 
 -- the role has a weight of its own
-abbrev pub has_weight : Content → List (List ℕ) → Bool
+abbrev pub has_weight : Content → Path → Bool
 has_weight content role = list_any (λ w. same_path w.role role) content.weights
 
 -- a weight that is replaced keeps its place, and a new one stands last
-abbrev pub weights_with : List WeightRow → List (List ℕ) → ℕ → List WeightRow
+abbrev pub weights_with : List WeightRow → Path → ℕ → List WeightRow
 weights_with [] role weight = record { role = role; weight = weight } ∷ []
 weights_with (w ∷ ws) role weight =
     if same_path w.role role then record w { weight = weight } ∷ ws else w ∷ weights_with ws role weight
 
 -- a role is given a weight
-abbrev pub with_weight : Content → List (List ℕ) → ℕ → Content
+abbrev pub with_weight : Content → Path → ℕ → Content
 with_weight content role weight = record content { weights = weights_with content.weights role weight }
 
 -- some client's path begins with the node
-abbrev pub has_node : Content → List (List ℕ) → Bool
+abbrev pub has_node : Content → Path → Bool
 has_node content node = list_any (λ c. begins_with c.path node) content.clients
 
 -- the clients of a node
-abbrev pub clients_under : Content → List (List ℕ) → List Ranked
+abbrev pub clients_under : Content → Path → List Ranked
 clients_under content node = filter (λ c. begins_with c.path node) content.clients
 
 -- what the order of clients depends on
@@ -118,15 +119,15 @@ standing_in content = record {
 
 -- no more is held than there is, and all numbers fit
 pub record IsSound (content : Content) : Type 0 where
-  pub held : (label : List ℕ) → sum_by (λ c. c.held label) content.clients ≤ amount_of content.total label
-  pub total : (label : List ℕ) → amount_of content.total label < 2 ^ 52
+  pub held : (label : Text) → sum_by (λ c. c.held label) content.clients ≤ amount_of content.total label
+  pub total : (label : Text) → amount_of content.total label < 2 ^ 52
   pub count : sum_by (λ c. c.count) content.clients < 2 ^ 64
 
 -- the paths of the clients that are to be served
-abbrev pub active_paths : Content → List (List (List ℕ))
+abbrev pub active_paths : Content → List Path
 active_paths content = map (λ c. c.path) (filter (λ c. c.active) content.clients)
 
 -- each active client stands there once, before all later ones
-pub record IsOrderOf (content : Content) (paths : List (List (List ℕ))) : Type 0 where
+pub record IsOrderOf (content : Content) (paths : List Path) : Type 0 where
   pub active : IsPermutation (active_paths content) paths
   pub in_order : IsTrue (is_serving_order (standing_in content) paths)

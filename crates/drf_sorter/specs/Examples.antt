@@ -1,26 +1,26 @@
 -- Contents of which the order and the shares are computed.
 use Rattle.std.specs.Prelude.{ℕ, List, [], ◌∷◌, codes}
 use Rattle.drf_bundle.specs.declared.quantities.Entry.{Entry}
-use Rattle.drf_role.specs.Path.{client_path}
+use Rattle.drf_role.specs.Path.{Path, client_path}
 use Rattle.drf_sorter.specs.Content.{Content, charged, empty, refunded, with_change, with_client, with_weight}
 
 -- so many thousandths
 abbrev pub cpus : ℕ → List Entry
 cpus amount = record { label = codes "cpus"; amount = amount } ∷ []
 
-abbrev pub eng : List (List ℕ)
+abbrev pub eng : Path
 eng = codes "eng" ∷ []
 
-abbrev pub dev : List (List ℕ)
+abbrev pub dev : Path
 dev = codes "dev" ∷ []
 
-abbrev pub client_of_eng : List (List ℕ)
+abbrev pub client_of_eng : Path
 client_of_eng = client_path eng (codes "f1")
 
-abbrev pub client_of_eng_web : List (List ℕ)
+abbrev pub client_of_eng_web : Path
 client_of_eng_web = client_path (codes "eng" ∷ codes "web" ∷ []) (codes "f2")
 
-abbrev pub client_of_ops : List (List ℕ)
+abbrev pub client_of_ops : Path
 client_of_ops = client_path (codes "ops" ∷ []) (codes "f3")
 
 -- a cluster of 8 cpus and three clients that hold nothing
@@ -29,7 +29,7 @@ three_clients =
     with_client
     (with_client (with_client (record empty { total = cpus 8000 }) client_of_eng) client_of_eng_web) client_of_ops
 
-abbrev pub with_charge : List (List ℕ) → ℕ → Content → Content
+abbrev pub with_charge : Path → ℕ → Content → Content
 with_charge path amount content = with_change content path (charged (cpus amount))
 
 -- each was made one offer
@@ -49,7 +49,7 @@ abbrev pub eng_has_half_weight : Content
 eng_has_half_weight = with_weight four_charges eng 500
 
 -- a role below may stand before the role's own clients
-abbrev pub client_of_eng_mark : List (List ℕ)
+abbrev pub client_of_eng_mark : Path
 client_of_eng_mark = client_path (codes "eng" ∷ codes "!x" ∷ []) (codes "f2")
 
 abbrev pub two_clients : Content

@@ -7,13 +7,15 @@ use Rattle.std.specs.String.{string_bytes}
 use Rattle.drf_rows.specs.Share.{Fraction, Standing, weighted_share_of}
 use Rattle.drf_sorter.specs.Fractions.{fraction_cmp}
 use Rattle.drf_sorter.specs.Share.{fraction_of}
+use Rattle.drf_role.specs.Path.{Path}
+use Rattle.drf_role.specs.Text.{Text}
 use Rattle.drf_sorter.specs.declared.key.Key as made
 
 -- a node, as its siblings see it
 pub record Key : Type 0 where
   pub share : Fraction
   pub count : ℕ
-  pub name : List ℕ
+  pub name : Text
 
 -- by weighted share, then by count, then by name
 abbrev pub key_cmp : Key → Key → Ordering
@@ -22,7 +24,7 @@ key_cmp a b =
     (ordering_then (nat_cmp a.count b.count) (slice_cmp nat_cmp a.name b.name))
 
 -- the key of a child of a node
-abbrev pub key_of : Standing → List (List ℕ) → List ℕ → Key
+abbrev pub key_of : Standing → Path → Text → Key
 key_of s parent name = record {
   share = weighted_share_of s (parent ++ name ∷ []);
   count = s.count (parent ++ name ∷ []);
@@ -30,7 +32,7 @@ key_of s parent name = record {
 }
 
 -- the keys of the nodes of a path below a node, from the top down
-abbrev pub keys_of : Standing → List (List ℕ) → List (List ℕ) → List Key
+abbrev pub keys_of : Standing → Path → Path → List Key
 keys_of s parent [] = []
 keys_of s parent (name ∷ below) = key_of s parent name ∷ keys_of s (parent ++ name ∷ []) below
 

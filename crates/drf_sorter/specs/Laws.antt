@@ -5,9 +5,9 @@ use Rattle.std.specs.List.Sorted.{IsPermutation}
 use Rattle.std.specs.Ordering.{nat_cmp}
 use Rattle.drf_bundle.specs.Quantities.{amount_of}
 use Rattle.drf_bundle.specs.declared.quantities.Entry.{Entry}
-use Rattle.drf_role.specs.Path.{client_path}
+use Rattle.drf_role.specs.Path.{Path, client_path}
 use Rattle.drf_role.specs.Role.{IsRole}
-use Rattle.drf_role.specs.Text.{text_below}
+use Rattle.drf_role.specs.Text.{Text, text_below}
 use Rattle.drf_rows.specs.Held.{weight_of}
 use Rattle.drf_rows.specs.Share.{Fraction, Standing, IsLowest, is_less, is_same, lowest_terms, stands_before, weighted_share_of}
 use Rattle.drf_rows.specs.declared.rows.WeightRow.{WeightRow}
@@ -51,9 +51,9 @@ NothingIsZero =
 -- all clients below it
 abbrev pub LesserNameFirst : Type 0
 LesserNameFirst =
-    (s : Standing) (parent : List (List ℕ)) (a b : List ℕ) (below_a below_b : List (List ℕ))
+    (s : Standing) (parent : Path) (a b : Text) (below_a below_b : Path)
     → s.weight (parent ++ a ∷ []) ≡ s.weight (parent ++ b ∷ [])
-    → ((label : List ℕ) → s.held (parent ++ a ∷ []) label ≡ s.held (parent ++ b ∷ []) label)
+    → ((label : Text) → s.held (parent ++ a ∷ []) label ≡ s.held (parent ++ b ∷ []) label)
     → s.count (parent ++ a ∷ []) ≡ s.count (parent ++ b ∷ [])
     → IsTrue (text_below a b)
     → IsTrue (stands_before s (parent ++ a ∷ below_a) (parent ++ b ∷ below_b))
@@ -61,7 +61,7 @@ LesserNameFirst =
 -- a role that holds something has a less weighted share under a greater weight
 abbrev pub HeavierHasLess : Type 0
 HeavierHasLess =
-    (content : Content) (role : List (List ℕ)) (label : List ℕ) (light heavy : ℕ)
+    (content : Content) (role : Path) (label : Text) (light heavy : ℕ)
     → 0 < (standing_in content).held role label
     → 0 < amount_of content.total label
     → light < heavy
@@ -72,26 +72,26 @@ HeavierHasLess =
 -- `.` and a framework have no weight of their own, since no component of a role is `.`
 abbrev pub ClientsHaveDefaultWeight : Type 0
 ClientsHaveDefaultWeight =
-    (weights : List WeightRow) (role : List (List ℕ)) (framework : List ℕ)
+    (weights : List WeightRow) (role : Path) (framework : Text)
     → AllByRecursion (λ w. IsRole w.role) weights
     → (weight_of weights (role ++ codes "." ∷ []) ≡ 1000) × (weight_of weights (client_path role framework) ≡ 1000)
 
 -- a charge that is taken back leaves all as it was
 abbrev pub UndoneChargeChangesNothing : Type 0
 UndoneChargeChangesNothing =
-    (content : Content) (path : List (List ℕ)) (quantities : List Entry)
+    (content : Content) (path : Path) (quantities : List Entry)
     → with_change (with_change content path (charged quantities)) path (discharged quantities) ≡ content
 
 -- a client that is suppressed, or is not any more, counts as before in all shares and counts
 abbrev pub SuppressedCounts : Type 0
 SuppressedCounts =
-    (content : Content) (path : List (List ℕ)) (active : Bool)
+    (content : Content) (path : Path) (active : Bool)
     → standing_in (with_change content path (activated active)) ≡ standing_in content
 
 -- in whichever order clients were added, they are served in one order
 abbrev pub ArrivalDoesNotMatter : Type 0
 ArrivalDoesNotMatter =
-    (one other : Content) (first second : List (List (List ℕ)))
+    (one other : Content) (first second : List Path)
     → IsPermutation one.clients other.clients
     → one.total ≡ other.total
     → one.weights ≡ other.weights

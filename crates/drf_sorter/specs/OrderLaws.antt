@@ -7,10 +7,10 @@ use Rattle.std.specs.Cmp.{IsTotalOrder, nat_cmp_total, then_flip, unsigned_tied}
 use Rattle.std.specs.Cmp.Lexicographic.{slice_cmp, nat_list_cmp_total, nat_list_eq_equiv}
 use Rattle.std.proofs.lemmas.Bool.{false≢true, cases_Bool, ltb-true}
 use Rattle.std.proofs.lemmas.Cmp.{then_total, on_total, tied_itself}
-use Rattle.drf_role.specs.Text.{same_text}
+use Rattle.drf_role.specs.Text.{Text, same_text}
 use Rattle.drf_role.specs.TextLaws.{cases_same, same_from_cmp, same_itself}
 use Rattle.drf_bundle.specs.declared.quantities.Entry.{Entry}
-use Rattle.drf_role.specs.Path.{begins_with}
+use Rattle.drf_role.specs.Path.{Path, begins_with}
 use Rattle.drf_rows.specs.Share.{Fraction, is_less, greatest, Standing, share_of, weighted_share_of, is_ahead, stands_before_below, stands_before}
 use Rattle.drf_rows.specs.ServingOrder.{is_ahead-back}
 use Rattle.drf_sorter.specs.Fractions.{fraction_cmp, held_fractions}
@@ -20,7 +20,7 @@ use Rattle.drf_sorter.specs.Keys.{Key, key_cmp, key_of, keys_of}
 -- ---- siblings
 
 -- the comparison of two children of a node
-abbrev pub sibling_cmp : Standing → List (List ℕ) → List ℕ → List ℕ → Ordering
+abbrev pub sibling_cmp : Standing → Path → Text → Text → Ordering
 sibling_cmp s parent a b = key_cmp (key_of s parent a) (key_of s parent b)
 
 is_lt-then : (o p : Ordering) → is_lt (ordering_then o p) ≡ (is_lt o || (is_eq o && is_lt p))
@@ -33,7 +33,7 @@ is_lt-twice : (o p q : Ordering) (a b c d : Bool) → is_lt o ≡ a → is_eq o 
 is_lt-twice o p q a b c d e f g h =
     is_lt-then o (ordering_then p q) ∙ (λ i. e i || (f i && (is_lt-then p q ∙ (λ j. g j || (h j && is_lt q))) i))
 
-pub is_ahead-is : (s : Standing) (parent : List (List ℕ)) (a b : List ℕ)
+pub is_ahead-is : (s : Standing) (parent : Path) (a b : Text)
     → is_ahead s parent a b ≡ is_lt (sibling_cmp s parent a b)
 unfolding is_ahead
 is_ahead-is s parent a b =
@@ -68,7 +68,7 @@ both_tied Equal p h = (refl, h)
 both_tied Greater p h = absurd (false≢true (ap is_eq h))
 
 -- siblings with two names are never tied
-pub sibling_cmp-apart : (s : Standing) (parent : List (List ℕ)) (a b : List ℕ) → a ≢ b
+pub sibling_cmp-apart : (s : Standing) (parent : Path) (a b : Text) → a ≢ b
     → sibling_cmp s parent a b ≢ Equal
 sibling_cmp-apart s parent a b other tied =
     let x = key_of s parent a in
@@ -76,7 +76,7 @@ sibling_cmp-apart s parent a b other tied =
     let low = (both_tied (fraction_cmp x.share y.share) _ tied).1 in
     other (same_from_cmp a b (both_tied (nat_cmp x.count y.count) _ low).1)
 
-pub is_ahead-total : (s : Standing) (parent : List (List ℕ)) (a b : List ℕ) → a ≢ b
+pub is_ahead-total : (s : Standing) (parent : Path) (a b : Text) → a ≢ b
     → is_ahead s parent b a ≡ not (is_ahead s parent a b)
 is_ahead-total s parent a b other =
     is_ahead-is s parent b a
@@ -90,7 +90,7 @@ greater_above : (b : Bool) (f g : Fraction) → 0 < f.whole → 0 < g.whole → 
 greater_above true f g p q = q
 greater_above false f g p q = p
 
-pub greatest_above : (held : List ℕ → ℕ) (total : List Entry) → 0 < (greatest (held_fractions held total)).whole
+pub greatest_above : (held : Text → ℕ) (total : List Entry) → 0 < (greatest (held_fractions held total)).whole
 greatest_above held [] = omega arith
 greatest_above held (e ∷ es) = elim (cases_Bool (nat_lt 0 e.amount)) [
   | inl some ↦
@@ -101,15 +101,15 @@ greatest_above held (e ∷ es) = elim (cases_Bool (nat_lt 0 e.amount)) [
   | inr none ↦ rw none (greatest_above held es)
 ]
 
-pub weighted_share-above : (s : Standing) (node : List (List ℕ)) → 1 ≤ s.weight node
+pub weighted_share-above : (s : Standing) (node : Path) → 1 ≤ s.weight node
     → 0 < (weighted_share_of s node).whole
 weighted_share-above s node weighs =
     product_above (share_of s node).whole (s.weight node) (greatest_above (s.held node) s.total) weighs
 
 -- ---- siblings are in a total order
 
-module _ (s : Standing) (weighs : (node : List (List ℕ)) → 1 ≤ s.weight node) (parent : List (List ℕ)) where
-  above : (a : List ℕ) → 0 < (key_of s parent a).share.whole
+module _ (s : Standing) (weighs : (node : Path) → 1 ≤ s.weight node) (parent : Path) where
+  above : (a : Text) → 0 < (key_of s parent a).share.whole
   above a = weighted_share-above s (parent ++ a ∷ []) (weighs (parent ++ a ∷ []))
 
   shares_total : IsTotalOrder (λ a b. fraction_cmp (key_of s parent a).share (key_of s parent b).share)
@@ -126,7 +126,7 @@ module _ (s : Standing) (weighs : (node : List (List ℕ)) → 1 ≤ s.weight no
       then_total shares_total
       (then_total (on_total (λ a. (key_of s parent a).count) nat_cmp_total) nat_list_cmp_total)
 
-  pub is_ahead-transitive : (a b c : List ℕ) → is_ahead s parent a b ≡ true → is_ahead s parent b c ≡ true
+  pub is_ahead-transitive : (a b c : Text) → is_ahead s parent a b ≡ true → is_ahead s parent b c ≡ true
       → is_ahead s parent a c ≡ true
   is_ahead-transitive a b c first second =
       let near = less_from_test (sibling_cmp s parent a b) (sym (is_ahead-is s parent a b) ∙ first) in
@@ -136,30 +136,30 @@ module _ (s : Standing) (weighs : (node : List (List ℕ)) → 1 ≤ s.weight no
 -- ---- clients
 
 -- names that differ decide
-differ : (s : Standing) (parent : List (List ℕ)) (a b : List ℕ) (xs ys : List (List ℕ)) → same_text a b ≡ false
+differ : (s : Standing) (parent : Path) (a b : Text) (xs ys : Path) → same_text a b ≡ false
     → stands_before_below s parent (a ∷ xs) (b ∷ ys) ≡ is_ahead s parent a b
 differ s parent a b xs ys other = rw other
 
 -- names that are the same do not
-agree : (s : Standing) (parent : List (List ℕ)) (a : List ℕ) (xs ys : List (List ℕ))
+agree : (s : Standing) (parent : Path) (a : Text) (xs ys : Path)
     → stands_before_below s parent (a ∷ xs) (a ∷ ys) ≡ stands_before_below s (parent ++ a ∷ []) xs ys
 agree s parent a xs ys = rw (same_itself a)
 
-other_way : (a b : List ℕ) → same_text a b ≡ false → same_text b a ≡ false
+other_way : (a b : Text) → same_text a b ≡ false → same_text b a ≡ false
 other_way a b other = nat_list_eq_equiv.symm b a ∙ other
 
 -- one path is not below the other where the rest after a shared name is not
-below_same : (a : List ℕ) (xs ys : List (List ℕ)) → begins_with (a ∷ xs) (a ∷ ys) ≡ false → begins_with xs ys ≡ false
+below_same : (a : Text) (xs ys : Path) → begins_with (a ∷ xs) (a ∷ ys) ≡ false → begins_with xs ys ≡ false
 below_same a xs ys h = rw (same_itself a) at h
 
-below-total : (s : Standing) (parent : List (List ℕ)) (a b : List (List ℕ)) → begins_with a b ≡ false
+below-total : (s : Standing) (parent : Path) (a b : Path) → begins_with a b ≡ false
     → begins_with b a ≡ false → stands_before_below s parent b a ≡ not (stands_before_below s parent a b)
 below-total s parent [] b first second = absurd (false≢true (sym second))
 below-total s parent (a ∷ xs) [] first second = absurd (false≢true (sym first))
 below-total s parent (a ∷ xs) (b ∷ ys) first second = elim (cases_same a b) [
   | inl same ↦
       subst
-      (λ (n : List ℕ). begins_with (a ∷ xs) (n ∷ ys) ≡ false → begins_with (n ∷ ys) (a ∷ xs) ≡ false
+      (λ (n : Text). begins_with (a ∷ xs) (n ∷ ys) ≡ false → begins_with (n ∷ ys) (a ∷ xs) ≡ false
       → stands_before_below s parent (n ∷ ys) (a ∷ xs) ≡ not (stands_before_below s parent (a ∷ xs) (n ∷ ys)))
       same.1
       (λ f g. agree s parent a ys xs ∙ below-total s (parent ++ a ∷ []) xs ys (below_same a xs ys f)
@@ -171,12 +171,12 @@ below-total s parent (a ∷ xs) (b ∷ ys) first second = elim (cases_same a b) 
 ]
 
 -- of two clients neither of which is below the other, exactly one stands before the other
-pub stands_before-total : (s : Standing) (a b : List (List ℕ)) → begins_with a b ≡ false → begins_with b a ≡ false
+pub stands_before-total : (s : Standing) (a b : Path) → begins_with a b ≡ false → begins_with b a ≡ false
     → stands_before s b a ≡ not (stands_before s a b)
 stands_before-total s a b = below-total s [] a b
 
-module _ (s : Standing) (weighs : (node : List (List ℕ)) → 1 ≤ s.weight node) where
-  below-transitive : (parent : List (List ℕ)) (a b c : List (List ℕ)) → stands_before_below s parent a b ≡ true
+module _ (s : Standing) (weighs : (node : Path) → 1 ≤ s.weight node) where
+  below-transitive : (parent : Path) (a b c : Path) → stands_before_below s parent a b ≡ true
       → stands_before_below s parent b c ≡ true → stands_before_below s parent a c ≡ true
   below-transitive parent [] b c first second = absurd (false≢true first)
   below-transitive parent (a ∷ xs) [] c first second = absurd (false≢true first)
@@ -184,14 +184,14 @@ module _ (s : Standing) (weighs : (node : List (List ℕ)) → 1 ≤ s.weight no
   below-transitive parent (a ∷ xs) (b ∷ ys) (c ∷ zs) first second = elim (cases_same a b) [
     | inl near ↦
         subst
-        (λ (n : List ℕ). stands_before_below s parent (a ∷ xs) (n ∷ ys) ≡ true
+        (λ (n : Text). stands_before_below s parent (a ∷ xs) (n ∷ ys) ≡ true
         → stands_before_below s parent (n ∷ ys) (c ∷ zs) ≡ true
         → stands_before_below s parent (a ∷ xs) (c ∷ zs) ≡ true)
         near.1
         (λ f g. elim (cases_same a c) [
           | inl far ↦
               subst
-              (λ (n : List ℕ). stands_before_below s parent (a ∷ ys) (n ∷ zs) ≡ true
+              (λ (n : Text). stands_before_below s parent (a ∷ ys) (n ∷ zs) ≡ true
               → stands_before_below s parent (a ∷ xs) (n ∷ zs) ≡ true)
               far.1
               (λ h. agree s parent a xs zs ∙ below-transitive (parent ++ a ∷ []) xs ys zs
@@ -203,7 +203,7 @@ module _ (s : Standing) (weighs : (node : List (List ℕ)) → 1 ≤ s.weight no
         let ahead = sym (differ s parent a b xs ys near.0) ∙ first in
         elim (cases_same b c) [
           | inl far ↦
-              subst (λ (n : List ℕ). stands_before_below s parent (a ∷ xs) (n ∷ zs) ≡ true) far.1
+              subst (λ (n : Text). stands_before_below s parent (a ∷ xs) (n ∷ zs) ≡ true) far.1
               (differ s parent a b xs zs near.0 ∙ ahead)
           | inr far ↦
               let behind = sym (differ s parent b c ys zs far.0) ∙ second in
@@ -212,14 +212,14 @@ module _ (s : Standing) (weighs : (node : List (List ℕ)) → 1 ≤ s.weight no
                 | inl ends ↦
                     absurd
                     (false≢true (sym (is_ahead-back s parent a b ahead)
-                    ∙ subst (λ (n : List ℕ). is_ahead s parent b n ≡ true) (sym ends.1) behind))
+                    ∙ subst (λ (n : Text). is_ahead s parent b n ≡ true) (sym ends.1) behind))
                 | inr ends ↦ differ s parent a c xs zs ends.0 ∙ through
               ]
         ]
   ]
 
   -- the order goes on from one client to the next
-  pub stands_before-transitive : (a b c : List (List ℕ)) → stands_before s a b ≡ true → stands_before s b c ≡ true
+  pub stands_before-transitive : (a b c : Path) → stands_before s a b ≡ true → stands_before s b c ≡ true
       → stands_before s a c ≡ true
   stands_before-transitive a b c = below-transitive [] a b c
 
@@ -236,7 +236,7 @@ first_decides Equal p other = absurd (other refl)
 first_decides Greater p other = refl
 
 -- for two clients neither of which is below the other
-pub is_lt-keys : (s : Standing) (parent : List (List ℕ)) (a b : List (List ℕ)) → begins_with a b ≡ false
+pub is_lt-keys : (s : Standing) (parent : Path) (a b : Path) → begins_with a b ≡ false
     → begins_with b a ≡ false
     → is_lt (slice_cmp key_cmp (keys_of s parent a) (keys_of s parent b)) ≡ stands_before_below s parent a b
 is_lt-keys s parent [] b first second = absurd (false≢true (sym second))
@@ -244,7 +244,7 @@ is_lt-keys s parent (a ∷ xs) [] first second = absurd (false≢true (sym first
 is_lt-keys s parent (a ∷ xs) (b ∷ ys) first second = elim (cases_same a b) [
   | inl same ↦
       subst
-      (λ (n : List ℕ). begins_with (a ∷ xs) (n ∷ ys) ≡ false → begins_with (n ∷ ys) (a ∷ xs) ≡ false
+      (λ (n : Text). begins_with (a ∷ xs) (n ∷ ys) ≡ false → begins_with (n ∷ ys) (a ∷ xs) ≡ false
       → is_lt (slice_cmp key_cmp (keys_of s parent (a ∷ xs)) (keys_of s parent (n ∷ ys)))
       ≡ stands_before_below s parent (a ∷ xs) (n ∷ ys))
       same.1

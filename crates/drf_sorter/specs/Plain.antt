@@ -1,10 +1,11 @@
 -- What a sorter over a list of clients holds.
 use Rattle.std.specs.Prelude.{ℕ, List, filter, map, sum_by}
 use Rattle.drf_bundle.specs.Quantities.{amount_of}
-use Rattle.drf_role.specs.Path.{begins_with}
+use Rattle.drf_role.specs.Path.{Path, begins_with}
 use Rattle.drf_rows.specs.Share.{Standing}
 use Rattle.drf_sorter.specs.Content.{Ranked, Content, standing_in}
 use Rattle.drf_sorter.specs.declared.client.Client.{Client}
+use Rattle.drf_role.specs.Text.{Text}
 use Rattle.drf_sorter.specs.declared.plain.PlainSorter.{PlainSorter}
 
 -- the client, as contracts see it
@@ -12,11 +13,11 @@ abbrev pub ranked : Client → Ranked
 ranked c = record { path = c.path; active = c.active; held = amount_of c.held; count = c.count }
 
 -- how much of a scalar the clients of a node hold
-abbrev pub held_by : List Client → List (List ℕ) → List ℕ → ℕ
+abbrev pub held_by : List Client → Path → Text → ℕ
 held_by clients node label = sum_by (λ c. amount_of c.held label) (filter (λ c. begins_with c.path node) clients)
 
 -- how many offers were made to the clients of a node
-abbrev pub count_by : List Client → List (List ℕ) → ℕ
+abbrev pub count_by : List Client → Path → ℕ
 count_by clients node = sum_by (λ c. c.count) (filter (λ c. begins_with c.path node) clients)
 
 abbrev pub plain_content : PlainSorter → Content

@@ -1,9 +1,10 @@
 -- Shares, as the fractions that they are.
-use Rattle.std.specs.Prelude.{◌≡◌, ◌*◌, ℕ, Bool, List, IsTrue}
+use Rattle.std.specs.Prelude.{◌≡◌, ◌*◌, ℕ, Bool, IsTrue}
 use Rattle.std.specs.declared.cmp.Ordering.{Ordering}
 use Rattle.drf_rows.specs.Share.{Fraction, is_same, share_of, weighted_share_of}
 use Rattle.drf_sorter.specs.Content.{Content, standing_in}
 use Rattle.drf_sorter.specs.Fractions.{fraction_cmp, weighted}
+use Rattle.drf_role.specs.Path.{Path}
 use Rattle.drf_sorter.specs.declared.share.Share.{Share}
 
 -- the fraction that a share is
@@ -26,7 +27,7 @@ abbrev pub share_eq : Share → Share → Bool
 share_eq a b = is_same (fraction_of a) (fraction_of b)
 
 -- the share of a node, its weighted share and its count
-pub record IsShareOf (content : Content) (node : List (List ℕ)) (answer : Share × Share × ℕ) : Type 0 where
+pub record IsShareOf (content : Content) (node : Path) (answer : Share × Share × ℕ) : Type 0 where
   pub share : IsTrue (is_same (fraction_of answer.0) (share_of (standing_in content) node))
   pub weighted : fraction_of answer.1 ≡ weighted_share_of (standing_in content) node
   pub count : answer.2 ≡ (standing_in content).count node

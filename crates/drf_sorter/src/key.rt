@@ -1,7 +1,8 @@
 //! What decides between siblings.
-ghost use Rattle.std.specs.Prelude.{◌≡◌, ◌≤◌, ◌<◌, ◌^◌, ℕ, List};
+ghost use Rattle.std.specs.Prelude.{◌≡◌, ◌≤◌, ◌<◌, ◌^◌, ℕ};
 ghost use Rattle.std.specs.String.{string_bytes};
 ghost use Rattle.drf_bundle.specs.Quantities.{amount_of};
+ghost use Rattle.drf_role.specs.Text.{Text};
 ghost use Rattle.drf_sorter.specs.Fractions.{weigh, dominant_of};
 ghost use Rattle.drf_sorter.specs.Share.{fraction_of};
 
@@ -11,7 +12,7 @@ use drf_bundle::Quantities;
 /// What holds amounts of scalars.
 pub trait Holding {
     /// The thousandths that are held of each label.
-    ghost held: { Self → List ℕ → ℕ };
+    ghost held: { Self → Text → ℕ };
 
     /// The thousandths of one label.
     fn amount(&self, label: &str) -> u64
@@ -29,8 +30,8 @@ impl Holding for Quantities {
 
 /// The dominant share of what is held of the total, over a weight in thousandths.
 pub fn weighted_share<H: Holding>(total: &Quantities, weight: u64, holding: &H) -> Share
-    requires within { (label : List ℕ) → H.held holding.now label ≤ amount_of total.now label }
-    requires fits { (label : List ℕ) → amount_of total.now label < 2 ^ 52 }
+    requires within { (label : Text) → H.held holding.now label ≤ amount_of total.now label }
+    requires fits { (label : Text) → amount_of total.now label < 2 ^ 52 }
     requires weighs { 1 ≤ weight }
     requires light { weight ≤ 1000000 }
     ensures { fraction_of result ≡ weigh (dominant_of (H.held holding.now) total.now) weight }
@@ -67,8 +68,8 @@ impl Key {
         count: u64,
         name: String,
     ) -> Key
-        requires within { (label : List ℕ) → H.held holding.now label ≤ amount_of total.now label }
-        requires fits { (label : List ℕ) → amount_of total.now label < 2 ^ 52 }
+        requires within { (label : Text) → H.held holding.now label ≤ amount_of total.now label }
+        requires fits { (label : Text) → amount_of total.now label < 2 ^ 52 }
         requires weighs { 1 ≤ weight }
         requires light { weight ≤ 1000000 }
         ensures { key_by result ≡ record {

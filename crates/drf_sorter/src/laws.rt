@@ -1,8 +1,8 @@
 //! Laws of shares and of the order of clients. The functions do nothing: what they promise is proved of the definitions
 //! alone.
-ghost use Rattle.std.specs.Prelude.{◌≡◌, ◌≤◌, ℕ, List, true, false, not};
+ghost use Rattle.std.specs.Prelude.{◌≡◌, ◌≤◌, true, false, not};
 ghost use Rattle.std.specs.Ordering.{is_lt, is_eq};
-ghost use Rattle.drf_role.specs.Path.{begins_with};
+ghost use Rattle.drf_role.specs.Path.{Path, begins_with};
 ghost use Rattle.drf_rows.specs.Share.{Standing, is_less, is_same, stands_before};
 ghost use Rattle.drf_sorter.specs.Laws.{ArrivalDoesNotMatter, ClientsHaveDefaultWeight, HeavierHasLess, LesserNameFirst, LowestIsFound, NothingIsZero, OneLowestForm, ProductsFit, SameLowestForm, SuppressedCounts, UndoneChargeChangesNothing};
 ghost use Rattle.drf_sorter.specs.Share.{fraction_of, share_cmp, share_eq};
@@ -27,12 +27,12 @@ pub fn lowest_terms_law()
 /// Of two clients at most one stands before the other, and exactly one where neither path begins with the other. Who
 /// stands before a client stands before all that it stands before.
 pub fn client_order_law()
-    ensures asymmetric { (s : Standing) (a b : List (List ℕ)) →
+    ensures asymmetric { (s : Standing) (a b : Path) →
         stands_before s a b ≡ true → stands_before s b a ≡ false }
-    ensures total { (s : Standing) (a b : List (List ℕ)) →
+    ensures total { (s : Standing) (a b : Path) →
         begins_with a b ≡ false → begins_with b a ≡ false → stands_before s b a ≡ not (stands_before s a b) }
-    ensures transitive { (s : Standing) → ((node : List (List ℕ)) → 1 ≤ s.weight node) →
-        (a b c : List (List ℕ)) → stands_before s a b ≡ true → stands_before s b c ≡ true → stands_before s a c ≡ true }
+    ensures transitive { (s : Standing) → ((node : Path) → 1 ≤ s.weight node) →
+        (a b c : Path) → stands_before s a b ≡ true → stands_before s b c ≡ true → stands_before s a c ≡ true }
 {}
 
 /// Of two siblings that differ in nothing but their names, the one whose name is less comes first.

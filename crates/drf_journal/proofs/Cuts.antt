@@ -44,7 +44,7 @@ pub within-push : (front : List ℕ) (b : ℕ) → IsWithinLine front → is_lin
     → IsWithinLine (front ++ b ∷ [])
 within-push front b within other =
     All-append (λ b. is_line_feed b ≡ false) front (b ∷ []) within
-        (All-cons (λ b. is_line_feed b ≡ false) b [] other within-nil)
+    (All-cons (λ b. is_line_feed b ≡ false) b [] other within-nil)
 
 pub within-head : (b : ℕ) (bytes : List ℕ) → IsWithinLine (b ∷ bytes) → is_line_feed b ≡ false
 within-head b bytes within = All-head (λ b. is_line_feed b ≡ false) b bytes within
@@ -57,7 +57,7 @@ pub cut_at : (rest : List ℕ) (at : ℕ) → at < length rest → get_or rest a
 cut_at rest at inside feed =
     sym (take-append-drop at rest)
     ∙ ap (λ l. take at rest ++ l) (drop-cons rest at 0 inside ∙ ap (λ b. b ∷ drop (suc at) rest) feed
-        ∙ ap (λ n. 10 ∷ drop n rest) (sym (add-one at)))
+    ∙ ap (λ n. 10 ∷ drop n rest) (sym (add-one at)))
     ∙ sym (append_assoc (take at rest) (10 ∷ []) (drop (at + 1) rest))
 
 -- ---- the lines of the front of an input come first among its lines
@@ -77,7 +77,7 @@ goes_on_from line [] more within = record {
     within-append-nil line within = All-append (λ b. is_line_feed b ≡ false) line [] within within-nil
 goes_on_from line (b ∷ front) more within =
     by_test (is_line_feed b) refl (goes_on_from [] front more within-nil)
-        (λ other. goes_on_from (line ++ b ∷ []) front more (within-push line b within other))
+    (λ other. goes_on_from (line ++ b ∷ []) front more (within-push line b within other))
   where
     by_test : (t : Bool) → is_line_feed b ≡ t → GoesOn front (front ++ more)
         → (is_line_feed b ≡ false → GoesOn ((line ++ b ∷ []) ++ front) ((line ++ b ∷ []) ++ (front ++ more)))

@@ -27,18 +27,22 @@ wrote-more old now next bytes rest count wrote more = record {
 pub wrote-kept : (old now next : Option (List ℕ)) (bytes rest : List ℕ) → WroteFront old now bytes rest → Keeps now next
     → WroteFront old next bytes rest
 wrote-kept old now next bytes rest wrote kept =
-    record { front = wrote.front; whole = wrote.whole; appended =
-    Appends-kept old now next wrote.front wrote.appended kept }
+    record {
+      front = wrote.front;
+      whole = wrote.whole;
+      appended =
+          Appends-kept old now next wrote.front wrote.appended kept;
+    }
 
 pub wrote-front : (old now : Option (List ℕ)) (bytes rest : List ℕ) → WroteFront old now bytes rest
     → AppendsFrontOf old now bytes
 wrote-front old now bytes rest wrote =
     let cut : wrote.front ≡ take (length wrote.front) bytes =
-        sym (ap (take (length wrote.front)) wrote.whole ∙ take-append_seam wrote.front rest) in
+    sym (ap (take (length wrote.front)) wrote.whole ∙ take-append_seam wrote.front rest) in
     (length wrote.front, subst (Appends old now) cut wrote.appended)
 
 pub wrote-all : (old now : Option (List ℕ)) (bytes rest : List ℕ) → WroteFront old now bytes rest → rest ≡ []
     → Appends old now bytes
 wrote-all old now bytes rest wrote none =
     subst (Appends old now) (sym (append-nil wrote.front) ∙ ap (λ l. wrote.front ++ l) (sym none)
-        ∙ sym wrote.whole) wrote.appended
+    ∙ sym wrote.whole) wrote.appended

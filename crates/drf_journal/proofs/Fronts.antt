@@ -31,7 +31,7 @@ pub front-answers : (old now next : State) (piece rest : List ℕ) → TookFront
     → next.unsent ≡ now.unsent → AnswersFrontOf old piece next
 front-answers old now next piece rest took same =
     let cut : take (length took.front) piece ≡ took.front = ap (take (length took.front)) took.whole
-        ∙ take-append_seam took.front rest in
+    ∙ take-append_seam took.front rest in
     (length took.front, same ∙ ap (λ (t : State). t.unsent) (took.state ∙ ap (after_piece old) (sym cut)))
 
 pub front-ends : (old now : State) (piece rest : List ℕ) → TookFront old now piece rest → length rest ≡ 0
@@ -44,4 +44,4 @@ pub front-keeps : (old now : State) (piece rest : List ℕ) → TookFront old no
     → after_piece now rest ≡ after_piece old piece
 front-keeps old now piece rest took =
     ap (λ (t : State). after_piece t rest) took.state ∙ sym (piece-append old took.front rest)
-        ∙ ap (after_piece old) (sym took.whole)
+    ∙ ap (after_piece old) (sym took.whole)

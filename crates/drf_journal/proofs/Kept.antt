@@ -28,7 +28,7 @@ meaning-kept line =
     ⊎_elim
     (λ (long : longest_line < length line).
     long_at (kept_of line) (let kept : length (kept_of line) ≡ longest_line + 1 =
-        length-take-le (longest_line + 1) line (omega arith) in omega arith)
+    length-take-le (longest_line + 1) line (omega arith) in omega arith)
     ∙ sym (long_at line long))
     (λ (short : length line ≤ longest_line). ap meaning_of (take_all (longest_line + 1) line (omega arith)))
     (cases_lt longest_line (length line))

@@ -57,11 +57,11 @@ unfolding after_line
 line_first s line lines next kept =
     let meant : meaning_of s.pending ≡ meaning_of line = ap meaning_of kept ∙ meaning-kept line in
     let answered : answer_to s.echo s.machine s.pending ≡ answer_to s.echo s.machine line =
-        ap (answer_to s.echo s.machine) kept ∙ answer-kept s.echo s.machine line in
+    ap (answer_to s.echo s.machine) kept ∙ answer-kept s.echo s.machine line in
     let unsent : (s.unsent ++ answer_to s.echo s.machine s.pending)
-        ++ answers_from s.echo (machine_after s.machine (meaning_of s.pending)) lines
+    ++ answers_from s.echo (machine_after s.machine (meaning_of s.pending)) lines
     ≡ s.unsent ++ (answer_to s.echo s.machine line
-        ++ answers_from s.echo (machine_after s.machine (meaning_of line)) lines) =
+    ++ answers_from s.echo (machine_after s.machine (meaning_of line)) lines) =
     append_assoc s.unsent (answer_to s.echo s.machine s.pending) _
     ∙ (λ i. s.unsent ++ (answered i ++ answers_from s.echo (machine_after s.machine (meant i)) lines)) in
     let counted : (s.lines + 1) + length lines ≡ s.lines + length (line ∷ lines) = omega arith in
@@ -85,14 +85,20 @@ after_piece-lines s line [] within kept =
     let next : open_line_of (line ++ []) ≡ line = ap open_line_of (append-nil line) ∙ open-within line within in
     let counted : s.lines ≡ s.lines + 0 = omega arith in
     piece-nil s
-    ∙ (λ i. record { machine = s.machine; echo = s.echo; pending = kept i; unsent = sym (append-nil s.unsent) i; lines =
-        counted i })
+    ∙ (λ i. record {
+      machine = s.machine;
+      echo = s.echo;
+      pending = kept i;
+      unsent = sym (append-nil s.unsent) i;
+      lines =
+          counted i;
+    })
     ∙ (λ i. after_lines s (sym ended i) (sym next i))
 after_piece-lines s line (b ∷ bytes) within kept =
     by_test (is_line_feed b) refl (after_piece-lines (after_line s) [] bytes within-nil (pending-nil s))
     (λ other.
     after_piece-lines (record s { pending = kept_of (s.pending ++ b ∷ []) }) (line ++ b ∷ []) bytes
-        (within-push line b within other)
+    (within-push line b within other)
     (ap (λ p. kept_of (p ++ b ∷ [])) kept ∙ kept-append line (b ∷ [])))
   where
     by_test : (t : Bool) → is_line_feed b ≡ t
@@ -100,12 +106,12 @@ after_piece-lines s line (b ∷ bytes) within kept =
         → (is_line_feed b ≡ false → after_piece (record s { pending = kept_of (s.pending ++ b ∷ []) }) bytes
         ≡ after_lines s (ended_lines_of ((line ++ b ∷ []) ++ bytes)) (open_line_of ((line ++ b ∷ []) ++ bytes)))
         → after_piece s (b ∷ bytes) ≡ after_lines s (ended_lines_of (line ++ b ∷ bytes))
-            (open_line_of (line ++ b ∷ bytes))
+        (open_line_of (line ++ b ∷ bytes))
     by_test true feed rest same =
         piece-feed s b bytes feed ∙ rest
         ∙ line_first s line (ended_lines_of bytes) (open_line_of bytes) kept
         ∙ (λ i. after_lines s (sym (ended-feed line b bytes within feed) i)
-            (sym (open-feed line b bytes within feed) i))
+        (sym (open-feed line b bytes within feed) i))
     by_test false other rest same =
         piece-other s b bytes other ∙ same other
         ∙ ap (λ l. after_lines s (ended_lines_of l) (open_line_of l)) (append_assoc line (b ∷ []) bytes)
@@ -120,7 +126,7 @@ piece-within s b (c ∷ bytes) within =
     piece-other s b (c ∷ bytes) (within-head b (c ∷ bytes) within)
     ∙ piece-within first c bytes (within-tail b (c ∷ bytes) within)
     ∙ ap (λ (p : List ℕ). record s { pending = p })
-        (kept-append (s.pending ++ b ∷ []) (c ∷ bytes) ∙ ap kept_of (append_assoc s.pending (b ∷ []) (c ∷ bytes)))
+    (kept-append (s.pending ++ b ∷ []) (c ∷ bytes) ∙ ap kept_of (append_assoc s.pending (b ∷ []) (c ∷ bytes)))
 
 pub piece-some : (s : State) (bytes : List ℕ) → IsWithinLine bytes → 0 < length bytes
     → after_piece s bytes ≡ record s { pending = kept_of (s.pending ++ bytes) }
@@ -174,20 +180,22 @@ line-sent s sent = λ i. record {
 
 pub piece-sent : (s : State) (sent bytes : List ℕ)
     → after_piece (record s { unsent = sent ++ s.unsent }) bytes
-        ≡ record (after_piece s bytes) { unsent = sent ++ (after_piece s bytes).unsent }
+    ≡ record (after_piece s bytes) { unsent = sent ++ (after_piece s bytes).unsent }
 piece-sent s sent [] = piece-nil _ ∙ ap (λ (t : State). record t { unsent = sent ++ t.unsent }) (sym (piece-nil s))
 piece-sent s sent (b ∷ bytes) =
     by_test (is_line_feed b) refl (piece-sent (after_line s) sent bytes)
-        (piece-sent (record s { pending = kept_of (s.pending ++ b ∷ []) }) sent bytes)
+    (piece-sent (record s { pending = kept_of (s.pending ++ b ∷ []) }) sent bytes)
   where
     by_test : (t : Bool) → is_line_feed b ≡ t
         → after_piece (record (after_line s) { unsent = sent ++ (after_line s).unsent }) bytes
         ≡ record (after_piece (after_line s) bytes) { unsent = sent ++ (after_piece (after_line s) bytes).unsent }
         → after_piece (record s { pending = kept_of (s.pending ++ b ∷ []); unsent = sent ++ s.unsent }) bytes
-        ≡ record (after_piece (record s { pending = kept_of (s.pending ++ b ∷ []) }) bytes) { unsent =
-            sent ++ (after_piece (record s { pending = kept_of (s.pending ++ b ∷ []) }) bytes).unsent }
+        ≡ record (after_piece (record s { pending = kept_of (s.pending ++ b ∷ []) }) bytes) {
+          unsent =
+              sent ++ (after_piece (record s { pending = kept_of (s.pending ++ b ∷ []) }) bytes).unsent;
+        }
         → after_piece (record s { unsent = sent ++ s.unsent }) (b ∷ bytes)
-            ≡ record (after_piece s (b ∷ bytes)) { unsent = sent ++ (after_piece s (b ∷ bytes)).unsent }
+        ≡ record (after_piece s (b ∷ bytes)) { unsent = sent ++ (after_piece s (b ∷ bytes)).unsent }
     by_test true feed rest same =
         piece-feed _ b bytes feed ∙ ap (λ (t : State). after_piece t bytes) (line-sent s sent) ∙ rest
         ∙ ap (λ (t : State). record t { unsent = sent ++ t.unsent }) (sym (piece-feed s b bytes feed))
@@ -235,7 +243,7 @@ end-line s some = rw (ne_eqb (length s.pending) 0 (λ e. omega arith))
 
 at_end_apart : (s : State) (sent : List ℕ) (t : Bool) → eqb (length s.pending) 0 ≡ t
     → (sent ++ (at_end s).unsent ≡ (at_end (record s { unsent = sent ++ s.unsent })).unsent)
-        × ((at_end s).lines ≡ (at_end (record s { unsent = sent ++ s.unsent })).lines)
+    × ((at_end s).lines ≡ (at_end (record s { unsent = sent ++ s.unsent })).lines)
 unfolding at_end after_line
 at_end_apart s sent true e = rw e (refl, refl)
 at_end_apart s sent false e = rw e (sym (append_assoc sent s.unsent (answer_to s.echo s.machine s.pending)), refl)

@@ -25,7 +25,7 @@ unfolding after_line
 line_last s lines next =
     append_assoc s.unsent (answers_from s.echo s.machine lines) _
     ∙ ap (λ l. s.unsent ++ (answers_from s.echo s.machine lines ++ l))
-        (answer-kept s.echo (machine_after_lines s.machine lines) next ∙ sym (append-nil _))
+    (answer-kept s.echo (machine_after_lines s.machine lines) next ∙ sym (append-nil _))
     ∙ ap (λ l. s.unsent ++ l) (sym (answers-append s.echo s.machine lines (next ∷ [])))
 
 counted_last : (s : State) (lines : List (List ℕ)) (next : List ℕ)
@@ -50,8 +50,11 @@ at_end_all s lines (b ∷ next) =
     let whole = after_lines s lines (b ∷ next) in
     let ended : at_end whole ≡ after_line whole = end-line whole (omega arith) in
     let some = ne_eqb (length (b ∷ next)) 0 (λ e. omega arith) in
-    rw some (ap (λ (t : State). t.unsent) ended ∙ line_last s lines (b ∷ next), ap (λ (t : State). t.lines) ended
-        ∙ counted_last s lines (b ∷ next))
+    rw some (
+      ap (λ (t : State). t.unsent) ended ∙ line_last s lines (b ∷ next),
+      ap (λ (t : State). t.lines) ended
+          ∙ counted_last s lines (b ∷ next),
+    )
 
 -- the first lines of an input
 lines_first : (front more : List ℕ)
@@ -82,7 +85,7 @@ module _ (limits : LimitNumbers) (echo : Bool) where
   unfolding lines_of
   text_whole read =
       ap (λ (s : State). (at_end s).unsent) (read_lines read)
-          ∙ (at_end_all (begun limits echo) (ended_lines_of read) (open_line_of read)).0
+      ∙ (at_end_all (begun limits echo) (ended_lines_of read) (open_line_of read)).0
       ∙ sym (text-lines limits echo (lines_with (ended_lines_of read) (open_line_of read)))
 
   number_whole : (read : List ℕ) → (at_end (after_piece (begun limits echo) read)).lines ≡ length (lines_of read)
@@ -96,10 +99,11 @@ module _ (limits : LimitNumbers) (echo : Bool) where
       → (count : ℕ) × (text_of limits echo (ended_lines_of front)
       ≡ text_of limits echo (take count (lines_of (front ++ more))))
   text_first front more =
-      let first = lines_first front more in
-      (length (ended_lines_of front),
-          ap (text_of limits echo) (sym (ap (take (length (ended_lines_of front))) first.1
-          ∙ take-append_seam (ended_lines_of front) first.0)))
+      let first = lines_first front more in (
+        length (ended_lines_of front),
+        ap (text_of limits echo) (sym (ap (take (length (ended_lines_of front))) first.1
+            ∙ take-append_seam (ended_lines_of front) first.0)),
+      )
 
   -- and stands at the front
   text_front : (front more : List ℕ)
@@ -157,7 +161,7 @@ module _ (limits : LimitNumbers) (echo : Bool) where
     pub serving-takes : (piece : List ℕ) (next : State) → Consumes unread unread_next piece
         → Appends written written_next (after_piece session piece).unsent
         → next ≡ record (after_piece session piece) { unsent = [] }
-            → IsServing unread_first unread_next written_first written_next next
+        → IsServing unread_first unread_next written_first written_next next
     serving-takes piece next consumed appended is = record {
       read = serving.read ++ piece;
       told = serving.told ++ (after_piece session piece).unsent;
@@ -166,7 +170,7 @@ module _ (limits : LimitNumbers) (echo : Bool) where
       state =
           ap (λ (s : State). record s { unsent = (serving.told ++ (after_piece session piece).unsent) ++ s.unsent }) is
           ∙ ap (λ (l : List ℕ). record (after_piece session piece) { unsent = l })
-              (append-nil (serving.told ++ (after_piece session piece).unsent))
+          (append-nil (serving.told ++ (after_piece session piece).unsent))
           ∙ state_next piece;
       sent = ap (λ (s : State). s.unsent) is;
     }
@@ -200,8 +204,11 @@ module _ (limits : LimitNumbers) (echo : Bool) where
           written = serving.told;
           consumed = consumed_all consumed;
           appended = serving.appended;
-          answered = (first.0, told_so_far ∙ first.1
-              ∙ ap (λ l. text_of limits echo (take first.0 (lines_of l))) (append-nil serving.read));
+          answered = (
+            first.0,
+            told_so_far ∙ first.1
+                ∙ ap (λ l. text_of limits echo (take first.0 (lines_of l))) (append-nil serving.read),
+          );
         }
 
     pub run-unwritten : Consumes unread unread_next [] → AppendsFrontOf written written_next (at_end session).unsent
@@ -216,7 +223,7 @@ module _ (limits : LimitNumbers) (echo : Bool) where
           answered = front_of (serving.told ++ take sent.0 text) (drop sent.0 text)
               (text_of limits echo (lines_of serving.read))
               (sym told_at_end ∙ ap (λ l. serving.told ++ l) (sym (take-append-drop sent.0 text))
-                  ∙ sym (append_assoc serving.told (take sent.0 text) (drop sent.0 text)));
+              ∙ sym (append_assoc serving.told (take sent.0 text) (drop sent.0 text)));
         }
 
     pub run-ends : (lines : ℕ) → Consumes unread unread_next [] → Appends written written_next (at_end session).unsent
@@ -227,8 +234,11 @@ module _ (limits : LimitNumbers) (echo : Bool) where
       written = serving.told ++ (at_end session).unsent;
       consumed = consumed_all consumed;
       appended = Appends-trans _ _ _ _ _ serving.appended sent;
-      answered = (told_at_end, counted ∙ end-counted session serving.told
-          ∙ ap (λ (s : State). (at_end s).lines) serving.state ∙ number_whole serving.read);
+      answered = (
+        told_at_end,
+        counted ∙ end-counted session serving.told
+            ∙ ap (λ (s : State). (at_end s).lines) serving.state ∙ number_whole serving.read,
+      );
     }
 
     -- ---- in the middle of a piece
@@ -274,8 +284,8 @@ module _ (limits : LimitNumbers) (echo : Bool) where
             answered = front_of (serving.told ++ take sent.0 text) (drop sent.0 text ++ rest.0)
                 (text_of limits echo (lines_of (serving.read ++ piece)))
                 (ap (λ l. text_of limits echo (lines_of l)) (sym whole) ∙ rest.1
-                    ∙ ap (λ l. l ++ rest.0) (sym told_now
-                    ∙ ap (λ l. serving.told ++ l) (sym (take-append-drop sent.0 text)))
+                ∙ ap (λ l. l ++ rest.0) (sym told_now
+                ∙ ap (λ l. serving.told ++ l) (sym (take-append-drop sent.0 text)))
                 ∙ ap (λ l. l ++ rest.0) (sym (append_assoc serving.told (take sent.0 text) (drop sent.0 text)))
                 ∙ append_assoc (serving.told ++ take sent.0 text) (drop sent.0 text) rest.0);
           }

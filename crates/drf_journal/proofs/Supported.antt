@@ -35,7 +35,7 @@ plain_roles (text ∷ other ∷ texts) roles e = cc
 plain_texts : {A B : Type 0} (first : Result A LineFault) (second : Result B LineFault) (make : A → B → Event)
     (event : Event)
     → ((x : A) (y : B) → second ≡ Ok y → HasPlainRoles (make x y))
-        → (first >>= λ x. second >>= λ y. Ok (make x y)) ≡ Ok event → HasPlainRoles event
+    → (first >>= λ x. second >>= λ y. Ok (make x y)) ≡ Ok event → HasPlainRoles event
 plain_texts (Ok x) (Ok y) make event plain e = same_event (make x y) event (plain x y refl) e
 plain_texts (Ok x) (Err fault) make event plain e = cc
 plain_texts (Err fault) second make event plain e = cc
@@ -46,7 +46,7 @@ plain_pair : {A B C D : Type 0} (keys : Result (Unit {0}) LineFault) (first : Re
     (read_first : A → Result C LineFault) (read_second : B → Result D LineFault) (make : C → D → Event) (event : Event)
     → ((x : C) (text : B) (y : D) → read_second text ≡ Ok y → HasPlainRoles (make x y))
     → (keys >>= λ _. first >>= λ a. second >>= λ b. read_first a >>= λ x. read_second b >>= λ y. Ok (make x y))
-        ≡ Ok event → HasPlainRoles event
+    ≡ Ok event → HasPlainRoles event
 plain_pair (Ok one) (Ok a) (Ok b) read_first read_second make event plain e =
     plain_texts (read_first a) (read_second b) make event (λ x y. plain x b y) e
 plain_pair (Ok one) (Ok a) (Err fault) read_first read_second make event plain e = cc
@@ -56,14 +56,14 @@ plain_pair (Err fault) first second read_first read_second make event plain e = 
 plain_agent : (value : Data) (event : Event) → agent_event value ≡ Ok event → HasPlainRoles event
 unfolding agent_event
 plain_agent value event e =
-    plain_pair (keys 2 value) (text_at (codes "agent") value)
-        (text_at (codes "total") value) name_in total_in AddAgent event (λ agent text total read. tt) e
+    plain_pair (keys 3 value) (text_at (codes "agent") value)
+    (text_at (codes "total") value) name_in total_in AddAgent event (λ agent text total read. tt) e
 
 plain_framework : (value : Data) (event : Event) → framework_event value ≡ Ok event → HasPlainRoles event
 unfolding framework_event
 plain_framework value event e =
-    plain_pair (keys 2 value) (text_at (codes "framework") value)
-        (texts_at (codes "roles") value) name_in roles_in AddFramework event
+    plain_pair (keys 3 value) (text_at (codes "framework") value)
+    (texts_at (codes "roles") value) name_in roles_in AddFramework event
     (λ framework texts roles read. plain_roles texts roles read) e
 
 plain_moment : (keys : Result (Unit {0}) LineFault) (at : Result ℕ LineFault) (event : Event)
@@ -74,7 +74,7 @@ plain_moment (Err fault) at event e = cc
 
 plain_cycle : (value : Data) (event : Event) → cycle_event value ≡ Ok event → HasPlainRoles event
 unfolding cycle_event
-plain_cycle value event e = plain_moment (keys 1 value) (number_at (codes "at") value) event e
+plain_cycle value event e = plain_moment (keys 2 value) (number_at (codes "at") value) event e
 
 chosen : (b : Bool) (x y : Result Event LineFault) (event : Event) → (x ≡ Ok event → HasPlainRoles event)
     → (y ≡ Ok event → HasPlainRoles event) → cond b x y ≡ Ok event → HasPlainRoles event

@@ -69,13 +69,15 @@ any_at p (x ∷ xs) = any_at_cases p x xs (p x) refl (any_at p xs)
 -- where nothing passes, all stands before the first that does
 pub all_before : {X : Type 0} (p : X → Bool) (xs : List X) → position_or_len p xs ≡ length xs
     → (list_any p xs ≡ false) × (before_first p xs ≡ xs) × (after_first p xs ≡ [])
-all_before p xs none =
-    (any_at p xs ∙ rw none (grind (arith, nat_tests)), take_all (position_or_len p xs) xs (omega arith),
-        drop_of_length-le xs (omega arith))
+all_before p xs none = (
+  any_at p xs ∙ rw none (grind (arith, nat_tests)),
+  take_all (position_or_len p xs) xs (omega arith),
+  drop_of_length-le xs (omega arith),
+)
 
 pub amount_without_point : (text : List ℕ) (o : Option ℕ) → position_or_len is_point text ≡ length text
     → SomeIff o (IsTrue (are_digits text) × (digits_value 10 text * 1000 < 2 ^ 64)) (digits_value 10 text * 1000)
-        → o ≡ amount_of text
+    → o ≡ amount_of text
 unfolding amount_of
 amount_without_point text o none h =
     let parts = all_before is_point text none in
@@ -100,10 +102,10 @@ unfolding amount_of
 amount_with_point text whole decimals o some first second h =
     let point : list_any is_point text ≡ true = any_at is_point text ∙ lt-ltb _ _ some in
     let value : thousandths_of text
-        ≡ digits_value 10 whole * 1000 + digits_value 10 decimals * 10 ^ (3 - length decimals) =
-        rw (first, second) refl in
+    ≡ digits_value 10 whole * 1000 + digits_value 10 decimals * 10 ^ (3 - length decimals) =
+    rw (first, second) refl in
     let number : is_number text ≡ (are_digits whole && (are_digits decimals && leb (length decimals) 3)) =
-        rw (first, second, point) refl in
+    rw (first, second, point) refl in
     from_SomeIff o (is_number text && ltb (thousandths_of text) (2 ^ 64)) (thousandths_of text)
     (SomeIff-like o _ _ _ _ (sym value) h
     (λ p. rw (number, value) (and_from _ _ (and_from _ _ p.0 (and_from _ _ p.1 (le-leb _ _ p.2))) (lt-ltb _ _ p.3)))

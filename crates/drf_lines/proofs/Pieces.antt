@@ -20,7 +20,7 @@ entry_without_colon piece none = rw ((all_before is_colon piece none).0)
 pub entry_with_colon : (piece name number : List ℕ) → position_or_len is_colon piece < length piece
     → name ≡ before_first is_colon piece → number ≡ after_first is_colon piece
     → entry_of piece ≡ cond (is_label name)
-        (option_map (λ amount. record { label = name; amount = amount }) (amount_of number)) None
+    (option_map (λ amount. record { label = name; amount = amount }) (amount_of number)) None
 unfolding entry_of
 entry_with_colon piece name number some first second =
     let colon : list_any is_colon piece ≡ true = any_at is_colon piece ∙ lt-ltb _ _ some in
@@ -65,7 +65,7 @@ are_new-inserted sorted e (x ∷ es) =
 
 choose : {A : Type 0} (known new named distinct : Bool) (x : Option A)
     → cond known None (cond ((new && not named) && distinct) x None)
-        ≡ cond ((not known && new) && (not named && distinct)) x None
+    ≡ cond ((not known && new) && (not named && distinct)) x None
 choose true new named distinct x = refl
 choose false false named distinct x = refl
 choose false true true distinct x = refl
@@ -76,13 +76,13 @@ all_of sorted es = cond (are_new sorted es && is_distinct es) (Some (fold insert
 
 one_more : (sorted : List Entry) (e : Entry) (rest : Option (List Entry))
     → cond (is_named sorted e.label) None (option_and_then (all_of (inserted sorted e)) rest)
-        ≡ option_and_then (all_of sorted) (option_map (λ es. e ∷ es) rest)
+    ≡ option_and_then (all_of sorted) (option_map (λ es. e ∷ es) rest)
 unfolding all_of
 one_more sorted e None = cond_same (is_named sorted e.label) None
 one_more sorted e (Some es) =
     rw (are_new-inserted sorted e es)
     (choose (is_named sorted e.label) (are_new sorted es) (is_named es e.label) (is_distinct es)
-        (Some (fold inserted (inserted sorted e) es)))
+    (Some (fold inserted (inserted sorted e) es)))
 
 step : (sorted : List Entry) (o : Option Entry) (pieces : List (List ℕ))
     → ((other : List Entry) → after other pieces ≡ option_and_then (all_of other) (entries_of pieces))

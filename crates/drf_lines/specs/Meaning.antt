@@ -1,7 +1,7 @@
 -- What a line means: an event, or the fault for which it is none. It is read step by step: its JSON value, the text under
 -- `event`, the keys of that event with what stands there, and then the texts. The first step that finds nothing tells its
 -- fault.
-use Rattle.std.specs.Prelude.{ℕ, ◌+◌, Bool, false, ◌==◌, suc, List, [], ◌∷◌, length, nat_lt, Option, Some, Result, Ok, Err, option_map, option_and_then, if◌then◌else◌, codes}
+use Rattle.std.specs.Prelude.{ℕ, Bool, false, ◌==◌, suc, List, [], ◌∷◌, length, nat_lt, Option, Some, Result, Ok, Err, option_map, option_and_then, if◌then◌else◌, codes}
 use Rattle.std.specs.Option.{ok_or, option_map_or}
 use Rattle.std.specs.Str.{is_utf8}
 use Rattle.serde_json.specs.Data.{Data, Items, no_items, item, Members, no_members, member}
@@ -34,14 +34,15 @@ member_count (member key value members) = suc (member_count members)
 unfoldable pub has_members : ℕ → Data → Bool
 has_members count value = option_map_or (λ members. member_count members == count) (as_object value) false
 
--- the object has so many keys besides `event`
+-- the object has so many keys; each of them is asked for in a step of its own, so it has no others
 unfoldable pub keys : ℕ → Data → Result (Unit {0}) LineFault
-keys count value = if has_members (count + 1) value then Ok tt else Err BadShape
+keys count value = if has_members count value then Ok tt else Err BadShape
 
 -- the text of each item, if each is one
 abbrev pub texts_of : Items → Option (List (List ℕ))
 texts_of no_items = Some []
-texts_of (item value items) = option_and_then (λ text. option_map (λ texts. text ∷ texts) (texts_of items)) (as_str value)
+texts_of (item value items) =
+    option_and_then (λ text. option_map (λ texts. text ∷ texts) (texts_of items)) (as_str value)
 
 -- the text, the whole number and the texts under a key
 unfoldable pub text_at : List ℕ → Data → Result (List ℕ) LineFault
@@ -53,20 +54,20 @@ number_at key value = ok_or (option_and_then as_u64 (option_and_then as_number (
 unfoldable pub texts_at : List ℕ → Data → Result (List (List ℕ)) LineFault
 texts_at key value = ok_or (option_and_then texts_of (option_and_then as_array (get key value))) BadShape
 
--- ---- each event: the keys besides `event` and what stands there, and then the texts
+-- ---- each event: how many keys there are with `event`, what stands under them, and then the texts
 
 unfoldable pub agent_event : Data → Result Event LineFault
 agent_event value =
-    keys 2 value >>= λ _. text_at (codes "agent") value >>= λ agent. text_at (codes "total") value >>= λ total.
+    keys 3 value >>= λ _. text_at (codes "agent") value >>= λ agent. text_at (codes "total") value >>= λ total.
     name_in agent >>= λ agent. total_in total >>= λ total. Ok (AddAgent agent total)
 
 unfoldable pub framework_event : Data → Result Event LineFault
 framework_event value =
-    keys 2 value >>= λ _. text_at (codes "framework") value >>= λ framework. texts_at (codes "roles") value >>= λ roles.
+    keys 3 value >>= λ _. text_at (codes "framework") value >>= λ framework. texts_at (codes "roles") value >>= λ roles.
     name_in framework >>= λ framework. roles_in roles >>= λ roles. Ok (AddFramework framework roles)
 
 unfoldable pub cycle_event : Data → Result Event LineFault
-cycle_event value = keys 1 value >>= λ _. number_at (codes "at") value >>= λ at. Ok (Cycle at)
+cycle_event value = keys 2 value >>= λ _. number_at (codes "at") value >>= λ at. Ok (Cycle at)
 
 -- the events by name
 abbrev pub events : List (List ℕ × (Data → Result Event LineFault))
@@ -79,7 +80,8 @@ events =
 -- what a value means whose `event` is that name
 abbrev pub event_among : List (List ℕ × (Data → Result Event LineFault)) → List ℕ → Data → Result Event LineFault
 event_among [] name value = Err BadShape
-event_among (event ∷ events) name value = if same_text name event.0 then event.1 value else event_among events name value
+event_among (event ∷ events) name value =
+    if same_text name event.0 then event.1 value else event_among events name value
 
 unfoldable pub event_in : Data → Result Event LineFault
 event_in value = text_at (codes "event") value >>= λ name. event_among events name value

@@ -1,5 +1,5 @@
 //! The reader of a line.
-ghost use Rattle.std.specs.Prelude.{◌≡◌, ◌<◌, map, option_map, option_and_then};
+ghost use Rattle.std.specs.Prelude.{◌≡◌, map, option_map, option_and_then};
 ghost use Rattle.serde_json.specs.Find.{get, as_str, as_number, as_u64, as_array};
 ghost use Rattle.serde_json.specs.View.{view, items_view};
 ghost use Rattle.drf_lines.specs.Fault.{IsFoundAs, IsReadAs, IsReadOf};
@@ -38,13 +38,12 @@ fn has_members(value: &Value, count: usize) -> bool
     }
 }
 
-/// The object has so many keys besides `event`.
+/// The object has so many keys.
 #[tactic(auto, unfolding(crate::specs::Meaning::keys))]
 fn keys(value: &Value, count: usize) -> Result<(), LineFault>
-    requires { count < 100 }
     ensures { result ≡ keys count (view value.now) }
 {
-    if !has_members(value, count + 1) {
+    if !has_members(value, count) {
         return Err(LineFault::BadShape);
     }
     Ok(())
@@ -98,7 +97,7 @@ fn texts_at<'a>(alloc: Global, value: &'a Value, key: &str) -> Result<Vec<&'a st
 fn read_agent(alloc: Global, value: &Value) -> Result<Event, LineError>
     ensures { IsReadOf result (agent_event (view value.now)) }
 {
-    keys(value, 2)?;
+    keys(value, 3)?;
     let agent = text_at(value, "agent")?;
     let total = text_at(value, "total")?;
     Ok(Event::AddAgent {
@@ -125,7 +124,7 @@ fn read_roles(alloc: Global, texts: &[&str]) -> Result<Table<Role>, LineError>
 fn read_framework(alloc: Global, value: &Value) -> Result<Event, LineError>
     ensures { IsReadOf result (framework_event (view value.now)) }
 {
-    keys(value, 2)?;
+    keys(value, 3)?;
     let framework = text_at(value, "framework")?;
     let roles = texts_at(alloc, value, "roles")?;
     Ok(Event::AddFramework {
@@ -138,7 +137,7 @@ fn read_framework(alloc: Global, value: &Value) -> Result<Event, LineError>
 fn read_cycle(value: &Value) -> Result<Event, LineError>
     ensures { IsReadOf result (cycle_event (view value.now)) }
 {
-    keys(value, 1)?;
+    keys(value, 2)?;
     let at = number_at(value, "at")?;
     Ok(Event::Cycle { at })
 }

@@ -1,10 +1,12 @@
 //! The command `run`: the allocator within its full limits, on three streams.
-ghost use Rattle.std.specs.Prelude.{◌≡◌, IfSome};
-ghost use Rattle.std.specs.Io.KnownBytes.{Appends, IsAtEnd};
+ghost use Rattle.std.specs.Prelude.{◌≡◌, ℕ, Result, false};
 ghost use Rattle.drf_rows.specs.LimitNumbers.{ceilings};
-ghost use Rattle.drf_journal.specs.Output.{output_of};
+ghost use Rattle.drf_journal.specs.Device.{IsNew};
+ghost use Rattle.drf_journal.specs.Ended.{HasRun};
+ghost use Rattle.drf_journal.specs.declared.fault.RunFault.{RunFault};
+ghost use Rattle.drf_app.specs.Status.{status_of};
 
-use drf_journal::run;
+use drf_journal::{Device, run};
 use drf_rows::Limits;
 use std::alloc::Global;
 use std::io::{Read, Write};
@@ -13,16 +15,17 @@ use std::io::{Read, Write};
 /// text is then a line on `errors`.
 pub fn command<R: Read, W: Write, E: Write>(
     alloc: Global,
-    input: &mut R,
-    output: &mut W,
+    input: &mut Device<R>,
+    output: &mut Device<W>,
     errors: &mut E,
 ) -> u8
-    ensures output { result ≡ 0 → IfSome (R.remaining input.old) (λ bytes.
-        Appends (W.contents output.old) (W.contents output.new) (output_of ceilings bytes)) }
-    ensures read { result ≡ 0 → IsAtEnd (R.remaining input.new) }
+    requires input { IsNew input.old.calls input.old.failed }
+    requires output { IsNew output.old.calls output.old.failed }
+    ensures run { (ended : Result ℕ RunFault) × HasRun ceilings false (R.remaining input.old.inner) (R.remaining input.new.inner)
+        (W.contents output.old.inner) (W.contents output.new.inner) ended × (result ≡ status_of ended) }
     ensures errors { result ≡ 0 → errors.new ≡ errors.old }
 {
-    match run(alloc, Limits::full(), input, output) {
+    match run(alloc, Limits::full(), false, input, output) {
         Ok(_) => 0,
         Err(fault) => {
             // Where this fails too, the status alone tells of the fault.

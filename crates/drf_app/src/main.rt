@@ -4,11 +4,12 @@
 mod command;
 
 use command::command;
+use drf_journal::Device;
 use std::process::ExitCode;
 
 fn main(rt: HostRuntime) -> ExitCode {
-    let mut input = rt.stdin();
-    let mut output = rt.stdout();
+    let mut input = Device::new(rt.stdin());
+    let mut output = Device::new(rt.stdout());
     let mut errors = rt.stderr();
     ExitCode::from(command(rt.alloc(), &mut input, &mut output, &mut errors))
 }

@@ -1,3 +1,8 @@
-pub mod Streams
-pub mod Outputs
 pub mod Supported
+pub mod Cuts
+pub mod Kept
+pub mod Pieces
+pub mod Fronts
+pub mod Devices
+pub mod Texts
+pub mod Served

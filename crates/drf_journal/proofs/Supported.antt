@@ -1,75 +1,90 @@
 -- An event that a line spells has at most one role, of one component.
-use Rattle.std.proofs.Common.{◌≡◌, ℕ, ◌≤◌, Bool, true, false, cond, List, [], ◌∷◌, length, Option, Some, None, Result, Ok, Err, option_map, codes, refl, ap, subst, arith}
+use Rattle.std.proofs.Common.{◌≡◌, ℕ, ◌≤◌, Bool, true, false, cond, nat_lt, List, [], ◌∷◌, length, Result, Ok, Err, codes, refl, subst, arith}
 use Rattle.std.specs.List.{AllByRecursion}
-use Rattle.std.specs.Option.{ok_or}
-use Rattle.std.proofs.lemmas.Option.{cond_some, same_Some}
 use Rattle.serde_json.specs.Data.{Data}
 use Rattle.drf_role.specs.Text.{same_text}
 use Rattle.drf_core.specs.Machine.{HasPlainRoles}
 use Rattle.drf_rows.specs.declared.event.Event.{Event}
 use Rattle.drf_rows.specs.declared.event.Event.TheVariants.{AddAgent, AddFramework, Cycle}
 use Rattle.drf_lines.specs.declared.fault.LineFault.{LineFault}
-use Rattle.drf_lines.specs.declared.fault.LineFault.TheVariants.{BadShape, BadText}
-use Rattle.drf_lines.specs.Words.{is_name}
-use Rattle.drf_lines.specs.Total.{total_of}
-use Rattle.drf_lines.specs.Meaning.{value_of, text_at, agent_shape, framework_shape, cycle_shape, agent_event, framework_event, roles_of, event_by, meaning_by, meaning_or, meaning_of_value, meaning_of}
+use Rattle.drf_lines.specs.declared.fault.LineFault.TheVariants.{LineTooLong, BadText}
+use Rattle.drf_lines.specs.Fault.{◌>>=◌}
+use Rattle.drf_lines.specs.Words.{is_plain_role, name_in, roles_in}
+use Rattle.drf_lines.specs.Total.{total_in}
+use Rattle.drf_lines.specs.Meaning.{value_in, keys, text_at, number_at, texts_at, agent_event, framework_event, cycle_event, events, event_among, event_in, longest_line, meaning_of}
 
-plain_roles : (texts : List (List ℕ)) (roles : List (List (List ℕ))) → roles_of texts ≡ Some roles → (length roles ≤ 1) × AllByRecursion (λ role. length role ≤ 1) roles
-plain_roles [] roles e = subst (λ rs. (length rs ≤ 1) × AllByRecursion (λ role. length role ≤ 1) rs) (same_Some _ _ e) (omega arith, tt)
-plain_roles (text ∷ []) roles e = subst (λ rs. (length rs ≤ 1) × AllByRecursion (λ role. length role ≤ 1) rs) (cond_some _ _ _ e).1 (omega arith, (omega arith, tt))
+same_event : (event other : Event) → HasPlainRoles event → ◌≡◌ {A = Result Event LineFault} (Ok event) (Ok other) → HasPlainRoles other
+same_event event other plain e = let same : event ≡ other = cc in subst HasPlainRoles same plain
+
+plain_roles : (texts : List (List ℕ)) (roles : List (List (List ℕ))) → roles_in texts ≡ Ok roles → (length roles ≤ 1) × AllByRecursion (λ role. length role ≤ 1) roles
+unfolding roles_in
+plain_roles [] roles e = let none : [] ≡ roles = cc in subst (λ rs. (length rs ≤ 1) × AllByRecursion (λ role. length role ≤ 1) rs) none (omega arith, tt)
+plain_roles (text ∷ []) roles e = one (is_plain_role text) e
+  where
+    one : (b : Bool) → cond b (Ok ((text ∷ []) ∷ [])) (Err BadText) ≡ Ok roles → (length roles ≤ 1) × AllByRecursion (λ role. length role ≤ 1) roles
+    one true e = let same : (text ∷ []) ∷ [] ≡ roles = cc in subst (λ rs. (length rs ≤ 1) × AllByRecursion (λ role. length role ≤ 1) rs) same (omega arith, (omega arith, tt))
+    one false e = cc
 plain_roles (text ∷ other ∷ texts) roles e = cc
 
-plain_framework_at : (b : Bool) (name : List ℕ) (texts : List (List ℕ)) (o : Option (List (List (List ℕ)))) (event : Event) → roles_of texts ≡ o
-    → cond b (option_map (AddFramework name) o) None ≡ Some event → HasPlainRoles event
-plain_framework_at true name texts None event r e = cc
-plain_framework_at true name texts (Some roles) event r e = subst HasPlainRoles (same_Some _ _ e) (plain_roles texts roles r)
-plain_framework_at false name texts o event r e = cc
+plain_texts : {A B : Type 0} (first : Result A LineFault) (second : Result B LineFault) (make : A → B → Event) (event : Event)
+    → ((x : A) (y : B) → second ≡ Ok y → HasPlainRoles (make x y)) → (first >>= λ x. second >>= λ y. Ok (make x y)) ≡ Ok event → HasPlainRoles event
+plain_texts (Ok x) (Ok y) make event plain e = same_event (make x y) event (plain x y refl) e
+plain_texts (Ok x) (Err fault) make event plain e = cc
+plain_texts (Err fault) second make event plain e = cc
 
-plain_framework : (texts : List ℕ × List (List ℕ)) (event : Event) → framework_event texts ≡ Some event → HasPlainRoles event
-unfolding framework_event
-plain_framework texts event e = plain_framework_at (is_name texts.0) texts.0 texts.1 _ event refl e
+-- an event of two texts: they are found, and then read
+plain_pair : {A B C D : Type 0} (keys : Result (Unit {0}) LineFault) (first : Result A LineFault) (second : Result B LineFault)
+    (read_first : A → Result C LineFault) (read_second : B → Result D LineFault) (make : C → D → Event) (event : Event)
+    → ((x : C) (text : B) (y : D) → read_second text ≡ Ok y → HasPlainRoles (make x y))
+    → (keys >>= λ _. first >>= λ a. second >>= λ b. read_first a >>= λ x. read_second b >>= λ y. Ok (make x y)) ≡ Ok event → HasPlainRoles event
+plain_pair (Ok one) (Ok a) (Ok b) read_first read_second make event plain e = plain_texts (read_first a) (read_second b) make event (λ x y. plain x b y) e
+plain_pair (Ok one) (Ok a) (Err fault) read_first read_second make event plain e = cc
+plain_pair (Ok one) (Err fault) second read_first read_second make event plain e = cc
+plain_pair (Err fault) first second read_first read_second make event plain e = cc
 
-plain_agent_at : (b : Bool) (name : List ℕ) (o : Option _) (event : Event) → cond b (option_map (AddAgent name) o) None ≡ Some event → HasPlainRoles event
-plain_agent_at true name None event e = cc
-plain_agent_at true name (Some total) event e = subst HasPlainRoles (same_Some _ _ e) tt
-plain_agent_at false name o event e = cc
-
-plain_agent : (texts : List ℕ × List ℕ) (event : Event) → agent_event texts ≡ Some event → HasPlainRoles event
+plain_agent : (value : Data) (event : Event) → agent_event value ≡ Ok event → HasPlainRoles event
 unfolding agent_event
-plain_agent texts event e = plain_agent_at (is_name texts.0) texts.0 (total_of texts.1) event e
+plain_agent value event e =
+    plain_pair (keys 2 value) (text_at (codes "agent") value) (text_at (codes "total") value) name_in total_in AddAgent event (λ agent text total read. tt) e
 
-plain_cycle : (at : ℕ) (event : Event) → ◌≡◌ {A = Option Event} (Some (Cycle at)) (Some event) → HasPlainRoles event
-plain_cycle at event e = subst HasPlainRoles (same_Some _ _ e) tt
+plain_framework : (value : Data) (event : Event) → framework_event value ≡ Ok event → HasPlainRoles event
+unfolding framework_event
+plain_framework value event e =
+    plain_pair (keys 2 value) (text_at (codes "framework") value) (texts_at (codes "roles") value) name_in roles_in AddFramework event
+    (λ framework texts roles read. plain_roles texts roles read) e
 
-plain_by : {A : Type 0} (o : Option A) (f : A → Option Event) (event : Event) → ((x : A) → f x ≡ Some event → HasPlainRoles event) → event_by o f ≡ Ok event → HasPlainRoles event
-plain_by None f event each e = cc
-plain_by (Some x) f event each e = some (f x) (each x) e
-  where
-    some : (o : Option Event) → (o ≡ Some event → HasPlainRoles event) → ok_or o BadText ≡ Ok event → HasPlainRoles event
-    some None each e = cc
-    some (Some other) each e = each (let same : other ≡ event = cc in ap Some same)
+plain_moment : (keys : Result (Unit {0}) LineFault) (at : Result ℕ LineFault) (event : Event) → (keys >>= λ _. at >>= λ at. Ok (Cycle at)) ≡ Ok event → HasPlainRoles event
+plain_moment (Ok one) (Ok at) event e = same_event (Cycle at) event tt e
+plain_moment (Ok one) (Err fault) event e = cc
+plain_moment (Err fault) at event e = cc
 
-plain_chosen : (a b c : Bool) (x y z : Result Event LineFault) (event : Event) → (x ≡ Ok event → HasPlainRoles event) → (y ≡ Ok event → HasPlainRoles event) → (z ≡ Ok event → HasPlainRoles event)
-    → cond a x (cond b y (cond c z (Err BadShape))) ≡ Ok event → HasPlainRoles event
-plain_chosen true b c x y z event first second third e = first e
-plain_chosen false true c x y z event first second third e = second e
-plain_chosen false false true x y z event first second third e = third e
-plain_chosen false false false x y z event first second third e = cc
+plain_cycle : (value : Data) (event : Event) → cycle_event value ≡ Ok event → HasPlainRoles event
+unfolding cycle_event
+plain_cycle value event e = plain_moment (keys 1 value) (number_at (codes "at") value) event e
 
-plain_meaning : (o : Option (List ℕ)) (value : Data) (event : Event) → meaning_or o value ≡ Ok event → HasPlainRoles event
-unfolding meaning_by
-plain_meaning None value event e = cc
-plain_meaning (Some text) value event e =
-    plain_chosen (same_text text (codes "add_agent")) (same_text text (codes "add_framework")) (same_text text (codes "cycle")) _ _ _ event
-    (plain_by (agent_shape value) agent_event event (λ x. plain_agent x event))
-    (plain_by (framework_shape value) framework_event event (λ x. plain_framework x event))
-    (plain_by (cycle_shape value) (λ at. Some (Cycle at)) event (λ x. plain_cycle x event)) e
+chosen : (b : Bool) (x y : Result Event LineFault) (event : Event) → (x ≡ Ok event → HasPlainRoles event) → (y ≡ Ok event → HasPlainRoles event) → cond b x y ≡ Ok event → HasPlainRoles event
+chosen true x y event first second e = first e
+chosen false x y event first second e = second e
 
-plain_value : (o : Option Data) (event : Event) → meaning_of_value o ≡ Ok event → HasPlainRoles event
-unfolding meaning_of_value
-plain_value None event e = cc
-plain_value (Some value) event e = plain_meaning (text_at (codes "event") value) value event e
+plain_among : (name : List ℕ) (value : Data) (event : Event) → event_among events name value ≡ Ok event → HasPlainRoles event
+plain_among name value event e =
+    chosen (same_text name (codes "add_agent")) _ _ event (plain_agent value event)
+    (chosen (same_text name (codes "add_framework")) _ _ event (plain_framework value event)
+    (chosen (same_text name (codes "cycle")) _ _ event (plain_cycle value event) (λ none. cc))) e
+
+plain_named : (name : Result (List ℕ) LineFault) (value : Data) (event : Event) → (name >>= λ name. event_among events name value) ≡ Ok event → HasPlainRoles event
+plain_named (Ok name) value event e = plain_among name value event e
+plain_named (Err fault) value event e = cc
+
+plain_value : (value : Data) (event : Event) → event_in value ≡ Ok event → HasPlainRoles event
+unfolding event_in
+plain_value value event e = plain_named (text_at (codes "event") value) value event e
+
+plain_short : (long : Bool) (value : Result Data LineFault) (event : Event) → cond long (Err LineTooLong) (value >>= event_in) ≡ Ok event → HasPlainRoles event
+plain_short true value event e = cc
+plain_short false (Ok value) event e = plain_value value event e
+plain_short false (Err fault) event e = cc
 
 pub line_is_plain : (line : List ℕ) (event : Event) → meaning_of line ≡ Ok event → HasPlainRoles event
 unfolding meaning_of
-line_is_plain line event e = plain_value (value_of line) event e
+line_is_plain line event e = plain_short (nat_lt longest_line (length line)) (value_in line) event e

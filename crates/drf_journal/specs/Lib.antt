@@ -1,3 +1,5 @@
+pub mod Device
 pub mod Lines
 pub mod Output
-pub mod Session
+pub mod State
+pub mod Ended

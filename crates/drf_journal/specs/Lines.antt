@@ -1,16 +1,28 @@
 -- The lines of an input.
-use Rattle.std.specs.Prelude.{ℕ, Bool, ◌==◌, List, [], ◌∷◌, length, if◌then◌else◌}
+use Rattle.std.specs.Prelude.{ℕ, Bool, ◌==◌, List, [], ◌∷◌, ◌++◌, length, if◌then◌else◌}
 use Rattle.std.specs.List.{slice_split}
 
 abbrev pub is_line_feed : ℕ → Bool
 is_line_feed b = b == 10
 
--- the parts, without the last one if it is empty
-abbrev pub without_empty_last : List (List ℕ) → List (List ℕ)
-without_empty_last [] = []
-without_empty_last (part ∷ []) = if length part == 0 then [] else part ∷ []
-without_empty_last (part ∷ next ∷ parts) = part ∷ without_empty_last (next ∷ parts)
+abbrev pub all_but_last : List (List ℕ) → List (List ℕ)
+all_but_last [] = []
+all_but_last (part ∷ []) = []
+all_but_last (part ∷ next ∷ parts) = part ∷ all_but_last (next ∷ parts)
 
--- what stands between the line feeds of an input; behind the last of them stands a line only if anything does
+abbrev pub last_part : List (List ℕ) → List ℕ
+last_part [] = []
+last_part (part ∷ []) = part
+last_part (part ∷ next ∷ parts) = last_part (next ∷ parts)
+
+-- the lines of an input that a line feed ends
+unfoldable pub ended_lines_of : List ℕ → List (List ℕ)
+ended_lines_of input = all_but_last (slice_split is_line_feed input)
+
+-- what stands behind its last line feed
+unfoldable pub open_line_of : List ℕ → List ℕ
+open_line_of input = last_part (slice_split is_line_feed input)
+
+-- its lines: behind the last line feed stands one only if anything does
 unfoldable pub lines_of : List ℕ → List (List ℕ)
-lines_of input = without_empty_last (slice_split is_line_feed input)
+lines_of input = ended_lines_of input ++ (if length (open_line_of input) == 0 then [] else open_line_of input ∷ [])

@@ -1,15 +1,16 @@
 //! The engine: lines in, reply lines out.
-ghost use Rattle.std.specs.Prelude.{◌≡◌, length, IfOk, OnOk, IfSome};
-ghost use Rattle.std.specs.Io.KnownBytes.{Appends, IsAtEnd};
-ghost use Rattle.drf_journal.specs.Lines.{lines_of};
-ghost use Rattle.drf_journal.specs.Output.{output_of};
+ghost use Rattle.std.specs.Prelude.{◌≡◌, false, OnOk};
+ghost use Rattle.std.specs.Io.KnownBytes.{IsAtEnd};
+ghost use Rattle.drf_journal.specs.Device.{IsNew};
+ghost use Rattle.drf_journal.specs.Ended.{HasRun, HasCause};
 
+use crate::device::Device;
 use crate::fault::RunFault;
 use crate::session::Session;
 use drf_rows::Limits;
 use drf_sorter::{PlainSorter, Sorter};
 use std::alloc::Global;
-use std::io::{ErrorKind, Read, Write};
+use std::io::{Read, Write};
 
 /// How many bytes a read asks for.
 const CHUNK: usize = 65_536;
@@ -17,41 +18,39 @@ const CHUNK: usize = 65_536;
 /// How often a run reads at most.
 const MAX_READS: u64 = 1_099_511_627_776;
 
-/// Answers the lines of a reader's bytes on a writer, and tells how many lines there were. The replies to all lines
-/// that a read brought are written and flushed before the next read, so that no reply waits for more input. The clauses
-/// speak of a whole run; a fault says what ended it, and leaves open how much was written.
+/// Answers the lines of a reader's bytes on a writer, and tells how many lines there were. With `echo` each line is
+/// written before its answer. The answers to all lines that a read brought are written and flushed before the next read,
+/// so that none waits for more input.
 pub fn serve<S: Sorter, R: Read, W: Write>(
     alloc: Global,
     limits: Limits,
-    reader: &mut R,
-    writer: &mut W,
+    echo: bool,
+    reader: &mut Device<R>,
+    writer: &mut Device<W>,
 ) -> Result<u64, RunFault>
-    ensures output { OnOk result (IfSome (R.remaining reader.old) (λ input.
-        Appends (W.contents writer.old) (W.contents writer.new) (output_of limits input))) }
-    ensures read { OnOk result (IsAtEnd (R.remaining reader.new)) }
-    ensures lines { IfOk result (λ lines. IfSome (R.remaining reader.old) (λ input.
-        lines ≡ length (lines_of input))) }
+    requires reader { IsNew reader.old.calls reader.old.failed }
+    requires writer { IsNew writer.old.calls writer.old.failed }
+    ensures run { HasRun limits echo (R.remaining reader.old.inner) (R.remaining reader.new.inner)
+        (W.contents writer.old.inner) (W.contents writer.new.inner) result }
+    ensures read { OnOk result (IsAtEnd (R.remaining reader.new.inner)) }
+    ensures cause { HasCause result reader.new.failed reader.new.calls writer.new.failed }
 {
-    let mut session = Session::<S>::open(alloc, limits)?;
+    let mut session = Session::<S>::open(alloc, limits, echo)?;
     let mut buffer = vec![in alloc; 0u8; CHUNK]?;
     let chunk = buffer.as_mut_slice();
     for _turn in 0..MAX_READS {
-        match reader.read(chunk) {
-            Ok(0) => {
-                session.close(alloc)?;
-                session.send(writer)?;
-                return Ok(session.lines);
-            }
-            Ok(count) => {
-                let taken = session.take(alloc, &chunk[..count]);
-                // What was answered before memory ran out is written too.
-                let sent = session.send(writer);
-                taken?;
-                sent?;
-            }
-            Err(error) if error.kind() == ErrorKind::Interrupted => {}
-            Err(_) => return Err(RunFault::Read),
+        let Ok(count) = reader.read(chunk) else {
+            return Err(RunFault::Read);
+        };
+        if count == 0 {
+            session.close(alloc)?;
+            session.send(writer)?;
+            return Ok(session.lines());
         }
+        let taken = session.take(alloc, &chunk[..count]);
+        // What was answered before memory ran out is written too.
+        session.send(writer)?;
+        taken?;
     }
     Err(RunFault::Read)
 }
@@ -60,14 +59,16 @@ pub fn serve<S: Sorter, R: Read, W: Write>(
 pub fn run<R: Read, W: Write>(
     alloc: Global,
     limits: Limits,
-    reader: &mut R,
-    writer: &mut W,
+    echo: bool,
+    reader: &mut Device<R>,
+    writer: &mut Device<W>,
 ) -> Result<u64, RunFault>
-    ensures output { OnOk result (IfSome (R.remaining reader.old) (λ input.
-        Appends (W.contents writer.old) (W.contents writer.new) (output_of limits input))) }
-    ensures read { OnOk result (IsAtEnd (R.remaining reader.new)) }
-    ensures lines { IfOk result (λ lines. IfSome (R.remaining reader.old) (λ input.
-        lines ≡ length (lines_of input))) }
+    requires reader { IsNew reader.old.calls reader.old.failed }
+    requires writer { IsNew writer.old.calls writer.old.failed }
+    ensures run { HasRun limits echo (R.remaining reader.old.inner) (R.remaining reader.new.inner)
+        (W.contents writer.old.inner) (W.contents writer.new.inner) result }
+    ensures read { OnOk result (IsAtEnd (R.remaining reader.new.inner)) }
+    ensures cause { HasCause result reader.new.failed reader.new.calls writer.new.failed }
 {
-    serve::<PlainSorter, _, _>(alloc, limits, reader, writer)
+    serve::<PlainSorter, _, _>(alloc, limits, echo, reader, writer)
 }

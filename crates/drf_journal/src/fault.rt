@@ -1,4 +1,6 @@
 //! Why a run ends.
+ghost use Rattle.std.specs.Prelude.{◌≡◌};
+
 use std::alloc::{AllocError, AllocFailed};
 use thiserror::Error;
 
@@ -15,12 +17,20 @@ pub enum RunFault {
 }
 
 impl From<AllocError> for RunFault {
+    ghost use Rattle.drf_journal.specs.declared.fault.RunFault.TheVariants.{Memory};
+
+    ghost from_gives = { λ _ fault. fault ≡ Memory };
+
     fn from(_: AllocError) -> RunFault {
         RunFault::Memory
     }
 }
 
 impl<T: Drop> From<AllocFailed<T>> for RunFault {
+    ghost use Rattle.drf_journal.specs.declared.fault.RunFault.TheVariants.{Memory};
+
+    ghost from_gives = { λ _ fault. fault ≡ Memory };
+
     fn from(_: AllocFailed<T>) -> RunFault {
         RunFault::Memory
     }

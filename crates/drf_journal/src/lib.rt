@@ -1,9 +1,11 @@
 //! A run of the allocator over a stream of lines.
 #![tactic(auto)]
 
+mod device;
 mod engine;
 mod fault;
 mod session;
 
+pub use device::Device;
 pub use engine::{run, serve};
 pub use fault::RunFault;

@@ -1,11 +1,12 @@
 //! What a run keeps between reads.
-ghost use Rattle.std.specs.Prelude.{◌≡◌, ◌+◌, ◌^◌, ◌<◌, ◌≤◌, [], ◌++◌, length, take, slice_index, IfOk, OnOk, IfSome, IfNone};
+ghost use Rattle.std.specs.Prelude.{◌≡◌, ℕ, ◌+◌, ◌^◌, ◌<◌, ◌≤◌, [], ◌∷◌, ◌++◌, false, is_err, length, take, slice_index, IfOk, OnOk, OnErr, IfErr, IfSome, IfNone};
 ghost use Rattle.std.specs.Io.KnownBytes.{Appends};
-ghost use Rattle.drf_core.specs.Machine.{opened};
 ghost use Rattle.drf_lines.specs.Meaning.{meaning_of};
-ghost use Rattle.drf_journal.specs.Lines.{lines_of};
-ghost use Rattle.drf_journal.specs.Session.{answer_to, after_line, still_answered, IsWithinLine, TakesPiece};
+ghost use Rattle.drf_journal.specs.Device.{AppendsFrontOf};
+ghost use Rattle.drf_journal.specs.Output.{kept_of};
+ghost use Rattle.drf_journal.specs.State.{begun, reply_line_of, machine_after, answer_to, after_piece, at_end, IsWithinLine, AnswersFrontOf};
 
+use crate::device::{Device, write_whole};
 use crate::fault::RunFault;
 use drf_core::Core;
 use drf_lines::{LineError, read_event, write_fault, write_reply};
@@ -13,11 +14,19 @@ use drf_rows::Limits;
 use drf_sorter::Sorter;
 use std::alloc::{AllocError, Global};
 use std::io::Write;
+use std::marker::Model;
 
-/// Answers a line.
-fn answer<S: Sorter>(alloc: Global, core: &mut Core<S>, line: &[u8]) -> Result<Vec<u8>, AllocError>
-    ensures told { IfOk result (λ told. told.items ≡ answer_to core.old (meaning_of line.now)) }
-    ensures ok { OnOk result (core.new ≡ after_line core.old (meaning_of line.now)) }
+/// How many bytes of a line are kept: one more than it may have, so that one that is too long is told from the longest.
+const KEPT: usize = 65_537;
+
+/// Takes a line's event, and tells its reply line.
+fn reply_to<S: Sorter>(
+    alloc: Global,
+    core: &mut Core<S>,
+    line: &[u8],
+) -> Result<Vec<u8>, AllocError>
+    ensures told { IfOk result (λ told. told.items ≡ reply_line_of core.old (meaning_of line.now)) }
+    ensures ok { OnOk result (core.new ≡ machine_after core.old (meaning_of line.now)) }
 {
     match read_event(alloc, line) {
         Ok(event) => {
@@ -29,6 +38,54 @@ fn answer<S: Sorter>(alloc: Global, core: &mut Core<S>, line: &[u8]) -> Result<V
     }
 }
 
+/// Adds to the line at hand, as far as it is kept.
+fn keep(pending: &mut Vec<u8>, more: &[u8]) -> Result<(), AllocError>
+    ensures { OnOk result (pending.new.items ≡ kept_of (pending.old.items ++ more.now)) }
+{
+    pending.extend_from_slice(more)?;
+    pending.truncate(KEPT);
+    Ok(())
+}
+
+/// Takes a line's event, and gives the text for the line.
+fn answer<S: Sorter>(
+    alloc: Global,
+    core: &mut Core<S>,
+    echo: bool,
+    line: &[u8],
+) -> Result<Vec<u8>, AllocError>
+    ensures told { IfOk result (λ told. told.items ≡ answer_to echo core.old line.now) }
+    ensures ok { OnOk result (core.new ≡ machine_after core.old (meaning_of line.now)) }
+{
+    let reply = reply_to(alloc, core, line)?;
+    if !echo {
+        return Ok(reply);
+    }
+    let mut told = Vec::new(alloc);
+    keep(&mut told, line)?;
+    told.push(b'\n')?;
+    told.extend_from_slice(&reply)?;
+    Ok(told)
+}
+
+/// The same for the line that some bytes end, of which `pending` came before. One that came whole is read where it lies.
+fn answer_end<S: Sorter>(
+    alloc: Global,
+    core: &mut Core<S>,
+    echo: bool,
+    pending: &mut Vec<u8>,
+    end: &[u8],
+) -> Result<Vec<u8>, AllocError>
+    ensures told { IfOk result (λ told. told.items ≡ answer_to echo core.old (pending.old.items ++ end.now)) }
+    ensures ok { OnOk result (core.new ≡ machine_after core.old (meaning_of (pending.old.items ++ end.now))) }
+{
+    if pending.is_empty() {
+        return answer(alloc, core, echo, end);
+    }
+    keep(pending, end)?;
+    answer(alloc, core, echo, pending)
+}
+
 /// Where the first line feed stands.
 fn line_feed_in(bytes: &[u8]) -> Option<usize>
     ensures found { IfSome result (λ at. (at < length bytes.now) × (slice_index bytes.now at ≡ 10) × IsWithinLine (take at bytes.now)) }
@@ -37,99 +94,110 @@ fn line_feed_in(bytes: &[u8]) -> Option<usize>
     bytes.iter().position(|b| *b == b'\n')
 }
 
-/// A run at some moment.
+/// A run between two reads.
 #[derive(Drop)]
 pub struct Session<S: Sorter> {
-    pub core: Core<S>,
-    /// What has come of the line that is not whole yet.
-    pub pending: Vec<u8>,
-    /// The replies that are not written yet.
-    pub replies: Vec<u8>,
+    core: Core<S>,
+    echo: bool,
+    /// What is kept of the line that is not whole yet.
+    pending: Vec<u8>,
+    /// The text that is not written yet.
+    unsent: Vec<u8>,
     /// How many lines were answered.
-    pub lines: u64,
+    lines: u64,
+}
+
+impl<S: Sorter> Model for Session<S> {
+    ghost use Rattle.drf_journal.specs.State.{State};
+
+    ghost Value = { State };
+
+    ghost view = { λ s. record {
+      machine = s.core;
+      echo = s.echo;
+      pending = s.pending.items;
+      unsent = s.unsent.items;
+      lines = s.lines;
+    } };
 }
 
 impl<S: Sorter> Session<S> {
     /// A run that has read nothing.
-    pub fn open(alloc: Global, limits: Limits) -> Result<Session<S>, AllocError>
-        ensures core { IfOk result (λ session. session.core ≡ opened limits) }
-        ensures pending { IfOk result (λ session. session.pending.items ≡ []) }
-        ensures replies { IfOk result (λ session. session.replies.items ≡ []) }
-        ensures lines { IfOk result (λ session. session.lines ≡ 0) }
+    pub fn open(alloc: Global, limits: Limits, echo: bool) -> Result<Session<S>, AllocError>
+        ensures { IfOk result (λ session. session ≡ begun limits echo) }
     {
         Ok(Session {
             core: Core::open(alloc, limits)?,
+            echo,
             pending: Vec::new(alloc),
-            replies: Vec::new(alloc),
+            unsent: Vec::new(alloc),
             lines: 0,
         })
     }
 
-    /// The pending bytes are a whole line: answers it.
-    fn end_line(&mut self, alloc: Global) -> Result<(), AllocError>
-        requires { self.old.lines + 1 < 2 ^ 64 }
-        ensures core { OnOk result (self.new.core ≡ after_line self.old.core (meaning_of self.old.pending.items)) }
-        ensures pending { OnOk result (self.new.pending.items ≡ []) }
-        ensures replies { OnOk result (self.new.replies.items
-            ≡ self.old.replies.items ++ answer_to self.old.core (meaning_of self.old.pending.items)) }
-        ensures lines { OnOk result (self.new.lines ≡ self.old.lines + 1) }
+    /// How many lines were answered.
+    pub fn lines(&self) -> u64
+        ensures { result ≡ self.now.lines }
     {
-        let told = answer(alloc, &mut self.core, &self.pending)?;
-        self.replies.extend_from_slice(&told)?;
+        self.lines
+    }
+
+    /// The bytes end the line at hand: answers it.
+    fn end_line(&mut self, alloc: Global, end: &[u8]) -> Result<(), AllocError>
+        requires within { IsWithinLine end.now }
+        requires few { self.old.lines + 1 < 2 ^ 64 }
+        ensures ok { OnOk result (self.new ≡ after_piece self.old (end.now ++ 10 ∷ [])) }
+        ensures err { OnErr result (self.new.unsent ≡ self.old.unsent) }
+    {
+        let told = answer_end(alloc, &mut self.core, self.echo, &mut self.pending, end)?;
+        self.unsent.extend_from_slice(&told)?;
         self.pending.clear();
         self.lines += 1;
         Ok(())
     }
 
-    /// Takes the next piece of the stream, and answers each line that ends in it.
+    /// Takes the next piece of the input, and answers each line that ends in it.
     pub fn take(&mut self, alloc: Global, piece: &[u8]) -> Result<(), AllocError>
-        requires within { IsWithinLine self.old.pending.items }
-        requires few { self.old.lines + length piece.now < 2 ^ 64 }
-        ensures taken { OnOk result (TakesPiece self.old.core self.new.core (self.old.pending.items ++ piece.now)
-            self.new.pending.items self.old.replies.items self.new.replies.items self.old.lines self.new.lines) }
-        ensures within { OnOk result (IsWithinLine self.new.pending.items) }
-        ensures few { OnOk result (self.new.lines ≤ self.old.lines + length piece.now) }
+        requires { self.old.lines + length piece.now < 2 ^ 64 }
+        ensures ok { OnOk result (self.new ≡ after_piece self.old piece.now) }
+        ensures answers { AnswersFrontOf self.old piece.now self.new }
     {
         let mut rest = piece;
         while let Some(at) = line_feed_in(rest) {
-            self.pending.extend_from_slice(&rest[..at])?;
-            self.end_line(alloc)?;
+            self.end_line(alloc, &rest[..at])?;
             rest = &rest[at + 1..];
         }
-        self.pending.extend_from_slice(rest)?;
-        Ok(())
+        if rest.is_empty() {
+            return Ok(());
+        }
+        keep(&mut self.pending, rest)
     }
 
     /// The input ended: answers what stands behind its last line feed.
     pub fn close(&mut self, alloc: Global) -> Result<(), AllocError>
-        requires within { IsWithinLine self.old.pending.items }
-        requires few { self.old.lines + 1 < 2 ^ 64 }
-        ensures replies { OnOk result (self.new.replies.items
-            ≡ self.old.replies.items ++ still_answered self.old.core self.old.pending.items) }
-        ensures lines { OnOk result (self.new.lines
-            ≡ self.old.lines + length (lines_of self.old.pending.items)) }
+        requires { self.old.lines + 1 < 2 ^ 64 }
+        ensures ok { OnOk result (self.new ≡ at_end self.old) }
+        ensures err { OnErr result (self.new.unsent ≡ self.old.unsent) }
     {
         if self.pending.is_empty() {
             return Ok(());
         }
-        self.end_line(alloc)
+        self.end_line(alloc, &[])
     }
 
-    /// Writes the replies that are not written yet, all in one.
-    pub fn send<W: Write>(&mut self, writer: &mut W) -> Result<(), RunFault>
-        ensures sent { OnOk result (Appends (W.contents writer.old) (W.contents writer.new) self.old.replies.items) }
-        ensures replies { OnOk result (self.new.replies.items ≡ []) }
-        ensures core { self.new.core ≡ self.old.core }
-        ensures pending { self.new.pending.items ≡ self.old.pending.items }
-        ensures lines { self.new.lines ≡ self.old.lines }
+    /// Writes the text that is not written yet, all in one. Where that fails, its front was written.
+    pub fn send<W: Write>(&mut self, writer: &mut Device<W>) -> Result<(), RunFault>
+        ensures ok { OnOk result (self.new ≡ record self.old { unsent = [] }) }
+        ensures sent { OnOk result (Appends (W.contents writer.old.inner) (W.contents writer.new.inner) self.old.unsent) }
+        ensures err { OnErr result (AppendsFrontOf (W.contents writer.old.inner) (W.contents writer.new.inner) self.old.unsent) }
+        ensures fault { IfErr result (λ fault. fault ≡ RunFault.Write) }
+        ensures failed { writer.old.failed ≡ false → writer.new.failed ≡ is_err result }
     {
-        if self.replies.is_empty() {
+        if self.unsent.is_empty() {
             return Ok(());
         }
-        if writer.write_all(&self.replies).is_err() || writer.flush().is_err() {
-            return Err(RunFault::Write);
-        }
-        self.replies.clear();
+        write_whole(writer, &self.unsent)?;
+        self.unsent.clear();
         Ok(())
     }
 }

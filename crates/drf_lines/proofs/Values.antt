@@ -1,5 +1,5 @@
 -- JSON values, their members and their items.
-use Rattle.std.proofs.Common.{◌≡◌, ℕ, suc, Bool, true, false, cond, eqb, List, [], ◌∷◌, ◌++◌, length, Option, Some, None, option_map, String, Global, refl, sym, ap, append-nil, append_assoc}
+use Rattle.std.proofs.Common.{◌≡◌, ℕ, suc, Bool, true, false, cond, eqb, List, [], ◌∷◌, ◌++◌, length, Option, Some, None, Ok, Err, option_map, String, Global, refl, sym, ap, append-nil, append_assoc}
 use Rattle.std.specs.Str.{IsUtf8, is_utf8}
 use Rattle.std.proofs.lemmas.Str.{IsUtf8-from_is_utf8, is_utf8-from_IsUtf8}
 use Rattle.serde_json.specs.Read.{read}
@@ -7,7 +7,9 @@ use Rattle.serde_json.specs.Data.{Data}
 use Rattle.serde_json.specs.Find.{as_object, as_str}
 use Rattle.serde_json.specs.View.{view, members_view, items_view}
 use Rattle.serde_json.specs.declared.value.Value.{Value}
-use Rattle.drf_lines.specs.Meaning.{value_of, member_count, has_members, texts_of}
+use Rattle.std.specs.Option.{ok_or}
+use Rattle.drf_lines.specs.declared.fault.LineFault.TheVariants.{NotJson}
+use Rattle.drf_lines.specs.Meaning.{value_in, member_count, has_members, texts_of}
 
 member_count-members_view : (es : List (String Global × Value)) → member_count (members_view es) ≡ length es
 member_count-members_view [] = refl
@@ -17,16 +19,16 @@ pub members_counted : (es : List (String Global × Value)) (value : Data) (n : �
 unfolding has_members
 members_counted es value n e = rw (← e, member_count-members_view)
 
-pub value_read : (line : List ℕ) (value : Data) → IsUtf8 line → read line ≡ Some value → value_of line ≡ Some value
-unfolding value_of
+pub value_read : (line : List ℕ) (value : Data) → IsUtf8 line → read line ≡ Some value → value_in line ≡ Ok value
+unfolding value_in
 value_read line value utf8 e = rw (is_utf8-from_IsUtf8 line utf8, e)
 
-value_none_at : (line : List ℕ) (b : Bool) → is_utf8 line ≡ b → (IsUtf8 line → read line ≡ None) → cond b (read line) None ≡ None
-value_none_at line true e none = none (IsUtf8-from_is_utf8 line e)
+value_none_at : (line : List ℕ) (b : Bool) → is_utf8 line ≡ b → (IsUtf8 line → read line ≡ None) → cond b (ok_or (read line) NotJson) (Err NotJson) ≡ Err NotJson
+value_none_at line true e none = rw (none (IsUtf8-from_is_utf8 line e))
 value_none_at line false e none = refl
 
-pub value_none : (line : List ℕ) → (IsUtf8 line → read line ≡ None) → value_of line ≡ None
-unfolding value_of
+pub value_none : (line : List ℕ) → (IsUtf8 line → read line ≡ None) → value_in line ≡ Err NotJson
+unfolding value_in
 value_none line none = value_none_at line (is_utf8 line) refl none
 
 -- ---- the texts of an array, one after another

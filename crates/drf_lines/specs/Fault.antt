@@ -1,7 +1,7 @@
 -- Why a line is no event, and what a reader answers.
 use Rattle.std.specs.Prelude.{◌≡◌, ℕ, List, Result, Ok, Err, codes}
 use Rattle.drf_lines.specs.declared.fault.LineFault.{LineFault}
-use Rattle.drf_lines.specs.declared.fault.LineFault.TheVariants.{NotJson, BadShape, BadText}
+use Rattle.drf_lines.specs.declared.fault.LineFault.TheVariants.{LineTooLong, NotJson, BadShape, BadText}
 use Rattle.drf_lines.specs.declared.fault.LineError.{LineError}
 use Rattle.drf_lines.specs.declared.fault.LineError.TheVariants.{Fault, Memory}
 use Rattle.drf_role.specs.declared.name.NameFault.{NameFault}
@@ -11,15 +11,28 @@ use Rattle.drf_role.specs.declared.role.RoleFault.TheVariants as role_faults
 
 -- the number that a fault is told by
 abbrev pub fault_number : LineFault → ℕ
+fault_number LineTooLong = 34
 fault_number NotJson = 31
 fault_number BadShape = 32
 fault_number BadText = 33
 
 -- the name that it is told by
 abbrev pub fault_name : LineFault → List ℕ
+fault_name LineTooLong = codes "LineTooLong"
 fault_name NotJson = codes "NotJson"
 fault_name BadShape = codes "BadShape"
 fault_name BadText = codes "BadText"
+
+infixr 10 ◌>>=◌
+-- a step, and the next one with what it found
+abbrev pub ◌>>=◌ : {A B : Type 0} → Result A LineFault → (A → Result B LineFault) → Result B LineFault
+◌>>=◌ (Ok x) next = next x
+◌>>=◌ (Err fault) next = Err fault
+
+-- a step gave what is meant, seen by `view`, or told the fault that there is
+abbrev pub IsFoundAs : {A B : Type 0} → (A → B) → Result A LineFault → Result B LineFault → Type 0
+IsFoundAs view (Ok x) meaning = meaning ≡ Ok (view x)
+IsFoundAs view (Err fault) meaning = meaning ≡ Err fault
 
 -- a reader gave what is meant, seen by `view`, or told the fault that there is, or memory ran out
 abbrev pub IsReadAs : {A B : Type 0} → (A → B) → Result A LineError → Result B LineFault → Type 0

@@ -1,5 +1,7 @@
--- What a line means: an event, or the fault for which it is none.
-use Rattle.std.specs.Prelude.{ℕ, Bool, false, ◌==◌, suc, List, [], ◌∷◌, Option, Some, None, Result, Err, option_map, option_and_then, if◌then◌else◌, codes}
+-- What a line means: an event, or the fault for which it is none. It is read step by step: its JSON value, the text under
+-- `event`, the keys of that event with what stands there, and then the texts. The first step that finds nothing tells its
+-- fault.
+use Rattle.std.specs.Prelude.{ℕ, ◌+◌, Bool, false, ◌==◌, suc, List, [], ◌∷◌, length, nat_lt, Option, Some, Result, Ok, Err, option_map, option_and_then, if◌then◌else◌, codes}
 use Rattle.std.specs.Option.{ok_or, option_map_or}
 use Rattle.std.specs.Str.{is_utf8}
 use Rattle.serde_json.specs.Data.{Data, Items, no_items, item, Members, no_members, member}
@@ -9,15 +11,20 @@ use Rattle.drf_role.specs.Text.{same_text}
 use Rattle.drf_rows.specs.declared.event.Event.{Event}
 use Rattle.drf_rows.specs.declared.event.Event.TheVariants.{AddAgent, AddFramework, Cycle}
 use Rattle.drf_lines.specs.declared.fault.LineFault.{LineFault}
-use Rattle.drf_lines.specs.declared.fault.LineFault.TheVariants.{NotJson, BadShape, BadText}
-use Rattle.drf_lines.specs.Words.{is_name, is_plain_role}
-use Rattle.drf_lines.specs.Total.{total_of}
+use Rattle.drf_lines.specs.declared.fault.LineFault.TheVariants.{LineTooLong, NotJson, BadShape}
+use Rattle.drf_lines.specs.Fault.{◌>>=◌}
+use Rattle.drf_lines.specs.Words.{name_in, roles_in}
+use Rattle.drf_lines.specs.Total.{total_in}
 
--- the JSON value that a line is, if it is UTF-8 and one
-unfoldable pub value_of : List ℕ → Option Data
-value_of line = if is_utf8 line then read line else None
+-- how many bytes a line has at most, without its line feed
+abbrev pub longest_line : ℕ
+longest_line = 65536
 
--- ---- shapes: which members an object has, and what stands there
+-- the JSON value of a line, if it is UTF-8 and one
+unfoldable pub value_in : List ℕ → Result Data LineFault
+value_in line = if is_utf8 line then ok_or (read line) NotJson else Err NotJson
+
+-- ---- the members of an object
 
 abbrev pub member_count : Members → ℕ
 member_count no_members = 0
@@ -25,7 +32,11 @@ member_count (member key value members) = suc (member_count members)
 
 -- the value is an object of that many members; it has each key once
 unfoldable pub has_members : ℕ → Data → Bool
-has_members n value = option_map_or (λ members. member_count members == n) (as_object value) false
+has_members count value = option_map_or (λ members. member_count members == count) (as_object value) false
+
+-- the object has so many keys besides `event`
+unfoldable pub keys : ℕ → Data → Result (Unit {0}) LineFault
+keys count value = if has_members (count + 1) value then Ok tt else Err BadShape
 
 -- the text of each item, if each is one
 abbrev pub texts_of : Items → Option (List (List ℕ))
@@ -33,68 +44,46 @@ texts_of no_items = Some []
 texts_of (item value items) = option_and_then (λ text. option_map (λ texts. text ∷ texts) (texts_of items)) (as_str value)
 
 -- the text, the whole number and the texts under a key
-unfoldable pub text_at : List ℕ → Data → Option (List ℕ)
-text_at key value = option_and_then as_str (get key value)
+unfoldable pub text_at : List ℕ → Data → Result (List ℕ) LineFault
+text_at key value = ok_or (option_and_then as_str (get key value)) BadShape
 
-unfoldable pub number_at : List ℕ → Data → Option ℕ
-number_at key value = option_and_then as_u64 (option_and_then as_number (get key value))
+unfoldable pub number_at : List ℕ → Data → Result ℕ LineFault
+number_at key value = ok_or (option_and_then as_u64 (option_and_then as_number (get key value))) BadShape
 
-unfoldable pub texts_at : List ℕ → Data → Option (List (List ℕ))
-texts_at key value = option_and_then texts_of (option_and_then as_array (get key value))
+unfoldable pub texts_at : List ℕ → Data → Result (List (List ℕ)) LineFault
+texts_at key value = ok_or (option_and_then texts_of (option_and_then as_array (get key value))) BadShape
 
--- what stands under the keys of an agent's event, besides `event`
-unfoldable pub agent_shape : Data → Option (List ℕ × List ℕ)
-agent_shape value =
-    if has_members 3 value
-    then option_and_then (λ agent. option_map (λ total. (agent, total)) (text_at (codes "total") value)) (text_at (codes "agent") value)
-    else None
+-- ---- each event: the keys besides `event` and what stands there, and then the texts
 
--- of a framework's
-unfoldable pub framework_shape : Data → Option (List ℕ × List (List ℕ))
-framework_shape value =
-    if has_members 3 value
-    then option_and_then (λ framework. option_map (λ roles. (framework, roles)) (texts_at (codes "roles") value)) (text_at (codes "framework") value)
-    else None
+unfoldable pub agent_event : Data → Result Event LineFault
+agent_event value =
+    keys 2 value >>= λ _. text_at (codes "agent") value >>= λ agent. text_at (codes "total") value >>= λ total.
+    name_in agent >>= λ agent. total_in total >>= λ total. Ok (AddAgent agent total)
 
--- and of a cycle
-unfoldable pub cycle_shape : Data → Option ℕ
-cycle_shape value = if has_members 2 value then number_at (codes "at") value else None
+unfoldable pub framework_event : Data → Result Event LineFault
+framework_event value =
+    keys 2 value >>= λ _. text_at (codes "framework") value >>= λ framework. texts_at (codes "roles") value >>= λ roles.
+    name_in framework >>= λ framework. roles_in roles >>= λ roles. Ok (AddFramework framework roles)
 
--- ---- texts: what they say, if they are what is asked for
+unfoldable pub cycle_event : Data → Result Event LineFault
+cycle_event value = keys 1 value >>= λ _. number_at (codes "at") value >>= λ at. Ok (Cycle at)
 
--- no role, or one of one component
-abbrev pub roles_of : List (List ℕ) → Option (List (List (List ℕ)))
-roles_of [] = Some []
-roles_of (role ∷ []) = if is_plain_role role then Some ((role ∷ []) ∷ []) else None
-roles_of (role ∷ other ∷ roles) = None
+-- the events by name
+abbrev pub events : List (List ℕ × (Data → Result Event LineFault))
+events =
+    (codes "add_agent", agent_event)
+    ∷ (codes "add_framework", framework_event)
+    ∷ (codes "cycle", cycle_event)
+    ∷ []
 
-unfoldable pub agent_event : List ℕ × List ℕ → Option Event
-agent_event texts = if is_name texts.0 then option_map (AddAgent texts.0) (total_of texts.1) else None
+-- what a value means whose `event` is that name
+abbrev pub event_among : List (List ℕ × (Data → Result Event LineFault)) → List ℕ → Data → Result Event LineFault
+event_among [] name value = Err BadShape
+event_among (event ∷ events) name value = if same_text name event.0 then event.1 value else event_among events name value
 
-unfoldable pub framework_event : List ℕ × List (List ℕ) → Option Event
-framework_event texts = if is_name texts.0 then option_map (AddFramework texts.0) (roles_of texts.1) else None
-
--- ---- events: all shapes before any text
-
-abbrev pub event_by : {A : Type 0} → Option A → (A → Option Event) → Result Event LineFault
-event_by None event = Err BadShape
-event_by (Some shape) event = ok_or (event shape) BadText
-
--- what a value means whose `event` is that text
-unfoldable pub meaning_by : List ℕ → Data → Result Event LineFault
-meaning_by event value =
-    if same_text event (codes "add_agent") then event_by (agent_shape value) agent_event
-    else (if same_text event (codes "add_framework") then event_by (framework_shape value) framework_event
-    else (if same_text event (codes "cycle") then event_by (cycle_shape value) (λ at. Some (Cycle at)) else Err BadShape))
-
-abbrev pub meaning_or : Option (List ℕ) → Data → Result Event LineFault
-meaning_or None value = Err BadShape
-meaning_or (Some event) value = meaning_by event value
-
-unfoldable pub meaning_of_value : Option Data → Result Event LineFault
-meaning_of_value None = Err NotJson
-meaning_of_value (Some value) = meaning_or (text_at (codes "event") value) value
+unfoldable pub event_in : Data → Result Event LineFault
+event_in value = text_at (codes "event") value >>= λ name. event_among events name value
 
 -- what a line means
 unfoldable pub meaning_of : List ℕ → Result Event LineFault
-meaning_of line = meaning_of_value (value_of line)
+meaning_of line = if nat_lt longest_line (length line) then Err LineTooLong else (value_in line >>= event_in)

@@ -1,8 +1,11 @@
 -- Resources as text: pieces `name:number` joined by `;`.
-use Rattle.std.specs.Prelude.{ℕ, Bool, true, not, ◌&&◌, ◌==◌, List, [], ◌∷◌, ◌++◌, length, map, fold, Option, Some, None, option_map, option_and_then, if◌then◌else◌}
+use Rattle.std.specs.Prelude.{ℕ, Bool, true, not, ◌&&◌, ◌==◌, List, [], ◌∷◌, ◌++◌, length, map, fold, Option, Some, None, Result, option_map, option_and_then, if◌then◌else◌}
+use Rattle.std.specs.Option.{ok_or}
 use Rattle.std.specs.List.{list_any, slice_split, before_first, after_first, join_with_byte}
 use Rattle.drf_bundle.specs.Quantities.{is_named, with_amount, without_zeros}
 use Rattle.drf_bundle.specs.declared.quantities.Entry.{Entry}
+use Rattle.drf_lines.specs.declared.fault.LineFault.{LineFault}
+use Rattle.drf_lines.specs.declared.fault.LineFault.TheVariants.{BadText}
 use Rattle.drf_lines.specs.Words.{is_label}
 use Rattle.drf_lines.specs.Amount.{amount_of, amount_text}
 
@@ -44,6 +47,10 @@ amounts_of pieces = option_and_then (λ es. if is_distinct es then Some (in_orde
 -- the resources that a text says; an amount of 0 is none
 unfoldable pub total_of : List ℕ → Option (List Entry)
 total_of text = option_map without_zeros (amounts_of (pieces_of text))
+
+-- the same as a step of a reader
+unfoldable pub total_in : List ℕ → Result (List Entry) LineFault
+total_in text = ok_or (total_of text) BadText
 
 abbrev pub entry_text : Entry → List ℕ
 entry_text e = e.label ++ 58 ∷ amount_text e.amount

@@ -1,8 +1,10 @@
 -- The tests on the texts that events name: names, labels and roles.
-use Rattle.std.specs.Prelude.{ℕ, Bool, not, ◌&&◌, ◌||◌, ◌==◌, List, length, nat_le, slice_index, codes}
+use Rattle.std.specs.Prelude.{ℕ, Bool, not, ◌&&◌, ◌||◌, ◌==◌, List, [], ◌∷◌, Result, Ok, Err, if◌then◌else◌, length, nat_le, slice_index, codes}
 use Rattle.std.specs.List.{list_all}
 use Rattle.std.specs.Char.{is_ascii_alphanumeric}
 use Rattle.drf_role.specs.Text.{same_text}
+use Rattle.drf_lines.specs.declared.fault.LineFault.{LineFault}
+use Rattle.drf_lines.specs.declared.fault.LineFault.TheVariants.{BadText}
 
 -- a letter, a digit, `_`, `-` or `.`
 abbrev pub is_name_byte : ℕ → Bool
@@ -32,3 +34,14 @@ unfoldable pub is_plain_role : List ℕ → Bool
 is_plain_role text =
     is_short text && list_all is_role_byte text
     && not (slice_index text 0 == 45 || (same_text text (codes ".") || same_text text (codes "..")))
+
+-- ---- what a text says, if it is what is asked for
+
+unfoldable pub name_in : List ℕ → Result (List ℕ) LineFault
+name_in text = if is_name text then Ok text else Err BadText
+
+-- no role, or one of one component
+unfoldable pub roles_in : List (List ℕ) → Result (List (List (List ℕ))) LineFault
+roles_in [] = Ok []
+roles_in (role ∷ []) = if is_plain_role role then Ok ((role ∷ []) ∷ []) else Err BadText
+roles_in (role ∷ other ∷ roles) = Err BadText

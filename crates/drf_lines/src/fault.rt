@@ -8,6 +8,9 @@ use thiserror::Error;
 /// Why a line is no event.
 #[derive(Clone, Copy, Debug, PartialEq, Eq, Error)]
 pub enum LineFault {
+    /// It has more than 65,536 bytes.
+    #[error("too long")]
+    LineTooLong,
     #[error("not JSON")]
     NotJson,
     #[error("not the shape of an event")]
@@ -24,6 +27,7 @@ impl LineFault {
         ensures { result ≡ fault_number self }
     {
         match self {
+            LineFault::LineTooLong => 34,
             LineFault::NotJson => 31,
             LineFault::BadShape => 32,
             LineFault::BadText => 33,
@@ -35,6 +39,7 @@ impl LineFault {
         ensures { result.now ≡ fault_name self }
     {
         match self {
+            LineFault::LineTooLong => "LineTooLong",
             LineFault::NotJson => "NotJson",
             LineFault::BadShape => "BadShape",
             LineFault::BadText => "BadText",

@@ -1,10 +1,10 @@
 //! The reader of a line.
-ghost use Rattle.std.specs.Prelude.{◌≡◌, Some, codes, map, option_map, option_and_then};
-ghost use Rattle.std.specs.Option.{ok_or};
-ghost use Rattle.serde_json.specs.Find.{get, as_array};
+ghost use Rattle.std.specs.Prelude.{◌≡◌, ◌<◌, map, option_map, option_and_then};
+ghost use Rattle.serde_json.specs.Find.{get, as_str, as_number, as_u64, as_array};
 ghost use Rattle.serde_json.specs.View.{view, items_view};
-ghost use Rattle.drf_lines.specs.Fault.{IsReadAs, IsReadOf};
-ghost use Rattle.drf_lines.specs.Meaning.{value_of, has_members, text_at, number_at, texts_at, agent_shape, framework_shape, cycle_shape, agent_event, framework_event, roles_of, event_by, meaning_or, meaning_of};
+ghost use Rattle.drf_lines.specs.Fault.{IsFoundAs, IsReadAs, IsReadOf};
+ghost use Rattle.drf_lines.specs.Words.{roles_in};
+ghost use Rattle.drf_lines.specs.Meaning.{value_in, has_members, keys, text_at, number_at, texts_at, agent_event, framework_event, cycle_event, event_in, meaning_of};
 
 use crate::fault::{LineError, LineFault};
 use crate::total::read_total;
@@ -16,7 +16,7 @@ use std::alloc::Global;
 
 /// The JSON value of a line.
 fn read_value(alloc: Global, line: &[u8]) -> Result<Value, LineError>
-    ensures { IsReadAs view result (ok_or (value_of line.now) LineFault.NotJson) }
+    ensures { IsReadAs view result (value_in line.now) }
 {
     match Value::from_slice(alloc, line) {
         Ok(value) => Ok(value),
@@ -38,18 +38,42 @@ fn has_members(value: &Value, count: usize) -> bool
     }
 }
 
-#[tactic(auto, unfolding(crate::specs::Meaning::text_at))]
-fn text_at<'a>(value: &'a Value, key: &str) -> Option<&'a str>
-    ensures { option_map (λ text. text.now) result ≡ text_at key.now (view value.now) }
+/// The object has so many keys besides `event`.
+#[tactic(auto, unfolding(crate::specs::Meaning::keys))]
+fn keys(value: &Value, count: usize) -> Result<(), LineFault>
+    requires { count < 100 }
+    ensures { result ≡ keys count (view value.now) }
+{
+    if !has_members(value, count + 1) {
+        return Err(LineFault::BadShape);
+    }
+    Ok(())
+}
+
+fn find_text<'a>(value: &'a Value, key: &str) -> Option<&'a str>
+    ensures { option_map (λ text. text.now) result ≡ option_and_then as_str (get key.now (view value.now)) }
 {
     value.get(key)?.as_str()
 }
 
-#[tactic(auto, unfolding(crate::specs::Meaning::number_at))]
-fn number_at(value: &Value, key: &str) -> Option<u64>
-    ensures { result ≡ number_at key.now (view value.now) }
+#[tactic(auto, unfolding(crate::specs::Meaning::text_at))]
+fn text_at<'a>(value: &'a Value, key: &str) -> Result<&'a str, LineFault>
+    ensures { IsFoundAs (λ text. text.now) result (text_at key.now (view value.now)) }
+{
+    find_text(value, key).ok_or(LineFault::BadShape)
+}
+
+fn find_number(value: &Value, key: &str) -> Option<u64>
+    ensures { result ≡ option_and_then as_u64 (option_and_then as_number (get key.now (view value.now))) }
 {
     value.get(key)?.as_u64()
+}
+
+#[tactic(auto, unfolding(crate::specs::Meaning::number_at))]
+fn number_at(value: &Value, key: &str) -> Result<u64, LineFault>
+    ensures { result ≡ number_at key.now (view value.now) }
+{
+    find_number(value, key).ok_or(LineFault::BadShape)
 }
 
 fn items_at<'a>(value: &'a Value, key: &str) -> Option<&'a Vec<Value>>
@@ -60,8 +84,7 @@ fn items_at<'a>(value: &'a Value, key: &str) -> Option<&'a Vec<Value>>
 
 /// The texts of the array under a key.
 fn texts_at<'a>(alloc: Global, value: &'a Value, key: &str) -> Result<Vec<&'a str>, LineError>
-    ensures { IsReadAs (λ texts. map (λ text. text.now) texts.items) result
-        (ok_or (texts_at key.now (view value.now)) LineFault.BadShape) }
+    ensures { IsReadAs (λ texts. map (λ text. text.now) texts.items) result (texts_at key.now (view value.now)) }
 {
     let items = items_at(value, key).ok_or(LineFault::BadShape)?;
     let mut texts = Vec::new(alloc);
@@ -71,42 +94,23 @@ fn texts_at<'a>(alloc: Global, value: &'a Value, key: &str) -> Result<Vec<&'a st
     Ok(texts)
 }
 
-#[tactic(auto, unfolding(crate::specs::Meaning::agent_shape))]
-fn agent_shape(value: &Value) -> Option<(&str, &str)>
-    ensures { option_map (λ texts. (texts.0.now, texts.1.now)) result ≡ agent_shape (view value.now) }
-{
-    if !has_members(value, 3) {
-        return None;
-    }
-    Some((text_at(value, "agent")?, text_at(value, "total")?))
-}
-
 #[tactic(auto, unfolding(crate::specs::Meaning::agent_event))]
 fn read_agent(alloc: Global, value: &Value) -> Result<Event, LineError>
-    ensures { IsReadOf result (event_by (agent_shape (view value.now)) agent_event) }
+    ensures { IsReadOf result (agent_event (view value.now)) }
 {
-    let (agent, total) = agent_shape(value).ok_or(LineFault::BadShape)?;
+    keys(value, 2)?;
+    let agent = text_at(value, "agent")?;
+    let total = text_at(value, "total")?;
     Ok(Event::AddAgent {
         agent: read_name(alloc, agent)?,
         total: read_total(alloc, total)?,
     })
 }
 
-#[tactic(auto, unfolding(crate::specs::Meaning::framework_shape))]
-fn framework_shape(alloc: Global, value: &Value) -> Result<(&str, Vec<&str>), LineError>
-    ensures { IsReadAs (λ texts. (texts.0.now, map (λ text. text.now) texts.1.items)) result
-        (ok_or (framework_shape (view value.now)) LineFault.BadShape) }
-{
-    if !has_members(value, 3) {
-        return Err(LineError::Fault(LineFault::BadShape));
-    }
-    let framework = text_at(value, "framework").ok_or(LineFault::BadShape)?;
-    Ok((framework, texts_at(alloc, value, "roles")?))
-}
-
 /// Reads no role, or one of one component.
+#[tactic(auto, unfolding(crate::specs::Words::roles_in))]
 fn read_roles(alloc: Global, texts: &[&str]) -> Result<Table<Role>, LineError>
-    ensures { IsReadOf result (ok_or (roles_of (map (λ text. text.now) texts.now)) LineFault.BadText) }
+    ensures { IsReadOf result (roles_in (map (λ text. text.now) texts.now)) }
 {
     let mut roles = Vec::new(alloc);
     match texts {
@@ -119,31 +123,31 @@ fn read_roles(alloc: Global, texts: &[&str]) -> Result<Table<Role>, LineError>
 
 #[tactic(auto, unfolding(crate::specs::Meaning::framework_event))]
 fn read_framework(alloc: Global, value: &Value) -> Result<Event, LineError>
-    ensures { IsReadOf result (event_by (framework_shape (view value.now)) framework_event) }
+    ensures { IsReadOf result (framework_event (view value.now)) }
 {
-    let (framework, roles) = framework_shape(alloc, value)?;
+    keys(value, 2)?;
+    let framework = text_at(value, "framework")?;
+    let roles = texts_at(alloc, value, "roles")?;
     Ok(Event::AddFramework {
         framework: read_name(alloc, framework)?,
         roles: read_roles(alloc, &roles)?,
     })
 }
 
-#[tactic(auto, unfolding(crate::specs::Meaning::cycle_shape))]
+#[tactic(auto, unfolding(crate::specs::Meaning::cycle_event))]
 fn read_cycle(value: &Value) -> Result<Event, LineError>
-    ensures { IsReadOf result (event_by (cycle_shape (view value.now)) (λ at. Some (Event.Cycle at))) }
+    ensures { IsReadOf result (cycle_event (view value.now)) }
 {
-    if !has_members(value, 2) {
-        return Err(LineError::Fault(LineFault::BadShape));
-    }
-    let at = number_at(value, "at").ok_or(LineFault::BadShape)?;
+    keys(value, 1)?;
+    let at = number_at(value, "at")?;
     Ok(Event::Cycle { at })
 }
 
-#[tactic(auto, unfolding(crate::specs::Meaning::meaning_by))]
+#[tactic(auto, unfolding(crate::specs::Meaning::event_in))]
 fn read_object(alloc: Global, value: &Value) -> Result<Event, LineError>
-    ensures { IsReadOf result (meaning_or (text_at (codes "event") (view value.now)) (view value.now)) }
+    ensures { IsReadOf result (event_in (view value.now)) }
 {
-    match text_at(value, "event").ok_or(LineFault::BadShape)? {
+    match text_at(value, "event")? {
         "add_agent" => read_agent(alloc, value),
         "add_framework" => read_framework(alloc, value),
         "cycle" => read_cycle(value),
@@ -151,10 +155,16 @@ fn read_object(alloc: Global, value: &Value) -> Result<Event, LineError>
     }
 }
 
+/// How many bytes a line has at most, without its line feed.
+const LONGEST_LINE: usize = 65_536;
+
 /// Reads a line, which is an event or has a fault. All shapes are looked at before any text.
 pub fn read_event(alloc: Global, line: &[u8]) -> Result<Event, LineError>
     ensures { IsReadOf result (meaning_of line.now) }
 {
+    if line.len() > LONGEST_LINE {
+        return Err(LineError::Fault(LineFault::LineTooLong));
+    }
     let value = read_value(alloc, line)?;
     read_object(alloc, &value)
 }

@@ -3,7 +3,7 @@ ghost use Rattle.std.specs.Prelude.{◌≡◌, ◌++◌, IfOk, OnOk, string_byte
 ghost use Rattle.std.specs.Option.{ok_or};
 ghost use Rattle.std.specs.List.{slice_split};
 ghost use Rattle.drf_lines.specs.Fault.{IsReadOf};
-ghost use Rattle.drf_lines.specs.Total.{is_semicolon, entry_of, amounts_of, total_of, entry_text, resources_text};
+ghost use Rattle.drf_lines.specs.Total.{is_semicolon, entry_of, amounts_of, total_in, entry_text, resources_text};
 
 use crate::amount::{push_amount, read_amount};
 use crate::fault::{LineError, LineFault};
@@ -41,7 +41,7 @@ fn read_pieces(alloc: Global, text: &str) -> Result<Quantities, LineError>
 
 /// Reads the resources of an agent. The empty text has none.
 pub fn read_total(alloc: Global, text: &str) -> Result<Bundle, LineError>
-    ensures { IsReadOf result (ok_or (total_of text.now) LineFault.BadText) }
+    ensures { IsReadOf result (total_in text.now) }
 {
     if text.is_empty() {
         return Ok(Bundle::empty(alloc));

@@ -1,7 +1,7 @@
 //! Names, labels and roles as texts of a line.
 ghost use Rattle.std.specs.Prelude.{[], ◌∷◌, if◌then◌else◌};
 ghost use Rattle.drf_lines.specs.Fault.{IsReadOf};
-ghost use Rattle.drf_lines.specs.Words.{is_name, is_label, is_plain_role};
+ghost use Rattle.drf_lines.specs.Words.{name_in, is_label, is_plain_role};
 
 use crate::fault::{LineError, LineFault};
 use drf_role::{Label, Name, Role};
@@ -9,7 +9,7 @@ use std::alloc::Global;
 
 /// Reads the name of an agent or a framework.
 pub fn read_name(alloc: Global, text: &str) -> Result<Name, LineError>
-    ensures { IsReadOf result (if is_name text.now then Ok text.now else Err LineFault.BadText) }
+    ensures { IsReadOf result (name_in text.now) }
 {
     Ok(Name::read(alloc, text)?)
 }

@@ -1,69 +1,120 @@
-use Rattle.std.proofs.Common.{◌≡◌, ◌<◌, false, [], length, refl, arith}
-use Rattle.std.proofs.lemmas.List.Elements.{All-nil}
-use Rattle.drf_journal.specs.Lines.{is_line_feed}
-use Rattle.drf_journal.specs.Session.{IsWithinLine}
-use Rattle.drf_journal.proofs.Streams.{serving-opens, serving-waits, serving-takes, serving-counts}
-use Rattle.drf_journal.proofs.Outputs.{serving-ends}
+use Rattle.std.proofs.Common.{◌<◌, ◌≤◌, [], length, take, refl, ap, ◌∙◌, arith}
+use Rattle.std.proofs.lemmas.Result.{err_from_is_err_and}
+use Rattle.std.proofs.lemmas.List.{length-take-le}
+use Rattle.std.proofs.KnownBytes.{Keeps-refl}
+use Rattle.drf_journal.specs.State.{State}
+use Rattle.drf_journal.proofs.Pieces.{few_lines}
+use Rattle.drf_journal.proofs.Served.{serving-begins, never-served, serving-takes, run-unread, run-forgotten, run-unwritten, run-ends, run-forgets, run-fails}
 use Rattle.drf_journal.proofs.engine.serve.Goals as goal
-use Rattle.drf_journal.proofs.engine.serve.Goals.{in-Ok+in_ok-taken-in-Ok+in_ok-sent-in-Ok, in-Err}
+
+pub returns-in_err-session-clause-run : goal.returns-in_err-session-clause-run
+returns-in_err-session-clause-run g c =
+    let p = err_from_is_err_and c.from_residual.result c.from_residual.ensures.1 in
+    rw (p.1, p.2) (never-served c.args.limits c.args.echo _ _)
+
+pub returns-in_err-buffer-clause-run : goal.returns-in_err-buffer-clause-run
+returns-in_err-buffer-clause-run g c =
+    let p = err_from_is_err_and c.from_residual-in_err-buffer.result c.from_residual-in_err-buffer.ensures.1 in
+    rw (p.1, p.2) (never-served c.args.limits c.args.echo _ _)
 
 pub loop-turn-init : goal.loop-turn-init
-loop-turn-init g c =
-    let none : IsWithinLine [] = All-nil (λ b. is_line_feed b ≡ false) in
-    record {
-      serving = rw (c.in_ok-session.ensures.core, c.in_ok-session.ensures.pending, c.in_ok-session.ensures.lines) (serving-opens _ _ _);
-      within = rw c.in_ok-session.ensures.pending none;
-      replies = c.in_ok-session.ensures.replies;
-      chunk = let a = c.as_mut_slice-chunk.ensures.len in let b = c.in_ok-buffer.ensures.len in omega arith;
-      few = rw c.in_ok-session.ensures.lines (omega arith);
-    }
+loop-turn-init g c = record {
+  serving = serving-begins _ _ _ _ _ c.in_ok-session.ensures;
+  reads = c.requires.reader.0;
+  reader_sound = c.requires.reader.1;
+  writer_sound = c.requires.writer.1;
+  chunk = let a = c.as_mut_slice-chunk.ensures.len in let b = c.in_ok-buffer.ensures.len in omega arith;
+  few = let none = ap (λ (s : State). s.lines) c.in_ok-session.ensures in omega arith;
+}
 
-pub returns-in-Ok-eq0-clause-output : goal.returns-in-Ok-eq0-clause-output
-returns-in-Ok-eq0-clause-output g c =
-    let bytes = rw (c.in-Ok-eq0.is, c.in-Ok-eq0.field-0-test) at c.read.ensures.bytes in
-    let some : 0 < length c.read.new.buf = let a = c.read.auto.buf in let b = c.loop-turn.invariant.chunk in omega arith in
-    let sent = rw (c.in_ok-close-in-Ok-eq0.ensures.replies, c.loop-turn.invariant.replies) at c.in_ok-send-in-Ok-eq0.ensures.sent in
-    serving-ends _ _ _ _ _ _ _ _ _ _ c.loop-turn.invariant.serving bytes.0 (bytes.1 refl some) sent
+pub returns-in_default-clause-run : goal.returns-in_default-clause-run
+returns-in_default-clause-run g c = run-unread _ _ _ _ _ _ _ (g.W.Write.contents c.loop-turn.writer.inner) _ c.loop-turn.invariant.serving c.in_default.ensures.bytes
 
-pub returns-in-Ok-eq0-clause-lines : goal.returns-in-Ok-eq0-clause-lines
-returns-in-Ok-eq0-clause-lines g c =
-    let bytes = rw (c.in-Ok-eq0.is, c.in-Ok-eq0.field-0-test) at c.read.ensures.bytes in
-    let some : 0 < length c.read.new.buf = let a = c.read.auto.buf in let b = c.loop-turn.invariant.chunk in omega arith in
-    rw (c.in_ok-send-in-Ok-eq0.ensures.lines, c.in_ok-close-in-Ok-eq0.ensures.lines)
-    (serving-counts _ _ _ _ _ _ (g.W.Write.contents c.loop-turn.writer) _ _ _ c.loop-turn.invariant.serving bytes.0 (bytes.1 refl some))
+pub returns-in_err-close-clause-run : goal.returns-in_err-close-clause-run
+returns-in_err-close-clause-run g c =
+    let p = err_from_is_err_and c.from_residual-in_err-close.result c.from_residual-in_err-close.ensures.1 in
+    let bytes = rw c.if-count-eq0.true at c.in-Ok.ensures.bytes in
+    rw (p.1, p.2) (run-forgotten _ _ _ _ _ _ _ (g.W.Write.contents c.loop-turn.writer.inner) _ c.loop-turn.invariant.serving bytes.0)
 
-pub loop-turn-preserved : goal.loop-turn-preserved
-loop-turn-preserved g c = elim c.match-read.branch [
-  | in-Ok+in_ok-taken-in-Ok+in_ok-sent-in-Ok w ↦
-      let sent = w.in_ok-sent-in-Ok.ensures in
-      let bytes = w.in-Ok.ensures.bytes in
-      let taken = rw c.loop-turn.invariant.replies at w.in_ok-taken-in-Ok.ensures.taken in
-      rw (w.session-is, w.writer-is) (record {
-        serving = rw (sent.core, sent.pending, sent.lines) (serving-takes _ _ _ _ _ _ _ _ _ _ c.loop-turn.invariant.serving _ _ _ _ _ bytes.0 taken sent.sent);
-        within = rw sent.pending w.in_ok-taken-in-Ok.ensures.within;
-        replies = sent.replies;
-        chunk = let a = c.read.auto.buf in let b = c.loop-turn.invariant.chunk in omega arith;
-        few =
-            let a = c.loop-turn.invariant.few in
-            let b = w.in_ok-taken-in-Ok.ensures.few in
-            let d = w.in-Ok.ensures.bound in
-            let e = c.read.auto.buf in
-            let f = c.loop-turn.invariant.chunk in
-            rw sent.lines (omega arith);
-      })
-  | in-Err w ↦
-      let kept = rw w.in-Err.is at c.read.ensures.bytes in
-      rw (w.session-is, w.writer-is) (record {
-        serving = serving-waits _ _ _ _ _ _ (g.W.Write.contents c.loop-turn.writer) _ _ _ c.loop-turn.invariant.serving kept;
-        within = c.loop-turn.invariant.within;
-        replies = c.loop-turn.invariant.replies;
-        chunk = let a = c.read.auto.buf in let b = c.loop-turn.invariant.chunk in omega arith;
-        few = let a = c.loop-turn.invariant.few in omega arith;
-      })
-]
+pub returns-in_err-close-clause-cause : goal.returns-in_err-close-clause-cause
+returns-in_err-close-clause-cause g c =
+    let p = err_from_is_err_and c.from_residual-in_err-close.result c.from_residual-in_err-close.ensures.1 in
+    rw (p.1, p.2) (rw c.loop-turn.invariant.reader_sound at c.in-Ok.ensures.failed, c.loop-turn.invariant.writer_sound)
 
-pub returns-in-Ok-eq0-clause-read : goal.returns-in-Ok-eq0-clause-read
-returns-in-Ok-eq0-clause-read g c =
-    let bytes = rw (c.in-Ok-eq0.is, c.in-Ok-eq0.field-0-test) at c.read.ensures.bytes in
+pub returns-in_err-send-clause-run : goal.returns-in_err-send-clause-run
+returns-in_err-send-clause-run g c =
+    let p = err_from_is_err_and c.from_residual-in_err-send.result c.from_residual-in_err-send.ensures.1 in
+    let bytes = rw c.if-count-eq0.true at c.in-Ok.ensures.bytes in
+    let sent = rw c.in_ok-close.ensures.ok at c.in_err-send.ensures.err in
+    rw (p.1, p.2, c.in_err-send.ensures.fault) (run-unwritten _ _ _ _ _ _ _ _ _ c.loop-turn.invariant.serving bytes.0 sent)
+
+pub returns-in_err-send-clause-cause : goal.returns-in_err-send-clause-cause
+returns-in_err-send-clause-cause g c =
+    let p = err_from_is_err_and c.from_residual-in_err-send.result c.from_residual-in_err-send.ensures.1 in
+    rw (p.1, p.2, c.in_err-send.ensures.fault)
+    (rw c.loop-turn.invariant.reader_sound at c.in-Ok.ensures.failed, c.in_err-send.ensures.failed c.loop-turn.invariant.writer_sound)
+
+pub returns-then-count-eq0-clause-run : goal.returns-then-count-eq0-clause-run
+returns-then-count-eq0-clause-run g c =
+    let bytes = rw c.if-count-eq0.true at c.in-Ok.ensures.bytes in
+    let sent = rw c.in_ok-close.ensures.ok at c.in_ok-send.ensures.sent in
+    let counted = c.lines.ensures ∙ ap (λ (s : State). s.lines) c.in_ok-send.ensures.ok ∙ ap (λ (s : State). s.lines) c.in_ok-close.ensures.ok in
+    run-ends _ _ _ _ _ _ _ _ _ c.loop-turn.invariant.serving c.lines.result bytes.0 sent counted
+
+pub returns-then-count-eq0-clause-read : goal.returns-then-count-eq0-clause-read
+returns-then-count-eq0-clause-read g c =
+    let bytes = rw c.if-count-eq0.true at c.in-Ok.ensures.bytes in
     let some : 0 < length c.read.new.buf = let a = c.read.auto.buf in let b = c.loop-turn.invariant.chunk in omega arith in
     bytes.1 refl some
+
+pub returns-in_err-send-2-clause-run : goal.returns-in_err-send-2-clause-run
+returns-in_err-send-2-clause-run g c =
+    let p = err_from_is_err_and c.from_residual-in_err-send-2.result c.from_residual-in_err-send-2.ensures.1 in
+    rw (p.1, p.2, c.in_err-send-2.ensures.fault)
+    (run-fails _ _ _ _ _ _ _ _ _ c.loop-turn.invariant.serving (take c.in-Ok.count c.read.new.buf) c.take-taken.new.self c.in-Ok.ensures.bytes.0 c.take-taken.ensures.answers
+    c.in_err-send-2.ensures.err)
+
+pub returns-in_err-send-2-clause-cause : goal.returns-in_err-send-2-clause-cause
+returns-in_err-send-2-clause-cause g c =
+    let p = err_from_is_err_and c.from_residual-in_err-send-2.result c.from_residual-in_err-send-2.ensures.1 in
+    rw (p.1, p.2, c.in_err-send-2.ensures.fault)
+    (rw c.loop-turn.invariant.reader_sound at c.in-Ok.ensures.failed, c.in_err-send-2.ensures.failed c.loop-turn.invariant.writer_sound)
+
+pub returns-in_err-taken-clause-run : goal.returns-in_err-taken-clause-run
+returns-in_err-taken-clause-run g c =
+    let p = err_from_is_err_and c.from_residual-in_err-taken.result c.from_residual-in_err-taken.ensures.1 in
+    rw (p.1, p.2)
+    (run-forgets _ _ _ _ _ _ _ _ _ c.loop-turn.invariant.serving (take c.in-Ok.count c.read.new.buf) c.take-taken.new.self c.in-Ok.ensures.bytes.0 c.take-taken.ensures.answers
+    c.in_ok-send-2.ensures.sent)
+
+pub returns-in_err-taken-clause-cause : goal.returns-in_err-taken-clause-cause
+returns-in_err-taken-clause-cause g c =
+    let p = err_from_is_err_and c.from_residual-in_err-taken.result c.from_residual-in_err-taken.ensures.1 in
+    rw (p.1, p.2)
+    (rw c.loop-turn.invariant.reader_sound at c.in-Ok.ensures.failed, c.in_ok-send-2.ensures.failed c.loop-turn.invariant.writer_sound)
+
+pub loop-turn-preserved : goal.loop-turn-preserved
+loop-turn-preserved g c =
+    let piece = take c.in-Ok.count c.read.new.buf in
+    let taken = c.in_ok-taken.ensures.ok in
+    let sent = rw taken at c.in_ok-send-2.ensures.sent in
+    let next = c.in_ok-send-2.ensures.ok ∙ ap (λ (s : State). record s { unsent = [] }) taken in
+    record {
+      serving = serving-takes _ _ _ _ _ _ _ _ _ c.loop-turn.invariant.serving piece _ c.in-Ok.ensures.bytes.0 sent next;
+      reads = let a = c.in-Ok.ensures.calls in let b = c.loop-turn.invariant.reads in let d = c.loop-turn-test.true in omega arith;
+      reader_sound = rw c.loop-turn.invariant.reader_sound at c.in-Ok.ensures.failed;
+      writer_sound = c.in_ok-send-2.ensures.failed c.loop-turn.invariant.writer_sound;
+      chunk = let a = c.read.auto.buf in let b = c.loop-turn.invariant.chunk in omega arith;
+      few =
+          let same = ap (λ (s : State). s.lines) next in
+          let more = few_lines c.loop-turn.session piece in
+          let most : length piece ≤ 65536 =
+          let bound = c.in-Ok.ensures.bound in
+          let whole = length-take-le c.in-Ok.count c.read.new.buf (omega arith) in
+          let a = c.read.auto.buf in let b = c.loop-turn.invariant.chunk in omega arith in
+          let few = c.loop-turn.invariant.few in
+          omega arith;
+    }
+
+pub returns-clause-run : goal.returns-clause-run
+returns-clause-run g c = run-unread _ _ _ _ _ _ _ (g.W.Write.contents c.loop-turn.writer.inner) _ c.loop-turn.invariant.serving (Keeps-refl _)

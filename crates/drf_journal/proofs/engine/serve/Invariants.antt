@@ -1,14 +1,14 @@
-use Rattle.std.proofs.Common.{◌≡◌, ◌*◌, ◌≤◌, [], length}
-use Rattle.drf_core.specs.Machine.{opened}
-use Rattle.drf_journal.specs.Session.{IsWithinLine}
-use Rattle.drf_journal.proofs.Streams.{IsServing}
+use Rattle.std.proofs.Common.{◌≡◌, ◌*◌, ◌≤◌, false, length}
+use Rattle.drf_journal.proofs.Served.{IsServing}
 use Rattle.drf_journal.proofs.engine.serve.Given as goal
 
 abbrev pub invariant-loop-turn : goal.invariant-loop-turn
 invariant-loop-turn g l = record {
-  serving : IsServing (opened l.fn.limits) (g.R.Read.remaining l.fn.reader) (g.R.Read.remaining l.reader) (g.W.Write.contents l.fn.writer) (g.W.Write.contents l.writer) l.session.core l.session.pending.items l.session.lines;
-  within : IsWithinLine l.session.pending.items;
-  replies : l.session.replies.items ≡ [];
+  serving : IsServing l.fn.limits l.fn.echo (g.R.Read.remaining l.fn.reader.inner) (g.R.Read.remaining l.reader.inner)
+      (g.W.Write.contents l.fn.writer.inner) (g.W.Write.contents l.writer.inner) l.session;
+  reads : l.reader.calls ≡ l._turn;
+  reader_sound : l.reader.failed ≡ false;
+  writer_sound : l.writer.failed ≡ false;
   chunk : length l.chunk ≡ 65536;
   few : l.session.lines ≤ l._turn * 65536;
 }

@@ -3,7 +3,7 @@ use Rattle.std.proofs.lemmas.List.{at_drop_more, at_drop_all, map-append}
 use Rattle.std.proofs.lemmas.Result.{err_from_is_err_and}
 use Rattle.std.specs.Option.{ok_or}
 use Rattle.drf_lines.specs.declared.fault.LineFault.TheVariants.{BadShape}
-use Rattle.serde_json.specs.Find.{as_str}
+use Rattle.serde_json.specs.Find.{get, as_str, as_array}
 use Rattle.serde_json.specs.View.{view}
 use Rattle.drf_lines.specs.Meaning.{texts_of, texts_at}
 use Rattle.drf_lines.proofs.Values.{texts_after, texts_after-nil, texts_after-end, texts_after-text, texts_after-none}
@@ -25,6 +25,7 @@ loop-item-init c =
     (texts_after-nil c.in_ok-items.items.now.items ∙ ap (option_and_then texts_of) some)
 
 pub returns-in_err-ok_or : goal.returns-in_err-ok_or
+unfolding texts_at
 returns-in_err-ok_or c =
     let p = err_from_is_err_and c.from_residual-in_err-ok_or.result c.from_residual-in_err-ok_or.ensures.1 in
     let items = c.deref-item-items.result.now in
@@ -32,7 +33,7 @@ returns-in_err-ok_or c =
     let texts = map (λ text. text.now) c.loop-item.texts.items in
     let item = c.item-item.result in
     let none : as_str (view item) ≡ None = sym (rw c.in_err-ok_or.ensures.ok_part at c.as_str.ensures) in
-    let whole : texts_at c.args.key.now (view c.args.value.now) ≡ None =
+    let whole : option_and_then texts_of (option_and_then as_array (get c.args.key.now (view c.args.value.now))) ≡ None =
     sym c.loop-item.invariant ∙ at_drop_more (texts_after texts) items i item c.loop-item-test.true
     ∙ ap (λ x. texts_after texts (x ∷ drop (i + 1) items)) (sym c.item-item.is) ∙ texts_after-none texts item (drop (i + 1) items) none in
     rw (p.1, p.2, whole, fault_of_none _ _ _ c.in_err-ok_or.ensures.ok_part c.in_err-ok_or.ensures.value)
@@ -50,6 +51,7 @@ loop-item-preserved c =
     ∙ ap (λ x. texts_after texts (x ∷ drop (i + 1) items)) (sym c.item-item.is) ∙ texts_after-text texts item (drop (i + 1) items) text some))
 
 pub returns : goal.returns
+unfolding texts_at
 returns c =
     let items = c.deref-item-items.result.now in
     let texts = map (λ text. text.now) c.loop-item.texts.items in

@@ -1,9 +1,10 @@
-use Rattle.std.proofs.Common.{◌≡◌, map, drop}
+use Rattle.std.proofs.Common.{◌≡◌, map, drop, option_and_then}
 use Rattle.serde_json.specs.View.{view}
-use Rattle.drf_lines.specs.Meaning.{texts_at}
+use Rattle.serde_json.specs.Find.{get, as_array}
+use Rattle.drf_lines.specs.Meaning.{texts_of}
 use Rattle.drf_lines.proofs.Values.{texts_after}
 use Rattle.drf_lines.proofs.line.texts_at.Given as goal
 
 abbrev pub invariant-loop-item : goal.invariant-loop-item
 invariant-loop-item l =
-    texts_after (map (λ text. text.now) l.texts.items) (drop l.item-index l.item-items) ≡ texts_at l.key (view l.value)
+    texts_after (map (λ text. text.now) l.texts.items) (drop l.item-index l.item-items) ≡ option_and_then texts_of (option_and_then as_array (get l.key (view l.value)))

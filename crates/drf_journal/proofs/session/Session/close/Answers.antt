@@ -1,32 +1,20 @@
-use Rattle.std.proofs.Common.{◌≡◌, ◌<◌, length, arith, append-nil}
+use Rattle.std.proofs.Common.{◌≡◌, ◌<◌, length, sym, ap, ◌∙◌, subst, OnOk, arith}
 use Rattle.std.proofs.lemmas.Bool.Decides.{nat_tests}
-use Rattle.drf_journal.proofs.Streams.{answered-end, answered-none, count-none, count-one}
+use Rattle.drf_journal.specs.State.{State}
+use Rattle.drf_journal.proofs.Pieces.{end-none, end-some}
 use Rattle.drf_journal.proofs.session.Session.close.Goals as goal
 
-pub returns-then-is_empty-clause-replies : goal.returns-then-is_empty-clause-replies
-returns-then-is_empty-clause-replies g c =
-    let pending = c.args.self.now.pending in
+pub returns-then-is_empty-clause-ok : goal.returns-then-is_empty-clause-ok
+returns-then-is_empty-clause-ok g c =
+    let pending = c.self.inside.pending in
     let counted = pending.ok.0 in
     let none : length pending.items ≡ 0 = grind (arith, nat_tests) in
-    rw (answered-none c.args.self.now.core pending.items none, append-nil)
+    sym (end-none c.args.self.now (ap (λ (s : State). length s.pending) (sym c.self.view_is) ∙ none))
 
-pub returns-then-is_empty-clause-lines : goal.returns-then-is_empty-clause-lines
-returns-then-is_empty-clause-lines g c =
-    let pending = c.args.self.now.pending in
-    let counted = pending.ok.0 in
-    let none : length pending.items ≡ 0 = grind (arith, nat_tests) in
-    rw (count-none pending.items none) (omega arith)
-
-pub returns-clause-replies : goal.returns-clause-replies
-returns-clause-replies g c =
-    let pending = c.args.self.now.pending in
+pub returns-clause-ok : goal.returns-clause-ok
+returns-clause-ok g c =
+    let pending = c.self.inside.pending in
     let counted = pending.ok.0 in
     let some : 0 < length pending.items = grind (arith, nat_tests) in
-    rw (← answered-end c.args.self.now.core pending.items c.requires.within some) c.end_line.ensures.replies
-
-pub returns-clause-lines : goal.returns-clause-lines
-returns-clause-lines g c =
-    let pending = c.args.self.now.pending in
-    let counted = pending.ok.0 in
-    let some : 0 < length pending.items = grind (arith, nat_tests) in
-    rw (count-one pending.items c.requires.within some) c.end_line.ensures.lines
+    let left : 0 < length c.args.self.now.pending = subst (λ (s : State). 0 < length s.pending) c.self.view_is some in
+    subst (λ (s : State). OnOk c.end_line.result (c.end_line.new.self ≡ s)) (sym (end-some c.args.self.now left)) c.end_line.ensures.ok

@@ -1,23 +1,58 @@
-use Rattle.std.proofs.Common.{◌≡◌, false, ◌+◌, ◌-◌, [], length, take, drop, arith}
-use Rattle.std.proofs.lemmas.List.{take_all, length-drop}
-use Rattle.std.proofs.lemmas.List.Elements.{All-nil}
-use Rattle.drf_journal.specs.Lines.{is_line_feed}
-use Rattle.drf_journal.specs.Session.{IsWithinLine}
-use Rattle.drf_journal.proofs.Streams.{takes-line}
+use Rattle.std.proofs.Common.{◌≡◌, ℕ, List, ◌+◌, ◌-◌, ◌≤◌, ◌<◌, [], ◌∷◌, ◌++◌, length, take, drop, refl, sym, ap, ◌∙◌, arith}
+use Rattle.std.proofs.lemmas.Bool.Decides.{nat_tests}
+use Rattle.std.proofs.lemmas.Result.{on_ok_weaker}
+use Rattle.std.proofs.lemmas.List.{take_all, length-drop, length-take-le, length-append}
+use Rattle.drf_journal.specs.State.{State, after_piece}
+use Rattle.drf_journal.specs.Output.{kept_of}
+use Rattle.drf_journal.proofs.Fronts.{front-begins, front-line, front-answers, front-keeps}
+use Rattle.drf_journal.proofs.Pieces.{few_lines, piece-some}
 use Rattle.drf_journal.proofs.session.Session.take.Goals as goal
+
+pub loop-at-init : goal.loop-at-init
+loop-at-init g c = record { front = front-begins _ _; few = omega arith }
 
 pub loop-at-preserved : goal.loop-at-preserved
 loop-at-preserved g c =
     let rest = c.loop-at.rest.now in
     let at = c.in-Some.at in
     let found = c.in-Some.ensures.found in
-    let step = takes-line c.args.self.now.core c.loop-at.self.core _ c.loop-at.self.pending.items rest c.args.self.now.replies.items c.loop-at.self.replies.items c.args.self.now.lines c.loop-at.self.lines at
-    c.loop-at.invariant.taken c.loop-at.invariant.within found.2 found.0 found.1 in
+    let next = c.end_line.new.self in
+    let step : next ≡ after_piece c.loop-at.self (take at rest ++ 10 ∷ []) = c.in_ok-end_line.ensures.ok in
     let tail : take (length rest - (at + 1)) (drop (at + 1) rest) ≡ drop (at + 1) rest = take_all _ _ (simp length-drop (omega arith)) in
-    let core = rw c.in_ok-extend_from_slice.ensures.items at c.in_ok-end_line.ensures.core in
-    let replies = rw c.in_ok-extend_from_slice.ensures.items at c.in_ok-end_line.ensures.replies in
-    record {
-      taken = rw (core, replies, c.in_ok-end_line.ensures.pending, c.in_ok-end_line.ensures.lines, tail) step;
-      within = let none : IsWithinLine [] = All-nil (λ b. is_line_feed b ≡ false) in rw c.in_ok-end_line.ensures.pending none;
-      few = rw (tail, c.in_ok-end_line.ensures.lines, length-drop) (let few = c.loop-at.invariant.few in omega arith);
-    }
+    let more : next.lines ≤ c.loop-at.self.lines + (at + 1) =
+    let same = ap (λ (s : State). s.lines) step in
+    let few = few_lines c.loop-at.self (take at rest ++ 10 ∷ []) in
+    let front : length (take at rest) ≡ at = length-take-le at rest (omega arith) in
+    let whole = length-append (take at rest) (10 ∷ []) in
+    omega arith in
+    rw tail (record {
+      front = front-line c.args.self.now c.loop-at.self next c.args.piece.now rest at c.loop-at.invariant.front found.0 found.1 step;
+      few = let few = c.loop-at.invariant.few in simp length-drop (omega arith);
+    })
+
+pub returns-in_err-end_line-clause-answers : goal.returns-in_err-end_line-clause-answers
+returns-in_err-end_line-clause-answers g c =
+    front-answers c.args.self.now c.loop-at.self c.end_line.new.self c.args.piece.now c.loop-at.rest.now c.loop-at.invariant.front c.in_err-end_line.ensures.err
+
+pub returns-then-is_empty-clause-answers : goal.returns-then-is_empty-clause-answers
+returns-then-is_empty-clause-answers g c =
+    front-answers c.args.self.now c.loop-at.self c.loop-at.self c.args.piece.now c.loop-at.rest.now c.loop-at.invariant.front refl
+
+pub returns-clause-answers : goal.returns-clause-answers
+returns-clause-answers g c =
+    front-answers c.args.self.now c.loop-at.self (record c.loop-at.self { unsent = c.self.inside.unsent.items }) c.args.piece.now c.loop-at.rest.now c.loop-at.invariant.front
+    (ap (λ (s : State). s.unsent) c.self.view_is)
+
+pub returns-clause-ok : goal.returns-clause-ok
+returns-clause-ok g c =
+    let inside = c.self.inside in
+    let rest = c.loop-at.rest.now in
+    let now : State = record { machine = inside.core; echo = inside.echo; pending = inside.pending.items; unsent = inside.unsent.items; lines = inside.lines } in
+    let some : 0 < length rest = grind (arith, nat_tests) in
+    on_ok_weaker c.keep.result
+    (λ (kept : c.keep.new.pending.items ≡ kept_of (inside.pending.items ++ rest)).
+    ap (λ (pending : List ℕ). record now { pending = pending }) kept
+    ∙ sym (piece-some now rest (c.in_default.ensures.none) some)
+    ∙ ap (λ (s : State). after_piece s rest) c.self.view_is
+    ∙ front-keeps c.args.self.now c.loop-at.self c.args.piece.now rest c.loop-at.invariant.front)
+    c.keep.ensures

@@ -1,0 +1,67 @@
+-- A run between two reads, and what a byte of the input does to it.
+use Rattle.std.specs.Prelude.{◌≡◌, ℕ, ◌+◌, Bool, false, ◌==◌, List, [], ◌∷◌, ◌++◌, length, take, fold, All, Result, Ok, Err, if◌then◌else◌}
+use Rattle.drf_core.specs.Machine.{Machine, opened, after}
+use Rattle.drf_rows.specs.LimitNumbers.{LimitNumbers}
+use Rattle.drf_rows.specs.Step.{reply_to}
+use Rattle.drf_rows.specs.declared.event.Event.{Event}
+use Rattle.drf_lines.specs.declared.fault.LineFault.{LineFault}
+use Rattle.drf_lines.specs.Meaning.{meaning_of}
+use Rattle.drf_lines.specs.ReplyLine.{reply_line, fault_line}
+use Rattle.drf_journal.specs.Lines.{is_line_feed}
+use Rattle.drf_journal.specs.Output.{kept_of, echo_of}
+
+-- the allocator, whether lines are told too, what is kept of the line at hand, the text that is not written yet, and how
+-- many lines there were
+pub record State : Type 0 where
+  pub machine : Machine
+  pub echo : Bool
+  pub pending : List ℕ
+  pub unsent : List ℕ
+  pub lines : ℕ
+
+-- a run that has read nothing
+abbrev pub begun : LimitNumbers → Bool → State
+begun limits echo = record { machine = opened limits; echo = echo; pending = []; unsent = []; lines = 0 }
+
+-- the reply line of a line
+abbrev pub reply_line_of : Machine → Result Event LineFault → List ℕ
+reply_line_of machine (Ok event) = reply_line (reply_to machine.limits machine.rows event)
+reply_line_of machine (Err fault) = fault_line fault
+
+-- the allocator after a line; only an event changes it
+abbrev pub machine_after : Machine → Result Event LineFault → Machine
+machine_after machine (Ok event) = after machine event
+machine_after machine (Err fault) = machine
+
+-- the text for a line
+abbrev pub answer_to : Bool → Machine → List ℕ → List ℕ
+answer_to echo machine line = echo_of echo line ++ reply_line_of machine (meaning_of line)
+
+-- the line at hand is at its end, and is answered
+unfoldable pub after_line : State → State
+after_line state = record {
+  machine = machine_after state.machine (meaning_of state.pending);
+  echo = state.echo;
+  pending = [];
+  unsent = state.unsent ++ answer_to state.echo state.machine state.pending;
+  lines = state.lines + 1;
+}
+
+abbrev pub after_byte : State → ℕ → State
+after_byte state b = if is_line_feed b then after_line state else record state { pending = kept_of (state.pending ++ b ∷ []) }
+
+-- the run after a piece of the input
+unfoldable pub after_piece : State → List ℕ → State
+after_piece state piece = fold after_byte state piece
+
+-- the run at the end of the input
+unfoldable pub at_end : State → State
+at_end state = if length state.pending == 0 then state else after_line state
+
+-- the bytes are of one line
+abbrev pub IsWithinLine : List ℕ → Type 0
+IsWithinLine bytes = All (λ b. is_line_feed b ≡ false) bytes
+
+-- of a piece the lines up to some byte were answered
+abbrev pub AnswersFrontOf : State → List ℕ → State → Type 0
+AnswersFrontOf old piece new = (count : ℕ) × (new.unsent ≡ (after_piece old (take count piece)).unsent)

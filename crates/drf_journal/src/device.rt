@@ -1,0 +1,117 @@
+//! Readers and writers that remember whether a call failed.
+ghost use Rattle.std.specs.Prelude.{◌≡◌, ◌+◌, ◌-◌, ◌^◌, ◌||◌, Bool, false, min, is_err, OnOk, OnErr, IfErr};
+ghost use Rattle.std.specs.Io.{ReadsAtMost, WritesAtMost};
+ghost use Rattle.std.specs.Io.KnownBytes.{Appends, Keeps, ReadConsumes, WriteAppends};
+ghost use Rattle.drf_journal.specs.Device.{moved_nothing, AppendsFrontOf};
+
+use crate::fault::RunFault;
+use std::io;
+use std::io::{Read, Write};
+
+/// A reader or a writer, how often it was called, and whether a call has failed. An interrupted call has failed like any
+/// other.
+#[derive(Drop)]
+pub struct Device<T> {
+    inner: T,
+    calls: u64,
+    failed: bool,
+}
+
+impl<T> Device<T> {
+    /// A device that was not called yet.
+    pub fn new(inner: T) -> Device<T>
+        ensures { result ≡ record { inner = inner; calls = 0; failed = false } }
+    {
+        Device {
+            inner,
+            calls: 0,
+            failed: false,
+        }
+    }
+
+    /// What the device reads from or writes to.
+    pub fn into_inner(self) -> T
+        ensures { result ≡ self.inner }
+    {
+        self.inner
+    }
+
+    /// How often it was called; the number stays at 2^64 - 1 once it is there.
+    pub fn calls(&self) -> u64
+        ensures { result ≡ self.now.calls }
+    {
+        self.calls
+    }
+
+    /// Whether a call has failed, or a write has taken no bytes.
+    pub fn failed(&self) -> bool
+        ensures { result ≡ self.now.failed }
+    {
+        self.failed
+    }
+}
+
+impl<T: Read> Device<T> {
+    /// Reads some bytes, none only at the end or into no room.
+    pub fn read(&mut self, buf: &mut [u8]) -> io::Result<usize>
+        ensures bound { ReadsAtMost result buf.new }
+        ensures bytes { ReadConsumes (T.remaining self.old.inner) (T.remaining self.new.inner) result buf.new }
+        ensures calls { self.new.calls ≡ min (self.old.calls + 1) (2 ^ 64 - 1) }
+        ensures failed { self.new.failed ≡ self.old.failed || is_err result }
+    {
+        let told = self.inner.read(buf);
+        self.calls = self.calls.saturating_add(1);
+        self.failed = self.failed || told.is_err();
+        told
+    }
+}
+
+impl<T: Write> Device<T> {
+    /// Writes some bytes.
+    pub fn write(&mut self, bytes: &[u8]) -> io::Result<usize>
+        ensures bound { WritesAtMost result bytes.now }
+        ensures bytes { WriteAppends (T.contents self.old.inner) (T.contents self.new.inner) result bytes.now }
+        ensures calls { self.new.calls ≡ min (self.old.calls + 1) (2 ^ 64 - 1) }
+        ensures failed { self.new.failed ≡ self.old.failed || moved_nothing result }
+    {
+        let told = self.inner.write(bytes);
+        self.calls = self.calls.saturating_add(1);
+        self.failed = self.failed || !matches!(told, Ok(1..));
+        told
+    }
+
+    /// Hands on what was written.
+    pub fn flush(&mut self) -> io::Result<()>
+        ensures bytes { Keeps (T.contents self.old.inner) (T.contents self.new.inner) }
+        ensures calls { self.new.calls ≡ min (self.old.calls + 1) (2 ^ 64 - 1) }
+        ensures failed { self.new.failed ≡ self.old.failed || is_err result }
+    {
+        let told = self.inner.flush();
+        self.calls = self.calls.saturating_add(1);
+        self.failed = self.failed || told.is_err();
+        told
+    }
+}
+
+/// Writes all of some bytes and hands them on. Where that fails, their front was written.
+pub fn write_whole<W: Write>(writer: &mut Device<W>, bytes: &[u8]) -> Result<(), RunFault>
+    ensures ok { OnOk result (Appends (W.contents writer.old.inner) (W.contents writer.new.inner) bytes.now) }
+    ensures err { OnErr result (AppendsFrontOf (W.contents writer.old.inner) (W.contents writer.new.inner) bytes.now) }
+    ensures fault { IfErr result (λ fault. fault ≡ RunFault.Write) }
+    ensures failed { writer.old.failed ≡ false → writer.new.failed ≡ is_err result }
+{
+    let mut rest = bytes;
+    while !rest.is_empty() {
+        let Ok(count) = writer.write(rest) else {
+            return Err(RunFault::Write);
+        };
+        if count == 0 {
+            return Err(RunFault::Write);
+        }
+        rest = &rest[count..];
+    }
+    if writer.flush().is_err() {
+        return Err(RunFault::Write);
+    }
+    Ok(())
+}

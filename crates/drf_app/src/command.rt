@@ -25,7 +25,7 @@ pub fn command<R: Read, W: Write, E: Write>(
         (W.contents output.old.inner) (W.contents output.new.inner) ended × (result ≡ status_of ended) }
     ensures errors { result ≡ 0 → errors.new ≡ errors.old }
 {
-    match run(alloc, Limits::full(), false, input, output) {
+    match run(alloc, Limits::full(), input, output, false) {
         Ok(_) => 0,
         Err(fault) => {
             // Where this fails too, the status alone tells of the fault.

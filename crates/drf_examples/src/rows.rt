@@ -40,9 +40,9 @@ fn answered(alloc: Global, settings: Settings, input: &[u8]) -> Result<Vec<u8>> 
     run(
         alloc,
         settings.limits,
-        settings.echo,
         &mut reader,
         &mut writer,
+        settings.echo,
     )?;
     Ok(writer.into_inner())
 }

@@ -95,7 +95,7 @@ fn run_within(alloc: Global, input: &[u8], bounds: Bounds) -> Ended {
         taken: Vec::new(alloc),
         calls: bounds.writes,
     });
-    let fault = run(alloc, Limits::full(), false, &mut reader, &mut writer).err();
+    let fault = run(alloc, Limits::full(), &mut reader, &mut writer, false).err();
     let Full { taken, calls: _ } = writer.into_inner();
     Ended { fault, taken }
 }
@@ -209,7 +209,7 @@ fn answers_at_once(alloc: Global, input: &[u8]) -> Result<bool> {
         written: 0,
         flushed: &flushed,
     });
-    run(alloc, Limits::full(), false, &mut reader, &mut writer)?;
+    run(alloc, Limits::full(), &mut reader, &mut writer, false)?;
     Ok(!reader.into_inner().is_late)
 }
 

@@ -7,7 +7,8 @@ use Rattle.std.proofs.lemmas.List.Splits.{slice_split_at, slice_split_none, leng
 use Rattle.drf_journal.specs.Lines.{is_line_feed, all_but_last, last_part, ended_lines_of, open_line_of}
 use Rattle.drf_journal.specs.State.{IsWithinLine}
 
-first_ended : (front : List ℕ) (parts : List (List ℕ)) → 0 < length parts → all_but_last (front ∷ parts) ≡ front ∷ all_but_last parts
+first_ended : (front : List ℕ) (parts : List (List ℕ)) → 0 < length parts
+    → all_but_last (front ∷ parts) ≡ front ∷ all_but_last parts
 first_ended front [] some = absurd (omega arith)
 first_ended front (part ∷ parts) some = refl
 
@@ -39,9 +40,11 @@ open-within front within = ap last_part (slice_split_none is_line_feed front wit
 pub within-nil : IsWithinLine []
 within-nil = All-nil (λ b. is_line_feed b ≡ false)
 
-pub within-push : (front : List ℕ) (b : ℕ) → IsWithinLine front → is_line_feed b ≡ false → IsWithinLine (front ++ b ∷ [])
+pub within-push : (front : List ℕ) (b : ℕ) → IsWithinLine front → is_line_feed b ≡ false
+    → IsWithinLine (front ++ b ∷ [])
 within-push front b within other =
-    All-append (λ b. is_line_feed b ≡ false) front (b ∷ []) within (All-cons (λ b. is_line_feed b ≡ false) b [] other within-nil)
+    All-append (λ b. is_line_feed b ≡ false) front (b ∷ []) within
+        (All-cons (λ b. is_line_feed b ≡ false) b [] other within-nil)
 
 pub within-head : (b : ℕ) (bytes : List ℕ) → IsWithinLine (b ∷ bytes) → is_line_feed b ≡ false
 within-head b bytes within = All-head (λ b. is_line_feed b ≡ false) b bytes within
@@ -49,10 +52,12 @@ within-head b bytes within = All-head (λ b. is_line_feed b ≡ false) b bytes w
 pub within-tail : (b : ℕ) (bytes : List ℕ) → IsWithinLine (b ∷ bytes) → IsWithinLine bytes
 within-tail b bytes within = All-tail (λ b. is_line_feed b ≡ false) b bytes within
 
-pub cut_at : (rest : List ℕ) (at : ℕ) → at < length rest → get_or rest at 0 ≡ 10 → rest ≡ (take at rest ++ 10 ∷ []) ++ drop (at + 1) rest
+pub cut_at : (rest : List ℕ) (at : ℕ) → at < length rest → get_or rest at 0 ≡ 10
+    → rest ≡ (take at rest ++ 10 ∷ []) ++ drop (at + 1) rest
 cut_at rest at inside feed =
     sym (take-append-drop at rest)
-    ∙ ap (λ l. take at rest ++ l) (drop-cons rest at 0 inside ∙ ap (λ b. b ∷ drop (suc at) rest) feed ∙ ap (λ n. 10 ∷ drop n rest) (sym (add-one at)))
+    ∙ ap (λ l. take at rest ++ l) (drop-cons rest at 0 inside ∙ ap (λ b. b ∷ drop (suc at) rest) feed
+        ∙ ap (λ n. 10 ∷ drop n rest) (sym (add-one at)))
     ∙ sym (append_assoc (take at rest) (10 ∷ []) (drop (at + 1) rest))
 
 -- ---- the lines of the front of an input come first among its lines
@@ -64,13 +69,15 @@ pub record GoesOn (front more : List ℕ) : Type 0 where
 goes_on_from : (line front more : List ℕ) → IsWithinLine line → GoesOn (line ++ front) (line ++ (front ++ more))
 goes_on_from line [] more within = record {
   others = ended_lines_of (line ++ more);
-  lines = sym (ap (λ ls. ls ++ ended_lines_of (line ++ more)) (ended-within (line ++ []) (within-append-nil line within)));
+  lines = sym (ap (λ ls. ls ++ ended_lines_of (line ++ more))
+      (ended-within (line ++ []) (within-append-nil line within)));
 }
   where
     within-append-nil : (line : List ℕ) → IsWithinLine line → IsWithinLine (line ++ [])
     within-append-nil line within = All-append (λ b. is_line_feed b ≡ false) line [] within within-nil
 goes_on_from line (b ∷ front) more within =
-    by_test (is_line_feed b) refl (goes_on_from [] front more within-nil) (λ other. goes_on_from (line ++ b ∷ []) front more (within-push line b within other))
+    by_test (is_line_feed b) refl (goes_on_from [] front more within-nil)
+        (λ other. goes_on_from (line ++ b ∷ []) front more (within-push line b within other))
   where
     by_test : (t : Bool) → is_line_feed b ≡ t → GoesOn front (front ++ more)
         → (is_line_feed b ≡ false → GoesOn ((line ++ b ∷ []) ++ front) ((line ++ b ∷ []) ++ (front ++ more)))

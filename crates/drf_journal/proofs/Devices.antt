@@ -14,22 +14,31 @@ pub record WroteFront (old now : Option (List ℕ)) (bytes rest : List ℕ) : Ty
 pub wrote-nothing : (old : Option (List ℕ)) (bytes : List ℕ) → WroteFront old old bytes bytes
 wrote-nothing old bytes = record { front = []; whole = refl; appended = Appends-nil old }
 
-pub wrote-more : (old now next : Option (List ℕ)) (bytes rest : List ℕ) (count : ℕ) → WroteFront old now bytes rest → Appends now next (take count rest)
+pub wrote-more : (old now next : Option (List ℕ)) (bytes rest : List ℕ) (count : ℕ) → WroteFront old now bytes rest
+    → Appends now next (take count rest)
     → WroteFront old next bytes (drop count rest)
 wrote-more old now next bytes rest count wrote more = record {
   front = wrote.front ++ take count rest;
-  whole = wrote.whole ∙ ap (λ l. wrote.front ++ l) (sym (take-append-drop count rest)) ∙ sym (append_assoc wrote.front (take count rest) (drop count rest));
+  whole = wrote.whole ∙ ap (λ l. wrote.front ++ l) (sym (take-append-drop count rest))
+      ∙ sym (append_assoc wrote.front (take count rest) (drop count rest));
   appended = Appends-trans old now next wrote.front (take count rest) wrote.appended more;
 }
 
-pub wrote-kept : (old now next : Option (List ℕ)) (bytes rest : List ℕ) → WroteFront old now bytes rest → Keeps now next → WroteFront old next bytes rest
-wrote-kept old now next bytes rest wrote kept = record { front = wrote.front; whole = wrote.whole; appended = Appends-kept old now next wrote.front wrote.appended kept }
+pub wrote-kept : (old now next : Option (List ℕ)) (bytes rest : List ℕ) → WroteFront old now bytes rest → Keeps now next
+    → WroteFront old next bytes rest
+wrote-kept old now next bytes rest wrote kept =
+    record { front = wrote.front; whole = wrote.whole; appended =
+    Appends-kept old now next wrote.front wrote.appended kept }
 
-pub wrote-front : (old now : Option (List ℕ)) (bytes rest : List ℕ) → WroteFront old now bytes rest → AppendsFrontOf old now bytes
+pub wrote-front : (old now : Option (List ℕ)) (bytes rest : List ℕ) → WroteFront old now bytes rest
+    → AppendsFrontOf old now bytes
 wrote-front old now bytes rest wrote =
-    let cut : wrote.front ≡ take (length wrote.front) bytes = sym (ap (take (length wrote.front)) wrote.whole ∙ take-append_seam wrote.front rest) in
+    let cut : wrote.front ≡ take (length wrote.front) bytes =
+        sym (ap (take (length wrote.front)) wrote.whole ∙ take-append_seam wrote.front rest) in
     (length wrote.front, subst (Appends old now) cut wrote.appended)
 
-pub wrote-all : (old now : Option (List ℕ)) (bytes rest : List ℕ) → WroteFront old now bytes rest → rest ≡ [] → Appends old now bytes
+pub wrote-all : (old now : Option (List ℕ)) (bytes rest : List ℕ) → WroteFront old now bytes rest → rest ≡ []
+    → Appends old now bytes
 wrote-all old now bytes rest wrote none =
-    subst (Appends old now) (sym (append-nil wrote.front) ∙ ap (λ l. wrote.front ++ l) (sym none) ∙ sym wrote.whole) wrote.appended
+    subst (Appends old now) (sym (append-nil wrote.front) ∙ ap (λ l. wrote.front ++ l) (sym none)
+        ∙ sym wrote.whole) wrote.appended

@@ -27,11 +27,13 @@ pub meaning-kept : (line : List ℕ) → meaning_of (kept_of line) ≡ meaning_o
 meaning-kept line =
     ⊎_elim
     (λ (long : longest_line < length line).
-    long_at (kept_of line) (let kept : length (kept_of line) ≡ longest_line + 1 = length-take-le (longest_line + 1) line (omega arith) in omega arith)
+    long_at (kept_of line) (let kept : length (kept_of line) ≡ longest_line + 1 =
+        length-take-le (longest_line + 1) line (omega arith) in omega arith)
     ∙ sym (long_at line long))
     (λ (short : length line ≤ longest_line). ap meaning_of (take_all (longest_line + 1) line (omega arith)))
     (cases_lt longest_line (length line))
 
-pub answer-kept : (echo : Bool) (machine : Machine) (line : List ℕ) → answer_to echo machine (kept_of line) ≡ answer_to echo machine line
+pub answer-kept : (echo : Bool) (machine : Machine) (line : List ℕ)
+    → answer_to echo machine (kept_of line) ≡ answer_to echo machine line
 answer-kept true machine line = λ i. (kept-kept line i ++ 10 ∷ []) ++ reply_line_of machine (meaning-kept line i)
 answer-kept false machine line = ap (λ m. [] ++ reply_line_of machine m) (meaning-kept line)

@@ -18,7 +18,8 @@ machine_after_lines machine (line ∷ lines) = machine_after_lines (machine_afte
 -- the text for some lines, one after another
 abbrev pub answers_from : Bool → Machine → List (List ℕ) → List ℕ
 answers_from echo machine [] = []
-answers_from echo machine (line ∷ lines) = answer_to echo machine line ++ answers_from echo (machine_after machine (meaning_of line)) lines
+answers_from echo machine (line ∷ lines) =
+    answer_to echo machine line ++ answers_from echo (machine_after machine (meaning_of line)) lines
 
 -- a run after some lines, and what is kept of the next one
 abbrev pub after_lines : State → List (List ℕ) → List ℕ → State
@@ -30,15 +31,18 @@ after_lines s lines next = record {
   lines = s.lines + length lines;
 }
 
-pub piece-append : (s : State) (front more : List ℕ) → after_piece s (front ++ more) ≡ after_piece (after_piece s front) more
+pub piece-append : (s : State) (front more : List ℕ)
+    → after_piece s (front ++ more) ≡ after_piece (after_piece s front) more
 unfolding after_piece
 piece-append s front more = fold-append after_byte s front more
 
-piece-feed : (s : State) (b : ℕ) (bytes : List ℕ) → is_line_feed b ≡ true → after_piece s (b ∷ bytes) ≡ after_piece (after_line s) bytes
+piece-feed : (s : State) (b : ℕ) (bytes : List ℕ) → is_line_feed b ≡ true
+    → after_piece s (b ∷ bytes) ≡ after_piece (after_line s) bytes
 unfolding after_piece
 piece-feed s b bytes feed = rw feed
 
-piece-other : (s : State) (b : ℕ) (bytes : List ℕ) → is_line_feed b ≡ false → after_piece s (b ∷ bytes) ≡ after_piece (record s { pending = kept_of (s.pending ++ b ∷ []) }) bytes
+piece-other : (s : State) (b : ℕ) (bytes : List ℕ) → is_line_feed b ≡ false
+    → after_piece s (b ∷ bytes) ≡ after_piece (record s { pending = kept_of (s.pending ++ b ∷ []) }) bytes
 unfolding after_piece
 piece-other s b bytes other = rw other
 
@@ -52,9 +56,12 @@ line_first : (s : State) (line : List ℕ) (lines : List (List ℕ)) (next : Lis
 unfolding after_line
 line_first s line lines next kept =
     let meant : meaning_of s.pending ≡ meaning_of line = ap meaning_of kept ∙ meaning-kept line in
-    let answered : answer_to s.echo s.machine s.pending ≡ answer_to s.echo s.machine line = ap (answer_to s.echo s.machine) kept ∙ answer-kept s.echo s.machine line in
-    let unsent : (s.unsent ++ answer_to s.echo s.machine s.pending) ++ answers_from s.echo (machine_after s.machine (meaning_of s.pending)) lines
-    ≡ s.unsent ++ (answer_to s.echo s.machine line ++ answers_from s.echo (machine_after s.machine (meaning_of line)) lines) =
+    let answered : answer_to s.echo s.machine s.pending ≡ answer_to s.echo s.machine line =
+        ap (answer_to s.echo s.machine) kept ∙ answer-kept s.echo s.machine line in
+    let unsent : (s.unsent ++ answer_to s.echo s.machine s.pending)
+        ++ answers_from s.echo (machine_after s.machine (meaning_of s.pending)) lines
+    ≡ s.unsent ++ (answer_to s.echo s.machine line
+        ++ answers_from s.echo (machine_after s.machine (meaning_of line)) lines) =
     append_assoc s.unsent (answer_to s.echo s.machine s.pending) _
     ∙ (λ i. s.unsent ++ (answered i ++ answers_from s.echo (machine_after s.machine (meant i)) lines)) in
     let counted : (s.lines + 1) + length lines ≡ s.lines + length (line ∷ lines) = omega arith in
@@ -78,38 +85,45 @@ after_piece-lines s line [] within kept =
     let next : open_line_of (line ++ []) ≡ line = ap open_line_of (append-nil line) ∙ open-within line within in
     let counted : s.lines ≡ s.lines + 0 = omega arith in
     piece-nil s
-    ∙ (λ i. record { machine = s.machine; echo = s.echo; pending = kept i; unsent = sym (append-nil s.unsent) i; lines = counted i })
+    ∙ (λ i. record { machine = s.machine; echo = s.echo; pending = kept i; unsent = sym (append-nil s.unsent) i; lines =
+        counted i })
     ∙ (λ i. after_lines s (sym ended i) (sym next i))
 after_piece-lines s line (b ∷ bytes) within kept =
     by_test (is_line_feed b) refl (after_piece-lines (after_line s) [] bytes within-nil (pending-nil s))
     (λ other.
-    after_piece-lines (record s { pending = kept_of (s.pending ++ b ∷ []) }) (line ++ b ∷ []) bytes (within-push line b within other)
+    after_piece-lines (record s { pending = kept_of (s.pending ++ b ∷ []) }) (line ++ b ∷ []) bytes
+        (within-push line b within other)
     (ap (λ p. kept_of (p ++ b ∷ [])) kept ∙ kept-append line (b ∷ [])))
   where
     by_test : (t : Bool) → is_line_feed b ≡ t
         → after_piece (after_line s) bytes ≡ after_lines (after_line s) (ended_lines_of bytes) (open_line_of bytes)
         → (is_line_feed b ≡ false → after_piece (record s { pending = kept_of (s.pending ++ b ∷ []) }) bytes
         ≡ after_lines s (ended_lines_of ((line ++ b ∷ []) ++ bytes)) (open_line_of ((line ++ b ∷ []) ++ bytes)))
-        → after_piece s (b ∷ bytes) ≡ after_lines s (ended_lines_of (line ++ b ∷ bytes)) (open_line_of (line ++ b ∷ bytes))
+        → after_piece s (b ∷ bytes) ≡ after_lines s (ended_lines_of (line ++ b ∷ bytes))
+            (open_line_of (line ++ b ∷ bytes))
     by_test true feed rest same =
         piece-feed s b bytes feed ∙ rest
         ∙ line_first s line (ended_lines_of bytes) (open_line_of bytes) kept
-        ∙ (λ i. after_lines s (sym (ended-feed line b bytes within feed) i) (sym (open-feed line b bytes within feed) i))
+        ∙ (λ i. after_lines s (sym (ended-feed line b bytes within feed) i)
+            (sym (open-feed line b bytes within feed) i))
     by_test false other rest same =
         piece-other s b bytes other ∙ same other
         ∙ ap (λ l. after_lines s (ended_lines_of l) (open_line_of l)) (append_assoc line (b ∷ []) bytes)
 
 -- ---- bytes of one line
 
-pub piece-within : (s : State) (b : ℕ) (bytes : List ℕ) → IsWithinLine (b ∷ bytes) → after_piece s (b ∷ bytes) ≡ record s { pending = kept_of (s.pending ++ b ∷ bytes) }
+pub piece-within : (s : State) (b : ℕ) (bytes : List ℕ) → IsWithinLine (b ∷ bytes)
+    → after_piece s (b ∷ bytes) ≡ record s { pending = kept_of (s.pending ++ b ∷ bytes) }
 piece-within s b [] within = piece-other s b [] (within-head b [] within) ∙ piece-nil _
 piece-within s b (c ∷ bytes) within =
     let first = record s { pending = kept_of (s.pending ++ b ∷ []) } in
     piece-other s b (c ∷ bytes) (within-head b (c ∷ bytes) within)
     ∙ piece-within first c bytes (within-tail b (c ∷ bytes) within)
-    ∙ ap (λ (p : List ℕ). record s { pending = p }) (kept-append (s.pending ++ b ∷ []) (c ∷ bytes) ∙ ap kept_of (append_assoc s.pending (b ∷ []) (c ∷ bytes)))
+    ∙ ap (λ (p : List ℕ). record s { pending = p })
+        (kept-append (s.pending ++ b ∷ []) (c ∷ bytes) ∙ ap kept_of (append_assoc s.pending (b ∷ []) (c ∷ bytes)))
 
-pub piece-some : (s : State) (bytes : List ℕ) → IsWithinLine bytes → 0 < length bytes → after_piece s bytes ≡ record s { pending = kept_of (s.pending ++ bytes) }
+pub piece-some : (s : State) (bytes : List ℕ) → IsWithinLine bytes → 0 < length bytes
+    → after_piece s bytes ≡ record s { pending = kept_of (s.pending ++ bytes) }
 piece-some s [] within some = absurd (omega arith)
 piece-some s (b ∷ bytes) within some = piece-within s b bytes within
 
@@ -137,7 +151,8 @@ line-whole : (s : State) → after_line s ≡ with_line s (s.pending ++ [])
 unfolding after_line
 line-whole s = ap (with_line s) (sym (append-nil s.pending))
 
-pub piece-line : (s : State) (bytes : List ℕ) → IsWithinLine bytes → after_piece s (bytes ++ 10 ∷ []) ≡ with_line s (s.pending ++ bytes)
+pub piece-line : (s : State) (bytes : List ℕ) → IsWithinLine bytes
+    → after_piece s (bytes ++ 10 ∷ []) ≡ with_line s (s.pending ++ bytes)
 piece-line s [] within = piece-feed s 10 [] refl ∙ piece-nil _ ∙ line-whole s
 piece-line s (b ∷ bytes) within =
     piece-append s (b ∷ bytes) (10 ∷ []) ∙ ap (λ (t : State). after_piece t (10 ∷ [])) (piece-within s b bytes within)
@@ -145,7 +160,9 @@ piece-line s (b ∷ bytes) within =
 
 -- ---- what was not written yet stands behind what was
 
-line-sent : (s : State) (sent : List ℕ) → after_line (record s { unsent = sent ++ s.unsent }) ≡ record (after_line s) { unsent = sent ++ (after_line s).unsent }
+line-sent : (s : State) (sent : List ℕ)
+    → after_line (record s { unsent = sent ++ s.unsent })
+    ≡ record (after_line s) { unsent = sent ++ (after_line s).unsent }
 unfolding after_line
 line-sent s sent = λ i. record {
   machine = machine_after s.machine (meaning_of s.pending);
@@ -156,17 +173,21 @@ line-sent s sent = λ i. record {
 }
 
 pub piece-sent : (s : State) (sent bytes : List ℕ)
-    → after_piece (record s { unsent = sent ++ s.unsent }) bytes ≡ record (after_piece s bytes) { unsent = sent ++ (after_piece s bytes).unsent }
+    → after_piece (record s { unsent = sent ++ s.unsent }) bytes
+        ≡ record (after_piece s bytes) { unsent = sent ++ (after_piece s bytes).unsent }
 piece-sent s sent [] = piece-nil _ ∙ ap (λ (t : State). record t { unsent = sent ++ t.unsent }) (sym (piece-nil s))
 piece-sent s sent (b ∷ bytes) =
-    by_test (is_line_feed b) refl (piece-sent (after_line s) sent bytes) (piece-sent (record s { pending = kept_of (s.pending ++ b ∷ []) }) sent bytes)
+    by_test (is_line_feed b) refl (piece-sent (after_line s) sent bytes)
+        (piece-sent (record s { pending = kept_of (s.pending ++ b ∷ []) }) sent bytes)
   where
     by_test : (t : Bool) → is_line_feed b ≡ t
         → after_piece (record (after_line s) { unsent = sent ++ (after_line s).unsent }) bytes
         ≡ record (after_piece (after_line s) bytes) { unsent = sent ++ (after_piece (after_line s) bytes).unsent }
         → after_piece (record s { pending = kept_of (s.pending ++ b ∷ []); unsent = sent ++ s.unsent }) bytes
-        ≡ record (after_piece (record s { pending = kept_of (s.pending ++ b ∷ []) }) bytes) { unsent = sent ++ (after_piece (record s { pending = kept_of (s.pending ++ b ∷ []) }) bytes).unsent }
-        → after_piece (record s { unsent = sent ++ s.unsent }) (b ∷ bytes) ≡ record (after_piece s (b ∷ bytes)) { unsent = sent ++ (after_piece s (b ∷ bytes)).unsent }
+        ≡ record (after_piece (record s { pending = kept_of (s.pending ++ b ∷ []) }) bytes) { unsent =
+            sent ++ (after_piece (record s { pending = kept_of (s.pending ++ b ∷ []) }) bytes).unsent }
+        → after_piece (record s { unsent = sent ++ s.unsent }) (b ∷ bytes)
+            ≡ record (after_piece s (b ∷ bytes)) { unsent = sent ++ (after_piece s (b ∷ bytes)).unsent }
     by_test true feed rest same =
         piece-feed _ b bytes feed ∙ ap (λ (t : State). after_piece t bytes) (line-sent s sent) ∙ rest
         ∙ ap (λ (t : State). record t { unsent = sent ++ t.unsent }) (sym (piece-feed s b bytes feed))
@@ -182,9 +203,11 @@ one_more s = refl
 
 pub few_lines : (s : State) (bytes : List ℕ) → (after_piece s bytes).lines ≤ s.lines + length bytes
 few_lines s [] = let same = ap (λ (t : State). t.lines) (piece-nil s) in omega arith
-few_lines s (b ∷ bytes) = by_test (is_line_feed b) refl (few_lines (after_line s) bytes) (few_lines (record s { pending = kept_of (s.pending ++ b ∷ []) }) bytes)
+few_lines s (b ∷ bytes) = by_test (is_line_feed b) refl (few_lines (after_line s) bytes)
+    (few_lines (record s { pending = kept_of (s.pending ++ b ∷ []) }) bytes)
   where
-    by_test : (t : Bool) → is_line_feed b ≡ t → (after_piece (after_line s) bytes).lines ≤ (after_line s).lines + length bytes
+    by_test : (t : Bool) → is_line_feed b ≡ t
+        → (after_piece (after_line s) bytes).lines ≤ (after_line s).lines + length bytes
         → (after_piece (record s { pending = kept_of (s.pending ++ b ∷ []) }) bytes).lines ≤ s.lines + length bytes
         → (after_piece s (b ∷ bytes)).lines ≤ s.lines + length (b ∷ bytes)
     by_test true feed rest same =
@@ -203,20 +226,24 @@ end-none s none = rw none
 
 pub end-some : (s : State) → 0 < length s.pending → at_end s ≡ after_piece s (10 ∷ [])
 unfolding at_end
-end-some s some = rw (ne_eqb (length s.pending) 0 (λ e. omega arith)) (sym (piece-feed s 10 [] refl ∙ piece-nil (after_line s)))
+end-some s some = rw (ne_eqb (length s.pending) 0 (λ e. omega arith))
+    (sym (piece-feed s 10 [] refl ∙ piece-nil (after_line s)))
 
 pub end-line : (s : State) → 0 < length s.pending → at_end s ≡ after_line s
 unfolding at_end
 end-line s some = rw (ne_eqb (length s.pending) 0 (λ e. omega arith))
 
 at_end_apart : (s : State) (sent : List ℕ) (t : Bool) → eqb (length s.pending) 0 ≡ t
-    → (sent ++ (at_end s).unsent ≡ (at_end (record s { unsent = sent ++ s.unsent })).unsent) × ((at_end s).lines ≡ (at_end (record s { unsent = sent ++ s.unsent })).lines)
+    → (sent ++ (at_end s).unsent ≡ (at_end (record s { unsent = sent ++ s.unsent })).unsent)
+        × ((at_end s).lines ≡ (at_end (record s { unsent = sent ++ s.unsent })).lines)
 unfolding at_end after_line
 at_end_apart s sent true e = rw e (refl, refl)
 at_end_apart s sent false e = rw e (sym (append_assoc sent s.unsent (answer_to s.echo s.machine s.pending)), refl)
 
-pub end-sent : (s : State) (sent : List ℕ) → sent ++ (at_end s).unsent ≡ (at_end (record s { unsent = sent ++ s.unsent })).unsent
+pub end-sent : (s : State) (sent : List ℕ)
+    → sent ++ (at_end s).unsent ≡ (at_end (record s { unsent = sent ++ s.unsent })).unsent
 end-sent s sent = (at_end_apart s sent (eqb (length s.pending) 0) refl).0
 
-pub end-counted : (s : State) (sent : List ℕ) → (at_end s).lines ≡ (at_end (record s { unsent = sent ++ s.unsent })).lines
+pub end-counted : (s : State) (sent : List ℕ)
+    → (at_end s).lines ≡ (at_end (record s { unsent = sent ++ s.unsent })).lines
 end-counted s sent = (at_end_apart s sent (eqb (length s.pending) 0) refl).1

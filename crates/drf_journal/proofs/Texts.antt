@@ -11,15 +11,21 @@ use Rattle.drf_journal.specs.State.{reply_line_of, machine_after, answer_to}
 use Rattle.drf_journal.proofs.Pieces.{machine_after_lines, answers_from}
 
 told-lines : (echo : Bool) (machine : Machine) (lines : List (List ℕ))
-    → told echo lines (replies_to machine.limits machine.rows (events_among (map meaning_of lines))) ≡ answers_from echo machine lines
+    → told echo lines (replies_to machine.limits machine.rows (events_among (map meaning_of lines)))
+        ≡ answers_from echo machine lines
 told-lines echo machine [] = refl
 told-lines echo machine (line ∷ lines) = by_meaning (meaning_of line) (λ machine. told-lines echo machine lines)
   where
     by_meaning : (meaning : Result Event LineFault)
-        → ((machine : Machine) → told echo lines (replies_to machine.limits machine.rows (events_among (map meaning_of lines))) ≡ answers_from echo machine lines)
-        → echo_of echo line ++ (next_told meaning (replies_to machine.limits machine.rows (events_among (meaning ∷ map meaning_of lines)))
-        ++ told echo lines (replies_left meaning (replies_to machine.limits machine.rows (events_among (meaning ∷ map meaning_of lines)))))
-        ≡ (echo_of echo line ++ reply_line_of machine meaning) ++ answers_from echo (machine_after machine meaning) lines
+        → ((machine : Machine) → told echo lines
+            (replies_to machine.limits machine.rows (events_among (map meaning_of lines)))
+            ≡ answers_from echo machine lines)
+        → echo_of echo line ++ (next_told meaning
+            (replies_to machine.limits machine.rows (events_among (meaning ∷ map meaning_of lines)))
+        ++ told echo lines (replies_left meaning
+            (replies_to machine.limits machine.rows (events_among (meaning ∷ map meaning_of lines)))))
+        ≡ (echo_of echo line ++ reply_line_of machine meaning)
+            ++ answers_from echo (machine_after machine meaning) lines
     by_meaning (Ok event) rest =
         ap (λ l. echo_of echo line ++ (reply_line_of machine (Ok event) ++ l)) (rest (machine_after machine (Ok event)))
         ∙ sym (append_assoc (echo_of echo line) (reply_line_of machine (Ok event)) _)
@@ -27,20 +33,25 @@ told-lines echo machine (line ∷ lines) = by_meaning (meaning_of line) (λ mach
         ap (λ l. echo_of echo line ++ (reply_line_of machine (Err fault) ++ l)) (rest machine)
         ∙ sym (append_assoc (echo_of echo line) (reply_line_of machine (Err fault)) _)
 
-pub text-lines : (limits : LimitNumbers) (echo : Bool) (lines : List (List ℕ)) → text_of limits echo lines ≡ answers_from echo (opened limits) lines
+pub text-lines : (limits : LimitNumbers) (echo : Bool) (lines : List (List ℕ))
+    → text_of limits echo lines ≡ answers_from echo (opened limits) lines
 unfolding text_of
 text-lines limits echo lines = told-lines echo (opened limits) lines
 
 pub answers-append : (echo : Bool) (machine : Machine) (front more : List (List ℕ))
-    → answers_from echo machine (front ++ more) ≡ answers_from echo machine front ++ answers_from echo (machine_after_lines machine front) more
+    → answers_from echo machine (front ++ more)
+        ≡ answers_from echo machine front ++ answers_from echo (machine_after_lines machine front) more
 answers-append echo machine [] more = refl
 answers-append echo machine (line ∷ front) more =
-    ap (λ l. answer_to echo machine line ++ l) (answers-append echo (machine_after machine (meaning_of line)) front more)
+    ap (λ l. answer_to echo machine line ++ l)
+        (answers-append echo (machine_after machine (meaning_of line)) front more)
     ∙ sym (append_assoc (answer_to echo machine line) _ _)
 
 -- the text for the first lines comes first
 pub text-append : (limits : LimitNumbers) (echo : Bool) (front more : List (List ℕ))
-    → text_of limits echo (front ++ more) ≡ text_of limits echo front ++ answers_from echo (machine_after_lines (opened limits) front) more
+    → text_of limits echo (front ++ more)
+        ≡ text_of limits echo front ++ answers_from echo (machine_after_lines (opened limits) front) more
 text-append limits echo front more =
     text-lines limits echo (front ++ more) ∙ answers-append echo (opened limits) front more
-    ∙ ap (λ l. l ++ answers_from echo (machine_after_lines (opened limits) front) more) (sym (text-lines limits echo front))
+    ∙ ap (λ l. l ++ answers_from echo (machine_after_lines (opened limits) front) more)
+        (sym (text-lines limits echo front))

@@ -11,13 +11,18 @@ use Rattle.drf_journal.specs.Output.{text_of}
 -- it is the text of the lines that had ended, after a failed write the front of a text of lines, and where memory ran out
 -- the text of the lines before the one at hand.
 abbrev pub IsAnswered : LimitNumbers → Bool → Result ℕ RunFault → List ℕ → List ℕ → Type 0
-IsAnswered limits echo (Ok lines) read written = (written ≡ text_of limits echo (lines_of read)) × (lines ≡ length (lines_of read))
+IsAnswered limits echo (Ok lines) read written =
+    (written ≡ text_of limits echo (lines_of read)) × (lines ≡ length (lines_of read))
 IsAnswered limits echo (Err Read) read written = written ≡ text_of limits echo (ended_lines_of read)
-IsAnswered limits echo (Err Write) read written = (count : ℕ) × (written ≡ take count (text_of limits echo (lines_of read)))
-IsAnswered limits echo (Err Memory) read written = (count : ℕ) × (written ≡ text_of limits echo (take count (lines_of read)))
+IsAnswered limits echo (Err Write) read written =
+    (count : ℕ) × (written ≡ take count (text_of limits echo (lines_of read)))
+IsAnswered limits echo (Err Memory) read written =
+    (count : ℕ) × (written ≡ text_of limits echo (take count (lines_of read)))
 
 -- a run from the rows of an opening took bytes from a reader and gave bytes to a writer
-pub record HasRun (limits : LimitNumbers) (echo : Bool) (unread_before unread_after written_before written_after : Option (List ℕ)) (result : Result ℕ RunFault) : Type 0 where
+pub record HasRun (limits : LimitNumbers) (echo : Bool)
+    (unread_before unread_after written_before written_after : Option (List ℕ))
+    (result : Result ℕ RunFault) : Type 0 where
   pub read : List ℕ
   pub written : List ℕ
   pub consumed : Consumes unread_before unread_after read
@@ -28,6 +33,7 @@ pub record HasRun (limits : LimitNumbers) (echo : Bool) (unread_before unread_af
 -- otherwise neither has
 abbrev pub HasCause : Result ℕ RunFault → Bool → ℕ → Bool → Type 0
 HasCause (Ok lines) reader_failed reads writer_failed = (reader_failed ≡ false) × (writer_failed ≡ false)
-HasCause (Err Read) reader_failed reads writer_failed = ((reader_failed ≡ true) ⊎ (reads ≡ 2 ^ 40)) × (writer_failed ≡ false)
+HasCause (Err Read) reader_failed reads writer_failed =
+    ((reader_failed ≡ true) ⊎ (reads ≡ 2 ^ 40)) × (writer_failed ≡ false)
 HasCause (Err Write) reader_failed reads writer_failed = (reader_failed ≡ false) × (writer_failed ≡ true)
 HasCause (Err Memory) reader_failed reads writer_failed = (reader_failed ≡ false) × (writer_failed ≡ false)

@@ -38,7 +38,8 @@ replies_left (Ok event) replies = drop 1 replies
 abbrev pub told : Bool → List (List ℕ) → List Reply → List ℕ
 told echo [] replies = []
 told echo (line ∷ lines) replies =
-    echo_of echo line ++ (next_told (meaning_of line) replies ++ told echo lines (replies_left (meaning_of line) replies))
+    echo_of echo line
+    ++ (next_told (meaning_of line) replies ++ told echo lines (replies_left (meaning_of line) replies))
 
 -- the text for some lines, of which the events are run from the rows of an opening
 unfoldable pub text_of : LimitNumbers → Bool → List (List ℕ) → List ℕ

@@ -48,7 +48,8 @@ after_line state = record {
 }
 
 abbrev pub after_byte : State → ℕ → State
-after_byte state b = if is_line_feed b then after_line state else record state { pending = kept_of (state.pending ++ b ∷ []) }
+after_byte state b =
+    if is_line_feed b then after_line state else record state { pending = kept_of (state.pending ++ b ∷ []) }
 
 -- the run after a piece of the input
 unfoldable pub after_piece : State → List ℕ → State

@@ -24,9 +24,9 @@ const MAX_READS: u64 = 1_099_511_627_776;
 pub fn serve<S: Sorter, R: Read, W: Write>(
     alloc: Global,
     limits: Limits,
-    echo: bool,
     reader: &mut Device<R>,
     writer: &mut Device<W>,
+    echo: bool,
 ) -> Result<u64, RunFault>
     requires reader { IsNew reader.old.calls reader.old.failed }
     requires writer { IsNew writer.old.calls writer.old.failed }
@@ -59,9 +59,9 @@ pub fn serve<S: Sorter, R: Read, W: Write>(
 pub fn run<R: Read, W: Write>(
     alloc: Global,
     limits: Limits,
-    echo: bool,
     reader: &mut Device<R>,
     writer: &mut Device<W>,
+    echo: bool,
 ) -> Result<u64, RunFault>
     requires reader { IsNew reader.old.calls reader.old.failed }
     requires writer { IsNew writer.old.calls writer.old.failed }
@@ -70,5 +70,5 @@ pub fn run<R: Read, W: Write>(
     ensures read { OnOk result (IsAtEnd (R.remaining reader.new.inner)) }
     ensures cause { HasCause result reader.new.failed reader.new.calls writer.new.failed }
 {
-    serve::<PlainSorter, _, _>(alloc, limits, echo, reader, writer)
+    serve::<PlainSorter, _, _>(alloc, limits, reader, writer, echo)
 }

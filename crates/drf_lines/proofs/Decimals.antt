@@ -5,7 +5,8 @@ use Rattle.drf_lines.specs.Amount.{without_last_zeros, decimals_text}
 
 -- three digits without the zeros at their end, by which of them are zeros
 trimmed : Bool → Bool → Bool → ℕ → ℕ → ℕ → List ℕ
-trimmed p q r a b d = cond (p && (q && (r && true))) [] (a ∷ cond (q && (r && true)) [] (b ∷ cond (r && true) [] (d ∷ [])))
+trimmed p q r a b d = cond (p && (q && (r && true))) []
+    (a ∷ cond (q && (r && true)) [] (b ∷ cond (r && true) [] (d ∷ [])))
 
 by_tests : (a b d : ℕ) → without_last_zeros (a ∷ b ∷ d ∷ []) ≡ trimmed (eqb a 48) (eqb b 48) (eqb d 48) a b d
 unfolding trimmed
@@ -39,14 +40,16 @@ decimals_one n some e =
     let third : eqb (48 + n % 10) 48 ≡ true = eq-eqb _ _ (omega arith) in
     rw (ne_eqb n 0 some, by_tests, first, second, third, one)
 
-pub decimals_two : (n : ℕ) → (n % 100 ≡ 0 → ⊥) → n % 10 ≡ 0 → decimals_text n ≡ 46 ∷ (48 + n / 100) ∷ (48 + n / 10 % 10) ∷ []
+pub decimals_two : (n : ℕ) → (n % 100 ≡ 0 → ⊥) → n % 10 ≡ 0
+    → decimals_text n ≡ 46 ∷ (48 + n / 100) ∷ (48 + n / 10 % 10) ∷ []
 unfolding decimals_text
 decimals_two n some e =
     let second : eqb (48 + n / 10 % 10) 48 ≡ false = ne_eqb _ _ (λ h. some (omega arith)) in
     let third : eqb (48 + n % 10) 48 ≡ true = eq-eqb _ _ (omega arith) in
     rw (ne_eqb n 0 (λ h. some (omega arith)), by_tests, second, third, two)
 
-pub decimals_three : (n : ℕ) → (n % 10 ≡ 0 → ⊥) → decimals_text n ≡ 46 ∷ (48 + n / 100) ∷ (48 + n / 10 % 10) ∷ (48 + n % 10) ∷ []
+pub decimals_three : (n : ℕ) → (n % 10 ≡ 0 → ⊥)
+    → decimals_text n ≡ 46 ∷ (48 + n / 100) ∷ (48 + n / 10 % 10) ∷ (48 + n % 10) ∷ []
 unfolding decimals_text
 decimals_three n some =
     let third : eqb (48 + n % 10) 48 ≡ false = ne_eqb _ _ (λ h. some (omega arith)) in

@@ -22,7 +22,8 @@ role_refused role_faults.BadRole b x h = rw (h refl)
 role_refused role_faults.Memory b x h = tt
 
 -- an error that a part of a text tells is that of the text
-pub part_refused : {A B : Type 0} (error : LineError) (b : Bool) (x : A) (y : B) → IsReadOf (Err error) (cond b (Ok x) (Err BadText))
+pub part_refused : {A B : Type 0} (error : LineError) (b : Bool) (x : A) (y : B)
+    → IsReadOf (Err error) (cond b (Ok x) (Err BadText))
     → IsReadOf (Err error) (ok_or (cond b (Some y) None) BadText)
 part_refused (Fault fault) true x y h = cc
 part_refused (Fault fault) false x y h = let e : BadText ≡ fault = cc in ap Err e
@@ -33,12 +34,14 @@ part_read true x y e h = (refl, cc)
 part_read false x y e h = cc
 
 -- the fault that the exit after `ok_or` tells
-pub fault_of_none : {T : Type 0} (o : Option T) (fault other : LineFault) → o ≡ None → ◌≡◌ {A = Result T LineFault} (Err fault) (ok_or o other) → fault ≡ other
+pub fault_of_none : {T : Type 0} (o : Option T) (fault other : LineFault) → o ≡ None
+    → ◌≡◌ {A = Result T LineFault} (Err fault) (ok_or o other) → fault ≡ other
 fault_of_none None fault other e h = cc
 fault_of_none (Some x) fault other e h = cc
 
 -- where a step is refused, so is what goes on from it
-pub step_refused : {A B : Type 0} (error : LineError) (o : Option A) (f : A → Option B) → IsReadOf (Err error) (ok_or o BadText)
+pub step_refused : {A B : Type 0} (error : LineError) (o : Option A) (f : A → Option B)
+    → IsReadOf (Err error) (ok_or o BadText)
     → IsReadOf (Err error) (ok_or (option_and_then f o) BadText)
 step_refused (Fault fault) None f h = let e : BadText ≡ fault = cc in ap Err e
 step_refused (Fault fault) (Some x) f h = cc
@@ -49,7 +52,8 @@ some_from_ok None e x h = cc
 some_from_ok (Some y) e x h = let same : y ≡ x = cc in ap Some same
 
 -- the same, where what was read is changed
-pub change_refused : {A B : Type 0} (error : LineError) (o : Option A) (f : A → B) → IsReadOf (Err error) (ok_or o BadText)
+pub change_refused : {A B : Type 0} (error : LineError) (o : Option A) (f : A → B)
+    → IsReadOf (Err error) (ok_or o BadText)
     → IsReadOf (Err error) (ok_or (option_map f o) BadText)
 change_refused (Fault fault) None f h = let e : BadText ≡ fault = cc in ap Err e
 change_refused (Fault fault) (Some x) f h = cc

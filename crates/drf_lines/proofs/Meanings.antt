@@ -9,18 +9,21 @@ use Rattle.drf_lines.specs.declared.fault.LineError.TheVariants.{Fault, Memory}
 use Rattle.drf_lines.specs.Fault.{◌>>=◌, IsReadAs, IsReadOf}
 use Rattle.drf_lines.specs.Meaning.{value_in, event_in, longest_line, meaning_of}
 
-refused_at : (error : LineError) (r : Result Data LineFault) → IsReadAs view (Err error) r → IsReadOf (Err error) (r >>= event_in)
+refused_at : (error : LineError) (r : Result Data LineFault) → IsReadAs view (Err error) r
+    → IsReadOf (Err error) (r >>= event_in)
 refused_at (Fault fault) r h = ap (λ r. r >>= event_in) h
 refused_at Memory r h = tt
 
 -- a line that is no JSON has that fault
-pub meaning_refused : (error : LineError) (line : List ℕ) → nat_lt longest_line (length line) ≡ false → IsReadAs view (Err error) (value_in line)
+pub meaning_refused : (error : LineError) (line : List ℕ) → nat_lt longest_line (length line) ≡ false
+    → IsReadAs view (Err error) (value_in line)
     → IsReadOf (Err error) (meaning_of line)
 unfolding meaning_of
 meaning_refused error line short h = rw short (refused_at error (value_in line) h)
 
 -- another means what its value does
-pub meaning_read : (line : List ℕ) (value : Data) → nat_lt longest_line (length line) ≡ false → value_in line ≡ Ok value → meaning_of line ≡ event_in value
+pub meaning_read : (line : List ℕ) (value : Data) → nat_lt longest_line (length line) ≡ false → value_in line ≡ Ok value
+    → meaning_of line ≡ event_in value
 unfolding meaning_of
 meaning_read line value short e = rw (short, e)
 

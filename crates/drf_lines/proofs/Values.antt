@@ -15,7 +15,8 @@ member_count-members_view : (es : List (String Global × Value)) → member_coun
 member_count-members_view [] = refl
 member_count-members_view (e ∷ es) = ap suc (member_count-members_view es)
 
-pub members_counted : (es : List (String Global × Value)) (value : Data) (n : ℕ) → Some (members_view es) ≡ as_object value → eqb (length es) n ≡ has_members n value
+pub members_counted : (es : List (String Global × Value)) (value : Data) (n : ℕ)
+    → Some (members_view es) ≡ as_object value → eqb (length es) n ≡ has_members n value
 unfolding has_members
 members_counted es value n e = rw (← e, member_count-members_view)
 
@@ -23,7 +24,8 @@ pub value_read : (line : List ℕ) (value : Data) → IsUtf8 line → read line 
 unfolding value_in
 value_read line value utf8 e = rw (is_utf8-from_IsUtf8 line utf8, e)
 
-value_none_at : (line : List ℕ) (b : Bool) → is_utf8 line ≡ b → (IsUtf8 line → read line ≡ None) → cond b (ok_or (read line) NotJson) (Err NotJson) ≡ Err NotJson
+value_none_at : (line : List ℕ) (b : Bool) → is_utf8 line ≡ b → (IsUtf8 line → read line ≡ None)
+    → cond b (ok_or (read line) NotJson) (Err NotJson) ≡ Err NotJson
 value_none_at line true e none = rw (none (IsUtf8-from_is_utf8 line e))
 value_none_at line false e none = refl
 
@@ -47,13 +49,17 @@ texts_after-nil values = at (texts_of (items_view values))
 pub texts_after-end : (texts : List (List ℕ)) → texts_after texts [] ≡ Some texts
 texts_after-end texts = ap Some (append-nil texts)
 
-pub texts_after-text : (texts : List (List ℕ)) (value : Value) (values : List Value) (text : List ℕ) → as_str (view value) ≡ Some text
+pub texts_after-text : (texts : List (List ℕ)) (value : Value) (values : List Value) (text : List ℕ)
+    → as_str (view value) ≡ Some text
     → texts_after texts (value ∷ values) ≡ texts_after (texts ++ text ∷ []) values
 texts_after-text texts value values text e = rw e (at (texts_of (items_view values)))
   where
-    at : (o : Option (List (List ℕ))) → option_map (λ more. texts ++ more) (option_map (λ more. text ∷ more) o) ≡ option_map (λ more. (texts ++ text ∷ []) ++ more) o
+    at : (o : Option (List (List ℕ)))
+        → option_map (λ more. texts ++ more) (option_map (λ more. text ∷ more) o)
+        ≡ option_map (λ more. (texts ++ text ∷ []) ++ more) o
     at None = refl
     at (Some more) = ap Some (sym (append_assoc texts (text ∷ []) more))
 
-pub texts_after-none : (texts : List (List ℕ)) (value : Value) (values : List Value) → as_str (view value) ≡ None → texts_after texts (value ∷ values) ≡ None
+pub texts_after-none : (texts : List (List ℕ)) (value : Value) (values : List Value) → as_str (view value) ≡ None
+    → texts_after texts (value ∷ values) ≡ None
 texts_after-none texts value values e = rw e

@@ -21,13 +21,15 @@ decides_range low high c = Decides-and _ _ (decides_le low c) (decides_le c high
 
 name_byte : (b : ℕ) → Decides (is_name_byte b) (IsNameByte b)
 name_byte b =
-    Decides-or _ _ (Decides-or _ _ (Decides-or _ _ (decides_range 48 57 b) (decides_range 65 90 b)) (decides_range 97 122 b))
+    Decides-or _ _ (Decides-or _ _ (Decides-or _ _ (decides_range 48 57 b) (decides_range 65 90 b))
+        (decides_range 97 122 b))
     (Decides-or _ _ (Decides-eqb b 95) (Decides-or _ _ (Decides-eqb b 45) (Decides-eqb b 46)))
 
 label_byte : (b : ℕ) → Decides (is_label_byte b) (IsLabelByte b)
 label_byte b = Decides-or _ _ (name_byte b) (Decides-eqb b 47)
 
-all_decides : (p : ℕ → Bool) (P : ℕ → Type 0) → ((b : ℕ) → Decides (p b) (P b)) → (text : List ℕ) → Decides (list_all p text) (All P text)
+all_decides : (p : ℕ → Bool) (P : ℕ → Type 0) → ((b : ℕ) → Decides (p b) (P b)) → (text : List ℕ)
+    → Decides (list_all p text) (All P text)
 all_decides p P each text = Decides-by_and p P (list_all p) each refl (λ _ _. refl) text
 
 short : (text : List ℕ) → Decides (is_short text) ((1 ≤ length text) × (length text ≤ 64))
@@ -36,13 +38,15 @@ short text = Decides-and _ _ (decides_le 1 (length text)) (decides_le (length te
 pub name_decides : (text : List ℕ) → Decides (is_name text) (IsName text)
 unfolding is_name
 name_decides text =
-    Decides-like _ (λ h. record { not_empty = h.0.0; short = h.0.1; alphabet = h.1 }) (λ h. ((h.not_empty, h.short), h.alphabet))
+    Decides-like _ (λ h. record { not_empty = h.0.0; short = h.0.1; alphabet = h.1 })
+        (λ h. ((h.not_empty, h.short), h.alphabet))
     (Decides-and _ _ (short text) (all_decides is_name_byte IsNameByte name_byte text))
 
 pub label_decides : (text : List ℕ) → Decides (is_label text) (IsLabel text)
 unfolding is_label
 label_decides text =
-    Decides-like _ (λ h. record { not_empty = h.0.0; short = h.0.1; alphabet = h.1 }) (λ h. ((h.not_empty, h.short), h.alphabet))
+    Decides-like _ (λ h. record { not_empty = h.0.0; short = h.0.1; alphabet = h.1 })
+        (λ h. ((h.not_empty, h.short), h.alphabet))
     (Decides-and _ _ (short text) (all_decides is_label_byte IsLabelByte label_byte text))
 
 role_byte : (b : ℕ) → Decides (is_role_byte b) (IsComponentByte b)
@@ -57,9 +61,12 @@ role_byte b =
       no_colon = λ e. h.1 (inr (inr (inr (inl e))));
       no_semicolon = λ e. h.1 (inr (inr (inr (inr e))));
     })
-    (λ h. (h.visible, λ s. ⊎_elim h.no_slash (λ t. ⊎_elim h.no_open (λ u. ⊎_elim h.no_close (λ v. ⊎_elim h.no_colon h.no_semicolon v) u) t) s))
+    (λ h. (h.visible, λ s. ⊎_elim h.no_slash
+        (λ t. ⊎_elim h.no_open (λ u. ⊎_elim h.no_close (λ v. ⊎_elim h.no_colon h.no_semicolon v) u) t) s))
     (Decides-and _ _ (decides_range 33 126 b)
-    (Decides-not _ (Decides-or _ _ (Decides-eqb b 47) (Decides-or _ _ (Decides-eqb b 40) (Decides-or _ _ (Decides-eqb b 41) (Decides-or _ _ (Decides-eqb b 58) (Decides-eqb b 59)))))))
+    (Decides-not _ (Decides-or _ _ (Decides-eqb b 47)
+        (Decides-or _ _ (Decides-eqb b 40)
+        (Decides-or _ _ (Decides-eqb b 41) (Decides-or _ _ (Decides-eqb b 58) (Decides-eqb b 59)))))))
 
 -- what the test on a role of one component says
 record Passes (text : List ℕ) : Type 0 where
@@ -90,7 +97,8 @@ passes text h =
 back : (text : List ℕ) → Passes text → is_plain_role text ≡ true
 unfolding is_plain_role
 back text p =
-    and_from _ _ (and_from _ _ ((short text).1 (p.not_empty, p.short)) ((all_decides is_role_byte IsComponentByte role_byte text).1 p.alphabet))
+    and_from _ _ (and_from _ _ ((short text).1 (p.not_empty, p.short))
+        ((all_decides is_role_byte IsComponentByte role_byte text).1 p.alphabet))
     (not_from_false _ (or_from _ _ p.no_dash (or_from _ _ p.no_dot p.no_dots)))
 
 first_byte : (text : List ℕ) → slice_get text 0 ≡ Some 45 → slice_index text 0 ≡ 45
@@ -99,7 +107,8 @@ first_byte (b ∷ bytes) e = same_Some _ _ e
 
 component : (text : List ℕ) → Passes text → same_text text (codes "*") ≡ false → IsComponent text
 component text p other =
-    let differs = λ (word : List ℕ) (test : same_text text word ≡ false) (e : text ≡ word). false≢true (sym test ∙ test_from_same text word e) in
+    let differs = λ (word : List ℕ) (test : same_text text word ≡ false) (e : text ≡ word).
+        false≢true (sym test ∙ test_from_same text word e) in
     record {
       not_empty = λ e. let some = p.not_empty in let none = ap length e in absurd (omega arith);
       no_dot = differs (codes ".") p.no_dot;
@@ -145,7 +154,8 @@ component_passes text c small = record {
     first (x ∷ xs) h e = ap Some e
 
 -- a role of one component passes the test
-pub one_component : (role : List (List ℕ)) (text : List ℕ) → IsRole role → text_of role ≡ text → 1 ≤ length role → length role ≤ 1
+pub one_component : (role : List (List ℕ)) (text : List ℕ) → IsRole role → text_of role ≡ text → 1 ≤ length role
+    → length role ≤ 1
     → (role ≡ text ∷ []) × (is_plain_role text ≡ true)
 one_component [] text h e some one = absurd (omega arith)
 one_component (c ∷ []) text h e some one = (
@@ -164,7 +174,8 @@ slash_fails [] back = refl
 slash_fails (b ∷ front) back = and_right (is_role_byte b) _ (slash_fails front back)
 
 -- a role of more components doesn't
-pub more_components : (role : List (List ℕ)) (text : List ℕ) → text_of role ≡ text → 1 < length role → is_plain_role text ≡ false
+pub more_components : (role : List (List ℕ)) (text : List ℕ) → text_of role ≡ text → 1 < length role
+    → is_plain_role text ≡ false
 unfolding is_plain_role
 more_components [] text e more = absurd (omega arith)
 more_components (c ∷ []) text e more = absurd (omega arith)

@@ -41,7 +41,8 @@ keys count value = if has_members (count + 1) value then Ok tt else Err BadShape
 -- the text of each item, if each is one
 abbrev pub texts_of : Items → Option (List (List ℕ))
 texts_of no_items = Some []
-texts_of (item value items) = option_and_then (λ text. option_map (λ texts. text ∷ texts) (texts_of items)) (as_str value)
+texts_of (item value items) =
+    option_and_then (λ text. option_map (λ texts. text ∷ texts) (texts_of items)) (as_str value)
 
 -- the text, the whole number and the texts under a key
 unfoldable pub text_at : List ℕ → Data → Result (List ℕ) LineFault
@@ -79,7 +80,8 @@ events =
 -- what a value means whose `event` is that name
 abbrev pub event_among : List (List ℕ × (Data → Result Event LineFault)) → List ℕ → Data → Result Event LineFault
 event_among [] name value = Err BadShape
-event_among (event ∷ events) name value = if same_text name event.0 then event.1 value else event_among events name value
+event_among (event ∷ events) name value =
+    if same_text name event.0 then event.1 value else event_among events name value
 
 unfoldable pub event_in : Data → Result Event LineFault
 event_in value = text_at (codes "event") value >>= λ name. event_among events name value

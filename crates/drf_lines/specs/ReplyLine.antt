@@ -26,7 +26,8 @@ offers_value offers = object (member (codes "offers") (array (items_of (map offe
 
 -- why something was refused
 abbrev pub refused_value : List ℕ → ℕ → Data
-refused_value name reason = object (member (codes "name") (string name) (member (codes "refused") (number (unsigned reason)) no_members))
+refused_value name reason =
+    object (member (codes "name") (string name) (member (codes "refused") (number (unsigned reason)) no_members))
 
 -- a reply as JSON
 abbrev pub reply_value : Reply → Data

@@ -19,7 +19,8 @@ is_semicolon b = b == 59
 unfoldable pub entry_of : List ℕ → Option Entry
 entry_of piece =
     if list_any is_colon piece && is_label (before_first is_colon piece)
-    then option_map (λ amount. record { label = before_first is_colon piece; amount = amount }) (amount_of (after_first is_colon piece))
+    then option_map (λ amount. record { label = before_first is_colon piece; amount = amount })
+        (amount_of (after_first is_colon piece))
     else None
 
 -- what some pieces say, if each says something

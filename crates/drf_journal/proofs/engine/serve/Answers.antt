@@ -28,13 +28,15 @@ loop-turn-init g c = record {
 }
 
 pub returns-in_default-clause-run : goal.returns-in_default-clause-run
-returns-in_default-clause-run g c = run-unread _ _ _ _ _ _ _ (g.W.Write.contents c.loop-turn.writer.inner) _ c.loop-turn.invariant.serving c.in_default.ensures.bytes
+returns-in_default-clause-run g c =
+    run-unread _ _ _ _ _ _ _ (g.W.Write.contents c.loop-turn.writer.inner) _ c.loop-turn.invariant.serving c.in_default.ensures.bytes
 
 pub returns-in_err-close-clause-run : goal.returns-in_err-close-clause-run
 returns-in_err-close-clause-run g c =
     let p = err_from_is_err_and c.from_residual-in_err-close.result c.from_residual-in_err-close.ensures.1 in
     let bytes = rw c.if-count-eq0.true at c.in-Ok.ensures.bytes in
-    rw (p.1, p.2) (run-forgotten _ _ _ _ _ _ _ (g.W.Write.contents c.loop-turn.writer.inner) _ c.loop-turn.invariant.serving bytes.0)
+    rw (p.1, p.2) (run-forgotten _ _ _ _ _ _ _
+        (g.W.Write.contents c.loop-turn.writer.inner) _ c.loop-turn.invariant.serving bytes.0)
 
 pub returns-in_err-close-clause-cause : goal.returns-in_err-close-clause-cause
 returns-in_err-close-clause-cause g c =
@@ -46,52 +48,60 @@ returns-in_err-send-clause-run g c =
     let p = err_from_is_err_and c.from_residual-in_err-send.result c.from_residual-in_err-send.ensures.1 in
     let bytes = rw c.if-count-eq0.true at c.in-Ok.ensures.bytes in
     let sent = rw c.in_ok-close.ensures.ok at c.in_err-send.ensures.err in
-    rw (p.1, p.2, c.in_err-send.ensures.fault) (run-unwritten _ _ _ _ _ _ _ _ _ c.loop-turn.invariant.serving bytes.0 sent)
+    rw (p.1, p.2, c.in_err-send.ensures.fault)
+        (run-unwritten _ _ _ _ _ _ _ _ _ c.loop-turn.invariant.serving bytes.0 sent)
 
 pub returns-in_err-send-clause-cause : goal.returns-in_err-send-clause-cause
 returns-in_err-send-clause-cause g c =
     let p = err_from_is_err_and c.from_residual-in_err-send.result c.from_residual-in_err-send.ensures.1 in
     rw (p.1, p.2, c.in_err-send.ensures.fault)
-    (rw c.loop-turn.invariant.reader_sound at c.in-Ok.ensures.failed, c.in_err-send.ensures.failed c.loop-turn.invariant.writer_sound)
+    (rw c.loop-turn.invariant.reader_sound at c.in-Ok.ensures.failed,
+        c.in_err-send.ensures.failed c.loop-turn.invariant.writer_sound)
 
 pub returns-then-count-eq0-clause-run : goal.returns-then-count-eq0-clause-run
 returns-then-count-eq0-clause-run g c =
     let bytes = rw c.if-count-eq0.true at c.in-Ok.ensures.bytes in
     let sent = rw c.in_ok-close.ensures.ok at c.in_ok-send.ensures.sent in
-    let counted = c.lines.ensures ∙ ap (λ (s : State). s.lines) c.in_ok-send.ensures.ok ∙ ap (λ (s : State). s.lines) c.in_ok-close.ensures.ok in
+    let counted = c.lines.ensures ∙ ap (λ (s : State). s.lines) c.in_ok-send.ensures.ok
+        ∙ ap (λ (s : State). s.lines) c.in_ok-close.ensures.ok in
     run-ends _ _ _ _ _ _ _ _ _ c.loop-turn.invariant.serving c.lines.result bytes.0 sent counted
 
 pub returns-then-count-eq0-clause-read : goal.returns-then-count-eq0-clause-read
 returns-then-count-eq0-clause-read g c =
     let bytes = rw c.if-count-eq0.true at c.in-Ok.ensures.bytes in
-    let some : 0 < length c.read.new.buf = let a = c.read.auto.buf in let b = c.loop-turn.invariant.chunk in omega arith in
+    let some : 0 < length c.read.new.buf = let a = c.read.auto.buf in let b = c.loop-turn.invariant.chunk in
+        omega arith in
     bytes.1 refl some
 
 pub returns-in_err-send-2-clause-run : goal.returns-in_err-send-2-clause-run
 returns-in_err-send-2-clause-run g c =
     let p = err_from_is_err_and c.from_residual-in_err-send-2.result c.from_residual-in_err-send-2.ensures.1 in
     rw (p.1, p.2, c.in_err-send-2.ensures.fault)
-    (run-fails _ _ _ _ _ _ _ _ _ c.loop-turn.invariant.serving (take c.in-Ok.count c.read.new.buf) c.take-taken.new.self c.in-Ok.ensures.bytes.0 c.take-taken.ensures.answers
+    (run-fails _ _ _ _ _ _ _ _ _ c.loop-turn.invariant.serving
+        (take c.in-Ok.count c.read.new.buf) c.take-taken.new.self c.in-Ok.ensures.bytes.0 c.take-taken.ensures.answers
     c.in_err-send-2.ensures.err)
 
 pub returns-in_err-send-2-clause-cause : goal.returns-in_err-send-2-clause-cause
 returns-in_err-send-2-clause-cause g c =
     let p = err_from_is_err_and c.from_residual-in_err-send-2.result c.from_residual-in_err-send-2.ensures.1 in
     rw (p.1, p.2, c.in_err-send-2.ensures.fault)
-    (rw c.loop-turn.invariant.reader_sound at c.in-Ok.ensures.failed, c.in_err-send-2.ensures.failed c.loop-turn.invariant.writer_sound)
+    (rw c.loop-turn.invariant.reader_sound at c.in-Ok.ensures.failed,
+        c.in_err-send-2.ensures.failed c.loop-turn.invariant.writer_sound)
 
 pub returns-in_err-taken-clause-run : goal.returns-in_err-taken-clause-run
 returns-in_err-taken-clause-run g c =
     let p = err_from_is_err_and c.from_residual-in_err-taken.result c.from_residual-in_err-taken.ensures.1 in
     rw (p.1, p.2)
-    (run-forgets _ _ _ _ _ _ _ _ _ c.loop-turn.invariant.serving (take c.in-Ok.count c.read.new.buf) c.take-taken.new.self c.in-Ok.ensures.bytes.0 c.take-taken.ensures.answers
+    (run-forgets _ _ _ _ _ _ _ _ _ c.loop-turn.invariant.serving
+        (take c.in-Ok.count c.read.new.buf) c.take-taken.new.self c.in-Ok.ensures.bytes.0 c.take-taken.ensures.answers
     c.in_ok-send-2.ensures.sent)
 
 pub returns-in_err-taken-clause-cause : goal.returns-in_err-taken-clause-cause
 returns-in_err-taken-clause-cause g c =
     let p = err_from_is_err_and c.from_residual-in_err-taken.result c.from_residual-in_err-taken.ensures.1 in
     rw (p.1, p.2)
-    (rw c.loop-turn.invariant.reader_sound at c.in-Ok.ensures.failed, c.in_ok-send-2.ensures.failed c.loop-turn.invariant.writer_sound)
+    (rw c.loop-turn.invariant.reader_sound at c.in-Ok.ensures.failed,
+        c.in_ok-send-2.ensures.failed c.loop-turn.invariant.writer_sound)
 
 pub loop-turn-preserved : goal.loop-turn-preserved
 loop-turn-preserved g c =
@@ -101,7 +111,8 @@ loop-turn-preserved g c =
     let next = c.in_ok-send-2.ensures.ok ∙ ap (λ (s : State). record s { unsent = [] }) taken in
     record {
       serving = serving-takes _ _ _ _ _ _ _ _ _ c.loop-turn.invariant.serving piece _ c.in-Ok.ensures.bytes.0 sent next;
-      reads = let a = c.in-Ok.ensures.calls in let b = c.loop-turn.invariant.reads in let d = c.loop-turn-test.true in omega arith;
+      reads = let a = c.in-Ok.ensures.calls in let b = c.loop-turn.invariant.reads in let d = c.loop-turn-test.true in
+          omega arith;
       reader_sound = rw c.loop-turn.invariant.reader_sound at c.in-Ok.ensures.failed;
       writer_sound = c.in_ok-send-2.ensures.failed c.loop-turn.invariant.writer_sound;
       chunk = let a = c.read.auto.buf in let b = c.loop-turn.invariant.chunk in omega arith;
@@ -117,4 +128,5 @@ loop-turn-preserved g c =
     }
 
 pub returns-clause-run : goal.returns-clause-run
-returns-clause-run g c = run-unread _ _ _ _ _ _ _ (g.W.Write.contents c.loop-turn.writer.inner) _ c.loop-turn.invariant.serving (Keeps-refl _)
+returns-clause-run g c = run-unread _ _ _ _ _ _ _
+    (g.W.Write.contents c.loop-turn.writer.inner) _ c.loop-turn.invariant.serving (Keeps-refl _)

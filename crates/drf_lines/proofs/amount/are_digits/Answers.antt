@@ -9,5 +9,6 @@ use Rattle.drf_lines.proofs.amount.are_digits.Goals as goal
 pub returns-then-not-is_empty : goal.returns-then-not-is_empty
 returns-then-not-is_empty c =
     let digits : c.all.result ≡ list_all is_ascii_digit c.args.text.now =
-    all_from_yields_List is_ascii_digit _ _ c.all.result c.all.ensures.ran (YieldsList-from_slice c.args.text.now cc) (λ x b q k. search (rules, tests)) in
+    all_from_yields_List is_ascii_digit _ _ c.all.result c.all.ensures.ran (YieldsList-from_slice c.args.text.now cc)
+        (λ x b q k. search (rules, tests)) in
     grind (arith, nat_tests)

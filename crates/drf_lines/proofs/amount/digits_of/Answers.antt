@@ -12,4 +12,5 @@ returns c =
     let digits : list_all is_ascii_digit text ≡ true = grind (arith, nat_tests) in
     let some : 0 < length text = grind (arith, nat_tests) in
     let parsed = parse_digits numerals 64 text c.parse.result c.parse.ensures.value.0 digits in
-    rw c.ok.ensures.value (SomeIff-from_ok c.parse.result _ _ _ parsed (λ p. (grind (arith, nat_tests), p.1)) (λ q. (some, q.1)))
+    rw c.ok.ensures.value (SomeIff-from_ok c.parse.result _ _ _ parsed (λ p. (grind (arith, nat_tests), p.1))
+        (λ q. (some, q.1)))

@@ -8,11 +8,13 @@ returns-then-thousandths-eq0 c = rw (decimals_none c.args.thousandths c.if-thous
 
 pub returns-then-thousandths-eq0-2 : goal.returns-then-thousandths-eq0-2
 returns-then-thousandths-eq0-2 c =
-    rw (decimals_one c.args.thousandths c.if-thousandths-eq0.false c.if-thousandths-eq0-2.true) (grind (arith, common_steps))
+    rw (decimals_one c.args.thousandths c.if-thousandths-eq0.false c.if-thousandths-eq0-2.true)
+        (grind (arith, common_steps))
 
 pub returns-then-thousandths-eq0-3 : goal.returns-then-thousandths-eq0-3
 returns-then-thousandths-eq0-3 c =
-    rw (decimals_two c.args.thousandths c.if-thousandths-eq0-2.false c.if-thousandths-eq0-3.true) (grind (arith, common_steps))
+    rw (decimals_two c.args.thousandths c.if-thousandths-eq0-2.false c.if-thousandths-eq0-3.true)
+        (grind (arith, common_steps))
 
 pub returns : goal.returns
 returns c =

@@ -33,9 +33,11 @@ returns-in_err-ok_or c =
     let texts = map (λ text. text.now) c.loop-item.texts.items in
     let item = c.item-item.result in
     let none : as_str (view item) ≡ None = sym (rw c.in_err-ok_or.ensures.ok_part at c.as_str.ensures) in
-    let whole : option_and_then texts_of (option_and_then as_array (get c.args.key.now (view c.args.value.now))) ≡ None =
+    let whole : option_and_then texts_of (option_and_then as_array (get c.args.key.now (view c.args.value.now)))
+        ≡ None =
     sym c.loop-item.invariant ∙ at_drop_more (texts_after texts) items i item c.loop-item-test.true
-    ∙ ap (λ x. texts_after texts (x ∷ drop (i + 1) items)) (sym c.item-item.is) ∙ texts_after-none texts item (drop (i + 1) items) none in
+    ∙ ap (λ x. texts_after texts (x ∷ drop (i + 1) items)) (sym c.item-item.is)
+        ∙ texts_after-none texts item (drop (i + 1) items) none in
     rw (p.1, p.2, whole, fault_of_none _ _ _ c.in_err-ok_or.ensures.ok_part c.in_err-ok_or.ensures.value)
 
 pub loop-item-preserved : goal.loop-item-preserved
@@ -48,11 +50,13 @@ loop-item-preserved c =
     let some : as_str (view item) ≡ Some text = sym (rw c.in_ok-ok_or.ensures.ok_part at c.as_str.ensures) in
     rw (c.in_ok-push.ensures.items, map-append) (sym (
     sym c.loop-item.invariant ∙ at_drop_more (texts_after texts) items i item c.loop-item-test.true
-    ∙ ap (λ x. texts_after texts (x ∷ drop (i + 1) items)) (sym c.item-item.is) ∙ texts_after-text texts item (drop (i + 1) items) text some))
+    ∙ ap (λ x. texts_after texts (x ∷ drop (i + 1) items)) (sym c.item-item.is)
+        ∙ texts_after-text texts item (drop (i + 1) items) text some))
 
 pub returns : goal.returns
 unfolding texts_at
 returns c =
     let items = c.deref-item-items.result.now in
     let texts = map (λ text. text.now) c.loop-item.texts.items in
-    ap (λ o. ok_or o BadShape) (sym c.loop-item.invariant ∙ at_drop_all (texts_after texts) items c.loop-item.item-index c.loop-item-test.false ∙ texts_after-end texts)
+    ap (λ o. ok_or o BadShape) (sym c.loop-item.invariant
+        ∙ at_drop_all (texts_after texts) items c.loop-item.item-index c.loop-item-test.false ∙ texts_after-end texts)

@@ -7,4 +7,5 @@ use Rattle.drf_lines.proofs.line.texts_at.Given as goal
 
 abbrev pub invariant-loop-item : goal.invariant-loop-item
 invariant-loop-item l =
-    texts_after (map (λ text. text.now) l.texts.items) (drop l.item-index l.item-items) ≡ option_and_then texts_of (option_and_then as_array (get l.key (view l.value)))
+    texts_after (map (λ text. text.now) l.texts.items) (drop l.item-index l.item-items)
+        ≡ option_and_then texts_of (option_and_then as_array (get l.key (view l.value)))

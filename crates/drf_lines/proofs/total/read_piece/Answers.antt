@@ -16,23 +16,29 @@ returns-in_err-name c =
 pub returns-in_err-amount : goal.returns-in_err-amount
 returns-in_err-amount c =
     let p = err_from_is_err_and c.from_residual-in_err-amount.result c.from_residual-in_err-amount.ensures.1 in
-    let split = rw c.in_ok-name.ensures.ok_part at (split_once_first 58 c.args.piece.now c.split_once.result c.split_once.ensures.cases (lit< tt)) in
+    let split = rw c.in_ok-name.ensures.ok_part at
+        (split_once_first 58 c.args.piece.now c.split_once.result c.split_once.ensures.cases (lit< tt)) in
     let entry = entry_with_colon c.args.piece.now c.in_ok-name.name.now c.in_ok-name.number.now split.0 split.1 split.2 in
     let none : amount_of c.in_ok-name.number.now ≡ None = sym c.read_amount.ensures ∙ c.in_err-amount.ensures.ok_part in
-    rw (p.1, p.2, fault_of_none _ _ _ c.in_err-amount.ensures.ok_part c.in_err-amount.ensures.value, entry, none, cond_same)
+    rw (p.1, p.2, fault_of_none _ _ _ c.in_err-amount.ensures.ok_part c.in_err-amount.ensures.value, entry, none,
+        cond_same)
 
 pub returns-in_err-read_label : goal.returns-in_err-read_label
 returns-in_err-read_label c =
     let p = err_from_is_err_and c.from_residual-in_err-read_label.result c.from_residual-in_err-read_label.ensures.1 in
-    let split = rw c.in_ok-name.ensures.ok_part at (split_once_first 58 c.args.piece.now c.split_once.result c.split_once.ensures.cases (lit< tt)) in
+    let split = rw c.in_ok-name.ensures.ok_part at
+        (split_once_first 58 c.args.piece.now c.split_once.result c.split_once.ensures.cases (lit< tt)) in
     let entry = entry_with_colon c.args.piece.now c.in_ok-name.name.now c.in_ok-name.number.now split.0 split.1 split.2 in
-    let some : amount_of c.in_ok-name.number.now ≡ Some c.in_ok-amount.amount = sym c.read_amount.ensures ∙ c.in_ok-amount.ensures.ok_part in
+    let some : amount_of c.in_ok-name.number.now ≡ Some c.in_ok-amount.amount = sym c.read_amount.ensures
+        ∙ c.in_ok-amount.ensures.ok_part in
     rw (p.1, p.2, entry, some) (part_refused _ _ _ _ c.in_err-read_label.ensures)
 
 pub returns : goal.returns
 returns c =
-    let split = rw c.in_ok-name.ensures.ok_part at (split_once_first 58 c.args.piece.now c.split_once.result c.split_once.ensures.cases (lit< tt)) in
+    let split = rw c.in_ok-name.ensures.ok_part at
+        (split_once_first 58 c.args.piece.now c.split_once.result c.split_once.ensures.cases (lit< tt)) in
     let entry = entry_with_colon c.args.piece.now c.in_ok-name.name.now c.in_ok-name.number.now split.0 split.1 split.2 in
-    let some : amount_of c.in_ok-name.number.now ≡ Some c.in_ok-amount.amount = sym c.read_amount.ensures ∙ c.in_ok-amount.ensures.ok_part in
+    let some : amount_of c.in_ok-name.number.now ≡ Some c.in_ok-amount.amount = sym c.read_amount.ensures
+        ∙ c.in_ok-amount.ensures.ok_part in
     let label = part_read _ _ _ _ c.in_ok-read_label.ensures in
     rw (entry, some, label.0, label.1, c.new.ensures)

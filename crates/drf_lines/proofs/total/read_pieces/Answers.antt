@@ -12,13 +12,18 @@ use Rattle.drf_lines.proofs.total.read_pieces.Goals as goal
 use Rattle.drf_lines.proofs.total.read_pieces.Goals.{In-Some}
 
 -- this piece, and those behind it, are left
-left : (c : In-Some) → after c.loop-piece.named (c.in-Some.piece.now ∷ drop (length c.loop-piece.yielded + 1) (slice_split is_semicolon c.args.text.now)) ≡ amounts_of (slice_split is_semicolon c.args.text.now)
+left : (c : In-Some) → after c.loop-piece.named
+    (c.in-Some.piece.now ∷ drop (length c.loop-piece.yielded + 1) (slice_split is_semicolon c.args.text.now))
+    ≡ amounts_of (slice_split is_semicolon c.args.text.now)
 left c =
     let pieces = slice_split is_semicolon c.args.text.now in
     let named = c.loop-piece.named in
     let n = length c.loop-piece.yielded in
-    let t = YieldsList-turn (YieldsList-from_str_split 59 c.args.text.now (lit< tt) (cc) (cc) (cc)) c.loop-piece.yielded _ c.loop-piece.yielded_by _ _ c.in-Some.piece c.in-Some.is c.next.ensures.steps in
-    ap (λ piece. after named (piece ∷ drop (n + 1) pieces)) t.1 ∙ sym (at_drop_more (after named) pieces n c.in-Some.piece.now t.0) ∙ c.loop-piece.invariant ∙ sym (amounts_by_steps pieces)
+    let t = YieldsList-turn (YieldsList-from_str_split 59 c.args.text.now (lit< tt) (cc) (cc)
+        (cc)) c.loop-piece.yielded _ c.loop-piece.yielded_by _ _ c.in-Some.piece c.in-Some.is c.next.ensures.steps in
+    ap (λ piece. after named (piece ∷ drop (n + 1) pieces)) t.1
+        ∙ sym (at_drop_more (after named) pieces n c.in-Some.piece.now t.0) ∙ c.loop-piece.invariant
+        ∙ sym (amounts_by_steps pieces)
 
 pub returns-in_err-entry : goal.returns-in_err-entry
 returns-in_err-entry c =
@@ -45,7 +50,9 @@ pub returns : goal.returns
 returns c =
     let pieces = slice_split is_semicolon c.args.text.now in
     let n = length c.loop-piece.yielded in
-    let t = YieldsList-end (YieldsList-from_str_split 59 c.args.text.now (lit< tt) (cc) (cc) (cc)) c.loop-piece.yielded _ c.loop-piece.yielded_by _ _ c.in-None.is c.next.ensures.steps in
+    let t = YieldsList-end (YieldsList-from_str_split 59 c.args.text.now (lit< tt) (cc) (cc)
+        (cc)) c.loop-piece.yielded _ c.loop-piece.yielded_by _ _ c.in-None.is c.next.ensures.steps in
     let whole : amounts_of pieces ≡ Some c.loop-piece.named =
-    amounts_by_steps pieces ∙ sym c.loop-piece.invariant ∙ at_drop_all (after c.loop-piece.named) pieces n (omega (arith, t.1)) in
+    amounts_by_steps pieces ∙ sym c.loop-piece.invariant
+        ∙ at_drop_all (after c.loop-piece.named) pieces n (omega (arith, t.1)) in
     rw whole

@@ -6,4 +6,5 @@ use Rattle.drf_lines.proofs.total.read_pieces.Given as goal
 
 abbrev pub invariant-loop-piece : goal.invariant-loop-piece
 invariant-loop-piece l =
-    after l.named (drop (length l.yielded) (slice_split is_semicolon l.text)) ≡ after [] (slice_split is_semicolon l.text)
+    after l.named (drop (length l.yielded) (slice_split is_semicolon l.text))
+        ≡ after [] (slice_split is_semicolon l.text)

@@ -14,7 +14,8 @@ pub returns-in_err-named : goal.returns-in_err-named
 unfolding total_in
 returns-in_err-named c =
     let p = err_from_is_err_and c.from_residual.result c.from_residual.ensures.1 in
-    rw (p.1, p.2, total-some c.args.text.now (λ e. grind (arith, nat_tests))) (change_refused _ _ _ c.in_err-named.ensures)
+    rw (p.1, p.2, total-some c.args.text.now (λ e. grind (arith, nat_tests)))
+        (change_refused _ _ _ c.in_err-named.ensures)
 
 pub returns : goal.returns
 unfolding total_in

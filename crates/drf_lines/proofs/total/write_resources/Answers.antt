@@ -16,15 +16,19 @@ loop-i-preserved c =
     let e = c.index-entries-i.result in
     let front = take i es in
     let within = c.loop-i-test.true in
-    let more : take (i + 1) es ≡ front ++ e ∷ [] = take_more es i e within ∙ ap (λ x. front ++ x ∷ []) (sym c.index-entries-i.is) in
+    let more : take (i + 1) es ≡ front ++ e ∷ [] = take_more es i e within
+        ∙ ap (λ x. front ++ x ∷ []) (sym c.index-entries-i.is) in
     let now = c.in_ok-push_entry.ensures in
     elim c.if-i-gt0.branch [
       | then-i-gt0+in_ok-push w ↦
           let some : 0 < length front = let _h = w.if-i-gt0.true in simp length-take (omega arith) in
-          now ∙ ap (λ b. b ++ entry_text e) (ap string_bytes w.text-is ∙ rw (w.in_ok-push.ensures.ascii (lit< tt)) at w.in_ok-push.ensures.bytes ∙ ap (λ b. b ++ 59 ∷ []) c.loop-i.invariant)
+          now ∙ ap (λ b. b ++ entry_text e)
+              (ap string_bytes w.text-is ∙ rw (w.in_ok-push.ensures.ascii (lit< tt)) at w.in_ok-push.ensures.bytes
+              ∙ ap (λ b. b ++ 59 ∷ []) c.loop-i.invariant)
           ∙ append_assoc (resources_text front) (59 ∷ []) (entry_text e)
           ∙ sym (ap resources_text more ∙ resources-push front e some)
       | else-i-gt0 w ↦
           let none : length front ≡ 0 = let _h = w.if-i-gt0.false in simp length-take (omega arith) in
-          now ∙ ap (λ b. b ++ entry_text e) (ap string_bytes w.text-is ∙ c.loop-i.invariant) ∙ sym (ap resources_text more ∙ resources-one front e none)
+          now ∙ ap (λ b. b ++ entry_text e) (ap string_bytes w.text-is ∙ c.loop-i.invariant)
+              ∙ sym (ap resources_text more ∙ resources-one front e none)
     ]

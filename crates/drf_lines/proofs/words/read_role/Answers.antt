@@ -13,9 +13,11 @@ returns-in_err-role c =
 
 pub returns-then-len-gt1 : goal.returns-then-len-gt1
 returns-then-len-gt1 c =
-    rw (more_components c.in_ok-role.role c.args.text.now c.in_ok-role.ensures.text (rw c.len.ensures.len at c.if-len-gt1.true))
+    rw (more_components c.in_ok-role.role c.args.text.now c.in_ok-role.ensures.text
+        (rw c.len.ensures.len at c.if-len-gt1.true))
 
 pub returns : goal.returns
 returns c =
-    let plain = one_component c.in_ok-role.role c.args.text.now c.in_ok-role.ensures.right c.in_ok-role.ensures.text (rw c.len.ensures.len at c.len.ensures.some) (rw c.len.ensures.len at c.if-len-gt1.false) in
+    let plain = one_component c.in_ok-role.role c.args.text.now c.in_ok-role.ensures.right c.in_ok-role.ensures.text
+        (rw c.len.ensures.len at c.len.ensures.some) (rw c.len.ensures.len at c.if-len-gt1.false) in
     rw (plain.1, plain.0)

@@ -17,4 +17,5 @@ returns-clause-ok g c =
     let counted = pending.ok.0 in
     let some : 0 < length pending.items = grind (arith, nat_tests) in
     let left : 0 < length c.args.self.now.pending = subst (λ (s : State). 0 < length s.pending) c.self.view_is some in
-    subst (λ (s : State). OnOk c.end_line.result (c.end_line.new.self ≡ s)) (sym (end-some c.args.self.now left)) c.end_line.ensures.ok
+    subst (λ (s : State). OnOk c.end_line.result (c.end_line.new.self ≡ s))
+        (sym (end-some c.args.self.now left)) c.end_line.ensures.ok

@@ -6,10 +6,12 @@ use Rattle.drf_journal.proofs.session.Session.end_line.Goals as goal
 pub returns-clause-ok : goal.returns-clause-ok
 returns-clause-ok g c =
     let inside = c.self.inside in
-    let old : State = record { machine = inside.core; echo = inside.echo; pending = inside.pending.items; unsent = inside.unsent.items; lines = inside.lines } in
+    let old : State = record { machine = inside.core; echo = inside.echo; pending = inside.pending.items; unsent =
+        inside.unsent.items; lines = inside.lines } in
     let machine = c.in_ok-told.ensures.ok in
     let pending = c.clear.ensures.items in
-    let unsent = c.in_ok-extend_from_slice.ensures.items ∙ ap (λ told. inside.unsent.items ++ told) (c.deref.ensures.value ∙ c.in_ok-told.ensures.told) in
+    let unsent = c.in_ok-extend_from_slice.ensures.items
+        ∙ ap (λ told. inside.unsent.items ++ told) (c.deref.ensures.value ∙ c.in_ok-told.ensures.told) in
     let new : State = record {
       machine = c.answer_end.new.core;
       echo = inside.echo;
@@ -24,4 +26,5 @@ returns-clause-ok g c =
       unsent = unsent i;
       lines = inside.lines + 1;
     } in
-    subst (λ (s : State). new ≡ after_piece s (c.args.end.now ++ 10 ∷ [])) c.self.view_is (step ∙ sym (piece-line old c.args.end.now c.requires.within))
+    subst (λ (s : State). new ≡ after_piece s (c.args.end.now ++ 10 ∷ [])) c.self.view_is
+        (step ∙ sym (piece-line old c.args.end.now c.requires.within))

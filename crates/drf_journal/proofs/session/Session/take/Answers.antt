@@ -18,7 +18,8 @@ loop-at-preserved g c =
     let found = c.in-Some.ensures.found in
     let next = c.end_line.new.self in
     let step : next ≡ after_piece c.loop-at.self (take at rest ++ 10 ∷ []) = c.in_ok-end_line.ensures.ok in
-    let tail : take (length rest - (at + 1)) (drop (at + 1) rest) ≡ drop (at + 1) rest = take_all _ _ (simp length-drop (omega arith)) in
+    let tail : take (length rest - (at + 1)) (drop (at + 1) rest) ≡ drop (at + 1) rest =
+        take_all _ _ (simp length-drop (omega arith)) in
     let more : next.lines ≤ c.loop-at.self.lines + (at + 1) =
     let same = ap (λ (s : State). s.lines) step in
     let few = few_lines c.loop-at.self (take at rest ++ 10 ∷ []) in
@@ -40,14 +41,17 @@ returns-then-is_empty-clause-answers g c =
 
 pub returns-clause-answers : goal.returns-clause-answers
 returns-clause-answers g c =
-    front-answers c.args.self.now c.loop-at.self (record c.loop-at.self { unsent = c.self.inside.unsent.items }) c.args.piece.now c.loop-at.rest.now c.loop-at.invariant.front
+    front-answers c.args.self.now c.loop-at.self
+        (record c.loop-at.self { unsent =
+        c.self.inside.unsent.items }) c.args.piece.now c.loop-at.rest.now c.loop-at.invariant.front
     (ap (λ (s : State). s.unsent) c.self.view_is)
 
 pub returns-clause-ok : goal.returns-clause-ok
 returns-clause-ok g c =
     let inside = c.self.inside in
     let rest = c.loop-at.rest.now in
-    let now : State = record { machine = inside.core; echo = inside.echo; pending = inside.pending.items; unsent = inside.unsent.items; lines = inside.lines } in
+    let now : State = record { machine = inside.core; echo = inside.echo; pending = inside.pending.items; unsent =
+        inside.unsent.items; lines = inside.lines } in
     let some : 0 < length rest = grind (arith, nat_tests) in
     on_ok_weaker c.keep.result
     (λ (kept : c.keep.new.pending.items ≡ kept_of (inside.pending.items ++ rest)).

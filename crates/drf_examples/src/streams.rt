@@ -1,7 +1,7 @@
 //! Streams that are slow or fail: what was written when a run ends, and that a reply does not wait for more input.
 use crate::rows::bytes;
 use anyhow::Result;
-use drf_journal::{RunFault, run};
+use drf_journal::{Device, RunFault, run};
 use drf_rows::Limits;
 use std::alloc::Global;
 use std::cell::Cell;
@@ -86,17 +86,17 @@ struct Ended {
 }
 
 fn run_within(alloc: Global, input: &[u8], bounds: Bounds) -> Ended {
-    let mut reader = Slow {
+    let mut reader = Device::new(Slow {
         rest: input,
         most: bounds.bytes,
         calls: bounds.reads,
-    };
-    let mut writer = Full {
+    });
+    let mut writer = Device::new(Full {
         taken: Vec::new(alloc),
         calls: bounds.writes,
-    };
-    let fault = run(alloc, Limits::full(), &mut reader, &mut writer).err();
-    let Full { taken, calls: _ } = writer;
+    });
+    let fault = run(alloc, Limits::full(), &mut reader, &mut writer, false).err();
+    let Full { taken, calls: _ } = writer.into_inner();
     Ended { fault, taken }
 }
 
@@ -195,7 +195,7 @@ impl Write for Counting<'_> {
 /// Whether each line is answered, and the answer flushed, before the next one is asked for.
 fn answers_at_once(alloc: Global, input: &[u8]) -> Result<bool> {
     let flushed = Cell::new(0);
-    let mut reader = Asking {
+    let mut reader = Device::new(Asking {
         slow: Slow {
             rest: input,
             most: usize::MAX,
@@ -204,13 +204,13 @@ fn answers_at_once(alloc: Global, input: &[u8]) -> Result<bool> {
         given: 0,
         flushed: &flushed,
         is_late: false,
-    };
-    let mut writer = Counting {
+    });
+    let mut writer = Device::new(Counting {
         written: 0,
         flushed: &flushed,
-    };
-    run(alloc, Limits::full(), &mut reader, &mut writer)?;
-    Ok(!reader.is_late)
+    });
+    run(alloc, Limits::full(), &mut reader, &mut writer, false)?;
+    Ok(!reader.into_inner().is_late)
 }
 
 fn tell(rt: &impl Print, what: &str, is_exact: bool) -> Result<()> {

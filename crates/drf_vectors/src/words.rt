@@ -65,12 +65,25 @@ fn append(list: &mut String, text: &str) -> Result<()> {
     Ok(list.push_str(text)?)
 }
 
-/// Each of the words once, in the order in which they come first.
-pub fn distinct<W: Word>(alloc: Global, texts: &str) -> Result<String> {
+fn read_each<W: Word>(alloc: Global, texts: &str) -> Result<Vec<W>> {
+    let mut words = Vec::new(alloc);
+    for text in texts.split(' ') {
+        words.push(W::from_text(alloc, text)?)?;
+    }
+    Ok(words)
+}
+
+fn read_once<W: Word>(alloc: Global, texts: &str) -> Result<IndexSet<W>> {
     let mut words = IndexSet::new(alloc);
     for text in texts.split(' ') {
         words.insert(W::from_text(alloc, text)?)?;
     }
+    Ok(words)
+}
+
+/// Each of the words once, in the order in which they come first.
+pub fn distinct<W: Word>(alloc: Global, texts: &str) -> Result<String> {
+    let words = read_once::<W>(alloc, texts)?;
     let mut list = String::new(alloc);
     for word in words.iter() {
         append(&mut list, word.shown())?;
@@ -79,10 +92,7 @@ pub fn distinct<W: Word>(alloc: Global, texts: &str) -> Result<String> {
 }
 
 pub fn sorted<W: Word + Ord>(alloc: Global, texts: &str) -> Result<String> {
-    let mut words = Vec::new(alloc);
-    for text in texts.split(' ') {
-        words.push(W::from_text(alloc, text)?)?;
-    }
+    let mut words = read_each::<W>(alloc, texts)?;
     words.sort()?;
     let mut list = String::new(alloc);
     for word in &words {

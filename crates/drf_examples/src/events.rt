@@ -1,6 +1,6 @@
 //! Events through the core itself, and what its rows then tell.
 ghost use Rattle.std.specs.Prelude.{IfOk};
-ghost use Rattle.drf_core.specs.Machine.{HasPlainRoles};
+ghost use Rattle.drf_core.specs.Machine.{IsSupported};
 
 use anyhow::Result;
 use drf_bundle::Bundle;
@@ -12,7 +12,7 @@ use std::alloc::Global;
 use std::rt::Runtime;
 
 fn new_agent(alloc: Global) -> Result<Event>
-    ensures { IfOk result HasPlainRoles }
+    ensures { IfOk result IsSupported }
 {
     let agent = Name::read(alloc, "n1")?;
     let total = Bundle::empty(alloc);
@@ -20,7 +20,7 @@ fn new_agent(alloc: Global) -> Result<Event>
 }
 
 fn new_framework(alloc: Global) -> Result<Event>
-    ensures { IfOk result HasPlainRoles }
+    ensures { IfOk result IsSupported }
 {
     let framework = Name::read(alloc, "f1")?;
     let role = Role::default_role(alloc)?;
@@ -29,7 +29,7 @@ fn new_framework(alloc: Global) -> Result<Event>
 }
 
 fn run_one(alloc: Global, core: &mut Core<PlainSorter>, event: Event) -> Result<()>
-    requires { HasPlainRoles event }
+    requires { IsSupported event }
 {
     let mut replies = Vec::new(alloc);
     Ok(core.run(&[event], &mut replies)?)

@@ -1,8 +1,8 @@
 -- Bytes that a writer takes in several calls.
-use Rattle.std.proofs.Common.{◌≡◌, ℕ, List, [], ◌++◌, length, take, drop, Option, refl, sym, ap, ◌∙◌, subst, append_assoc, append-nil, take-append-drop}
+use Rattle.std.proofs.Common.{◌≡◌, ℕ, List, ◌++◌, length, take, drop, Option, sym, ap, ◌∙◌, subst, append_assoc, take-append-drop}
 use Rattle.std.proofs.Math.Seq.{take-append_seam}
 use Rattle.std.specs.Io.KnownBytes.{Appends, Keeps}
-use Rattle.std.proofs.KnownBytes.{Appends-nil, Appends-trans, Appends-kept}
+use Rattle.std.proofs.KnownBytes.{Appends-trans, Appends-kept}
 use Rattle.drf_journal.specs.Device.{AppendsFrontOf}
 
 -- the front of the bytes was written, and the rest is left
@@ -10,9 +10,6 @@ pub record WroteFront (old now : Option (List ℕ)) (bytes rest : List ℕ) : Ty
   pub front : List ℕ
   pub whole : bytes ≡ front ++ rest
   pub appended : Appends old now front
-
-pub wrote-nothing : (old : Option (List ℕ)) (bytes : List ℕ) → WroteFront old old bytes bytes
-wrote-nothing old bytes = record { front = []; whole = refl; appended = Appends-nil old }
 
 pub wrote-more : (old now next : Option (List ℕ)) (bytes rest : List ℕ) (count : ℕ) → WroteFront old now bytes rest
     → Appends now next (take count rest)
@@ -40,9 +37,3 @@ wrote-front old now bytes rest wrote =
     let cut : wrote.front ≡ take (length wrote.front) bytes =
     sym (ap (take (length wrote.front)) wrote.whole ∙ take-append_seam wrote.front rest) in
     (length wrote.front, subst (Appends old now) cut wrote.appended)
-
-pub wrote-all : (old now : Option (List ℕ)) (bytes rest : List ℕ) → WroteFront old now bytes rest → rest ≡ []
-    → Appends old now bytes
-wrote-all old now bytes rest wrote none =
-    subst (Appends old now) (sym (append-nil wrote.front) ∙ ap (λ l. wrote.front ++ l) (sym none)
-    ∙ sym wrote.whole) wrote.appended

@@ -1,5 +1,5 @@
 -- A run in the middle of a piece.
-use Rattle.std.proofs.Common.{◌≡◌, ℕ, ◌+◌, ◌<◌, List, [], ◌∷◌, ◌++◌, length, take, drop, get_or, refl, sym, ap, ◌∙◌, append_assoc, append-nil, arith}
+use Rattle.std.proofs.Common.{◌≡◌, ℕ, ◌+◌, ◌<◌, List, [], ◌∷◌, ◌++◌, length, take, drop, get_or, refl, sym, ap, ◌∙◌, append_assoc}
 use Rattle.std.proofs.Math.Seq.{take-append_seam}
 use Rattle.drf_journal.specs.State.{State, after_piece, AnswersFrontOf}
 use Rattle.drf_journal.proofs.Cuts.{cut_at}
@@ -33,11 +33,6 @@ front-answers old now next piece rest took same =
     let cut : take (length took.front) piece ≡ took.front = ap (take (length took.front)) took.whole
     ∙ take-append_seam took.front rest in
     (length took.front, same ∙ ap (λ (t : State). t.unsent) (took.state ∙ ap (after_piece old) (sym cut)))
-
-pub front-ends : (old now : State) (piece rest : List ℕ) → TookFront old now piece rest → length rest ≡ 0
-    → now ≡ after_piece old piece
-front-ends old now piece [] took none = took.state ∙ ap (after_piece old) (sym (append-nil took.front) ∙ sym took.whole)
-front-ends old now piece (b ∷ rest) took none = absurd (omega arith)
 
 -- the rest is of one line
 pub front-keeps : (old now : State) (piece rest : List ℕ) → TookFront old now piece rest

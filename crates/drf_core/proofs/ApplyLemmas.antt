@@ -1,11 +1,9 @@
 -- Events that are not refused, from their cases to what is kept after them.
-use Rattle.std.proofs.Common.{◌≡◌, ℕ, ◌+◌, ◌*◌, ◌<◌, ◌≤◌, ◌^◌, Bool, true, false, List, [], ◌∷◌, ◌++◌, Option, Some, None, length, map, refl, sym, ap, subst, ◌∙◌, inl, inr, cond, arith, nat_lt}
-use Rattle.std.specs.Prelude.{◌||◌, nat_le, filter}
-use Rattle.std.specs.List.{list_any, find, AllByRecursion}
-use Rattle.std.specs.Option.{option_map}
+use Rattle.std.proofs.Common.{◌≡◌, ℕ, ◌+◌, ◌*◌, ◌<◌, ◌≤◌, ◌^◌, Bool, true, false, List, [], ◌∷◌, ◌++◌, None, length, map, refl, sym, ap, ◌∙◌, inl, inr, arith, nat_lt}
+use Rattle.std.specs.Prelude.{◌||◌, filter}
+use Rattle.std.specs.List.{list_any}
 use Rattle.std.proofs.Math.Nat.{mul-le-mul_right}
 use Rattle.std.proofs.lemmas.Bool.{cases_Bool, false≢true, ltb-false, leb-false}
-use Rattle.std.proofs.lemmas.Bool.Decides.{nat_tests}
 use Rattle.std.proofs.lemmas.List.{length-append, length-map}
 use Rattle.drf_role.specs.Text.{Text, same_text}
 use Rattle.drf_role.specs.Path.{Path, client_path}
@@ -14,8 +12,8 @@ use Rattle.drf_bundle.specs.Bundle.{quantities_of}
 use Rattle.drf_bundle.specs.declared.quantities.Entry.{Entry}
 use Rattle.drf_rows.specs.LimitNumbers.{LimitNumbers}
 use Rattle.drf_rows.specs.Held.{clients_of, cluster_total}
-use Rattle.drf_rows.specs.Cycle.{turns, at_moment, cycle}
-use Rattle.drf_rows.specs.Step.{has_agent, has_framework, is_empty, is_full, with_agent, with_framework, new_client, distinct, too_many_agents, too_many_frameworks, first_case, refusal_of, effect, rows_after}
+use Rattle.drf_rows.specs.Cycle.{at_moment, cycle}
+use Rattle.drf_rows.specs.Step.{has_agent, has_framework, is_empty, is_full, with_agent, with_framework, new_client, distinct, too_many_agents, too_many_frameworks, first_case, refusal_of, effect}
 use Rattle.drf_rows.specs.RegistrationLaws.{framework_added, length-clients_of-framework_added}
 use Rattle.drf_rows.specs.Consistent.{IsConsistent, IsNumberedByEvents}
 use Rattle.drf_rows.specs.declared.limits.TheConstants.{LARGEST_AMOUNT, LATEST_MOMENT}

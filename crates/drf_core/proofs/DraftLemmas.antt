@@ -1,20 +1,18 @@
 -- Drafts: what one more offer changes of a cycle that is not ended.
-use Rattle.std.proofs.Common.{◌≡◌, ℕ, ◌+◌, ◌<◌, ◌≤◌, ◌^◌, Bool, true, false, ◌&&◌, List, [], ◌∷◌, ◌++◌, length, map, Some, refl, sym, ap, subst, ◌∙◌, inl, inr, cond, arith, append-nil, append_assoc}
-use Rattle.std.specs.Prelude.{slice_get, ◌||◌}
+use Rattle.std.proofs.Common.{◌≡◌, ◌+◌, Bool, true, ◌&&◌, List, [], ◌∷◌, ◌++◌, length, map, refl, sym, ap, subst, ◌∙◌, inl, inr, arith, append-nil, append_assoc}
+use Rattle.std.specs.Prelude.{◌||◌}
 use Rattle.std.specs.List.{list_any, AllByRecursion}
 use Rattle.std.proofs.lemmas.Bool.{cases_Bool}
 use Rattle.std.proofs.lemmas.Grind.{fold-append}
-use Rattle.drf_role.specs.Text.{Text, same_text}
+use Rattle.drf_role.specs.Text.{same_text}
 use Rattle.drf_role.specs.Path.{Path, same_path}
 use Rattle.drf_bundle.specs.Bundle.{quantities_of}
-use Rattle.drf_bundle.specs.declared.quantities.Entry.{Entry}
 use Rattle.drf_rows.specs.Client.{Client, path_of}
 use Rattle.drf_rows.specs.Holdings.{of_offer}
 use Rattle.drf_rows.specs.Held.{clients_of}
 use Rattle.drf_rows.specs.Cycle.{counted, count_offer, with_offer}
 use Rattle.drf_rows.specs.CycleLaws.{clients_of-with_offer}
 use Rattle.drf_rows.specs.Consistent.{is_registered}
-use Rattle.drf_rows.specs.declared.rows.AgentRow.{AgentRow}
 use Rattle.drf_rows.specs.declared.rows.ClientRow.{ClientRow}
 use Rattle.drf_rows.specs.declared.rows.FrameworkRow.{FrameworkRow}
 use Rattle.drf_rows.specs.declared.rows.OfferRow.{OfferRow}
@@ -22,7 +20,6 @@ use Rattle.drf_rows.specs.declared.rows.Rows.{Rows}
 use Rattle.drf_sorter.specs.Content.{Content, with_change, charged, discharged, has_client, HasChargeAt}
 use Rattle.drf_tables.specs.Drafts.{with_offers}
 use Rattle.drf_core.specs.Content.{content_of}
-use Rattle.drf_core.specs.Drafting.{IsDrafting}
 use Rattle.drf_core.proofs.ContentOffer.{content_of-with_offer, discharged-with_change, HasChargeAt-charged}
 use Rattle.drf_core.proofs.ContentRegister.{has_client-registered}
 

@@ -1,12 +1,11 @@
 -- A client is tried: one more draft, or none.
-use Rattle.std.proofs.Common.{◌≡◌, ℕ, ◌+◌, ◌<◌, ◌≤◌, ◌^◌, zero, suc, Bool, true, false, List, [], ◌∷◌, ◌++◌, Option, Some, None, length, refl, sym, ap, subst, ◌∙◌, inl, inr, cond, arith}
+use Rattle.std.proofs.Common.{◌≡◌, ℕ, ◌+◌, ◌<◌, ◌≤◌, ◌^◌, Bool, true, false, List, [], ◌∷◌, ◌++◌, Option, Some, None, length, sym, ap, subst, ◌∙◌, cond, arith}
 use Rattle.std.specs.Prelude.{slice_get}
 use Rattle.std.specs.List.{AllByRecursion}
 use Rattle.std.specs.Option.{option_map_or}
-use Rattle.std.proofs.lemmas.Bool.{cases_Bool}
 use Rattle.drf_role.specs.Text.{Text}
 use Rattle.drf_role.specs.TextLaws.{same_itself}
-use Rattle.drf_role.specs.Path.{Path, client_path, role_part, framework_part}
+use Rattle.drf_role.specs.Path.{Path, role_part, framework_part}
 use Rattle.drf_role.specs.PathLaws.{role_part-client_path, framework_part-client_path}
 use Rattle.drf_bundle.specs.Quantities.{amount_of, rest}
 use Rattle.drf_bundle.specs.Bundle.{IsBundle, quantities_of}

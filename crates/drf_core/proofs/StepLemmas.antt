@@ -1,11 +1,11 @@
 -- Steps and runs of a core.
-use Rattle.std.proofs.Common.{◌≡◌, ℕ, ◌+◌, ◌<◌, ◌≤◌, ◌^◌, List, [], ◌∷◌, ◌++◌, Option, Some, None, length, take, refl, sym, ap, subst, ◌∙◌, arith}
+use Rattle.std.proofs.Common.{◌≡◌, ◌+◌, List, [], ◌∷◌, ◌++◌, Some, None, refl, sym, ap, subst, ◌∙◌, arith}
 use Rattle.std.specs.Prelude.{filter}
 use Rattle.drf_rows.specs.LimitNumbers.{LimitNumbers, IsWithinCeilings}
-use Rattle.drf_rows.specs.Step.{opening, live_rows, refusal_of, effect, answer, rows_after, rows_after_all, reply_to, replies_to}
+use Rattle.drf_rows.specs.Step.{opening, live_rows, refusal_of, effect, rows_after, rows_after_all, reply_to, replies_to}
 use Rattle.drf_rows.specs.Consistent.{IsConsistent, IsNumberedByEvents}
 use Rattle.drf_rows.specs.Cycle.{at_moment, cycle}
-use Rattle.drf_rows.specs.StepLaws.{reply_to-refused, rows_after-refused, reply_to-accepted, rows_after-accepted}
+use Rattle.drf_rows.specs.StepLaws.{rows_after-refused, rows_after-accepted}
 use Rattle.drf_rows.specs.RunLaws.{rows_after_all-append, replies_to-append}
 use Rattle.drf_rows.specs.LiveLaws.{reply_to-same_live, rows_after-same_live}
 use Rattle.drf_rows.specs.RegistrationLaws.{IsConsistent-opening}
@@ -15,7 +15,7 @@ use Rattle.drf_rows.specs.declared.reply.Refusal.{Refusal}
 use Rattle.drf_rows.specs.declared.reply.Reply.{Reply}
 use Rattle.drf_rows.specs.declared.rows.Rows.{Rows}
 use Rattle.drf_sorter.specs.Content.{Content, empty}
-use Rattle.drf_core.specs.Machine.{Machine, IsSame, IsAfter, IsAfterAll, HasRun}
+use Rattle.drf_core.specs.Machine.{Machine, IsSame, IsAfter, IsAfterAll}
 use Rattle.drf_core.specs.Content.{content_of}
 use Rattle.drf_core.specs.Kept.{AreFew, IsKept}
 use Rattle.drf_core.proofs.CycleLemmas.{turns-tables}

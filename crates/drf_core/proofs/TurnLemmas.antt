@@ -1,28 +1,27 @@
 -- The turn of an agent, from its first client to its last.
-use Rattle.std.proofs.Common.{◌≡◌, ℕ, ◌+◌, ◌<◌, ◌≤◌, ◌^◌, zero, suc, Bool, true, false, ◌&&◌, List, [], ◌∷◌, ◌++◌, Option, Some, None, length, map, take, refl, sym, ap, subst, ◌∙◌, inl, inr, cond, arith, add-one}
+use Rattle.std.proofs.Common.{◌≡◌, ℕ, ◌+◌, ◌<◌, ◌≤◌, ◌^◌, zero, suc, Bool, true, false, ◌&&◌, List, [], ◌∷◌, ◌++◌, Option, Some, None, length, map, take, refl, sym, ap, subst, ◌∙◌, cond, arith, add-one}
 use Rattle.std.specs.Prelude.{slice_get, slice_set, not}
 use Rattle.std.specs.List.{list_all, AllByRecursion}
 use Rattle.std.specs.Option.{option_map, option_map_or}
-use Rattle.std.proofs.lemmas.Bool.{cases_Bool, and_parts, not-true}
+use Rattle.std.proofs.lemmas.Bool.{and_parts, not-true}
 use Rattle.std.proofs.lemmas.List.{take_all}
 use Rattle.std.proofs.lemmas.Option.{slice_get-map}
 use Rattle.std.proofs.lemmas.Grind.{fold-append}
 use Rattle.drf_role.specs.Text.{Text, same_text}
 use Rattle.drf_role.specs.Path.{Path}
-use Rattle.drf_bundle.specs.Bundle.{IsBundle}
 use Rattle.drf_bundle.specs.declared.quantities.Entry.{Entry}
 use Rattle.drf_rows.specs.Client.{Client, path_of}
 use Rattle.drf_rows.specs.Cycle.{free_of, grant, is_allocatable, new_offer, with_offer, tried, all_tried, turn, turn_order}
 use Rattle.drf_rows.specs.CycleLaws.{free_of-with_offer_other, all_tried-append, all_tried_none}
 use Rattle.drf_rows.specs.ListLaws.{each_at, each_from}
-use Rattle.drf_rows.specs.Consistent.{IsConsistent, are_distinct, is_registered}
+use Rattle.drf_rows.specs.Consistent.{are_distinct, is_registered}
 use Rattle.drf_rows.specs.ConsistentLaws.{same_text-swap}
 use Rattle.drf_rows.specs.declared.rows.AgentRow.{AgentRow}
 use Rattle.drf_rows.specs.declared.rows.OfferRow.{OfferRow}
 use Rattle.drf_rows.specs.declared.rows.Rows.{Rows}
 use Rattle.drf_tables.specs.Drafts.{with_offers, frees_of, frees_after}
 use Rattle.drf_tables.specs.declared.tables.Left.{Left}
-use Rattle.drf_core.specs.Drafting.{IsDrafting, IsRegisteredPath, IsFreeAt, IsTried, HasLeft, is_open_at, turn_at}
+use Rattle.drf_core.specs.Drafting.{IsDrafting, IsFreeAt, HasLeft, is_open_at, turn_at}
 use Rattle.drf_sorter.specs.Content.{Content, IsSound, IsOrderOf}
 use Rattle.drf_core.proofs.DraftLemmas.{agents-with_offers, is_registered-with_offers, next_offer-with_offers}
 use Rattle.drf_core.proofs.ContentSound.{IsSound-content_of}

@@ -1,12 +1,11 @@
 -- A cycle that is not ended: its offers are drafts, which the sorter knows and the tables do not.
-use Rattle.std.specs.Prelude.{◌≡◌, ℕ, ◌+◌, ◌*◌, ◌<◌, ◌≤◌, ◌^◌, ◌&&◌, Bool, true, false, List, length, filter, slice_get, Some, if◌then◌else◌}
+use Rattle.std.specs.Prelude.{◌≡◌, ℕ, ◌<◌, ◌≤◌, ◌^◌, ◌&&◌, Bool, true, false, List, length, filter, slice_get, Some, if◌then◌else◌}
 use Rattle.std.specs.List.{AllByRecursion}
 use Rattle.std.specs.Option.{option_map_or}
 use Rattle.drf_role.specs.Path.{Path}
 use Rattle.drf_bundle.specs.declared.quantities.Entry.{Entry}
 use Rattle.drf_rows.specs.Client.{Client, path_of}
 use Rattle.drf_rows.specs.Holdings.{of_offer}
-use Rattle.drf_rows.specs.Held.{clients_of}
 use Rattle.drf_rows.specs.Cycle.{free_of, is_allocatable, tried, turn, turns}
 use Rattle.drf_rows.specs.Consistent.{IsConsistent, is_registered}
 use Rattle.drf_rows.specs.declared.rows.AgentRow.{AgentRow}

@@ -1,7 +1,7 @@
 -- What callers see of an allocator follows from what they saw.
 use Rattle.std.proofs.Common.{◌≡◌, sym, ◌∙◌}
 use Rattle.drf_rows.specs.LimitNumbers.{LimitNumbers}
-use Rattle.drf_rows.specs.Step.{live_rows, rows_after, reply_to}
+use Rattle.drf_rows.specs.Step.{reply_to}
 use Rattle.drf_rows.specs.LiveLaws.{reply_to-live, rows_after-live}
 use Rattle.drf_rows.specs.declared.event.Event.{Event}
 use Rattle.drf_core.specs.Machine.{Machine, live, opened, after, IsOpened, IsAfter}

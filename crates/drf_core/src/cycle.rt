@@ -116,7 +116,6 @@ fn try_client<S: Sorter>(
     Ok(())
 }
 
-
 /// The turn of an agent: each client in order is tried.
 fn turn<S: Sorter>(
     alloc: Global,
@@ -139,7 +138,15 @@ fn turn<S: Sorter>(
     let order = sorter.order()?;
     let mut free = tables.free(place).copy()?;
     for client in &order {
-        try_client(alloc, tables, sorter, place, client, &mut free, &mut drafts.offers)?;
+        try_client(
+            alloc,
+            tables,
+            sorter,
+            place,
+            client,
+            &mut free,
+            &mut drafts.offers,
+        )?;
     }
     drafts.lefts.push(Left { agent: place, free })?;
     Ok(())

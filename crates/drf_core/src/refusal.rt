@@ -70,7 +70,10 @@ pub fn refusal(limits: &Limits, tables: &Tables, event: &Event) -> Option<Refusa
             full,
             (tables.has_agent(agent), Refusal::KnownAgent),
             (is_too_large(total), Refusal::TooLarge),
-            (too_many_agents(limits, tables, agent, total), Refusal::TooMany),
+            (
+                too_many_agents(limits, tables, agent, total),
+                Refusal::TooMany,
+            ),
         ]),
         Event::AddFramework { framework, roles } => first_case(&[
             full,

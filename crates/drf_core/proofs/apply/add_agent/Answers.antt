@@ -1,11 +1,7 @@
-use Rattle.std.proofs.Common.{◌≡◌, ◌+◌, ◌<◌, ◌≤◌, ◌^◌, length, ap, ◌∙◌, sym, subst, arith}
-use Rattle.drf_bundle.specs.Quantities.{amount_of, plus}
+use Rattle.std.proofs.Common.{◌≡◌, ap, ◌∙◌, arith}
+use Rattle.drf_bundle.specs.Quantities.{plus}
 use Rattle.drf_bundle.specs.Bundle.{quantities_of}
 use Rattle.drf_rows.specs.Held.{cluster_total}
-use Rattle.drf_rows.specs.declared.event.Event.TheVariants.{AddAgent}
-use Rattle.drf_rows.specs.declared.rows.Rows.{Rows}
-use Rattle.drf_sorter.specs.Content.{Content, IsSound}
-use Rattle.drf_core.specs.Kept.{StandAt}
 use Rattle.drf_core.proofs.ApplyLemmas.{welcome_agent, small_amounts, sound_total, few_agents, applied_agent}
 use Rattle.drf_core.proofs.apply.add_agent.Goals as goal
 

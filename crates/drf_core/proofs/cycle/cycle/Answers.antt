@@ -1,4 +1,4 @@
-use Rattle.std.proofs.Common.{◌≡◌, ℕ, map, ap, ◌∙◌, sym, subst}
+use Rattle.std.proofs.Common.{◌≡◌, map, ap, ◌∙◌, subst}
 use Rattle.std.specs.Prelude.{max}
 use Rattle.drf_rows.specs.Step.{line_of, new_offers}
 use Rattle.drf_rows.specs.declared.rows.Rows.{Rows}

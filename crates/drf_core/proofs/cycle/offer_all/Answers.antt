@@ -1,4 +1,4 @@
-use Rattle.std.proofs.Common.{◌≡◌, ◌+◌, ◌<◌, ◌≤◌, ◌^◌, map, ap, ◌∙◌, sym, arith}
+use Rattle.std.proofs.Common.{◌≤◌, ◌^◌, map, ap, ◌∙◌, sym, arith}
 use Rattle.drf_rows.specs.Step.{line_of}
 use Rattle.drf_core.proofs.DraftLemmas.{next_offer-with_offers}
 use Rattle.drf_core.proofs.CycleLemmas.{new_offers-drafts}

@@ -1,7 +1,5 @@
-use Rattle.std.proofs.Common.{◌≡◌, ◌++◌, ◌∷◌, [], List, true, ap, ◌∙◌, subst, sym}
-use Rattle.drf_role.specs.Path.{Path}
-use Rattle.drf_bundle.specs.declared.quantities.Entry.{Entry}
-use Rattle.drf_sorter.specs.Content.{Content, HasChargeAt, has_client, with_change, discharged}
+use Rattle.std.proofs.Common.{ap, ◌∙◌}
+use Rattle.drf_sorter.specs.Content.{has_client, with_change, discharged}
 use Rattle.drf_core.proofs.DraftLemmas.{clients_front, has_client-last, HasChargeAt-last, sorted-taken_back}
 use Rattle.drf_core.proofs.cycle.take_back.Goals as goal
 

@@ -1,9 +1,7 @@
-use Rattle.std.proofs.Common.{◌≡◌, ◌+◌, ◌<◌, ◌^◌, ◌∷◌, ◌++◌, [], length, ap, ◌∙◌, sym, subst, arith}
-use Rattle.drf_bundle.specs.declared.quantities.Entry.{Entry}
+use Rattle.std.proofs.Common.{◌≡◌, ◌+◌, ◌<◌, ◌^◌, ◌∷◌, ◌++◌, [], length, ap, ◌∙◌, arith}
 use Rattle.drf_rows.specs.declared.rows.OfferRow.{OfferRow}
-use Rattle.drf_sorter.specs.Content.{Content, IsSound, with_change, charged}
+use Rattle.drf_sorter.specs.Content.{with_change, charged}
 use Rattle.drf_tables.specs.Drafts.{with_offers}
-use Rattle.drf_core.specs.Drafting.{IsDrafting, IsFreeAt, IsTried}
 use Rattle.drf_core.proofs.DraftTried.{IsNext, next_from, known_next, sound_next, drafting_next, tried_next, free_next, tried_nothing}
 use Rattle.drf_core.proofs.cycle.try_client.Given as given
 use Rattle.drf_core.proofs.cycle.try_client.Goals.{After-quantities}

@@ -1,15 +1,15 @@
-use Rattle.std.proofs.Common.{◌≡◌, ◌+◌, ◌<◌, ◌≤◌, ◌^◌, ℕ, ◌∷◌, ◌++◌, [], length, map, take, refl, sym, ap, subst, ◌∙◌, arith}
+use Rattle.std.proofs.Common.{◌≡◌, ◌≤◌, ℕ, ◌∷◌, ◌++◌, [], length, map, take, refl, sym, ap, subst, ◌∙◌, arith}
 use Rattle.std.specs.Prelude.{slice_get}
 use Rattle.std.proofs.lemmas.Option.{slice_get_read}
 use Rattle.std.proofs.lemmas.List.{length-map}
 use Rattle.drf_rows.specs.Client.{path_of}
-use Rattle.drf_rows.specs.Cycle.{free_of, all_tried, turn_order}
+use Rattle.drf_rows.specs.Cycle.{all_tried, turn_order}
 use Rattle.drf_rows.specs.Consistent.{are_distinct}
 use Rattle.drf_rows.specs.declared.rows.AgentRow.{AgentRow}
 use Rattle.drf_rows.specs.declared.rows.Rows.{Rows}
-use Rattle.drf_sorter.specs.Content.{Content, IsSound, IsOrderOf}
+use Rattle.drf_sorter.specs.Content.{Content}
 use Rattle.drf_tables.specs.Drafts.{with_offers}
-use Rattle.drf_core.specs.Drafting.{IsDrafting, is_open_at}
+use Rattle.drf_core.specs.Drafting.{IsDrafting}
 use Rattle.drf_core.proofs.DraftLemmas.{agents-with_offers}
 use Rattle.drf_core.proofs.TurnLemmas.{turn_at-closed, turn_at-open, is_open_at-before, HasLeft-closed, HasLeft-turn, free-before, tried-step, tried_all, client_at, element_at, IsOrdered, sound_now, ordered_from}
 use Rattle.drf_core.proofs.cycle.turn.Given as given

@@ -1,4 +1,4 @@
-use Rattle.std.proofs.Common.{◌≡◌, ◌+◌, ◌≤◌, Some, length, take}
+use Rattle.std.proofs.Common.{◌≡◌, Some, take}
 use Rattle.std.specs.Prelude.{slice_get}
 use Rattle.drf_rows.specs.Cycle.{all_tried, turn_order}
 use Rattle.drf_rows.specs.declared.rows.AgentRow.{AgentRow}

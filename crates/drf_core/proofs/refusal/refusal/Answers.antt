@@ -1,6 +1,4 @@
 use Rattle.std.proofs.Common.{◌≡◌, ◌∷◌, [], List, Bool, true, false, refl, ap, ◌∙◌, sym, nat_lt}
-use Rattle.std.specs.Prelude.{IsTrue, ◌↔◌}
-use Rattle.std.proofs.lemmas.Bool.Decides.{same_from_decides}
 use Rattle.drf_role.specs.Path.{Path}
 use Rattle.drf_rows.specs.Step.{first_case, is_empty, refusal_of}
 use Rattle.drf_rows.specs.declared.limits.TheConstants.{LATEST_MOMENT}

@@ -1,4 +1,4 @@
-use Rattle.std.proofs.Common.{◌≡◌, ◌+◌, ◌≤◌, List, [], ◌∷◌, refl, ap, ◌∙◌, sym, length, nat_lt, arith}
+use Rattle.std.proofs.Common.{◌≡◌, ◌+◌, ◌≤◌, List, [], ◌∷◌, refl, ◌∙◌, sym, length, nat_lt, arith}
 use Rattle.std.specs.Prelude.{◌||◌}
 use Rattle.drf_role.specs.Path.{Path}
 use Rattle.drf_rows.specs.Step.{distinct}

@@ -1,4 +1,4 @@
-use Rattle.std.proofs.Common.{◌≡◌, ℕ, List, ◌++◌, sym, subst, ◌∙◌, ap, Result, Ok, Err}
+use Rattle.std.proofs.Common.{◌≡◌, ℕ, List, ◌++◌, ◌∙◌, ap, Result, Ok, Err}
 use Rattle.std.specs.Prelude.{OnOk}
 use Rattle.std.proofs.lemmas.Result.{IfOk-weaker}
 use Rattle.drf_core.specs.Machine.{Machine, live}

@@ -2,7 +2,7 @@ use Rattle.std.proofs.Common.{◌≡◌, Result, Ok, Err, ◌∙◌}
 use Rattle.std.specs.Prelude.{OnOk}
 use Rattle.std.proofs.lemmas.Result.{IfOk-weaker}
 use Rattle.drf_rows.specs.Step.{reply_to}
-use Rattle.drf_core.specs.Machine.{live, after, IsAfter}
+use Rattle.drf_core.specs.Machine.{live}
 use Rattle.drf_core.specs.MachineLaws.{live-after, reply_to-seen}
 use Rattle.drf_journal.proofs.session.take_event.Goals as goal
 

@@ -1,8 +1,8 @@
-use Rattle.std.proofs.Common.{◌≡◌, ◌+◌, ◌<◌, ◌≤◌, ◌^◌, None, Some, refl, ap, ◌∙◌, sym, subst, arith}
+use Rattle.std.proofs.Common.{◌+◌, refl, ap, ◌∙◌, sym, arith}
 use Rattle.drf_rows.specs.Step.{live_rows, refusal_of, reply_to, rows_after}
 use Rattle.drf_rows.specs.StepLaws.{reply_to-refused, reply_to-accepted}
 use Rattle.drf_rows.specs.declared.rows.Rows.{Rows}
-use Rattle.drf_core.specs.Machine.{Machine, IsAfter}
+use Rattle.drf_core.specs.Machine.{Machine}
 use Rattle.drf_core.proofs.ApplyLemmas.{room_for}
 use Rattle.drf_core.proofs.StepLemmas.{IsAfter-refused, rows_after-counted, accepted-applied, IsKept-counted}
 use Rattle.drf_core.proofs.allocator.Core.step.Goals as goal

@@ -1,7 +1,7 @@
 -- Events that are not refused, from their cases to what is kept after them.
 use Rattle.std.proofs.Common.{◌≡◌, ℕ, ◌+◌, ◌*◌, ◌<◌, ◌≤◌, ◌^◌, Bool, true, false, List, [], ◌∷◌, ◌++◌, None, length, map, refl, sym, ap, ◌∙◌, inl, inr, arith, nat_lt}
 use Rattle.std.specs.Prelude.{◌||◌, filter}
-use Rattle.std.specs.List.{list_any}
+use Rattle.std.specs.List.{list_any, AllByRecursion}
 use Rattle.std.proofs.Math.Nat.{mul-le-mul_right}
 use Rattle.std.proofs.lemmas.Bool.{cases_Bool, false≢true, ltb-false, leb-false}
 use Rattle.std.proofs.lemmas.List.{length-append, length-map}
@@ -16,6 +16,7 @@ use Rattle.drf_rows.specs.Cycle.{at_moment, cycle}
 use Rattle.drf_rows.specs.Step.{has_agent, has_framework, is_empty, is_full, with_agent, with_framework, new_client, distinct, too_many_agents, too_many_frameworks, first_case, refusal_of, effect}
 use Rattle.drf_rows.specs.RegistrationLaws.{framework_added, length-clients_of-framework_added}
 use Rattle.drf_rows.specs.Consistent.{IsConsistent, IsNumberedByEvents}
+use Rattle.drf_rows.specs.ConsistentLaws.{numbers_within}
 use Rattle.drf_rows.specs.declared.limits.TheConstants.{LARGEST_AMOUNT, LATEST_MOMENT}
 use Rattle.drf_rows.specs.declared.event.Event.{Event}
 use Rattle.drf_rows.specs.declared.event.Event.TheVariants.{AddAgent, AddFramework, Cycle}
@@ -167,6 +168,14 @@ numbered_after limits rows (Cycle at) few numbered =
     let few_clients : length (clients_of rows) ≤ 4096 = omega (arith, few.clients, few.ceilings.clients.1) in
     let first : length agents * length (clients_of rows) ≤ 4096 * length (clients_of rows) = mul-le-mul_right (length (clients_of rows)) few_agents in
     omega (arith, made, before, first, few_clients)
+
+-- and so below what every run allows
+pub numbers_bounded : (content : Content) (limits : LimitNumbers) (rows : Rows) → IsKept content limits rows
+    → AllByRecursion (λ o. o.number ≤ 2 ^ 56) rows.offers
+numbers_bounded content limits rows kept =
+    let events : rows.accepted ≤ 4294967295 = omega (arith, kept.few.events, kept.few.ceilings.events.1) in
+    let numbered : rows.next_offer ≤ 1 + rows.accepted * 2 ^ 24 = kept.numbered in
+    numbers_within rows.offers rows.next_offer (2 ^ 56) kept.consistent.numbered (omega (arith, events, numbered))
 
 -- ---- one more agent
 

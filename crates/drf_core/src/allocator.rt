@@ -1,4 +1,4 @@
-ghost use Rattle.std.specs.Prelude.{◌≡◌, ◌++◌, None, IfOk, OnOk, OnErr};
+ghost use Rattle.std.specs.Prelude.{◌≡◌, ◌≤◌, ◌^◌, ◌++◌, None, IfOk, OnOk, OnErr};
 ghost use Rattle.drf_core.specs.Machine.{IsOpened, IsSame, IsAfter, IsAfterAll, IsSupported, HasRun};
 
 use crate::apply::apply;
@@ -33,13 +33,13 @@ impl<S: Sorter> Model for Core<S> {
 impl<S: Sorter> Core<S> {
     ghost use Rattle.std.specs.List.{AllByRecursion};
     ghost use Rattle.drf_rows.specs.Step.{live_rows, reply_to, replies_to, refusal_of};
-    ghost use Rattle.drf_rows.specs.Consistent.{IsConserved, IsNumberedByEvents};
+    ghost use Rattle.drf_rows.specs.Consistent.{IsConserved};
 
     /// An allocator with no rows.
     pub fn open(alloc: Global, limits: Limits) -> Result<Core<S>, AllocError>
         ensures { IfOk result (IsOpened limits) }
     {
-        // Its limits are within the ceilings.
+        // The contract of this call tells that the limits are within the ceilings.
         let _ = limits.agents();
         Ok(Core {
             alloc,
@@ -89,11 +89,11 @@ impl<S: Sorter> Core<S> {
         Ok(())
     }
 
-    /// The rows as they stand. No number of an offer is above 2^56, and nothing is granted twice.
+    /// The rows as they stand. Nothing is granted twice, and no number of an offer is above 2^56.
     pub fn rows(&self) -> Result<Rows, AllocError>
         ensures rows { IfOk result (λ rows. rows ≡ live_rows self.now.rows) }
         ensures conserved { AllByRecursion (IsConserved self.now.rows) self.now.rows.agents }
-        ensures numbered { IsNumberedByEvents self.now.rows }
+        ensures numbers { AllByRecursion (λ o. o.number ≤ 2 ^ 56) self.now.rows.offers }
     {
         self.tables.rows()
     }

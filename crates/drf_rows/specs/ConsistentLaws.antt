@@ -243,6 +243,17 @@ rising_push (n ∷ ns) next rising =
     (and_from (nat_lt n (next + 1)) (list_all (nat_lt n) past) head (below_push n next ns first.1 first.0))
     (rising_push ns next parts.1)
 
+-- offers before the next number keep to any bound that it keeps to
+pub numbers_within : (offers : List OfferRow) (next bound : ℕ)
+    → are_rising (map (λ o. o.number) offers) next ≡ true → next ≤ bound + 1 → AllByRecursion (λ o. o.number ≤ bound) offers
+numbers_within [] next bound rising within = tt
+numbers_within (o ∷ os) next bound rising within =
+    let numbers : List ℕ = map (λ (o : OfferRow). o.number) os in
+    let parts = and_parts (nat_lt o.number next && list_all (nat_lt o.number) numbers) (are_rising numbers next) rising in
+    let below : o.number < next = ltb-true o.number next (and_parts (nat_lt o.number next) (list_all (nat_lt o.number) numbers) parts.0).0 in
+    let here : o.number ≤ bound = omega (arith, below, within) in
+    (here, numbers_within os next bound parts.1 within)
+
 -- ---- what is free and what is held
 
 conserved_one : (rows : Rows) (agent : AgentRow)

@@ -26,7 +26,7 @@ abbrev pub is_allocatable : List Entry → Bool
 is_allocatable bundle =
     nat_le 10 (amount_of (quantities_of bundle) (codes "cpus")) || nat_le 32000 (amount_of (quantities_of bundle) (codes "mem"))
 
--- what a client may have of a free bundle
+-- what a client may have of a free bundle: all of it, as long as there are neither limits nor filters
 abbrev pub entitlement : Rows → List Entry → Client → List Entry
 entitlement rows free client = free
 

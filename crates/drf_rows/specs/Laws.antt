@@ -1,5 +1,6 @@
 -- What is proved of the definitions.
-use Rattle.std.specs.Prelude.{◌≡◌, ◌+◌, true, false, List, ◌∷◌, ◌++◌, map, length, Some, None, IsTrue}
+use Rattle.std.specs.Prelude.{◌≡◌, ℕ, ◌+◌, Bool, true, false, ◌&&◌, List, [], ◌∷◌, ◌++◌, map, length, Some, None, IsTrue, nat_lt}
+use Rattle.std.specs.List.{list_all}
 use Rattle.std.specs.List.Sorted.{IsPermutation}
 use Rattle.drf_role.specs.Path.{Path}
 use Rattle.drf_bundle.specs.Bundle.{IsBundle}
@@ -7,7 +8,8 @@ use Rattle.drf_rows.specs.LimitNumbers.{LimitNumbers}
 use Rattle.drf_rows.specs.Client.{Client, path_of}
 use Rattle.drf_rows.specs.Share.{Standing, stands_before, is_serving_order}
 use Rattle.drf_rows.specs.Cycle.{free_of, is_allocatable, grant, new_offer, with_offer, all_tried, serving_order}
-use Rattle.drf_rows.specs.Step.{live_rows, refusal_of, effect, answer, rows_after, reply_to, rows_after_all, replies_to}
+use Rattle.drf_rows.specs.Refusal.{number_of}
+use Rattle.drf_rows.specs.Step.{live_rows, cases_of, refusal_of, effect, answer, rows_after, reply_to, rows_after_all, replies_to}
 use Rattle.drf_rows.specs.declared.rows.AgentRow.{AgentRow}
 use Rattle.drf_rows.specs.declared.rows.Rows.{Rows}
 use Rattle.drf_rows.specs.declared.event.Event.{Event}
@@ -45,6 +47,17 @@ FirstIsGrantedAll =
     → grant rows agent first ≡ Some (free_of rows agent)
     → IsBundle agent.total
     → all_tried rows agent (first ∷ others) ≡ with_offer rows (new_offer rows agent first (free_of rows agent))
+
+-- each number is below all later ones
+abbrev pub is_rising : List ℕ → Bool
+is_rising [] = true
+is_rising (n ∷ ns) = list_all (nat_lt n) ns && is_rising ns
+
+-- of the cases in which an event is refused, an earlier one has a lesser number
+abbrev pub CasesRise : Type 0
+CasesRise =
+    (limits : LimitNumbers) (rows : Rows) (event : Event)
+    → is_rising (map (λ c. number_of c.1) (cases_of limits rows event)) ≡ true
 
 -- a refused event is told so, and changes nothing
 abbrev pub RefusedChangesNothing : Type 0

@@ -1,7 +1,7 @@
 -- Some rows, and the frameworks in the order in which they are served.
 use Rattle.std.specs.Prelude.{ℕ, true, false, List, [], ◌∷◌, map, codes}
 use Rattle.drf_bundle.specs.declared.quantities.Entry.{Entry}
-use Rattle.drf_rows.specs.Cycle.{turn_order}
+use Rattle.drf_rows.specs.Cycle.{turn_order, cycle}
 use Rattle.drf_rows.specs.Examples.{cpus, mem}
 use Rattle.drf_rows.specs.declared.rows.AgentRow.{AgentRow}
 use Rattle.drf_rows.specs.declared.rows.FrameworkRow.{FrameworkRow}
@@ -116,3 +116,15 @@ nothing_held = rows_with
     (framework_in (codes "f1") eng 0 ∷ framework_in (codes "f2") (codes "eng" ∷ codes "!x" ∷ []) 0 ∷ [])
     []
     []
+
+-- one of two agents is active, and one of two clients is not suppressed
+abbrev pub half_at_work : Rows
+half_at_work = rows_with
+    (record { name = codes "n1"; total = cpus 4000 ∷ []; active = false } ∷ record { name = codes "n2"; total = cpus 4000 ∷ []; active = true } ∷ [])
+    (record { name = codes "fa"; clients = record { role = role_a; count = 0; suppressed = true } ∷ [] } ∷ framework_in (codes "fb") role_b 0 ∷ [])
+    []
+    []
+
+-- the agents and the frameworks of what a cycle offers
+abbrev pub offered : Rows → List (List ℕ × List ℕ)
+offered rows = map (λ o. (o.agent, o.framework)) (cycle rows 0).offers

@@ -86,24 +86,28 @@ is_empty (x ∷ xs) = false
 abbrev pub first_case : List (Bool × Refusal) → Option Refusal
 first_case cases = option_map (λ c. c.1) (find (λ c. c.0) cases)
 
--- why an event is refused, if it is; where several cases hold, the least number is told
-unfoldable pub refusal_of : LimitNumbers → Rows → Event → Option Refusal
-refusal_of limits rows (AddAgent agent total) = first_case (
+-- the cases in which an event is refused, by their numbers
+abbrev pub cases_of : LimitNumbers → Rows → Event → List (Bool × Refusal)
+cases_of limits rows (AddAgent agent total) =
     (is_full limits rows, HistoryFull)
     ∷ (has_agent rows agent, KnownAgent)
     ∷ (list_any (λ e. nat_lt LARGEST_AMOUNT e.amount) (quantities_of total), TooLarge)
     ∷ (too_many_agents limits (with_agent rows agent total), TooMany)
-    ∷ [])
-refusal_of limits rows (AddFramework framework roles) = first_case (
+    ∷ []
+cases_of limits rows (AddFramework framework roles) =
     (is_full limits rows, HistoryFull)
     ∷ (has_framework rows framework, KnownFramework)
     ∷ (is_empty roles, Empty)
     ∷ (too_many_frameworks limits rows roles, TooMany)
-    ∷ [])
-refusal_of limits rows (Cycle at) = first_case (
+    ∷ []
+cases_of limits rows (Cycle at) =
     (is_full limits rows, HistoryFull)
     ∷ (nat_lt LATEST_MOMENT at, BadMoment)
-    ∷ [])
+    ∷ []
+
+-- why an event is refused, if it is; where several cases hold, the least number is told
+unfoldable pub refusal_of : LimitNumbers → Rows → Event → Option Refusal
+refusal_of limits rows event = first_case (cases_of limits rows event)
 
 -- the rows after an event that is not refused
 unfoldable pub effect : Rows → Event → Rows

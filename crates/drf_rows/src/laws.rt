@@ -5,9 +5,9 @@
 ghost use Rattle.std.specs.Prelude.{◌≡◌, [], ◌∷◌, codes};
 ghost use Rattle.drf_rows.specs.LimitNumbers.{ceilings};
 ghost use Rattle.drf_rows.specs.Step.{opening, replies_to};
-ghost use Rattle.drf_rows.specs.Laws.{NoneBeforeItself, AtMostOneBefore, OneServingOrder, TooLittleIsNotGranted, FirstIsGrantedAll, RefusedChangesNothing, AcceptedIsCounted, RunsGoOn, LiveRowsReply, LiveRowsGoOn, LiveRowsRun};
+ghost use Rattle.drf_rows.specs.Laws.{NoneBeforeItself, AtMostOneBefore, OneServingOrder, TooLittleIsNotGranted, FirstIsGrantedAll, CasesRise, RefusedChangesNothing, AcceptedIsCounted, RunsGoOn, LiveRowsReply, LiveRowsGoOn, LiveRowsRun};
 ghost use Rattle.drf_rows.specs.Examples.{one_cycle, two_cycles, two_cycles_replies, two_frameworks, two_frameworks_replies, replies_with, not_offered, offered_whole, refused_as_too_large, one_agent, two_agents, two_events, two_names, three_names, one_framework, one_client, two_registrations, one_role, roles_listed, cpus, mem, gpus};
-ghost use Rattle.drf_rows.specs.OrderExamples.{served, close_shares, equal_shares, weighted_shares, shares_of, first_agent, second_agent, role_tree, more_for_ops, half_weight_of_eng, nothing_held};
+ghost use Rattle.drf_rows.specs.OrderExamples.{served, offered, half_at_work, close_shares, equal_shares, weighted_shares, shares_of, first_agent, second_agent, role_tree, more_for_ops, half_weight_of_eng, nothing_held};
 
 use crate::reply::{Refusal, Reply};
 
@@ -24,8 +24,9 @@ pub fn turn_law()
     ensures enough { FirstIsGrantedAll }
 {}
 
-/// A step refuses an event, or does what it says.
+/// A step refuses an event, by the least number of a case that holds, or does what the event says.
 pub fn step_law()
+    ensures least { CasesRise }
     ensures refused { RefusedChangesNothing }
     ensures accepted { AcceptedIsCounted }
     ensures runs { RunsGoOn }
@@ -51,6 +52,11 @@ pub fn least_offer_example()
     ensures nothing { replies_with [] ≡ not_offered }
     ensures cpus { replies_with (cpus 10 ∷ []) ≡ offered_whole (cpus 10 ∷ []) }
     ensures mem { replies_with (mem 32000 ∷ []) ≡ offered_whole (mem 32000 ∷ []) }
+{}
+
+/// An agent that is not active has no turn, and a suppressed client is not tried.
+pub fn inactive_example()
+    ensures offered { offered half_at_work ≡ (codes "n2", codes "fb") ∷ [] }
 {}
 
 /// Each limit is reached before it refuses.

@@ -31,7 +31,7 @@ fn take_event<S: Sorter>(core: &mut Core<S>, event: Event) -> Result<Reply, Allo
 }
 
 /// Takes a line's event, and tells its reply line.
-fn reply_to<S: Sorter>(
+fn reply_line<S: Sorter>(
     alloc: Global,
     core: &mut Core<S>,
     line: &[u8],
@@ -68,7 +68,7 @@ fn answer<S: Sorter>(
     ensures told { IfOk result (λ told. told.items ≡ answer_to echo (live core.old) line.now) }
     ensures ok { OnOk result (live core.new ≡ machine_after (live core.old) (meaning_of line.now)) }
 {
-    let reply = reply_to(alloc, core, line)?;
+    let reply = reply_line(alloc, core, line)?;
     if !echo {
         return Ok(reply);
     }
@@ -79,7 +79,8 @@ fn answer<S: Sorter>(
     Ok(told)
 }
 
-/// The same for the line that some bytes end, of which `pending` came before. One that came whole is read where it lies.
+/// Takes the event of the line that some bytes end, of which `pending` came before, and gives the text for the line. One
+/// that came whole is read where it lies.
 fn answer_end<S: Sorter>(
     alloc: Global,
     core: &mut Core<S>,

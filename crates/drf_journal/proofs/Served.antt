@@ -94,15 +94,15 @@ module _ (limits : LimitNumbers) (echo : Bool) where
       let counted = (at_end_all (begun limits echo) (ended_lines_of read) (open_line_of read)).1 in
       ap (λ (s : State). (at_end s).lines) (read_lines read) ∙ counted ∙ omega arith
 
-  -- the text for the lines of a front is the text for the first lines
+  -- the text for the lines of a front is the text for the first lines that end
   text_first : (front more : List ℕ)
       → (count : ℕ) × (text_of limits echo (ended_lines_of front)
-      ≡ text_of limits echo (take count (lines_of (front ++ more))))
+      ≡ text_of limits echo (take count (ended_lines_of (front ++ more))))
   text_first front more =
-      let first = lines_first front more in (
+      let first = goes_on front more in (
         length (ended_lines_of front),
-        ap (text_of limits echo) (sym (ap (take (length (ended_lines_of front))) first.1
-            ∙ take-append_seam (ended_lines_of front) first.0)),
+        ap (text_of limits echo) (sym (ap (take (length (ended_lines_of front))) first.lines
+            ∙ take-append_seam (ended_lines_of front) first.others)),
       )
 
   -- and stands at the front
@@ -207,7 +207,7 @@ module _ (limits : LimitNumbers) (echo : Bool) where
           answered = (
             first.0,
             told_so_far ∙ first.1
-                ∙ ap (λ l. text_of limits echo (take first.0 (lines_of l))) (append-nil serving.read),
+                ∙ ap (λ l. text_of limits echo (take first.0 (ended_lines_of l))) (append-nil serving.read),
           );
         }
 
@@ -268,7 +268,7 @@ module _ (limits : LimitNumbers) (echo : Bool) where
             written = serving.told ++ now.unsent;
             consumed = Consumes-trans _ _ _ _ _ serving.consumed consumed;
             appended = Appends-trans _ _ _ _ _ serving.appended sent;
-            answered = (first.0, told_now ∙ first.1 ∙ ap (λ l. text_of limits echo (take first.0 (lines_of l))) whole);
+            answered = (first.0, told_now ∙ first.1 ∙ ap (λ l. text_of limits echo (take first.0 (ended_lines_of l))) whole);
           }
 
       pub run-fails : AppendsFrontOf written written_next now.unsent

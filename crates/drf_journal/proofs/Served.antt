@@ -246,23 +246,23 @@ module _ (limits : LimitNumbers) (echo : Bool) where
     module _ (piece : List ℕ) (now : State) (consumed : Consumes unread unread_next piece)
         (answers : AnswersFrontOf session piece now) where
       front : List ℕ
-      front = serving.read ++ take answers.0 piece
+      front = serving.read ++ take answers.answered piece
 
-      whole : front ++ drop answers.0 piece ≡ serving.read ++ piece
+      whole : front ++ drop answers.answered piece ≡ serving.read ++ piece
       unfolding front
-      whole = append_assoc serving.read (take answers.0 piece) (drop answers.0 piece)
-          ∙ ap (λ l. serving.read ++ l) (take-append-drop answers.0 piece)
+      whole = append_assoc serving.read (take answers.answered piece) (drop answers.answered piece)
+          ∙ ap (λ l. serving.read ++ l) (take-append-drop answers.answered piece)
 
       told_now : serving.told ++ now.unsent ≡ text_of limits echo (ended_lines_of front)
       unfolding front
       told_now =
-          ap (λ l. serving.told ++ l) answers.1 ∙ ap (λ (s : State). s.unsent) (state_next (take answers.0 piece))
-          ∙ text_ended (serving.read ++ take answers.0 piece)
+          ap (λ l. serving.told ++ l) answers.unsent ∙ ap (λ (s : State). s.unsent) (state_next (take answers.answered piece))
+          ∙ text_ended (serving.read ++ take answers.answered piece)
 
       pub run-forgets : Appends written written_next now.unsent
           → HasRun limits echo unread_first unread_next written_first written_next (Err Memory)
       run-forgets sent =
-          let first = text_first front (drop answers.0 piece) in
+          let first = text_first front (drop answers.answered piece) in
           record {
             read = serving.read ++ piece;
             written = serving.told ++ now.unsent;
@@ -275,7 +275,7 @@ module _ (limits : LimitNumbers) (echo : Bool) where
           → HasRun limits echo unread_first unread_next written_first written_next (Err Write)
       run-fails sent =
           let text = now.unsent in
-          let rest = text_front front (drop answers.0 piece) in
+          let rest = text_front front (drop answers.answered piece) in
           record {
             read = serving.read ++ piece;
             written = serving.told ++ take sent.0 text;

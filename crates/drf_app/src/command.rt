@@ -1,8 +1,9 @@
 //! The command `run`: the allocator within its full limits, on three streams.
-ghost use Rattle.std.specs.Prelude.{◌≡◌, ℕ, Result, false};
+ghost use Rattle.std.specs.Prelude.{◌≡◌, ◌≤◌, ◌^◌, ℕ, Result, false, OnOk};
+ghost use Rattle.std.specs.Io.KnownBytes.{IsAtEnd};
 ghost use Rattle.drf_rows.specs.LimitNumbers.{ceilings};
 ghost use Rattle.drf_journal.specs.Device.{IsNew};
-ghost use Rattle.drf_journal.specs.Ended.{HasRun};
+ghost use Rattle.drf_journal.specs.Ended.{HasRun, HasCause};
 ghost use Rattle.drf_journal.specs.declared.fault.RunFault.{RunFault};
 ghost use Rattle.drf_app.specs.Status.{status_of};
 
@@ -22,7 +23,11 @@ pub fn command<R: Read, W: Write, E: Write>(
     requires input { IsNew input.old.calls input.old.failed }
     requires output { IsNew output.old.calls output.old.failed }
     ensures run { (ended : Result ℕ RunFault) × HasRun ceilings false (R.remaining input.old.inner) (R.remaining input.new.inner)
-        (W.contents output.old.inner) (W.contents output.new.inner) ended × (result ≡ status_of ended) }
+        (W.contents output.old.inner) (W.contents output.new.inner) ended
+        × OnOk ended (IsAtEnd (R.remaining input.new.inner))
+        × HasCause ended input.new.failed input.new.calls output.new.failed
+        × (result ≡ status_of ended) }
+    ensures reads { input.new.calls ≤ 2 ^ 40 }
     ensures errors { result ≡ 0 → errors.new ≡ errors.old }
 {
     match run(alloc, Limits::full(), input, output, false) {

@@ -1,9 +1,10 @@
 -- A run in the middle of a piece.
-use Rattle.std.proofs.Common.{◌≡◌, ℕ, ◌+◌, ◌<◌, List, [], ◌∷◌, ◌++◌, length, take, drop, get_or, refl, sym, ap, ◌∙◌, append_assoc}
+use Rattle.std.proofs.Common.{◌≡◌, ℕ, ◌+◌, ◌<◌, List, [], ◌∷◌, ◌++◌, length, take, drop, get_or, ⊎_elim, inl, inr, refl, sym, ap, ◌∙◌, append_assoc}
 use Rattle.std.proofs.Math.Seq.{take-append_seam}
-use Rattle.drf_journal.specs.State.{State, after_piece, AnswersFrontOf}
+use Rattle.drf_lines.specs.Meaning.{meaning_of}
+use Rattle.drf_journal.specs.State.{State, machine_after, after_piece, IsWithinLine, HasTakenAtMost, AnswersFrontOf}
 use Rattle.drf_journal.proofs.Cuts.{cut_at}
-use Rattle.drf_journal.proofs.Pieces.{piece-append, piece-nil}
+use Rattle.drf_journal.proofs.Pieces.{piece-append, piece-nil, with_line, piece-line}
 
 -- the run has taken the front of the piece, and the rest is left
 pub record TookFront (old now : State) (piece rest : List ℕ) : Type 0 where
@@ -26,13 +27,47 @@ front-line old now next piece rest at took inside feed step = record {
       ∙ sym (piece-append old took.front (take at rest ++ 10 ∷ []));
 }
 
--- what it answered so far are the lines of a front
+-- what it answered so far are the lines of a front, and the allocator has taken these
 pub front-answers : (old now next : State) (piece rest : List ℕ) → TookFront old now piece rest
-    → next.unsent ≡ now.unsent → AnswersFrontOf old piece next
-front-answers old now next piece rest took same =
+    → next.unsent ≡ now.unsent → next.machine ≡ now.machine → AnswersFrontOf old piece next
+front-answers old now next piece rest took same still =
     let cut : take (length took.front) piece ≡ took.front = ap (take (length took.front)) took.whole
     ∙ take-append_seam took.front rest in
-    (length took.front, same ∙ ap (λ (t : State). t.unsent) (took.state ∙ ap (after_piece old) (sym cut)))
+    let state : now ≡ after_piece old (take (length took.front) piece) = took.state ∙ ap (after_piece old) (sym cut) in
+    record {
+      answered = length took.front;
+      unsent = same ∙ ap (λ (t : State). t.unsent) state;
+      taken = length took.front;
+      machine = still ∙ ap (λ (t : State). t.machine) state;
+      ahead = inl refl;
+    }
+
+-- the allocator may have taken the line at hand too
+pub front-ahead : (old now next : State) (piece rest : List ℕ) (at : ℕ) → TookFront old now piece rest
+    → at < length rest → get_or rest at 0 ≡ 10 → IsWithinLine (take at rest)
+    → next.unsent ≡ now.unsent → HasTakenAtMost now.machine (now.pending ++ take at rest) next.machine
+    → AnswersFrontOf old piece next
+front-ahead old now next piece rest at took inside feed within same taken =
+    ⊎_elim (front-answers old now next piece rest took same)
+    (λ (more : next.machine ≡ machine_after now.machine (meaning_of (now.pending ++ take at rest))).
+    let line = take at rest in
+    let past = front-line old now (after_piece now (line ++ 10 ∷ [])) piece rest at took inside feed refl in
+    let whole : after_piece now (line ++ 10 ∷ []) ≡ with_line now (now.pending ++ line) = piece-line now line within in
+    let cut : take (length took.front) piece ≡ took.front = ap (take (length took.front)) took.whole
+    ∙ take-append_seam took.front rest in
+    let far : take (length past.front) piece ≡ past.front = ap (take (length past.front)) past.whole
+    ∙ take-append_seam past.front (drop (at + 1) rest) in
+    let state : now ≡ after_piece old (take (length took.front) piece) = took.state ∙ ap (after_piece old) (sym cut) in
+    let state_past : with_line now (now.pending ++ line) ≡ after_piece old (take (length past.front) piece) =
+    sym whole ∙ past.state ∙ ap (after_piece old) (sym far) in
+    record {
+      answered = length took.front;
+      unsent = same ∙ ap (λ (t : State). t.unsent) state;
+      taken = length past.front;
+      machine = more ∙ ap (λ (t : State). t.machine) state_past;
+      ahead = inr (sym (ap (λ (t : State). t.lines) state_past) ∙ ap (λ (t : State). t.lines + 1) state);
+    })
+    taken
 
 -- the rest is of one line
 pub front-keeps : (old now : State) (piece rest : List ℕ) → TookFront old now piece rest

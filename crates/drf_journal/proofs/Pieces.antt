@@ -1,12 +1,12 @@
 -- A run after a piece of its input.
-use Rattle.std.proofs.Common.{◌≡◌, ℕ, ◌+◌, ◌≤◌, ◌<◌, Bool, true, false, eqb, List, [], ◌∷◌, ◌++◌, length, refl, sym, ap, ◌∙◌, append_assoc, append-nil, arith}
+use Rattle.std.proofs.Common.{◌≡◌, ℕ, ◌+◌, ◌≤◌, ◌<◌, Bool, true, false, eqb, List, [], ◌∷◌, ◌++◌, length, refl, sym, ap, ◌∙◌, append_assoc, append-nil, ◌⊎◌, ⊎_elim, inl, inr, arith}
 use Rattle.std.proofs.lemmas.List.Sums.{fold-append}
 use Rattle.std.proofs.lemmas.Bool.{ne_eqb}
 use Rattle.drf_core.specs.Machine.{Machine}
 use Rattle.drf_lines.specs.Meaning.{meaning_of}
 use Rattle.drf_journal.specs.Lines.{is_line_feed, ended_lines_of, open_line_of}
 use Rattle.drf_journal.specs.Output.{kept_of}
-use Rattle.drf_journal.specs.State.{State, machine_after, answer_to, after_line, after_byte, after_piece, at_end, IsWithinLine}
+use Rattle.drf_journal.specs.State.{State, machine_after, answer_to, after_line, after_byte, after_piece, at_end, IsWithinLine, HasTakenAtMost}
 use Rattle.drf_journal.proofs.Cuts.{ended-feed, open-feed, ended-within, open-within, within-nil, within-push, within-head, within-tail}
 use Rattle.drf_journal.proofs.Kept.{kept-append, meaning-kept, answer-kept}
 
@@ -240,6 +240,15 @@ end-some s some = rw (ne_eqb (length s.pending) 0 (λ e. omega arith))
 pub end-line : (s : State) → 0 < length s.pending → at_end s ≡ after_line s
 unfolding at_end
 end-line s some = rw (ne_eqb (length s.pending) 0 (λ e. omega arith))
+
+-- the allocator may have taken the last line
+pub end-taken : (s : State) (machine : Machine) → 0 < length s.pending
+    → HasTakenAtMost s.machine (s.pending ++ []) machine → (machine ≡ s.machine) ⊎ (machine ≡ (at_end s).machine)
+end-taken s machine some taken =
+    ⊎_elim (λ (same : machine ≡ s.machine). inl same)
+    (λ (more : machine ≡ machine_after s.machine (meaning_of (s.pending ++ []))).
+    inr (more ∙ sym (ap (λ (t : State). t.machine) (end-line s some ∙ line-whole s))))
+    taken
 
 at_end_apart : (s : State) (sent : List ℕ) (t : Bool) → eqb (length s.pending) 0 ≡ t
     → (sent ++ (at_end s).unsent ≡ (at_end (record s { unsent = sent ++ s.unsent })).unsent)

@@ -94,15 +94,15 @@ module _ (limits : LimitNumbers) (echo : Bool) where
       let counted = (at_end_all (begun limits echo) (ended_lines_of read) (open_line_of read)).1 in
       ap (λ (s : State). (at_end s).lines) (read_lines read) ∙ counted ∙ omega arith
 
-  -- the text for the lines of a front is the text for the first lines
+  -- the text for the lines of a front is the text for the first lines that end
   text_first : (front more : List ℕ)
       → (count : ℕ) × (text_of limits echo (ended_lines_of front)
-      ≡ text_of limits echo (take count (lines_of (front ++ more))))
+      ≡ text_of limits echo (take count (ended_lines_of (front ++ more))))
   text_first front more =
-      let first = lines_first front more in (
+      let first = goes_on front more in (
         length (ended_lines_of front),
-        ap (text_of limits echo) (sym (ap (take (length (ended_lines_of front))) first.1
-            ∙ take-append_seam (ended_lines_of front) first.0)),
+        ap (text_of limits echo) (sym (ap (take (length (ended_lines_of front))) first.lines
+            ∙ take-append_seam (ended_lines_of front) first.others)),
       )
 
   -- and stands at the front
@@ -207,7 +207,7 @@ module _ (limits : LimitNumbers) (echo : Bool) where
           answered = (
             first.0,
             told_so_far ∙ first.1
-                ∙ ap (λ l. text_of limits echo (take first.0 (lines_of l))) (append-nil serving.read),
+                ∙ ap (λ l. text_of limits echo (take first.0 (ended_lines_of l))) (append-nil serving.read),
           );
         }
 
@@ -246,36 +246,36 @@ module _ (limits : LimitNumbers) (echo : Bool) where
     module _ (piece : List ℕ) (now : State) (consumed : Consumes unread unread_next piece)
         (answers : AnswersFrontOf session piece now) where
       front : List ℕ
-      front = serving.read ++ take answers.0 piece
+      front = serving.read ++ take answers.answered piece
 
-      whole : front ++ drop answers.0 piece ≡ serving.read ++ piece
+      whole : front ++ drop answers.answered piece ≡ serving.read ++ piece
       unfolding front
-      whole = append_assoc serving.read (take answers.0 piece) (drop answers.0 piece)
-          ∙ ap (λ l. serving.read ++ l) (take-append-drop answers.0 piece)
+      whole = append_assoc serving.read (take answers.answered piece) (drop answers.answered piece)
+          ∙ ap (λ l. serving.read ++ l) (take-append-drop answers.answered piece)
 
       told_now : serving.told ++ now.unsent ≡ text_of limits echo (ended_lines_of front)
       unfolding front
       told_now =
-          ap (λ l. serving.told ++ l) answers.1 ∙ ap (λ (s : State). s.unsent) (state_next (take answers.0 piece))
-          ∙ text_ended (serving.read ++ take answers.0 piece)
+          ap (λ l. serving.told ++ l) answers.unsent ∙ ap (λ (s : State). s.unsent) (state_next (take answers.answered piece))
+          ∙ text_ended (serving.read ++ take answers.answered piece)
 
       pub run-forgets : Appends written written_next now.unsent
           → HasRun limits echo unread_first unread_next written_first written_next (Err Memory)
       run-forgets sent =
-          let first = text_first front (drop answers.0 piece) in
+          let first = text_first front (drop answers.answered piece) in
           record {
             read = serving.read ++ piece;
             written = serving.told ++ now.unsent;
             consumed = Consumes-trans _ _ _ _ _ serving.consumed consumed;
             appended = Appends-trans _ _ _ _ _ serving.appended sent;
-            answered = (first.0, told_now ∙ first.1 ∙ ap (λ l. text_of limits echo (take first.0 (lines_of l))) whole);
+            answered = (first.0, told_now ∙ first.1 ∙ ap (λ l. text_of limits echo (take first.0 (ended_lines_of l))) whole);
           }
 
       pub run-fails : AppendsFrontOf written written_next now.unsent
           → HasRun limits echo unread_first unread_next written_first written_next (Err Write)
       run-fails sent =
           let text = now.unsent in
-          let rest = text_front front (drop answers.0 piece) in
+          let rest = text_front front (drop answers.answered piece) in
           record {
             read = serving.read ++ piece;
             written = serving.told ++ take sent.0 text;

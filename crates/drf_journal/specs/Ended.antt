@@ -9,7 +9,7 @@ use Rattle.drf_journal.specs.Output.{text_of}
 
 -- What was written for what was read. At `Ok` it is the text of all lines, and their number is told. After a failed read
 -- it is the text of the lines that had ended, after a failed write the front of a text of lines, and where memory ran out
--- the text of the lines before the one at hand.
+-- the text of the lines before the one at hand, all of which had ended.
 abbrev pub IsAnswered : LimitNumbers → Bool → Result ℕ RunFault → List ℕ → List ℕ → Type 0
 IsAnswered limits echo (Ok lines) read written =
     (written ≡ text_of limits echo (lines_of read)) × (lines ≡ length (lines_of read))
@@ -17,7 +17,7 @@ IsAnswered limits echo (Err Read) read written = written ≡ text_of limits echo
 IsAnswered limits echo (Err Write) read written =
     (count : ℕ) × (written ≡ take count (text_of limits echo (lines_of read)))
 IsAnswered limits echo (Err Memory) read written =
-    (count : ℕ) × (written ≡ text_of limits echo (take count (lines_of read)))
+    (count : ℕ) × (written ≡ text_of limits echo (take count (ended_lines_of read)))
 
 -- a run from the rows of an opening took bytes from a reader and gave bytes to a writer
 pub record HasRun (limits : LimitNumbers) (echo : Bool)

@@ -1,5 +1,5 @@
 -- A run between two reads, and what a byte of the input does to it.
-use Rattle.std.specs.Prelude.{◌≡◌, ℕ, ◌+◌, Bool, false, ◌==◌, List, [], ◌∷◌, ◌++◌, length, take, fold, All, Result, Ok, Err, if◌then◌else◌}
+use Rattle.std.specs.Prelude.{◌≡◌, ℕ, ◌+◌, Bool, false, ◌==◌, List, [], ◌∷◌, ◌++◌, length, take, fold, All, Result, Ok, Err, ◌⊎◌, if◌then◌else◌}
 use Rattle.drf_core.specs.Machine.{Machine, opened, after}
 use Rattle.drf_rows.specs.LimitNumbers.{LimitNumbers}
 use Rattle.drf_rows.specs.Step.{reply_to}
@@ -63,6 +63,16 @@ at_end state = if length state.pending == 0 then state else after_line state
 abbrev pub IsWithinLine : List ℕ → Type 0
 IsWithinLine bytes = All (λ b. is_line_feed b ≡ false) bytes
 
--- of a piece the lines up to some byte were answered
-abbrev pub AnswersFrontOf : State → List ℕ → State → Type 0
-AnswersFrontOf old piece new = (count : ℕ) × (new.unsent ≡ (after_piece old (take count piece)).unsent)
+-- the allocator as it was, or after that line
+abbrev pub HasTakenAtMost : Machine → List ℕ → Machine → Type 0
+HasTakenAtMost old line new = (new ≡ old) ⊎ (new ≡ machine_after old (meaning_of line))
+
+-- of a piece the lines up to some byte were answered, and the allocator has taken these lines, or one more
+pub record AnswersFrontOf (old : State) (piece : List ℕ) (new : State) : Type 0 where
+  pub answered : ℕ
+  pub unsent : new.unsent ≡ (after_piece old (take answered piece)).unsent
+  pub taken : ℕ
+  pub machine : new.machine ≡ (after_piece old (take taken piece)).machine
+  pub ahead :
+      ((after_piece old (take taken piece)).lines ≡ (after_piece old (take answered piece)).lines)
+      ⊎ ((after_piece old (take taken piece)).lines ≡ (after_piece old (take answered piece)).lines + 1)

@@ -1,5 +1,5 @@
 //! The engine: lines in, reply lines out.
-ghost use Rattle.std.specs.Prelude.{◌≡◌, false, OnOk};
+ghost use Rattle.std.specs.Prelude.{◌≡◌, ◌≤◌, ◌^◌, false, OnOk};
 ghost use Rattle.std.specs.Io.KnownBytes.{IsAtEnd};
 ghost use Rattle.drf_journal.specs.Device.{IsNew};
 ghost use Rattle.drf_journal.specs.Ended.{HasRun, HasCause};
@@ -34,6 +34,7 @@ pub fn serve<S: Sorter, R: Read, W: Write>(
         (W.contents writer.old.inner) (W.contents writer.new.inner) result }
     ensures read { OnOk result (IsAtEnd (R.remaining reader.new.inner)) }
     ensures cause { HasCause result reader.new.failed reader.new.calls writer.new.failed }
+    ensures reads { reader.new.calls ≤ 2 ^ 40 }
 {
     let mut session = Session::<S>::open(alloc, limits, echo)?;
     let mut buffer = vec![in alloc; 0u8; CHUNK]?;
@@ -55,7 +56,7 @@ pub fn serve<S: Sorter, R: Read, W: Write>(
     Err(RunFault::Read)
 }
 
-/// The same, by the sorter that the program uses.
+/// Serves by the sorter that the program uses.
 pub fn run<R: Read, W: Write>(
     alloc: Global,
     limits: Limits,
@@ -69,6 +70,7 @@ pub fn run<R: Read, W: Write>(
         (W.contents writer.old.inner) (W.contents writer.new.inner) result }
     ensures read { OnOk result (IsAtEnd (R.remaining reader.new.inner)) }
     ensures cause { HasCause result reader.new.failed reader.new.calls writer.new.failed }
+    ensures reads { reader.new.calls ≤ 2 ^ 40 }
 {
     serve::<PlainSorter, _, _>(alloc, limits, reader, writer, echo)
 }

@@ -1,12 +1,12 @@
 //! What a run keeps between reads.
-ghost use Rattle.std.specs.Prelude.{◌≡◌, ℕ, ◌+◌, ◌^◌, ◌<◌, ◌≤◌, [], ◌∷◌, ◌++◌, false, is_err, length, take, slice_index, IfOk, OnOk, OnErr, IfErr, IfSome, IfNone};
+ghost use Rattle.std.specs.Prelude.{◌≡◌, ◌⊎◌, ℕ, ◌+◌, ◌^◌, ◌<◌, ◌≤◌, [], ◌∷◌, ◌++◌, false, is_err, length, take, slice_index, IfOk, OnOk, OnErr, IfErr, IfSome, IfNone};
 ghost use Rattle.std.specs.Io.KnownBytes.{Appends};
 ghost use Rattle.drf_rows.specs.Step.{reply_to};
 ghost use Rattle.drf_core.specs.Machine.{live, after, IsSupported};
 ghost use Rattle.drf_lines.specs.Meaning.{meaning_of};
 ghost use Rattle.drf_journal.specs.Device.{AppendsFrontOf};
 ghost use Rattle.drf_journal.specs.Output.{kept_of};
-ghost use Rattle.drf_journal.specs.State.{begun, reply_line_of, machine_after, answer_to, after_piece, at_end, IsWithinLine, AnswersFrontOf};
+ghost use Rattle.drf_journal.specs.State.{begun, reply_line_of, machine_after, answer_to, after_piece, at_end, IsWithinLine, HasTakenAtMost, AnswersFrontOf};
 
 use crate::device::{Device, write_whole};
 use crate::fault::RunFault;
@@ -26,18 +26,20 @@ fn take_event<S: Sorter>(core: &mut Core<S>, event: Event) -> Result<Reply, Allo
     requires { IsSupported event }
     ensures told { IfOk result (λ reply. reply ≡ reply_to (live core.old).limits (live core.old).rows event) }
     ensures ok { OnOk result (live core.new ≡ after (live core.old) event) }
+    ensures err { OnErr result (live core.new ≡ live core.old) }
 {
     core.step(event)
 }
 
 /// Takes a line's event, and tells its reply line.
-fn reply_to<S: Sorter>(
+fn reply_line<S: Sorter>(
     alloc: Global,
     core: &mut Core<S>,
     line: &[u8],
 ) -> Result<Vec<u8>, AllocError>
     ensures told { IfOk result (λ told. told.items ≡ reply_line_of (live core.old) (meaning_of line.now)) }
     ensures ok { OnOk result (live core.new ≡ machine_after (live core.old) (meaning_of line.now)) }
+    ensures taken { HasTakenAtMost (live core.old) line.now (live core.new) }
 {
     match read_event(alloc, line) {
         Ok(event) => {
@@ -67,8 +69,9 @@ fn answer<S: Sorter>(
 ) -> Result<Vec<u8>, AllocError>
     ensures told { IfOk result (λ told. told.items ≡ answer_to echo (live core.old) line.now) }
     ensures ok { OnOk result (live core.new ≡ machine_after (live core.old) (meaning_of line.now)) }
+    ensures taken { HasTakenAtMost (live core.old) line.now (live core.new) }
 {
-    let reply = reply_to(alloc, core, line)?;
+    let reply = reply_line(alloc, core, line)?;
     if !echo {
         return Ok(reply);
     }
@@ -79,7 +82,8 @@ fn answer<S: Sorter>(
     Ok(told)
 }
 
-/// The same for the line that some bytes end, of which `pending` came before. One that came whole is read where it lies.
+/// Takes the event of the line that some bytes end, of which `pending` came before, and gives the text for the line. One
+/// that came whole is read where it lies.
 fn answer_end<S: Sorter>(
     alloc: Global,
     core: &mut Core<S>,
@@ -89,6 +93,7 @@ fn answer_end<S: Sorter>(
 ) -> Result<Vec<u8>, AllocError>
     ensures told { IfOk result (λ told. told.items ≡ answer_to echo (live core.old) (pending.old.items ++ end.now)) }
     ensures ok { OnOk result (live core.new ≡ machine_after (live core.old) (meaning_of (pending.old.items ++ end.now))) }
+    ensures taken { HasTakenAtMost (live core.old) (pending.old.items ++ end.now) (live core.new) }
 {
     if pending.is_empty() {
         return answer(alloc, core, echo, end);
@@ -160,6 +165,7 @@ impl<S: Sorter> Session<S> {
         requires few { self.old.lines + 1 < 2 ^ 64 }
         ensures ok { OnOk result (self.new ≡ after_piece self.old (end.now ++ 10 ∷ [])) }
         ensures err { OnErr result (self.new.unsent ≡ self.old.unsent) }
+        ensures taken { HasTakenAtMost self.old.machine (self.old.pending ++ end.now) self.new.machine }
     {
         let told = answer_end(alloc, &mut self.core, self.echo, &mut self.pending, end)?;
         self.unsent.extend_from_slice(&told)?;
@@ -190,6 +196,7 @@ impl<S: Sorter> Session<S> {
         requires { self.old.lines + 1 < 2 ^ 64 }
         ensures ok { OnOk result (self.new ≡ at_end self.old) }
         ensures err { OnErr result (self.new.unsent ≡ self.old.unsent) }
+        ensures taken { (self.new.machine ≡ self.old.machine) ⊎ (self.new.machine ≡ (at_end self.old).machine) }
     {
         if self.pending.is_empty() {
             return Ok(());

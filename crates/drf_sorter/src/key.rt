@@ -20,14 +20,6 @@ pub trait Holding {
         ensures { result ≡ held self.now label.now };
 }
 
-impl Holding for Quantities {
-    ghost held = { amount_of };
-
-    fn amount(&self, label: &str) -> u64 {
-        self.get(label)
-    }
-}
-
 /// The dominant share of what is held of the total, over a weight in thousandths.
 pub fn weighted_share<H: Holding>(total: &Quantities, weight: u64, holding: &H) -> Share
     requires within { (label : Text) → H.held holding.now label ≤ amount_of total.now label }

@@ -1,4 +1,4 @@
-use Rattle.std.proofs.Common.{◌≡◌, ℕ, List, ◌++◌, ◌∙◌, ap, Result, Ok, Err}
+use Rattle.std.proofs.Common.{◌≡◌, ℕ, List, ◌++◌, ◌∙◌, ap, ⊎_elim, inl, inr, Result, Ok, Err}
 use Rattle.std.specs.Prelude.{OnOk}
 use Rattle.std.proofs.lemmas.Result.{IfOk-weaker}
 use Rattle.drf_core.specs.Machine.{Machine, live}
@@ -27,3 +27,13 @@ returns-clause-ok g c =
     let line = c.args.pending.now.items ++ c.args.end.now in
     let kept = ap (λ (l : List ℕ). machine_after machine (meaning_of l)) (c.deref.ensures.value ∙ c.in_ok-keep.ensures) ∙ ap (machine_after machine) (meaning-kept line) in
     at_ok c.answer-2.result (λ is. is ∙ kept) c.answer-2.ensures.ok
+
+pub returns-clause-taken : goal.returns-clause-taken
+returns-clause-taken g c =
+    let machine : Machine = live c.args.core.now in
+    let line = c.args.pending.now.items ++ c.args.end.now in
+    let kept : machine_after machine (meaning_of c.deref.result.now) ≡ machine_after machine (meaning_of line) =
+    ap (λ (l : List ℕ). machine_after machine (meaning_of l)) (c.deref.ensures.value ∙ c.in_ok-keep.ensures) ∙ ap (machine_after machine) (meaning-kept line) in
+    ⊎_elim (λ (same : live c.answer-2.new.core ≡ machine). inl same)
+    (λ (more : live c.answer-2.new.core ≡ machine_after machine (meaning_of c.deref.result.now)). inr (more ∙ kept))
+    c.answer-2.ensures.taken

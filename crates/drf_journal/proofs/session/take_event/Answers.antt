@@ -1,8 +1,8 @@
 use Rattle.std.proofs.Common.{◌≡◌, Result, Ok, Err, ◌∙◌}
-use Rattle.std.specs.Prelude.{OnOk}
+use Rattle.std.specs.Prelude.{OnOk, OnErr}
 use Rattle.std.proofs.lemmas.Result.{IfOk-weaker}
 use Rattle.drf_rows.specs.Step.{reply_to}
-use Rattle.drf_core.specs.Machine.{live}
+use Rattle.drf_core.specs.Machine.{Machine, live, IsSame}
 use Rattle.drf_core.specs.MachineLaws.{live-after, reply_to-seen}
 use Rattle.drf_journal.proofs.session.take_event.Goals as goal
 
@@ -19,3 +19,15 @@ returns-clause-told g c =
 
 pub returns-clause-ok : goal.returns-clause-ok
 returns-clause-ok g c = at_ok c.step.result (live-after c.args.core.now c.step.new.self c.args.event) c.step.ensures.ok
+
+-- what follows from what holds at Err
+at_err : {T E A B : Type 0} (r : Result T E) → (A → B) → OnErr r A → OnErr r B
+at_err (Ok x) f h = h
+at_err (Err e) f h = f h
+
+same_seen : (old new : Machine) → IsSame old new → live new ≡ live old
+unfolding live
+same_seen old new is = λ i. record { limits = is.limits i; rows = is.rows i }
+
+pub returns-clause-err : goal.returns-clause-err
+returns-clause-err g c = at_err c.step.result (same_seen c.args.core.now c.step.new.self) c.step.ensures.err

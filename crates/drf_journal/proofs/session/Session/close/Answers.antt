@@ -1,7 +1,7 @@
 use Rattle.std.proofs.Common.{◌≡◌, ◌<◌, length, sym, ap, ◌∙◌, subst, OnOk, arith}
 use Rattle.std.proofs.lemmas.Bool.Decides.{nat_tests}
 use Rattle.drf_journal.specs.State.{State}
-use Rattle.drf_journal.proofs.Pieces.{end-none, end-some}
+use Rattle.drf_journal.proofs.Pieces.{end-none, end-some, end-taken}
 use Rattle.drf_journal.proofs.session.Session.close.Goals as goal
 
 pub returns-then-is_empty-clause-ok : goal.returns-then-is_empty-clause-ok
@@ -19,3 +19,11 @@ returns-clause-ok g c =
     let left : 0 < length c.args.self.now.pending = subst (λ (s : State). 0 < length s.pending) c.self.view_is some in
     subst (λ (s : State). OnOk c.end_line.result (c.end_line.new.self ≡ s))
     (sym (end-some c.args.self.now left)) c.end_line.ensures.ok
+
+pub returns-clause-taken : goal.returns-clause-taken
+returns-clause-taken g c =
+    let pending = c.self.inside.pending in
+    let counted = pending.ok.0 in
+    let some : 0 < length pending.items = grind (arith, nat_tests) in
+    let left : 0 < length c.args.self.now.pending = subst (λ (s : State). 0 < length s.pending) c.self.view_is some in
+    end-taken c.args.self.now c.end_line.new.self.machine left c.end_line.ensures.taken

@@ -5,7 +5,7 @@ use Rattle.std.proofs.lemmas.List.{take_all, length-drop, length-take-le, length
 use Rattle.drf_core.specs.Machine.{live}
 use Rattle.drf_journal.specs.State.{State, after_piece}
 use Rattle.drf_journal.specs.Output.{kept_of}
-use Rattle.drf_journal.proofs.Fronts.{front-begins, front-line, front-answers, front-keeps}
+use Rattle.drf_journal.proofs.Fronts.{front-begins, front-line, front-answers, front-ahead, front-keeps}
 use Rattle.drf_journal.proofs.Pieces.{few_lines, piece-some}
 use Rattle.drf_journal.proofs.session.Session.take.Goals as goal
 
@@ -33,16 +33,20 @@ loop-at-preserved g c =
 
 pub returns-in_err-end_line-clause-answers : goal.returns-in_err-end_line-clause-answers
 returns-in_err-end_line-clause-answers g c =
-    front-answers c.args.self.now c.loop-at.self c.end_line.new.self c.args.piece.now c.loop-at.rest.now c.loop-at.invariant.front c.in_err-end_line.ensures.err
+    let found = c.in-Some.ensures.found in
+    front-ahead c.args.self.now c.loop-at.self c.end_line.new.self c.args.piece.now c.loop-at.rest.now c.in-Some.at
+    c.loop-at.invariant.front found.0 found.1 found.2 c.in_err-end_line.ensures.err c.in_err-end_line.ensures.taken
 
 pub returns-then-is_empty-clause-answers : goal.returns-then-is_empty-clause-answers
 returns-then-is_empty-clause-answers g c =
-    front-answers c.args.self.now c.loop-at.self c.loop-at.self c.args.piece.now c.loop-at.rest.now c.loop-at.invariant.front refl
+    front-answers c.args.self.now c.loop-at.self c.loop-at.self c.args.piece.now c.loop-at.rest.now c.loop-at.invariant.front refl refl
 
 pub returns-clause-answers : goal.returns-clause-answers
 returns-clause-answers g c =
-    front-answers c.args.self.now c.loop-at.self (record c.loop-at.self { unsent = c.self.inside.unsent.items }) c.args.piece.now c.loop-at.rest.now c.loop-at.invariant.front
-    (ap (λ (s : State). s.unsent) c.self.view_is)
+    let inside = c.self.inside in
+    let kept : State = record { machine = live inside.core; echo = inside.echo; pending = c.keep.new.pending.items; unsent = inside.unsent.items; lines = inside.lines } in
+    front-answers c.args.self.now c.loop-at.self kept c.args.piece.now c.loop-at.rest.now c.loop-at.invariant.front
+    (ap (λ (s : State). s.unsent) c.self.view_is) (ap (λ (s : State). s.machine) c.self.view_is)
 
 pub returns-clause-ok : goal.returns-clause-ok
 returns-clause-ok g c =

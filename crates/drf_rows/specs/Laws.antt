@@ -2,7 +2,7 @@
 use Rattle.std.specs.Prelude.{◌≡◌, ◌+◌, true, false, List, ◌∷◌, ◌++◌, map, length, Some, None, IsTrue}
 use Rattle.std.specs.List.Sorted.{IsPermutation}
 use Rattle.drf_role.specs.Path.{Path}
-use Rattle.drf_bundle.specs.Bundle.{IsBundle}
+use Rattle.drf_bundle.specs.Quantities.{HasNoZeros}
 use Rattle.drf_rows.specs.LimitNumbers.{LimitNumbers}
 use Rattle.drf_rows.specs.Client.{Client, path_of}
 use Rattle.drf_rows.specs.Share.{Standing, stands_before, is_serving_order}
@@ -43,7 +43,7 @@ abbrev pub FirstIsGrantedAll : Type 0
 FirstIsGrantedAll =
     (rows : Rows) (agent : AgentRow) (first : Client) (others : List Client)
     → grant rows agent first ≡ Some (free_of rows agent)
-    → IsBundle agent.total
+    → HasNoZeros agent.total
     → all_tried rows agent (first ∷ others) ≡ with_offer rows (new_offer rows agent first (free_of rows agent))
 
 -- a refused event is told so, and changes nothing

@@ -1,8 +1,7 @@
 -- The laws of amounts by label, as statements.
 use Rattle.std.specs.Prelude.{◌≡◌, ℕ, ◌+◌, ◌-◌, ◌≤◌, ◌↔◌, ◌||◌, List, [], if◌then◌else◌, IsTrue}
 use Rattle.drf_role.specs.Text.{same_text}
-use Rattle.drf_bundle.specs.Quantities.{amount_of, is_named, is_in_order, with_amount, plus, minus, covers, without_zeros, rest}
-use Rattle.drf_bundle.specs.Bundle.{IsBundle}
+use Rattle.drf_bundle.specs.Quantities.{HasNoZeros, amount_of, is_named, is_in_order, with_amount, plus, minus, covers, without_zeros, rest}
 use Rattle.drf_bundle.specs.declared.quantities.Entry.{Entry}
 
 -- setting an amount changes that label alone
@@ -27,14 +26,14 @@ SumNamesBoth = (a b : List Entry) (label : List ℕ) → is_named (plus a b) lab
 abbrev pub AddingKeepsOrder : Type 0
 AddingKeepsOrder = (a b : List Entry) → IsTrue (is_in_order a) → IsTrue (is_in_order (plus a b))
 
-abbrev pub BundlesAddUp : Type 0
-BundlesAddUp = (a b : List Entry) → IsBundle a → IsBundle b → IsBundle (plus a b)
+abbrev pub SumHasNoZeros : Type 0
+SumHasNoZeros = (a b : List Entry) → HasNoZeros a → HasNoZeros b → HasNoZeros (plus a b)
 
 abbrev pub AddingCommutes : Type 0
-AddingCommutes = (a b : List Entry) → IsBundle a → IsBundle b → plus a b ≡ plus b a
+AddingCommutes = (a b : List Entry) → HasNoZeros a → HasNoZeros b → plus a b ≡ plus b a
 
 abbrev pub AddingAssociates : Type 0
-AddingAssociates = (a b c : List Entry) → IsBundle a → IsBundle b → IsBundle c → plus (plus a b) c ≡ plus a (plus b c)
+AddingAssociates = (a b c : List Entry) → HasNoZeros a → HasNoZeros b → HasNoZeros c → plus (plus a b) c ≡ plus a (plus b c)
 
 -- each amount falls by that of the same label, and stops at 0
 abbrev pub AmountsFall : Type 0
@@ -51,30 +50,30 @@ LoweringKeepsOrder = (a b : List Entry) → IsTrue (is_in_order a) → IsTrue (i
 abbrev pub ZerosCountNothing : Type 0
 ZerosCountNothing = (entries : List Entry) (label : List ℕ) → IsTrue (is_in_order entries) → amount_of (without_zeros entries) label ≡ amount_of entries label
 
-abbrev pub WithoutZerosIsBundle : Type 0
-WithoutZerosIsBundle = (entries : List Entry) → IsTrue (is_in_order entries) → IsBundle (without_zeros entries)
+abbrev pub NoZerosAreLeft : Type 0
+NoZerosAreLeft = (entries : List Entry) → IsTrue (is_in_order entries) → HasNoZeros (without_zeros entries)
 
 -- what is left has each amount less that of the same label
 abbrev pub RestAmounts : Type 0
 RestAmounts = (a b : List Entry) (label : List ℕ) → IsTrue (is_in_order a) → amount_of (rest a b) label ≡ amount_of a label - amount_of b label
 
-abbrev pub RestIsBundle : Type 0
-RestIsBundle = (a b : List Entry) → IsTrue (is_in_order a) → IsBundle (rest a b)
+abbrev pub RestHasNoZeros : Type 0
+RestHasNoZeros = (a b : List Entry) → IsTrue (is_in_order a) → HasNoZeros (rest a b)
 
 abbrev pub NothingIsLeftOfAll : Type 0
 NothingIsLeftOfAll = (a : List Entry) → IsTrue (is_in_order a) → rest a a ≡ []
 
 abbrev pub AllIsLeftOfNothing : Type 0
-AllIsLeftOfNothing = (a : List Entry) → IsBundle a → rest a [] ≡ a
+AllIsLeftOfNothing = (a : List Entry) → HasNoZeros a → rest a [] ≡ a
 
 -- what was taken and what is left make the whole
 abbrev pub RestAndPartMakeWhole : Type 0
-RestAndPartMakeWhole = (a b : List Entry) → IsBundle a → IsBundle b → IsTrue (covers a b) → plus (rest a b) b ≡ a
+RestAndPartMakeWhole = (a b : List Entry) → HasNoZeros a → HasNoZeros b → IsTrue (covers a b) → plus (rest a b) b ≡ a
 
 -- a list covers another where no amount of the other is above its own
 abbrev pub CoversByAmounts : Type 0
 CoversByAmounts = (a b : List Entry) → IsTrue (is_in_order b) → IsTrue (covers a b) ↔ ((label : List ℕ) → amount_of b label ≤ amount_of a label)
 
--- two bundles with the same amounts are one
+-- two lists without zeros and with the same amounts are one
 abbrev pub KnownByAmounts : Type 0
-KnownByAmounts = (a b : List Entry) → IsBundle a → IsBundle b → ((label : List ℕ) → amount_of a label ≡ amount_of b label) → a ≡ b
+KnownByAmounts = (a b : List Entry) → HasNoZeros a → HasNoZeros b → ((label : List ℕ) → amount_of a label ≡ amount_of b label) → a ≡ b

@@ -3,3 +3,16 @@ pub mod Laws
 pub mod Places
 pub mod Quantities
 pub mod QuantitiesLaws
+pub mod ScalarBundle
+pub mod Value
+pub mod ValueLaws
+pub mod KeyLaws
+pub mod JoinLaws
+pub mod FitLaws
+pub mod RestLaws
+pub mod BundleLaws
+pub mod Sides
+pub mod PartLaws
+pub mod SumLaws
+pub mod UnitLaws
+pub mod UnitProofs

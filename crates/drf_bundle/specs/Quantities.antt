@@ -1,5 +1,5 @@
 -- Amounts of scalar resources by label, in thousandths, in order of label.
-use Rattle.std.specs.Prelude.{ℕ, ◌+◌, ◌-◌, Bool, true, ◌&&◌, List, [], ◌∷◌, map, if◌then◌else◌, nat_lt, nat_le}
+use Rattle.std.specs.Prelude.{ℕ, ◌+◌, ◌-◌, Bool, true, ◌&&◌, IsTrue, List, [], ◌∷◌, map, if◌then◌else◌, nat_lt, nat_le}
 use Rattle.std.specs.List.{filter, list_all, list_any}
 use Rattle.std.specs.Ordering.{nat_cmp, match_ordering}
 use Rattle.std.specs.Cmp.Lexicographic.{slice_cmp}
@@ -14,6 +14,10 @@ amount_of (e ∷ es) label = if same_text e.label label then e.amount else amoun
 -- the label is named, be its amount 0 or not
 abbrev pub is_named : List Entry → List ℕ → Bool
 is_named entries label = list_any (λ e. same_text e.label label) entries
+
+-- the labels, in order
+abbrev pub names_of : List Entry → List (List ℕ)
+names_of entries = map (λ e. e.label) entries
 
 -- each entry stands before all later ones
 abbrev pub is_in_order : List Entry → Bool
@@ -45,10 +49,15 @@ covers entries others = list_all (λ e. nat_le e.amount (amount_of entries e.lab
 abbrev pub without_zeros : List Entry → List Entry
 without_zeros entries = filter (λ e. nat_lt 0 e.amount) entries
 
--- what is left of a bundle when of each label so much is taken from it
+-- what is left when of each label so much is taken away
 abbrev pub rest_by : List Entry → (List ℕ → ℕ) → List Entry
 rest_by entries by = without_zeros (map (λ e. record { label = e.label; amount = e.amount - by e.label }) entries)
 
--- what is left of a bundle when another is taken from it
+-- what is left when another list is taken away
 abbrev pub rest : List Entry → List Entry → List Entry
 rest entries others = rest_by entries (amount_of others)
+
+-- in order of label, and no amount is 0
+pub record HasNoZeros (entries : List Entry) : Type 0 where
+  pub in_order : IsTrue (is_in_order entries)
+  pub above_zero : IsTrue (list_all (λ e. nat_lt 0 e.amount) entries)

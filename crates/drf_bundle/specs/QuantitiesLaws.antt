@@ -6,8 +6,7 @@ use Rattle.std.proofs.lemmas.Bool.{false≢true, cases_Bool, and_parts, and_from
 use Rattle.std.proofs.lemmas.Bool.Decides.{nat_tests}
 use Rattle.drf_role.specs.Text.{same_text, text_below}
 use Rattle.drf_role.specs.TextLaws.{same_itself, same_from_test, test_from_same, cases_same, cases_cmp, same_from_cmp, below_from_cmp, above_from_cmp, below_other, above_other, below_trans}
-use Rattle.drf_bundle.specs.Quantities.{amount_of, is_named, is_in_order, with_amount, plus, minus, covers, without_zeros, rest_by, rest}
-use Rattle.drf_bundle.specs.Bundle.{IsBundle}
+use Rattle.drf_bundle.specs.Quantities.{HasNoZeros, amount_of, is_named, is_in_order, with_amount, plus, minus, covers, without_zeros, rest_by, rest}
 use Rattle.drf_bundle.specs.declared.quantities.Entry.{Entry}
 
 -- the label stands before that of each entry
@@ -191,22 +190,22 @@ above_zero-without_zeros (e ∷ es) = elim (cases_Bool (nat_lt 0 e.amount)) [
   | inr none ↦ rw none (above_zero-without_zeros es)
 ]
 
-pub bundle-without_zeros : (es : List Entry) → IsTrue (is_in_order es) → IsBundle (without_zeros es)
-bundle-without_zeros es ordered = record { in_order = in_order-without_zeros es ordered; above_zero = above_zero-without_zeros es }
+pub no_zeros-without_zeros : (es : List Entry) → IsTrue (is_in_order es) → HasNoZeros (without_zeros es)
+no_zeros-without_zeros es ordered = record { in_order = in_order-without_zeros es ordered; above_zero = above_zero-without_zeros es }
 
-pub bundle-empty : IsBundle []
-bundle-empty = record { in_order = refl; above_zero = refl }
+pub no_zeros-empty : HasNoZeros []
+no_zeros-empty = record { in_order = refl; above_zero = refl }
 
 pub in_order-rest : (a b : List Entry) → IsTrue (is_in_order a) → IsTrue (is_in_order (rest a b))
 in_order-rest a b ordered = in_order-without_zeros (minus a b) (in_order-minus a b ∙ ordered)
 
-pub bundle-rest : (a b : List Entry) → IsTrue (is_in_order a) → IsBundle (rest a b)
-bundle-rest a b ordered = bundle-without_zeros (minus a b) (in_order-minus a b ∙ ordered)
+pub no_zeros-rest : (a b : List Entry) → IsTrue (is_in_order a) → HasNoZeros (rest a b)
+no_zeros-rest a b ordered = no_zeros-without_zeros (minus a b) (in_order-minus a b ∙ ordered)
 
 pub amount-rest : (a b : List Entry) (n : List ℕ) → IsTrue (is_in_order a) → amount_of (rest a b) n ≡ amount_of a n - amount_of b n
 amount-rest a b n ordered = amount-without_zeros (minus a b) n (in_order-minus a b ∙ ordered) ∙ amount-minus a b n
 
-above_zero-with : (es : List Entry) (label : List ℕ) (a : ℕ) → 0 < a → IsTrue (list_all (λ e. nat_lt 0 e.amount) es) → IsTrue (list_all (λ e. nat_lt 0 e.amount) (with_amount es label a))
+pub above_zero-with : (es : List Entry) (label : List ℕ) (a : ℕ) → 0 < a → IsTrue (list_all (λ e. nat_lt 0 e.amount) es) → IsTrue (list_all (λ e. nat_lt 0 e.amount) (with_amount es label a))
 above_zero-with [] label a some all = and_from _ _ (lt-ltb 0 a some) refl
 above_zero-with (e ∷ es) label a some all =
     let parts = and_parts (nat_lt 0 e.amount) (list_all (λ e. nat_lt 0 e.amount) es) all in
@@ -223,8 +222,8 @@ above_zero-plus a (e ∷ es) first second =
     let some : 0 < e.amount = ltb-true 0 e.amount parts.0 in
     above_zero-plus (with_amount a e.label (amount_of a e.label + e.amount)) es (above_zero-with a e.label (amount_of a e.label + e.amount) (omega arith) first) parts.1
 
-pub bundle-plus : (a b : List Entry) → IsBundle a → IsBundle b → IsBundle (plus a b)
-bundle-plus a b first second = record { in_order = in_order-plus a b first.in_order; above_zero = above_zero-plus a b first.above_zero second.above_zero }
+pub no_zeros-plus : (a b : List Entry) → HasNoZeros a → HasNoZeros b → HasNoZeros (plus a b)
+no_zeros-plus a b first second = record { in_order = in_order-plus a b first.in_order; above_zero = above_zero-plus a b first.above_zero second.above_zero }
 
 -- ---- a bundle is known by its amounts
 
@@ -249,15 +248,15 @@ same_tails e f es fs label first second same n = elim (cases_same e.label n) [
       rw (other.0, other_f) at (same n)
 ]
 
-pub same_bundles : (a b : List Entry) → IsBundle a → IsBundle b → ((n : List ℕ) → amount_of a n ≡ amount_of b n) → a ≡ b
-same_bundles [] [] first second same = refl
-same_bundles [] (f ∷ fs) first second same =
+pub same_quantities : (a b : List Entry) → HasNoZeros a → HasNoZeros b → ((n : List ℕ) → amount_of a n ≡ amount_of b n) → a ≡ b
+same_quantities [] [] first second same = refl
+same_quantities [] (f ∷ fs) first second same =
     let some = and_parts (nat_lt 0 f.amount) (list_all (λ e. nat_lt 0 e.amount) fs) second.above_zero in
     absurd (begins_apart f fs [] (ltb-true 0 f.amount some.0) refl (λ n. sym (same n)))
-same_bundles (e ∷ es) [] first second same =
+same_quantities (e ∷ es) [] first second same =
     let some = and_parts (nat_lt 0 e.amount) (list_all (λ e. nat_lt 0 e.amount) es) first.above_zero in
     absurd (begins_apart e es [] (ltb-true 0 e.amount some.0) refl same)
-same_bundles (e ∷ es) (f ∷ fs) first second same =
+same_quantities (e ∷ es) (f ∷ fs) first second same =
     let some_e = and_parts (nat_lt 0 e.amount) (list_all (λ e. nat_lt 0 e.amount) es) first.above_zero in
     let some_f = and_parts (nat_lt 0 f.amount) (list_all (λ e. nat_lt 0 e.amount) fs) second.above_zero in
     let order_e = and_parts (stands_first e.label es) (is_in_order es) first.in_order in
@@ -269,7 +268,7 @@ same_bundles (e ∷ es) (f ∷ fs) first second same =
       | inr (inl equal) ↦
           let label = same_from_cmp e.label f.label equal in
           let amount : e.amount ≡ f.amount = sym (amount_head e es) ∙ same e.label ∙ subst (λ (t : List ℕ). amount_of (f ∷ fs) t ≡ f.amount) (sym label) (amount_head f fs) in
-          let tails = same_bundles es fs (record { in_order = order_e.1; above_zero = some_e.1 }) (record { in_order = order_f.1; above_zero = some_f.1 }) (same_tails e f es fs label order_e.0 order_f.0 same) in
+          let tails = same_quantities es fs (record { in_order = order_e.1; above_zero = some_e.1 }) (record { in_order = order_f.1; above_zero = some_f.1 }) (same_tails e f es fs label order_e.0 order_f.0 same) in
           let heads = same_entry e f label amount in
           λ i. heads i ∷ tails i
       | inr (inr greater) ↦
@@ -278,24 +277,24 @@ same_bundles (e ∷ es) (f ∷ fs) first second same =
     ]
 
 pub rest-itself : (a : List Entry) → IsTrue (is_in_order a) → rest a a ≡ []
-rest-itself a ordered = same_bundles (rest a a) [] (bundle-rest a a ordered) bundle-empty (λ n. omega (arith, amount-rest a a n ordered))
+rest-itself a ordered = same_quantities (rest a a) [] (no_zeros-rest a a ordered) no_zeros-empty (λ n. omega (arith, amount-rest a a n ordered))
 
-pub rest-nothing : (a : List Entry) → IsBundle a → rest a [] ≡ a
-rest-nothing a bundle = same_bundles (rest a []) a (bundle-rest a [] bundle.in_order) bundle (λ n. omega (arith, amount-rest a [] n bundle.in_order))
+pub rest-nothing : (a : List Entry) → HasNoZeros a → rest a [] ≡ a
+rest-nothing a bundle = same_quantities (rest a []) a (no_zeros-rest a [] bundle.in_order) bundle (λ n. omega (arith, amount-rest a [] n bundle.in_order))
 
-pub plus-rest : (a b : List Entry) → IsBundle a → IsBundle b → IsTrue (covers a b) → plus (rest a b) b ≡ a
-plus-rest a b first second covered = same_bundles (plus (rest a b) b) a (bundle-plus (rest a b) b (bundle-rest a b first.in_order) second) first
+pub plus-rest : (a b : List Entry) → HasNoZeros a → HasNoZeros b → IsTrue (covers a b) → plus (rest a b) b ≡ a
+plus-rest a b first second covered = same_quantities (plus (rest a b) b) a (no_zeros-plus (rest a b) b (no_zeros-rest a b first.in_order) second) first
     (λ n. omega (arith, amount-plus (rest a b) b n second.in_order, amount-rest a b n first.in_order, covers_at a b covered n))
 
-pub plus_comm : (a b : List Entry) → IsBundle a → IsBundle b → plus a b ≡ plus b a
-plus_comm a b first second = same_bundles (plus a b) (plus b a) (bundle-plus a b first second) (bundle-plus b a second first)
+pub plus_comm : (a b : List Entry) → HasNoZeros a → HasNoZeros b → plus a b ≡ plus b a
+plus_comm a b first second = same_quantities (plus a b) (plus b a) (no_zeros-plus a b first second) (no_zeros-plus b a second first)
     (λ n. omega (arith, amount-plus a b n second.in_order, amount-plus b a n first.in_order))
 
-pub plus_assoc : (a b c : List Entry) → IsBundle a → IsBundle b → IsBundle c → plus (plus a b) c ≡ plus a (plus b c)
+pub plus_assoc : (a b c : List Entry) → HasNoZeros a → HasNoZeros b → HasNoZeros c → plus (plus a b) c ≡ plus a (plus b c)
 plus_assoc a b c first second third =
-    let front = bundle-plus a b first second in
-    let back = bundle-plus b c second third in
-    same_bundles (plus (plus a b) c) (plus a (plus b c)) (bundle-plus (plus a b) c front third) (bundle-plus a (plus b c) first back)
+    let front = no_zeros-plus a b first second in
+    let back = no_zeros-plus b c second third in
+    same_quantities (plus (plus a b) c) (plus a (plus b c)) (no_zeros-plus (plus a b) c front third) (no_zeros-plus a (plus b c) first back)
     (λ n. omega (arith, amount-plus (plus a b) c n third.in_order, amount-plus a b n second.in_order, amount-plus a (plus b c) n back.in_order, amount-plus b c n third.in_order))
 
 -- ---- which labels are named
@@ -409,20 +408,20 @@ in_order-lowered by (e ∷ es) = λ i. first-lowered by es e.label i && in_order
 pub amount-rest_by : (es : List Entry) (by : List ℕ → ℕ) (n : List ℕ) → IsTrue (is_in_order es) → amount_of (rest_by es by) n ≡ amount_of es n - by n
 amount-rest_by es by n ordered = amount-without_zeros (lowered by es) n (in_order-lowered by es ∙ ordered) ∙ amount-lowered by es n
 
-pub bundle-rest_by : (es : List Entry) (by : List ℕ → ℕ) → IsTrue (is_in_order es) → IsBundle (rest_by es by)
-bundle-rest_by es by ordered = bundle-without_zeros (lowered by es) (in_order-lowered by es ∙ ordered)
+pub no_zeros-rest_by : (es : List Entry) (by : List ℕ → ℕ) → IsTrue (is_in_order es) → HasNoZeros (rest_by es by)
+no_zeros-rest_by es by ordered = no_zeros-without_zeros (lowered by es) (in_order-lowered by es ∙ ordered)
 
 -- what is taken at once can be taken one after the other
-pub rest_by-plus : (es : List Entry) (by : List ℕ → ℕ) (bundle : List Entry) → IsTrue (is_in_order es)
-    → rest_by es (λ label. by label + amount_of bundle label) ≡ rest (rest_by es by) bundle
-rest_by-plus es by bundle ordered =
-    let both : List ℕ → ℕ = λ label. by label + amount_of bundle label in
-    let left = bundle-rest_by es by ordered in
-    same_bundles (rest_by es both) (rest (rest_by es by) bundle) (bundle-rest_by es both ordered) (bundle-rest (rest_by es by) bundle left.in_order)
-    (λ n. omega (arith, amount-rest_by es both n ordered, amount-rest_by es by n ordered, amount-rest (rest_by es by) bundle n left.in_order))
+pub rest_by-plus : (es : List Entry) (by : List ℕ → ℕ) (others : List Entry) → IsTrue (is_in_order es)
+    → rest_by es (λ label. by label + amount_of others label) ≡ rest (rest_by es by) others
+rest_by-plus es by others ordered =
+    let both : List ℕ → ℕ = λ label. by label + amount_of others label in
+    let left = no_zeros-rest_by es by ordered in
+    same_quantities (rest_by es both) (rest (rest_by es by) others) (no_zeros-rest_by es both ordered) (no_zeros-rest (rest_by es by) others left.in_order)
+    (λ n. omega (arith, amount-rest_by es both n ordered, amount-rest_by es by n ordered, amount-rest (rest_by es by) others n left.in_order))
 
 -- of nothing taken all is left
-pub rest_by-nothing : (es : List Entry) (by : List ℕ → ℕ) → IsBundle es → ((n : List ℕ) → by n ≡ 0) → rest_by es by ≡ es
-rest_by-nothing es by bundle none =
-    same_bundles (rest_by es by) es (bundle-rest_by es by bundle.in_order) bundle
-    (λ n. omega (arith, amount-rest_by es by n bundle.in_order, none n))
+pub rest_by-nothing : (es : List Entry) (by : List ℕ → ℕ) → HasNoZeros es → ((n : List ℕ) → by n ≡ 0) → rest_by es by ≡ es
+rest_by-nothing es by no_zeros none =
+    same_quantities (rest_by es by) es (no_zeros-rest_by es by no_zeros.in_order) no_zeros
+    (λ n. omega (arith, amount-rest_by es by n no_zeros.in_order, none n))

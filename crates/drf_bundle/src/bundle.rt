@@ -1,49 +1,192 @@
-ghost use Rattle.std.specs.Prelude.{◌≡◌, [], IsTrue, ◌↔◌, IfOk};
-ghost use Rattle.drf_bundle.specs.Quantities.{without_zeros};
-ghost use Rattle.drf_bundle.specs.Bundle.{IsBundle, quantities_of};
+//! Bundles of resources.
+ghost use Rattle.std.specs.Prelude.{◌≡◌, ◌+◌, ◌<◌, ◌^◌, IsTrue, [], ◌∷◌, ◌++◌, OnOk, IfOk};
+ghost use Rattle.std.specs.Option.{option_copied};
+ghost use Rattle.drf_bundle.specs.Bundle.{IsBundle, IsKept, amount, join, refusal, is_too_large, is_in_order, exceeds, rest, filled_of, left_of, covers_one, reservation, add_scalar, value_at, quantities_of, one_of, is_unreserved, part_for, clip, clipped, relabel};
+ghost use Rattle.drf_bundle.specs.Value.{Thousandths, units_in, IsGiven};
+ghost use Rattle.drf_bundle.specs.Quantities.{amount_of};
+ghost use Rattle.drf_bundle.specs.BundleLaws.{bundle_laws};
 
+use crate::merge::{have_clash, merged};
 use crate::quantities::Quantities;
+use crate::resource::Resource;
+use crate::value::{Clash, Value};
+use drf_amount::{Algebra, AlgebraFault, Scalar};
+use drf_role::{Label, Role};
 use std::alloc::{AllocError, Global};
 use std::marker::Model;
 
-/// A bundle of resources: amounts above 0 by label.
+/// What there is of each resource, for everyone or for a role. One name has one kind, no member
+/// stands under two reservations of a name, and the scalars of a name sum to less than 2^64.
 #[derive(Debug, Drop)]
 pub struct Bundle {
+    resources: Vec<Resource>,
+    // The scalars of each name over all reservations, kept to be lent.
     quantities: Quantities,
 }
 
 impl Model for Bundle {
     ghost use Rattle.std.specs.Prelude.{List};
-    ghost use Rattle.drf_bundle.specs.declared.quantities.Entry.{Entry};
+    ghost use Rattle.drf_bundle.specs.declared.resource.Resource.{Resource};
 
-    ghost Value = { List Entry };
+    ghost Value = { List Resource };
 
-    ghost use Rattle.drf_bundle.specs.Bundle.{IsBundle};
+    ghost use Rattle.std.specs.Coded.{coded_list};
+    ghost use Rattle.drf_bundle.specs.contracts.resource.Resource as resource;
 
-    ghost view = { λ b. b.quantities };
+    ghost coded = { coded_list resource.the_row.coded };
 
-    ghost invariant = { λ b. IsBundle b.quantities };
+    ghost use Rattle.drf_bundle.specs.Bundle.{IsKept};
+
+    ghost view = { λ b. b.resources.items };
+
+    ghost invariant = { λ b. IsKept b.resources.items b.quantities };
+}
+
+/// Adds the resource's scalar to the sum of its name.
+fn add_scalar(sums: &mut Quantities, resource: &Resource) -> Result<(), AllocError>
+    requires { amount_of sums.old resource.now.label + units_in resource.now.value Thousandths < 2 ^ 64 }
+    ensures { OnOk result (sums.new ≡ add_scalar sums.old resource.now) }
+{
+    let Value::Scalar(scalar) = &resource.value else {
+        return Ok(());
+    };
+    let sum = sums.get(resource.label.text()) + scalar.thousandths();
+    sums.set(resource.label.copy()?, sum)
+}
+
+/// The scalars of each name, summed over all reservations.
+fn sums(alloc: Global, resources: &[Resource]) -> Result<Quantities, AllocError>
+    requires { IsBundle resources.now }
+    ensures { IfOk result (λ q. q ≡ quantities_of resources.now) }
+{
+    let mut sums = Quantities::empty(alloc);
+    for resource in resources {
+        add_scalar(&mut sums, resource)?;
+    }
+    Ok(sums)
+}
+
+/// The value of a name under a reservation.
+fn value_at<'a>(resources: &'a [Resource], label: &Label, role: &Role) -> Option<&'a Value>
+    requires { IsTrue (is_in_order resources.now) }
+    ensures { option_copied result ≡ value_at resources.now (label.now, reservation role.now) }
+{
+    match resources.binary_search_by(|resource| resource.cmp_key(label, role)) {
+        Ok(at) => {
+            let resource = &resources[at];
+            Some(&resource.value)
+        }
+        Err(_) => None,
+    }
+}
+
+/// Whether the value under the resource's key covers it.
+fn covers_one(whole: &[Resource], resource: &Resource) -> bool
+    requires { IsTrue (is_in_order whole.now) }
+    ensures { result ≡ covers_one whole.now resource.now }
+{
+    match value_at(whole, &resource.label, &resource.role) {
+        Some(value) => value.covers(&resource.value),
+        None => false,
+    }
+}
+
+/// The resource without what the part has under its key.
+fn left_of(part: &[Resource], resource: &Resource) -> Result<Resource, AllocError>
+    requires { IsTrue (is_in_order part.now) }
+    ensures { IfOk result (λ left. left ≡ left_of part.now resource.now) }
+{
+    let value = match value_at(part, &resource.label, &resource.role) {
+        Some(part) => resource.value.minus(part)?,
+        None => resource.value.copy()?,
+    };
+    Ok(Resource {
+        label: resource.label.copy()?,
+        role: resource.role.copy()?,
+        value,
+    })
+}
+
+/// The resource cut to what the limits say, if it is an unreserved scalar that they name.
+fn clipped(limits: &Quantities, resource: &Resource) -> Result<Resource, AllocError>
+    ensures { IfOk result (λ cut. cut ≡ clipped limits.now resource.now) }
+{
+    let mut cut = resource.copy()?;
+    if !resource.is_unreserved() || !limits.is_named(resource.label.text()) {
+        return Ok(cut);
+    }
+    if let Value::Scalar(scalar) = &resource.value {
+        let limit = limits.get(resource.label.text());
+        cut.value = Value::Scalar(Scalar::new(scalar.thousandths().min(limit)));
+    }
+    Ok(cut)
+}
+
+/// The resource, if there is anything of it, after those that are there.
+fn push_filled(resources: &mut Vec<Resource>, resource: Resource) -> Result<(), AllocError>
+    ensures given { IsGiven resource.value }
+    ensures pushed { OnOk result (resources.new.items ≡ resources.old.items ++ filled_of (resource ∷ [])) }
+{
+    if !resource.value.is_empty() {
+        resources.push(resource)?;
+    }
+    Ok(())
 }
 
 impl Bundle {
-    /// The bundle with nothing in it.
-    pub fn empty(alloc: Global) -> Bundle
-        ensures { result ≡ [] }
+    fn new(alloc: Global, resources: Vec<Resource>) -> Result<Bundle, AllocError>
+        requires { IsBundle resources.items }
+        ensures { IfOk result (λ bundle. bundle ≡ resources.items) }
     {
-        Bundle {
-            quantities: Quantities::empty(alloc),
-        }
+        Ok(Bundle {
+            quantities: sums(alloc, &resources)?,
+            resources,
+        })
     }
 
-    /// The amounts above 0.
-    pub fn from_quantities(mut quantities: Quantities) -> Bundle
-        ensures { result ≡ without_zeros quantities }
-    {
-        quantities.remove_zeros();
-        Bundle { quantities }
+    fn alloc(&self) -> Global {
+        *self.resources.allocator()
     }
 
-    /// The scalars by label.
+    /// One resource, reserved for the role if that is not `*`. An empty value gives the empty
+    /// bundle.
+    pub fn one(
+        alloc: Global,
+        label: &Label,
+        role: &Role,
+        value: Value,
+    ) -> Result<Bundle, AllocError>
+        ensures { IfOk result (λ bundle. bundle ≡ one_of label.now role.now value) }
+    {
+        let mut resources = Vec::new(alloc);
+        // The proof learns of them that they are a label and a role by these calls alone.
+        let _ = label.text();
+        let _ = role.text();
+        let resource = Resource {
+            label: label.copy()?,
+            role: role.copy()?,
+            value,
+        };
+        push_filled(&mut resources, resource)?;
+        Bundle::new(alloc, resources)
+    }
+
+    /// The value of a name under a reservation, `*` for what is unreserved.
+    pub fn get(&self, label: &Label, role: &Role) -> Option<&Value>
+        ensures { option_copied result ≡ value_at self.now (label.now, reservation role.now) }
+    {
+        value_at(&self.resources, label, role)
+    }
+
+    /// The resources in the order in which they are written.
+    pub fn entries(&self) -> &[Resource]
+        ensures value { result.now ≡ self.now }
+        ensures bundle { IsBundle self.now }
+    {
+        self.resources.as_slice()
+    }
+
+    /// The scalars of each name, summed over all reservations.
     pub fn quantities(&self) -> &Quantities
         ensures value { result.now ≡ quantities_of self.now }
         ensures bundle { IsBundle self.now }
@@ -51,16 +194,173 @@ impl Bundle {
         &self.quantities
     }
 
-    pub fn is_empty(&self) -> bool
-        ensures { IsTrue result ↔ (self.now ≡ []) }
+    /// Whether nothing is reserved.
+    pub fn is_unreserved(&self) -> bool
+        ensures { result ≡ is_unreserved self.now }
     {
-        self.quantities.entries().is_empty()
+        for resource in &self.resources {
+            if !resource.is_unreserved() {
+                return false;
+            }
+        }
+        true
     }
 
-    pub fn copy(&self) -> Result<Bundle, AllocError>
-        ensures { IfOk result (λ bundle. bundle ≡ self.now) }
+    /// What a role may use: what is unreserved, and what is reserved for it or for a role above it.
+    pub fn part_for(&self, role: &Role) -> Result<Bundle, AllocError>
+        ensures { IfOk result (λ part. part ≡ part_for role.now self.now) }
     {
+        let mut part = Vec::new(self.alloc());
+        for resource in &self.resources {
+            if resource.is_for(role) {
+                part.push(resource.copy()?)?;
+            }
+        }
+        Bundle::new(self.alloc(), part)
+    }
+
+    /// The bundle with each unreserved scalar that the limits name cut to what they say.
+    pub fn clip(&self, limits: &Quantities) -> Result<Bundle, AllocError>
+        ensures { IfOk result (λ part. part ≡ clip limits.now self.now) }
+    {
+        let mut part = Vec::new(self.alloc());
+        for resource in &self.resources {
+            push_filled(&mut part, clipped(limits, resource)?)?;
+        }
+        Bundle::new(self.alloc(), part)
+    }
+
+    /// The bundle with all of it reserved for the role, or unreserved where that is `*`.
+    pub fn relabel(&self, role: &Role) -> Result<Bundle, AllocError>
+        requires { IsTrue (is_unreserved self.now) }
+        ensures { IfOk result (λ moved. moved ≡ relabel role.now self.now) }
+    {
+        // The proof learns that it is a role by this call alone.
+        let _ = role.text();
+        let mut moved = Vec::with_capacity(self.alloc(), self.resources.len())?;
+        for resource in &self.resources {
+            moved.push(resource.moved_to(role)?)?;
+        }
+        Bundle::new(self.alloc(), moved)
+    }
+
+    /// Why the two have no join.
+    fn refusal(&self, other: &Bundle) -> Option<AlgebraFault>
+        ensures given { IsBundle self.now × IsBundle other.now }
+        ensures refusal { result ≡ refusal self.now other.now }
+    {
+        if have_clash(&self.resources, &other.resources, Clash::Kinds) {
+            return Some(AlgebraFault::Kind);
+        }
+        if have_clash(&self.resources, &other.resources, Clash::Members) {
+            return Some(AlgebraFault::Overlap);
+        }
+        if self.is_too_large_with(other) {
+            return Some(AlgebraFault::TooLarge);
+        }
+        None
+    }
+
+    /// Whether the scalars of some name would exceed 2^64 - 1 thousandths.
+    fn is_too_large_with(&self, other: &Bundle) -> bool
+        ensures { result ≡ is_too_large self.now other.now }
+    {
+        self.resources
+            .iter()
+            .any(|resource| self.exceeds_with(other, resource.label.text()))
+    }
+
+    /// Whether the scalars of that name would exceed 2^64 - 1 thousandths.
+    fn exceeds_with(&self, other: &Bundle, name: &str) -> bool
+        ensures { result ≡ exceeds self.now other.now name.now }
+    {
+        let sum = self
+            .quantities
+            .get(name)
+            .checked_add(other.quantities.get(name));
+        sum.is_none()
+    }
+
+    /// What is left of it without the part.
+    fn rest(&self, part: &Bundle) -> Result<Bundle, AllocError>
+        ensures { IfOk result (λ left. left ≡ rest self.now part.now) }
+    {
+        let mut left = Vec::new(self.alloc());
+        for resource in &self.resources {
+            push_filled(&mut left, left_of(&part.resources, resource)?)?;
+        }
+        Bundle::new(self.alloc(), left)
+    }
+}
+
+impl Algebra for Bundle {
+    ghost is_given = { IsBundle };
+
+    ghost empty = { [] };
+
+    ghost join = { join };
+
+    ghost refusal = { refusal };
+
+    ghost amount = { amount };
+
+    ghost laws = { bundle_laws };
+
+    fn empty(alloc: Global) -> Bundle {
+        Bundle {
+            resources: Vec::new(alloc),
+            quantities: Quantities::empty(alloc),
+        }
+    }
+
+    fn is_empty(&self) -> bool {
+        self.resources.is_empty()
+    }
+
+    fn disjoint(&self, other: &Bundle) -> bool {
+        self.refusal(other).is_none()
+    }
+
+    fn try_join(&self, other: &Bundle) -> Result<Bundle, AlgebraFault> {
+        if let Some(fault) = self.refusal(other) {
+            return Err(fault);
+        }
+        let resources = merged(self.alloc(), &self.resources, &other.resources)?;
+        Ok(Bundle::new(self.alloc(), resources)?)
+    }
+
+    fn covers(&self, part: &Bundle) -> bool {
+        let whole = self.entries();
+        for resource in &part.resources {
+            if !covers_one(whole, resource) {
+                return false;
+            }
+        }
+        true
+    }
+
+    fn try_minus(&self, part: &Bundle) -> Result<Bundle, AlgebraFault> {
+        if !self.covers(part) {
+            return Err(AlgebraFault::NotCovered);
+        }
+        Ok(self.rest(part)?)
+    }
+
+    fn amount(&self) -> u128 {
+        let mut amount = 0;
+        for resource in &self.resources {
+            amount += resource.value.amount();
+        }
+        amount
+    }
+
+    fn copy(&self) -> Result<Bundle, AllocError> {
+        let mut resources = Vec::with_capacity(self.alloc(), self.resources.len())?;
+        for resource in &self.resources {
+            resources.push(resource.copy()?)?;
+        }
         Ok(Bundle {
+            resources,
             quantities: self.quantities.copy()?,
         })
     }

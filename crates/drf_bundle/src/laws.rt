@@ -1,5 +1,6 @@
-//! Laws of amounts by label, of all lists of entries. A call does nothing: its contract is the law.
-ghost use Rattle.drf_bundle.specs.Laws.{SetsOneAmount, NamesOneLabel, SettingKeepsOrder, AmountsAdd, SumNamesBoth, AddingKeepsOrder, BundlesAddUp, AddingCommutes, AddingAssociates, AmountsFall, NamesStay, LoweringKeepsOrder, ZerosCountNothing, WithoutZerosIsBundle, RestAmounts, RestIsBundle, NothingIsLeftOfAll, AllIsLeftOfNothing, RestAndPartMakeWhole, CoversByAmounts, KnownByAmounts};
+//! Laws of amounts by label and of bundles by their units. A call does nothing: its contract is the law.
+ghost use Rattle.drf_bundle.specs.Laws.{SetsOneAmount, NamesOneLabel, SettingKeepsOrder, AmountsAdd, SumNamesBoth, AddingKeepsOrder, SumHasNoZeros, AddingCommutes, AddingAssociates, AmountsFall, NamesStay, LoweringKeepsOrder, ZerosCountNothing, NoZerosAreLeft, RestAmounts, RestHasNoZeros, NothingIsLeftOfAll, AllIsLeftOfNothing, RestAndPartMakeWhole, CoversByAmounts, KnownByAmounts};
+ghost use Rattle.drf_bundle.specs.UnitLaws.{KnownByUnits, JoinHasUnitsOfBoth, StocksAdd, CoversByUnits, RestHasTheOthers, RestIsBundle, RestAndPartJoin, QuantitiesSumScalars, QuantitiesHaveNoZeros, QuantitiesAdd, PartIsCovered, ClippedIsCovered, MovedIsBundle, MovedKeepsStocks};
 
 /// What setting an amount does.
 pub fn setting_law()
@@ -13,7 +14,7 @@ pub fn adding_law()
     ensures amounts { AmountsAdd }
     ensures names { SumNamesBoth }
     ensures in_order { AddingKeepsOrder }
-    ensures bundles { BundlesAddUp }
+    ensures no_zeros { SumHasNoZeros }
     ensures commutes { AddingCommutes }
     ensures associates { AddingAssociates }
 {}
@@ -28,13 +29,13 @@ pub fn lowering_law()
 /// What forgetting the zeros does.
 pub fn zeros_law()
     ensures amounts { ZerosCountNothing }
-    ensures bundle { WithoutZerosIsBundle }
+    ensures no_zeros { NoZerosAreLeft }
 {}
 
 /// What is left of a list when another is taken from it.
 pub fn rest_law()
     ensures amounts { RestAmounts }
-    ensures bundle { RestIsBundle }
+    ensures no_zeros { RestHasNoZeros }
     ensures of_all { NothingIsLeftOfAll }
     ensures of_nothing { AllIsLeftOfNothing }
     ensures whole { RestAndPartMakeWhole }
@@ -45,7 +46,41 @@ pub fn covering_law()
     ensures { CoversByAmounts }
 {}
 
-/// What tells two bundles apart.
-pub fn bundle_law()
+/// What tells two lists without zeros apart.
+pub fn amounts_law()
     ensures { KnownByAmounts }
+{}
+
+/// What tells two bundles apart.
+pub fn units_law()
+    ensures { KnownByUnits }
+{}
+
+/// What the join of two bundles is, and when there is one.
+pub fn bundle_join_law()
+    ensures units { JoinHasUnitsOfBoth }
+    ensures stocks { StocksAdd }
+{}
+
+/// When a bundle covers another, and what is left of it.
+pub fn bundle_rest_law()
+    ensures covers { CoversByUnits }
+    ensures units { RestHasTheOthers }
+    ensures bundle { RestIsBundle }
+    ensures whole { RestAndPartJoin }
+{}
+
+/// What the quantities of a bundle are.
+pub fn quantities_law()
+    ensures amounts { QuantitiesSumScalars }
+    ensures no_zeros { QuantitiesHaveNoZeros }
+    ensures joined { QuantitiesAdd }
+{}
+
+/// What is made of a bundle is a bundle: what a role may use, what limits leave, what is moved.
+pub fn bundle_part_law()
+    ensures part { PartIsCovered }
+    ensures clipped { ClippedIsCovered }
+    ensures moved { MovedIsBundle }
+    ensures stocks { MovedKeepsStocks }
 {}

@@ -3,10 +3,20 @@
 
 mod bundle;
 mod laws;
+mod merge;
+mod names;
 mod quantities;
+mod resource;
+mod scalar_bundle;
+mod value;
 
 pub use bundle::Bundle;
 pub use laws::{
-    adding_law, bundle_law, covering_law, lowering_law, rest_law, setting_law, zeros_law,
+    adding_law, amounts_law, bundle_join_law, bundle_part_law, bundle_rest_law, covering_law,
+    lowering_law, quantities_law, rest_law, setting_law, units_law, zeros_law,
 };
+pub use names::Names;
 pub use quantities::{Entry, Quantities};
+pub use resource::Resource;
+pub use scalar_bundle::ScalarBundle;
+pub use value::Value;

@@ -1,8 +1,8 @@
 ghost use Rattle.std.specs.Prelude.{◌≡◌, ℕ, List, [], length, ◌^◌, ◌<◌, IsTrue, ◌+◌, ◌↔◌, IfOk, IfErr, OnOk, OnErr, IsOk};
-ghost use Rattle.drf_bundle.specs.Quantities.{amount_of, is_named, is_in_order, with_amount, plus, minus, covers, without_zeros};
-ghost use Rattle.drf_bundle.specs.Bundle.{IsBundle};
+ghost use Rattle.drf_bundle.specs.Quantities.{HasNoZeros, amount_of, is_named, is_in_order, with_amount, plus, minus, covers, without_zeros, names_of};
 ghost use Rattle.drf_bundle.specs.Places.{IsAt, IsGapFor};
 
+use crate::names::Names;
 use drf_amount::Scalar;
 use drf_role::Label;
 use std::alloc::{AllocError, Global};
@@ -83,6 +83,13 @@ impl Quantities {
         self.entries.as_slice()
     }
 
+    /// The labels in order of bytes, be their amounts 0 or not.
+    pub fn names(&self) -> Names<'_>
+        ensures { result ≡ names_of self.now }
+    {
+        Names::new(self.entries())
+    }
+
     /// Gives a label that amount, and names it where it was not.
     pub fn set(&mut self, label: Label, thousandths: u64) -> Result<(), AllocError>
         ensures ok { OnOk result (self.new ≡ with_amount self.old label thousandths) }
@@ -152,9 +159,9 @@ impl Quantities {
     }
 
     /// Forgets the labels whose amount is 0.
-    pub(crate) fn remove_zeros(&mut self)
+    pub fn remove_zeros(&mut self)
         ensures value { self.new ≡ without_zeros self.old }
-        ensures bundle { IsBundle self.new }
+        ensures none { HasNoZeros self.new }
     {
         self.entries.retain(|entry| entry.amount.thousandths() > 0);
     }

@@ -11,7 +11,7 @@ use Rattle.drf_role.specs.TextLaws.{same_from_test}
 use Rattle.drf_role.specs.Path.{Path, same_path, client_path}
 use Rattle.drf_role.specs.PathLaws.{same_path-client_path}
 use Rattle.drf_bundle.specs.Quantities.{plus}
-use Rattle.drf_bundle.specs.Bundle.{quantities_of}
+use Rattle.drf_bundle.specs.ScalarBundle.{quantities_of}
 use Rattle.drf_bundle.specs.declared.quantities.Entry.{Entry}
 use Rattle.drf_rows.specs.Client.{Client, path_of}
 use Rattle.drf_rows.specs.Holdings.{Holding, holdings_of, held_where, amount_in, is_of}

@@ -7,8 +7,8 @@ use Rattle.drf_role.specs.Text.{Text}
 use Rattle.drf_role.specs.TextLaws.{same_itself}
 use Rattle.drf_role.specs.Path.{Path, role_part, framework_part}
 use Rattle.drf_role.specs.PathLaws.{role_part-client_path, framework_part-client_path}
-use Rattle.drf_bundle.specs.Quantities.{amount_of, rest}
-use Rattle.drf_bundle.specs.Bundle.{IsBundle, quantities_of}
+use Rattle.drf_bundle.specs.Quantities.{HasNoZeros, amount_of, rest}
+use Rattle.drf_bundle.specs.ScalarBundle.{quantities_of}
 use Rattle.drf_bundle.specs.declared.quantities.Entry.{Entry}
 use Rattle.drf_rows.specs.ListLaws.{each_at}
 use Rattle.drf_rows.specs.Client.{Client, path_of}
@@ -38,10 +38,10 @@ path_of-injective c d same =
 
 -- a grant is a part of what is free
 pub record IsPart (bundle free : List Entry) : Type 0 where
-  pub bundle_is : IsBundle bundle
+  pub bundle_is : HasNoZeros bundle
   pub small : (label : Text) → amount_of (quantities_of bundle) label ≤ amount_of (quantities_of free) label
 
-pub grant-part : (rows : Rows) (agent : AgentRow) (client : Client) (bundle : List Entry) → IsBundle agent.total
+pub grant-part : (rows : Rows) (agent : AgentRow) (client : Client) (bundle : List Entry) → HasNoZeros agent.total
     → grant rows agent client ≡ Some bundle → IsPart bundle (free_of rows agent)
 grant-part rows agent client bundle total granted = by (is_allocatable (free_of rows agent)) granted
   where

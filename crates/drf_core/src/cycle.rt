@@ -3,8 +3,7 @@
 ghost use Rattle.std.specs.Prelude.{◌≡◌, ◌<◌, ◌≤◌, ◌+◌, ◌*◌, None, [], length, map, slice_get, Some, IfOk, OnOk, OnErr, MatchOption};
 ghost use Rattle.std.specs.List.{AllByRecursion};
 ghost use Rattle.drf_role.specs.Path.{role_part, framework_part};
-ghost use Rattle.drf_bundle.specs.Quantities.{rest};
-ghost use Rattle.drf_bundle.specs.Bundle.{IsBundle};
+ghost use Rattle.drf_bundle.specs.Quantities.{HasNoZeros, rest};
 ghost use Rattle.drf_rows.specs.Client.{Client};
 ghost use Rattle.drf_rows.specs.Held.{clients_of};
 ghost use Rattle.drf_rows.specs.Cycle.{free_of, is_allocatable, grant, at_moment};
@@ -18,7 +17,7 @@ ghost use Rattle.drf_core.specs.Kept.{AreFew, IsKept};
 ghost use Rattle.drf_core.specs.Drafting.{IsDrafting, IsRegisteredPath, IsFreeAt, IsTried, HasLeft, is_open_at, turn_at, turns_of};
 ghost use Rattle.drf_core.specs.Kept.{StandAt};
 
-use drf_bundle::Bundle;
+use drf_bundle::ScalarBundle;
 use drf_role::{ClientPath, Name};
 use drf_rows::{Limits, OfferLine, OfferRow};
 use drf_sorter::Sorter;
@@ -34,9 +33,9 @@ struct Drafts {
 }
 
 /// Whether a bundle is worth an offer: 0.01 `cpus`, or 32 `mem`.
-fn is_worth_an_offer(bundle: &Bundle) -> bool
+fn is_worth_an_offer(bundle: &ScalarBundle) -> bool
     ensures value { result ≡ is_allocatable bundle.now }
-    ensures bundle { IsBundle bundle.now }
+    ensures bundle { HasNoZeros bundle.now }
 {
     let quantities = bundle.quantities();
     10 <= quantities.get("cpus") || 32000 <= quantities.get("mem")
@@ -51,7 +50,7 @@ fn is_open(tables: &Tables, place: usize) -> bool
 }
 
 /// Takes from what is free on an agent what a client is granted: all of it, if that is worth an offer.
-fn grant(alloc: Global, free: &mut Bundle) -> Option<Bundle>
+fn grant(alloc: Global, free: &mut ScalarBundle) -> Option<ScalarBundle>
     ensures granted { (rows : Rows) (agent : AgentRow) (client : Client)
         → free_of rows agent ≡ free.old → result ≡ grant rows agent client }
     ensures left { MatchOption result (free.new ≡ free.old) (λ bundle. free.new ≡ rest free.old bundle) }
@@ -59,7 +58,7 @@ fn grant(alloc: Global, free: &mut Bundle) -> Option<Bundle>
     if !is_worth_an_offer(free) {
         return None;
     }
-    Some(mem::replace(free, Bundle::empty(alloc)))
+    Some(mem::replace(free, ScalarBundle::empty(alloc)))
 }
 
 /// The row of an offer.
@@ -67,7 +66,7 @@ fn offer_row(
     number: u64,
     agent: &Name,
     client: &ClientPath,
-    bundle: Bundle,
+    bundle: ScalarBundle,
 ) -> Result<OfferRow, AllocError>
     ensures { IfOk result (λ row. row ≡ record {
       number = number;
@@ -93,7 +92,7 @@ fn try_client<S: Sorter>(
     sorter: &mut S,
     place: usize,
     client: &ClientPath,
-    free: &mut Bundle,
+    free: &mut ScalarBundle,
     offers: &mut Vec<OfferRow>,
 ) -> Result<(), AllocError>
     requires drafting { IsDrafting (S.content sorter.old) tables.now.rows offers.old.items }

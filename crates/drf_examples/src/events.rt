@@ -3,7 +3,7 @@ ghost use Rattle.std.specs.Prelude.{IfOk};
 ghost use Rattle.drf_core.specs.Machine.{IsSupported};
 
 use anyhow::Result;
-use drf_bundle::Bundle;
+use drf_bundle::ScalarBundle;
 use drf_core::Core;
 use drf_role::{Name, Role};
 use drf_rows::{Event, Limits, Table};
@@ -15,7 +15,7 @@ fn new_agent(alloc: Global) -> Result<Event>
     ensures { IfOk result IsSupported }
 {
     let agent = Name::read(alloc, "n1")?;
-    let total = Bundle::empty(alloc);
+    let total = ScalarBundle::empty(alloc);
     Ok(Event::AddAgent { agent, total })
 }
 

@@ -6,7 +6,7 @@ use Rattle.std.specs.Cmp.{IsTotalOrder, tied_itself, Equal-is}
 use Rattle.std.specs.List.{list_any}
 use Rattle.std.specs.Ordering.{eq_by_cmp, is_eq}
 use Rattle.std.specs.FinSet as set
-use Rattle.std.proofs.lemmas.Bool.{true≢false, eqb-true, eq-eqb, and_parts, and_from, or_cases}
+use Rattle.std.proofs.lemmas.Bool.{true≢false, eqb-true, eqb-false, eq-eqb, and_parts, and_from, or_cases}
 use Rattle.drf_amount.specs.Algebra.{AlgebraLaws, Covers, IsRest, IsRefusal}
 use Rattle.drf_amount.specs.declared.algebra.AlgebraFault.TheVariants.{Overlap}
 use Rattle.drf_kinds.specs.Sets.{IsSetOf, are_disjoint, set_join, set_refusal}
@@ -91,11 +91,17 @@ put_back true false f = refl
 put_back false true f = sym (f refl)
 put_back false false f = refl
 
+only_rest : (x y z : Bool) → (x && y) ≡ false → z ≡ (x || y) → x ≡ (z && not y)
+only_rest true true z apart is = absurd (true≢false apart)
+only_rest true false z apart is = rw is refl
+only_rest false true z apart is = rw is refl
+only_rest false false z apart is = rw is refl
+
 module _ {K : Type 0} {R : K → K → Ordering} (o : IsTotalOrder R) (same : set.IsAntisymmetric R) where
   abbrev has : set.FinSet R → K → Bool
   has a k = set.contains a k
 
-  same_set : (a b : set.FinSet R) → ((k : K) → has a k ≡ has b k) → a ≡ b
+  pub same_set : (a b : set.FinSet R) → ((k : K) → has a k ≡ has b k) → a ≡ b
   same_set a b each = set.same_set o same a b each
 
   -- the test of disjoint sets, by their members
@@ -143,7 +149,7 @@ module _ {K : Type 0} {R : K → K → Ordering} (o : IsTotalOrder R) (same : se
       (λ both. union_joined a b c (and_parts (are_disjoint a c) (are_disjoint b c) both))
 
   -- what a join says
-  join_some : (a b c : set.FinSet R) → set_join a b ≡ Some c → (are_disjoint a b ≡ true) × (set.union a b ≡ c)
+  pub join_some : (a b c : set.FinSet R) → set_join a b ≡ Some c → (are_disjoint a b ≡ true) × (set.union a b ≡ c)
   join_some a b c joined =
       elim (are_disjoint a b) as (λ d. cond d (Some (set.union a b)) None ≡ Some c → (d ≡ true) × (set.union a b ≡ c)) [
         | true ↦ λ e. (refl, cc)
@@ -190,7 +196,7 @@ module _ {K : Type 0} {R : K → K → Ordering} (o : IsTotalOrder R) (same : se
   itself k = ap is_eq (tied_itself o k)
 
   -- a set that is not empty has a member
-  some_member : (a : set.FinSet R) (n : ℕ) → set.len a ≡ suc n → (k : K) × (has a k ≡ true)
+  pub some_member : (a : set.FinSet R) (n : ℕ) → set.len a ≡ suc n → (k : K) × (has a k ≡ true)
   some_member a n more = pick (set.items a) refl where
     pick : (ks : List K) → set.items a ≡ ks → (k : K) × (has a k ≡ true)
     pick [] none = absurd (omega (arith, ap set.len (same_set a set.empty (λ k. set.contains-items a k ∙ ap (list_any (eq_by_cmp R k)) none ∙ sym (set.contains-empty R k))) ∙ set.len-empty R, more))
@@ -242,7 +248,7 @@ module _ {K : Type 0} {R : K → K → Ordering} (o : IsTotalOrder R) (same : se
     empty_given : IsSetOf P (set.empty {R = R})
     empty_given = record { each = λ k is. absurd (true≢false (sym is ∙ set.contains-empty R k)) }
 
-    union_given : (a b : set.FinSet R) → IsSetOf P a → IsSetOf P b → IsSetOf P (set.union a b)
+    pub union_given : (a b : set.FinSet R) → IsSetOf P a → IsSetOf P b → IsSetOf P (set.union a b)
     union_given a b a_given b_given = record {
       each = λ k is. elim (or_cases (has a k) (has b k) (sym (set.contains-union o a b k) ∙ is)) [ inl in_a ↦ a_given.each k in_a | inr in_b ↦ b_given.each k in_b ];
     }
@@ -283,3 +289,21 @@ module _ {K : Type 0} {R : K → K → Ordering} (o : IsTotalOrder R) (same : se
 
     pub covers_subset : (whole part : set.FinSet R) → IsSetOf P whole → set.is_subset part whole ≡ true → Covers (IsSetOf P) set_join whole part
     covers_subset whole part given within = record { rest = set.difference whole part; is_rest = is_rest_difference whole part given within }
+
+  -- a rest is the difference
+  pub rest_is_difference : (whole part rest : set.FinSet R) → set_join rest part ≡ Some whole → rest ≡ set.difference whole part
+  rest_is_difference whole part rest joined =
+      let is = join_some rest part whole joined in
+      same_set rest (set.difference whole part)
+      (λ k. only_rest (has rest k) (has part k) (has whole k) (out_of_both rest part is.0 k) (ap (λ s. has s k) (sym is.1) ∙ set.contains-union o rest part k)
+      ∙ sym (set.contains-difference o whole part k))
+
+  -- sets that share no member of one of them are disjoint
+  pub shared_member : (a b : set.FinSet R) → are_disjoint a b ≡ false → (k : K) × (has a k ≡ true) × (has b k ≡ true)
+  shared_member a b meet =
+      let some = some_member (set.intersection a b) (set.len (set.intersection a b) - 1) (omega (arith, eqb-false _ _ meet)) in
+      let both = and_parts (has a some.0) (has b some.0) (sym (set.contains-intersection o a b some.0) ∙ some.1) in
+      (some.0, both.0, both.1)
+
+  pub difference_given : (P : K → Type 0) (a b : set.FinSet R) → IsSetOf P a → IsSetOf P (set.difference a b)
+  difference_given P a b given = record { each = λ k is. given.each k (and_parts (has a k) (not (has b k)) (sym (set.contains-difference o a b k) ∙ is)).0 }

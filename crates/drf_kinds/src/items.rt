@@ -1,4 +1,4 @@
-ghost use Rattle.std.specs.Prelude.{◌≡◌, ℕ, List, All, IfOk};
+ghost use Rattle.std.specs.Prelude.{◌≡◌, ◌<◌, ◌^◌, ℕ, List, All, IfOk};
 ghost use Rattle.std.specs.FinSet as set;
 ghost use Rattle.drf_kinds.specs.Sets.{set_join, set_refusal};
 ghost use Rattle.drf_kinds.specs.Names.{IsLabelSet, AreAscending, is_named};
@@ -130,7 +130,11 @@ impl Algebra for Items {
         Ok(self.symmetric_difference(part)?)
     }
 
-    fn amount(&self) -> u128 {
+    fn amount(&self) -> u128
+        ensures given { IsLabelSet self.now }
+        ensures amount { result ≡ set.len self.now }
+        ensures small { result < 2 ^ 64 }
+    {
         self.names.len() as u128
     }
 

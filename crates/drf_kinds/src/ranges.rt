@@ -1,4 +1,4 @@
-ghost use Rattle.std.specs.Prelude.{◌≡◌, ◌↔◌, ◌<◌, ◌≤◌, ℕ, All, Any, IsTrue, IsErrOf, IfOk, map};
+ghost use Rattle.std.specs.Prelude.{◌≡◌, ◌↔◌, ◌<◌, ◌≤◌, ◌^◌, ℕ, All, Any, IsTrue, IsErrOf, IfOk, map};
 ghost use Rattle.std.specs.List.Sorted.{IsNonDecreasingBy, IsPermutation};
 ghost use Rattle.std.specs.FinSet as set;
 ghost use Rattle.drf_kinds.specs.Sets.{set_join, set_refusal};
@@ -202,7 +202,11 @@ impl Algebra for Ranges {
         Ok(self.symmetric_difference(part)?)
     }
 
-    fn amount(&self) -> u128 {
+    fn amount(&self) -> u128
+        ensures given { IsNumberSet self.now }
+        ensures amount { result ≡ set.len self.now }
+        ensures small { result < 2 ^ 64 }
+    {
         let mut amount = 0;
         for interval in &self.intervals {
             amount += u128::from(interval.last - interval.first) + 1;

@@ -9,7 +9,7 @@ use crate::amount::{push_amount, read_amount};
 use crate::fault::{LineError, LineFault};
 use crate::words::read_label;
 use drf_amount::Scalar;
-use drf_bundle::{Bundle, Entry, Quantities};
+use drf_bundle::{Entry, Quantities, ScalarBundle};
 use std::alloc::{AllocError, Global};
 
 /// Reads a piece: a resource's name, `:` and an amount.
@@ -40,14 +40,14 @@ fn read_pieces(alloc: Global, text: &str) -> Result<Quantities, LineError>
 }
 
 /// Reads the resources of an agent. The empty text has none.
-pub fn read_total(alloc: Global, text: &str) -> Result<Bundle, LineError>
+pub fn read_total(alloc: Global, text: &str) -> Result<ScalarBundle, LineError>
     ensures { IsReadOf result (total_in text.now) }
 {
     if text.is_empty() {
-        return Ok(Bundle::empty(alloc));
+        return Ok(ScalarBundle::empty(alloc));
     }
     let named = read_pieces(alloc, text)?;
-    Ok(Bundle::from_quantities(named))
+    Ok(ScalarBundle::from_quantities(named))
 }
 
 fn push_entry(text: &mut String, entry: &Entry) -> Result<(), AllocError>
@@ -59,7 +59,7 @@ fn push_entry(text: &mut String, entry: &Entry) -> Result<(), AllocError>
 }
 
 /// Writes resources: for each in order of name its name, `:` and its amount, joined by `;`.
-pub fn write_resources(alloc: Global, bundle: &Bundle) -> Result<String, AllocError>
+pub fn write_resources(alloc: Global, bundle: &ScalarBundle) -> Result<String, AllocError>
     ensures { IfOk result (λ text. string_bytes text ≡ resources_text bundle.now) }
 {
     let entries = bundle.quantities().entries();

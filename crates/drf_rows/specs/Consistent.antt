@@ -3,8 +3,8 @@ use Rattle.std.specs.Prelude.{◌≡◌, ℕ, ◌+◌, ◌*◌, ◌^◌, ◌<◌
 use Rattle.std.specs.List.{list_all, list_any, AllByRecursion}
 use Rattle.drf_role.specs.Text.{Text, same_text}
 use Rattle.drf_role.specs.Path.{Path, same_path}
-use Rattle.drf_bundle.specs.Quantities.{amount_of}
-use Rattle.drf_bundle.specs.Bundle.{IsBundle, quantities_of}
+use Rattle.drf_bundle.specs.Quantities.{HasNoZeros, amount_of}
+use Rattle.drf_bundle.specs.ScalarBundle.{quantities_of}
 use Rattle.drf_rows.specs.Client.{Client}
 use Rattle.drf_rows.specs.Holdings.{Holding, holdings_of, held_where, is_on}
 use Rattle.drf_rows.specs.Cycle.{free_of}
@@ -25,7 +25,7 @@ are_distinct_roles (role ∷ roles) = list_all (λ r. not (same_path role r)) ro
 
 -- an agent has a bundle, of which no scalar is too large
 pub record IsAgent (agent : AgentRow) : Type 0 where
-  pub total : IsBundle agent.total
+  pub total : HasNoZeros agent.total
   pub small : (label : Text) → amount_of (quantities_of agent.total) label ≤ LARGEST_AMOUNT
 
 pub record AreAgents (agents : List AgentRow) : Type 0 where
@@ -46,7 +46,7 @@ is_registered frameworks client =
 pub record IsHeld (agents : List AgentRow) (frameworks : List FrameworkRow) (h : Holding) : Type 0 where
   pub agent : list_any (λ a. same_text a.name h.agent) agents ≡ true
   pub client : is_registered frameworks h.client ≡ true
-  pub bundle : IsBundle h.bundle
+  pub bundle : HasNoZeros h.bundle
 
 -- on an agent no more is held than there is
 abbrev pub IsCovered : List Holding → AgentRow → Type 0

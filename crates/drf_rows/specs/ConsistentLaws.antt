@@ -11,8 +11,8 @@ use Rattle.drf_role.specs.Text.{Text, same_text}
 use Rattle.drf_role.specs.TextLaws.{same_itself, same_from_test}
 use Rattle.drf_role.specs.Path.{Path, same_path}
 use Rattle.drf_role.specs.PathLaws.{same_path-true, same_path-swap}
-use Rattle.drf_bundle.specs.Quantities.{amount_of}
-use Rattle.drf_bundle.specs.Bundle.{IsBundle, quantities_of}
+use Rattle.drf_bundle.specs.Quantities.{HasNoZeros, amount_of}
+use Rattle.drf_bundle.specs.ScalarBundle.{quantities_of}
 use Rattle.drf_bundle.specs.declared.quantities.Entry.{Entry}
 use Rattle.drf_rows.specs.Client.{Client}
 use Rattle.drf_rows.specs.Holdings.{Holding, of_offer, holdings_of, held_where, amount_in, is_on}
@@ -296,7 +296,7 @@ pub IsConsistent-with_offer : (rows : Rows) (agent : AgentRow) (place : ℕ) (cl
     → IsConsistent rows
     → slice_get rows.agents place ≡ Some agent
     → is_registered rows.frameworks client ≡ true
-    → IsBundle bundle
+    → HasNoZeros bundle
     → ((label : Text) → amount_of (quantities_of bundle) label ≤ amount_of (quantities_of (free_of rows agent)) label)
     → IsConsistent (with_offer rows (new_offer rows agent client bundle))
 unfolding with_offer

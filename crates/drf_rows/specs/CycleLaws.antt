@@ -7,9 +7,9 @@ use Rattle.std.proofs.lemmas.Grind.{fold-append}
 use Rattle.drf_role.specs.Text.{Text, same_text}
 use Rattle.drf_role.specs.TextLaws.{same_itself}
 use Rattle.drf_role.specs.Path.{same_path}
-use Rattle.drf_bundle.specs.Quantities.{amount_of, rest_by, rest}
-use Rattle.drf_bundle.specs.Bundle.{IsBundle, quantities_of}
-use Rattle.drf_bundle.specs.QuantitiesLaws.{rest-itself, rest_by-plus, amount-rest_by, bundle-rest_by}
+use Rattle.drf_bundle.specs.Quantities.{HasNoZeros, amount_of, rest_by, rest}
+use Rattle.drf_bundle.specs.ScalarBundle.{quantities_of}
+use Rattle.drf_bundle.specs.QuantitiesLaws.{rest-itself, rest_by-plus, amount-rest_by, no_zeros-rest_by}
 use Rattle.drf_bundle.specs.declared.quantities.Entry.{Entry}
 use Rattle.drf_rows.specs.Client.{Client}
 use Rattle.drf_rows.specs.Holdings.{of_offer, holdings_of, amount_in, held_where, is_on}
@@ -98,17 +98,17 @@ module _ (rows : Rows) (offer : OfferRow) where
 -- ---- what is free
 
 -- by its amounts: the total less what is held
-pub amount-free_of : (rows : Rows) (agent : AgentRow) (label : Text) → IsBundle agent.total
+pub amount-free_of : (rows : Rows) (agent : AgentRow) (label : Text) → HasNoZeros agent.total
     → amount_of (quantities_of (free_of rows agent)) label ≡ amount_of (quantities_of agent.total) label - held_where (is_on agent.name) (holdings_of rows) label
 unfolding free_of
 amount-free_of rows agent label total = amount-rest_by agent.total (held_where (is_on agent.name) (holdings_of rows)) label total.in_order
 
-pub bundle-free_of : (rows : Rows) (agent : AgentRow) → IsBundle agent.total → IsBundle (free_of rows agent)
+pub bundle-free_of : (rows : Rows) (agent : AgentRow) → HasNoZeros agent.total → HasNoZeros (free_of rows agent)
 unfolding free_of
-bundle-free_of rows agent total = bundle-rest_by agent.total (held_where (is_on agent.name) (holdings_of rows)) total.in_order
+bundle-free_of rows agent total = no_zeros-rest_by agent.total (held_where (is_on agent.name) (holdings_of rows)) total.in_order
 
 -- on its agent an offer leaves the rest
-pub free_of-with_offer : (rows : Rows) (offer : OfferRow) (agent : AgentRow) → IsBundle agent.total → same_text offer.agent agent.name ≡ true
+pub free_of-with_offer : (rows : Rows) (offer : OfferRow) (agent : AgentRow) → HasNoZeros agent.total → same_text offer.agent agent.name ≡ true
     → free_of (with_offer rows offer) agent ≡ rest (free_of rows agent) offer.bundle
 unfolding free_of
 free_of-with_offer rows offer agent total here =
@@ -145,7 +145,7 @@ all_tried_none rows agent (c ∷ cs) little = rw little (all_tried_none rows age
 -- and else the first is granted all that is free
 pub all_tried_first : (rows : Rows) (agent : AgentRow) (c : Client) (cs : List Client)
     → is_allocatable (free_of rows agent) ≡ true
-    → IsBundle agent.total
+    → HasNoZeros agent.total
     → all_tried rows agent (c ∷ cs) ≡ with_offer rows (new_offer rows agent c (free_of rows agent))
 all_tried_first rows agent c cs enough total =
     let offer : OfferRow = new_offer rows agent c (free_of rows agent) in
@@ -158,7 +158,7 @@ all_tried_first rows agent c cs enough total =
 -- so is a client that is granted it
 pub all_tried_granted : (rows : Rows) (agent : AgentRow) (c : Client) (cs : List Client)
     → grant rows agent c ≡ Some (free_of rows agent)
-    → IsBundle agent.total
+    → HasNoZeros agent.total
     → all_tried rows agent (c ∷ cs) ≡ with_offer rows (new_offer rows agent c (free_of rows agent))
 all_tried_granted rows agent c cs granted total =
     elim (cases_Bool (is_allocatable (free_of rows agent))) [

@@ -9,9 +9,9 @@ use Rattle.std.proofs.lemmas.List.Folds.{list_any-append}
 use Rattle.std.proofs.lemmas.List.Sums.{sum_by-cons, sum_by-append}
 use Rattle.drf_role.specs.Text.{Text, same_text}
 use Rattle.drf_role.specs.TextLaws.{same_from_test}
-use Rattle.drf_bundle.specs.Quantities.{plus}
+use Rattle.drf_bundle.specs.Quantities.{HasNoZeros, plus}
 use Rattle.drf_bundle.specs.QuantitiesLaws.{rest_by-nothing}
-use Rattle.drf_bundle.specs.Bundle.{IsBundle, quantities_of}
+use Rattle.drf_bundle.specs.ScalarBundle.{quantities_of}
 use Rattle.drf_bundle.specs.declared.quantities.Entry.{Entry}
 use Rattle.drf_role.specs.Path.{same_path}
 use Rattle.drf_rows.specs.Client.{Client}
@@ -85,7 +85,7 @@ held_where-nothing_on rows name label consistent new =
 
 -- all of a new agent is free
 pub free_of-new : (rows : Rows) (name : Text) (total : List Entry)
-    → IsConsistent rows → has_agent rows name ≡ false → IsBundle total → free_of rows (new_agent name total) ≡ total
+    → IsConsistent rows → has_agent rows name ≡ false → HasNoZeros total → free_of rows (new_agent name total) ≡ total
 unfolding free_of
 free_of-new rows name total consistent new bundle =
     rest_by-nothing total (held_where (is_on name) (holdings_of rows)) bundle

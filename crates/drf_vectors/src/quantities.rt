@@ -3,7 +3,7 @@ ghost use Rattle.drf_bundle.specs.Quantities.{amount_of};
 
 use crate::halves;
 use anyhow::Result;
-use drf_bundle::{Bundle, Quantities};
+use drf_bundle::{Quantities, ScalarBundle};
 use drf_role::Label;
 use std::alloc::Global;
 use std::fmt::Write;
@@ -45,7 +45,7 @@ pub fn compared(alloc: Global, text: &str) -> Result<String> {
     let mut rest = sum.copy()?;
     rest.lower(&part);
     let (sum_text, rest_text) = (show(alloc, &sum)?, show(alloc, &rest)?);
-    let bundle = Bundle::from_quantities(sum).copy()?;
+    let bundle = ScalarBundle::from_quantities(sum).copy()?;
     let bundle_text = show(alloc, bundle.quantities())?;
     Ok(format!(in alloc;
         "labels {counts:?}; sum {sum_text}; rest {rest_text}; bundle {bundle_text}"

@@ -1,5 +1,5 @@
-use Rattle.drf_bundle.specs.QuantitiesLaws.{amount-without_zeros, bundle-without_zeros}
+use Rattle.drf_bundle.specs.QuantitiesLaws.{amount-without_zeros, no_zeros-without_zeros}
 use Rattle.drf_bundle.proofs.laws.zeros_law.Goals as goal
 
 pub returns : goal.returns
-returns c = record { amounts = amount-without_zeros; bundle = bundle-without_zeros }
+returns c = record { amounts = amount-without_zeros; no_zeros = no_zeros-without_zeros }

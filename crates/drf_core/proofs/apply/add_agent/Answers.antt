@@ -1,6 +1,6 @@
 use Rattle.std.proofs.Common.{◌≡◌, ap, ◌∙◌, arith}
 use Rattle.drf_bundle.specs.Quantities.{plus}
-use Rattle.drf_bundle.specs.Bundle.{quantities_of}
+use Rattle.drf_bundle.specs.ScalarBundle.{quantities_of}
 use Rattle.drf_rows.specs.Held.{cluster_total}
 use Rattle.drf_core.proofs.ApplyLemmas.{welcome_agent, small_amounts, sound_total, few_agents, applied_agent}
 use Rattle.drf_core.proofs.apply.add_agent.Goals as goal

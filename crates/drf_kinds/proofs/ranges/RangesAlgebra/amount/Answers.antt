@@ -26,3 +26,8 @@ returns-clause-amount c =
     ∙ ap (sum_by size_of) (take_all _ _ c.loop-interval-test.false ∙ c.deref-interval-items.ensures.value)
     ∙ sym (len-members _ c.self.invariant.maximal)
     ∙ ap set.len c.self.view_is
+
+pub returns-clause-small : goal.returns-clause-small
+returns-clause-small c =
+    let maximal : AreMaximal c.deref-interval-items.result.now = subst AreMaximal (sym c.deref-interval-items.ensures.value) c.self.invariant.maximal in
+    omega (arith, size_small _ c.loop-interval.interval-index maximal, c.loop-interval.invariant)

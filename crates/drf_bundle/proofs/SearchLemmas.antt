@@ -1,0 +1,111 @@
+-- What a search by key finds.
+use Rattle.std.specs.Prelude.{◌≡◌, ℕ, ◌+◌, ◌<◌, false, List, [], ◌∷◌, length, Some, None, IsTrue}
+use Rattle.std.proofs.Common.{zero, suc, Ordering, Less, Equal, Greater, Ok, Err, get_or, refl, sym, ap, ◌∙◌, subst, inl, inr, arith}
+use Rattle.std.specs.Cmp.{IsTotalOrder, then_flip}
+use Rattle.std.specs.Cmp.Lexicographic.{slice_cmp, nat_list_cmp_total}
+use Rattle.std.specs.Ordering.{nat_cmp, is_lt, ordering_then, ordering_reverse, ordering_index}
+use Rattle.std.specs.List.Sorted.{IsSearchInRange, IsBinarySearchResult, IsNonDecreasingBy}
+use Rattle.std.proofs.lemmas.Bool.{false≢true, and_parts, cases_lt, false_from_ne_true}
+use Rattle.std.proofs.lemmas.List.Recursion.{and_at}
+use Rattle.std.proofs.lemmas.List.Sorted.{searchable_from_sorted}
+use Rattle.drf_role.specs.TextLaws.{cmp_itself}
+use Rattle.drf_bundle.specs.Bundle.{Key, key_of, key_cmp, key_below, same_key, is_in_order, value_at}
+use Rattle.drf_bundle.specs.KeyLaws.{key_trans, key_less, key_equal, same_key_itself, same_key_true, above_other, Has, stands_first}
+use Rattle.drf_bundle.specs.declared.resource.Resource.{Resource}
+
+less_from_below : (k l : Key) → IsTrue (key_below k l) → key_cmp k l ≡ Less
+less_from_below k l below = of (key_cmp k l) below
+  where
+    of : (o : Ordering) → IsTrue (is_lt o) → o ≡ Less
+    of Less h = refl
+    of Equal h = absurd (false≢true h)
+    of Greater h = absurd (false≢true h)
+
+key_cmp_total : IsTotalOrder key_cmp
+key_cmp_total = record {
+  antisymm = λ k l.
+      (λ i. ordering_then (nat_list_cmp_total.antisymm k.0 l.0 i) (nat_list_cmp_total.antisymm k.1 l.1 i))
+      ∙ then_flip (slice_cmp nat_cmp l.0 k.0) (slice_cmp nat_cmp l.1 k.1);
+  trans = λ k l m first second. less_from_below k m (key_trans k l m (key_less k l first) (key_less l m second));
+  congr = λ k l m equal. ap (λ (n : Key). key_cmp n m) (key_equal k l equal);
+}
+
+-- a resource stands before each later one
+first_at : (key : Key) (rs : List Resource) (k : ℕ) (d : Resource) → IsTrue (stands_first key rs) → k < length rs
+    → IsTrue (key_below key (key_of (get_or rs k d)))
+first_at key rs k d first in_range = and_at (stands_first key) (λ r. key_below key (key_of r)) refl (λ _ _. refl) rs k d in_range first
+
+in_order_at : (rs : List Resource) (i j : ℕ) (d : Resource) → IsTrue (is_in_order rs) → i < j → j < length rs
+    → IsTrue (key_below (key_of (get_or rs i d)) (key_of (get_or rs j d)))
+in_order_at [] i j d ordered later in_range = absurd (omega arith)
+in_order_at (r ∷ rs) i zero d ordered later in_range = absurd (omega arith)
+in_order_at (r ∷ rs) zero (suc j) d ordered later in_range = first_at (key_of r) rs j d (and_parts (stands_first (key_of r) rs) (is_in_order rs) ordered).0 (omega arith)
+in_order_at (r ∷ rs) (suc i) (suc j) d ordered later in_range = in_order_at rs i j d (and_parts (stands_first (key_of r) rs) (is_in_order rs) ordered).1 (omega arith) (omega arith)
+
+-- the resource at an index is one of them
+has_at : (rs : List Resource) (i : ℕ) (r : Resource) → i < length rs → r ≡ get_or rs i r → Has rs r
+has_at [] i r in_range is = absurd (omega arith)
+has_at (s ∷ ss) zero r in_range is = inl (sym is)
+has_at (s ∷ ss) (suc i) r in_range is = inr (has_at ss i r (omega arith) is)
+
+before_later : (s r : Resource) (ss : List Resource) → IsTrue (stands_first (key_of s) ss) → Has ss r
+    → IsTrue (key_below (key_of s) (key_of r))
+before_later s r [] first has = absurd has
+before_later s r (t ∷ ts) first (inl is) = subst (λ (u : Resource). IsTrue (key_below (key_of s) (key_of u))) is (and_parts (key_below (key_of s) (key_of t)) (stands_first (key_of s) ts) first).0
+before_later s r (t ∷ ts) first (inr later) = before_later s r ts (and_parts (key_below (key_of s) (key_of t)) (stands_first (key_of s) ts) first).1 later
+
+-- in order, a key has the value of its resource
+pub value_of_its_own : (rs : List Resource) (r : Resource) → IsTrue (is_in_order rs) → Has rs r
+    → value_at rs (key_of r) ≡ Some r.value
+value_of_its_own [] r ordered has = absurd has
+value_of_its_own (s ∷ ss) r ordered (inl is) =
+    subst (λ (t : Resource). value_at (s ∷ ss) (key_of t) ≡ Some t.value) is (rw (same_key_itself (key_of s)) refl)
+value_of_its_own (s ∷ ss) r ordered (inr later) =
+    let parts = and_parts (stands_first (key_of s) ss) (is_in_order ss) ordered in
+    rw (above_other (key_of s) (key_of r) (before_later s r ss parts.0 later)) (value_of_its_own ss r parts.1 later)
+
+no_value : (rs : List Resource) (key : Key) → ((r : Resource) → Has rs r → same_key key (key_of r) ≡ false)
+    → value_at rs key ≡ None
+no_value [] key other = refl
+no_value (s ∷ ss) key other = rw (other s (inl refl)) (no_value ss key (λ r later. other r (inr later)))
+
+-- where a resource is
+has_index : (rs : List Resource) (r : Resource) → Has rs r → (i : ℕ) × (i < length rs) × (r ≡ get_or rs i r)
+has_index [] r has = absurd has
+has_index (s ∷ ss) r (inl is) = (0, omega arith, sym is)
+has_index (s ∷ ss) r (inr later) = let at = has_index ss r later in (suc at.0, omega (arith, at.1), at.2)
+
+module _ (rs : List Resource) (key : Key) (ordered : IsTrue (is_in_order rs)) where
+  comparisons_rise : IsNonDecreasingBy (λ r. ordering_index (key_cmp (key_of r) key)) rs
+  comparisons_rise = searchable_from_sorted key_cmp_total key_of rs key
+      (λ k d low high.
+      let earlier = key_of (get_or rs k d) in
+      let later = key_of (get_or rs (k + 1) d) in
+      ap is_lt (key_cmp_total.antisymm later earlier ∙ ap ordering_reverse (less_from_below earlier later (in_order_at rs k (k + 1) d ordered (omega arith) high))))
+
+  pub found_value : (at : ℕ) (r : Resource) → IsSearchInRange (Ok at) (length rs)
+      → IsBinarySearchResult (λ r. key_cmp (key_of r) key) rs (Ok at) → r ≡ get_or rs at r
+      → Some r.value ≡ value_at rs key
+  found_value at r in_range equal read =
+      let keys : key_of r ≡ key = ap key_of read ∙ key_equal (key_of (get_or rs at r)) key (equal r) in
+      sym (value_of_its_own rs r ordered (has_at rs at r in_range read)) ∙ ap (value_at rs) keys
+
+  pub nothing_found : (at : ℕ) → IsBinarySearchResult (λ r. key_cmp (key_of r) key) rs (Err at) → None ≡ value_at rs key
+  nothing_found at parted = sym (no_value rs key other)
+    where
+      other : (r : Resource) → Has rs r → same_key key (key_of r) ≡ false
+      other r has =
+          let i = has_index rs r has in
+          false_from_ne_true _ (λ same. elim (cases_lt i.0 at) [
+            | inl before ↦ differ Less r (sym (same_key_true key (key_of r) same)) (ap (λ (s : Resource). key_cmp (key_of s) key) i.2 ∙ (parted comparisons_rise).0 i.0 r (omega arith) before) (λ e. cc)
+            | inr after ↦ differ Greater r (sym (same_key_true key (key_of r) same)) (ap (λ (s : Resource). key_cmp (key_of s) key) i.2 ∙ (parted comparisons_rise).1 i.0 r after i.1) (λ e. cc)
+          ])
+        where
+          differ : (o : Ordering) (r : Resource) → key_of r ≡ key → key_cmp (key_of r) key ≡ o → (Equal ≡ o → ⊥) → ⊥
+          differ o r keys is not_equal = not_equal (sym (equal_itself key) ∙ ap (λ (k : Key). key_cmp k key) (sym keys) ∙ is)
+            where
+              equal_itself : (k : Key) → key_cmp k k ≡ Equal
+              equal_itself k = tied k
+                where
+                  tied : (k : Key) → key_cmp k k ≡ Equal
+                  tied k = rw (cmp_itself k.0, cmp_itself k.1) refl

@@ -1,0 +1,5 @@
+use Rattle.drf_bundle.specs.UnitProofs.{join_by_units, stocks_add}
+use Rattle.drf_bundle.proofs.laws.bundle_join_law.Goals as goal
+
+pub returns : goal.returns
+returns c = record { units = join_by_units; stocks = stocks_add }

@@ -1,0 +1,35 @@
+-- Two lists of resources side by side.
+use Rattle.std.specs.Prelude.{Bool, not, List, [], ◌∷◌, Option, Some, None}
+use Rattle.std.specs.List.{list_all}
+use Rattle.std.specs.declared.cmp.Ordering.{Ordering}
+use Rattle.std.specs.declared.cmp.Ordering.TheVariants.{Less, Equal, Greater}
+use Rattle.std.specs.Ordering.{nat_cmp}
+use Rattle.std.specs.Cmp.Lexicographic.{slice_cmp}
+use Rattle.drf_role.specs.Text.{Text, text_below}
+use Rattle.drf_bundle.specs.Bundle.{key_of, key_cmp}
+use Rattle.drf_bundle.specs.declared.merge.Side.{Side}
+use Rattle.drf_bundle.specs.declared.merge.Side.TheVariants.{Left, Right, Both}
+use Rattle.drf_bundle.specs.declared.resource.Resource.{Resource}
+
+-- the side of what compares as this with the other side
+abbrev pub side_of : Ordering → Side
+side_of Less = Left
+side_of Equal = Both
+side_of Greater = Right
+
+-- the side on which the next key of two lists stands
+abbrev pub next_side : List Resource → List Resource → Option Side
+next_side [] [] = None
+next_side [] (s ∷ ss) = Some Right
+next_side (r ∷ rs) [] = Some Left
+next_side (r ∷ rs) (s ∷ ss) = Some (side_of (key_cmp (key_of r) (key_of s)))
+
+-- no name of the resources stands before this one
+abbrev pub none_before : Text → List Resource → Bool
+none_before name others = list_all (λ s. not (text_below s.label name)) others
+
+-- how the names of the first resources compare, if there are both
+abbrev pub names_cmp : List Resource → List Resource → Option Ordering
+names_cmp [] others = None
+names_cmp (r ∷ rs) [] = None
+names_cmp (r ∷ rs) (s ∷ ss) = Some (slice_cmp nat_cmp r.label s.label)

@@ -1,0 +1,66 @@
+-- The laws of bundles by their units, as statements.
+use Rattle.std.specs.Prelude.{◌≡◌, ◌↔◌, ◌+◌, ◌-◌, ◌≤◌, List, Some, IsTrue}
+use Rattle.drf_role.specs.Text.{Text}
+use Rattle.drf_role.specs.Parts.{parts_of, text_of}
+use Rattle.drf_role.specs.Path.{Path}
+use Rattle.drf_role.specs.Role.{IsRole}
+use Rattle.drf_bundle.specs.Value.{Point, Thousandths}
+use Rattle.drf_bundle.specs.Quantities.{HasNoZeros, amount_of, plus}
+use Rattle.drf_bundle.specs.Bundle.{Key, IsBundle, units, stock, join, rest, covers, quantities_of, is_unreserved, part_for, clip, relabel}
+use Rattle.drf_bundle.specs.declared.quantities.Entry.{Entry}
+use Rattle.drf_bundle.specs.declared.resource.Resource.{Resource}
+
+-- two bundles with the same units are one
+abbrev pub KnownByUnits : Type 0
+KnownByUnits = (a b : List Resource) → IsBundle a → IsBundle b → ((key : Key) (p : Point) → units a key p ≡ units b key p) → a ≡ b
+
+-- the join of two bundles is the bundle that has the units of both, if there is one
+abbrev pub JoinHasUnitsOfBoth : Type 0
+JoinHasUnitsOfBoth = (a b whole : List Resource) → IsBundle a → IsBundle b → IsBundle whole
+    → (join a b ≡ Some whole) ↔ ((key : Key) (p : Point) → units whole key p ≡ units a key p + units b key p)
+
+-- and that of a name over all reservations
+abbrev pub StocksAdd : Type 0
+StocksAdd = (a b whole : List Resource) → IsBundle a → IsBundle b → join a b ≡ Some whole → (name : Text) (p : Point) → stock whole name p ≡ stock a name p + stock b name p
+
+-- one bundle covers another where it has each of its units
+abbrev pub CoversByUnits : Type 0
+CoversByUnits = (whole part : List Resource) → IsBundle whole → IsBundle part → IsTrue (covers whole part) ↔ ((key : Key) (p : Point) → units part key p ≤ units whole key p)
+
+-- the rest has the units that the part lacks
+abbrev pub RestHasTheOthers : Type 0
+RestHasTheOthers = (whole part : List Resource) → IsBundle whole → IsBundle part → (key : Key) (p : Point) → units (rest whole part) key p ≡ units whole key p - units part key p
+
+abbrev pub RestIsBundle : Type 0
+RestIsBundle = (whole part : List Resource) → IsBundle whole → IsBundle (rest whole part)
+
+-- the rest and a part that is covered join to the whole
+abbrev pub RestAndPartJoin : Type 0
+RestAndPartJoin = (whole part : List Resource) → IsBundle whole → IsBundle part → IsTrue (covers whole part) → join (rest whole part) part ≡ Some whole
+
+-- the quantity of a name is what its scalars sum to over all reservations
+abbrev pub QuantitiesSumScalars : Type 0
+QuantitiesSumScalars = (bundle : List Resource) (name : Text) → amount_of (quantities_of bundle) name ≡ stock bundle name Thousandths
+
+-- they are in order and name no zeros
+abbrev pub QuantitiesHaveNoZeros : Type 0
+QuantitiesHaveNoZeros = (bundle : List Resource) → IsBundle bundle → HasNoZeros (quantities_of bundle)
+
+-- those of a join are those of both, added
+abbrev pub QuantitiesAdd : Type 0
+QuantitiesAdd = (a b whole : List Resource) → IsBundle a → IsBundle b → join a b ≡ Some whole
+    → quantities_of whole ≡ plus (quantities_of a) (quantities_of b)
+
+-- what a role may use of a bundle, and what limits leave of it, is a bundle that the first covers
+abbrev pub PartIsCovered : Type 0
+PartIsCovered = (role : Path) (bundle : List Resource) → IsBundle bundle → IsBundle (part_for role bundle) × IsTrue (covers bundle (part_for role bundle))
+
+abbrev pub ClippedIsCovered : Type 0
+ClippedIsCovered = (limits : List Entry) (bundle : List Resource) → IsBundle bundle → IsBundle (clip limits bundle) × IsTrue (covers bundle (clip limits bundle))
+
+-- what is moved to a role is a bundle with the same stocks
+abbrev pub MovedIsBundle : Type 0
+MovedIsBundle = (role : Path) (bundle : List Resource) → IsRole role → parts_of (text_of role) ≡ role → IsTrue (is_unreserved bundle) → IsBundle bundle → IsBundle (relabel role bundle)
+
+abbrev pub MovedKeepsStocks : Type 0
+MovedKeepsStocks = (role : Path) (bundle : List Resource) (name : Text) (p : Point) → stock (relabel role bundle) name p ≡ stock bundle name p

@@ -1,0 +1,320 @@
+-- What units say of values.
+use Rattle.std.specs.Prelude.{◌≡◌, ℕ, ◌+◌, ◌-◌, ◌<◌, ◌≤◌, ◌&&◌, ◌||◌, Bool, true, false, not, IsTrue}
+use Rattle.std.proofs.Common.{refl, sym, ap, ◌∙◌, subst, cond, arith, suc, zero}
+use Rattle.std.specs.declared.cmp.Ordering.{Ordering}
+use Rattle.std.specs.Cmp.{IsTotalOrder, nat_cmp_total}
+use Rattle.std.specs.Cmp.Lexicographic.{nat_list_cmp_total}
+use Rattle.std.specs.FinSet as set
+use Rattle.std.proofs.lemmas.Bool.{true≢false, false≢true, leb-true, le-leb, false_from_ne_true}
+use Rattle.drf_kinds.specs.Names.{text_cmp}
+use Rattle.drf_kinds.specs.Sets.{are_disjoint}
+use Rattle.drf_kinds.specs.SetLaws as sets
+use Rattle.drf_bundle.specs.Value.{Point, Thousandths, Number, Member, units_in, most, is_one_kind, amount_in, IsGiven, is_same_kind, share_members, united, less, has_all_of}
+use Rattle.drf_bundle.specs.declared.value.Value.{Value}
+use Rattle.drf_bundle.specs.declared.value.Value.TheVariants.{Scalar, Ranges, Items}
+
+-- two values of one name can be joined
+pub record AreJoinable (v w : Value) : Type 0 where
+  pub same_kind : is_same_kind v w ≡ true
+  pub apart : share_members v w ≡ false
+
+texts_apart : set.IsAntisymmetric text_cmp
+texts_apart = set.slice_cmp-IsAntisymmetric set.nat_cmp-IsAntisymmetric
+
+not_false : (x : Bool) → not x ≡ false → x ≡ true
+not_false true e = refl
+not_false false e = absurd (true≢false e)
+
+not_true : (x : Bool) → not x ≡ true → x ≡ false
+not_true false e = refl
+not_true true e = absurd (false≢true e)
+
+-- ---- units of finite sets: 1 where there is a member
+
+abbrev unit : Bool → ℕ
+unit is = cond is 1 0
+
+unit_or : (x y : Bool) → (x && y) ≡ false → unit (x || y) ≡ unit x + unit y
+unit_or true true e = absurd (true≢false e)
+unit_or true false e = refl
+unit_or false true e = refl
+unit_or false false e = refl
+
+unit_without : (x y : Bool) → unit (x && not y) ≡ unit x - unit y
+unit_without true true = refl
+unit_without true false = refl
+unit_without false true = refl
+unit_without false false = refl
+
+unit_same : (x y : Bool) → unit x ≡ unit y → x ≡ y
+unit_same true true e = refl
+unit_same true false e = absurd (omega (arith, e))
+unit_same false true e = absurd (omega (arith, e))
+unit_same false false e = refl
+
+unit_some : (x : Bool) → 0 < unit x → x ≡ true
+unit_some true some = refl
+unit_some false some = absurd (omega (arith, some))
+
+unit_most : (x : Bool) → unit x ≤ 1
+unit_most true = omega arith
+unit_most false = omega arith
+
+unit_above : (x y : Bool) → (x ≡ true → y ≡ true) → unit x ≤ unit y
+unit_above true y within = rw (within refl) (omega arith)
+unit_above false y within = omega arith
+
+unit_within : (x y : Bool) → unit x ≤ unit y → x ≡ true → y ≡ true
+unit_within true true below e = refl
+unit_within true false below e = absurd (omega (arith, below))
+unit_within false y below e = absurd (false≢true e)
+
+module _ {K : Type 0} {R : K → K → Ordering} (o : IsTotalOrder R) (same : set.IsAntisymmetric R) where
+  abbrev has : set.FinSet R → K → Bool
+  has a k = set.contains a k
+
+  set-united : (a b : set.FinSet R) (k : K) → are_disjoint a b ≡ true
+      → unit (has (set.union a b) k) ≡ unit (has a k) + unit (has b k)
+  set-united a b k apart = ap unit (set.contains-union o a b k) ∙ unit_or (has a k) (has b k) (sets.out_of_both o same a b apart k)
+
+  set-less : (a b : set.FinSet R) (k : K) → unit (has (set.difference a b) k) ≡ unit (has a k) - unit (has b k)
+  set-less a b k = ap unit (set.contains-difference o a b k) ∙ unit_without (has a k) (has b k)
+
+  same_units : (a b : set.FinSet R) → ((k : K) → unit (has a k) ≡ unit (has b k)) → a ≡ b
+  same_units a b each = sets.same_set o same a b (λ k. unit_same (has a k) (has b k) (each k))
+
+  set_filled : (a : set.FinSet R) → 0 < set.len a → (k : K) × (has a k ≡ true)
+  set_filled a some = sets.some_member o same a (set.len a - 1) (omega arith)
+
+  -- a set with a member is not empty
+  set_counts : (a : set.FinSet R) (k : K) → has a k ≡ true → 0 < set.len a
+  set_counts a k is = by (set.len a) refl
+    where
+      by : (n : ℕ) → set.len a ≡ n → 0 < set.len a
+      by zero none = absurd (true≢false (sym is ∙ ap (λ s. has s k) (set.empty_of_len a none) ∙ set.contains-empty R k))
+      by (suc n) some = omega arith
+
+-- ---- units of values
+
+pub units-united : (v w : Value) (p : Point) → AreJoinable v w → units_in (united v w) p ≡ units_in v p + units_in w p
+units-united (Scalar a) (Scalar b) Thousandths is = refl
+units-united (Scalar a) (Scalar b) (Number n) is = omega arith
+units-united (Scalar a) (Scalar b) (Member m) is = omega arith
+units-united (Ranges a) (Ranges b) Thousandths is = omega arith
+units-united (Ranges a) (Ranges b) (Number n) is = set-united nat_cmp_total set.nat_cmp-IsAntisymmetric a b n (not_false _ is.apart)
+units-united (Ranges a) (Ranges b) (Member m) is = omega arith
+units-united (Items a) (Items b) Thousandths is = omega arith
+units-united (Items a) (Items b) (Number n) is = omega arith
+units-united (Items a) (Items b) (Member m) is = set-united nat_list_cmp_total texts_apart a b m (not_false _ is.apart)
+units-united (Scalar a) (Ranges b) p is = absurd (false≢true is.same_kind)
+units-united (Scalar a) (Items b) p is = absurd (false≢true is.same_kind)
+units-united (Ranges a) (Scalar b) p is = absurd (false≢true is.same_kind)
+units-united (Ranges a) (Items b) p is = absurd (false≢true is.same_kind)
+units-united (Items a) (Scalar b) p is = absurd (false≢true is.same_kind)
+units-united (Items a) (Ranges b) p is = absurd (false≢true is.same_kind)
+
+pub amount-united : (v w : Value) → AreJoinable v w → amount_in (united v w) ≡ amount_in v + amount_in w
+amount-united (Scalar a) (Scalar b) is = refl
+amount-united (Ranges a) (Ranges b) is = sets.len-union nat_cmp_total set.nat_cmp-IsAntisymmetric a b (not_false _ is.apart)
+amount-united (Items a) (Items b) is = sets.len-union nat_list_cmp_total texts_apart a b (not_false _ is.apart)
+amount-united (Scalar a) (Ranges b) is = absurd (false≢true is.same_kind)
+amount-united (Scalar a) (Items b) is = absurd (false≢true is.same_kind)
+amount-united (Ranges a) (Scalar b) is = absurd (false≢true is.same_kind)
+amount-united (Ranges a) (Items b) is = absurd (false≢true is.same_kind)
+amount-united (Items a) (Scalar b) is = absurd (false≢true is.same_kind)
+amount-united (Items a) (Ranges b) is = absurd (false≢true is.same_kind)
+
+-- what is united is given, if it is not too large
+pub given-united : (v w : Value) → IsGiven v → IsGiven w → ((p : Point) → units_in v p + units_in w p ≤ most p)
+    → IsGiven (united v w)
+given-united (Scalar a) (Scalar b) first second fits = omega (arith, fits Thousandths)
+given-united (Ranges a) (Ranges b) first second fits = sets.union_given nat_cmp_total set.nat_cmp-IsAntisymmetric _ a b first second
+given-united (Items a) (Items b) first second fits = sets.union_given nat_list_cmp_total texts_apart _ a b first second
+given-united (Scalar a) (Ranges b) first second fits = first
+given-united (Scalar a) (Items b) first second fits = first
+given-united (Ranges a) (Scalar b) first second fits = first
+given-united (Ranges a) (Items b) first second fits = first
+given-united (Items a) (Scalar b) first second fits = first
+given-united (Items a) (Ranges b) first second fits = first
+
+pub units-less : (v w : Value) (p : Point) → units_in (less v w) p ≡ units_in v p - units_in w p
+units-less (Scalar a) (Scalar b) Thousandths = refl
+units-less (Scalar a) (Scalar b) (Number n) = omega arith
+units-less (Scalar a) (Scalar b) (Member m) = omega arith
+units-less (Scalar a) (Ranges b) Thousandths = omega arith
+units-less (Scalar a) (Ranges b) (Number n) = omega arith
+units-less (Scalar a) (Ranges b) (Member m) = omega arith
+units-less (Scalar a) (Items b) Thousandths = omega arith
+units-less (Scalar a) (Items b) (Number n) = omega arith
+units-less (Scalar a) (Items b) (Member m) = omega arith
+units-less (Ranges a) (Ranges b) Thousandths = omega arith
+units-less (Ranges a) (Ranges b) (Number n) = set-less nat_cmp_total set.nat_cmp-IsAntisymmetric a b n
+units-less (Ranges a) (Ranges b) (Member m) = omega arith
+units-less (Ranges a) (Scalar b) Thousandths = omega arith
+units-less (Ranges a) (Scalar b) (Number n) = omega arith
+units-less (Ranges a) (Scalar b) (Member m) = omega arith
+units-less (Ranges a) (Items b) Thousandths = omega arith
+units-less (Ranges a) (Items b) (Number n) = omega arith
+units-less (Ranges a) (Items b) (Member m) = omega arith
+units-less (Items a) (Items b) Thousandths = omega arith
+units-less (Items a) (Items b) (Number n) = omega arith
+units-less (Items a) (Items b) (Member m) = set-less nat_list_cmp_total texts_apart a b m
+units-less (Items a) (Scalar b) Thousandths = omega arith
+units-less (Items a) (Scalar b) (Number n) = omega arith
+units-less (Items a) (Scalar b) (Member m) = omega arith
+units-less (Items a) (Ranges b) Thousandths = omega arith
+units-less (Items a) (Ranges b) (Number n) = omega arith
+units-less (Items a) (Ranges b) (Member m) = omega arith
+
+pub given-less : (v w : Value) → IsGiven v → IsGiven (less v w)
+given-less (Scalar a) (Scalar b) given = omega arith
+given-less (Ranges a) (Ranges b) given = sets.difference_given nat_cmp_total set.nat_cmp-IsAntisymmetric _ a b given
+given-less (Items a) (Items b) given = sets.difference_given nat_list_cmp_total texts_apart _ a b given
+given-less (Scalar a) (Ranges b) given = given
+given-less (Scalar a) (Items b) given = given
+given-less (Ranges a) (Scalar b) given = given
+given-less (Ranges a) (Items b) given = given
+given-less (Items a) (Scalar b) given = given
+given-less (Items a) (Ranges b) given = given
+
+pub units-most : (v : Value) (p : Point) → IsGiven v → units_in v p ≤ most p
+units-most (Scalar a) Thousandths given = omega arith
+units-most (Scalar a) (Number n) given = omega arith
+units-most (Scalar a) (Member m) given = omega arith
+units-most (Ranges a) Thousandths given = omega arith
+units-most (Ranges a) (Number n) given = unit_most (set.contains a n)
+units-most (Ranges a) (Member m) given = omega arith
+units-most (Items a) Thousandths given = omega arith
+units-most (Items a) (Number n) given = omega arith
+units-most (Items a) (Member m) given = unit_most (set.contains a m)
+
+-- a value of some amount has units somewhere
+pub filled_point : (v : Value) → 0 < amount_in v → (p : Point) × (0 < units_in v p)
+filled_point (Scalar a) some = (Thousandths, some)
+filled_point (Ranges a) some =
+    let in_it = set_filled nat_cmp_total set.nat_cmp-IsAntisymmetric a some in
+    let counts : 0 < unit (set.contains a in_it.0) = rw in_it.1 (omega arith) in
+    (Number in_it.0, counts)
+filled_point (Items a) some =
+    let in_it = set_filled nat_list_cmp_total texts_apart a some in
+    let counts : 0 < unit (set.contains a in_it.0) = rw in_it.1 (omega arith) in
+    (Member in_it.0, counts)
+
+pub point_filled : (v : Value) (p : Point) → 0 < units_in v p → 0 < amount_in v
+point_filled (Scalar a) Thousandths some = some
+point_filled (Scalar a) (Number n) some = absurd (omega arith)
+point_filled (Scalar a) (Member m) some = absurd (omega arith)
+point_filled (Ranges a) Thousandths some = absurd (omega arith)
+point_filled (Ranges a) (Number n) some = set_counts nat_cmp_total set.nat_cmp-IsAntisymmetric a n (unit_some _ some)
+point_filled (Ranges a) (Member m) some = absurd (omega arith)
+point_filled (Items a) Thousandths some = absurd (omega arith)
+point_filled (Items a) (Number n) some = absurd (omega arith)
+point_filled (Items a) (Member m) some = set_counts nat_list_cmp_total texts_apart a m (unit_some _ some)
+
+-- values with units at two points are of one kind exactly where the points are
+pub kind_at : (v w : Value) (p q : Point) → 0 < units_in v p → 0 < units_in w q → is_same_kind v w ≡ is_one_kind p q
+kind_at (Scalar a) (Scalar b) Thousandths Thousandths some other = refl
+kind_at (Scalar a) (Ranges b) Thousandths (Number n) some other = refl
+kind_at (Scalar a) (Items b) Thousandths (Member n) some other = refl
+kind_at (Ranges a) (Scalar b) (Number m) Thousandths some other = refl
+kind_at (Ranges a) (Ranges b) (Number m) (Number n) some other = refl
+kind_at (Ranges a) (Items b) (Number m) (Member n) some other = refl
+kind_at (Items a) (Scalar b) (Member m) Thousandths some other = refl
+kind_at (Items a) (Ranges b) (Member m) (Number n) some other = refl
+kind_at (Items a) (Items b) (Member m) (Member n) some other = refl
+kind_at v w p q some other = absurd (omega arith)
+
+one_itself : (p : Point) → is_one_kind p p ≡ true
+one_itself Thousandths = refl
+one_itself (Number n) = refl
+one_itself (Member m) = refl
+
+-- ---- members of two values
+
+-- a point of a member, with units in both
+pub record IsShared (v w : Value) : Type 0 where
+  pub point : Point
+  pub in_first : 0 < units_in v point
+  pub in_second : 0 < units_in w point
+  pub single : most point ≡ 1
+
+pub shared_point : (v w : Value) → share_members v w ≡ true → IsShared v w
+shared_point (Ranges a) (Ranges b) share =
+    let in_both = sets.shared_member nat_cmp_total set.nat_cmp-IsAntisymmetric a b (not_true _ share) in
+    record { point = Number in_both.0; in_first = rw in_both.1 (omega arith); in_second = rw in_both.2 (omega arith); single = refl }
+shared_point (Items a) (Items b) share =
+    let in_both = sets.shared_member nat_list_cmp_total texts_apart a b (not_true _ share) in
+    record { point = Member in_both.0; in_first = rw in_both.1 (omega arith); in_second = rw in_both.2 (omega arith); single = refl }
+shared_point (Scalar a) (Scalar b) share = absurd (false≢true share)
+shared_point (Scalar a) (Ranges b) share = absurd (false≢true share)
+shared_point (Scalar a) (Items b) share = absurd (false≢true share)
+shared_point (Ranges a) (Scalar b) share = absurd (false≢true share)
+shared_point (Ranges a) (Items b) share = absurd (false≢true share)
+shared_point (Items a) (Scalar b) share = absurd (false≢true share)
+shared_point (Items a) (Ranges b) share = absurd (false≢true share)
+
+share_from : {K : Type 0} {R : K → K → Ordering} (o : IsTotalOrder R) (same : set.IsAntisymmetric R) (a b : set.FinSet R) (k : K)
+    → 0 < unit (set.contains a k) → 0 < unit (set.contains b k) → not (are_disjoint a b) ≡ true
+share_from o same a b k first second = by (are_disjoint a b) refl
+  where
+    by : (d : Bool) → are_disjoint a b ≡ d → not d ≡ true
+    by true apart = absurd (false≢true (sym (sets.out_of_both o same a b apart k) ∙ rw (unit_some _ first, unit_some _ second)))
+    by false apart = refl
+
+-- a number or a label with units in both is a member of both
+pub share_at : (p : Point) (v w : Value) → most p ≡ 1 → 0 < units_in v p → 0 < units_in w p → share_members v w ≡ true
+share_at Thousandths v w single first second = absurd (omega arith)
+share_at (Number n) (Ranges a) (Ranges b) single first second = share_from nat_cmp_total set.nat_cmp-IsAntisymmetric a b n first second
+share_at (Number n) v w single first second = absurd (omega arith)
+share_at (Member m) (Items a) (Items b) single first second = share_from nat_list_cmp_total texts_apart a b m first second
+share_at (Member m) v w single first second = absurd (omega arith)
+
+-- values below the most, of one kind at all their points, can be joined
+pub joinable_from : (v w : Value) → 0 < amount_in v → 0 < amount_in w
+    → ((p q : Point) → 0 < units_in v p → 0 < units_in w q → IsTrue (is_one_kind p q))
+    → ((p : Point) → units_in v p + units_in w p ≤ most p) → AreJoinable v w
+joinable_from v w first second kinds fits =
+    let p = filled_point v first in
+    let q = filled_point w second in
+    record {
+      same_kind = kind_at v w p.0 q.0 p.1 q.1 ∙ kinds p.0 q.0 p.1 q.1;
+      apart = false_from_ne_true (share_members v w) (λ share.
+          let at = shared_point v w share in omega (arith, at.in_first, at.in_second, at.single, fits at.point));
+    }
+
+-- ---- values with the same units
+
+pub same_value : (v w : Value) → 0 < amount_in v → 0 < amount_in w → ((p : Point) → units_in v p ≡ units_in w p) → v ≡ w
+same_value (Scalar a) (Scalar b) first second same = ap Scalar (same Thousandths)
+same_value (Ranges a) (Ranges b) first second same = ap Ranges (same_units nat_cmp_total set.nat_cmp-IsAntisymmetric a b (λ n. same (Number n)))
+same_value (Items a) (Items b) first second same = ap Items (same_units nat_list_cmp_total texts_apart a b (λ m. same (Member m)))
+same_value v w first second same =
+    let p = filled_point v first in
+    absurd (false≢true (kind_at v w p.0 p.0 p.1 (subst (λ (n : ℕ). 0 < n) (same p.0) p.1) ∙ one_itself p.0))
+
+-- ---- one value covers another
+
+pub units_covered : (v w : Value) → has_all_of v w ≡ true → (p : Point) → units_in w p ≤ units_in v p
+units_covered (Scalar a) (Scalar b) all Thousandths = leb-true b a all
+units_covered (Scalar a) (Scalar b) all (Number n) = omega arith
+units_covered (Scalar a) (Scalar b) all (Member m) = omega arith
+units_covered (Ranges a) (Ranges b) all (Number n) = unit_above _ _ (set.is_subset-contains nat_cmp_total b a all n)
+units_covered (Ranges a) (Ranges b) all Thousandths = omega arith
+units_covered (Ranges a) (Ranges b) all (Member m) = omega arith
+units_covered (Items a) (Items b) all (Member m) = unit_above _ _ (set.is_subset-contains nat_list_cmp_total b a all m)
+units_covered (Items a) (Items b) all Thousandths = omega arith
+units_covered (Items a) (Items b) all (Number n) = omega arith
+units_covered (Scalar a) (Ranges b) all p = absurd (false≢true all)
+units_covered (Scalar a) (Items b) all p = absurd (false≢true all)
+units_covered (Ranges a) (Scalar b) all p = absurd (false≢true all)
+units_covered (Ranges a) (Items b) all p = absurd (false≢true all)
+units_covered (Items a) (Scalar b) all p = absurd (false≢true all)
+units_covered (Items a) (Ranges b) all p = absurd (false≢true all)
+
+pub covered_from : (v w : Value) → 0 < amount_in w → ((p : Point) → units_in w p ≤ units_in v p) → has_all_of v w ≡ true
+covered_from (Scalar a) (Scalar b) some below = le-leb b a (below Thousandths)
+covered_from (Ranges a) (Ranges b) some below = set.contains-is_subset nat_cmp_total b a (λ n in_b. unit_within _ _ (below (Number n)) in_b)
+covered_from (Items a) (Items b) some below = set.contains-is_subset nat_list_cmp_total b a (λ m in_b. unit_within _ _ (below (Member m)) in_b)
+covered_from v w some below =
+    let p = filled_point w some in
+    absurd (false≢true (kind_at v w p.0 p.0 (omega (arith, p.1, below p.0)) p.1 ∙ one_itself p.0))

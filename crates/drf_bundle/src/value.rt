@@ -1,0 +1,134 @@
+//! One resource's value: thousandths, a set of numbers or a set of labels.
+ghost use Rattle.std.specs.Prelude.{◌≡◌, ◌<◌, ◌^◌, IsTrue, ◌↔◌, IfOk};
+ghost use Rattle.drf_bundle.specs.Value.{IsGiven, amount_in, clash_in, united, less, has_all_of};
+
+use drf_amount::{Algebra, Scalar};
+use drf_kinds::{Items, Ranges};
+use std::alloc::AllocError;
+
+/// What there is of a resource.
+#[derive(Debug, Drop)]
+pub enum Value {
+    /// A number of thousandths, as of `cpus`.
+    Scalar(Scalar),
+    /// Numbers below 2^32, as of `ports`.
+    Ranges(Ranges),
+    /// Labels, as of disks.
+    Items(Items),
+}
+
+/// How two values of one name can be at odds.
+#[derive(Clone, Copy)]
+pub enum Clash {
+    /// They have two kinds.
+    Kinds,
+    /// A member stands in both.
+    Members,
+}
+
+impl Value {
+    /// Whether there is nothing of it.
+    pub fn is_empty(&self) -> bool
+        ensures given { IsGiven self.now }
+        ensures is_empty { IsTrue result ↔ (amount_in self.now ≡ 0) }
+    {
+        match self {
+            Value::Scalar(scalar) => scalar.is_empty(),
+            Value::Ranges(ranges) => ranges.is_empty(),
+            Value::Items(items) => items.is_empty(),
+        }
+    }
+
+    /// Its thousandths, or how many members it has.
+    pub fn amount(&self) -> u128
+        ensures amount { result ≡ amount_in self.now }
+        ensures small { result < 2 ^ 64 }
+    {
+        match self {
+            Value::Scalar(scalar) => scalar.amount(),
+            Value::Ranges(ranges) => ranges.amount(),
+            Value::Items(items) => items.amount(),
+        }
+    }
+
+    pub fn copy(&self) -> Result<Value, AllocError>
+        ensures { IfOk result (λ value. value ≡ self.now) }
+    {
+        Ok(match self {
+            Value::Scalar(scalar) => Value::Scalar(scalar.copy()?),
+            Value::Ranges(ranges) => Value::Ranges(ranges.copy()?),
+            Value::Items(items) => Value::Items(items.copy()?),
+        })
+    }
+
+    /// Whether the two are at odds in that way.
+    pub(crate) fn clashes_with(&self, other: &Value, clash: Clash) -> bool
+        ensures { result ≡ clash_in clash self.now other.now }
+    {
+        match (self, other) {
+            (Value::Scalar(_), Value::Scalar(_)) => false,
+            (Value::Ranges(ranges), Value::Ranges(others)) => match clash {
+                Clash::Kinds => false,
+                Clash::Members => !ranges.disjoint(others),
+            },
+            (Value::Items(items), Value::Items(others)) => match clash {
+                Clash::Kinds => false,
+                Clash::Members => !items.disjoint(others),
+            },
+            _ => match clash {
+                Clash::Kinds => true,
+                Clash::Members => false,
+            },
+        }
+    }
+
+    /// Whether the other has no unit that this one lacks.
+    pub(crate) fn covers(&self, part: &Value) -> bool
+        ensures { result ≡ has_all_of self.now part.now }
+    {
+        match (self, part) {
+            (Value::Scalar(scalar), Value::Scalar(part)) => scalar.covers(part),
+            (Value::Ranges(ranges), Value::Ranges(part)) => ranges.covers(part),
+            (Value::Items(items), Value::Items(part)) => items.covers(part),
+            _ => false,
+        }
+    }
+
+    /// Both together, of two that do not clash.
+    pub(crate) fn join(&self, other: &Value) -> Result<Value, AllocError>
+        ensures { IfOk result (λ value. value ≡ united self.now other.now) }
+    {
+        let joined = match (self, other) {
+            (Value::Scalar(scalar), Value::Scalar(other)) => {
+                scalar.try_join(other).map(Value::Scalar)
+            }
+            (Value::Ranges(ranges), Value::Ranges(others)) => {
+                ranges.try_join(others).map(Value::Ranges)
+            }
+            (Value::Items(items), Value::Items(others)) => items.try_join(others).map(Value::Items),
+            _ => return self.copy(),
+        };
+        joined.map_err(|_| AllocError)
+    }
+
+    /// What is left without `part`, of one that covers it.
+    pub(crate) fn minus(&self, part: &Value) -> Result<Value, AllocError>
+        ensures { IfOk result (λ value. value ≡ less self.now part.now) }
+    {
+        match (self, part) {
+            (Value::Scalar(scalar), Value::Scalar(part)) => match scalar.try_minus(part) {
+                Ok(rest) => Ok(Value::Scalar(rest)),
+                Err(_) => Err(AllocError),
+            },
+            (Value::Ranges(ranges), Value::Ranges(part)) => match ranges.try_minus(part) {
+                Ok(rest) => Ok(Value::Ranges(rest)),
+                Err(_) => Err(AllocError),
+            },
+            (Value::Items(items), Value::Items(part)) => match items.try_minus(part) {
+                Ok(rest) => Ok(Value::Items(rest)),
+                Err(_) => Err(AllocError),
+            },
+            _ => self.copy(),
+        }
+    }
+}

@@ -1,0 +1,73 @@
+-- Spaces and tabs at the ends of a text.
+use Rattle.std.specs.Prelude.{◌≡◌, ◌≢◌, ℕ, ◌+◌, ◌<◌, ◌≤◌, ◌&&◌, Bool, true, false, [], ◌∷◌, ◌++◌, length, IsTrue}
+use Rattle.std.specs.List.{list_all}
+use Rattle.std.proofs.Common.{refl, sym, ap, ◌∙◌, inl, inr, cond, arith}
+use Rattle.std.proofs.lemmas.Bool.{ne_eqb}
+use Rattle.drf_role.specs.Text.{Text}
+use Rattle.drf_text.specs.Blanks.{is_blank, IsOneFirstLess, IsOneLastLess, without_first_blanks, without_last_blanks}
+
+no_blank : (b : ℕ) → b ≢ 32 → b ≢ 9 → is_blank b ≡ false
+no_blank b space tab = rw (ne_eqb b 32 space, ne_eqb b 9 tab) refl
+
+-- ---- at the front
+
+pub stays_first : (text : Text) → ((rest : Text) → text ≢ 32 ∷ rest) → ((rest : Text) → text ≢ 9 ∷ rest)
+    → without_first_blanks text ≡ text
+stays_first [] space tab = refl
+stays_first (b ∷ bs) space tab = rw (no_blank b (λ e. space bs (ap (λ (c : ℕ). c ∷ bs) e)) (λ e. tab bs (ap (λ (c : ℕ). c ∷ bs) e))) refl
+
+pub first_more : (text rest : Text) → length rest < length text → IsOneFirstLess text rest
+    → without_first_blanks rest ≡ without_first_blanks text
+first_more text rest shorter (inl less) = sym (ap without_first_blanks less.2 ∙ rw less.1 refl)
+first_more text rest shorter (inr all) = ap without_first_blanks all.0
+
+pub first_done : (text rest : Text) → length text ≤ length rest → IsOneFirstLess text rest
+    → text ≡ without_first_blanks text
+first_done text rest long (inl less) = absurd (omega (arith, ap length less.2))
+first_done text rest long (inr all) = sym all.1
+
+-- ---- at the end
+
+not_all : (text : Text) → text ≢ [] → ((front : Text) → text ≢ front ++ 32 ∷ [])
+    → ((front : Text) → text ≢ front ++ 9 ∷ []) → list_all is_blank text ≡ false
+not_all [] some space tab = absurd (some refl)
+not_all (b ∷ []) some space tab = rw (no_blank b (λ e. space [] (ap (λ (c : ℕ). c ∷ []) e)) (λ e. tab [] (ap (λ (c : ℕ). c ∷ []) e))) refl
+not_all (b ∷ c ∷ cs) some space tab =
+    let rest = not_all (c ∷ cs) (λ e. cc) (λ front e. space (b ∷ front) (ap (λ (t : Text). b ∷ t) e)) (λ front e. tab (b ∷ front) (ap (λ (t : Text). b ∷ t) e)) in
+    and_none (is_blank b) (list_all is_blank (c ∷ cs)) rest
+  where
+    and_none : (x y : Bool) → y ≡ false → (x && y) ≡ false
+    and_none true y e = e
+    and_none false y e = refl
+
+pub stays_last : (text : Text) → ((front : Text) → text ≢ front ++ 32 ∷ []) → ((front : Text) → text ≢ front ++ 9 ∷ [])
+    → without_last_blanks text ≡ text
+stays_last [] space tab = refl
+stays_last (b ∷ []) space tab = let none = not_all (b ∷ []) (λ e. cc) space tab in ap (λ (t : Bool). cond t [] (b ∷ [])) none
+stays_last (b ∷ c ∷ cs) space tab =
+    let none = not_all (b ∷ c ∷ cs) (λ e. cc) space tab in
+    let rest = stays_last (c ∷ cs) (λ front e. space (b ∷ front) (ap (λ (t : Text). b ∷ t) e)) (λ front e. tab (b ∷ front) (ap (λ (t : Text). b ∷ t) e)) in
+    ap (λ (t : Bool). cond t [] (b ∷ without_last_blanks (c ∷ cs))) none ∙ ap (λ (t : Text). b ∷ t) rest
+
+all_push : (text : Text) (b : ℕ) → IsTrue (is_blank b) → list_all is_blank (text ++ b ∷ []) ≡ list_all is_blank text
+all_push [] b blank = rw blank refl
+all_push (c ∷ cs) b blank = ap (λ (t : Bool). is_blank c && t) (all_push cs b blank)
+
+push_dropped : (text : Text) (b : ℕ) → IsTrue (is_blank b)
+    → without_last_blanks (text ++ b ∷ []) ≡ without_last_blanks text
+push_dropped [] b blank = rw blank refl
+push_dropped (c ∷ cs) b blank = λ i. cond (is_blank c && all_push cs b blank i) [] (c ∷ push_dropped cs b blank i)
+
+length_push : (text : Text) (b : ℕ) → length (text ++ b ∷ []) ≡ length text + 1
+length_push [] b = refl
+length_push (c ∷ cs) b = omega (arith, length_push cs b)
+
+pub last_more : (text rest : Text) → length rest < length text → IsOneLastLess text rest
+    → without_last_blanks rest ≡ without_last_blanks text
+last_more text rest shorter (inl less) = sym (ap without_last_blanks less.2 ∙ push_dropped rest less.0 less.1)
+last_more text rest shorter (inr all) = ap without_last_blanks all.0
+
+pub last_done : (text rest : Text) → length text ≤ length rest → IsOneLastLess text rest
+    → text ≡ without_last_blanks text
+last_done text rest long (inl less) = absurd (omega (arith, ap length less.2, length_push rest less.0))
+last_done text rest long (inr all) = sym all.1

@@ -1,0 +1,4 @@
+pub mod BlankLemmas
+pub mod Decimals
+pub mod Joined
+pub mod Numbers

@@ -1,0 +1,3 @@
+pub mod Blanks
+pub mod Number
+pub mod Written

@@ -1,0 +1,12 @@
+//! The text of resources, of quantities and of weights.
+#![tactic(auto)]
+
+mod amount;
+mod fault;
+mod number;
+mod trim;
+mod write;
+
+pub use fault::TextFault;
+pub use number::read_weight;
+pub use write::{write_bundle, write_quantities};

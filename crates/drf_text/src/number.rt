@@ -1,0 +1,94 @@
+//! Numbers as text, read as thousandths.
+ghost use Rattle.std.specs.Prelude.{◌≡◌, ◌+◌, ◌*◌, ◌<◌, IsTrue, ◌&&◌, Err, if◌then◌else◌};
+ghost use Rattle.std.specs.Str.Parse.{digits_value};
+ghost use Rattle.drf_text.specs.Number.{are_digits, digit_at, rounded, small_or_fault, number_of, weight_of};
+ghost use Rattle.drf_text.specs.declared.fault.TextFault.TheVariants.{BadNumber};
+
+use crate::fault::TextFault;
+use crate::trim::trim;
+
+fn are_digits(text: &str) -> bool
+    ensures { result ≡ are_digits text.now }
+{
+    !text.is_empty() && text.as_bytes().iter().all(|b| b.is_ascii_digit())
+}
+
+/// The digit at a place, 0 behind the end.
+fn digit_at(decimals: &[u8], place: usize) -> u64
+    ensures value { result ≡ digit_at decimals.now place }
+    ensures small { result < 256 }
+{
+    match decimals.get(place) {
+        Some(byte) => u64::from(byte.saturating_sub(b'0')),
+        None => 0,
+    }
+}
+
+/// The thousandths that decimals say, rounded at the fourth.
+fn rounded(decimals: &str) -> u64
+    ensures value { result ≡ rounded decimals.now }
+    ensures small { result < 65536 }
+{
+    let bytes = decimals.as_bytes();
+    let cut = 100 * digit_at(bytes, 0) + 10 * digit_at(bytes, 1) + digit_at(bytes, 2);
+    if digit_at(bytes, 3) >= 5 {
+        cut + 1
+    } else {
+        cut
+    }
+}
+
+/// Digits and the thousandths behind their point.
+fn sum_of(whole: &str, thousandths: u64) -> Result<u64, TextFault>
+    requires digits { IsTrue (are_digits whole.now) }
+    requires small { thousandths < 65536 }
+    ensures { result ≡ small_or_fault (digits_value 10 whole.now * 1000 + thousandths) }
+{
+    let value: u64 = match whole.parse() {
+        Ok(value) => value,
+        Err(_) => return Err(TextFault::TooLarge),
+    };
+    match value.checked_mul(1000) {
+        Some(product) => product.checked_add(thousandths).ok_or(TextFault::TooLarge),
+        None => Err(TextFault::TooLarge),
+    }
+}
+
+/// Digits, a point and digits.
+fn parted_number(whole: &str, decimals: &str) -> Result<u64, TextFault>
+    ensures { result ≡ (if are_digits whole.now && are_digits decimals.now
+        then small_or_fault (digits_value 10 whole.now * 1000 + rounded decimals.now) else Err BadNumber) }
+{
+    if !are_digits(whole) || !are_digits(decimals) {
+        return Err(TextFault::BadNumber);
+    }
+    sum_of(whole, rounded(decimals))
+}
+
+/// Digits alone.
+fn whole_number(text: &str) -> Result<u64, TextFault>
+    ensures { result ≡ (if are_digits text.now then small_or_fault (digits_value 10 text.now * 1000) else Err BadNumber) }
+{
+    if !are_digits(text) {
+        return Err(TextFault::BadNumber);
+    }
+    sum_of(text, 0)
+}
+
+/// Reads a number: digits, or digits, a point and digits, rounded to thousandths.
+pub fn read_number(text: &str) -> Result<u64, TextFault>
+    ensures { result ≡ number_of text.now }
+{
+    match text.split_once('.') {
+        None => whole_number(text),
+        Some((whole, decimals)) => parted_number(whole, decimals),
+    }
+}
+
+/// Reads a weight: a number, rounded to thousandths, with spaces and tabs at its ends. What is no number is
+/// `BadNumber`, and one of 2^64 thousandths or more `TooLarge`.
+pub fn read_weight(text: &str) -> Result<u64, TextFault>
+    ensures { result ≡ weight_of text.now }
+{
+    read_number(trim(text))
+}

@@ -1,0 +1,60 @@
+//! Spaces and tabs dropped at the ends of a text.
+ghost use Rattle.std.specs.Prelude.{◌≡◌};
+ghost use Rattle.drf_text.specs.Blanks.{IsOneFirstLess, IsOneLastLess, without_first_blanks, without_last_blanks, trimmed};
+
+/// What follows a space or a tab at the front, or all of it.
+fn drop_first(text: &str) -> &str
+    ensures { IsOneFirstLess text.now result.now }
+{
+    match text.strip_prefix(' ') {
+        Some(rest) => rest,
+        None => match text.strip_prefix('\t') {
+            Some(rest) => rest,
+            None => text,
+        },
+    }
+}
+
+/// What stands before a space or a tab at the end, or all of it.
+fn drop_last(text: &str) -> &str
+    ensures { IsOneLastLess text.now result.now }
+{
+    match text.strip_suffix(' ') {
+        Some(rest) => rest,
+        None => match text.strip_suffix('\t') {
+            Some(rest) => rest,
+            None => text,
+        },
+    }
+}
+
+fn trim_start(text: &str) -> &str
+    ensures { result.now ≡ without_first_blanks text.now }
+{
+    let mut rest = text;
+    let mut more = drop_first(rest);
+    while more.len() < rest.len() {
+        rest = more;
+        more = drop_first(rest);
+    }
+    rest
+}
+
+fn trim_end(text: &str) -> &str
+    ensures { result.now ≡ without_last_blanks text.now }
+{
+    let mut rest = text;
+    let mut more = drop_last(rest);
+    while more.len() < rest.len() {
+        rest = more;
+        more = drop_last(rest);
+    }
+    rest
+}
+
+/// The text without the spaces and tabs at both ends.
+pub fn trim(text: &str) -> &str
+    ensures { result.now ≡ trimmed text.now }
+{
+    trim_end(trim_start(text))
+}

@@ -102,7 +102,7 @@ amount bundle = sum_by (λ r. amount_in r.value) bundle
 abbrev pub with_value : Resource → Value → Resource
 with_value r v = record { label = r.label; role = r.role; value = v }
 
--- e before those of the other list that stand behind it, all of it and of the rest in order
+-- a resource and the rest of its list, put among those of the other list
 abbrev pub merge_step : Resource → List Resource → (List Resource → List Resource) → List Resource → List Resource
 merge_step r rs on [] = r ∷ rs
 merge_step r rs on (s ∷ ss) = match_ordering (key_cmp (key_of r) (key_of s))

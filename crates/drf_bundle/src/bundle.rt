@@ -148,8 +148,7 @@ impl Bundle {
         *self.resources.allocator()
     }
 
-    /// One resource, reserved for the role if that is not `*`. An empty value gives the empty
-    /// bundle.
+    /// The bundle of one resource, reserved for the role if that is not `*`. A value with nothing in it makes no resource.
     pub fn one(
         alloc: Global,
         label: &Label,

@@ -1,11 +1,9 @@
 -- The turns of all agents, and the cycle that they are.
 use Rattle.std.proofs.Common.{◌≡◌, ℕ, zero, suc, ◌+◌, ◌*◌, ◌<◌, ◌≤◌, List, [], ◌∷◌, Option, Some, None, true, false, Bool, refl, sym, ap, ◌∙◌, length, cond, arith, drop, add-one, subst}
-use Rattle.std.specs.Prelude.{◌^◌, max, slice_get, filter, All}
-use Rattle.std.specs.List.{AllByRecursion}
+use Rattle.std.specs.Prelude.{◌^◌, max, slice_get, filter}
 use Rattle.std.specs.Option.{option_map_or}
 use Rattle.std.proofs.Math.Seq.{drop-append_seam}
 use Rattle.std.proofs.lemmas.List.{length-map}
-use Rattle.std.proofs.lemmas.List.Elements.{All-from_recursion}
 use Rattle.drf_bundle.specs.declared.quantities.Entry.{Entry}
 use Rattle.drf_rows.specs.Client.{Client}
 use Rattle.drf_rows.specs.Held.{clients_of}
@@ -19,11 +17,10 @@ use Rattle.drf_rows.specs.declared.rows.AgentRow.{AgentRow}
 use Rattle.drf_rows.specs.declared.rows.OfferRow.{OfferRow}
 use Rattle.drf_rows.specs.declared.rows.Rows.{Rows}
 use Rattle.drf_tables.specs.Drafts.{with_offers}
-use Rattle.drf_tables.specs.declared.tables.Left.{Left}
 use Rattle.drf_sorter.specs.Content.{Content}
 use Rattle.drf_core.specs.Content.{content_of}
 use Rattle.drf_core.specs.Kept.{IsKept}
-use Rattle.drf_core.specs.Drafting.{IsDrafting, HasLeft, turn_at, turns_of}
+use Rattle.drf_core.specs.Drafting.{IsDrafting, turn_at, turns_of}
 use Rattle.drf_core.proofs.ContentOrder.{length-turn_order}
 use Rattle.drf_core.proofs.DraftLemmas.{offers-with_offers}
 
@@ -66,26 +63,6 @@ turns-next rows before after i within same turned so_far =
     ∙ turns-step before i there
     ∙ ap (λ (as' : List AgentRow). turns before (filter (λ a. a.active) (drop i as'))) same
     ∙ so_far
-
--- all agents had their turns
-pub turns-done : (rows after : Rows) (i : ℕ) → length rows.agents ≤ i
-    → turns after (filter (λ a. a.active) (drop i rows.agents)) ≡ turns_of rows → after ≡ turns_of rows
-turns-done rows after i done so_far = sym (ap (λ as'. turns after (filter (λ a. a.active) as')) (nothing rows.agents i done)) ∙ so_far
-  where
-    nothing : (xs : List AgentRow) (i : ℕ) → length xs ≤ i → drop i xs ≡ []
-    nothing [] zero h = refl
-    nothing [] (suc i) h = refl
-    nothing (x ∷ xs) zero h = absurd (omega arith)
-    nothing (x ∷ xs) (suc i) h = nothing xs i (omega arith)
-
--- with no drafts nothing is left, and no agent had its turn
-pub HasLeft-nothing : (rows : Rows) (offers : List OfferRow) (lefts : List Left) → offers ≡ [] → lefts ≡ [] → HasLeft rows offers lefts 0
-HasLeft-nothing rows offers lefts none nothing =
-    rw (none, nothing) (record { frees = refl; past = tt })
-
--- what is left has the places of agents
-pub all_places : (lefts : List Left) (n : ℕ) → AllByRecursion (λ l. l.agent < n) lefts → All (λ l. l.agent < n) lefts
-all_places lefts n past = All-from_recursion (λ (l : Left). l.agent < n) lefts past
 
 -- the drafts are the new offers
 pub new_offers-drafts : (rows : Rows) (offers : List OfferRow) → with_offers rows offers ≡ turns_of rows → new_offers rows (turns_of rows) ≡ offers

@@ -15,7 +15,7 @@ use Rattle.drf_rows.specs.declared.reply.Refusal.{Refusal}
 use Rattle.drf_rows.specs.declared.reply.Reply.{Reply}
 use Rattle.drf_rows.specs.declared.rows.Rows.{Rows}
 use Rattle.drf_sorter.specs.Content.{Content, empty}
-use Rattle.drf_core.specs.Machine.{Machine, IsSame, IsAfter, IsAfterAll}
+use Rattle.drf_core.specs.Machine.{Machine, IsAfter, IsAfterAll}
 use Rattle.drf_core.specs.Content.{content_of}
 use Rattle.drf_core.specs.Kept.{AreFew, IsKept}
 use Rattle.drf_core.proofs.CycleLemmas.{turns-tables}
@@ -31,9 +31,6 @@ IsKept-opening content limits rows opens nothing within = rw (opens, nothing) (r
 })
 
 -- ---- a step
-
-pub IsSame-itself : (m : Machine) → IsSame m m
-IsSame-itself m = record { limits = refl; rows = refl }
 
 pub IsAfter-refused : (m : Machine) (event : Event) (refusal : Refusal) → refusal_of m.limits m.rows event ≡ Some refusal → IsAfter m m event
 IsAfter-refused m event refusal case = record { limits = refl; rows = ap live_rows (sym (rows_after-refused m.limits m.rows event refusal case)) }
@@ -90,7 +87,3 @@ reply-more old middle events event reply before told =
     ∙ reply_to-same_live old.limits middle.rows (rows_after_all old.limits old.rows events) before.rows event in
     ap (λ (r : Reply). replies_to old.limits old.rows events ++ r ∷ []) same
     ∙ sym (replies_to-append old.limits old.rows events (event ∷ []))
-
--- nothing that callers see has changed since
-pub IsAfterAll-same : (old middle new : Machine) (events : List Event) → IsAfterAll old middle events → IsSame middle new → IsAfterAll old new events
-IsAfterAll-same old middle new events before same = record { limits = same.limits ∙ before.limits; rows = same.rows ∙ before.rows }

@@ -10,8 +10,8 @@ mod table;
 
 pub use event::Event;
 pub use laws::{
-    cycles_example, inactive_example, least_offer_example, limits_example, live_rows_law, order_example,
-    serving_order_law, step_law, turn_law,
+    cycles_example, inactive_example, least_offer_example, limits_example, live_rows_law,
+    order_example, serving_order_law, step_law, turn_law,
 };
 pub use limits::{LARGEST_AMOUNT, LATEST_MOMENT, Limits};
 pub use reply::{OfferLine, Refusal, Reply};

@@ -23,7 +23,7 @@ whole_of text = before_first is_point text
 abbrev pub decimals_of : Text → Text
 decimals_of text = after_first is_point text
 
--- digits, or digits, a point and digits
+-- a whole part in digits; where there is a point, decimals in digits too
 abbrev pub is_number : Text → Bool
 is_number text = are_digits (whole_of text) && (if list_any is_point text then are_digits (decimals_of text) else true)
 
@@ -31,7 +31,7 @@ is_number text = are_digits (whole_of text) && (if list_any is_point text then a
 abbrev pub digit_at : Text → ℕ → ℕ
 digit_at decimals place = slice_index_or decimals place 48 - 48
 
--- the first three decimals count, and one is added if the fourth is 5 or more
+-- to the nearest thousandth by the first four decimals, a half upwards
 abbrev pub rounded : Text → ℕ
 rounded decimals =
     100 * digit_at decimals 0 + 10 * digit_at decimals 1 + digit_at decimals 2 + (if nat_le 5 (digit_at decimals 3) then 1 else 0)

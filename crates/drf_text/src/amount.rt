@@ -32,8 +32,7 @@ fn push_decimals(text: &mut String, thousandths: u64) -> Result<(), AllocError>
     push_digit(text, thousandths % 10)
 }
 
-/// Writes an amount: the whole part and, where the thousandths are not 0, a point and up to three decimals without
-/// zeros at their end.
+/// Writes an amount of thousandths: 1500 as `1.5`, 4000 as `4`.
 pub fn push_amount(text: &mut String, amount: u64) -> Result<(), AllocError>
     ensures { OnOk result (string_bytes text.new ≡ string_bytes text.old ++ amount_text amount) }
 {

@@ -4,7 +4,7 @@ ghost use Rattle.drf_text.specs.declared.fault.TextFault.TheVariants.{Memory};
 use std::alloc::AllocError;
 use thiserror::Error;
 
-/// Why a text says no resources. Of several, the first piece with a fault decides, and in it the first of these.
+/// Why a text says no resources. Where a piece has several faults, the one listed first here is told.
 #[derive(Clone, Copy, Debug, PartialEq, Eq, Error)]
 pub enum TextFault {
     /// A `:`, a bracket or a `-` is missing, or stands where none may.

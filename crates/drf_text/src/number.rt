@@ -75,7 +75,7 @@ fn whole_number(text: &str) -> Result<u64, TextFault>
     sum_of(text, 0)
 }
 
-/// Reads a number: digits, or digits, a point and digits, rounded to thousandths.
+/// Reads a number such as `3` or `0.125`, to the nearest thousandth.
 pub fn read_number(text: &str) -> Result<u64, TextFault>
     ensures { result ≡ number_of text.now }
 {

@@ -1,3 +1,5 @@
 pub mod Blanks
+pub mod Meaning
+pub mod NameTests
 pub mod Number
 pub mod Written

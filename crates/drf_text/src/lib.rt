@@ -3,10 +3,12 @@
 
 mod amount;
 mod fault;
+mod laws;
 mod number;
 mod trim;
 mod write;
 
 pub use fault::TextFault;
+pub use laws::bundle_text_example;
 pub use number::read_weight;
 pub use write::{write_bundle, write_quantities};

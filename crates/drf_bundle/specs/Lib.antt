@@ -14,5 +14,6 @@ pub mod BundleLaws
 pub mod Sides
 pub mod PartLaws
 pub mod SumLaws
+pub mod Union
 pub mod UnitLaws
 pub mod UnitProofs

@@ -14,6 +14,7 @@ pub mod BundleLaws
 pub mod Sides
 pub mod PartLaws
 pub mod SumLaws
+pub mod Taken
 pub mod Union
 pub mod UnitLaws
 pub mod UnitProofs

@@ -1,12 +1,14 @@
 -- What holds of the rows of an allocator at all times, rule by rule, each over the tables that it reads.
-use Rattle.std.specs.Prelude.{◌≡◌, ℕ, ◌+◌, ◌*◌, ◌^◌, ◌<◌, ◌≤◌, Bool, true, not, ◌&&◌, List, [], ◌∷◌, map, sum_by, nat_lt}
+use Rattle.std.specs.Prelude.{◌≡◌, ℕ, ◌+◌, ◌*◌, ◌^◌, ◌<◌, ◌≤◌, Bool, true, not, ◌&&◌, List, [], ◌∷◌, map, sum_by, nat_lt, Some}
 use Rattle.std.specs.List.{list_all, list_any, AllByRecursion}
 use Rattle.drf_role.specs.Text.{Text, same_text}
 use Rattle.drf_role.specs.Path.{Path, same_path}
-use Rattle.drf_bundle.specs.Quantities.{HasNoZeros, amount_of}
-use Rattle.drf_bundle.specs.ScalarBundle.{quantities_of}
+use Rattle.drf_bundle.specs.Quantities.{amount_of}
+use Rattle.drf_bundle.specs.Value.{Point}
+use Rattle.drf_bundle.specs.Bundle.{Key, IsBundle, units, quantities_of}
+use Rattle.drf_bundle.specs.Taken.{joined, units_of_all}
 use Rattle.drf_rows.specs.Client.{Client}
-use Rattle.drf_rows.specs.Holdings.{Holding, holdings_of, held_where, is_on}
+use Rattle.drf_rows.specs.Holdings.{Holding, holdings_of, parts_on}
 use Rattle.drf_rows.specs.Cycle.{free_of}
 use Rattle.drf_rows.specs.declared.limits.TheConstants.{LARGEST_AMOUNT}
 use Rattle.drf_rows.specs.declared.rows.AgentRow.{AgentRow}
@@ -25,7 +27,7 @@ are_distinct_roles (role ∷ roles) = list_all (λ r. not (same_path role r)) ro
 
 -- an agent has a bundle, of which no scalar is too large
 pub record IsAgent (agent : AgentRow) : Type 0 where
-  pub total : HasNoZeros agent.total
+  pub total : IsBundle agent.total
   pub small : (label : Text) → amount_of (quantities_of agent.total) label ≤ LARGEST_AMOUNT
 
 pub record AreAgents (agents : List AgentRow) : Type 0 where
@@ -46,12 +48,12 @@ is_registered frameworks client =
 pub record IsHeld (agents : List AgentRow) (frameworks : List FrameworkRow) (h : Holding) : Type 0 where
   pub agent : list_any (λ a. same_text a.name h.agent) agents ≡ true
   pub client : is_registered frameworks h.client ≡ true
-  pub bundle : HasNoZeros h.bundle
+  pub bundle : IsBundle h.bundle
 
 -- on an agent no more is held than there is
 abbrev pub IsCovered : List Holding → AgentRow → Type 0
 IsCovered holdings agent =
-    (label : Text) → held_where (is_on agent.name) holdings label ≤ amount_of (quantities_of agent.total) label
+    (key : Key) (p : Point) → units_of_all (parts_on agent.name holdings) key p ≤ units agent.total key p
 
 -- how many offers were made to the clients that are registered
 abbrev pub offers_counted : List FrameworkRow → ℕ
@@ -74,8 +76,6 @@ pub record IsConsistent (rows : Rows) : Type 0 where
 abbrev pub IsNumberedByEvents : Rows → Type 0
 IsNumberedByEvents rows = rows.next_offer ≤ 1 + rows.accepted * 2 ^ 24
 
--- nothing on the agent is granted twice: its total is what is free there and what is held there
+-- nothing on the agent is granted twice: what is free there and what is held there join to its total
 abbrev pub IsConserved : Rows → AgentRow → Type 0
-IsConserved rows agent = (label : Text)
-    → amount_of (quantities_of (free_of rows agent)) label + held_where (is_on agent.name) (holdings_of rows) label
-    ≡ amount_of (quantities_of agent.total) label
+IsConserved rows agent = joined (free_of rows agent) (parts_on agent.name (holdings_of rows)) ≡ Some agent.total

@@ -6,19 +6,20 @@ use Rattle.std.proofs.Common.{refl, sym, ap, subst, ◌∙◌, inl, inr, cond, z
 use Rattle.std.proofs.lemmas.Bool.{cases_Bool, and_parts, and_from, or_cases, ltb-true, lt-ltb, false≢true}
 use Rattle.std.proofs.lemmas.Bool.Decides.{same_from_decides, Decides-like}
 use Rattle.std.proofs.lemmas.List.{map-append}
-use Rattle.std.proofs.lemmas.List.Sums.{sum_by-cons}
+use Rattle.std.proofs.lemmas.List.Sums.{sum_by-cons, sum_by-append}
 use Rattle.drf_role.specs.Text.{Text, same_text}
 use Rattle.drf_role.specs.TextLaws.{same_itself, same_from_test}
 use Rattle.drf_role.specs.Path.{Path, same_path}
 use Rattle.drf_role.specs.PathLaws.{same_path-true, same_path-swap}
-use Rattle.drf_bundle.specs.Quantities.{HasNoZeros, amount_of}
-use Rattle.drf_bundle.specs.ScalarBundle.{quantities_of}
-use Rattle.drf_bundle.specs.declared.quantities.Entry.{Entry}
+use Rattle.drf_bundle.specs.Value.{Point}
+use Rattle.drf_bundle.specs.Bundle.{Key, IsBundle, units}
+use Rattle.drf_bundle.specs.Taken.{joined, units_of_all, joined-rest_of_all}
+use Rattle.drf_bundle.specs.declared.resource.Resource.{Resource}
 use Rattle.drf_rows.specs.Client.{Client}
-use Rattle.drf_rows.specs.Holdings.{Holding, of_offer, holdings_of, held_where, amount_in, is_on}
-use Rattle.drf_rows.specs.HoldingsLaws.{held_where-with_offer, each-with_offer}
+use Rattle.drf_rows.specs.Holdings.{Holding, of_offer, of_task, holdings_of, parts_on, AreBundles}
+use Rattle.drf_rows.specs.HoldingsLaws.{parts_on-append, each_part, parts_on-with_offer, parts_on-other, each-with_offer}
 use Rattle.drf_rows.specs.Cycle.{free_of, new_offer, with_offer, counted, count_offer}
-use Rattle.drf_rows.specs.CycleLaws.{amount-free_of}
+use Rattle.drf_rows.specs.CycleLaws.{units-free_of}
 use Rattle.drf_rows.specs.Consistent.{are_distinct, are_distinct_roles, IsAgent, AreFrameworks, is_registered, IsHeld, IsCovered, offers_counted, are_rising, IsConsistent, IsConserved}
 use Rattle.drf_rows.specs.ListLaws.{cond_le, sum_by-map, sum_by-plus, sum_by_each_le, sum_by_none, count_by-any, list_any_at, list_any-both, none_has, none_has_at, only_none, count_once, each_at, each_from, each_from_both, each_map}
 use Rattle.drf_rows.specs.declared.rows.AgentRow.{AgentRow}
@@ -256,48 +257,65 @@ numbers_within (o ∷ os) next bound rising within =
 
 -- ---- what is free and what is held
 
-conserved_one : (rows : Rows) (agent : AgentRow)
+pub bundles-consistent : (rows : Rows) → IsConsistent rows → AreBundles (holdings_of rows)
+bundles-consistent rows consistent =
+    each_from (IsHeld rows.agents rows.frameworks) (λ h. IsBundle h.bundle) (holdings_of rows) (λ h held. held.bundle) consistent.holdings
+
+conserved_one : (rows : Rows) → AreBundles (holdings_of rows) → (agent : AgentRow)
     → IsAgent agent → IsCovered (holdings_of rows) agent → IsConserved rows agent
-conserved_one rows agent right covered =
-    λ label. omega (arith, amount-free_of rows agent label right.total, covered label)
+unfolding free_of
+conserved_one rows each agent right covered =
+    joined-rest_of_all agent.total (parts_on agent.name (holdings_of rows)) right.total (each_part agent.name (holdings_of rows) each) covered
 
 pub conserved-consistent : (rows : Rows) → IsConsistent rows → AllByRecursion (IsConserved rows) rows.agents
 conserved-consistent rows consistent =
-    each_from_both IsAgent (IsCovered (holdings_of rows)) (IsConserved rows) rows.agents (conserved_one rows)
-    consistent.agents.each consistent.covered
+    each_from_both IsAgent (IsCovered (holdings_of rows)) (IsConserved rows) rows.agents
+    (conserved_one rows (bundles-consistent rows consistent)) consistent.agents.each consistent.covered
 
 -- an offer takes no more than what is free
 covered_here : (rows : Rows) (offer : OfferRow) (agent : AgentRow)
+    → AreBundles (holdings_of rows)
+    → same_text offer.agent agent.name ≡ true
     → IsAgent agent
     → IsCovered (holdings_of rows) agent
-    → ((label : Text) → amount_of (quantities_of offer.bundle) label ≤ amount_of (quantities_of (free_of rows agent)) label)
+    → ((key : Key) (p : Point) → units offer.bundle key p ≤ units (free_of rows agent) key p)
     → IsCovered (holdings_of (with_offer rows offer)) agent
-covered_here rows offer agent right covered fits = λ label.
-    let free = amount-free_of rows agent label right.total in
-    let more = held_where-with_offer (is_on agent.name) rows offer label in
-    let at_most = cond_le (is_on agent.name (of_offer offer)) (amount_in label (of_offer offer)) in
-    omega (arith, free, more, covered label, fits label, at_most)
+covered_here rows offer agent each here right covered fits = λ key p.
+    let of : List Resource → ℕ = λ part. units part key p in
+    let before : List (List Resource) = parts_on agent.name (map of_offer rows.offers) in
+    let after : List (List Resource) = parts_on agent.name (map of_task rows.tasks) in
+    let held : units_of_all (parts_on agent.name (holdings_of rows)) key p ≡ units_of_all before key p + units_of_all after key p
+    = ap (sum_by of) (parts_on-append agent.name (map of_offer rows.offers) (map of_task rows.tasks)) ∙ sum_by-append of before after in
+    let more : units_of_all (parts_on agent.name (holdings_of (with_offer rows offer))) key p
+    ≡ units_of_all before key p + units_of_all (offer.bundle ∷ after) key p
+    = ap (sum_by of) (parts_on-with_offer rows offer agent.name ∙ ap (λ (b : Bool). before ++ cond b (offer.bundle ∷ after) after) here)
+    ∙ sum_by-append of before (offer.bundle ∷ after) in
+    omega (
+      arith,
+      units-free_of rows agent key p right.total each,
+      held,
+      more,
+      sum_by-cons of offer.bundle after,
+      covered key p,
+      fits key p,
+    )
 
 covered_other : (rows : Rows) (offer : OfferRow) (agent : AgentRow)
     → IsCovered (holdings_of rows) agent
     → same_text offer.agent agent.name ≡ false
     → IsCovered (holdings_of (with_offer rows offer)) agent
-covered_other rows offer agent covered other = λ label.
-    let held : ℕ = held_where (is_on agent.name) (holdings_of rows) label in
-    let more : held_where (is_on agent.name) (holdings_of (with_offer rows offer)) label ≡ held + 0
-    = held_where-with_offer (is_on agent.name) rows offer label
-    ∙ ap (λ (b : Bool). held + cond b (amount_in label (of_offer offer)) 0) other in
-    omega (arith, more, covered label)
+covered_other rows offer agent covered other = λ key p.
+    omega (arith, ap (λ parts. units_of_all parts key p) (parts_on-other rows offer agent.name other), covered key p)
 
 -- ---- the rows with one more offer
 
 -- a grant of what is free to a registered client keeps the rows consistent
-pub IsConsistent-with_offer : (rows : Rows) (agent : AgentRow) (place : ℕ) (client : Client) (bundle : List Entry)
+pub IsConsistent-with_offer : (rows : Rows) (agent : AgentRow) (place : ℕ) (client : Client) (bundle : List Resource)
     → IsConsistent rows
     → slice_get rows.agents place ≡ Some agent
     → is_registered rows.frameworks client ≡ true
-    → HasNoZeros bundle
-    → ((label : Text) → amount_of (quantities_of bundle) label ≤ amount_of (quantities_of (free_of rows agent)) label)
+    → IsBundle bundle
+    → ((key : Key) (p : Point) → units bundle key p ≤ units (free_of rows agent) key p)
     → IsConsistent (with_offer rows (new_offer rows agent client bundle))
 unfolding with_offer
 IsConsistent-with_offer rows agent place client bundle consistent at known right fits =
@@ -306,7 +324,7 @@ IsConsistent-with_offer rows agent place client bundle consistent at known right
     let after : List Holding = holdings_of (with_offer rows offer) in
     let frameworks : List FrameworkRow = map (count_offer client) rows.frameworks in
     let here : IsCovered after agent =
-    covered_here rows offer agent (each_at IsAgent rows.agents place agent consistent.agents.each at)
+    covered_here rows offer agent (bundles-consistent rows consistent) (same_itself agent.name) (each_at IsAgent rows.agents place agent consistent.agents.each at)
     (each_at (IsCovered before) rows.agents place agent consistent.covered at) fits in
     let IsOnly : AgentRow → Type 0 = λ b. same_text agent.name b.name ≡ true → b ≡ agent in
     let covers : (b : AgentRow) → IsCovered before b → IsOnly b → IsCovered after b = λ b covered one.

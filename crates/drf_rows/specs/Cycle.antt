@@ -3,10 +3,11 @@ use Rattle.std.specs.Prelude.{ℕ, zero, suc, ◌+◌, max, Bool, not, ◌||◌,
 use Rattle.std.specs.List.{list_all}
 use Rattle.std.specs.Option.{option_map_or}
 use Rattle.drf_role.specs.Text.{same_text}
-use Rattle.drf_bundle.specs.Quantities.{amount_of, rest_by}
-use Rattle.drf_rows.specs.Holdings.{holdings_of, held_where, is_on, of_offer}
-use Rattle.drf_bundle.specs.ScalarBundle.{quantities_of}
-use Rattle.drf_bundle.specs.declared.quantities.Entry.{Entry}
+use Rattle.drf_bundle.specs.Bundle.{quantities_of, part_for}
+use Rattle.drf_bundle.specs.Quantities.{amount_of}
+use Rattle.drf_bundle.specs.Taken.{rest_of_all}
+use Rattle.drf_rows.specs.Holdings.{holdings_of, parts_on, of_offer}
+use Rattle.drf_bundle.specs.declared.resource.Resource.{Resource}
 use Rattle.drf_role.specs.Path.{same_path}
 use Rattle.drf_rows.specs.Client.{Client, path_of}
 use Rattle.drf_rows.specs.Share.{Standing, stands_before}
@@ -18,22 +19,22 @@ use Rattle.drf_rows.specs.declared.rows.OfferRow.{OfferRow}
 use Rattle.drf_rows.specs.declared.rows.Rows.{Rows}
 
 -- what is free on an agent: its total less all that is held there
-unfoldable pub free_of : Rows → AgentRow → List Entry
-free_of rows agent = rest_by agent.total (held_where (is_on agent.name) (holdings_of rows))
+unfoldable pub free_of : Rows → AgentRow → List Resource
+free_of rows agent = rest_of_all agent.total (parts_on agent.name (holdings_of rows))
 
--- a grant is worth an offer with 0.01 `cpus` or with 32 `mem`
-abbrev pub is_allocatable : List Entry → Bool
+-- a grant is worth an offer with 0.01 `cpus` or with 32 `mem`, over all reservations
+abbrev pub is_allocatable : List Resource → Bool
 is_allocatable bundle =
     nat_le 10 (amount_of (quantities_of bundle) (codes "cpus")) || nat_le 32000 (amount_of (quantities_of bundle) (codes "mem"))
 
--- what a client may have of a free bundle: all of it, as long as there are neither limits nor filters
-abbrev pub entitlement : Rows → List Entry → Client → List Entry
-entitlement rows free client = free
+-- what a client may have of a free bundle: what is unreserved, and what is reserved for its role or for a role above it
+abbrev pub entitlement : List Resource → Client → List Resource
+entitlement free client = part_for client.role free
 
 -- what a client is granted on an agent, as the rows stand
-abbrev pub grant : Rows → AgentRow → Client → Option (List Entry)
+abbrev pub grant : Rows → AgentRow → Client → Option (List Resource)
 grant rows agent client =
-    let bundle = entitlement rows (free_of rows agent) client in
+    let bundle = entitlement (free_of rows agent) client in
     if is_allocatable bundle then Some bundle else None
 
 -- one more offer was made to the client
@@ -44,7 +45,7 @@ abbrev pub count_offer : Client → FrameworkRow → FrameworkRow
 count_offer client f = if same_text f.name client.framework then record f { clients = map (counted client) f.clients } else f
 
 -- the offer of a bundle that is made next
-abbrev pub new_offer : Rows → AgentRow → Client → List Entry → OfferRow
+abbrev pub new_offer : Rows → AgentRow → Client → List Resource → OfferRow
 new_offer rows agent client bundle =
     record { number = rows.next_offer; agent = agent.name; framework = client.framework; role = client.role; bundle = bundle }
 

@@ -1,19 +1,24 @@
 -- The rows with one more offer, and turns step by step.
-use Rattle.std.specs.Prelude.{◌≡◌, ◌+◌, ◌-◌, Bool, true, false, not, List, [], ◌∷◌, ◌++◌, map, filter, Option, Some, None, if◌then◌else◌}
-use Rattle.std.specs.List.{flat_map}
-use Rattle.std.proofs.Common.{refl, ap, ◌∙◌, inl, inr, cond, arith}
+use Rattle.std.specs.Prelude.{◌≡◌, ◌-◌, ◌≤◌, codes, Bool, true, false, not, List, [], ◌∷◌, ◌++◌, map, filter, Option, Some, None, if◌then◌else◌}
+use Rattle.std.specs.List.{flat_map, AllByRecursion}
+use Rattle.std.specs.Option.{option_map_or}
+use Rattle.std.proofs.Common.{refl, sym, ap, subst, ◌∙◌, inl, inr, cond, arith}
 use Rattle.std.proofs.lemmas.Bool.{cases_Bool}
+use Rattle.std.proofs.lemmas.Bool.Decides.{nat_tests}
 use Rattle.std.proofs.lemmas.Grind.{fold-append}
 use Rattle.drf_role.specs.Text.{Text, same_text}
 use Rattle.drf_role.specs.TextLaws.{same_itself}
-use Rattle.drf_role.specs.Path.{same_path}
-use Rattle.drf_bundle.specs.Quantities.{HasNoZeros, amount_of, rest_by, rest}
-use Rattle.drf_bundle.specs.ScalarBundle.{quantities_of}
-use Rattle.drf_bundle.specs.QuantitiesLaws.{rest-itself, rest_by-plus, amount-rest_by, no_zeros-rest_by}
-use Rattle.drf_bundle.specs.declared.quantities.Entry.{Entry}
+use Rattle.drf_role.specs.Path.{Path, same_path}
+use Rattle.drf_bundle.specs.Value.{Point, Thousandths}
+use Rattle.drf_bundle.specs.Bundle.{Key, IsBundle, units, rest, quantities_of, is_for, part_for}
+use Rattle.drf_bundle.specs.Quantities.{amount_of}
+use Rattle.drf_bundle.specs.SumLaws.{of_name, amount-quantities_of}
+use Rattle.drf_bundle.specs.PartLaws.{where-some}
+use Rattle.drf_bundle.specs.Taken.{rest_of_all, units_of_all, bundle-rest_of_all, units-rest_of_all, rest_of_all-insert, rest-itself}
+use Rattle.drf_bundle.specs.declared.resource.Resource.{Resource}
 use Rattle.drf_rows.specs.Client.{Client}
-use Rattle.drf_rows.specs.Holdings.{of_offer, holdings_of, amount_in, held_where, is_on}
-use Rattle.drf_rows.specs.HoldingsLaws.{held_where-with_offer}
+use Rattle.drf_rows.specs.Holdings.{of_offer, of_task, holdings_of, parts_on, AreBundles}
+use Rattle.drf_rows.specs.HoldingsLaws.{parts_on-append, each_part, parts_on-with_offer, parts_on-other, each-with_offer}
 use Rattle.drf_rows.specs.Held.{client_of, clients_of, active_clients}
 use Rattle.drf_rows.specs.Cycle.{free_of, is_allocatable, grant, counted, count_offer, new_offer, with_offer, tried, all_tried, turn, turns}
 use Rattle.drf_rows.specs.declared.rows.AgentRow.{AgentRow}
@@ -97,37 +102,43 @@ module _ (rows : Rows) (offer : OfferRow) where
 
 -- ---- what is free
 
--- by its amounts: the total less what is held
-pub amount-free_of : (rows : Rows) (agent : AgentRow) (label : Text) → HasNoZeros agent.total
-    → amount_of (quantities_of (free_of rows agent)) label ≡ amount_of (quantities_of agent.total) label - held_where (is_on agent.name) (holdings_of rows) label
+pub bundle-free_of : (rows : Rows) (agent : AgentRow) → IsBundle agent.total → IsBundle (free_of rows agent)
 unfolding free_of
-amount-free_of rows agent label total = amount-rest_by agent.total (held_where (is_on agent.name) (holdings_of rows)) label total.in_order
+bundle-free_of rows agent total = bundle-rest_of_all agent.total (parts_on agent.name (holdings_of rows)) total
 
-pub bundle-free_of : (rows : Rows) (agent : AgentRow) → HasNoZeros agent.total → HasNoZeros (free_of rows agent)
+-- by its units: the total less what is held
+pub units-free_of : (rows : Rows) (agent : AgentRow) (key : Key) (p : Point) → IsBundle agent.total → AreBundles (holdings_of rows)
+    → units (free_of rows agent) key p ≡ units agent.total key p - units_of_all (parts_on agent.name (holdings_of rows)) key p
 unfolding free_of
-bundle-free_of rows agent total = no_zeros-rest_by agent.total (held_where (is_on agent.name) (holdings_of rows)) total.in_order
+units-free_of rows agent key p total each =
+    units-rest_of_all agent.total (parts_on agent.name (holdings_of rows)) key p total (each_part agent.name (holdings_of rows) each)
 
 -- on its agent an offer leaves the rest
-pub free_of-with_offer : (rows : Rows) (offer : OfferRow) (agent : AgentRow) → HasNoZeros agent.total → same_text offer.agent agent.name ≡ true
+pub free_of-with_offer : (rows : Rows) (offer : OfferRow) (agent : AgentRow)
+    → IsBundle agent.total → AreBundles (holdings_of rows) → IsBundle offer.bundle → same_text offer.agent agent.name ≡ true
     → free_of (with_offer rows offer) agent ≡ rest (free_of rows agent) offer.bundle
 unfolding free_of
-free_of-with_offer rows offer agent total here =
-    let more : (label : Text) → held_where (is_on agent.name) (holdings_of (with_offer rows offer)) label
-    ≡ held_where (is_on agent.name) (holdings_of rows) label + amount_of offer.bundle label
-    = λ label. held_where-with_offer (is_on agent.name) rows offer label
-    ∙ ap (λ (b : Bool). held_where (is_on agent.name) (holdings_of rows) label + cond b (amount_in label (of_offer offer)) 0) here in
-    ap (rest_by agent.total) (λ i label. more label i)
-    ∙ rest_by-plus agent.total (held_where (is_on agent.name) (holdings_of rows)) offer.bundle total.in_order
+free_of-with_offer rows offer agent total each one here =
+    let Parts : Type 0 = List (List Resource) in
+    let before : Parts = parts_on agent.name (map of_offer rows.offers) in
+    let after : Parts = parts_on agent.name (map of_task rows.tasks) in
+    let old : parts_on agent.name (holdings_of rows) ≡ before ++ after
+    = parts_on-append agent.name (map of_offer rows.offers) (map of_task rows.tasks) in
+    let new : parts_on agent.name (holdings_of (with_offer rows offer)) ≡ before ++ offer.bundle ∷ after
+    = parts_on-with_offer rows offer agent.name ∙ ap (λ (b : Bool). before ++ cond b (offer.bundle ∷ after) after) here in
+    ap (rest_of_all agent.total) new
+    ∙ rest_of_all-insert agent.total before after offer.bundle total
+    (subst (AllByRecursion IsBundle) old (each_part agent.name (holdings_of rows) each))
+    (subst (AllByRecursion IsBundle) new (each_part agent.name (holdings_of (with_offer rows offer)) (each-with_offer (λ h. IsBundle h.bundle) rows offer each one)))
+    one
+    ∙ ap (λ (parts : Parts). rest (rest_of_all agent.total parts) offer.bundle) (sym old)
 
 -- on other agents all that was free
 pub free_of-with_offer_other : (rows : Rows) (offer : OfferRow) (agent : AgentRow) → same_text offer.agent agent.name ≡ false
     → free_of (with_offer rows offer) agent ≡ free_of rows agent
 unfolding free_of
 free_of-with_offer_other rows offer agent past =
-    let stays : (label : Text) → held_where (is_on agent.name) (holdings_of (with_offer rows offer)) label ≡ held_where (is_on agent.name) (holdings_of rows) label
-    = λ label. held_where-with_offer (is_on agent.name) rows offer label
-    ∙ ap (λ (b : Bool). held_where (is_on agent.name) (holdings_of rows) label + cond b (amount_in label (of_offer offer)) 0) past ∙ omega arith in
-    ap (rest_by agent.total) (λ i label. stays label i)
+    ap (rest_of_all agent.total) (parts_on-other rows offer agent.name past)
 
 -- ---- turns
 
@@ -136,37 +147,41 @@ pub all_tried-append : (rows : Rows) (agent : AgentRow) (cs ds : List Client)
 all_tried-append rows agent [] ds = refl
 all_tried-append rows agent (c ∷ cs) ds = all_tried-append (tried rows agent c) agent cs ds
 
+-- of a bundle that is worth no offer no part is
+part_is_less : (role : Path) (bundle : List Resource) (name : Text)
+    → amount_of (quantities_of (part_for role bundle)) name ≤ amount_of (quantities_of bundle) name
+part_is_less role bundle name = omega (
+  arith,
+  amount-quantities_of bundle name,
+  amount-quantities_of (part_for role bundle) name,
+  where-some (is_for role) (of_name name) Thousandths bundle,
+)
+
+little_part : (role : Path) (bundle : List Resource) → is_allocatable bundle ≡ false → is_allocatable (part_for role bundle) ≡ false
+little_part role bundle little =
+    let cpus = part_is_less role bundle (codes "cpus") in
+    let mem = part_is_less role bundle (codes "mem") in
+    grind (arith, nat_tests)
+
 -- where too little is free, no client is granted anything
 pub all_tried_none : (rows : Rows) (agent : AgentRow) (cs : List Client)
     → is_allocatable (free_of rows agent) ≡ false → all_tried rows agent cs ≡ rows
 all_tried_none rows agent [] little = refl
-all_tried_none rows agent (c ∷ cs) little = rw little (all_tried_none rows agent cs little)
+all_tried_none rows agent (c ∷ cs) little = rw (little_part c.role (free_of rows agent) little) (all_tried_none rows agent cs little)
 
--- and else the first is granted all that is free
+-- where the first is granted all that is free, nothing is left for the others
 pub all_tried_first : (rows : Rows) (agent : AgentRow) (c : Client) (cs : List Client)
-    → is_allocatable (free_of rows agent) ≡ true
-    → HasNoZeros agent.total
-    → all_tried rows agent (c ∷ cs) ≡ with_offer rows (new_offer rows agent c (free_of rows agent))
-all_tried_first rows agent c cs enough total =
-    let offer : OfferRow = new_offer rows agent c (free_of rows agent) in
-    let after : Rows = with_offer rows offer in
-    let left : free_of after agent ≡ [] =
-    free_of-with_offer rows offer agent total (same_itself agent.name)
-    ∙ rest-itself (free_of rows agent) (bundle-free_of rows agent total).in_order in
-    rw enough (all_tried_none after agent cs (ap is_allocatable left))
-
--- so is a client that is granted it
-pub all_tried_granted : (rows : Rows) (agent : AgentRow) (c : Client) (cs : List Client)
     → grant rows agent c ≡ Some (free_of rows agent)
-    → HasNoZeros agent.total
+    → IsBundle agent.total → AreBundles (holdings_of rows)
     → all_tried rows agent (c ∷ cs) ≡ with_offer rows (new_offer rows agent c (free_of rows agent))
-all_tried_granted rows agent c cs granted total =
-    elim (cases_Bool (is_allocatable (free_of rows agent))) [
-      | inl enough ↦ all_tried_first rows agent c cs enough total
-      | inr little ↦
-          let none : ◌≡◌ {A = Option (List Entry)} None (Some (free_of rows agent)) = rw little at granted in
-          cc
-    ]
+all_tried_first rows agent c cs granted total each =
+    let free : List Resource = free_of rows agent in
+    let after : Rows = with_offer rows (new_offer rows agent c free) in
+    let left : free_of after agent ≡ [] =
+    free_of-with_offer rows (new_offer rows agent c free) agent total each (bundle-free_of rows agent total) (same_itself agent.name)
+    ∙ rest-itself free (bundle-free_of rows agent total) in
+    ap (λ g. all_tried (option_map_or (λ bundle. with_offer rows (new_offer rows agent c bundle)) g rows) agent cs) granted
+    ∙ all_tried_none after agent cs (ap is_allocatable left)
 
 pub turns-append : (rows : Rows) (agents others : List AgentRow)
     → turns rows (agents ++ others) ≡ turns (turns rows agents) others

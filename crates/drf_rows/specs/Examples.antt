@@ -1,6 +1,8 @@
 -- Some runs, with the replies that they are to have.
 use Rattle.std.specs.Prelude.{ℕ, List, [], ◌∷◌, ◌++◌, codes}
-use Rattle.drf_bundle.specs.declared.quantities.Entry.{Entry}
+use Rattle.drf_role.specs.Role.{default_role}
+use Rattle.drf_bundle.specs.declared.resource.Resource.{Resource}
+use Rattle.drf_bundle.specs.declared.value.Value.TheVariants.{Scalar}
 use Rattle.drf_rows.specs.LimitNumbers.{LimitNumbers, ceilings}
 use Rattle.drf_rows.specs.declared.event.Event.{Event}
 use Rattle.drf_rows.specs.declared.event.Event.TheVariants.{AddAgent, AddFramework, Cycle}
@@ -10,22 +12,25 @@ use Rattle.drf_rows.specs.declared.reply.Reply.{Reply}
 use Rattle.drf_rows.specs.declared.reply.Reply.TheVariants.{Done, Offers, Refused}
 use Rattle.drf_rows.specs.Step.{opening, replies_to}
 
--- so many thousandths
-abbrev pub cpus : ℕ → Entry
-cpus amount = record { label = codes "cpus"; amount = amount }
+-- so many thousandths, for everyone
+abbrev pub scalar : List ℕ → ℕ → Resource
+scalar label amount = record { label = label; role = default_role; value = Scalar amount }
 
-abbrev pub mem : ℕ → Entry
-mem amount = record { label = codes "mem"; amount = amount }
+abbrev pub cpus : ℕ → Resource
+cpus amount = scalar (codes "cpus") amount
 
-abbrev pub gpus : ℕ → Entry
-gpus amount = record { label = codes "gpus"; amount = amount }
+abbrev pub mem : ℕ → Resource
+mem amount = scalar (codes "mem") amount
+
+abbrev pub gpus : ℕ → Resource
+gpus amount = scalar (codes "gpus") amount
 
 -- a framework that registers in one role of one component
 abbrev pub in_role : List ℕ → List ℕ → Event
 in_role framework role = AddFramework framework ((role ∷ []) ∷ [])
 
 -- an offer to a framework in a role of one component
-abbrev pub offer : ℕ → List ℕ → List ℕ → List ℕ → List Entry → OfferLine
+abbrev pub offer : ℕ → List ℕ → List ℕ → List ℕ → List Resource → OfferLine
 offer number framework role agent resources = record {
   number = number;
   agent = agent;
@@ -84,7 +89,7 @@ two_frameworks_replies =
     ∷ []
 
 -- the replies to a framework, an agent and a cycle
-abbrev pub replies_with : List Entry → List Reply
+abbrev pub replies_with : List Resource → List Reply
 replies_with total =
     replies_to ceilings opening (in_role (codes "f1") (codes "a") ∷ AddAgent (codes "n1") total ∷ Cycle 0 ∷ [])
 
@@ -93,7 +98,7 @@ abbrev pub not_offered : List Reply
 not_offered = Done ∷ Done ∷ Offers [] ∷ []
 
 -- the agent is offered whole
-abbrev pub offered_whole : List Entry → List Reply
+abbrev pub offered_whole : List Resource → List Reply
 offered_whole total =
     Done ∷ Done ∷ Offers (offer 1 (codes "f1") (codes "a") (codes "n1") total ∷ []) ∷ []
 

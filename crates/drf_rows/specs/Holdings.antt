@@ -3,8 +3,9 @@ use Rattle.std.specs.Prelude.{ℕ, Bool, List, ◌++◌, map, filter, sum_by}
 use Rattle.drf_role.specs.Text.{Text, same_text}
 use Rattle.drf_role.specs.Path.{Path, same_path, begins_with}
 use Rattle.drf_bundle.specs.Quantities.{amount_of}
-use Rattle.drf_bundle.specs.ScalarBundle.{quantities_of}
-use Rattle.drf_bundle.specs.declared.quantities.Entry.{Entry}
+use Rattle.std.specs.List.{AllByRecursion}
+use Rattle.drf_bundle.specs.Bundle.{IsBundle, quantities_of}
+use Rattle.drf_bundle.specs.declared.resource.Resource.{Resource}
 use Rattle.drf_rows.specs.Client.{Client, path_of}
 use Rattle.drf_rows.specs.declared.rows.OfferRow.{OfferRow}
 use Rattle.drf_rows.specs.declared.rows.TaskRow.{TaskRow}
@@ -14,7 +15,7 @@ use Rattle.drf_rows.specs.declared.rows.Rows.{Rows}
 pub record Holding : Type 0 where
   pub agent : Text
   pub client : Client
-  pub bundle : List Entry
+  pub bundle : List Resource
 
 abbrev pub of_offer : OfferRow → Holding
 of_offer o = record { agent = o.agent; client = record { role = o.role; framework = o.framework }; bundle = o.bundle }
@@ -38,8 +39,16 @@ held_where test holdings label = sum_by (amount_in label) (filter test holdings)
 abbrev pub is_on : Text → Holding → Bool
 is_on agent h = same_text h.agent agent
 
+-- the bundles that are held on an agent
+abbrev pub parts_on : Text → List Holding → List (List Resource)
+parts_on agent holdings = map (λ h. h.bundle) (filter (is_on agent) holdings)
+
 abbrev pub is_under : Path → Holding → Bool
 is_under node h = begins_with (path_of h.client) node
 
 abbrev pub is_of : Path → Holding → Bool
 is_of path h = same_path (path_of h.client) path
+
+-- each of them has a bundle
+abbrev pub AreBundles : List Holding → Type 0
+AreBundles holdings = AllByRecursion (λ h. IsBundle h.bundle) holdings

@@ -6,8 +6,10 @@ use Rattle.std.proofs.lemmas.Bool.{cases_Bool}
 use Rattle.std.proofs.lemmas.List.{map-append}
 use Rattle.std.proofs.lemmas.List.Elements.{filter-append}
 use Rattle.std.proofs.lemmas.List.Sums.{sum_by-cons, sum_by-append}
-use Rattle.drf_role.specs.Text.{Text}
-use Rattle.drf_rows.specs.Holdings.{Holding, of_offer, of_task, holdings_of, amount_in, held_where}
+use Rattle.drf_role.specs.Text.{Text, same_text}
+use Rattle.drf_bundle.specs.Bundle.{IsBundle}
+use Rattle.drf_bundle.specs.declared.resource.Resource.{Resource}
+use Rattle.drf_rows.specs.Holdings.{Holding, of_offer, of_task, holdings_of, amount_in, held_where, is_on, parts_on, AreBundles}
 use Rattle.drf_rows.specs.Cycle.{with_offer}
 use Rattle.drf_rows.specs.Endings.{Ending, ends_offer, ends_task, without_ended}
 use Rattle.drf_rows.specs.declared.rows.OfferRow.{OfferRow}
@@ -23,6 +25,24 @@ pub held_where-cons : (test : Holding → Bool) (h : Holding) (hs : List Holding
 held_where-cons test h hs label = elim (cases_Bool (test h)) [
   | inl here ↦ rw here (sum_by-cons (amount_in label) h (filter test hs))
   | inr past ↦ rw past (omega arith)
+]
+
+-- the bundles that are held on an agent
+
+pub parts_on-append : (agent : Text) (hs gs : List Holding) → parts_on agent (hs ++ gs) ≡ parts_on agent hs ++ parts_on agent gs
+parts_on-append agent hs gs =
+    ap (map (λ (h : Holding). h.bundle)) (filter-append (is_on agent) hs gs)
+    ∙ map-append (λ (h : Holding). h.bundle) (filter (is_on agent) hs) (filter (is_on agent) gs)
+
+parts_on-cons : (agent : Text) (h : Holding) (hs : List Holding)
+    → parts_on agent (h ∷ hs) ≡ cond (is_on agent h) (h.bundle ∷ parts_on agent hs) (parts_on agent hs)
+parts_on-cons agent h hs = elim (cases_Bool (is_on agent h)) [ inl here ↦ rw here refl | inr past ↦ rw past refl ]
+
+pub each_part : (agent : Text) (hs : List Holding) → AreBundles hs → AllByRecursion IsBundle (parts_on agent hs)
+each_part agent [] all = tt
+each_part agent (h ∷ hs) all = elim (cases_Bool (is_on agent h)) [
+  | inl here ↦ rw here (all.0, each_part agent hs all.1)
+  | inr past ↦ rw past (each_part agent hs all.1)
 ]
 
 -- ---- a holding is added
@@ -49,6 +69,25 @@ held_where-with_offer test rows offer label =
     ap (λ (hs : List Holding). held_where test hs label) (holdings_of-with_offer rows offer)
     ∙ held_where-append test before (of_offer offer ∷ after) label
     ∙ omega (arith, held_where-cons test (of_offer offer) after label, held_where-append test before after label)
+
+-- on its agent it stands among what is held there
+pub parts_on-with_offer : (rows : Rows) (offer : OfferRow) (agent : Text)
+    → parts_on agent (holdings_of (with_offer rows offer))
+    ≡ parts_on agent (map of_offer rows.offers)
+    ++ cond (same_text offer.agent agent) (offer.bundle ∷ parts_on agent (map of_task rows.tasks)) (parts_on agent (map of_task rows.tasks))
+parts_on-with_offer rows offer agent =
+    ap (parts_on agent) (holdings_of-with_offer rows offer)
+    ∙ parts_on-append agent (map of_offer rows.offers) (of_offer offer ∷ map of_task rows.tasks)
+    ∙ ap (λ (parts : List (List Resource)). parts_on agent (map of_offer rows.offers) ++ parts) (parts_on-cons agent (of_offer offer) (map of_task rows.tasks))
+
+-- elsewhere it changes nothing
+pub parts_on-other : (rows : Rows) (offer : OfferRow) (agent : Text) → same_text offer.agent agent ≡ false
+    → parts_on agent (holdings_of (with_offer rows offer)) ≡ parts_on agent (holdings_of rows)
+parts_on-other rows offer agent past =
+    let before : List (List Resource) = parts_on agent (map of_offer rows.offers) in
+    let after : List (List Resource) = parts_on agent (map of_task rows.tasks) in
+    parts_on-with_offer rows offer agent ∙ ap (λ (b : Bool). before ++ cond b (offer.bundle ∷ after) after) past
+    ∙ sym (parts_on-append agent (map of_offer rows.offers) (map of_task rows.tasks))
 
 -- what holds of each holding, and of the new one
 each-insert : (P : Holding → Type 0) (hs gs : List Holding) (h : Holding)

@@ -3,9 +3,10 @@ use Rattle.std.specs.Prelude.{◌≡◌, ℕ, ◌+◌, Bool, true, false, ◌&&�
 use Rattle.std.specs.List.{list_all}
 use Rattle.std.specs.List.Sorted.{IsPermutation}
 use Rattle.drf_role.specs.Path.{Path}
-use Rattle.drf_bundle.specs.Quantities.{HasNoZeros}
+use Rattle.drf_bundle.specs.Bundle.{IsBundle}
 use Rattle.drf_rows.specs.LimitNumbers.{LimitNumbers}
 use Rattle.drf_rows.specs.Client.{Client, path_of}
+use Rattle.drf_rows.specs.Holdings.{holdings_of, AreBundles}
 use Rattle.drf_rows.specs.Share.{Standing, stands_before, is_serving_order}
 use Rattle.drf_rows.specs.Cycle.{free_of, is_allocatable, grant, new_offer, with_offer, all_tried, serving_order}
 use Rattle.drf_rows.specs.Refusal.{number_of}
@@ -45,7 +46,8 @@ abbrev pub FirstIsGrantedAll : Type 0
 FirstIsGrantedAll =
     (rows : Rows) (agent : AgentRow) (first : Client) (others : List Client)
     → grant rows agent first ≡ Some (free_of rows agent)
-    → HasNoZeros agent.total
+    → IsBundle agent.total
+    → AreBundles (holdings_of rows)
     → all_tried rows agent (first ∷ others) ≡ with_offer rows (new_offer rows agent first (free_of rows agent))
 
 -- each number is below all later ones

@@ -4,7 +4,7 @@ use Rattle.std.specs.Option.{option_map_or}
 use Rattle.std.proofs.Common.{refl, sym, ap, ◌∙◌, inl, inr, cond, arith}
 use Rattle.std.proofs.lemmas.Bool.{cases_Bool}
 use Rattle.std.proofs.lemmas.Bool.Decides.{nat_tests}
-use Rattle.drf_bundle.specs.declared.quantities.Entry.{Entry}
+use Rattle.drf_bundle.specs.declared.resource.Resource.{Resource}
 use Rattle.drf_rows.specs.LimitNumbers.{LimitNumbers}
 use Rattle.drf_rows.specs.Client.{Client}
 use Rattle.drf_rows.specs.Held.{standing_of}
@@ -24,7 +24,7 @@ with_filters rows filters = record rows { filters = filters }
 
 -- ---- no grant reads a filter yet
 
-offered-filters : (rows : Rows) (fs : List FilterRow) (agent : AgentRow) (client : Client) (granted : Option (List Entry))
+offered-filters : (rows : Rows) (fs : List FilterRow) (agent : AgentRow) (client : Client) (granted : Option (List Resource))
     → option_map_or (λ bundle. with_offer (with_filters rows fs) (new_offer rows agent client bundle)) granted (with_filters rows fs)
     ≡ with_filters (option_map_or (λ bundle. with_offer rows (new_offer rows agent client bundle)) granted rows) fs
 unfolding with_offer
@@ -55,7 +55,7 @@ turns-filters rows fs (agent ∷ agents) =
     ap (λ (r : Rows). turns r agents) (turn-filters rows fs agent) ∙ turns-filters (turn rows agent) fs agents
 
 -- a cycle moves the clock, and keeps the filters
-kept-tried : (rows : Rows) (agent : AgentRow) (client : Client) (granted : Option (List Entry))
+kept-tried : (rows : Rows) (agent : AgentRow) (client : Client) (granted : Option (List Resource))
     → let after : Rows = option_map_or (λ bundle. with_offer rows (new_offer rows agent client bundle)) granted rows in
     (after.filters ≡ rows.filters) × (after.clock ≡ rows.clock)
 unfolding with_offer

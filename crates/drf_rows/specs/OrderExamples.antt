@@ -1,6 +1,6 @@
 -- Some rows, and the frameworks in the order in which they are served.
 use Rattle.std.specs.Prelude.{ℕ, true, false, List, [], ◌∷◌, map, codes}
-use Rattle.drf_bundle.specs.declared.quantities.Entry.{Entry}
+use Rattle.drf_bundle.specs.declared.resource.Resource.{Resource}
 use Rattle.drf_rows.specs.Cycle.{turn_order, cycle}
 use Rattle.drf_rows.specs.Examples.{cpus, mem}
 use Rattle.drf_rows.specs.declared.rows.AgentRow.{AgentRow}
@@ -9,7 +9,7 @@ use Rattle.drf_rows.specs.declared.rows.OfferRow.{OfferRow}
 use Rattle.drf_rows.specs.declared.rows.WeightRow.{WeightRow}
 use Rattle.drf_rows.specs.declared.rows.Rows.{Rows}
 
-abbrev pub agent_with : List Entry → AgentRow
+abbrev pub agent_with : List Resource → AgentRow
 agent_with total = record { name = codes "n1"; total = total; active = true }
 
 -- a framework in one role, to which so many offers were made
@@ -18,7 +18,7 @@ framework_in name role count =
     record { name = name; clients = record { role = role; count = count; suppressed = false } ∷ [] }
 
 -- what it holds
-abbrev pub holding : List ℕ → List (List ℕ) → List Entry → OfferRow
+abbrev pub holding : List ℕ → List (List ℕ) → List Resource → OfferRow
 holding name role bundle =
     record { number = 1; agent = codes "n1"; framework = name; role = role; bundle = bundle }
 

@@ -9,13 +9,13 @@ use Rattle.std.proofs.lemmas.List.Folds.{list_any-append}
 use Rattle.std.proofs.lemmas.List.Sums.{sum_by-cons, sum_by-append}
 use Rattle.drf_role.specs.Text.{Text, same_text}
 use Rattle.drf_role.specs.TextLaws.{same_from_test}
-use Rattle.drf_bundle.specs.Quantities.{HasNoZeros, plus}
-use Rattle.drf_bundle.specs.QuantitiesLaws.{rest_by-nothing}
-use Rattle.drf_bundle.specs.ScalarBundle.{quantities_of}
-use Rattle.drf_bundle.specs.declared.quantities.Entry.{Entry}
+use Rattle.drf_bundle.specs.Quantities.{plus}
+use Rattle.drf_bundle.specs.Bundle.{quantities_of}
+use Rattle.drf_bundle.specs.Taken.{rest_of_all, units_of_all}
+use Rattle.drf_bundle.specs.declared.resource.Resource.{Resource}
 use Rattle.drf_role.specs.Path.{same_path}
 use Rattle.drf_rows.specs.Client.{Client}
-use Rattle.drf_rows.specs.Holdings.{Holding, holdings_of, amount_in, held_where, is_on}
+use Rattle.drf_rows.specs.Holdings.{Holding, holdings_of, is_on, parts_on}
 use Rattle.drf_rows.specs.Held.{client_of, clients_of, cluster_total}
 use Rattle.drf_rows.specs.Cycle.{free_of}
 use Rattle.drf_rows.specs.Step.{opening, has_agent, has_framework, with_agent}
@@ -27,11 +27,11 @@ use Rattle.drf_rows.specs.declared.rows.FrameworkRow.{FrameworkRow}
 use Rattle.drf_rows.specs.declared.rows.Rows.{Rows}
 
 -- an agent that has just registered
-abbrev pub new_agent : Text → List Entry → AgentRow
+abbrev pub new_agent : Text → List Resource → AgentRow
 new_agent name total = record { name = name; total = total; active = true }
 
 -- the rows with an agent that registers last
-abbrev pub agent_added : Rows → Text → List Entry → Rows
+abbrev pub agent_added : Rows → Text → List Resource → Rows
 agent_added rows name total = record rows { agents = with_agent rows name total }
 
 -- the rows with a framework that registers last
@@ -64,7 +64,7 @@ are_distinct-push name (y ∷ ys) x apart new =
 -- ---- one more agent
 
 -- what is free on an agent does not change
-pub free_of-agent_added : (rows : Rows) (name : Text) (total : List Entry) (agent : AgentRow)
+pub free_of-agent_added : (rows : Rows) (name : Text) (total : List Resource) (agent : AgentRow)
     → free_of (agent_added rows name total) agent ≡ free_of rows agent
 unfolding free_of
 free_of-agent_added rows name total agent = refl
@@ -78,26 +78,24 @@ nothing_on rows name (h ∷ hs) all new = elim (cases_Bool (same_text h.agent na
   | inr other ↦ rw other (nothing_on rows name hs all.1 new)
 ]
 
-pub held_where-nothing_on : (rows : Rows) (name label : Text)
-    → IsConsistent rows → has_agent rows name ≡ false → held_where (is_on name) (holdings_of rows) label ≡ 0
-held_where-nothing_on rows name label consistent new =
-    ap (sum_by (amount_in label)) (nothing_on rows name (holdings_of rows) consistent.holdings new)
+pub parts_on-nothing : (rows : Rows) (name : Text)
+    → IsConsistent rows → has_agent rows name ≡ false → parts_on name (holdings_of rows) ≡ []
+parts_on-nothing rows name consistent new =
+    ap (map (λ (h : Holding). h.bundle)) (nothing_on rows name (holdings_of rows) consistent.holdings new)
 
 -- all of a new agent is free
-pub free_of-new : (rows : Rows) (name : Text) (total : List Entry)
-    → IsConsistent rows → has_agent rows name ≡ false → HasNoZeros total → free_of rows (new_agent name total) ≡ total
+pub free_of-new : (rows : Rows) (name : Text) (total : List Resource)
+    → IsConsistent rows → has_agent rows name ≡ false → free_of rows (new_agent name total) ≡ total
 unfolding free_of
-free_of-new rows name total consistent new bundle =
-    rest_by-nothing total (held_where (is_on name) (holdings_of rows)) bundle
-    (λ label. held_where-nothing_on rows name label consistent new)
+free_of-new rows name total consistent new = ap (rest_of_all total) (parts_on-nothing rows name consistent new)
 
 -- its total is added
-pub cluster_total-with_agent : (rows : Rows) (name : Text) (total : List Entry)
+pub cluster_total-with_agent : (rows : Rows) (name : Text) (total : List Resource)
     → cluster_total (with_agent rows name total) ≡ plus (cluster_total rows.agents) (quantities_of total)
 cluster_total-with_agent rows name total =
     fold-append (λ sum agent. plus sum (quantities_of agent.total)) [] rows.agents (new_agent name total ∷ [])
 
-pub IsConsistent-agent_added : (rows : Rows) (name : Text) (total : List Entry)
+pub IsConsistent-agent_added : (rows : Rows) (name : Text) (total : List Resource)
     → IsConsistent rows → has_agent rows name ≡ false → IsAgent (new_agent name total)
     → IsConsistent (agent_added rows name total)
 IsConsistent-agent_added rows name total consistent new right =
@@ -111,7 +109,7 @@ IsConsistent-agent_added rows name total consistent new right =
       bundle = here.bundle;
     } in
     let covers : IsCovered (holdings_of rows) agent =
-    λ label. omega (arith, held_where-nothing_on rows name label consistent new) in
+    λ key p. omega (arith, ap (λ parts. units_of_all parts key p) (parts_on-nothing rows name consistent new)) in
     record {
       agents = record {
         names = are_distinct-push (λ (a : AgentRow). a.name) rows.agents agent consistent.agents.names new;

@@ -3,8 +3,8 @@ use Rattle.std.specs.Prelude.{◌+◌, Bool, true, false, not, ◌||◌, List, [
 use Rattle.std.specs.List.{list_any}
 use Rattle.std.specs.Option.{option_map, option_map_or}
 use Rattle.drf_role.specs.Text.{Text, same_text}
-use Rattle.drf_bundle.specs.ScalarBundle.{quantities_of}
-use Rattle.drf_bundle.specs.declared.quantities.Entry.{Entry}
+use Rattle.drf_bundle.specs.Bundle.{quantities_of}
+use Rattle.drf_bundle.specs.declared.resource.Resource.{Resource}
 use Rattle.drf_rows.specs.LimitNumbers.{LimitNumbers}
 use Rattle.drf_role.specs.Path.{Path, same_path}
 use Rattle.drf_rows.specs.Held.{cluster_total, clients_of}
@@ -54,7 +54,7 @@ distinct [] = []
 distinct (role ∷ roles) = role ∷ filter (λ r. not (same_path role r)) (distinct roles)
 
 -- the agents' rows, with one that registers last
-abbrev pub with_agent : Rows → Text → List Entry → List AgentRow
+abbrev pub with_agent : Rows → Text → List Resource → List AgentRow
 with_agent rows name total = rows.agents ++ record { name = name; total = total; active = true } ∷ []
 
 -- a client of a framework that registers

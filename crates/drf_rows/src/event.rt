@@ -1,7 +1,8 @@
 ghost use Rattle.std.specs.Prelude.{◌≡◌, IfOk};
 
 use crate::table::Table;
-use drf_bundle::ScalarBundle;
+use drf_amount::Algebra;
+use drf_bundle::Bundle;
 use drf_role::{Name, Role};
 use std::alloc::AllocError;
 
@@ -9,7 +10,7 @@ use std::alloc::AllocError;
 #[derive(Debug, Drop)]
 pub enum Event {
     /// An agent registers with all its resources.
-    AddAgent { agent: Name, total: ScalarBundle },
+    AddAgent { agent: Name, total: Bundle },
     /// A framework registers in its roles.
     AddFramework { framework: Name, roles: Table<Role> },
     /// The allocator offers what is free, at a moment in milliseconds.

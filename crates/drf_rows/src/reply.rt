@@ -1,7 +1,7 @@
 ghost use Rattle.std.specs.Prelude.{◌≡◌};
 
 use crate::table::Table;
-use drf_bundle::ScalarBundle;
+use drf_bundle::Bundle;
 use drf_role::{Name, Role};
 
 /// Why an event was turned away. The rows are then as they were.
@@ -64,7 +64,7 @@ pub struct OfferLine {
     pub agent: Name,
     pub framework: Name,
     pub role: Role,
-    pub resources: ScalarBundle,
+    pub resources: Bundle,
 }
 
 /// The answer to an event.

@@ -1,12 +1,12 @@
 use crate::table::Table;
-use drf_bundle::{Quantities, ScalarBundle};
+use drf_bundle::{Bundle, Quantities};
 use drf_role::{Name, Role};
 
 /// A registered agent with all its resources.
 #[derive(Debug, Drop)]
 pub struct AgentRow {
     pub name: Name,
-    pub total: ScalarBundle,
+    pub total: Bundle,
     pub active: bool,
 }
 
@@ -32,7 +32,7 @@ pub struct OfferRow {
     pub agent: Name,
     pub framework: Name,
     pub role: Role,
-    pub bundle: ScalarBundle,
+    pub bundle: Bundle,
 }
 
 /// A task that runs. Its name is its framework's: another framework may have a task of that name.
@@ -42,7 +42,7 @@ pub struct TaskRow {
     pub agent: Name,
     pub framework: Name,
     pub role: Role,
-    pub bundle: ScalarBundle,
+    pub bundle: Bundle,
 }
 
 /// The weight of a role, in thousandths.
@@ -65,7 +65,7 @@ pub struct FilterRow {
     pub framework: Name,
     pub role: Role,
     pub agent: Name,
-    pub bundle: ScalarBundle,
+    pub bundle: Bundle,
     pub until: u64,
 }
 

@@ -4,7 +4,8 @@ use Rattle.std.specs.List.{AllByRecursion}
 use Rattle.std.proofs.Common.{refl, sym, ap, ◌∙◌, arith}
 use Rattle.std.proofs.lemmas.List.Sums.{sum_by-cons, sum_by-append}
 use Rattle.drf_bundle.specs.Value.{Point}
-use Rattle.drf_bundle.specs.Bundle.{Key, units, IsBundle, join, rest}
+use Rattle.drf_role.specs.Text.{Text}
+use Rattle.drf_bundle.specs.Bundle.{Key, units, stock, IsBundle, join, rest}
 use Rattle.drf_bundle.specs.BundleLaws.{known_by_units, bundle-empty}
 use Rattle.drf_bundle.specs.FitLaws.{IsJoinOf, join_some}
 use Rattle.drf_bundle.specs.RestLaws.{units-rest, bundle-rest}
@@ -84,19 +85,23 @@ joined-rest_of_all whole (part ∷ parts) is each covered =
     ap (option_and_then (λ both. joined both parts)) back
     ∙ joined-rest_of_all whole parts is each.1 (λ key p. omega (arith, covered key p, more key p))
 
--- what joins to a whole has the units of all
-units-joined : (bundle whole : List Resource) (parts : List (List Resource)) (key : Key) (p : Point)
+-- what adds up in a join
+abbrev pub AddsUp : (List Resource → ℕ) → Type 0
+AddsUp of = (a b whole : List Resource) → IsBundle a → IsBundle b → join a b ≡ Some whole → of whole ≡ of a + of b
+
+-- adds up in the join of all parts
+pub sum-joined : (of : List Resource → ℕ) → AddsUp of → (bundle whole : List Resource) (parts : List (List Resource))
     → IsBundle bundle → AllByRecursion IsBundle parts → joined bundle parts ≡ Some whole
-    → units whole key p ≡ units bundle key p + units_of_all parts key p
-units-joined bundle whole [] key p is each same =
+    → of whole ≡ of bundle + sum_by of parts
+sum-joined of adds bundle whole [] is each same =
     let one : bundle ≡ whole = cc in
-    omega (arith, ap (λ (rs : List Resource). units rs key p) one)
-units-joined bundle whole (part ∷ parts) key p is each same =
-    by (join bundle part) refl (λ both some known. units-joined both whole parts key p known each.1 some)
+    omega (arith, ap of one)
+sum-joined of adds bundle whole (part ∷ parts) is each same =
+    by (join bundle part) refl (λ both some known. sum-joined of adds both whole parts known each.1 some)
   where
     by : (found : Option (List Resource)) → join bundle part ≡ found
-        → ((both : List Resource) → joined both parts ≡ Some whole → IsBundle both → units whole key p ≡ units both key p + units_of_all parts key p)
-        → units whole key p ≡ units bundle key p + units_of_all (part ∷ parts) key p
+        → ((both : List Resource) → joined both parts ≡ Some whole → IsBundle both → of whole ≡ of both + sum_by of parts)
+        → of whole ≡ of bundle + sum_by of (part ∷ parts)
     by None none later =
         let absent : ◌≡◌ {A = Option (List Resource)} None (Some whole) = ap (option_and_then (λ both. joined both parts)) (sym none) ∙ same in
         cc
@@ -105,9 +110,15 @@ units-joined bundle whole (part ∷ parts) key p is each same =
         omega (
           arith,
           later both (ap (option_and_then (λ both. joined both parts)) (sym some) ∙ same) here.bundle,
-          here.units_add key p,
-          sum_by-cons (λ (part : List Resource). units part key p) part parts,
+          adds bundle part both is each.0 some,
+          sum_by-cons of part parts,
         )
+
+pub units-adds_up : (key : Key) (p : Point) → AddsUp (λ bundle. units bundle key p)
+units-adds_up key p a b whole first second same = (join_some a b whole first second same).units_add key p
+
+pub stock-adds_up : (name : Text) (p : Point) → AddsUp (λ bundle. stock bundle name p)
+stock-adds_up name p a b whole first second same = (join_some a b whole first second same).stocks_add name p
 
 -- and nothing but what is left does so
 pub only_rest_of_all : (bundle whole : List Resource) (parts : List (List Resource))
@@ -115,7 +126,7 @@ pub only_rest_of_all : (bundle whole : List Resource) (parts : List (List Resour
     → bundle ≡ rest_of_all whole parts
 only_rest_of_all bundle whole parts first is each same =
     known_by_units bundle (rest_of_all whole parts) first (bundle-rest_of_all whole parts is)
-    (λ key p. omega (arith, units-rest_of_all whole parts key p is each, units-joined bundle whole parts key p first each same))
+    (λ key p. omega (arith, units-rest_of_all whole parts key p is each, sum-joined (λ rs. units rs key p) (units-adds_up key p) bundle whole parts first each same))
 
 -- nothing is left of a bundle that is taken whole
 pub rest-itself : (bundle : List Resource) → IsBundle bundle → rest bundle bundle ≡ []

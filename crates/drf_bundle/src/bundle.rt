@@ -280,8 +280,8 @@ impl Bundle {
         sum.is_none()
     }
 
-    /// What is left of it without the part.
-    fn rest(&self, part: &Bundle) -> Result<Bundle, AllocError>
+    /// What is left of it without the part, of which it need not have all.
+    pub fn rest(&self, part: &Bundle) -> Result<Bundle, AllocError>
         ensures { IfOk result (λ left. left ≡ rest self.now part.now) }
     {
         let mut left = Vec::new(self.alloc());

@@ -1,5 +1,5 @@
 -- The rules that hold of the rows at all times hold after one more offer.
-use Rattle.std.specs.Prelude.{◌≡◌, ℕ, ◌+◌, ◌<◌, ◌≤◌, Bool, true, false, ◌&&◌, ◌||◌, List, [], ◌∷◌, ◌++◌, map, sum_by, slice_get, nat_lt, if◌then◌else◌}
+use Rattle.std.specs.Prelude.{◌≡◌, ℕ, ◌+◌, ◌<◌, ◌≤◌, Bool, true, false, ◌&&◌, ◌||◌, List, [], ◌∷◌, ◌++◌, filter, map, sum_by, slice_get, nat_lt, if◌then◌else◌}
 use Rattle.std.specs.List.{list_all, list_any, count_by, AllByRecursion}
 use Rattle.std.specs.Cmp.Lexicographic.{bytes_decides}
 use Rattle.std.proofs.Common.{refl, sym, ap, subst, ◌∙◌, inl, inr, cond, zero, suc, arith, Some}
@@ -11,15 +11,17 @@ use Rattle.drf_role.specs.Text.{Text, same_text}
 use Rattle.drf_role.specs.TextLaws.{same_itself, same_from_test}
 use Rattle.drf_role.specs.Path.{Path, same_path}
 use Rattle.drf_role.specs.PathLaws.{same_path-true, same_path-swap}
-use Rattle.drf_bundle.specs.Value.{Point}
-use Rattle.drf_bundle.specs.Bundle.{Key, IsBundle, units}
-use Rattle.drf_bundle.specs.Taken.{joined, units_of_all, joined-rest_of_all}
+use Rattle.drf_bundle.specs.Value.{Point, Thousandths}
+use Rattle.drf_bundle.specs.Bundle.{Key, IsBundle, units, stock, quantities_of}
+use Rattle.drf_bundle.specs.Quantities.{amount_of}
+use Rattle.drf_bundle.specs.SumLaws.{amount-quantities_of}
+use Rattle.drf_bundle.specs.Taken.{joined, units_of_all, joined-rest_of_all, sum-joined, stock-adds_up}
 use Rattle.drf_bundle.specs.declared.resource.Resource.{Resource}
 use Rattle.drf_rows.specs.Client.{Client}
-use Rattle.drf_rows.specs.Holdings.{Holding, of_offer, of_task, holdings_of, parts_on, AreBundles}
+use Rattle.drf_rows.specs.Holdings.{Holding, of_offer, of_task, holdings_of, held_where, is_on, parts_on, AreBundles}
 use Rattle.drf_rows.specs.HoldingsLaws.{parts_on-append, each_part, parts_on-with_offer, parts_on-other, each-with_offer}
 use Rattle.drf_rows.specs.Cycle.{free_of, new_offer, with_offer, counted, count_offer}
-use Rattle.drf_rows.specs.CycleLaws.{units-free_of}
+use Rattle.drf_rows.specs.CycleLaws.{bundle-free_of, units-free_of}
 use Rattle.drf_rows.specs.Consistent.{are_distinct, are_distinct_roles, IsAgent, AreFrameworks, is_registered, IsHeld, IsCovered, offers_counted, are_rising, IsConsistent, IsConserved}
 use Rattle.drf_rows.specs.ListLaws.{cond_le, sum_by-map, sum_by-plus, sum_by_each_le, sum_by_none, count_by-any, list_any_at, list_any-both, none_has, none_has_at, only_none, count_once, each_at, each_from, each_from_both, each_map}
 use Rattle.drf_rows.specs.declared.rows.AgentRow.{AgentRow}
@@ -266,6 +268,20 @@ conserved_one : (rows : Rows) → AreBundles (holdings_of rows) → (agent : Age
 unfolding free_of
 conserved_one rows each agent right covered =
     joined-rest_of_all agent.total (parts_on agent.name (holdings_of rows)) right.total (each_part agent.name (holdings_of rows) each) covered
+
+-- of a scalar no more is held on an agent than there is
+pub held_on-le : (rows : Rows) (agent : AgentRow) (label : Text)
+    → AreBundles (holdings_of rows) → IsAgent agent → IsCovered (holdings_of rows) agent
+    → held_where (is_on agent.name) (holdings_of rows) label ≤ amount_of (quantities_of agent.total) label
+held_on-le rows agent label each right covered =
+    let parts : List (List Resource) = parts_on agent.name (holdings_of rows) in
+    let of : List Resource → ℕ = λ bundle. stock bundle label Thousandths in
+    let whole = sum-joined of (stock-adds_up label Thousandths) (free_of rows agent) agent.total parts
+    (bundle-free_of rows agent right.total) (each_part agent.name (holdings_of rows) each) (conserved_one rows each agent right covered) in
+    let held : held_where (is_on agent.name) (holdings_of rows) label ≡ sum_by of parts
+    = (λ i. sum_by (λ h. amount-quantities_of h.bundle label i) (filter (is_on agent.name) (holdings_of rows)))
+    ∙ sym (sum_by-map of (λ (h : Holding). h.bundle) (filter (is_on agent.name) (holdings_of rows))) in
+    omega (arith, whole, held, amount-quantities_of agent.total label)
 
 pub conserved-consistent : (rows : Rows) → IsConsistent rows → AllByRecursion (IsConserved rows) rows.agents
 conserved-consistent rows consistent =

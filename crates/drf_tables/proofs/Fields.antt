@@ -11,7 +11,8 @@ use Rattle.indexmap.specs.IndexMap.{insert_entry}
 use Rattle.drf_role.specs.Text.{Text, same_text}
 use Rattle.drf_bundle.specs.Quantities.{amount_of, plus}
 use Rattle.drf_bundle.specs.QuantitiesLaws.{amount-plus}
-use Rattle.drf_bundle.specs.ScalarBundle.{quantities_of}
+use Rattle.drf_bundle.specs.UnitProofs.{quantities_no_zeros}
+use Rattle.drf_bundle.specs.Bundle.{quantities_of}
 use Rattle.drf_bundle.specs.declared.quantities.Entry.{Entry}
 use Rattle.drf_rows.specs.Held.{cluster_total}
 use Rattle.drf_rows.specs.Cycle.{free_of}
@@ -128,7 +129,7 @@ unfolding added
 small_sum start [] label all = omega arith
 small_sum start (a ∷ agents) label all =
     let more = small_sum (plus start (quantities_of a.total)) agents label all.1 in
-    let one = amount-plus start (quantities_of a.total) label all.0.total.in_order in
+    let one = amount-plus start (quantities_of a.total) label (quantities_no_zeros a.total all.0.total).in_order in
     let small = all.0.small label in
     omega (arith, more, one, small)
 

@@ -5,8 +5,9 @@ use Rattle.std.proofs.Common.{refl, sym, ap, ◌∙◌}
 use Rattle.std.proofs.lemmas.List.{map-append}
 use Rattle.drf_role.specs.Text.{Text}
 use Rattle.drf_bundle.specs.Quantities.{plus}
-use Rattle.drf_bundle.specs.ScalarBundle.{quantities_of}
+use Rattle.drf_bundle.specs.Bundle.{quantities_of}
 use Rattle.drf_bundle.specs.declared.quantities.Entry.{Entry}
+use Rattle.drf_bundle.specs.declared.resource.Resource.{Resource}
 use Rattle.drf_rows.specs.Held.{clients_of, cluster_total}
 use Rattle.drf_rows.specs.Cycle.{free_of}
 use Rattle.drf_rows.specs.Step.{has_agent, has_framework, with_agent}
@@ -27,7 +28,7 @@ frees-clocked : (rows : Rows) (clock accepted : ℕ)
 unfolding free_of
 frees-clocked rows clock accepted = refl
 
-pub IsKept-clocked : (rows : Rows) (frees : List (List Entry)) (sum : List Entry) (number clock accepted : ℕ)
+pub IsKept-clocked : (rows : Rows) (frees : List (List Resource)) (sum : List Entry) (number clock accepted : ℕ)
     → IsKept rows frees sum number → IsKept (record rows { clock = clock; accepted = accepted }) frees sum number
 IsKept-clocked rows frees sum number clock accepted kept = record {
   consistent = record {
@@ -45,16 +46,16 @@ IsKept-clocked rows frees sum number clock accepted kept = record {
 
 -- ---- one more agent
 
-frees-agent_added : (rows : Rows) (name : Text) (total : List Entry)
+frees-agent_added : (rows : Rows) (name : Text) (total : List Resource)
     → IsConsistent rows → has_agent rows name ≡ false → IsAgent (new_agent name total)
     → frees_of rows ++ total ∷ [] ≡ frees_of (agent_added rows name total)
 frees-agent_added rows name total consistent new right =
-    ap (λ (free : List Entry). frees_of rows ++ free ∷ []) (sym (free_of-new rows name total consistent new right.total))
+    ap (λ (free : List Resource). frees_of rows ++ free ∷ []) (sym (free_of-new rows name total consistent new))
     ∙ sym (map-append (free_of rows) rows.agents (new_agent name total ∷ []))
     ∙ sym (λ i. map (λ a. free_of-agent_added rows name total a i) (with_agent rows name total))
 
 pub IsKept-agent_added :
-    (rows : Rows) (frees : List (List Entry)) (sum : List Entry) (number : ℕ) (name : Text) (total : List Entry)
+    (rows : Rows) (frees : List (List Resource)) (sum : List Entry) (number : ℕ) (name : Text) (total : List Resource)
     → IsKept rows frees sum number → has_agent rows name ≡ false → IsAgent (new_agent name total)
     → IsKept (agent_added rows name total) (frees ++ total ∷ []) (plus sum (quantities_of total)) number
 IsKept-agent_added rows frees sum number name total kept new right = record {
@@ -66,7 +67,7 @@ IsKept-agent_added rows frees sum number name total kept new right = record {
 
 -- ---- one more framework
 
-pub IsKept-framework_added : (rows : Rows) (frees : List (List Entry)) (sum : List Entry) (number : ℕ) (f : FrameworkRow)
+pub IsKept-framework_added : (rows : Rows) (frees : List (List Resource)) (sum : List Entry) (number : ℕ) (f : FrameworkRow)
     → IsKept rows frees sum number → has_framework rows f.name ≡ false
     → are_distinct_roles (map (λ c. c.role) f.clients) ≡ true
     → AllByRecursion (λ c. c.count ≡ 0) f.clients → IsKept (framework_added rows f) frees sum (number + length f.clients)
@@ -80,7 +81,7 @@ IsKept-framework_added rows frees sum number f kept new apart none = record {
 -- ---- offers
 
 pub IsKept-with_offers :
-    (rows : Rows) (frees before : List (List Entry)) (sum : List Entry) (number : ℕ) (offers : List OfferRow)
+    (rows : Rows) (frees before : List (List Resource)) (sum : List Entry) (number : ℕ) (offers : List OfferRow)
     → IsKept rows before sum number → IsConsistent (with_offers rows offers) → frees ≡ frees_of (with_offers rows offers)
     → IsKept (with_offers rows offers) frees sum number
 IsKept-with_offers rows frees before sum number offers kept consistent left =

@@ -1,6 +1,6 @@
 -- Offers of a cycle that are not in the tables yet, and what they leave.
 use Rattle.std.specs.Prelude.{List, fold, map, slice_set}
-use Rattle.drf_bundle.specs.declared.quantities.Entry.{Entry}
+use Rattle.drf_bundle.specs.declared.resource.Resource.{Resource}
 use Rattle.drf_rows.specs.Cycle.{free_of, with_offer}
 use Rattle.drf_rows.specs.declared.rows.OfferRow.{OfferRow}
 use Rattle.drf_rows.specs.declared.rows.Rows.{Rows}
@@ -11,9 +11,9 @@ abbrev pub with_offers : Rows → List OfferRow → Rows
 with_offers rows offers = fold with_offer rows offers
 
 -- what is free on each agent
-abbrev pub frees_of : Rows → List (List Entry)
+abbrev pub frees_of : Rows → List (List Resource)
 frees_of rows = map (free_of rows) rows.agents
 
 -- the free parts, some of them replaced by what is left
-abbrev pub frees_after : List (List Entry) → List Left → List (List Entry)
+abbrev pub frees_after : List (List Resource) → List Left → List (List Resource)
 frees_after frees lefts = fold (λ frees left. slice_set frees left.agent left.free) frees lefts

@@ -3,6 +3,7 @@ use Rattle.std.specs.Prelude.{◌≡◌, ℕ, List, [], length, map}
 use Rattle.std.specs.Global.{Vec}
 use Rattle.drf_role.specs.Text.{Text}
 use Rattle.drf_bundle.specs.declared.quantities.Entry.{Entry}
+use Rattle.drf_bundle.specs.declared.resource.Resource.{Resource}
 use Rattle.drf_rows.specs.Held.{clients_of, cluster_total}
 use Rattle.drf_rows.specs.Consistent.{IsConsistent}
 use Rattle.drf_rows.specs.declared.rows.AgentRow.{AgentRow}
@@ -24,7 +25,7 @@ abbrev pub framework_rows : List (Text × Vec ClientRow) → List FrameworkRow
 framework_rows entries = map framework_row entries
 
 -- the free part of each agent
-abbrev pub frees_in : List (Text × Agent) → List (List Entry)
+abbrev pub frees_in : List (Text × Agent) → List (List Resource)
 frees_in entries = map (λ e. e.1.free) entries
 
 unfoldable pub rows_of : List (Text × Agent) → List (Text × Vec ClientRow) → List OfferRow → ℕ → ℕ → ℕ → Rows
@@ -46,7 +47,7 @@ abbrev pub rows_in : Inside → Rows
 rows_in t = rows_of t.agents.entries t.frameworks.entries t.offers.items t.clock t.next_offer t.accepted
 
 -- what is kept beside the rows is what they say
-pub record IsKept (rows : Rows) (frees : List (List Entry)) (sum : List Entry) (number : ℕ) : Type 0 where
+pub record IsKept (rows : Rows) (frees : List (List Resource)) (sum : List Entry) (number : ℕ) : Type 0 where
   pub consistent : IsConsistent rows
   pub free : frees ≡ frees_of rows
   pub total : sum ≡ cluster_total rows.agents

@@ -1,11 +1,17 @@
 -- What tables are to their callers: the rows, and room for more frameworks.
-use Rattle.std.specs.Prelude.{◌≡◌, ℕ, []}
+use Rattle.std.specs.Prelude.{◌≡◌, ℕ, [], refl}
+use Rattle.std.specs.Coded.{Coded, code_by, coded×, coded_ℕ}
+use Rattle.drf_rows.specs.contracts.rows.Rows as rows
 use Rattle.drf_rows.specs.declared.rows.Rows.{Rows}
 
 pub record Stored : Type 0 where
   pub rows : Rows
   -- so many frameworks can be added without memory
   pub room : ℕ
+
+-- by it a proof tells two of them apart
+abbrev pub stored_code : Coded Stored
+stored_code = code_by (Rows × ℕ) (coded× rows.the_row.coded coded_ℕ) (λ s. (s.rows, s.room)) (λ p. record { rows = p.0; room = p.1 }) (λ _. refl)
 
 -- nothing but agents, frameworks and offers
 pub record IsPlain (rows : Rows) : Type 0 where

@@ -3,6 +3,7 @@ ghost use Rattle.std.specs.Prelude.{◌≡◌, map, IfOk};
 ghost use Rattle.drf_tables.specs.Inside.{agent_row, framework_rows};
 
 use crate::tables::Agent;
+use drf_amount::Algebra;
 use drf_role::Name;
 use drf_rows::{AgentRow, ClientRow, FrameworkRow, OfferRow, Table};
 use indexmap::IndexMap;

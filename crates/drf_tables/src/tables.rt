@@ -4,7 +4,7 @@ ghost use Rattle.std.specs.Prelude.{◌≡◌, ◌+◌, ◌<◌, ◌≤◌, ◌^
 ghost use Rattle.std.specs.List.{AllByRecursion};
 ghost use Rattle.drf_role.specs.Text.{Text};
 ghost use Rattle.drf_bundle.specs.Quantities.{amount_of};
-ghost use Rattle.drf_bundle.specs.ScalarBundle.{quantities_of};
+ghost use Rattle.drf_bundle.specs.Bundle.{quantities_of};
 ghost use Rattle.drf_rows.specs.Held.{clients_of, cluster_total};
 ghost use Rattle.drf_rows.specs.Cycle.{free_of};
 ghost use Rattle.drf_rows.specs.Step.{opening, live_rows, has_agent, has_framework, with_agent};
@@ -17,7 +17,8 @@ ghost use Rattle.drf_tables.specs.Stored.{IsPlain};
 
 use crate::listing::{agent_rows, framework_rows, offer_rows};
 use crate::offers::{count_offers, put_lefts};
-use drf_bundle::{Quantities, ScalarBundle};
+use drf_amount::Algebra;
+use drf_bundle::{Bundle, Quantities};
 use drf_role::Name;
 use drf_rows::{ClientRow, OfferRow, Rows, Table};
 use indexmap::IndexMap;
@@ -27,9 +28,9 @@ use std::marker::Model;
 /// A registered agent, and what is free of its total.
 #[derive(Drop)]
 pub(crate) struct Agent {
-    pub(crate) total: ScalarBundle,
+    pub(crate) total: Bundle,
     pub(crate) active: bool,
-    pub(crate) free: ScalarBundle,
+    pub(crate) free: Bundle,
 }
 
 /// What an agent's turn leaves of its free part.
@@ -37,7 +38,7 @@ pub(crate) struct Agent {
 pub struct Left {
     /// The place of the agent, by registration.
     pub agent: usize,
-    pub free: ScalarBundle,
+    pub free: Bundle,
 }
 
 /// The rows of the allocator. Agents and frameworks are found by their names.
@@ -56,9 +57,11 @@ pub struct Tables {
 }
 
 impl Model for Tables {
-    ghost use Rattle.drf_tables.specs.Stored.{Stored};
+    ghost use Rattle.drf_tables.specs.Stored.{Stored, stored_code};
 
     ghost Value = { Stored };
+
+    ghost coded = { stored_code };
 
     ghost use Rattle.indexmap.specs.IndexMap.{spare};
     ghost use Rattle.drf_tables.specs.Inside.{rows_in, frees_in, IsKept};
@@ -163,7 +166,7 @@ impl Tables {
     }
 
     /// What is free on the agent at a place.
-    pub fn free(&self, place: usize) -> &ScalarBundle
+    pub fn free(&self, place: usize) -> &Bundle
         requires { place < length self.now.rows.agents }
         ensures { (a : AgentRow) → slice_get self.now.rows.agents place ≡ Some a → result.now ≡ free_of self.now.rows a }
     {
@@ -186,7 +189,7 @@ impl Tables {
     }
 
     /// Adds an agent that is active. An `Err` changes no row.
-    pub fn add_agent(&mut self, name: Name, total: ScalarBundle) -> Result<(), AllocError>
+    pub fn add_agent(&mut self, name: Name, total: Bundle) -> Result<(), AllocError>
         requires new { has_agent self.old.rows name ≡ false }
         requires small { (label : Text) → amount_of (quantities_of total) label ≤ LARGEST_AMOUNT }
         requires few { length self.old.rows.agents < 4096 }

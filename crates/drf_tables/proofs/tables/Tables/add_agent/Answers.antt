@@ -1,6 +1,8 @@
 use Rattle.std.proofs.Common.{◌≡◌, ◌∷◌, [], ◌++◌, List, true, false, length, ap, ◌∙◌, refl, arith}
 use Rattle.drf_bundle.specs.Quantities.{amount_of, plus}
 use Rattle.drf_bundle.specs.declared.quantities.Entry.{Entry}
+use Rattle.drf_bundle.specs.declared.resource.Resource.{Resource}
+use Rattle.drf_bundle.specs.Bundle.{quantities_of}
 use Rattle.drf_rows.specs.Consistent.{IsAgent}
 use Rattle.drf_rows.specs.RegistrationLaws.{new_agent, agent_added}
 use Rattle.drf_rows.specs.Step.{has_agent}
@@ -16,7 +18,7 @@ plus-requires c = λ label.
     let kept = c.self.invariant in
     let few = ap (λ (s : Stored). length s.rows.agents) c.self.view_is in
     let fits =
-    sums_fit (rows_in c.self.inside).agents label (amount_of c.args.total label) kept.consistent.agents.each
+    sums_fit (rows_in c.self.inside).agents label (amount_of (quantities_of c.args.total) label) kept.consistent.agents.each
     (omega (arith, few, c.requires.few)) (c.requires.small label) in
     let sum = ap (λ es. amount_of es label) kept.total in
     let mine = ap (λ (es : List Entry). amount_of es label) c.quantities.ensures.value in
@@ -26,7 +28,7 @@ pub invariant_of-self-2 : goal.invariant_of-self-2
 invariant_of-self-2 c =
     let t = c.self.inside in
     let name = c.args.name in
-    let total : List Entry = c.args.total in
+    let total : List Resource = c.args.total in
     let agent : Agent = record { total = total; active = true; free = c.in_ok-free.free } in
     let new : has_agent (rows_in t) name ≡ false =
     ap (λ (s : Stored). has_agent s.rows name) c.self.view_is ∙ c.requires.new in
@@ -34,13 +36,13 @@ invariant_of-self-2 c =
     let rows = rows_of-agent t c.insert.new.self.entries name agent new inserted refl in
     let frees =
     frees-agent t c.insert.new.self.entries name agent new inserted
-    ∙ ap (λ (free : List Entry). frees_in t.agents.entries ++ free ∷ []) c.in_ok-free.ensures in
+    ∙ ap (λ (free : List Resource). frees_in t.agents.entries ++ free ∷ []) c.in_ok-free.ensures.same in
     let right : IsAgent (new_agent name total) = record {
       total = c.quantities.ensures.bundle;
       small =
           c.requires.small;
     } in
-    let sum : c.in_ok-sum.sum ≡ plus t.total total = c.in_ok-sum.ensures ∙ ap (plus t.total) c.quantities.ensures.value in
+    let sum : c.in_ok-sum.sum ≡ plus t.total (quantities_of total) = c.in_ok-sum.ensures ∙ ap (plus t.total) c.quantities.ensures.value in
     rw (rows, frees, sum) (
     IsKept-agent_added (rows_in t) (frees_in t.agents.entries) t.total t.clients name total c.self.invariant new right
     )

@@ -1,5 +1,5 @@
 use Rattle.std.proofs.Common.{◌≡◌, List, length, sym, ap, ◌∙◌, subst, arith}
-use Rattle.drf_bundle.specs.declared.quantities.Entry.{Entry}
+use Rattle.drf_bundle.specs.declared.resource.Resource.{Resource}
 use Rattle.drf_rows.specs.Consistent.{IsConsistent}
 use Rattle.drf_rows.specs.declared.rows.OfferRow.{OfferRow}
 use Rattle.drf_tables.specs.Counting.{counting_all}
@@ -41,7 +41,7 @@ invariant_of-self-2 c =
     let t = c.self.inside in
     let offers : List OfferRow = c.args.offers.now.items in
     let lefts = c.args.lefts.items in
-    let frees : List (List Entry) = frees_in c.put_lefts.new.agents.entries in
+    let frees : List (List Resource) = frees_in c.put_lefts.new.agents.entries in
     let all = c.deref.ensures.value ∙ c.in_ok-append.ensures.items in
     let before : c.len-before.result ≡ length t.offers.items = omega (arith, c.len-before.ensures, t.offers.ok.0) in
     let made = appended t.offers.items offers c.deref.result.now c.len-before.result all before in
@@ -56,7 +56,7 @@ invariant_of-self-2 c =
     subst (λ (s : Stored). frees_after (frees_of s.rows) lefts ≡ frees_of (with_offers s.rows offers))
     (sym c.self.view_is) c.requires.left in
     let free =
-    c.put_lefts.ensures.free ∙ ap (λ (fs : List (List Entry)). frees_after fs lefts) c.self.invariant.free ∙ left in
+    c.put_lefts.ensures.free ∙ ap (λ (fs : List (List Resource)). frees_after fs lefts) c.self.invariant.free ∙ left in
     rw (long, rows) (
     IsKept-with_offers (rows_in t) frees (frees_in t.agents.entries) t.total t.clients offers
     c.self.invariant consistent free

@@ -8,8 +8,9 @@ use Rattle.std.proofs.lemmas.List.{length-append, length-map}
 use Rattle.drf_role.specs.Text.{Text, same_text}
 use Rattle.drf_role.specs.Path.{Path, client_path}
 use Rattle.drf_bundle.specs.Quantities.{amount_of, plus}
-use Rattle.drf_bundle.specs.ScalarBundle.{quantities_of}
+use Rattle.drf_bundle.specs.Bundle.{quantities_of}
 use Rattle.drf_bundle.specs.declared.quantities.Entry.{Entry}
+use Rattle.drf_bundle.specs.declared.resource.Resource.{Resource}
 use Rattle.drf_rows.specs.LimitNumbers.{LimitNumbers}
 use Rattle.drf_rows.specs.Held.{clients_of, cluster_total}
 use Rattle.drf_rows.specs.Cycle.{at_moment, cycle}
@@ -40,13 +41,13 @@ first_past true r cases none = cc
 first_past false r cases none = (refl, none)
 
 -- an agent that is welcome
-pub record IsWelcomeAgent (limits : LimitNumbers) (rows : Rows) (agent : Text) (total : List Entry) : Type 0 where
+pub record IsWelcomeAgent (limits : LimitNumbers) (rows : Rows) (agent : Text) (total : List Resource) : Type 0 where
   pub room : is_full limits rows ≡ false
   pub new : has_agent rows agent ≡ false
   pub small : list_any (λ e. nat_lt LARGEST_AMOUNT e.amount) (quantities_of total) ≡ false
   pub few : too_many_agents limits (with_agent rows agent total) ≡ false
 
-pub welcome_agent : (limits : LimitNumbers) (rows : Rows) (agent : Text) (total : List Entry) → refusal_of limits rows (AddAgent agent total) ≡ None → IsWelcomeAgent limits rows agent total
+pub welcome_agent : (limits : LimitNumbers) (rows : Rows) (agent : Text) (total : List Resource) → refusal_of limits rows (AddAgent agent total) ≡ None → IsWelcomeAgent limits rows agent total
 unfolding refusal_of
 welcome_agent limits rows agent total none =
     let last : List (Bool × Refusal) = (too_many_agents limits (with_agent rows agent total), TooMany) ∷ [] in
@@ -189,14 +190,14 @@ sound_total content limits rows kept label =
     let early : rows.next_offer < 2 ^ 64 = omega (arith, numbered, events) in
     (IsSound-content_of rows kept.consistent few early).total label
 
-pub few_agents : (limits : LimitNumbers) (rows : Rows) (agent : Text) (total : List Entry) → AreFew limits rows → refusal_of limits rows (AddAgent agent total) ≡ None
+pub few_agents : (limits : LimitNumbers) (rows : Rows) (agent : Text) (total : List Resource) → AreFew limits rows → refusal_of limits rows (AddAgent agent total) ≡ None
     → length rows.agents < 4096
 few_agents limits rows agent total few none =
     let many = neither (nat_lt limits.agents (length (with_agent rows agent total))) (nat_lt limits.scalar_names (length (cluster_total (with_agent rows agent total)))) (welcome_agent limits rows agent total none).few in
     let long : length (with_agent rows agent total) ≤ limits.agents = ltb-false limits.agents (length (with_agent rows agent total)) many.0 in
     omega (arith, long, few.ceilings.agents.1, length-append rows.agents (record { name = agent; total = total; active = true } ∷ []))
 
-pub applied_agent : (rows tables : Rows) (agent : Text) (total : List Entry) (before after : Content)
+pub applied_agent : (rows tables : Rows) (agent : Text) (total : List Resource) (before after : Content)
     → before ≡ content_of rows
     → tables ≡ record rows { agents = with_agent rows agent total }
     → after ≡ record before { total = plus (cluster_total rows.agents) (quantities_of total) }

@@ -8,7 +8,7 @@ use Rattle.drf_role.specs.Text.{Text, same_text}
 use Rattle.drf_role.specs.Path.{Path, same_path}
 use Rattle.drf_role.specs.PathLaws.{same_path-swap, same_path-client_path}
 use Rattle.drf_bundle.specs.Quantities.{amount_of}
-use Rattle.drf_bundle.specs.ScalarBundle.{quantities_of}
+use Rattle.drf_bundle.specs.Bundle.{quantities_of}
 use Rattle.drf_bundle.specs.declared.quantities.Entry.{Entry}
 use Rattle.drf_rows.specs.Client.{Client, path_of}
 use Rattle.drf_rows.specs.Holdings.{Holding, of_offer, holdings_of, held_where, amount_in, is_of}

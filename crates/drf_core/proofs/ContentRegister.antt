@@ -11,8 +11,9 @@ use Rattle.drf_role.specs.TextLaws.{same_from_test}
 use Rattle.drf_role.specs.Path.{Path, same_path, client_path}
 use Rattle.drf_role.specs.PathLaws.{same_path-client_path}
 use Rattle.drf_bundle.specs.Quantities.{plus}
-use Rattle.drf_bundle.specs.ScalarBundle.{quantities_of}
+use Rattle.drf_bundle.specs.Bundle.{quantities_of}
 use Rattle.drf_bundle.specs.declared.quantities.Entry.{Entry}
+use Rattle.drf_bundle.specs.declared.resource.Resource.{Resource}
 use Rattle.drf_rows.specs.Client.{Client, path_of}
 use Rattle.drf_rows.specs.Holdings.{Holding, holdings_of, held_where, amount_in, is_of}
 use Rattle.drf_rows.specs.HoldingsLaws.{held_where-cons}
@@ -91,7 +92,7 @@ has_client-new rows role name new =
 -- ---- registrations
 
 -- one more agent adds to the total
-pub content_of-with_agent : (rows : Rows) (name : Text) (total : List Entry)
+pub content_of-with_agent : (rows : Rows) (name : Text) (total : List Resource)
     → content_of (record rows { agents = with_agent rows name total })
     ≡ record (content_of rows) { total = plus (cluster_total rows.agents) (quantities_of total) }
 unfolding content_of

@@ -6,14 +6,15 @@ use Rattle.std.proofs.lemmas.List.Sums.{sum_by-cons, sum_by-le}
 use Rattle.std.proofs.lemmas.List.Elements.{All-from_recursion}
 use Rattle.drf_role.specs.Text.{Text, same_text}
 use Rattle.drf_bundle.specs.Quantities.{amount_of, plus}
-use Rattle.drf_bundle.specs.ScalarBundle.{quantities_of}
+use Rattle.drf_bundle.specs.Bundle.{quantities_of}
 use Rattle.drf_bundle.specs.QuantitiesLaws.{amount-plus}
+use Rattle.drf_bundle.specs.UnitProofs.{quantities_no_zeros}
 use Rattle.drf_bundle.specs.declared.quantities.Entry.{Entry}
 use Rattle.drf_rows.specs.Holdings.{Holding, holdings_of, held_where, amount_in, is_on}
 use Rattle.drf_rows.specs.Held.{cluster_total}
 use Rattle.drf_rows.specs.Consistent.{IsAgent, IsCovered, IsHeld, IsConsistent}
-use Rattle.drf_rows.specs.ConsistentLaws.{same_text-swap, count_named}
-use Rattle.drf_rows.specs.ListLaws.{sum_by_each_le, sum_by-groups, count_by-any, each_from}
+use Rattle.drf_rows.specs.ConsistentLaws.{same_text-swap, count_named, bundles-consistent, held_on-le}
+use Rattle.drf_rows.specs.ListLaws.{sum_by_each_le, sum_by-groups, count_by-any, each_from, each_from_both}
 use Rattle.drf_rows.specs.declared.limits.TheConstants.{LARGEST_AMOUNT}
 use Rattle.drf_rows.specs.declared.rows.AgentRow.{AgentRow}
 use Rattle.drf_rows.specs.declared.rows.Rows.{Rows}
@@ -37,7 +38,7 @@ amount-added start (a ∷ agents) label all =
     omega (
       arith,
       amount-added (plus start (quantities_of a.total)) agents label all.1,
-      amount-plus start (quantities_of a.total) label all.0.total.in_order,
+      amount-plus start (quantities_of a.total) label (quantities_no_zeros a.total all.0.total).in_order,
       sum_by-cons (amount_on label) a agents,
     )
 
@@ -77,7 +78,8 @@ held-le-total rows label consistent =
     (each_from (IsHeld rows.agents rows.frameworks) (λ h. count_by (λ a. is_on a.name h) rows.agents ≡ 1) hs
     (λ h held. one_agent rows h consistent held) consistent.holdings) in
     let Covers : AgentRow → Type 0 = λ a. on a ≤ amount_on label a in
-    let covered = each_from (IsCovered hs) Covers rows.agents (λ a here. here label) consistent.covered in
+    let covered = each_from_both IsAgent (IsCovered hs) Covers rows.agents
+    (λ a right here. held_on-le rows a label (bundles-consistent rows consistent) right here) consistent.agents.each consistent.covered in
     omega (arith, by_agent, sum_by_each_le on (amount_on label) rows.agents covered)
 
 pub IsSound-content_of : (rows : Rows) → IsConsistent rows → length rows.agents ≤ 4096 → rows.next_offer < 2 ^ 64

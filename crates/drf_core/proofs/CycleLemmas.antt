@@ -4,7 +4,7 @@ use Rattle.std.specs.Prelude.{◌^◌, max, slice_get, filter}
 use Rattle.std.specs.Option.{option_map_or}
 use Rattle.std.proofs.Math.Seq.{drop-append_seam}
 use Rattle.std.proofs.lemmas.List.{length-map}
-use Rattle.drf_bundle.specs.declared.quantities.Entry.{Entry}
+use Rattle.drf_bundle.specs.declared.resource.Resource.{Resource}
 use Rattle.drf_rows.specs.Client.{Client}
 use Rattle.drf_rows.specs.Held.{clients_of}
 use Rattle.drf_rows.specs.Cycle.{grant, count_offer, new_offer, with_offer, tried, all_tried, turn_order, turn, turns, cycle}
@@ -73,7 +73,7 @@ new_offers-drafts rows offers turned =
 
 -- ---- how many offers a cycle makes at most
 
-tried-next : (rows : Rows) (agent : AgentRow) (client : Client) (granted : Option (List Entry))
+tried-next : (rows : Rows) (agent : AgentRow) (client : Client) (granted : Option (List Resource))
     → (option_map_or (λ b. with_offer rows (new_offer rows agent client b)) granted rows).next_offer ≤ rows.next_offer + 1
 unfolding with_offer
 tried-next rows agent client None = omega arith
@@ -84,7 +84,7 @@ all_tried-next rows agent [] = omega arith
 all_tried-next rows agent (client ∷ clients) =
     omega (arith, all_tried-next (tried rows agent client) agent clients, tried-next rows agent client (grant rows agent client))
 
-tried-clients : (rows : Rows) (agent : AgentRow) (client : Client) (granted : Option (List Entry))
+tried-clients : (rows : Rows) (agent : AgentRow) (client : Client) (granted : Option (List Resource))
     → clients_of (option_map_or (λ b. with_offer rows (new_offer rows agent client b)) granted rows) ≡ clients_of rows
 tried-clients rows agent client None = refl
 tried-clients rows agent client (Some bundle) = clients_of-with_offer rows (new_offer rows agent client bundle)
@@ -100,7 +100,7 @@ turns-clients rows [] = refl
 turns-clients rows (agent ∷ agents) = turns-clients (turn rows agent) agents ∙ all_tried-clients rows agent (turn_order rows)
 
 -- the agents stay, and as many frameworks
-tried-tables : (rows : Rows) (agent : AgentRow) (client : Client) (granted : Option (List Entry))
+tried-tables : (rows : Rows) (agent : AgentRow) (client : Client) (granted : Option (List Resource))
     → let after : Rows = option_map_or (λ b. with_offer rows (new_offer rows agent client b)) granted rows in
     (after.agents ≡ rows.agents) × (length after.frameworks ≡ length rows.frameworks) × (after.accepted ≡ rows.accepted)
 unfolding with_offer

@@ -7,9 +7,10 @@ use Rattle.drf_role.specs.Text.{Text}
 use Rattle.drf_role.specs.TextLaws.{same_itself}
 use Rattle.drf_role.specs.Path.{Path, role_part, framework_part}
 use Rattle.drf_role.specs.PathLaws.{role_part-client_path, framework_part-client_path}
-use Rattle.drf_bundle.specs.Quantities.{HasNoZeros, amount_of, rest}
-use Rattle.drf_bundle.specs.ScalarBundle.{quantities_of}
-use Rattle.drf_bundle.specs.declared.quantities.Entry.{Entry}
+use Rattle.drf_bundle.specs.Value.{Point}
+use Rattle.drf_bundle.specs.Bundle.{Key, same_key, IsBundle, units, rest, is_for, part_for, quantities_of}
+use Rattle.drf_bundle.specs.PartLaws.{where-some, bundle-part_for}
+use Rattle.drf_bundle.specs.declared.resource.Resource.{Resource}
 use Rattle.drf_rows.specs.ListLaws.{each_at}
 use Rattle.drf_rows.specs.Client.{Client, path_of}
 use Rattle.drf_rows.specs.Holdings.{of_offer}
@@ -27,7 +28,7 @@ use Rattle.drf_core.proofs.DraftLemmas.{with_offers-push, agents-with_offers, ne
 use Rattle.drf_core.proofs.ContentOffer.{content_of-with_offer}
 use Rattle.drf_core.proofs.ContentRegister.{has_client-registered}
 use Rattle.drf_core.proofs.ContentSound.{IsSound-content_of}
-use Rattle.drf_rows.specs.ConsistentLaws.{IsConsistent-with_offer}
+use Rattle.drf_rows.specs.ConsistentLaws.{bundles-consistent, IsConsistent-with_offer}
 
 -- clients with one path are one
 pub path_of-injective : (c d : Client) → path_of c ≡ path_of d → c ≡ d
@@ -37,27 +38,35 @@ path_of-injective c d same =
     λ i. record { role = roles i; framework = names i }
 
 -- a grant is a part of what is free
-pub record IsPart (bundle free : List Entry) : Type 0 where
-  pub bundle_is : HasNoZeros bundle
-  pub small : (label : Text) → amount_of (quantities_of bundle) label ≤ amount_of (quantities_of free) label
+pub record IsPart (bundle free : List Resource) : Type 0 where
+  pub bundle_is : IsBundle bundle
+  pub small : (key : Key) (p : Point) → units bundle key p ≤ units free key p
 
-pub grant-part : (rows : Rows) (agent : AgentRow) (client : Client) (bundle : List Entry) → HasNoZeros agent.total
+pub grant-part : (rows : Rows) (agent : AgentRow) (client : Client) (bundle : List Resource) → IsBundle agent.total
     → grant rows agent client ≡ Some bundle → IsPart bundle (free_of rows agent)
-grant-part rows agent client bundle total granted = by (is_allocatable (free_of rows agent)) granted
+grant-part rows agent client bundle total granted = by (is_allocatable part) granted
   where
-    by : (b : Bool) → cond b (Some (free_of rows agent)) None ≡ Some bundle → IsPart bundle (free_of rows agent)
+    free : List Resource
+    free = free_of rows agent
+
+    part : List Resource
+    part = part_for client.role free
+
+    by : (b : Bool) → cond b (Some part) None ≡ Some bundle → IsPart bundle free
     by true e =
-        let same : free_of rows agent ≡ bundle = cc in
-        subst (λ (b : List Entry). IsPart b (free_of rows agent)) same
-        (record { bundle_is = bundle-free_of rows agent total; small = λ label. omega arith })
+        let same : part ≡ bundle = cc in
+        subst (λ (b : List Resource). IsPart b free) same (record {
+          bundle_is = bundle-part_for client.role free (bundle-free_of rows agent total);
+          small = λ key p. where-some (is_for client.role) (same_key key) p free;
+        })
     by false e = cc
 
 -- the next draft
-abbrev pub next_draft : Rows → List OfferRow → AgentRow → Client → List Entry → OfferRow
+abbrev pub next_draft : Rows → List OfferRow → AgentRow → Client → List Resource → OfferRow
 next_draft rows offers agent client bundle = new_offer (with_offers rows offers) agent client bundle
 
 module _ (content : Content) (rows : Rows) (offers : List OfferRow) (drafting : IsDrafting content rows offers) (place : ℕ) (agent : AgentRow)
-    (at : slice_get rows.agents place ≡ Some agent) (client : Client) (known : is_registered rows.frameworks client ≡ true) (bundle : List Entry)
+    (at : slice_get rows.agents place ≡ Some agent) (client : Client) (known : is_registered rows.frameworks client ≡ true) (bundle : List Resource)
     (granted : grant (with_offers rows offers) agent client ≡ Some bundle) (fits : rows.next_offer + length offers + 1 < 2 ^ 64) where
   at_now : slice_get (with_offers rows offers).agents place ≡ Some agent
   at_now = ap (λ (as' : List AgentRow). slice_get as' place) (agents-with_offers rows offers) ∙ at
@@ -117,22 +126,22 @@ module _ (content : Content) (rows : Rows) (offers : List OfferRow) (drafting : 
   pub tried_after : with_offers rows (offers ++ next_draft rows offers agent client bundle ∷ []) ≡ tried (with_offers rows offers) agent client
   tried_after =
       with_offers-push rows offers (next_draft rows offers agent client bundle)
-      ∙ sym (ap (λ (o : Option (List Entry)). option_map_or (λ b. with_offer (with_offers rows offers) (new_offer (with_offers rows offers) agent client b)) o (with_offers rows offers)) granted)
+      ∙ sym (ap (λ (o : Option (List Resource)). option_map_or (λ b. with_offer (with_offers rows offers) (new_offer (with_offers rows offers) agent client b)) o (with_offers rows offers)) granted)
 
   pub free_after : free_of (with_offers rows (offers ++ next_draft rows offers agent client bundle ∷ [])) agent ≡ rest (free_of (with_offers rows offers) agent) bundle
   free_after =
       let right : IsAgent agent = each_at IsAgent (with_offers rows offers).agents place agent drafting.consistent.agents.each at_now in
       ap (λ (r : Rows). free_of r agent) (with_offers-push rows offers (next_draft rows offers agent client bundle))
-      ∙ free_of-with_offer (with_offers rows offers) (next_draft rows offers agent client bundle) agent right.total (same_itself agent.name)
+      ∙ free_of-with_offer (with_offers rows offers) (next_draft rows offers agent client bundle) agent right.total (bundles-consistent (with_offers rows offers) drafting.consistent) part_now.bundle_is (same_itself agent.name)
 
 -- nothing is granted
 pub tried_none : (rows : Rows) (agent : AgentRow) (client : Client) → grant rows agent client ≡ None → rows ≡ tried rows agent client
 tried_none rows agent client none =
-    sym (ap (λ (o : Option (List Entry)). option_map_or (λ b. with_offer rows (new_offer rows agent client b)) o rows) none)
+    sym (ap (λ (o : Option (List Resource)). option_map_or (λ b. with_offer rows (new_offer rows agent client b)) o rows) none)
 
 -- ---- what the code makes is the next draft
 
-pub record IsNext (rows : Rows) (offers : List OfferRow) (place : ℕ) (path : Path) (free bundle : List Entry) (row : OfferRow) : Type 0 where
+pub record IsNext (rows : Rows) (offers : List OfferRow) (place : ℕ) (path : Path) (free bundle : List Resource) (row : OfferRow) : Type 0 where
   pub agent : AgentRow
   pub at : slice_get rows.agents place ≡ Some agent
   pub client : Client
@@ -142,10 +151,10 @@ pub record IsNext (rows : Rows) (offers : List OfferRow) (place : ℕ) (path : P
   pub granted : grant (with_offers rows offers) agent client ≡ Some bundle
   pub made : row ≡ next_draft rows offers agent client bundle
 
-pub next_from : (rows : Rows) (offers : List OfferRow) (place : ℕ) (path : Path) (free bundle : List Entry) (row : OfferRow) (number : ℕ) (name : Text)
+pub next_from : (rows : Rows) (offers : List OfferRow) (place : ℕ) (path : Path) (free bundle : List Resource) (row : OfferRow) (number : ℕ) (name : Text)
     → IsFreeAt (with_offers rows offers) place free
     → IsRegisteredPath rows path
-    → ((rows : Rows) (agent : AgentRow) (client : Client) → free_of rows agent ≡ free → Some bundle ≡ grant rows agent client)
+    → ((rows : Rows) (agent : AgentRow) (client : Client) → free_of rows agent ≡ free → path ≡ path_of client → Some bundle ≡ grant rows agent client)
     → ((a : AgentRow) → slice_get rows.agents place ≡ Some a → name ≡ a.name)
     → number ≡ rows.next_offer + length offers
     → row ≡ record { number = number; agent = name; framework = framework_part path; role = role_part path; bundle = bundle }
@@ -165,12 +174,12 @@ next_from rows offers place path free bundle row number name is_free registered 
       joined = registered.joined;
       known = registered.registered;
       is_free = is_free.free;
-      granted = sym (granted (with_offers rows offers) agent client (sym is_free.free));
+      granted = sym (granted (with_offers rows offers) agent client (sym is_free.free) registered.joined);
       made = row_is ∙ (λ i. record { number = next i; agent = named agent at i; framework = framework i; role = role i; bundle = bundle });
     }
 
 -- another agent at the place, and another client of the path, are those
-module _ (content : Content) (rows : Rows) (offers : List OfferRow) (drafting : IsDrafting content rows offers) (place : ℕ) (path : Path) (free bundle : List Entry) (row : OfferRow)
+module _ (content : Content) (rows : Rows) (offers : List OfferRow) (drafting : IsDrafting content rows offers) (place : ℕ) (path : Path) (free bundle : List Resource) (row : OfferRow)
     (next : IsNext rows offers place path free bundle row) (fits : rows.next_offer + length offers + 1 < 2 ^ 64) where
   pub known_next : has_client content path ≡ true
   known_next = rw next.joined (has_client-now content rows offers drafting place next.agent next.at next.client next.known bundle next.granted fits)
@@ -194,22 +203,22 @@ module _ (content : Content) (rows : Rows) (offers : List OfferRow) (drafting : 
       ∙ tried_after content rows offers drafting place next.agent next.at next.client next.known bundle next.granted fits
       ∙ (λ i. tried (with_offers rows offers) (same_agent i) (same_client i))
 
-  pub free_next : (left : List Entry) → left ≡ rest free bundle → IsFreeAt (with_offers rows (offers ++ row ∷ [])) place left
+  pub free_next : (left : List Resource) → left ≡ rest free bundle → IsFreeAt (with_offers rows (offers ++ row ∷ [])) place left
   free_next left left_is =
       let offer : OfferRow = next_draft rows offers next.agent next.client bundle in
       record {
         agent = next.agent;
         at = ap (λ (as' : List AgentRow). slice_get as' place) (agents-with_offers rows (offers ++ row ∷ [])) ∙ next.at;
         free = left_is
-            ∙ ap (λ (f : List Entry). rest f bundle) next.is_free
+            ∙ ap (λ (f : List Resource). rest f bundle) next.is_free
             ∙ sym (free_after content rows offers drafting place next.agent next.at next.client next.known bundle next.granted fits)
             ∙ ap (λ (o : OfferRow). free_of (with_offers rows (offers ++ o ∷ [])) next.agent) (sym next.made);
       }
 
 -- where nothing is granted
-pub tried_nothing : (rows : Rows) (place : ℕ) (path : Path) (free : List Entry) → IsFreeAt rows place free
-    → ((rows : Rows) (agent : AgentRow) (client : Client) → free_of rows agent ≡ free → None ≡ grant rows agent client)
+pub tried_nothing : (rows : Rows) (place : ℕ) (path : Path) (free : List Resource) → IsFreeAt rows place free
+    → ((rows : Rows) (agent : AgentRow) (client : Client) → free_of rows agent ≡ free → path ≡ path_of client → None ≡ grant rows agent client)
     → IsTried rows rows place path
 tried_nothing rows place path free is_free granted agent client at joined =
     let same : is_free.agent ≡ agent = let e : Some is_free.agent ≡ Some agent = sym is_free.at ∙ at in cc in
-    tried_none rows agent client (sym (granted rows agent client (ap (free_of rows) (sym same) ∙ sym is_free.free)))
+    tried_none rows agent client (sym (granted rows agent client (ap (free_of rows) (sym same) ∙ sym is_free.free) joined))

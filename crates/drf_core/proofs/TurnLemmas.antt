@@ -9,7 +9,7 @@ use Rattle.std.proofs.lemmas.Option.{slice_get-map}
 use Rattle.std.proofs.lemmas.Grind.{fold-append}
 use Rattle.drf_role.specs.Text.{Text, same_text}
 use Rattle.drf_role.specs.Path.{Path}
-use Rattle.drf_bundle.specs.declared.quantities.Entry.{Entry}
+use Rattle.drf_bundle.specs.declared.resource.Resource.{Resource}
 use Rattle.drf_rows.specs.Client.{Client, path_of}
 use Rattle.drf_rows.specs.Cycle.{free_of, grant, is_allocatable, new_offer, with_offer, tried, all_tried, turn, turn_order}
 use Rattle.drf_rows.specs.CycleLaws.{free_of-with_offer_other, all_tried-append, all_tried_none}
@@ -80,7 +80,7 @@ slice_get-set_other (y ∷ ys) zero (suc j) x below = refl
 slice_get-set_other (y ∷ ys) (suc i) zero x below = absurd (omega arith)
 slice_get-set_other (y ∷ ys) (suc i) (suc j) x below = slice_get-set_other ys i j x (omega arith)
 
-frees_after-later : (frees : List (List Entry)) (lefts : List Left) (place : ℕ) → AllByRecursion (λ l. l.agent < place) lefts
+frees_after-later : (frees : List (List Resource)) (lefts : List Left) (place : ℕ) → AllByRecursion (λ l. l.agent < place) lefts
     → slice_get (frees_after frees lefts) place ≡ slice_get frees place
 frees_after-later frees [] place past = refl
 frees_after-later frees (l ∷ lefts) place past =
@@ -114,7 +114,7 @@ HasLeft-closed rows offers lefts place left = record { frees = left.frees; past 
 
 -- trying clients on one agent leaves what is free on another
 free_of-tried_other : (rows : Rows) (agent : AgentRow) (client : Client) (other : AgentRow) → same_text agent.name other.name ≡ false
-    → (granted : Option (List Entry))
+    → (granted : Option (List Resource))
     → free_of (option_map_or (λ b. with_offer rows (new_offer rows agent client b)) granted rows) other ≡ free_of rows other
 free_of-tried_other rows agent client other apart None = refl
 free_of-tried_other rows agent client other apart (Some bundle) = free_of-with_offer_other rows (new_offer rows agent client bundle) other apart
@@ -125,7 +125,7 @@ free_of-all_tried_other rows agent [] other apart = refl
 free_of-all_tried_other rows agent (client ∷ clients) other apart =
     free_of-all_tried_other (tried rows agent client) agent clients other apart ∙ free_of-tried_other rows agent client other apart (grant rows agent client)
 
-pub HasLeft-turn : (rows : Rows) (offers drafts : List OfferRow) (lefts : List Left) (place : ℕ) (agent : AgentRow) (clients : List Client) (free : List Entry)
+pub HasLeft-turn : (rows : Rows) (offers drafts : List OfferRow) (lefts : List Left) (place : ℕ) (agent : AgentRow) (clients : List Client) (free : List Resource)
     → are_distinct (map (λ a. a.name) rows.agents) ≡ true
     → HasLeft rows offers lefts place
     → slice_get rows.agents place ≡ Some agent

@@ -3,7 +3,7 @@ use Rattle.std.specs.Prelude.{◌≡◌, ℕ, ◌<◌, ◌≤◌, ◌^◌, ◌&&
 use Rattle.std.specs.List.{AllByRecursion}
 use Rattle.std.specs.Option.{option_map_or}
 use Rattle.drf_role.specs.Path.{Path}
-use Rattle.drf_bundle.specs.declared.quantities.Entry.{Entry}
+use Rattle.drf_bundle.specs.declared.resource.Resource.{Resource}
 use Rattle.drf_rows.specs.Client.{Client, path_of}
 use Rattle.drf_rows.specs.Holdings.{of_offer}
 use Rattle.drf_rows.specs.Cycle.{free_of, is_allocatable, tried, turn, turns}
@@ -31,7 +31,7 @@ pub record IsRegisteredPath (rows : Rows) (path : Path) : Type 0 where
   pub registered : is_registered rows.frameworks client ≡ true
 
 -- the bundle is what is free on the agent at that place
-pub record IsFreeAt (rows : Rows) (place : ℕ) (bundle : List Entry) : Type 0 where
+pub record IsFreeAt (rows : Rows) (place : ℕ) (bundle : List Resource) : Type 0 where
   pub agent : AgentRow
   pub at : slice_get rows.agents place ≡ Some agent
   pub free : bundle ≡ free_of rows agent

@@ -1,5 +1,8 @@
 -- What an allocator is to its callers: its limits and its live rows.
-use Rattle.std.specs.Prelude.{◌≡◌, ℕ, ◌≤◌, List, ◌++◌, length, take}
+use Rattle.std.specs.Prelude.{◌≡◌, ℕ, ◌≤◌, List, ◌++◌, length, take, refl}
+use Rattle.std.specs.Coded.{Coded, code_by, coded×}
+use Rattle.drf_rows.specs.contracts.limits.Limits as limits
+use Rattle.drf_rows.specs.contracts.rows.Rows as rows
 use Rattle.drf_rows.specs.LimitNumbers.{LimitNumbers}
 use Rattle.drf_rows.specs.Step.{opening, live_rows, rows_after, rows_after_all, replies_to}
 use Rattle.drf_rows.specs.declared.reply.Reply.{Reply}
@@ -10,6 +13,10 @@ use Rattle.drf_rows.specs.declared.event.Event.TheVariants.{AddAgent, AddFramewo
 pub record Machine : Type 0 where
   pub limits : LimitNumbers
   pub rows : Rows
+
+-- by it a proof tells two of them apart
+abbrev pub machine_code : Coded Machine
+machine_code = code_by (LimitNumbers × Rows) (coded× limits.the_row.coded rows.the_row.coded) (λ m. (m.limits, m.rows)) (λ p. record { limits = p.0; rows = p.1 }) (λ _. refl)
 
 -- the allocator as callers see it: with its live rows
 unfoldable pub live : Machine → Machine

@@ -19,9 +19,11 @@ pub struct Core<S: Sorter> {
 }
 
 impl<S: Sorter> Model for Core<S> {
-    ghost use Rattle.drf_core.specs.Machine.{Machine};
+    ghost use Rattle.drf_core.specs.Machine.{Machine, machine_code};
 
     ghost Value = { Machine };
+
+    ghost coded = { machine_code };
 
     ghost use Rattle.drf_core.specs.Kept.{IsKept};
 

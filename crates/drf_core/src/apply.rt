@@ -7,7 +7,7 @@ ghost use Rattle.drf_core.specs.Content.{content_of};
 ghost use Rattle.drf_core.specs.Kept.{IsKept, StandAt};
 
 use crate::cycle::cycle;
-use drf_bundle::ScalarBundle;
+use drf_bundle::Bundle;
 use drf_role::{ClientPath, Name, Role};
 use drf_rows::{ClientRow, Event, Limits, Reply, Table};
 use drf_sorter::Sorter;
@@ -20,7 +20,7 @@ fn add_agent<S: Sorter>(
     tables: &mut Tables,
     sorter: &mut S,
     agent: Name,
-    total: ScalarBundle,
+    total: Bundle,
 ) -> Result<(), AllocError>
     requires kept { IsKept (S.content sorter.old) limits.now tables.old.rows }
     requires welcome { refusal_of limits.now tables.old.rows (AddAgent agent total) ≡ None }

@@ -3,8 +3,8 @@
 ghost use Rattle.std.specs.Prelude.{◌≡◌, ◌<◌, ◌≤◌, ◌+◌, ◌*◌, None, [], length, map, slice_get, Some, IfOk, OnOk, OnErr, MatchOption};
 ghost use Rattle.std.specs.List.{AllByRecursion};
 ghost use Rattle.drf_role.specs.Path.{role_part, framework_part};
-ghost use Rattle.drf_bundle.specs.Quantities.{HasNoZeros, rest};
-ghost use Rattle.drf_rows.specs.Client.{Client};
+ghost use Rattle.drf_bundle.specs.Bundle.{IsBundle, rest};
+ghost use Rattle.drf_rows.specs.Client.{Client, path_of};
 ghost use Rattle.drf_rows.specs.Held.{clients_of};
 ghost use Rattle.drf_rows.specs.Cycle.{free_of, is_allocatable, grant, at_moment};
 ghost use Rattle.drf_rows.specs.Step.{line_of, new_offers, refusal_of, effect};
@@ -17,7 +17,8 @@ ghost use Rattle.drf_core.specs.Kept.{AreFew, IsKept};
 ghost use Rattle.drf_core.specs.Drafting.{IsDrafting, IsRegisteredPath, IsFreeAt, IsTried, HasLeft, is_open_at, turn_at, turns_of};
 ghost use Rattle.drf_core.specs.Kept.{StandAt};
 
-use drf_bundle::ScalarBundle;
+use drf_amount::Algebra;
+use drf_bundle::Bundle;
 use drf_role::{ClientPath, Name};
 use drf_rows::{Limits, OfferLine, OfferRow};
 use drf_sorter::Sorter;
@@ -33,9 +34,9 @@ struct Drafts {
 }
 
 /// Whether a bundle is worth an offer: 0.01 `cpus`, or 32 `mem`.
-fn is_worth_an_offer(bundle: &ScalarBundle) -> bool
+fn is_worth_an_offer(bundle: &Bundle) -> bool
     ensures value { result ≡ is_allocatable bundle.now }
-    ensures bundle { HasNoZeros bundle.now }
+    ensures bundle { IsBundle bundle.now }
 {
     let quantities = bundle.quantities();
     10 <= quantities.get("cpus") || 32000 <= quantities.get("mem")
@@ -49,16 +50,21 @@ fn is_open(tables: &Tables, place: usize) -> bool
     tables.is_active(place) && is_worth_an_offer(tables.free(place))
 }
 
-/// Takes from what is free on an agent what a client is granted: all of it, if that is worth an offer.
-fn grant(alloc: Global, free: &mut ScalarBundle) -> Option<ScalarBundle>
-    ensures granted { (rows : Rows) (agent : AgentRow) (client : Client)
-        → free_of rows agent ≡ free.old → result ≡ grant rows agent client }
-    ensures left { MatchOption result (free.new ≡ free.old) (λ bundle. free.new ≡ rest free.old bundle) }
+/// Takes from what is free on an agent what a client is granted: what its role may use, if that is worth an offer.
+fn grant(free: &mut Bundle, client: &ClientPath) -> Result<Option<Bundle>, AllocError>
+    ensures granted { IfOk result (λ granted. (rows : Rows) (agent : AgentRow) (of : Client)
+        → free_of rows agent ≡ free.old → client.now ≡ path_of of → granted ≡ grant rows agent of) }
+    ensures left { IfOk result (λ granted. MatchOption granted (free.new ≡ free.old) (λ bundle. free.new ≡ rest free.old bundle)) }
 {
     if !is_worth_an_offer(free) {
-        return None;
+        return Ok(None);
     }
-    Some(mem::replace(free, ScalarBundle::empty(alloc)))
+    let bundle = free.part_for(client.role())?;
+    if !is_worth_an_offer(&bundle) {
+        return Ok(None);
+    }
+    *free = free.rest(&bundle)?;
+    Ok(Some(bundle))
 }
 
 /// The row of an offer.
@@ -66,7 +72,7 @@ fn offer_row(
     number: u64,
     agent: &Name,
     client: &ClientPath,
-    bundle: ScalarBundle,
+    bundle: Bundle,
 ) -> Result<OfferRow, AllocError>
     ensures { IfOk result (λ row. row ≡ record {
       number = number;
@@ -87,12 +93,11 @@ fn offer_row(
 
 /// Offers to a client what it is granted of what is free on an agent.
 fn try_client<S: Sorter>(
-    alloc: Global,
     tables: &Tables,
     sorter: &mut S,
     place: usize,
     client: &ClientPath,
-    free: &mut ScalarBundle,
+    free: &mut Bundle,
     offers: &mut Vec<OfferRow>,
 ) -> Result<(), AllocError>
     requires drafting { IsDrafting (S.content sorter.old) tables.now.rows offers.old.items }
@@ -104,7 +109,8 @@ fn try_client<S: Sorter>(
         (with_offers tables.now.rows offers.new.items) place client.now) }
     ensures free { OnOk result (IsFreeAt (with_offers tables.now.rows offers.new.items) place free.new) }
 {
-    let Some(bundle) = grant(alloc, free) else {
+    let granted = grant(free, client)?;
+    let Some(bundle) = granted else {
         return Ok(());
     };
     let number = tables.next_offer() + offers.len() as u64;
@@ -117,7 +123,6 @@ fn try_client<S: Sorter>(
 
 /// The turn of an agent: each client in order is tried.
 fn turn<S: Sorter>(
-    alloc: Global,
     tables: &Tables,
     sorter: &mut S,
     place: usize,
@@ -137,27 +142,14 @@ fn turn<S: Sorter>(
     let order = sorter.order()?;
     let mut free = tables.free(place).copy()?;
     for client in &order {
-        try_client(
-            alloc,
-            tables,
-            sorter,
-            place,
-            client,
-            &mut free,
-            &mut drafts.offers,
-        )?;
+        try_client(tables, sorter, place, client, &mut free, &mut drafts.offers)?;
     }
     drafts.lefts.push(Left { agent: place, free })?;
     Ok(())
 }
 
 /// The turns of all agents.
-fn turns<S: Sorter>(
-    alloc: Global,
-    tables: &Tables,
-    sorter: &mut S,
-    drafts: &mut Drafts,
-) -> Result<(), AllocError>
+fn turns<S: Sorter>(tables: &Tables, sorter: &mut S, drafts: &mut Drafts) -> Result<(), AllocError>
     requires drafting { IsDrafting (S.content sorter.old) tables.now.rows drafts.old.offers.items }
     requires none { drafts.old.offers.items ≡ [] }
     requires nothing_left { drafts.old.lefts.items ≡ [] }
@@ -166,7 +158,7 @@ fn turns<S: Sorter>(
     ensures left { OnOk result (HasLeft tables.now.rows drafts.new.offers.items drafts.new.lefts.items (length tables.now.rows.agents)) }
 {
     for place in 0..tables.agent_count() {
-        turn(alloc, tables, sorter, place, drafts)?;
+        turn(tables, sorter, place, drafts)?;
     }
     Ok(())
 }
@@ -221,7 +213,7 @@ fn offer_all<S: Sorter>(
     ensures err { OnErr result (tables.new.rows ≡ tables.old.rows) }
     ensures drafting { OnErr result (IsDrafting (S.content sorter.new) tables.old.rows drafts.new.offers.items) }
 {
-    turns(alloc, tables, sorter, drafts)?;
+    turns(tables, sorter, drafts)?;
     let lines = offer_lines(alloc, &drafts.offers)?;
     let lefts = mem::replace(&mut drafts.lefts, Vec::new(alloc));
     tables.commit(&mut drafts.offers, lefts)?;

@@ -1,12 +1,12 @@
 //! Why an event is refused. No test needs memory.
 ghost use Rattle.std.specs.Prelude.{◌≡◌, ◌≤◌, length, nat_lt};
 ghost use Rattle.std.specs.List.{list_any};
-ghost use Rattle.drf_bundle.specs.ScalarBundle.{quantities_of};
+ghost use Rattle.drf_bundle.specs.Bundle.{quantities_of};
 ghost use Rattle.drf_rows.specs.Step.{first_case, is_empty, is_full, too_many_agents, too_many_frameworks, with_agent, refusal_of};
 ghost use Rattle.drf_core.specs.Machine.{IsSupported};
 ghost use Rattle.drf_core.specs.Kept.{AreFew};
 
-use drf_bundle::ScalarBundle;
+use drf_bundle::Bundle;
 use drf_role::{Name, Role};
 use drf_rows::{Event, LARGEST_AMOUNT, LATEST_MOMENT, Limits, Refusal, Table};
 use drf_tables::Tables;
@@ -26,7 +26,7 @@ fn is_full(limits: &Limits, tables: &Tables) -> bool
 }
 
 /// A scalar of the total is above the largest amount.
-fn is_too_large(total: &ScalarBundle) -> bool
+fn is_too_large(total: &Bundle) -> bool
     ensures { result ≡ list_any (λ e. nat_lt LARGEST_AMOUNT e.amount) (quantities_of total.now) }
 {
     total
@@ -37,7 +37,7 @@ fn is_too_large(total: &ScalarBundle) -> bool
 }
 
 /// With one more agent the agents, or the names of scalars over all of them, would be too many.
-fn too_many_agents(limits: &Limits, tables: &Tables, agent: &Name, total: &ScalarBundle) -> bool
+fn too_many_agents(limits: &Limits, tables: &Tables, agent: &Name, total: &Bundle) -> bool
     requires { AreFew limits.now tables.now.rows }
     ensures { result ≡ too_many_agents limits.now (with_agent tables.now.rows agent.now total.now) }
 {

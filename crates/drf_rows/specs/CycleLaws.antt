@@ -157,7 +157,7 @@ part_is_less role bundle name = omega (
   where-some (is_for role) (of_name name) Thousandths bundle,
 )
 
-little_part : (role : Path) (bundle : List Resource) → is_allocatable bundle ≡ false → is_allocatable (part_for role bundle) ≡ false
+pub little_part : (role : Path) (bundle : List Resource) → is_allocatable bundle ≡ false → is_allocatable (part_for role bundle) ≡ false
 little_part role bundle little =
     let cpus = part_is_less role bundle (codes "cpus") in
     let mem = part_is_less role bundle (codes "mem") in

@@ -1,6 +1,6 @@
 use Rattle.std.proofs.Common.{◌≡◌, ap, ◌∙◌, arith}
 use Rattle.drf_bundle.specs.Quantities.{plus}
-use Rattle.drf_bundle.specs.ScalarBundle.{quantities_of}
+use Rattle.drf_bundle.specs.Bundle.{quantities_of}
 use Rattle.drf_rows.specs.Held.{cluster_total}
 use Rattle.drf_core.proofs.ApplyLemmas.{welcome_agent, small_amounts, sound_total, few_agents, applied_agent}
 use Rattle.drf_core.proofs.apply.add_agent.Goals as goal
@@ -8,7 +8,7 @@ use Rattle.drf_core.proofs.apply.add_agent.Goals as goal
 pub plus-requires : goal.plus-requires
 plus-requires g c = λ label.
     let welcome = welcome_agent c.args.limits.now c.args.tables.now.rows c.args.agent c.args.total c.requires.welcome in
-    let small = small_amounts c.args.total 1099511627775 label welcome.small in
+    let small = small_amounts (quantities_of c.args.total) 1099511627775 label welcome.small in
     let total = sound_total (g.S.Sorter.content c.args.sorter.now) c.args.limits.now c.args.tables.now.rows c.requires.kept label in
     rw (c.total.ensures, c.quantities.ensures.value) (omega (arith, small, total))
 
@@ -18,7 +18,7 @@ add_agent-requires-clause-new g c =
 
 pub add_agent-requires-clause-small : goal.add_agent-requires-clause-small
 add_agent-requires-clause-small g c = λ label.
-    small_amounts c.args.total 1099511627775 label (welcome_agent c.args.limits.now c.args.tables.now.rows c.args.agent c.args.total c.requires.welcome).small
+    small_amounts (quantities_of c.args.total) 1099511627775 label (welcome_agent c.args.limits.now c.args.tables.now.rows c.args.agent c.args.total c.requires.welcome).small
 
 pub add_agent-requires-clause-few : goal.add_agent-requires-clause-few
 add_agent-requires-clause-few g c =

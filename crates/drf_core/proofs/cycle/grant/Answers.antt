@@ -1,10 +1,9 @@
-use Rattle.std.proofs.Common.{sym, ap, ◌∙◌}
-use Rattle.drf_bundle.specs.Quantities.{rest}
-use Rattle.drf_bundle.specs.QuantitiesLaws.{rest-itself}
+use Rattle.std.proofs.Common.{◌≡◌, false, sym, ap, ◌∙◌, refl}
+use Rattle.drf_rows.specs.Cycle.{free_of, is_allocatable}
+use Rattle.drf_rows.specs.CycleLaws.{little_part}
 use Rattle.drf_core.proofs.cycle.grant.Goals as goal
 
-pub returns-clause-left : goal.returns-clause-left
-returns-clause-left c =
-    c.replace.ensures.after ∙ c.empty.ensures
-    ∙ sym (rest-itself c.args.free.now c.is_worth_an_offer.ensures.bundle.in_order)
-    ∙ ap (rest c.args.free.now) (sym c.replace.ensures.value)
+pub returns-then-not-is_worth_an_offer-clause-granted : goal.returns-then-not-is_worth_an_offer-clause-granted
+returns-then-not-is_worth_an_offer-clause-granted c = λ rows agent client free path.
+    let little : is_allocatable (free_of rows agent) ≡ false = ap is_allocatable free ∙ sym c.is_worth_an_offer.ensures.value ∙ c.if-not-is_worth_an_offer.true in
+    rw (little_part client.role (free_of rows agent) little) refl

@@ -1,4 +1,6 @@
-use Rattle.std.proofs.Common.{◌≡◌, ◌+◌, ◌<◌, ◌^◌, ◌∷◌, ◌++◌, [], length, ap, ◌∙◌, arith}
+use Rattle.std.proofs.Common.{sym, subst, ◌≡◌, ◌+◌, ◌<◌, ◌^◌, ◌∷◌, ◌++◌, [], length, ap, ◌∙◌, arith}
+use Rattle.std.specs.Option.{MatchOption}
+use Rattle.drf_bundle.specs.Bundle.{rest, quantities_of}
 use Rattle.drf_rows.specs.declared.rows.OfferRow.{OfferRow}
 use Rattle.drf_sorter.specs.Content.{with_change, charged}
 use Rattle.drf_tables.specs.Drafts.{with_offers}
@@ -13,14 +15,15 @@ next_at : (g : given.Over) (c : After-quantities g)
 next_at g c =
     next_from c.args.tables.now.rows c.args.offers.now.items c.args.place c.args.client.now c.args.free.now c.in-Some.bundle c.in_ok-offer.offer
     (c.next_offer.result + c.len.result) c.agent_name.result.now
-    c.requires.free c.requires.client c.in-Some.ensures.granted c.agent_name.ensures
+    c.requires.free c.requires.client
+    (λ rows agent client free path. sym c.in-Some.is ∙ c.in_ok-granted.ensures.granted rows agent client free path) c.agent_name.ensures
     (omega (arith, c.next_offer.ensures, c.len.ensures, c.args.offers.now.ok.0)) c.in_ok-offer.ensures
 
 fits_at : (g : given.Over) (c : After-quantities g) → c.args.tables.now.rows.next_offer + length c.args.offers.now.items + 1 < 2 ^ 64
 fits_at g c = omega arith
 
-bundle_at : (g : given.Over) (c : After-quantities g) → c.quantities.result.now ≡ c.in-Some.bundle
-bundle_at g c = c.quantities.ensures.value ∙ ap (λ (o : OfferRow). o.bundle) (c.in_ok-offer.ensures)
+bundle_at : (g : given.Over) (c : After-quantities g) → c.quantities.result.now ≡ quantities_of c.in-Some.bundle
+bundle_at g c = c.quantities.ensures.value ∙ ap (λ (o : OfferRow). quantities_of o.bundle) (c.in_ok-offer.ensures)
 
 pub charge-requires-clause-known : goal.charge-requires-clause-known
 charge-requires-clause-known g c =
@@ -39,7 +42,7 @@ returns-clause-drafting g c =
     let content = g.S.Sorter.content c.args.sorter.now in
     let items : c.push_reserved.new.self.items ≡ c.args.offers.now.items ++ c.in_ok-offer.offer ∷ [] =
     c.push_reserved.ensures.items ∙ ap (λ os. os ++ c.in_ok-offer.offer ∷ []) c.reserve.ensures.items in
-    let charge : g.S.Sorter.content c.charge.new.self ≡ with_change content c.args.client.now (charged c.in-Some.bundle) =
+    let charge : g.S.Sorter.content c.charge.new.self ≡ with_change content c.args.client.now (charged (quantities_of c.in-Some.bundle)) =
     c.in_ok-charge.ensures.ok ∙ ap (λ q. with_change content c.args.client.now (charged q)) (bundle_at g b) in
     rw items
     (drafting_next content c.args.tables.now.rows c.args.offers.now.items c.requires.drafting c.args.place c.args.client.now
@@ -61,11 +64,16 @@ returns-clause-free g c =
     c.push_reserved.ensures.items ∙ ap (λ os. os ++ c.in_ok-offer.offer ∷ []) c.reserve.ensures.items in
     rw items
     (free_next (g.S.Sorter.content c.args.sorter.now) c.args.tables.now.rows c.args.offers.now.items c.requires.drafting c.args.place c.args.client.now
-    c.args.free.now c.in-Some.bundle c.in_ok-offer.offer (next_at g b) (fits_at g b) c.grant.new.free c.in-Some.ensures.left)
+    c.args.free.now c.in-Some.bundle c.in_ok-offer.offer (next_at g b) (fits_at g b) c.grant.new.free
+    (subst (λ o. MatchOption o (c.grant.new.free ≡ c.args.free.now) (λ bundle. c.grant.new.free ≡ rest c.args.free.now bundle)) c.in-Some.is c.in_ok-granted.ensures.left))
 
 pub returns-in_default-clause-tried : goal.returns-in_default-clause-tried
 returns-in_default-clause-tried g c =
-    tried_nothing (with_offers c.args.tables.now.rows c.args.offers.now.items) c.args.place c.args.client.now c.args.free.now c.requires.free c.in_default.ensures.granted
+    tried_nothing (with_offers c.args.tables.now.rows c.args.offers.now.items) c.args.place c.args.client.now c.args.free.now c.requires.free
+    (λ rows agent client free path. sym c.in_default.is ∙ c.in_ok-granted.ensures.granted rows agent client free path)
 
 pub returns-in_default-clause-free : goal.returns-in_default-clause-free
-returns-in_default-clause-free g c = rw c.in_default.ensures.left c.requires.free
+returns-in_default-clause-free g c =
+    let kept : c.grant.new.free ≡ c.args.free.now =
+    subst (λ o. MatchOption o (c.grant.new.free ≡ c.args.free.now) (λ bundle. c.grant.new.free ≡ rest c.args.free.now bundle)) c.in_default.is c.in_ok-granted.ensures.left in
+    rw kept c.requires.free

@@ -49,7 +49,7 @@ loop-client-init g c =
       free = record {
         agent = agent.0;
         at = ap (λ as'. slice_get as' c.args.place) (agents-with_offers rows offers) ∙ agent.1;
-        free = c.in_ok-free.ensures ∙ c.free.ensures agent.0 agent.1
+        free = c.in_ok-free.ensures.same ∙ c.free.ensures agent.0 agent.1
             ∙ sym (free-before rows offers c.args.drafts.now.lefts.items c.args.place agent.0 c.requires.left agent.1);
       };
       lefts = refl;

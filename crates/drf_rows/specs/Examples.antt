@@ -16,6 +16,10 @@ use Rattle.drf_rows.specs.Step.{opening, replies_to}
 abbrev pub scalar : List ℕ → ℕ → Resource
 scalar label amount = record { label = label; role = default_role; value = Scalar amount }
 
+-- so many thousandths, for a role of one component
+abbrev pub cpus_for : List ℕ → ℕ → Resource
+cpus_for role amount = record { label = codes "cpus"; role = role ∷ []; value = Scalar amount }
+
 abbrev pub cpus : ℕ → Resource
 cpus amount = scalar (codes "cpus") amount
 
@@ -86,6 +90,31 @@ two_frameworks_replies =
     ∷ [])
     ∷ Done
     ∷ Offers []
+    ∷ []
+
+-- what is reserved for a role is offered to it and below it, and to no other
+abbrev pub reserved_for_eng : List Event
+reserved_for_eng =
+    AddAgent (codes "n1") (cpus_for (codes "eng") 4000 ∷ mem 64000 ∷ [])
+    ∷ in_role (codes "f2") (codes "ops")
+    ∷ Cycle 0
+    ∷ AddFramework (codes "f1") ((codes "eng" ∷ codes "web" ∷ []) ∷ [])
+    ∷ Cycle 0
+    ∷ []
+
+abbrev pub reserved_for_eng_replies : List Reply
+reserved_for_eng_replies =
+    Done
+    ∷ Done
+    ∷ Offers (offer 1 (codes "f2") (codes "ops") (codes "n1") (mem 64000 ∷ []) ∷ [])
+    ∷ Done
+    ∷ Offers (record {
+      number = 2;
+      agent = codes "n1";
+      framework = codes "f1";
+      role = codes "eng" ∷ codes "web" ∷ [];
+      resources = cpus_for (codes "eng") 4000 ∷ [];
+    } ∷ [])
     ∷ []
 
 -- the replies to a framework, an agent and a cycle

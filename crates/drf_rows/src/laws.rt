@@ -6,7 +6,7 @@ ghost use Rattle.std.specs.Prelude.{◌≡◌, [], ◌∷◌, codes};
 ghost use Rattle.drf_rows.specs.LimitNumbers.{ceilings};
 ghost use Rattle.drf_rows.specs.Step.{opening, replies_to};
 ghost use Rattle.drf_rows.specs.Laws.{NoneBeforeItself, AtMostOneBefore, OneServingOrder, TooLittleIsNotGranted, FirstIsGrantedAll, CasesRise, RefusedChangesNothing, AcceptedIsCounted, RunsGoOn, LiveRowsReply, LiveRowsGoOn, LiveRowsRun};
-ghost use Rattle.drf_rows.specs.Examples.{one_cycle, two_cycles, two_cycles_replies, two_frameworks, two_frameworks_replies, replies_with, not_offered, offered_whole, refused_as_too_large, one_agent, two_agents, two_events, two_names, three_names, one_framework, one_client, two_registrations, one_role, roles_listed, cpus, mem, gpus};
+ghost use Rattle.drf_rows.specs.Examples.{one_cycle, two_cycles, two_cycles_replies, two_frameworks, two_frameworks_replies, replies_with, not_offered, offered_whole, refused_as_too_large, one_agent, two_agents, two_events, two_names, three_names, one_framework, one_client, two_registrations, one_role, roles_listed, reserved_for_eng, reserved_for_eng_replies, cpus, cpus_for, mem, gpus};
 ghost use Rattle.drf_rows.specs.OrderExamples.{served, offered, half_at_work, close_shares, equal_shares, weighted_shares, shares_of, first_agent, second_agent, role_tree, more_for_ops, half_weight_of_eng, nothing_held};
 
 use crate::reply::{Refusal, Reply};
@@ -45,12 +45,18 @@ pub fn cycles_example()
     ensures two_frameworks { replies_to ceilings opening two_frameworks ≡ two_frameworks_replies }
 {}
 
+/// What is reserved for a role is offered to it and to the roles below it, and to no other.
+pub fn reservations_example()
+    ensures { replies_to ceilings opening reserved_for_eng ≡ reserved_for_eng_replies }
+{}
+
 /// An offer has at least 0.01 `cpus` or 32 `mem`.
 pub fn least_offer_example()
     ensures below { replies_with (cpus 9 ∷ mem 31999 ∷ []) ≡ not_offered }
     ensures others { replies_with (gpus 8000 ∷ []) ≡ not_offered }
     ensures nothing { replies_with [] ≡ not_offered }
     ensures cpus { replies_with (cpus 10 ∷ []) ≡ offered_whole (cpus 10 ∷ []) }
+    ensures reserved { replies_with (cpus 6 ∷ cpus_for (codes "a") 4 ∷ []) ≡ offered_whole (cpus 6 ∷ cpus_for (codes "a") 4 ∷ []) }
     ensures mem { replies_with (mem 32000 ∷ []) ≡ offered_whole (mem 32000 ∷ []) }
 {}
 
@@ -63,6 +69,7 @@ pub fn inactive_example()
 pub fn limits_example()
     ensures largest { replies_with (cpus 1099511627775 ∷ []) ≡ offered_whole (cpus 1099511627775 ∷ []) }
     ensures too_large { replies_with (cpus 1099511627776 ∷ []) ≡ refused_as_too_large }
+    ensures reserved { replies_with (cpus 1099511627775 ∷ cpus_for (codes "eng") 1 ∷ []) ≡ refused_as_too_large }
     ensures agents { replies_to one_agent opening two_agents ≡ Reply.Done ∷ Reply.Refused Refusal.TooMany ∷ [] }
     ensures names { replies_to two_names opening three_names ≡ Reply.Done ∷ Reply.Refused Refusal.TooMany ∷ Reply.Done ∷ [] }
     ensures frameworks { replies_to one_framework opening two_registrations ≡ Reply.Done ∷ Reply.Refused Refusal.TooMany ∷ [] }

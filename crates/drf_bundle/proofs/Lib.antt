@@ -1,7 +1,6 @@
 mod ChangeLemmas
 mod PlaceLemmas
 pub mod MergeLemmas
-pub mod OneLemmas
 pub mod SearchLemmas
 pub mod SumLemmas
 pub mod ValueAnswers

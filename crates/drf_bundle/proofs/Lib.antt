@@ -1,6 +1,7 @@
 mod ChangeLemmas
 mod PlaceLemmas
 pub mod MergeLemmas
+pub mod NameLemmas
 pub mod SearchLemmas
 pub mod SumLemmas
 pub mod ValueAnswers

@@ -2,7 +2,7 @@
 use Rattle.std.specs.Prelude.{◌≡◌, ℕ, ◌+◌, ◌^◌, ◌<◌, ◌≤◌, ◌&&◌, ◌||◌, Bool, true, false, not, List, [], ◌∷◌, IsTrue, All, Option, Some, None, nat_lt, nat_le, if◌then◌else◌}
 use Rattle.std.specs.List.{list_any}
 use Rattle.std.proofs.Common.{refl, sym, ap, ◌∙◌, subst, inl, inr, cond, arith}
-use Rattle.std.proofs.lemmas.Bool.{false≢true, true≢false, and_parts, and_from, cases_Bool, false_from_ne_true, ltb-true}
+use Rattle.std.proofs.lemmas.Bool.{false≢true, true≢false, and_parts, and_from, cases_Bool, false_from_ne_true, ltb-true, lt-ltb}
 use Rattle.std.proofs.lemmas.Bool.Decides.{nat_tests}
 use Rattle.std.proofs.lemmas.List.Elements.{All-nil, All-cons}
 use Rattle.drf_role.specs.Text.{Text, same_text}
@@ -11,7 +11,7 @@ use Rattle.drf_amount.specs.declared.algebra.AlgebraFault.{AlgebraFault}
 use Rattle.drf_amount.specs.declared.algebra.AlgebraFault.TheVariants as fault
 use Rattle.drf_bundle.specs.Value.{Point, Thousandths, Number, Member, units_in, most, is_one_kind, amount_in, is_same_kind, share_members, united}
 use Rattle.drf_bundle.specs.ValueLaws.{united_within, thousandths-united, given-united, filled_point, point_filled, units_single, share_at}
-use Rattle.drf_bundle.specs.Bundle.{Key, key_of, key_cmp, key_below, same_key, is_in_order, units_where, units, stock, IsResource, IsBundle, value_at, merged, have_clash, quantities_of, add_scalar}
+use Rattle.drf_bundle.specs.Bundle.{Key, key_of, key_cmp, key_below, same_key, is_in_order, units_where, units, stock, IsResource, IsBundle, IsKept, value_at, merged, have_clash, quantities_of, add_scalar, join_or}
 use Rattle.drf_bundle.specs.KeyLaws.{cases_key, key_less, key_greater, key_equal, same_key_itself, same_key_true, below_other, above_other, cases_same, Has, stands_first, first_trans, unit_of, where-cons, unit-here, unit-none, units_found, units_at}
 use Rattle.drf_bundle.specs.JoinLaws.{both_of, in_order-merged, each-merged}
 use Rattle.drf_bundle.specs.FitLaws.{zero_or_some, stock_has, one_kind_of_both}
@@ -20,7 +20,8 @@ use Rattle.drf_bundle.specs.Quantities.{HasNoZeros, amount_of}
 use Rattle.drf_bundle.specs.QuantitiesLaws.{same_quantities}
 use Rattle.drf_bundle.specs.SumLaws.{of_name, amount-add_scalar, amount-quantities_of}
 use Rattle.drf_bundle.specs.UnitProofs.{no_zeros-add_scalar, quantities_no_zeros}
-use Rattle.drf_bundle.specs.Union.{IsPiece, has_other_kind, is_reserved_elsewhere, is_too_much, union_refusal, with_united, united_at}
+use Rattle.drf_bundle.specs.Union.{IsPiece, has_other_kind, is_reserved_elsewhere, is_too_much, union_refusal, with_united, united_at, union}
+use Rattle.drf_bundle.specs.declared.quantities.Entry.{Entry}
 use Rattle.drf_bundle.specs.declared.resource.Resource.{Resource}
 use Rattle.drf_bundle.specs.declared.value.Value.{Value}
 use Rattle.drf_bundle.specs.declared.value.Clash.TheVariants.{Kinds, Members}
@@ -96,6 +97,17 @@ room_from_refusal bundle r none = of (has_other_kind bundle r.label r.value) (is
     of false true z kinds members small none = absurd (cc)
     of false false true kinds members small none = absurd (cc)
     of false false false kinds members small none = record { kinds = kinds; members = members; small = small }
+
+pub room_fits : (bundle : List Resource) (r : Resource) → IsRoom bundle r
+    → stock bundle r.label Thousandths + units_in r.value Thousandths < 2 ^ 64
+room_fits bundle r room = let small = room.small in grind (arith, nat_tests, small)
+
+-- why there is none, by what was found
+pub refusal_is : (bundle : List Resource) (r : Resource) (x y z : Bool) → has_other_kind bundle r.label r.value ≡ x
+    → is_reserved_elsewhere bundle r ≡ y → is_too_much bundle r ≡ z
+    → cond x (Some fault.Kind) (cond y (Some fault.Overlap) (cond z (Some fault.TooLarge) None)) ≡ union_refusal bundle r
+refusal_is bundle r x y z kinds members small =
+    λ i. cond (sym kinds i) (Some fault.Kind) (cond (sym members i) (Some fault.Overlap) (cond (sym small i) (Some fault.TooLarge) None))
 
 or_parts : (x y : Bool) → (x || y) ≡ false → (x ≡ false) × (y ≡ false)
 or_parts true y none = absurd (true≢false none)
@@ -179,9 +191,6 @@ module _ (bundle : List Resource) (r : Resource) (is : IsBundle bundle) (one : I
         omega (arith, add, unit-none (of_name name) Thousandths r other)
   ]
 
-  thousandths_fit : stock bundle r.label Thousandths + units_in r.value Thousandths < 2 ^ 64
-  thousandths_fit = let small = room.small in grind (arith, nat_tests, small)
-
   single_at_most : (name : Text) (p : Point) → most p ≡ 1 → stock whole name p ≤ most p
   single_at_most name p single = elim (cases_Bool (same_text name r.label)) [
     | inl named ↦ elim (zero_or_some (units_in r.value p)) [
@@ -196,7 +205,7 @@ module _ (bundle : List Resource) (r : Resource) (is : IsBundle bundle) (one : I
   at_most : (name : Text) (p : Point) → stock whole name p ≤ most p
   at_most name Thousandths = elim (cases_Bool (same_text name r.label)) [
     | inl named ↦ subst (λ (t : Text). stock whole t Thousandths ≤ most Thousandths) (sym (same_from_test name r.label named))
-        (omega (arith, stock_within r.label Thousandths, unit-here (of_name r.label) Thousandths r (same_itself r.label), thousandths_fit))
+        (omega (arith, stock_within r.label Thousandths, unit-here (of_name r.label) Thousandths r (same_itself r.label), room_fits bundle r room))
     | inr other ↦ omega (arith, stock_within name Thousandths, unit-none (of_name name) Thousandths r other, is.fits.at_most name Thousandths)
   ]
   at_most name (Number n) = single_at_most name (Number n) refl
@@ -212,7 +221,7 @@ module _ (bundle : List Resource) (r : Resource) (is : IsBundle bundle) (one : I
         role = first.role;
         role_read = first.role_read;
         value = given-united s.value t.value first.value second.value
-            (omega (arith, stock_has bundle s Thousandths has, ap (λ (t : Text). stock bundle t Thousandths) label, subst (λ (t : Resource). stock bundle t.label Thousandths + units_in t.value Thousandths < 2 ^ 64) same thousandths_fit));
+            (omega (arith, stock_has bundle s Thousandths has, ap (λ (t : Text). stock bundle t Thousandths) label, subst (λ (t : Resource). stock bundle t.label Thousandths + units_in t.value Thousandths < 2 ^ 64) same (room_fits bundle r room)));
         filled = point_filled (united s.value t.value) p.0 (omega (arith, p.1, united_within s.value t.value p.0));
       }
   passes s t has (inr nowhere) keys first second = absurd nowhere
@@ -235,20 +244,42 @@ module _ (bundle : List Resource) (r : Resource) (is : IsBundle bundle) (one : I
       (quantities_no_zeros whole bundle-merged_one) (no_zeros-add_scalar (quantities_of bundle) r one.filled (quantities_no_zeros bundle is))
       (λ n. omega (arith, amount-quantities_of whole n, amount-add_scalar (quantities_of bundle) r n, amount-quantities_of bundle n, stock_thousandths n))
 
--- ---- a union is a bundle, be there anything of the resource or not
+-- ---- the union, be there anything of the resource or not
 
-pub filled_piece : (r : Resource) → IsPiece r → nat_lt 0 (amount_in r.value) ≡ true → IsResource r
+with_empty : (bundle : List Resource) (r : Resource) → nat_lt 0 (amount_in r.value) ≡ false → with_united bundle r ≡ bundle
+with_empty bundle r nothing = rw nothing (merged-empty bundle)
+
+with_filled : (bundle : List Resource) (r : Resource) → nat_lt 0 (amount_in r.value) ≡ true → with_united bundle r ≡ merged bundle (r ∷ [])
+with_filled bundle r some = rw some refl
+
+filled_piece : (r : Resource) → IsPiece r → nat_lt 0 (amount_in r.value) ≡ true → IsResource r
 filled_piece r piece some =
     record { label = piece.label; role = piece.role; role_read = piece.role_read; value = piece.value; filled = ltb-true 0 (amount_in r.value) some }
 
 pub bundle-with_united : (bundle : List Resource) (r : Resource) → IsBundle bundle → IsPiece r → union_refusal bundle r ≡ None
     → IsBundle (with_united bundle r)
 bundle-with_united bundle r is piece none = elim (cases_Bool (nat_lt 0 (amount_in r.value))) [
-  | inl some ↦ rw some (bundle-merged_one bundle r is (filled_piece r piece some) (room_from_refusal bundle r none))
-  | inr nothing ↦ rw (nothing, merged-empty bundle) is
+  | inl some ↦ rw (with_filled bundle r some) (bundle-merged_one bundle r is (filled_piece r piece some) (room_from_refusal bundle r none))
+  | inr nothing ↦ rw (with_empty bundle r nothing) is
 ]
 
-pub quantities-with_united : (bundle : List Resource) (r : Resource) → IsBundle bundle → IsPiece r → union_refusal bundle r ≡ None
-    → nat_lt 0 (amount_in r.value) ≡ true → quantities_of (with_united bundle r) ≡ add_scalar (quantities_of bundle) r
-quantities-with_united bundle r is piece none some =
-    rw some (quantities-merged bundle r is (filled_piece r piece some) (room_from_refusal bundle r none))
+-- ---- the same, in the terms that the code has at hand
+
+pub union_empty : (bundle : List Resource) (r : Resource) → union_refusal bundle r ≡ None → amount_in r.value ≡ 0
+    → union bundle r ≡ Some bundle
+union_empty bundle r none zero = λ i. join_or (none i) (with_empty bundle r (ap (nat_lt 0) zero) i)
+
+pub some_in : (r : Resource) → (amount_in r.value ≡ 0 → ⊥) → nat_lt 0 (amount_in r.value) ≡ true
+some_in r some = lt-ltb 0 (amount_in r.value) (elim (zero_or_some (amount_in r.value)) [ inl zero ↦ absurd (some zero) | inr above ↦ above ])
+
+-- what a bundle keeps stays right
+pub kept-merged : (bundle more : List Resource) (quantities sums : List Entry) (r : Resource) → IsKept bundle quantities
+    → IsPiece r → union_refusal bundle r ≡ None → nat_lt 0 (amount_in r.value) ≡ true → more ≡ merged bundle (r ∷ []) → sums ≡ add_scalar quantities r
+    → IsKept more sums
+kept-merged bundle more quantities sums r kept piece none some is sum =
+    let one = filled_piece r piece some in
+    let room = room_from_refusal bundle r none in
+    record {
+      bundle = subst IsBundle (sym is) (bundle-merged_one bundle r kept.bundle one room);
+      sums = sum ∙ ap (λ (q : List Entry). add_scalar q r) kept.sums ∙ sym (quantities-merged bundle r kept.bundle one room) ∙ ap quantities_of (sym is);
+    }

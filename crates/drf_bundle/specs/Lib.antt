@@ -16,5 +16,7 @@ pub mod PartLaws
 pub mod SumLaws
 pub mod Taken
 pub mod Union
+pub mod UnionLaws
+pub mod OneLaws
 pub mod UnitLaws
 pub mod UnitProofs

@@ -8,6 +8,7 @@ mod names;
 mod quantities;
 mod resource;
 mod scalar_bundle;
+mod union;
 mod value;
 
 pub use bundle::Bundle;

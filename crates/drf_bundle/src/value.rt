@@ -1,6 +1,6 @@
 //! One resource's value: thousandths, a set of numbers or a set of labels.
 ghost use Rattle.std.specs.Prelude.{◌≡◌, ◌<◌, ◌^◌, IsTrue, ◌↔◌, IfOk};
-ghost use Rattle.drf_bundle.specs.Value.{IsGiven, amount_in, clash_in, united, less, has_all_of};
+ghost use Rattle.drf_bundle.specs.Value.{Thousandths, units_in, IsGiven, amount_in, clash_in, united, less, has_all_of};
 
 use drf_amount::{Algebra, Scalar};
 use drf_kinds::{Items, Ranges};
@@ -48,6 +48,17 @@ impl Value {
             Value::Scalar(scalar) => scalar.amount(),
             Value::Ranges(ranges) => ranges.amount(),
             Value::Items(items) => items.amount(),
+        }
+    }
+
+    /// Its thousandths, where it is a scalar.
+    pub(crate) fn thousandths(&self) -> u64
+        ensures { result ≡ units_in self.now Thousandths }
+    {
+        match self {
+            Value::Scalar(scalar) => scalar.thousandths(),
+            Value::Ranges(_) => 0,
+            Value::Items(_) => 0,
         }
     }
 

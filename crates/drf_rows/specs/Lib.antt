@@ -4,6 +4,7 @@ pub mod Client
 pub mod Share
 pub mod Holdings
 pub mod Held
+pub mod Weights
 pub mod Cycle
 pub mod Endings
 pub mod Consistent
@@ -20,4 +21,5 @@ pub mod ConsistentLaws
 pub mod RegistrationLaws
 pub mod Examples
 pub mod OrderExamples
+pub mod WeightExamples
 pub mod Laws

@@ -11,7 +11,7 @@ use Rattle.drf_rows.specs.Held.{standing_of}
 use Rattle.drf_rows.specs.Cycle.{free_of, grant, new_offer, with_offer, tried, all_tried, turn_order, turn, turns, at_moment, cycle}
 use Rattle.drf_rows.specs.Step.{live_rows, refusal_of, effect, answer, rows_after, rows_after_all, reply_to, replies_to}
 use Rattle.drf_rows.specs.declared.event.Event.{Event}
-use Rattle.drf_rows.specs.declared.event.Event.TheVariants.{AddAgent, AddFramework, Cycle}
+use Rattle.drf_rows.specs.declared.event.Event.TheVariants.{AddAgent, AddFramework, SetWeight, Cycle}
 use Rattle.drf_rows.specs.declared.reply.Refusal.{Refusal}
 use Rattle.drf_rows.specs.declared.reply.Reply.TheVariants.{Refused}
 use Rattle.drf_rows.specs.declared.rows.AgentRow.{AgentRow}
@@ -98,6 +98,7 @@ refusal_of-live : (limits : LimitNumbers) (rows : Rows) (event : Event) → refu
 unfolding refusal_of
 refusal_of-live limits rows (AddAgent agent total) = refl
 refusal_of-live limits rows (AddFramework framework roles) = refl
+refusal_of-live limits rows (SetWeight role weight) = refl
 refusal_of-live limits rows (Cycle at) = refl
 
 -- the effect on the live rows has the live rows of the effect
@@ -109,6 +110,8 @@ effect-live rows (AddAgent agent total) n =
     ap (λ (fs : List FilterRow). record (effect rows (AddAgent agent total)) { accepted = n; filters = fs }) (live_later rows.clock rows.clock rows.filters (omega arith))
 effect-live rows (AddFramework framework roles) n =
     ap (λ (fs : List FilterRow). record (effect rows (AddFramework framework roles)) { accepted = n; filters = fs }) (live_later rows.clock rows.clock rows.filters (omega arith))
+effect-live rows (SetWeight role weight) n =
+    ap (λ (fs : List FilterRow). record (effect rows (SetWeight role weight)) { accepted = n; filters = fs }) (live_later rows.clock rows.clock rows.filters (omega arith))
 effect-live rows (Cycle at) n =
     let agents : List AgentRow = filter (λ a. a.active) rows.agents in
     let start : Rows = at_moment rows at in
@@ -124,6 +127,7 @@ answer-live : (rows : Rows) (event : Event) → answer (live_rows rows) (effect 
 unfolding effect cycle
 answer-live rows (AddAgent agent total) = refl
 answer-live rows (AddFramework framework roles) = refl
+answer-live rows (SetWeight role weight) = refl
 answer-live rows (Cycle at) =
     ap (λ (r : Rows). answer rows r (Cycle at))
     (turns-filters (at_moment rows at) (filter (λ f. nat_lt rows.clock f.until) rows.filters) (filter (λ a. a.active) rows.agents))

@@ -2,7 +2,7 @@
 use Rattle.std.specs.Prelude.{ℕ, codes}
 use Rattle.drf_role.specs.Text.{Text}
 use Rattle.drf_rows.specs.declared.reply.Refusal.{Refusal}
-use Rattle.drf_rows.specs.declared.reply.Refusal.TheVariants.{HistoryFull, BadMoment, KnownAgent, KnownFramework, Empty, TooLarge, TooMany}
+use Rattle.drf_rows.specs.declared.reply.Refusal.TheVariants.{HistoryFull, BadMoment, KnownAgent, KnownFramework, Empty, BadWeight, TooLarge, TooMany}
 
 -- the number of a refusal: of several whose cases hold, the one of the least number is answered
 abbrev pub number_of : Refusal → ℕ
@@ -11,6 +11,7 @@ number_of BadMoment = 2
 number_of KnownAgent = 4
 number_of KnownFramework = 6
 number_of Empty = 13
+number_of BadWeight = 17
 number_of TooLarge = 18
 number_of TooMany = 19
 
@@ -21,5 +22,6 @@ name_of BadMoment = codes "BadMoment"
 name_of KnownAgent = codes "KnownAgent"
 name_of KnownFramework = codes "KnownFramework"
 name_of Empty = codes "Empty"
+name_of BadWeight = codes "BadWeight"
 name_of TooLarge = codes "TooLarge"
 name_of TooMany = codes "TooMany"

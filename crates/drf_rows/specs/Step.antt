@@ -9,6 +9,7 @@ use Rattle.drf_rows.specs.LimitNumbers.{LimitNumbers}
 use Rattle.drf_role.specs.Path.{Path, same_path}
 use Rattle.drf_rows.specs.Held.{cluster_total, clients_of}
 use Rattle.drf_rows.specs.Cycle.{cycle}
+use Rattle.drf_rows.specs.Weights.{is_weight, too_many_weights, weights_with}
 use Rattle.drf_rows.specs.declared.limits.TheConstants.{LATEST_MOMENT, LARGEST_AMOUNT}
 use Rattle.drf_rows.specs.declared.rows.AgentRow.{AgentRow}
 use Rattle.drf_rows.specs.declared.rows.ClientRow.{ClientRow}
@@ -16,11 +17,11 @@ use Rattle.drf_rows.specs.declared.rows.FrameworkRow.{FrameworkRow}
 use Rattle.drf_rows.specs.declared.rows.OfferRow.{OfferRow}
 use Rattle.drf_rows.specs.declared.rows.Rows.{Rows}
 use Rattle.drf_rows.specs.declared.event.Event.{Event}
-use Rattle.drf_rows.specs.declared.event.Event.TheVariants.{AddAgent, AddFramework, Cycle}
+use Rattle.drf_rows.specs.declared.event.Event.TheVariants.{AddAgent, AddFramework, SetWeight, Cycle}
 use Rattle.drf_rows.specs.declared.reply.Reply.{Reply}
 use Rattle.drf_rows.specs.declared.reply.Reply.TheVariants.{Done, Offers, Refused}
 use Rattle.drf_rows.specs.declared.reply.Refusal.{Refusal}
-use Rattle.drf_rows.specs.declared.reply.Refusal.TheVariants.{HistoryFull, BadMoment, KnownAgent, KnownFramework, Empty, TooLarge, TooMany}
+use Rattle.drf_rows.specs.declared.reply.Refusal.TheVariants.{HistoryFull, BadMoment, KnownAgent, KnownFramework, Empty, BadWeight, TooLarge, TooMany}
 use Rattle.drf_rows.specs.declared.reply.OfferLine.{OfferLine}
 
 -- the rows of an allocator that has just been opened
@@ -100,6 +101,11 @@ cases_of limits rows (AddFramework framework roles) =
     ∷ (is_empty roles, Empty)
     ∷ (too_many_frameworks limits rows roles, TooMany)
     ∷ []
+cases_of limits rows (SetWeight role weight) =
+    (is_full limits rows, HistoryFull)
+    ∷ (not (is_weight weight), BadWeight)
+    ∷ (too_many_weights limits rows role, TooMany)
+    ∷ []
 cases_of limits rows (Cycle at) =
     (is_full limits rows, HistoryFull)
     ∷ (nat_lt LATEST_MOMENT at, BadMoment)
@@ -113,6 +119,7 @@ refusal_of limits rows event = first_case (cases_of limits rows event)
 unfoldable pub effect : Rows → Event → Rows
 effect rows (AddAgent agent total) = record rows { agents = with_agent rows agent total }
 effect rows (AddFramework framework roles) = record rows { frameworks = with_framework rows framework roles }
+effect rows (SetWeight role weight) = record rows { weights = weights_with rows.weights role weight }
 effect rows (Cycle at) = cycle rows at
 
 -- an offer, as it is told
@@ -127,6 +134,7 @@ new_offers before after = drop (length before.offers) after.offers
 abbrev pub answer : Rows → Rows → Event → Reply
 answer before after (AddAgent agent total) = Done
 answer before after (AddFramework framework roles) = Done
+answer before after (SetWeight role weight) = Done
 answer before after (Cycle at) = Offers (map line_of (new_offers before after))
 
 -- the rows after an event

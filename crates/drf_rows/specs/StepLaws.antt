@@ -5,7 +5,7 @@ use Rattle.drf_rows.specs.LimitNumbers.{LimitNumbers}
 use Rattle.drf_rows.specs.Step.{refusal_of, effect, answer, rows_after, reply_to}
 use Rattle.drf_rows.specs.Laws.{CasesRise}
 use Rattle.drf_rows.specs.declared.event.Event.{Event}
-use Rattle.drf_rows.specs.declared.event.Event.TheVariants.{AddAgent, AddFramework, Cycle}
+use Rattle.drf_rows.specs.declared.event.Event.TheVariants.{AddAgent, AddFramework, SetWeight, Cycle}
 use Rattle.drf_rows.specs.declared.reply.Refusal.{Refusal}
 use Rattle.drf_rows.specs.declared.reply.Reply.TheVariants.{Refused}
 use Rattle.drf_rows.specs.declared.rows.Rows.{Rows}
@@ -13,6 +13,7 @@ use Rattle.drf_rows.specs.declared.rows.Rows.{Rows}
 pub cases_rise : CasesRise
 cases_rise limits rows (AddAgent agent total) = refl
 cases_rise limits rows (AddFramework framework roles) = refl
+cases_rise limits rows (SetWeight role weight) = refl
 cases_rise limits rows (Cycle at) = refl
 
 -- a refused event is told so, and the rows stay

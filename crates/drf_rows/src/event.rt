@@ -13,6 +13,8 @@ pub enum Event {
     AddAgent { agent: Name, total: Bundle },
     /// A framework registers in its roles.
     AddFramework { framework: Name, roles: Table<Role> },
+    /// A role gets a weight, in thousandths.
+    SetWeight { role: Role, weight: u64 },
     /// The allocator offers what is free, at a moment in milliseconds.
     Cycle { at: u64 },
 }
@@ -39,6 +41,10 @@ impl Event {
             Event::AddFramework { framework, roles } => Ok(Event::AddFramework {
                 framework: framework.copy()?,
                 roles: copy_roles(roles)?,
+            }),
+            Event::SetWeight { role, weight } => Ok(Event::SetWeight {
+                role: role.copy()?,
+                weight: *weight,
             }),
             Event::Cycle { at } => Ok(Event::Cycle { at: *at }),
         }

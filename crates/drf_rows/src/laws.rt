@@ -8,6 +8,7 @@ ghost use Rattle.drf_rows.specs.Step.{opening, replies_to};
 ghost use Rattle.drf_rows.specs.Laws.{NoneBeforeItself, AtMostOneBefore, OneServingOrder, TooLittleIsNotGranted, FirstIsGrantedAll, CasesRise, RefusedChangesNothing, AcceptedIsCounted, RunsGoOn, LiveRowsReply, LiveRowsGoOn, LiveRowsRun};
 ghost use Rattle.drf_rows.specs.Examples.{one_cycle, two_cycles, two_cycles_replies, two_frameworks, two_frameworks_replies, replies_with, not_offered, offered_whole, refused_as_too_large, one_agent, two_agents, two_events, two_names, three_names, one_framework, one_client, two_registrations, one_role, roles_listed, reserved_for_eng, reserved_for_eng_replies, cpus, cpus_for, mem, gpus};
 ghost use Rattle.drf_rows.specs.OrderExamples.{served, offered, half_at_work, close_shares, equal_shares, weighted_shares, shares_of, first_agent, second_agent, role_tree, more_for_ops, half_weight_of_eng, nothing_held};
+ghost use Rattle.drf_rows.specs.WeightExamples.{bounds, bounds_replies, replaced, weights_after, replaced_rows, one_weight, one_weight_replies, replies_by_weight, third_to};
 
 use crate::reply::{Refusal, Reply};
 
@@ -89,4 +90,14 @@ pub fn order_example()
     ensures more_for_one { served (role_tree 2 more_for_ops []) ≡ codes "f1" ∷ codes "f2" ∷ codes "f3" ∷ [] }
     ensures light { served (role_tree 2 more_for_ops half_weight_of_eng) ≡ codes "f3" ∷ codes "f1" ∷ codes "f2" ∷ [] }
     ensures below { served nothing_held ≡ codes "f2" ∷ codes "f1" ∷ [] }
+{}
+
+/// Weights are from a thousandth to 1000, a row that is replaced keeps its place, and the heavier of two roles that hold
+/// the same is served first.
+pub fn weights_example()
+    ensures bounds { replies_to ceilings opening bounds ≡ bounds_replies }
+    ensures replaced { weights_after replaced ≡ replaced_rows }
+    ensures one_row { replies_to one_weight opening replaced ≡ one_weight_replies }
+    ensures weight_of_one { replies_by_weight 1000 ≡ third_to (codes "fa") (codes "a") }
+    ensures heavier { replies_by_weight 1001 ≡ third_to (codes "fb") (codes "b") }
 {}

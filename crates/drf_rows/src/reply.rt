@@ -17,6 +17,8 @@ pub enum Refusal {
     KnownFramework,
     /// The framework has no roles.
     Empty,
+    /// The weight is not from 1 to 1,000,000 thousandths.
+    BadWeight,
     /// A scalar of the agent exceeds 2^40 - 1 thousandths.
     TooLarge,
     /// The event would make a table larger than its limit.
@@ -36,6 +38,7 @@ impl Refusal {
             Refusal::KnownAgent => 4,
             Refusal::KnownFramework => 6,
             Refusal::Empty => 13,
+            Refusal::BadWeight => 17,
             Refusal::TooLarge => 18,
             Refusal::TooMany => 19,
         }
@@ -51,6 +54,7 @@ impl Refusal {
             Refusal::KnownAgent => "KnownAgent",
             Refusal::KnownFramework => "KnownFramework",
             Refusal::Empty => "Empty",
+            Refusal::BadWeight => "BadWeight",
             Refusal::TooLarge => "TooLarge",
             Refusal::TooMany => "TooMany",
         }

@@ -5,7 +5,8 @@ use Rattle.std.proofs.lemmas.Bool.{true≢false, cases_Bool, and_parts, and_from
 use Rattle.std.proofs.lemmas.List.Quantifiers.{position-Some}
 use Rattle.drf_role.specs.Path.{same_path}
 use Rattle.drf_rows.specs.declared.rows.WeightRow.{WeightRow}
-use Rattle.drf_sorter.specs.Content.{Content, is_weight, weights_with}
+use Rattle.drf_rows.specs.Weights.{is_weight, weights_with}
+use Rattle.drf_sorter.specs.Content.{Content}
 use Rattle.drf_sorter.specs.Plain.{plain_content}
 use Rattle.drf_sorter.specs.declared.plain.PlainSorter.{PlainSorter}
 

@@ -1,5 +1,5 @@
 -- What a sorter holds: clients with what they hold, the total of the cluster, and weights.
-use Rattle.std.specs.Prelude.{◌≡◌, ℕ, ◌+◌, ◌-◌, ◌^◌, ◌<◌, ◌≤◌, Bool, true, not, ◌&&◌, List, [], ◌∷◌, ◌++◌, map, filter, sum_by, if◌then◌else◌, nat_le, IsTrue}
+use Rattle.std.specs.Prelude.{◌≡◌, ℕ, ◌+◌, ◌-◌, ◌^◌, ◌<◌, ◌≤◌, Bool, true, not, List, [], ◌∷◌, ◌++◌, map, filter, sum_by, if◌then◌else◌, IsTrue}
 use Rattle.std.specs.List.{list_any, AllByRecursion}
 use Rattle.std.specs.List.Sorted.{IsPermutation}
 use Rattle.drf_bundle.specs.Quantities.{amount_of}
@@ -7,6 +7,7 @@ use Rattle.drf_bundle.specs.declared.quantities.Entry.{Entry}
 use Rattle.drf_role.specs.Path.{Path, same_path, begins_with}
 use Rattle.drf_rows.specs.Share.{Standing, is_serving_order}
 use Rattle.drf_rows.specs.Held.{weight_of}
+use Rattle.drf_rows.specs.Weights.{weights_with}
 use Rattle.drf_role.specs.Text.{Text}
 use Rattle.drf_rows.specs.declared.rows.WeightRow.{WeightRow}
 
@@ -82,19 +83,9 @@ abbrev pub HasChargeAt : Content → Path → List Entry → Type 0
 HasChargeAt content path quantities =
     AllByRecursion (λ c. same_path c.path path ≡ true → HasCharge quantities c) content.clients
 
--- a weight, in thousandths
-abbrev pub is_weight : ℕ → Bool
-is_weight weight = nat_le 1 weight && nat_le weight 1000000
-
 -- the role has a weight of its own
 abbrev pub has_weight : Content → Path → Bool
 has_weight content role = list_any (λ w. same_path w.role role) content.weights
-
--- a weight that is replaced keeps its place, and a new one stands last
-abbrev pub weights_with : List WeightRow → Path → ℕ → List WeightRow
-weights_with [] role weight = record { role = role; weight = weight } ∷ []
-weights_with (w ∷ ws) role weight =
-    if same_path w.role role then record w { weight = weight } ∷ ws else w ∷ weights_with ws role weight
 
 -- a role is given a weight
 abbrev pub with_weight : Content → Path → ℕ → Content

@@ -4,7 +4,8 @@ ghost use Rattle.std.specs.Option.{option_copied};
 ghost use Rattle.std.specs.List.{IsDistinct, IsDistinct-prop, find, list_all, position};
 ghost use Rattle.drf_role.specs.Path.{same_path};
 ghost use Rattle.drf_rows.specs.Held.{weight_of};
-ghost use Rattle.drf_sorter.specs.Content.{IsSound, active_paths, is_weight};
+ghost use Rattle.drf_rows.specs.Weights.{is_weight};
+ghost use Rattle.drf_sorter.specs.Content.{IsSound, active_paths};
 ghost use Rattle.drf_sorter.specs.Keys.{keys_of, key_by};
 
 use crate::candidate::Candidate;

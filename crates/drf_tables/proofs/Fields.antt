@@ -80,7 +80,7 @@ module _ (t : Inside) where
     last_agent = inserted ∙ insert_entry-new name a t.agents.entries (sym (has_agent-rows_in name) ∙ new)
 
     pub rows_of-agent : a.active ≡ true
-        → rows_of entries t.frameworks.entries t.offers.items t.clock t.next_offer t.accepted
+        → rows_of entries t.frameworks.entries t.offers.items t.weights.entries t.clock t.next_offer t.accepted
         ≡ agent_added (rows_in t) name a.total
     unfolding rows_of
     rows_of-agent active =
@@ -97,7 +97,7 @@ module _ (t : Inside) where
   -- and so does a framework
   pub rows_of-framework : (entries : List (Text × Vec ClientRow)) (name : Text) (v : Vec ClientRow)
       → has_framework (rows_in t) name ≡ false → entries ≡ insert_entry same_text t.frameworks.entries name v
-      → rows_of t.agents.entries entries t.offers.items t.clock t.next_offer t.accepted
+      → rows_of t.agents.entries entries t.offers.items t.weights.entries t.clock t.next_offer t.accepted
       ≡ framework_added (rows_in t) (framework_row (name, v))
   unfolding rows_of
   rows_of-framework entries name v new inserted =
@@ -111,7 +111,8 @@ module _ (t : Inside) where
       → map agent_row entries ≡ map agent_row t.agents.entries
       → framework_rows counted ≡ counting_all (framework_rows t.frameworks.entries) made
       → all ≡ t.offers.items ++ made
-      → rows_of entries counted all t.clock (t.next_offer + length made) t.accepted ≡ with_offers (rows_in t) made
+      → rows_of entries counted all t.weights.entries t.clock (t.next_offer + length made) t.accepted
+      ≡ with_offers (rows_in t) made
   unfolding rows_of
   rows_of-offers entries counted all made agents frameworks offers =
       (λ i. record (offers_added (rows_in t) made) { agents = agents i; frameworks = frameworks i; offers = offers i })

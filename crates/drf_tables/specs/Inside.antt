@@ -2,6 +2,7 @@
 use Rattle.std.specs.Prelude.{◌≡◌, ℕ, List, [], length, map}
 use Rattle.std.specs.Global.{Vec}
 use Rattle.drf_role.specs.Text.{Text}
+use Rattle.drf_role.specs.Path.{Path}
 use Rattle.drf_bundle.specs.declared.quantities.Entry.{Entry}
 use Rattle.drf_bundle.specs.declared.resource.Resource.{Resource}
 use Rattle.drf_rows.specs.Held.{clients_of, cluster_total}
@@ -10,6 +11,7 @@ use Rattle.drf_rows.specs.declared.rows.AgentRow.{AgentRow}
 use Rattle.drf_rows.specs.declared.rows.ClientRow.{ClientRow}
 use Rattle.drf_rows.specs.declared.rows.FrameworkRow.{FrameworkRow}
 use Rattle.drf_rows.specs.declared.rows.OfferRow.{OfferRow}
+use Rattle.drf_rows.specs.declared.rows.WeightRow.{WeightRow}
 use Rattle.drf_rows.specs.declared.rows.Rows.{Rows}
 use Rattle.drf_tables.specs.Drafts.{frees_of}
 use Rattle.drf_tables.specs.declared.tables.Agent.{Agent}
@@ -24,17 +26,24 @@ framework_row e = record { name = e.0; clients = e.1.items }
 abbrev pub framework_rows : List (Text × Vec ClientRow) → List FrameworkRow
 framework_rows entries = map framework_row entries
 
+abbrev pub weight_row : Path × ℕ → WeightRow
+weight_row e = record { role = e.0; weight = e.1 }
+
+abbrev pub weight_rows : List (Path × ℕ) → List WeightRow
+weight_rows entries = map weight_row entries
+
 -- the free part of each agent
 abbrev pub frees_in : List (Text × Agent) → List (List Resource)
 frees_in entries = map (λ e. e.1.free) entries
 
-unfoldable pub rows_of : List (Text × Agent) → List (Text × Vec ClientRow) → List OfferRow → ℕ → ℕ → ℕ → Rows
-rows_of agents frameworks offers clock next_offer accepted = record {
+unfoldable pub rows_of :
+    List (Text × Agent) → List (Text × Vec ClientRow) → List OfferRow → List (Path × ℕ) → ℕ → ℕ → ℕ → Rows
+rows_of agents frameworks offers weights clock next_offer accepted = record {
   agents = map agent_row agents;
   frameworks = framework_rows frameworks;
   offers = offers;
   tasks = [];
-  weights = [];
+  weights = weight_rows weights;
   limits = [];
   filters = [];
   clock = clock;
@@ -44,7 +53,8 @@ rows_of agents frameworks offers clock next_offer accepted = record {
 
 -- the rows that the fields stand for
 abbrev pub rows_in : Inside → Rows
-rows_in t = rows_of t.agents.entries t.frameworks.entries t.offers.items t.clock t.next_offer t.accepted
+rows_in t =
+    rows_of t.agents.entries t.frameworks.entries t.offers.items t.weights.entries t.clock t.next_offer t.accepted
 
 -- what is kept beside the rows is what they say
 pub record IsKept (rows : Rows) (frees : List (List Resource)) (sum : List Entry) (number : ℕ) : Type 0 where

@@ -1,11 +1,11 @@
 //! The rows, as they are handed out.
 ghost use Rattle.std.specs.Prelude.{◌≡◌, map, IfOk};
-ghost use Rattle.drf_tables.specs.Inside.{agent_row, framework_rows};
+ghost use Rattle.drf_tables.specs.Inside.{agent_row, framework_rows, weight_rows};
 
 use crate::tables::Agent;
 use drf_amount::Algebra;
-use drf_role::Name;
-use drf_rows::{AgentRow, ClientRow, FrameworkRow, OfferRow, Table};
+use drf_role::{Name, Role};
+use drf_rows::{AgentRow, ClientRow, FrameworkRow, OfferRow, Table, WeightRow};
 use indexmap::IndexMap;
 use std::alloc::{AllocError, Global};
 
@@ -67,6 +67,22 @@ pub(crate) fn offer_rows(alloc: Global, offers: &[OfferRow]) -> Result<Table<Off
             framework: offer.framework.copy()?,
             role: offer.role.copy()?,
             bundle: offer.bundle.copy()?,
+        })?;
+    }
+    Ok(Table::from_vec(rows))
+}
+
+pub(crate) fn weight_rows(
+    alloc: Global,
+    weights: &IndexMap<Role, u64>,
+) -> Result<Table<WeightRow>, AllocError>
+    ensures { IfOk result (λ rows. rows ≡ weight_rows weights.now.entries) }
+{
+    let mut rows = Vec::with_capacity(alloc, weights.len())?;
+    for (role, weight) in weights {
+        rows.push(WeightRow {
+            role: role.copy()?,
+            weight: *weight,
         })?;
     }
     Ok(Table::from_vec(rows))

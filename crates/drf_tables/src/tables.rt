@@ -8,6 +8,7 @@ ghost use Rattle.drf_bundle.specs.Bundle.{quantities_of};
 ghost use Rattle.drf_rows.specs.Held.{clients_of, cluster_total};
 ghost use Rattle.drf_rows.specs.Cycle.{free_of};
 ghost use Rattle.drf_rows.specs.Step.{opening, live_rows, has_agent, has_framework, with_agent};
+ghost use Rattle.drf_rows.specs.Weights.{has_weight, weights_with};
 ghost use Rattle.drf_rows.specs.Consistent.{IsConsistent, are_distinct_roles};
 ghost use Rattle.drf_rows.specs.declared.limits.TheConstants.{LARGEST_AMOUNT};
 ghost use Rattle.drf_rows.specs.declared.rows.AgentRow.{AgentRow};
@@ -15,11 +16,11 @@ ghost use Rattle.drf_rows.specs.declared.rows.FrameworkRow.{FrameworkRow};
 ghost use Rattle.drf_tables.specs.Drafts.{with_offers, frees_of, frees_after};
 ghost use Rattle.drf_tables.specs.Stored.{IsPlain};
 
-use crate::listing::{agent_rows, framework_rows, offer_rows};
+use crate::listing::{agent_rows, framework_rows, offer_rows, weight_rows};
 use crate::offers::{count_offers, put_lefts};
 use drf_amount::Algebra;
 use drf_bundle::{Bundle, Quantities};
-use drf_role::Name;
+use drf_role::{Name, Role};
 use drf_rows::{ClientRow, OfferRow, Rows, Table};
 use indexmap::IndexMap;
 use std::alloc::{AllocError, Global};
@@ -47,6 +48,7 @@ pub struct Tables {
     agents: IndexMap<Name, Agent>,
     frameworks: IndexMap<Name, Vec<ClientRow>>,
     offers: Vec<OfferRow>,
+    weights: IndexMap<Role, u64>,
     clock: u64,
     next_offer: u64,
     accepted: u64,
@@ -66,7 +68,7 @@ impl Model for Tables {
     ghost use Rattle.indexmap.specs.IndexMap.{spare};
     ghost use Rattle.drf_tables.specs.Inside.{rows_in, frees_in, IsKept};
 
-    ghost view = { λ t. record { rows = rows_in t; room = spare t.frameworks } };
+    ghost view = { λ t. record { rows = rows_in t; room = spare t.frameworks; weight_room = spare t.weights } };
 
     ghost invariant = { λ t. IsKept (rows_in t) (frees_in t.agents.entries) t.total t.clients };
 }
@@ -80,6 +82,7 @@ impl Tables {
             agents: IndexMap::new(alloc),
             frameworks: IndexMap::new(alloc),
             offers: Vec::new(alloc),
+            weights: IndexMap::new(alloc),
             clock: 0,
             next_offer: 1,
             accepted: 0,
@@ -139,6 +142,19 @@ impl Tables {
         ensures { result ≡ has_framework self.now.rows name.now }
     {
         self.frameworks.contains_key(name)
+    }
+
+    /// How many roles have a weight.
+    pub fn weight_count(&self) -> usize
+        ensures { result ≡ length self.now.rows.weights }
+    {
+        self.weights.len()
+    }
+
+    pub fn has_weight(&self, role: &Role) -> bool
+        ensures { result ≡ has_weight self.now.rows role.now }
+    {
+        self.weights.contains_key(role)
     }
 
     /// What the agents have together, those that are not active among them.
@@ -231,6 +247,22 @@ impl Tables {
         let _ = self.frameworks.insert(name, clients.into_vec()).unwrap();
     }
 
+    /// Makes room for the weight of one more role, so that it can be set without memory.
+    pub fn reserve_weight(&mut self) -> Result<(), AllocError>
+        ensures ok { OnOk result (1 ≤ self.new.weight_room) }
+        ensures same { self.new.rows ≡ self.old.rows }
+    {
+        self.weights.reserve(1)
+    }
+
+    /// Gives a role a weight, in thousandths. It needs no memory.
+    pub fn set_weight(&mut self, role: Role, weight: u64)
+        requires { 1 ≤ self.old.weight_room }
+        ensures { self.new.rows ≡ record self.old.rows { weights = weights_with self.old.rows.weights role weight } }
+    {
+        let _ = self.weights.insert(role, weight).unwrap();
+    }
+
     /// Takes the offers of a whole cycle over: they stand last, each is counted at its client, and on the agents is free
     /// what they left. An `Err` changes no row and no offer.
     pub fn commit(&mut self, offers: &mut Vec<OfferRow>, lefts: Vec<Left>) -> Result<(), AllocError>
@@ -261,7 +293,7 @@ impl Tables {
             frameworks: framework_rows(alloc, &self.frameworks)?,
             offers: offer_rows(alloc, &self.offers)?,
             tasks: Table::from_vec(Vec::new(alloc)),
-            weights: Table::from_vec(Vec::new(alloc)),
+            weights: weight_rows(alloc, &self.weights)?,
             limits: Table::from_vec(Vec::new(alloc)),
             filters: Table::from_vec(Vec::new(alloc)),
             clock: self.clock,

@@ -1,0 +1,25 @@
+-- The weights of roles, in thousandths.
+use Rattle.std.specs.Prelude.{ℕ, ◌+◌, Bool, not, ◌&&◌, List, [], ◌∷◌, length, if◌then◌else◌, nat_lt, nat_le}
+use Rattle.std.specs.List.{list_any}
+use Rattle.drf_role.specs.Path.{Path, same_path}
+use Rattle.drf_rows.specs.LimitNumbers.{LimitNumbers}
+use Rattle.drf_rows.specs.declared.rows.WeightRow.{WeightRow}
+use Rattle.drf_rows.specs.declared.rows.Rows.{Rows}
+
+-- a weight is from a thousandth to 1000
+abbrev pub is_weight : ℕ → Bool
+is_weight weight = nat_le 1 weight && nat_le weight 1000000
+
+-- the role has a row
+abbrev pub has_weight : Rows → Path → Bool
+has_weight rows role = list_any (λ w. same_path w.role role) rows.weights
+
+-- a new row would be one too many
+abbrev pub too_many_weights : LimitNumbers → Rows → Path → Bool
+too_many_weights limits rows role = not (has_weight rows role) && nat_lt limits.weights (length rows.weights + 1)
+
+-- the rows, that of the role set: a row that is there keeps its place, and a new one stands last
+abbrev pub weights_with : List WeightRow → Path → ℕ → List WeightRow
+weights_with [] role weight = record { role = role; weight = weight } ∷ []
+weights_with (w ∷ ws) role weight =
+    if same_path w.role role then record w { weight = weight } ∷ ws else w ∷ weights_with ws role weight

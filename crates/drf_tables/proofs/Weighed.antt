@@ -8,6 +8,7 @@ use Rattle.indexmap.specs.IndexMap.{insert_entry}
 use Rattle.drf_role.specs.Path.{Path, same_path}
 use Rattle.drf_role.specs.PathLaws.{same_path-swap}
 use Rattle.drf_bundle.specs.declared.quantities.Entry.{Entry}
+use Rattle.drf_bundle.specs.declared.resource.Resource.{Resource}
 use Rattle.drf_rows.specs.Cycle.{free_of}
 use Rattle.drf_rows.specs.Weights.{has_weight, weights_with}
 use Rattle.drf_rows.specs.declared.rows.WeightRow.{WeightRow}
@@ -58,7 +59,7 @@ rows_of-weight t entries role weight inserted =
     λ i. record (rows_in t) { weights = read i }
 
 -- nothing else depends on weights
-pub IsKept-weight_set : (rows : Rows) (frees : List (List Entry)) (sum : List Entry) (number : ℕ) (role : Path) (weight : ℕ)
+pub IsKept-weight_set : (rows : Rows) (frees : List (List Resource)) (sum : List Entry) (number : ℕ) (role : Path) (weight : ℕ)
     → IsKept rows frees sum number → IsKept (weight_set rows role weight) frees sum number
 unfolding free_of
 IsKept-weight_set rows frees sum number role weight kept = record {

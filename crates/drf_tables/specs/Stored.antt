@@ -13,7 +13,8 @@ pub record Stored : Type 0 where
 
 -- by it a proof tells two of them apart
 abbrev pub stored_code : Coded Stored
-stored_code = code_by (Rows × ℕ × ℕ) (coded× rows.the_row.coded (coded× coded_ℕ coded_ℕ)) (λ s. (s.rows, s.room, s.weight_room)) (λ p. record { rows = p.0; room = p.1; weight_room = p.2 }) (λ _. refl)
+stored_code = code_by (Rows × (ℕ × ℕ)) (coded× rows.the_row.coded (coded× coded_ℕ coded_ℕ)) (λ s. (s.rows, (s.room, s.weight_room)))
+    (λ p. record { rows = p.0; room = p.1.0; weight_room = p.1.1 }) (λ _. refl)
 
 -- nothing but agents, frameworks, offers and weights
 pub record IsPlain (rows : Rows) : Type 0 where

@@ -78,7 +78,7 @@ fn put(
     match place(resources, &resource.label, &resource.role) {
         Ok(at) => {
             let had = &mut resources[at];
-            let value = had.value.join(&resource.value)?;
+            let value = had.value.unite(&resource.value)?;
             add_scalar(sums, &resource)?;
             had.value = value;
         }

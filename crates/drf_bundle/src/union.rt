@@ -110,10 +110,7 @@ impl Bundle {
         if is_reserved_elsewhere(&self.resources, resource) {
             return Some(AlgebraFault::Overlap);
         }
-        if is_too_much(&self.quantities, resource) {
-            return Some(AlgebraFault::TooLarge);
-        }
-        None
+        is_too_much(&self.quantities, resource).then_some(AlgebraFault::TooLarge)
     }
 
     /// Puts one more resource in: under one name and reservation scalars add and sets unite, shared

@@ -53,7 +53,7 @@ each-changed f (r ∷ rs) passes all = elim (cases_Bool (nat_lt 0 (amount_in (f 
   | inr none ↦ rw none (each-changed f rs passes (All-tail IsResource r rs all))
 ]
 
-nothing_there : (v : Value) (p : Point) → nat_lt 0 (amount_in v) ≡ false → units_in v p ≡ 0
+pub nothing_there : (v : Value) (p : Point) → nat_lt 0 (amount_in v) ≡ false → units_in v p ≡ 0
 nothing_there v p none = by (units_in v p) refl
   where
     by : (n : ℕ) → units_in v p ≡ n → units_in v p ≡ 0

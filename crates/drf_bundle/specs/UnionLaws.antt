@@ -1,5 +1,6 @@
 -- What a union does to units, and that it is a bundle.
 use Rattle.std.specs.Prelude.{◌≡◌, ℕ, ◌+◌, ◌^◌, ◌<◌, ◌≤◌, ◌&&◌, ◌||◌, Bool, true, false, not, List, [], ◌∷◌, IsTrue, All, Option, Some, None, nat_lt, nat_le, if◌then◌else◌}
+use Rattle.std.specs.Bool.{then_some}
 use Rattle.std.specs.List.{list_any}
 use Rattle.std.proofs.Common.{refl, sym, ap, ◌∙◌, subst, inl, inr, cond, arith}
 use Rattle.std.proofs.lemmas.Bool.{false≢true, true≢false, and_parts, and_from, cases_Bool, false_from_ne_true, ltb-true, lt-ltb}
@@ -13,12 +14,14 @@ use Rattle.drf_bundle.specs.Value.{Point, Thousandths, Number, Member, units_in,
 use Rattle.drf_bundle.specs.ValueLaws.{united_within, thousandths-united, given-united, filled_point, point_filled, units_single, share_at}
 use Rattle.drf_bundle.specs.Bundle.{Key, key_of, key_cmp, key_below, same_key, is_in_order, units_where, units, stock, IsResource, IsBundle, IsKept, value_at, merged, have_clash, quantities_of, add_scalar, join_or}
 use Rattle.drf_bundle.specs.KeyLaws.{cases_key, key_less, key_greater, key_equal, same_key_itself, same_key_true, below_other, above_other, cases_same, Has, stands_first, first_trans, unit_of, where-cons, unit-here, unit-none, units_found, units_at}
-use Rattle.drf_bundle.specs.JoinLaws.{both_of, in_order-merged, each-merged}
+use Rattle.drf_bundle.specs.JoinLaws.{both_of, merged-empty, in_order-merged, each-merged}
 use Rattle.drf_bundle.specs.FitLaws.{zero_or_some, stock_has, one_kind_of_both}
 use Rattle.drf_bundle.specs.OneLaws.{bundle-one}
 use Rattle.drf_bundle.specs.Quantities.{HasNoZeros, amount_of}
-use Rattle.drf_bundle.specs.QuantitiesLaws.{same_quantities}
-use Rattle.drf_bundle.specs.SumLaws.{of_name, amount-add_scalar, amount-quantities_of}
+use Rattle.drf_bundle.specs.QuantitiesLaws.{or_none, same_quantities}
+use Rattle.drf_bundle.specs.SumLaws.{of_name, nothing, amount-add_scalar, amount-quantities_of}
+use Rattle.drf_bundle.specs.RestLaws.{nothing_there}
+use Rattle.drf_bundle.specs.UnitLaws.{UnionIsBundle, UnionHasUnits}
 use Rattle.drf_bundle.specs.UnitProofs.{no_zeros-add_scalar, quantities_no_zeros}
 use Rattle.drf_bundle.specs.Union.{IsPiece, has_other_kind, is_reserved_elsewhere, is_too_much, union_refusal, with_united, united_at, union}
 use Rattle.drf_bundle.specs.declared.quantities.Entry.{Entry}
@@ -28,20 +31,12 @@ use Rattle.drf_bundle.specs.declared.value.Clash.TheVariants.{Kinds, Members}
 
 -- ---- units
 
-pub merged-empty : (a : List Resource) → merged a [] ≡ a
-merged-empty [] = refl
-merged-empty (r ∷ rs) = refl
-
 -- a key that stands before all has no value
 value_first : (key : Key) (rs : List Resource) → IsTrue (stands_first key rs) → value_at rs key ≡ None
 value_first key [] first = refl
 value_first key (r ∷ rs) first =
     let parts = and_parts (key_below key (key_of r)) (stands_first key rs) first in
     rw (below_other key (key_of r) parts.0) (value_first key rs parts.1)
-
-none_of : (b : Bool) → let n : ℕ = cond b 0 0 in n ≡ 0
-none_of true = refl
-none_of false = refl
 
 module _ (test : Key → Bool) (p : Point) (r : Resource) where
   -- what the value under the resource's key counts, before and after
@@ -54,7 +49,7 @@ module _ (test : Key → Bool) (p : Point) (r : Resource) where
   -- units change under the resource's key alone
   pub where-united : (rs : List Resource) → IsTrue (is_in_order rs)
       → units_where test p (merged rs (r ∷ [])) + had (value_at rs (key_of r)) ≡ units_where test p rs + has_now (value_at rs (key_of r))
-  where-united [] ordered = omega (arith, where-cons test p r [], none_of (test (key_of r)))
+  where-united [] ordered = omega (arith, where-cons test p r [], nothing (test (key_of r)) 0 refl)
   where-united (s ∷ ss) ordered =
       let parts = and_parts (stands_first (key_of s) ss) (is_in_order ss) ordered in
       elim (cases_key (key_of s) (key_of r)) [
@@ -73,7 +68,7 @@ module _ (test : Key → Bool) (p : Point) (r : Resource) where
             let below = key_greater (key_of s) (key_of r) greater in
             let none : value_at (s ∷ ss) (key_of r) ≡ None = value_first (key_of r) (s ∷ ss) (and_from _ _ below (first_trans (key_of r) (key_of s) ss below parts.0)) in
             let step : merged (s ∷ ss) (r ∷ []) ≡ r ∷ s ∷ ss = rw greater refl in
-            rw (none, step) (omega (arith, where-cons test p r (s ∷ ss), none_of (test (key_of r))))
+            rw (none, step) (omega (arith, where-cons test p r (s ∷ ss), nothing (test (key_of r)) 0 refl))
       ]
 
 united_at_within : (found : Option Value) (w : Value) (p : Point)
@@ -102,25 +97,25 @@ pub room_fits : (bundle : List Resource) (r : Resource) → IsRoom bundle r
     → stock bundle r.label Thousandths + units_in r.value Thousandths < 2 ^ 64
 room_fits bundle r room = let small = room.small in grind (arith, nat_tests, small)
 
--- why there is none, by what was found
-pub refusal_is : (bundle : List Resource) (r : Resource) (x y z : Bool) → has_other_kind bundle r.label r.value ≡ x
-    → is_reserved_elsewhere bundle r ≡ y → is_too_much bundle r ≡ z
-    → cond x (Some fault.Kind) (cond y (Some fault.Overlap) (cond z (Some fault.TooLarge) None)) ≡ union_refusal bundle r
-refusal_is bundle r x y z kinds members small =
-    λ i. cond (sym kinds i) (Some fault.Kind) (cond (sym members i) (Some fault.Overlap) (cond (sym small i) (Some fault.TooLarge) None))
+-- where nothing clashes, only the sum can be too large
+pub refusal_is : (bundle : List Resource) (r : Resource) (large : Bool) → has_other_kind bundle r.label r.value ≡ false
+    → is_reserved_elsewhere bundle r ≡ false → large ≡ is_too_much bundle r
+    → then_some large fault.TooLarge ≡ union_refusal bundle r
+refusal_is bundle r large kinds members is =
+    last large ∙ (λ i. cond (sym kinds i) (Some fault.Kind) (cond (sym members i) (Some fault.Overlap) (cond (is i) (Some fault.TooLarge) None)))
+  where
+    last : (b : Bool) → then_some b fault.TooLarge ≡ cond b (Some fault.TooLarge) None
+    last true = refl
+    last false = refl
 
 or_parts : (x y : Bool) → (x || y) ≡ false → (x ≡ false) × (y ≡ false)
 or_parts true y none = absurd (true≢false none)
 or_parts false y none = (refl, none)
 
-or_nothing : (x : Bool) → (x || false) ≡ x
-or_nothing true = refl
-or_nothing false = refl
-
 -- a clash of kinds with the resource alone
 kinds_same : (r : Resource) (rs : List Resource) → have_clash Kinds rs (r ∷ []) ≡ has_other_kind rs r.label r.value
 kinds_same r [] = refl
-kinds_same r (s ∷ ss) = λ i. or_nothing (same_text s.label r.label && not (is_same_kind s.value r.value)) i || kinds_same r ss i
+kinds_same r (s ∷ ss) = λ i. sym (or_none (same_text s.label r.label && not (is_same_kind s.value r.value))) i || kinds_same r ss i
 
 -- where no value of the name is of another kind, thousandths add up
 thousandths_at : (r : Resource) (rs : List Resource) → has_other_kind rs r.label r.value ≡ false
@@ -256,11 +251,37 @@ filled_piece : (r : Resource) → IsPiece r → nat_lt 0 (amount_in r.value) ≡
 filled_piece r piece some =
     record { label = piece.label; role = piece.role; role_read = piece.role_read; value = piece.value; filled = ltb-true 0 (amount_in r.value) some }
 
-pub bundle-with_united : (bundle : List Resource) (r : Resource) → IsBundle bundle → IsPiece r → union_refusal bundle r ≡ None
-    → IsBundle (with_united bundle r)
+pub bundle-with_united : UnionIsBundle
 bundle-with_united bundle r is piece none = elim (cases_Bool (nat_lt 0 (amount_in r.value))) [
   | inl some ↦ rw (with_filled bundle r some) (bundle-merged_one bundle r is (filled_piece r piece some) (room_from_refusal bundle r none))
   | inr nothing ↦ rw (with_empty bundle r nothing) is
+]
+
+module _ (bundle : List Resource) (r : Resource) (is : IsBundle bundle) (p : Point) where
+  -- what stands under the resource's key
+  abbrev then_there : ℕ
+  then_there = units_in (united_at (value_at bundle (key_of r)) r.value) p
+
+  units_here : units (with_united bundle r) (key_of r) p ≡ then_there
+  units_here = elim (cases_Bool (nat_lt 0 (amount_in r.value))) [
+    | inl some ↦
+        let add : units (merged bundle (r ∷ [])) (key_of r) p + units_at (value_at bundle (key_of r)) p ≡ units bundle (key_of r) p + then_there = rw (same_key_itself (key_of r)) at (where-united (same_key (key_of r)) p r bundle is.in_order) in
+        rw (with_filled bundle r some) (omega (arith, add, units_found bundle (key_of r) p is.in_order))
+    | inr empty ↦ rw (with_empty bundle r empty) (omega (arith, units_found bundle (key_of r) p is.in_order, united_at_within (value_at bundle (key_of r)) r.value p, nothing_there r.value p empty))
+  ]
+
+  units_elsewhere : (key : Key) → same_key key (key_of r) ≡ false → units (with_united bundle r) key p ≡ units bundle key p
+  units_elsewhere key other = elim (cases_Bool (nat_lt 0 (amount_in r.value))) [
+    | inl some ↦
+        let add : units (merged bundle (r ∷ [])) key p + 0 ≡ units bundle key p + 0 = rw other at (where-united (same_key key) p r bundle is.in_order) in
+        rw (with_filled bundle r some) (omega (arith, add))
+    | inr empty ↦ rw (with_empty bundle r empty) refl
+  ]
+
+pub units-with_united : UnionHasUnits
+units-with_united bundle r is key p = elim (cases_same key (key_of r)) [
+  | inl same ↦ rw same.0 (subst (λ (k : Key). units (with_united bundle r) k p ≡ then_there bundle r is p) (sym same.1) (units_here bundle r is p))
+  | inr other ↦ rw other (units_elsewhere bundle r is p key other)
 ]
 
 -- ---- the same, in the terms that the code has at hand

@@ -78,7 +78,7 @@ fn put(
     match place(resources, &resource.label, &resource.role) {
         Ok(at) => {
             let had = &mut resources[at];
-            let value = had.value.join(&resource.value)?;
+            let value = had.value.unite(&resource.value)?;
             add_scalar(sums, &resource)?;
             had.value = value;
         }
@@ -110,10 +110,7 @@ impl Bundle {
         if is_reserved_elsewhere(&self.resources, resource) {
             return Some(AlgebraFault::Overlap);
         }
-        if is_too_much(&self.quantities, resource) {
-            return Some(AlgebraFault::TooLarge);
-        }
-        None
+        is_too_much(&self.quantities, resource).then_some(AlgebraFault::TooLarge)
     }
 
     /// Puts one more resource in: under one name and reservation scalars add and sets unite, shared

@@ -4,7 +4,7 @@ use Rattle.drf_role.specs.Parts.{parts_of}
 use Rattle.drf_bundle.specs.Value.{Thousandths}
 use Rattle.drf_bundle.specs.Bundle.{stock}
 use Rattle.drf_bundle.specs.Quantities.{amount_of}
-use Rattle.drf_bundle.specs.SumLaws.{amount-quantities_of}
+use Rattle.drf_bundle.specs.SumLaws.{amount-kept}
 use Rattle.drf_bundle.specs.Union.{IsPiece, union_refusal}
 use Rattle.drf_bundle.specs.UnionLaws.{room_from_refusal, room_fits, union_empty, some_in, kept-merged}
 use Rattle.drf_bundle.specs.declared.resource.Resource.{Resource}
@@ -19,7 +19,7 @@ pub put-requires-clause-fits : goal.put-requires-clause-fits
 put-requires-clause-fits c =
     let r : Resource = record { label = c.args.label; role = c.args.role; value = c.args.value } in
     let had : amount_of c.self.inside.quantities r.label ≡ stock c.args.self.now r.label Thousandths =
-    ap (λ q. amount_of q r.label) c.self.invariant.sums ∙ amount-quantities_of c.self.inside.resources.items r.label ∙ ap (λ (rs : List Resource). stock rs r.label Thousandths) c.self.view_is in
+    amount-kept _ _ r.label c.self.invariant ∙ ap (λ (rs : List Resource). stock rs r.label Thousandths) c.self.view_is in
     omega (arith, had, room_fits c.args.self.now r (room_from_refusal c.args.self.now r (sym c.union_refusal.ensures ∙ c.in_default.is)))
 
 pub invariant_of-self-2 : goal.invariant_of-self-2

@@ -2,4 +2,5 @@ pub mod Blanks
 pub mod Meaning
 pub mod NameTests
 pub mod Number
+pub mod Pieces
 pub mod Written

@@ -108,3 +108,6 @@ pieces_found (x ∷ xs) are =
     ap (λ (parts : List Text). filter (λ piece. nat_lt 0 (length piece)) (map trimmed parts)) (cut_joined 59 x xs (All-weaker IsPiece (HasNone (λ b. eqb b 59)) no_marks (x ∷ xs) are))
     ∙ ap (λ (parts : List Text). filter (λ piece. nat_lt 0 (length piece)) parts) (all_stay (x ∷ xs) (All-weaker IsPiece (HasNone is_blank) no_blanks (x ∷ xs) are))
     ∙ filled_stay (x ∷ xs) are
+
+pub not_between : (class : ℕ → Bool) → class 32 ≡ false → class 9 ≡ false → class 59 ≡ false → (b : ℕ) → class b ≡ true → is_between b ≡ false
+not_between class space tab mark b inside = rw (not_blank class space tab b inside, not_that class 59 mark b inside) refl

@@ -4,3 +4,5 @@ pub mod CutLemmas
 pub mod Decimals
 pub mod Joined
 pub mod Numbers
+pub mod PieceLemmas
+pub mod QuantityText

@@ -20,7 +20,7 @@ use Rattle.drf_text.specs.RoundTrip.{WeightIsRead, IsEntry, QuantitiesAreRead}
 use Rattle.drf_text.specs.Written.{amount_text, quantity_text}
 use Rattle.drf_text.specs.declared.fault.TextFault.TheVariants.{TooLarge}
 use Rattle.drf_text.proofs.AmountText.{amount_read, amount_has_none, is_amount_byte}
-use Rattle.drf_text.proofs.CutLemmas.{HasNone, not_that, not_blank, not_between, is_between, IsPiece, trimmed_stays, pieces_found}
+use Rattle.drf_text.proofs.CutLemmas.{HasNone, not_that, not_blank, not_between, is_between, IsPart, trimmed_stays, pieces_found}
 use Rattle.drf_text.proofs.PieceLemmas.{label_test, label_has_none, label_without, head_found, body_found, name_alone, IsRightHead, IsRightBody, right_piece, begins_not}
 
 -- ---- amounts as bodies
@@ -86,14 +86,14 @@ module _ (e : Entry) (is : IsEntry e) where
   entry_value =
       ap value_of (body_found e.label (amount_text e.amount) no_colon (amount_no_blank e.amount is.amount)) ∙ amount_value e.amount is.amount
 
-  entry_piece : IsPiece (quantity_text e)
+  entry_piece : IsPart 59 (quantity_text e)
   entry_piece = record {
     some = omega (arith, length-append e.label (58 ∷ amount_text e.amount));
     whole =
-        All-append (λ b. is_between b ≡ false) e.label (58 ∷ amount_text e.amount)
-        (label_has_none is_between e.label is.label (not_between is_label_byte refl refl refl))
-        (All-cons (λ b. is_between b ≡ false) 58 (amount_text e.amount) refl
-        (amount_has_none is_between e.amount is.amount (not_between is_amount_byte refl refl refl)));
+        All-append (λ b. is_between 59 b ≡ false) e.label (58 ∷ amount_text e.amount)
+        (label_has_none (is_between 59) e.label is.label (not_between is_label_byte 59 refl refl refl))
+        (All-cons (λ b. is_between 59 b ≡ false) 58 (amount_text e.amount) refl
+        (amount_has_none (is_between 59) e.amount is.amount (not_between is_amount_byte 59 refl refl refl)));
   }
 
 -- ---- entries put together
@@ -137,5 +137,5 @@ entries_from (e ∷ es) earlier ordered are =
 
 pub quantities_read : QuantitiesAreRead
 quantities_read entries ordered are =
-    ap (λ (pieces : List Text). quantities_from pieces []) (pieces_found (map quantity_text entries) (All-map IsPiece quantity_text entries (All-weaker IsEntry (λ e. IsPiece (quantity_text e)) entry_piece entries are)))
+    ap (λ (pieces : List Text). quantities_from pieces []) (pieces_found (map quantity_text entries) (All-map (IsPart 59) quantity_text entries (All-weaker IsEntry (λ e. IsPart 59 (quantity_text e)) entry_piece entries are)))
     ∙ entries_from entries [] ordered are

@@ -8,9 +8,11 @@ use Rattle.std.specs.Prelude.{◌||◌, IsTrue, nat_lt}
 use Rattle.std.specs.List.{list_all}
 use Rattle.std.specs.Str.Parse.{digits_value}
 use Rattle.drf_role.specs.Text.{Text}
-use Rattle.drf_text.specs.Number.{is_point, are_digits, is_number, rounded, thousandths_of, whole_of, decimals_of}
+use Rattle.drf_text.specs.Blanks.{is_blank}
+use Rattle.drf_text.specs.Number.{is_point, are_digits, is_number, rounded, thousandths_of, whole_of, decimals_of, number_of}
+use Rattle.drf_text.specs.RoundTrip.{WeightIsRead}
 use Rattle.drf_text.specs.Written.{decimals_text, amount_text}
-use Rattle.drf_text.proofs.CutLemmas.{HasNone, none_of, not_that, before_at, after_at, any_at_mark, position_none}
+use Rattle.drf_text.proofs.CutLemmas.{HasNone, none_of, not_that, not_blank, trimmed_stays, before_at, after_at, any_at_mark, position_none}
 use Rattle.drf_text.proofs.Decimals.{decimals_none, decimals_one, decimals_two, decimals_three}
 use Rattle.drf_text.proofs.Numbers.{numerals, all_before}
 
@@ -128,3 +130,10 @@ amount_has_none p amount small apart = by (amount % 1000) refl
         let more = digits behind.digits (and_parts (nat_lt 0 (length behind.digits)) (list_all is_ascii_digit behind.digits) behind.are_digits).1 in
         All-append (λ b. p b ≡ false) (decimal (amount / 1000)) (decimals_text (amount % 1000)) (digits _ (digits_of (amount / 1000) (omega arith)))
         (subst (HasNone p) (sym behind.written) (All-cons (λ b. p b ≡ false) 46 behind.digits (apart 46 refl) more))
+
+pub weight_read : WeightIsRead
+unfolding number_of
+weight_read weight small =
+    let read = amount_read weight small in
+    ap number_of (trimmed_stays (amount_text weight) (amount_has_none is_blank weight small (not_blank is_amount_byte refl refl)))
+    ∙ rw (read.number, read.value, lt-ltb weight (2 ^ 64) small) refl

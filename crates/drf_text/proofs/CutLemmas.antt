@@ -94,17 +94,17 @@ neither : (x y : Bool) → (x || y) ≡ false → (x ≡ false) × (y ≡ false)
 neither true y none = absurd (true≢false none)
 neither false y none = (refl, none)
 
-no_blanks : (mark : ℕ) (text : Text) → IsPart mark text → HasNone is_blank text
-no_blanks mark text is = All-weaker (λ b. is_between mark b ≡ false) (λ b. is_blank b ≡ false) (λ b none. (neither (is_blank b) (eqb b mark) none).0) text is.whole
+pub no_blanks : (mark : ℕ) (text : Text) → HasNone (is_between mark) text → HasNone is_blank text
+no_blanks mark text none = All-weaker (λ b. is_between mark b ≡ false) (λ b. is_blank b ≡ false) (λ b out. (neither (is_blank b) (eqb b mark) out).0) text none
 
-no_marks : (mark : ℕ) (text : Text) → IsPart mark text → HasNone (λ b. eqb b mark) text
-no_marks mark text is = All-weaker (λ b. is_between mark b ≡ false) (λ b. eqb b mark ≡ false) (λ b none. (neither (is_blank b) (eqb b mark) none).1) text is.whole
+no_marks : (mark : ℕ) (text : Text) → HasNone (is_between mark) text → HasNone (λ b. eqb b mark) text
+no_marks mark text none = All-weaker (λ b. is_between mark b ≡ false) (λ b. eqb b mark ≡ false) (λ b out. (neither (is_blank b) (eqb b mark) out).1) text none
 
 parts_stay : (mark : ℕ) (x : Text) (xs : List Text) → All (IsPart mark) (x ∷ xs)
     → map trimmed (slice_split (λ b. eqb b mark) (join_with_byte mark (x ∷ xs))) ≡ x ∷ xs
 parts_stay mark x xs are =
-    ap (λ (parts : List Text). map trimmed parts) (cut_joined mark x xs (All-weaker (IsPart mark) (HasNone (λ b. eqb b mark)) (no_marks mark) (x ∷ xs) are))
-    ∙ all_stay (x ∷ xs) (All-weaker (IsPart mark) (HasNone is_blank) (no_blanks mark) (x ∷ xs) are)
+    ap (λ (parts : List Text). map trimmed parts) (cut_joined mark x xs (All-weaker (IsPart mark) (HasNone (λ b. eqb b mark)) (λ t is. no_marks mark t is.whole) (x ∷ xs) are))
+    ∙ all_stay (x ∷ xs) (All-weaker (IsPart mark) (HasNone is_blank) (λ t is. no_blanks mark t is.whole) (x ∷ xs) are)
 
 filled_stay : (xs : List Text) → All (IsPart 59) xs → filter (λ piece. nat_lt 0 (length piece)) xs ≡ xs
 filled_stay [] are = refl
@@ -137,8 +137,8 @@ inside_of o c text =
 
 not_all_blank : (mark : ℕ) (x : Text) (xs : List Text) → IsPart mark x → list_all is_blank (join_with_byte mark (x ∷ xs)) ≡ false
 not_all_blank mark [] xs is = absurd (omega (arith, is.some))
-not_all_blank mark (b ∷ bs) [] is = rw (All-head (λ c. is_blank c ≡ false) b bs (no_blanks mark (b ∷ bs) is)) refl
-not_all_blank mark (b ∷ bs) (y ∷ ys) is = rw (All-head (λ c. is_blank c ≡ false) b bs (no_blanks mark (b ∷ bs) is)) refl
+not_all_blank mark (b ∷ bs) [] is = rw (All-head (λ c. is_blank c ≡ false) b bs (no_blanks mark (b ∷ bs) is.whole)) refl
+not_all_blank mark (b ∷ bs) (y ∷ ys) is = rw (All-head (λ c. is_blank c ≡ false) b bs (no_blanks mark (b ∷ bs) is.whole)) refl
 
 -- so are the parts that stand between brackets
 pub parts_found : (o c : ℕ) (xs : List Text) → All (IsPart 44) xs → parts_inside (o ∷ join_with_byte 44 xs ++ c ∷ []) ≡ xs

@@ -6,3 +6,4 @@ pub mod Joined
 pub mod Numbers
 pub mod PieceLemmas
 pub mod QuantityText
+pub mod ValueText

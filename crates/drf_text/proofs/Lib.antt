@@ -6,4 +6,6 @@ pub mod Joined
 pub mod Numbers
 pub mod PieceLemmas
 pub mod QuantityText
+pub mod ResourceText
+pub mod RoleText
 pub mod ValueText

@@ -13,7 +13,7 @@ use Rattle.drf_role.specs.Name.{IsNameByte, IsLabelByte, IsLabel}
 use Rattle.drf_text.specs.Blanks.{is_blank, trimmed}
 use Rattle.drf_text.specs.NameTests.{is_label_byte, is_label}
 use Rattle.drf_text.specs.Number.{is_number}
-use Rattle.drf_text.specs.Pieces.{begins, parts_inside, head_of, body_of, name_of, is_head, is_body, is_range, fault_by}
+use Rattle.drf_text.specs.Pieces.{begins, parts_inside, head_of, body_of, name_of, is_reserved, is_head, is_body, is_range, fault_by}
 use Rattle.drf_text.specs.declared.fault.TextFault.{TextFault}
 use Rattle.drf_text.specs.declared.fault.TextFault.TheVariants.{Syntax, BadName, BadRole, BadNumber}
 use Rattle.drf_text.proofs.CutLemmas.{HasNone, none_of, not_that, not_blank, trimmed_stays, before_at, after_at, any_at_mark, position_none}
@@ -66,6 +66,17 @@ pub record IsRightHead (is_bad_role : Text → Bool) (head : Text) : Type 0 wher
   pub shape : is_head head ≡ true
   pub name : is_label (name_of head) ≡ true
   pub role : is_bad_role head ≡ false
+
+pub not_reserved : (label : Text) → IsLabel label → is_reserved label ≡ false
+not_reserved label is = list_any_none (λ b. eqb b 40) label (label_without 40 label is refl)
+
+-- a name alone is such a head
+pub label_head : (is_bad_role : Text → Bool) (label : Text) → IsLabel label → is_bad_role label ≡ false → IsRightHead is_bad_role label
+label_head is_bad_role label is role = record {
+  shape = rw (not_reserved label is, list_any_none (λ b. eqb b 41) label (label_without 41 label is refl)) refl;
+  name = ap is_label (name_alone label is) ∙ label_test label is;
+  role = role;
+}
 
 -- a body without a fault
 pub record IsRightBody (body : Text) : Type 0 where

@@ -19,20 +19,10 @@ use Rattle.drf_text.specs.RoundTrip.{IsEntry, QuantitiesAreRead}
 use Rattle.drf_text.specs.Written.{amount_text, quantity_text}
 use Rattle.drf_text.specs.declared.fault.TextFault.TheVariants.{TooLarge}
 use Rattle.drf_text.proofs.CutLemmas.{HasNone, not_blank, not_between, is_between, IsPart, no_blanks, pieces_found}
-use Rattle.drf_text.proofs.PieceLemmas.{label_test, label_has_none, label_without, head_found, body_found, name_alone, IsRightHead, right_piece}
+use Rattle.drf_text.proofs.PieceLemmas.{label_test, label_has_none, label_without, head_found, body_found, name_alone, not_reserved, label_head, right_piece}
 use Rattle.drf_text.proofs.ValueText.{IsTextOf, scalar_text}
 
 -- ---- one entry
-
-label_head : (label : Text) → IsLabel label → IsRightHead is_reserved label
-label_head label is = record {
-  shape = rw (none_reserved, list_any_none (λ b. eqb b 41) label (label_without 41 label is refl)) refl;
-  name = ap is_label (name_alone label is) ∙ label_test label is;
-  role = none_reserved;
-}
-  where
-    none_reserved : is_reserved label ≡ false
-    none_reserved = list_any_none (λ b. eqb b 40) label (label_without 40 label is refl)
 
 module _ (e : Entry) (is : IsEntry e) where
   amount : IsTextOf (Scalar e.amount) (amount_text e.amount)
@@ -50,7 +40,7 @@ module _ (e : Entry) (is : IsEntry e) where
   entry_fault : quantity_fault_of (quantity_text e) ≡ None
   entry_fault =
       right_piece is_reserved e.label (amount_text e.amount) no_colon no_blank amount_no_blank
-      (label_head e.label is.label) amount.body
+      (label_head is_reserved e.label is.label (not_reserved e.label is.label)) amount.body
 
   entry_name : name_of (head_of (quantity_text e)) ≡ e.label
   entry_name = ap name_of (head_found e.label (amount_text e.amount) no_colon no_blank) ∙ name_alone e.label is.label

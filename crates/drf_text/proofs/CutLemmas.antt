@@ -90,7 +90,7 @@ pub record IsPart (mark : ℕ) (text : Text) : Type 0 where
   pub some : 0 < length text
   pub whole : HasNone (is_between mark) text
 
-neither : (x y : Bool) → (x || y) ≡ false → (x ≡ false) × (y ≡ false)
+pub neither : (x y : Bool) → (x || y) ≡ false → (x ≡ false) × (y ≡ false)
 neither true y none = absurd (true≢false none)
 neither false y none = (refl, none)
 

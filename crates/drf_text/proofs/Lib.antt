@@ -1,5 +1,6 @@
 pub mod AmountText
 pub mod BlankLemmas
+pub mod BundleText
 pub mod CutLemmas
 pub mod Decimals
 pub mod Joined

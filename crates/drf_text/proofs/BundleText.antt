@@ -1,34 +1,35 @@
 -- What is written of a bundle means that bundle.
-use Rattle.std.proofs.Common.{◌≡◌, ℕ, ◌+◌, ◌^◌, ◌<◌, ◌≤◌, Bool, true, false, cond, List, [], ◌∷◌, ◌++◌, ◌&&◌, All, Ok, Some, None, inl, inr, refl, sym, ap, subst, ◌∙◌, append_assoc, append-nil, arith}
-use Rattle.std.proofs.lemmas.Bool.{true≢false, and_parts, and_from, lt-ltb, lt-leb}
+use Rattle.std.proofs.Common.{◌≡◌, ◌+◌, ◌^◌, ◌≤◌, Bool, true, false, cond, List, [], ◌∷◌, ◌++◌, ◌&&◌, All, Ok, Some, None, inl, inr, refl, sym, ap, subst, ◌∙◌, append_assoc, append-nil, arith}
+use Rattle.std.proofs.lemmas.Bool.{true≢false, and_parts, lt-ltb, lt-leb}
 use Rattle.std.proofs.lemmas.List.Elements.{All-head, All-tail, All-nil, All-cons}
 use Rattle.std.proofs.lemmas.List.Folds.{list_all-append}
 use Rattle.std.proofs.lemmas.List.Sums.{sum_by-append}
 use Rattle.std.specs.List.{list_any}
 use Rattle.std.specs.Option.{option_map}
 use Rattle.std.specs.Ordering.{is_lt}
-use Rattle.std.specs.Prelude.{◌||◌, Option, IsTrue, not, nat_le, nat_lt}
+use Rattle.std.specs.Prelude.{◌||◌, Option, IsTrue, not, nat_lt}
 use Rattle.drf_role.specs.Text.{Text, same_text}
 use Rattle.drf_amount.specs.declared.algebra.AlgebraFault.{AlgebraFault}
 use Rattle.drf_amount.specs.declared.algebra.AlgebraFault.TheVariants as refused
 use Rattle.drf_bundle.specs.Value.{Point, Thousandths, units_in, amount_in, is_same_kind, share_members}
 use Rattle.drf_bundle.specs.Bundle.{Key, key_of, key_below, same_key, is_in_order, stock, IsResource, Fits, IsBundle, merged, filled_of, refusal, join_or}
 use Rattle.drf_bundle.specs.BundleLaws.{bundle-empty}
-use Rattle.drf_bundle.specs.FitLaws.{stock_has, fits_less, stock_of_both, IsFree, free_from_refusal, IsJoinOf, join_fits}
+use Rattle.drf_bundle.specs.FitLaws.{stock_has, fits_less, stock_of_both, IsFree, free_from_refusal, join_fits}
 use Rattle.drf_bundle.specs.KeyLaws.{cases_key, stands_first, unit_of, where-cons}
 use Rattle.drf_bundle.specs.Union.{has_other_kind, is_reserved_elsewhere, is_too_much, union_refusal, with_united}
 use Rattle.drf_bundle.specs.declared.resource.Resource.{Resource}
 use Rattle.drf_text.specs.Meaning.{after, text_fault_of, put_or, put, meaning_from, meaning_of}
-use Rattle.drf_text.specs.Pieces.{fault_of, resource_of}
+use Rattle.drf_text.specs.Pieces.{resource_of}
 use Rattle.drf_text.specs.RoundTrip.{BundleIsRead}
 use Rattle.drf_text.specs.Written.{AreResourceTexts}
 use Rattle.drf_text.proofs.CutLemmas.{neither, IsPart, pieces_found}
-use Rattle.drf_text.proofs.ResourceText.{IsPieceOf, resource_text}
+use Rattle.drf_text.proofs.ResourceText.{resource_text}
 
 -- ---- a resource that stands behind all others
 
 -- it is put behind them
-put_behind : (earlier : List Resource) (r : Resource) (later : List Resource) → IsTrue (is_in_order (earlier ++ r ∷ later)) → merged earlier (r ∷ []) ≡ earlier ++ r ∷ []
+put_behind : (earlier : List Resource) (r : Resource) (later : List Resource) → IsTrue (is_in_order (earlier ++ r ∷ later))
+    → merged earlier (r ∷ []) ≡ earlier ++ r ∷ []
 put_behind [] r later ordered = refl
 put_behind (f ∷ fs) r later ordered =
     let parts = and_parts (stands_first (key_of f) (fs ++ r ∷ later)) (is_in_order (fs ++ r ∷ later)) ordered in
@@ -65,7 +66,8 @@ module _ (earlier : List Resource) (r : Resource) (bundle : IsBundle earlier) (o
 
   no_member_twice : is_reserved_elsewhere earlier r ≡ false
   no_member_twice =
-      none_weaker (λ s. (same_text s.label r.label && share_members s.value r.value) || false) (λ s. same_text s.label r.label && (not (same_key (key_of s) (key_of r)) && share_members s.value r.value)) earlier
+      none_weaker (λ s. (same_text s.label r.label && share_members s.value r.value) || false)
+      (λ s. same_text s.label r.label && (not (same_key (key_of s) (key_of r)) && share_members s.value r.value)) earlier
       (λ s none. still_none (same_text s.label r.label) (not (same_key (key_of s) (key_of r))) (share_members s.value r.value) (neither _ false none).0) free.members
     where
       still_none : (x y z : Bool) → (x && z) ≡ false → (x && (y && z)) ≡ false
@@ -93,7 +95,8 @@ record IsNext (earlier : List Resource) (r : Resource) : Type 0 where
   pub bundle : IsBundle (earlier ++ r ∷ [])
   pub put_is : put earlier r ≡ Ok (earlier ++ r ∷ [])
 
-next_of : (earlier : List Resource) (r : Resource) (later : List Resource) → IsBundle earlier → IsResource r → IsTrue (is_in_order (earlier ++ r ∷ later)) → Fits (stock (earlier ++ r ∷ later)) → IsNext earlier r
+next_of : (earlier : List Resource) (r : Resource) (later : List Resource) → IsBundle earlier → IsResource r
+    → IsTrue (is_in_order (earlier ++ r ∷ later)) → Fits (stock (earlier ++ r ∷ later)) → IsNext earlier r
 next_of earlier r later bundle is ordered fits =
     record {
       bundle = subst IsBundle behind (join_fits earlier (r ∷ []) bundle one together).1.bundle;
@@ -132,7 +135,8 @@ resources_from (r ∷ rs) (t ∷ ts) earlier bundle each ordered fits are =
     let step : put earlier (resource_of t) ≡ Ok (earlier ++ r ∷ []) = ap (put earlier) piece.says ∙ next.put_is in
     let whole : (earlier ++ r ∷ []) ++ rs ≡ earlier ++ r ∷ rs = append_assoc earlier (r ∷ []) rs in
     (λ i. after (piece.fault i) (filled i) (step i) earlier (meaning_from ts))
-    ∙ resources_from rs ts (earlier ++ r ∷ []) next.bundle (All-tail IsResource r rs each) (ap is_in_order whole ∙ ordered) (subst (λ (all : List Resource). Fits (stock all)) (sym whole) fits) are.1
+    ∙ resources_from rs ts (earlier ++ r ∷ []) next.bundle (All-tail IsResource r rs each) (ap is_in_order whole ∙ ordered)
+    (subst (λ (all : List Resource). Fits (stock all)) (sym whole) fits) are.1
     ∙ ap Ok whole
 
 all_parts : (rs : List Resource) (ts : List Text) → All IsResource rs → AreResourceTexts rs ts → All (IsPart 59) ts

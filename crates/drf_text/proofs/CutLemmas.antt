@@ -130,7 +130,7 @@ ends_closed c front =
     and_from _ _ (lt-ltb 0 (length (front ++ c ∷ [])) (omega arith))
     (eq-eqb _ c (get_or_push front c 0 (length (front ++ c ∷ []) - 1) (omega arith)))
 
-inside_of : (o c : ℕ) (text : Text) → inside (o ∷ text ++ c ∷ []) ≡ text
+pub inside_of : (o c : ℕ) (text : Text) → inside (o ∷ text ++ c ∷ []) ≡ text
 inside_of o c text =
     let long : length (o ∷ text ++ c ∷ []) - 2 ≡ length text = omega (arith, length-append text (c ∷ [])) in
     ap (λ n. take n (text ++ c ∷ [])) long ∙ take-append_seam text (c ∷ [])

@@ -1,11 +1,10 @@
 -- What is written of a resource is a piece without a fault that says this resource.
-use Rattle.std.proofs.Common.{◌≡◌, ℕ, ◌+◌, ◌-◌, Bool, true, false, cond, take, eqb, List, [], ◌∷◌, ◌++◌, ◌&&◌, length, All, None, inl, inr, refl, sym, ap, subst, ◌∙◌, append_assoc, arith, length-append}
-use Rattle.std.proofs.lemmas.Bool.{and_from, cases_Bool}
+use Rattle.std.proofs.Common.{◌≡◌, ℕ, ◌-◌, Bool, true, false, cond, take, eqb, [], ◌∷◌, ◌++◌, ◌&&◌, length, None, inl, inr, refl, sym, ap, subst, ◌∙◌, append_assoc, arith, length-append}
+use Rattle.std.proofs.lemmas.Bool.{cases_Bool}
 use Rattle.std.proofs.lemmas.List.Elements.{All-nil, All-cons, All-append}
 use Rattle.std.specs.List.{list_any}
 use Rattle.std.specs.Prelude.{not}
 use Rattle.drf_role.specs.Parts.{parts_of, text_of}
-use Rattle.drf_role.specs.Path.{Path}
 use Rattle.drf_role.specs.PathLaws.{same_path-true}
 use Rattle.drf_role.specs.Role.{IsRolePath, default_role}
 use Rattle.drf_role.specs.Text.{Text}
@@ -109,7 +108,7 @@ pub record IsPieceOf (r : Resource) (text : Text) : Type 0 where
 head_and_value : (r : Resource) (head value : Text) → IsHeadOf r head → IsTextOf r.value value → IsPieceOf r (head ++ 58 ∷ value)
 head_and_value r head value is_head is_value = record {
   fault = right_piece has_bad_role head value is_head.no_colon no_blank no_blank_too is_head.right is_value.body;
-  says = λ i. record { label = (ap name_of head_is_found ∙ is_head.name) i; role = (ap role_of head_is_found ∙ is_head.role) i; value = (ap value_of (body_found head value is_head.no_colon no_blank_too) ∙ is_value.says) i };
+  says = λ i. record { label = name i; role = role i; value = said i };
   part = record {
     some = omega (arith, length-append head (58 ∷ value));
     whole = All-append (λ b. is_between 59 b ≡ false) head (58 ∷ value) is_head.whole (All-cons (λ b. is_between 59 b ≡ false) 58 value refl is_value.whole);
@@ -124,6 +123,15 @@ head_and_value r head value is_head is_value = record {
 
     head_is_found : head_of (head ++ 58 ∷ value) ≡ head
     head_is_found = head_found head value is_head.no_colon no_blank
+
+    name : name_of (head_of (head ++ 58 ∷ value)) ≡ r.label
+    name = ap name_of head_is_found ∙ is_head.name
+
+    role : role_of (head_of (head ++ 58 ∷ value)) ≡ r.role
+    role = ap role_of head_is_found ∙ is_head.role
+
+    said : value_of (body_of (head ++ 58 ∷ value)) ≡ r.value
+    said = ap value_of (body_found head value is_head.no_colon no_blank_too) ∙ is_value.says
 
 pub resource_text : (r : Resource) (text : Text) → IsResource r → IsResourceText r text → IsPieceOf r text
 resource_text r text resource is =

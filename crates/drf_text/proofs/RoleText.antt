@@ -1,10 +1,10 @@
 -- Roles as texts: the test of a role, and the bytes of its text.
-use Rattle.std.proofs.Common.{◌≡◌, ◌≢◌, ℕ, Bool, true, false, eqb, List, [], ◌∷◌, length, All, Some, refl, sym, ap, subst, ◌∙◌, inl, inr, arith}
+use Rattle.std.proofs.Common.{◌≡◌, ◌≢◌, ℕ, Bool, true, false, eqb, [], ◌∷◌, length, Some, refl, sym, ap, ◌∙◌, inl, inr, arith}
 use Rattle.std.proofs.lemmas.Bool.{true≢false, and_from, or_right, le-leb, lt-ltb, ne_eqb}
 use Rattle.std.proofs.lemmas.List.Elements.{All-weaker}
 use Rattle.std.proofs.lemmas.List.Sums.{list_all-from_AllPass}
 use Rattle.std.specs.List.{list_all}
-use Rattle.std.specs.Prelude.{◌||◌, ◌&&◌, IsTrue, not, codes, slice_get, slice_index_or, nat_lt, nat_le}
+use Rattle.std.specs.Prelude.{◌&&◌, IsTrue, codes, slice_get, slice_index_or, nat_lt, nat_le}
 use Rattle.drf_role.specs.Parts.{parts_of, text_of}
 use Rattle.drf_role.specs.Path.{Path}
 use Rattle.drf_role.specs.PathLaws.{same_path_itself}
@@ -34,7 +34,8 @@ begins_no_dash (b ∷ bs) other = ne_eqb b 45 (λ e. other (ap Some e))
 
 component_test : (component : Text) → IsComponent component → is_component component ≡ true
 component_test component is =
-    rw (filled component is.not_empty, begins_no_dash component is.no_dash, test_from_other component (codes ".") is.no_dot, test_from_other component (codes "..") is.no_dots, test_from_other component (codes "*") is.no_star)
+    let other = test_from_other component in
+    rw (filled component is.not_empty, begins_no_dash component is.no_dash, other (codes ".") is.no_dot, other (codes "..") is.no_dots, other (codes "*") is.no_star)
     (component_bytes component is)
 
 pub role_test : (role : Path) → IsRolePath role → parts_of (text_of role) ≡ role → is_role (text_of role) ≡ true
@@ -46,7 +47,8 @@ role_test role is read =
     (list_all-from_AllPass is_component role (All-weaker IsComponent (λ component. is_component component ≡ true) component_test role is.each))))
 
 -- what is no byte of a component, nor `/`, is not in the text of a role
-pub role_has_none : (p : ℕ → Bool) (role : Path) → IsRolePath role → p 47 ≡ false → ((b : ℕ) → is_component_byte b ≡ true → p b ≡ false) → HasNone p (text_of role)
+pub role_has_none : (p : ℕ → Bool) (role : Path) → IsRolePath role → p 47 ≡ false → ((b : ℕ) → is_component_byte b ≡ true → p b ≡ false)
+    → HasNone p (text_of role)
 role_has_none p role is slash apart =
     joined_has_none p 47 role slash
     (All-weaker IsComponent (HasNone p) (λ component of_role. none_of p is_component_byte component apart (component_bytes component of_role)) role is.each)

@@ -1,8 +1,7 @@
 -- What is written of a value is read as that value.
-use Rattle.std.proofs.Common.{◌≡◌, ℕ, ◌+◌, ◌-◌, ◌^◌, ◌<◌, ◌≤◌, Bool, true, false, eqb, List, [], ◌∷◌, ◌++◌, ◌&&◌, length, map, All, decimal, refl, sym, ap, subst, ◌∙◌, arith, length-append}
+use Rattle.std.proofs.Common.{◌≡◌, ℕ, ◌+◌, ◌-◌, ◌^◌, ◌<◌, ◌≤◌, Bool, true, false, eqb, List, [], ◌∷◌, ◌++◌, length, map, All, decimal, refl, sym, ap, subst, ◌∙◌, arith, length-append}
 use Rattle.std.proofs.lemmas.Bool.{and_from, or_left, or_right, eq-eqb, le-leb, lt-ltb}
 use Rattle.std.proofs.lemmas.List.Elements.{All-head, All-tail, All-nil, All-cons, All-append, All-map, All-weaker}
-use Rattle.std.proofs.lemmas.List.Folds.{list_all-map}
 use Rattle.std.proofs.lemmas.List.Splits.{length-slice_split, slice_split_none, slice_split_at}
 use Rattle.std.proofs.lemmas.List.Sums.{list_all-from_AllPass}
 use Rattle.std.specs.Char.{is_ascii_digit}
@@ -15,7 +14,7 @@ use Rattle.std.specs.Str.Parse.{digits_value}
 use Rattle.drf_role.specs.Name.{IsLabel}
 use Rattle.drf_role.specs.Text.{Text}
 use Rattle.drf_role.specs.TextLaws.{cmp_itself}
-use Rattle.drf_kinds.specs.Intervals.{AreMaximal, AreMaximalFrom, numbers, members}
+use Rattle.drf_kinds.specs.Intervals.{AreMaximalFrom, numbers, members}
 use Rattle.drf_kinds.specs.Names.{text_cmp}
 use Rattle.drf_kinds.specs.declared.interval.Interval.{Interval}
 use Rattle.drf_bundle.specs.Value.{IsGiven}
@@ -133,10 +132,14 @@ all_numbers : (is : List Interval) → All IsSpan is → flat_map numbers_of (ma
 all_numbers [] spans = refl
 all_numbers (i ∷ is) spans = λ j. numbers_found i (All-head IsSpan i is spans) j ++ all_numbers is (All-tail IsSpan i is spans) j
 
+each_text : (P : Text → Type 0) (is : List Interval) → ((i : Interval) → IsSpan i → P (interval_text i)) → All IsSpan is
+    → All P (map interval_text is)
+each_text P is holds spans = All-map P interval_text is (All-weaker IsSpan (λ i. P (interval_text i)) holds is spans)
+
 each_passes : (test : Text → Bool) (is : List Interval) → ((i : Interval) → IsSpan i → test (interval_text i) ≡ true) → All IsSpan is
     → list_all test (map interval_text is) ≡ true
 each_passes test is passes spans =
-    list_all-map test interval_text is ∙ list_all-from_AllPass (λ i. test (interval_text i)) is (All-weaker IsSpan (λ i. test (interval_text i) ≡ true) passes is spans)
+    list_all-from_AllPass test (map interval_text is) (each_text (λ t. test t ≡ true) is passes spans)
 
 ranges_text : (numbers : set.FinSet nat_cmp) (text : Text) → IsRangesText numbers text → IsTextOf (Ranges numbers) text
 unfolding members
@@ -150,14 +153,16 @@ ranges_text numbers text is = subst (IsTextOf (Ranges numbers)) (sym is.written)
       ap (λ (ts : List Text). Ranges (set.from_list (flat_map numbers_of ts))) parts
       ∙ ap (λ (ns : List ℕ). Ranges (set.from_list ns)) (all_numbers is.intervals spans)
       ∙ ap Ranges is.are_its;
-  whole = bracketed 91 93 (map interval_text is.intervals) refl refl (All-map (HasNone (is_between 59)) interval_text is.intervals (All-weaker IsSpan (λ i. HasNone (is_between 59) (interval_text i)) (λ i span. interval_has_none i span 59 refl refl) is.intervals spans));
+  whole =
+      bracketed 91 93 (map interval_text is.intervals) refl refl
+      (each_text (HasNone (is_between 59)) is.intervals (λ i span. interval_has_none i span 59 refl refl) spans);
 })
   where
     spans : All IsSpan is.intervals
     spans = spans_of 0 is.intervals is.maximal
 
     parts : parts_inside (91 ∷ intervals_text is.intervals ++ 93 ∷ []) ≡ map interval_text is.intervals
-    parts = parts_found 91 93 (map interval_text is.intervals) (All-map (IsPart 44) interval_text is.intervals (All-weaker IsSpan (λ i. IsPart 44 (interval_text i)) interval_part is.intervals spans))
+    parts = parts_found 91 93 (map interval_text is.intervals) (each_text (IsPart 44) is.intervals interval_part spans)
 
 -- ---- sets of labels
 

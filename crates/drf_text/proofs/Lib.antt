@@ -1,4 +1,12 @@
+pub mod AmountText
 pub mod BlankLemmas
+pub mod BundleText
+pub mod CutLemmas
 pub mod Decimals
 pub mod Joined
 pub mod Numbers
+pub mod PieceLemmas
+pub mod QuantityText
+pub mod ResourceText
+pub mod RoleText
+pub mod ValueText

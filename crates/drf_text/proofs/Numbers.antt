@@ -43,7 +43,7 @@ any_at p [] = refl
 any_at p (x ∷ xs) = any_at_cases p x xs (p x) refl (any_at p xs)
 
 -- where nothing passes, all stands before the first that does
-all_before : {X : Type 0} (p : X → Bool) (xs : List X) → position_or_len p xs ≡ length xs
+pub all_before : {X : Type 0} (p : X → Bool) (xs : List X) → position_or_len p xs ≡ length xs
     → (list_any p xs ≡ false) × (before_first p xs ≡ xs) × (after_first p xs ≡ [])
 all_before p xs none =
     (any_at p xs ∙ rw none (grind (arith, nat_tests)), take_all (position_or_len p xs) xs (omega arith), drop_of_length-le xs (omega arith))

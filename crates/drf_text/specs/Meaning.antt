@@ -1,129 +1,40 @@
--- What the text of a bundle means: each piece by itself, and the pieces put together from the left.
-use Rattle.std.specs.Prelude.{ℕ, ◌+◌, ◌-◌, ◌^◌, Bool, true, false, not, ◌&&◌, ◌==◌, List, [], ◌∷◌, length, map, filter, take, drop, Option, Some, None, Result, Ok, Err, if◌then◌else◌, nat_lt, nat_le, slice_index_or}
-use Rattle.std.specs.List.{list_all, list_any, slice_split, before_first, after_first, count_by, flat_map, range_with_len}
-use Rattle.std.specs.Str.Parse.{digits_value}
-use Rattle.std.specs.FinSet as set
-use Rattle.drf_role.specs.Text.{Text, same_text}
-use Rattle.drf_role.specs.Path.{Path}
-use Rattle.drf_role.specs.Parts.{parts_of}
-use Rattle.drf_role.specs.Role.{default_role}
-use Rattle.drf_bundle.specs.Value.{Thousandths, amount_in, share_members, is_same_kind}
-use Rattle.drf_bundle.specs.Bundle.{key_of, same_key, stock, merged}
+-- What the text of a bundle means, and that of quantities: each piece by itself, and the pieces put together from the left.
+use Rattle.std.specs.Prelude.{ℕ, ◌+◌, ◌^◌, Bool, true, false, List, [], ◌∷◌, Option, Some, None, Result, Ok, Err, if◌then◌else◌, nat_lt}
+use Rattle.std.specs.Option.{option_map}
+use Rattle.drf_role.specs.Text.{Text}
+use Rattle.drf_amount.specs.declared.algebra.AlgebraFault.{AlgebraFault}
+use Rattle.drf_amount.specs.declared.algebra.AlgebraFault.TheVariants as refusal
+use Rattle.drf_bundle.specs.Quantities.{amount_of, with_amount}
+use Rattle.drf_bundle.specs.Value.{amount_in}
+use Rattle.drf_bundle.specs.Union.{union_refusal, with_united}
+use Rattle.drf_bundle.specs.declared.quantities.Entry.{Entry}
 use Rattle.drf_bundle.specs.declared.resource.Resource.{Resource}
 use Rattle.drf_bundle.specs.declared.value.Value.{Value}
 use Rattle.drf_bundle.specs.declared.value.Value.TheVariants.{Scalar, Ranges, Items}
-use Rattle.drf_text.specs.Blanks.{is_blank, trimmed}
-use Rattle.drf_text.specs.Number.{are_digits, is_number, thousandths_of}
-use Rattle.drf_text.specs.NameTests.{is_label, is_role}
+use Rattle.drf_text.specs.Pieces.{pieces_of, head_of, body_of, name_of, value_of, fault_of, quantity_fault_of, resource_of}
 use Rattle.drf_text.specs.declared.fault.TextFault.{TextFault}
-use Rattle.drf_text.specs.declared.fault.TextFault.TheVariants.{Syntax, BadName, BadRole, BadNumber, Kind, Overlap, TooLarge}
+use Rattle.drf_text.specs.declared.fault.TextFault.TheVariants.{Kind, Overlap, TooLarge, Memory}
 
--- ---- cutting
+-- what comes of one piece: its fault, the pieces behind it where it says nothing, or those behind it once it is put
+abbrev pub after : {T : Type 0} → Option TextFault → Bool → Result T TextFault → T → (T → Result T TextFault) → Result T TextFault
+after (Some refused) filled now earlier more = Err refused
+after None false now earlier more = more earlier
+after None true (Err refused) earlier more = Err refused
+after None true (Ok now) earlier more = more now
 
--- the text begins, or ends, with that byte
-abbrev pub begins : ℕ → Text → Bool
-begins c text = slice_index_or text 0 0 == c
+-- ---- bundles
 
-abbrev pub ends : ℕ → Text → Bool
-ends c text = nat_lt 0 (length text) && slice_index_or text (length text - 1) 0 == c
-
--- without the first and the last byte
-abbrev pub inside : Text → Text
-inside text = take (length text - 2) (drop 1 text)
-
--- the parts between two brackets: none where nothing but blanks stands there
-abbrev pub parts_inside : Text → List Text
-parts_inside text = if list_all is_blank (inside text) then [] else map trimmed (slice_split (λ b. b == 44) (inside text))
-
--- the pieces of a text: what `;` separates, without those that are empty
-abbrev pub pieces_of : Text → List Text
-pieces_of text = filter (λ piece. nat_lt 0 (length piece)) (map trimmed (slice_split (λ b. b == 59) text))
-
--- ---- the parts of a piece
-
--- what stands before the first `:`, and after it
-abbrev pub head_of : Text → Text
-head_of piece = trimmed (before_first (λ b. b == 58) piece)
-
-abbrev pub body_of : Text → Text
-body_of piece = trimmed (after_first (λ b. b == 58) piece)
-
-abbrev pub is_reserved : Text → Bool
-is_reserved head = list_any (λ b. b == 40) head
-
-abbrev pub name_of : Text → Text
-name_of head = trimmed (before_first (λ b. b == 40) head)
-
--- what stands between the first `(` and the last byte
-abbrev pub role_text_of : Text → Text
-role_text_of head = let rest = after_first (λ b. b == 40) head in trimmed (take (length rest - 1) rest)
-
--- the ends of a range
-abbrev pub low_of : Text → Text
-low_of part = trimmed (before_first (λ b. b == 45) part)
-
-abbrev pub high_of : Text → Text
-high_of part = trimmed (after_first (λ b. b == 45) part)
-
--- ---- the faults of a piece by itself
-
-abbrev pub is_head : Text → Bool
-is_head head = if is_reserved head then ends 41 head else not (list_any (λ b. b == 41) head)
-
-abbrev pub has_one_dash : Text → Bool
-has_one_dash part = count_by (λ b. b == 45) part == 1
-
-abbrev pub is_body : Text → Bool
-is_body body =
-    if begins 91 body then ends 93 body && list_all has_one_dash (parts_inside body)
-    else if begins 123 body then ends 125 body
-    else true
-
-abbrev pub is_end : Text → Bool
-is_end text = are_digits text && nat_lt (digits_value 10 text) (2 ^ 32)
-
-abbrev pub is_range : Text → Bool
-is_range part = is_end (low_of part) && is_end (high_of part) && nat_le (digits_value 10 (low_of part)) (digits_value 10 (high_of part))
-
--- the first fault of a piece, if it has one
-abbrev pub fault_of : Text → Option TextFault
-fault_of piece =
-    if not (list_any (λ b. b == 58) piece && is_head (head_of piece) && is_body (body_of piece)) then Some Syntax
-    else if not (is_label (name_of (head_of piece)) && (if begins 123 (body_of piece) then list_all is_label (parts_inside (body_of piece)) else true)) then Some BadName
-    else if is_reserved (head_of piece) && not (is_role (role_text_of (head_of piece))) then Some BadRole
-    else if not (
-    if begins 91 (body_of piece) then list_all is_range (parts_inside (body_of piece))
-    else if begins 123 (body_of piece) then true
-    else is_number (body_of piece)) then Some BadNumber
-    else None
-
--- ---- what a piece without a fault says
-
-abbrev pub numbers_of : Text → List ℕ
-numbers_of part = range_with_len (digits_value 10 (low_of part)) (digits_value 10 (high_of part) + 1 - digits_value 10 (low_of part))
-
--- a scalar has here no bound
-abbrev pub value_of : Text → Value
-value_of body =
-    if begins 91 body then Ranges (set.from_list (flat_map numbers_of (parts_inside body)))
-    else if begins 123 body then Items (set.from_list (parts_inside body))
-    else Scalar (thousandths_of body)
-
-abbrev pub role_of : Text → Path
-role_of head = if is_reserved head then parts_of (role_text_of head) else default_role
-
-abbrev pub resource_of : Text → Resource
-resource_of piece = record { label = name_of (head_of piece); role = role_of (head_of piece); value = value_of (body_of piece) }
-
--- ---- pieces put together
+-- the fault of a text for which a union is refused; none is refused for the last two
+abbrev pub text_fault_of : AlgebraFault → TextFault
+text_fault_of refusal.Kind = Kind
+text_fault_of refusal.Overlap = Overlap
+text_fault_of refusal.TooLarge = TooLarge
+text_fault_of refusal.NotCovered = Memory
+text_fault_of refusal.Memory = Memory
 
 -- why a resource cannot be put to those of earlier pieces
 abbrev pub clash_of : List Resource → Resource → Option TextFault
-clash_of earlier r =
-    if list_any (λ s. same_text s.label r.label && not (is_same_kind s.value r.value)) earlier then Some Kind
-    else if list_any (λ s. same_text s.label r.label && not (same_key (key_of s) (key_of r)) && share_members s.value r.value) earlier then Some Overlap
-    else if nat_le (2 ^ 64) (stock earlier r.label Thousandths + stock (r ∷ []) r.label Thousandths) then Some TooLarge
-    else None
+clash_of earlier r = option_map text_fault_of (union_refusal earlier r)
 
 -- the resources with one more: of one name and reservation sets unite and scalars add
 abbrev pub put_or : Option TextFault → List Resource → Result (List Resource) TextFault
@@ -131,14 +42,7 @@ put_or (Some refused) whole = Err refused
 put_or None whole = Ok whole
 
 abbrev pub put : List Resource → Resource → Result (List Resource) TextFault
-put earlier r = put_or (clash_of earlier r) (merged earlier (r ∷ []))
-
--- what comes of one piece: its fault, the pieces behind it where it says nothing, or those behind it once it is put
-abbrev pub after : Option TextFault → Bool → Result (List Resource) TextFault → List Resource → (List Resource → Result (List Resource) TextFault) → Result (List Resource) TextFault
-after (Some refused) filled now earlier more = Err refused
-after None false now earlier more = more earlier
-after None true (Err refused) earlier more = Err refused
-after None true (Ok now) earlier more = more now
+put earlier r = put_or (clash_of earlier r) (with_united earlier r)
 
 -- the pieces from the left, after earlier ones; the first with a fault decides
 abbrev pub meaning_from : List Text → List Resource → Result (List Resource) TextFault
@@ -149,3 +53,22 @@ meaning_from (piece ∷ pieces) earlier =
 -- what the text of a bundle means, or the fault for which it means none
 abbrev pub meaning_of : Text → Result (List Resource) TextFault
 meaning_of text = meaning_from (pieces_of text) []
+
+-- ---- quantities
+
+-- a scalar added to those of its name, be it 0 or not
+abbrev pub counted : List Entry → Text → Value → Result (List Entry) TextFault
+counted earlier name (Scalar thousandths) =
+    let sum = amount_of earlier name + thousandths in if nat_lt sum (2 ^ 64) then Ok (with_amount earlier name sum) else Err TooLarge
+counted earlier name (Ranges numbers) = Err Kind
+counted earlier name (Items members) = Err Kind
+
+-- the pieces from the left, after earlier ones; the first with a fault decides
+abbrev pub quantities_from : List Text → List Entry → Result (List Entry) TextFault
+quantities_from [] earlier = Ok earlier
+quantities_from (piece ∷ pieces) earlier =
+    after (quantity_fault_of piece) true (counted earlier (name_of (head_of piece)) (value_of (body_of piece))) earlier (quantities_from pieces)
+
+-- what the text of quantities means, or the fault for which it means none
+abbrev pub quantities_meant : Text → Result (List Entry) TextFault
+quantities_meant text = quantities_from (pieces_of text) []

@@ -1,8 +1,10 @@
-//! What some texts of bundles mean, computed from the definition. The function does nothing.
+//! What some texts mean, computed from the definition, and that what is written means what it was written of. The functions
+//! do nothing.
 ghost use Rattle.std.specs.Prelude.{◌≡◌, [], ◌∷◌, Ok, Err, codes};
 ghost use Rattle.drf_bundle.specs.declared.value.Value.TheVariants.{Scalar};
-ghost use Rattle.drf_text.specs.Meaning.{meaning_of};
-ghost use Rattle.drf_text.specs.declared.fault.TextFault.TheVariants.{Syntax, BadName, BadRole, BadNumber, TooLarge};
+ghost use Rattle.drf_text.specs.Meaning.{meaning_of, quantities_meant};
+ghost use Rattle.drf_text.specs.RoundTrip.{BundleIsRead, QuantitiesAreRead, WeightIsRead};
+ghost use Rattle.drf_text.specs.declared.fault.TextFault.TheVariants.{Syntax, BadName, BadRole, BadNumber, Kind, TooLarge};
 
 /// Pieces are put together, and the first fault of the first piece that has one is told.
 pub fn bundle_text_example()
@@ -18,4 +20,28 @@ pub fn bundle_text_example()
     ensures exponent { meaning_of (codes "cpus:1e3") ≡ Err BadNumber }
     ensures backwards { meaning_of (codes "ports:[5-1]") ≡ Err BadNumber }
     ensures too_large { meaning_of (codes "cpus:18446744073709551.616") ≡ Err TooLarge }
+    ensures too_large_together { meaning_of (codes "cpus:1;cpus(eng):18446744073709551.615") ≡ Err TooLarge }
+    ensures skipped { meaning_of (codes "cpus:0.0004;cpus(eng):0.0004") ≡ Ok [] }
+{}
+
+/// Zeros stay named, and there are no reservations.
+pub fn quantities_text_example()
+    ensures zero { quantities_meant (codes "mem:0;cpus:1;cpus:2") ≡ Ok (record { label = codes "cpus"; amount = 3000 } ∷ record { label = codes "mem"; amount = 0 } ∷ []) }
+    ensures reserved { quantities_meant (codes "cpus(*):1") ≡ Err BadRole }
+    ensures ranges { quantities_meant (codes "ports:[]") ≡ Err Kind }
+{}
+
+/// The text that is written of a bundle means that bundle.
+pub fn bundle_round_trip_law()
+    ensures { BundleIsRead }
+{}
+
+/// The text that is written of quantities means those quantities.
+pub fn quantities_round_trip_law()
+    ensures { QuantitiesAreRead }
+{}
+
+/// The text that is written of a weight says that weight.
+pub fn weight_round_trip_law()
+    ensures { WeightIsRead }
 {}

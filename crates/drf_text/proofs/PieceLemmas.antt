@@ -1,0 +1,101 @@
+-- A head and a body with `:` between them, and when they have no fault.
+use Rattle.std.proofs.Common.{◌≡◌, ℕ, Bool, true, false, cond, eqb, [], ◌∷◌, ◌++◌, ◌&&◌, length, Some, None, inl, inr, refl, sym, ap, subst, ◌∙◌}
+use Rattle.std.proofs.lemmas.Bool.{and_from, or_left, or_right, le-leb, lt-ltb}
+use Rattle.std.proofs.lemmas.List.Elements.{All-head, All-weaker}
+use Rattle.std.proofs.lemmas.List.Folds.{list_any_none}
+use Rattle.std.proofs.lemmas.List.Sums.{list_all-from_AllPass}
+use Rattle.std.specs.Char.{IsAsciiAlphanumeric, is_ascii_alphanumeric}
+use Rattle.std.specs.Int.{is_in_range}
+use Rattle.std.specs.Prelude.{◌||◌, IsTrue, not}
+use Rattle.std.specs.List.{list_all, list_any}
+use Rattle.drf_role.specs.Text.{Text}
+use Rattle.drf_role.specs.Name.{IsLabelByte, IsLabel}
+use Rattle.drf_text.specs.Blanks.{is_blank, trimmed}
+use Rattle.drf_text.specs.NameTests.{is_label_byte, is_label}
+use Rattle.drf_text.specs.Number.{is_number}
+use Rattle.drf_text.specs.Pieces.{begins, parts_inside, head_of, body_of, name_of, is_reserved, is_head, is_body, is_range, fault_by}
+use Rattle.drf_text.specs.declared.fault.TextFault.TheVariants.{Syntax, BadName, BadRole, BadNumber}
+use Rattle.drf_text.proofs.CutLemmas.{HasNone, none_of, not_that, not_blank, trimmed_stays, before_at, after_at, any_at_mark, position_none}
+use Rattle.drf_text.proofs.Numbers.{all_before}
+
+-- ---- labels
+
+alphanumeric : (b : ℕ) → IsAsciiAlphanumeric b → is_ascii_alphanumeric b ≡ true
+alphanumeric b (inl (inl digit)) = or_left _ (is_in_range 97 122 b) (or_left _ (is_in_range 65 90 b) (and_from _ _ (le-leb 48 b digit.0) (le-leb b 57 digit.1)))
+alphanumeric b (inl (inr upper)) = or_left _ (is_in_range 97 122 b) (or_right (is_in_range 48 57 b) _ (and_from _ _ (le-leb 65 b upper.0) (le-leb b 90 upper.1)))
+alphanumeric b (inr lower) = or_right (is_in_range 48 57 b || is_in_range 65 90 b) _ (and_from _ _ (le-leb 97 b lower.0) (le-leb b 122 lower.1))
+
+label_byte : (b : ℕ) → IsLabelByte b → is_label_byte b ≡ true
+label_byte b (inl (inl letter)) = rw (alphanumeric b letter) refl
+label_byte b (inl (inr (inl is))) = ap is_label_byte is
+label_byte b (inl (inr (inr (inl is)))) = ap is_label_byte is
+label_byte b (inl (inr (inr (inr is)))) = ap is_label_byte is
+label_byte b (inr is) = ap is_label_byte is
+
+label_bytes : (label : Text) → IsLabel label → IsTrue (list_all is_label_byte label)
+label_bytes label is = list_all-from_AllPass is_label_byte label (All-weaker IsLabelByte (λ b. is_label_byte b ≡ true) label_byte label is.alphabet)
+
+pub label_test : (label : Text) → IsLabel label → is_label label ≡ true
+label_test label is =
+    and_from _ _ (lt-ltb 0 (length label) is.not_empty) (and_from _ _ (le-leb (length label) 64 is.short) (label_bytes label is))
+
+pub label_has_none : (p : ℕ → Bool) (label : Text) → IsLabel label → ((b : ℕ) → is_label_byte b ≡ true → p b ≡ false) → HasNone p label
+label_has_none p label is apart = none_of p is_label_byte label apart (label_bytes label is)
+
+pub label_without : (c : ℕ) (label : Text) → IsLabel label → is_label_byte c ≡ false → HasNone (λ b. eqb b c) label
+label_without c label is out = label_has_none (λ b. eqb b c) label is (not_that is_label_byte c out)
+
+-- ---- head and body
+
+pub head_found : (head body : Text) → HasNone (λ b. eqb b 58) head → HasNone is_blank head → head_of (head ++ 58 ∷ body) ≡ head
+head_found head body no_colon no_blank = ap trimmed (before_at (λ b. eqb b 58) head 58 body no_colon refl) ∙ trimmed_stays head no_blank
+
+pub body_found : (head body : Text) → HasNone (λ b. eqb b 58) head → HasNone is_blank body → body_of (head ++ 58 ∷ body) ≡ body
+body_found head body no_colon no_blank = ap trimmed (after_at (λ b. eqb b 58) head 58 body no_colon refl) ∙ trimmed_stays body no_blank
+
+-- a name alone is the name of a head
+pub name_alone : (label : Text) → IsLabel label → name_of label ≡ label
+name_alone label is =
+    let none = label_without 40 label is refl in
+    ap trimmed (all_before (λ b. eqb b 40) label (position_none (λ b. eqb b 40) label none)).1
+    ∙ trimmed_stays label (label_has_none is_blank label is (not_blank is_label_byte refl refl))
+
+-- a head without a fault
+pub record IsRightHead (is_bad_role : Text → Bool) (head : Text) : Type 0 where
+  pub shape : is_head head ≡ true
+  pub name : is_label (name_of head) ≡ true
+  pub role : is_bad_role head ≡ false
+
+pub not_reserved : (label : Text) → IsLabel label → is_reserved label ≡ false
+not_reserved label is = list_any_none (λ b. eqb b 40) label (label_without 40 label is refl)
+
+-- a name alone is such a head
+pub label_head : (is_bad_role : Text → Bool) (label : Text) → IsLabel label → is_bad_role label ≡ false → IsRightHead is_bad_role label
+label_head is_bad_role label is role = record {
+  shape = rw (not_reserved label is, list_any_none (λ b. eqb b 41) label (label_without 41 label is refl)) refl;
+  name = ap is_label (name_alone label is) ∙ label_test label is;
+  role = role;
+}
+
+-- a body without a fault
+pub record IsRightBody (body : Text) : Type 0 where
+  pub shape : is_body body ≡ true
+  pub members : cond (begins 123 body) (list_all is_label (parts_inside body)) true ≡ true
+  pub numbers : cond (begins 91 body) (list_all is_range (parts_inside body)) (cond (begins 123 body) true (is_number body)) ≡ true
+
+fault_none : (is_bad_role : Text → Bool) (piece : Text) → list_any (λ b. eqb b 58) piece ≡ true → IsRightHead is_bad_role (head_of piece)
+    → IsRightBody (body_of piece) → fault_by is_bad_role piece ≡ None
+fault_none is_bad_role piece colon head body =
+    λ i. cond (not (colon i && head.shape i && body.shape i)) (Some Syntax)
+    (cond (not (head.name i && body.members i)) (Some BadName) (cond (head.role i) (Some BadRole) (cond (not (body.numbers i)) (Some BadNumber) None)))
+
+pub right_piece : (is_bad_role : Text → Bool) (head body : Text) → HasNone (λ b. eqb b 58) head → HasNone is_blank head → HasNone is_blank body
+    → IsRightHead is_bad_role head → IsRightBody body → fault_by is_bad_role (head ++ 58 ∷ body) ≡ None
+right_piece is_bad_role head body no_colon no_blank no_blank_too right_head right_body =
+    fault_none is_bad_role (head ++ 58 ∷ body) (any_at_mark (λ b. eqb b 58) head 58 body no_colon refl)
+    (subst (IsRightHead is_bad_role) (sym (head_found head body no_colon no_blank)) right_head)
+    (subst IsRightBody (sym (body_found head body no_colon no_blank_too)) right_body)
+
+pub begins_not : (c : ℕ) (text : Text) → eqb 0 c ≡ false → HasNone (λ b. eqb b c) text → begins c text ≡ false
+begins_not c [] zero none = zero
+begins_not c (b ∷ bs) zero none = All-head (λ x. eqb x c ≡ false) b bs none

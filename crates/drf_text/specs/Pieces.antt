@@ -1,0 +1,127 @@
+-- The pieces of the text of a bundle or of quantities: how the text is cut, what faults a piece has by itself, and what it
+-- says without one.
+use Rattle.std.specs.Prelude.{ℕ, ◌+◌, ◌-◌, ◌^◌, Bool, true, not, ◌&&◌, ◌==◌, List, [], length, map, filter, take, drop, Option, Some, None, if◌then◌else◌, nat_lt, nat_le, slice_index_or}
+use Rattle.std.specs.List.{list_all, list_any, slice_split, before_first, after_first, count_by, flat_map, range_with_len}
+use Rattle.std.specs.Str.Parse.{digits_value}
+use Rattle.std.specs.FinSet as set
+use Rattle.drf_role.specs.Text.{Text}
+use Rattle.drf_role.specs.Path.{Path}
+use Rattle.drf_role.specs.Parts.{parts_of}
+use Rattle.drf_role.specs.Role.{default_role}
+use Rattle.drf_bundle.specs.declared.resource.Resource.{Resource}
+use Rattle.drf_bundle.specs.declared.value.Value.{Value}
+use Rattle.drf_bundle.specs.declared.value.Value.TheVariants.{Scalar, Ranges, Items}
+use Rattle.drf_text.specs.Blanks.{is_blank, trimmed}
+use Rattle.drf_text.specs.Number.{are_digits, is_number, thousandths_of}
+use Rattle.drf_text.specs.NameTests.{is_label, is_role}
+use Rattle.drf_text.specs.declared.fault.TextFault.{TextFault}
+use Rattle.drf_text.specs.declared.fault.TextFault.TheVariants.{Syntax, BadName, BadRole, BadNumber}
+
+-- ---- cutting
+
+-- the text begins, or ends, with that byte
+abbrev pub begins : ℕ → Text → Bool
+begins c text = slice_index_or text 0 0 == c
+
+abbrev pub ends : ℕ → Text → Bool
+ends c text = nat_lt 0 (length text) && slice_index_or text (length text - 1) 0 == c
+
+-- without the first and the last byte
+abbrev pub inside : Text → Text
+inside text = take (length text - 2) (drop 1 text)
+
+-- the parts between two brackets: none where nothing but blanks stands there
+abbrev pub parts_inside : Text → List Text
+parts_inside text = if list_all is_blank (inside text) then [] else map trimmed (slice_split (λ b. b == 44) (inside text))
+
+-- the pieces of a text: what `;` separates, without those that are empty
+abbrev pub pieces_of : Text → List Text
+pieces_of text = filter (λ piece. nat_lt 0 (length piece)) (map trimmed (slice_split (λ b. b == 59) text))
+
+-- ---- the parts of a piece
+
+-- what stands before the first `:`, and after it
+abbrev pub head_of : Text → Text
+head_of piece = trimmed (before_first (λ b. b == 58) piece)
+
+abbrev pub body_of : Text → Text
+body_of piece = trimmed (after_first (λ b. b == 58) piece)
+
+abbrev pub is_reserved : Text → Bool
+is_reserved head = list_any (λ b. b == 40) head
+
+abbrev pub name_of : Text → Text
+name_of head = trimmed (before_first (λ b. b == 40) head)
+
+-- what stands between the first `(` and the last byte
+abbrev pub role_text_of : Text → Text
+role_text_of head = let rest = after_first (λ b. b == 40) head in trimmed (take (length rest - 1) rest)
+
+-- the ends of a range
+abbrev pub low_of : Text → Text
+low_of part = trimmed (before_first (λ b. b == 45) part)
+
+abbrev pub high_of : Text → Text
+high_of part = trimmed (after_first (λ b. b == 45) part)
+
+-- ---- the faults of a piece by itself
+
+abbrev pub is_head : Text → Bool
+is_head head = if is_reserved head then ends 41 head else not (list_any (λ b. b == 41) head)
+
+abbrev pub has_one_dash : Text → Bool
+has_one_dash part = count_by (λ b. b == 45) part == 1
+
+abbrev pub is_body : Text → Bool
+is_body body =
+    if begins 91 body then ends 93 body && list_all has_one_dash (parts_inside body)
+    else if begins 123 body then ends 125 body
+    else true
+
+abbrev pub is_end : Text → Bool
+is_end text = are_digits text && nat_lt (digits_value 10 text) (2 ^ 32)
+
+abbrev pub is_range : Text → Bool
+is_range part = is_end (low_of part) && is_end (high_of part) && nat_le (digits_value 10 (low_of part)) (digits_value 10 (high_of part))
+
+-- what stands in parentheses is no role
+abbrev pub has_bad_role : Text → Bool
+has_bad_role head = is_reserved head && not (is_role (role_text_of head))
+
+-- the first fault of a piece, if it has one; the test says which heads are a BadRole
+abbrev pub fault_by : (Text → Bool) → Text → Option TextFault
+fault_by is_bad_role piece =
+    if not (list_any (λ b. b == 58) piece && is_head (head_of piece) && is_body (body_of piece)) then Some Syntax
+    else if not (is_label (name_of (head_of piece)) && (if begins 123 (body_of piece) then list_all is_label (parts_inside (body_of piece)) else true)) then Some BadName
+    else if is_bad_role (head_of piece) then Some BadRole
+    else if not (
+    if begins 91 (body_of piece) then list_all is_range (parts_inside (body_of piece))
+    else if begins 123 (body_of piece) then true
+    else is_number (body_of piece)) then Some BadNumber
+    else None
+
+-- of a piece of a bundle
+abbrev pub fault_of : Text → Option TextFault
+fault_of piece = fault_by has_bad_role piece
+
+-- of a piece of quantities, where nothing may stand in parentheses
+abbrev pub quantity_fault_of : Text → Option TextFault
+quantity_fault_of piece = fault_by is_reserved piece
+
+-- ---- what a piece without a fault says
+
+abbrev pub numbers_of : Text → List ℕ
+numbers_of part = range_with_len (digits_value 10 (low_of part)) (digits_value 10 (high_of part) + 1 - digits_value 10 (low_of part))
+
+-- a scalar has here no bound
+abbrev pub value_of : Text → Value
+value_of body =
+    if begins 91 body then Ranges (set.from_list (flat_map numbers_of (parts_inside body)))
+    else if begins 123 body then Items (set.from_list (parts_inside body))
+    else Scalar (thousandths_of body)
+
+abbrev pub role_of : Text → Path
+role_of head = if is_reserved head then parts_of (role_text_of head) else default_role
+
+abbrev pub resource_of : Text → Resource
+resource_of piece = record { label = name_of (head_of piece); role = role_of (head_of piece); value = value_of (body_of piece) }

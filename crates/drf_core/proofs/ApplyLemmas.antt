@@ -6,7 +6,7 @@ use Rattle.std.proofs.Math.Nat.{mul-le-mul_right}
 use Rattle.std.proofs.lemmas.Bool.{cases_Bool, false≢true, ltb-false, leb-false}
 use Rattle.std.proofs.lemmas.List.{length-append, length-map}
 use Rattle.drf_role.specs.Text.{Text, same_text}
-use Rattle.drf_role.specs.Path.{Path, client_path}
+use Rattle.drf_role.specs.Path.{Path}
 use Rattle.drf_bundle.specs.Quantities.{amount_of, plus}
 use Rattle.drf_bundle.specs.Bundle.{quantities_of}
 use Rattle.drf_bundle.specs.declared.quantities.Entry.{Entry}
@@ -27,10 +27,12 @@ use Rattle.drf_rows.specs.declared.rows.AgentRow.{AgentRow}
 use Rattle.drf_rows.specs.declared.rows.ClientRow.{ClientRow}
 use Rattle.drf_rows.specs.declared.rows.FrameworkRow.{FrameworkRow}
 use Rattle.drf_rows.specs.declared.rows.Rows.{Rows}
-use Rattle.drf_sorter.specs.Content.{Content, with_client}
+use Rattle.drf_sorter.specs.Content.{Content}
 use Rattle.drf_core.specs.Content.{content_of}
 use Rattle.drf_core.specs.Kept.{AreFew, IsKept, StandAt}
-use Rattle.drf_core.proofs.ContentRegister.{content_of-with_agent, content_of-with_framework}
+use Rattle.drf_core.specs.Registering.{paths_of, with_all}
+use Rattle.drf_core.proofs.ContentRegister.{content_of-with_agent}
+use Rattle.drf_core.proofs.RegisterLemmas.{content_of-registered}
 use Rattle.drf_core.proofs.ContentSound.{IsSound-content_of}
 use Rattle.drf_core.proofs.CycleLemmas.{turns-clients, turns-tables, turns-next_offer}
 
@@ -212,31 +214,19 @@ applied_agent rows tables agent total before after sorted same set = record {
 
 -- ---- one more framework
 
--- of one role at most the last is all
-pub only_role : (roles rest : List Path) (role : Path) → length roles ≤ 1 → roles ≡ rest ++ role ∷ [] → roles ≡ role ∷ []
-only_role roles [] role few is = is
-only_role roles (other ∷ rest) role few is = absurd (omega (arith, ap length is, length-append rest (role ∷ [])))
-
-pub some_role : (limits : LimitNumbers) (rows : Rows) (framework : Text) (roles : List Path) → refusal_of limits rows (AddFramework framework roles) ≡ None → roles ≡ [] → ⊥
-some_role limits rows framework roles none nothing =
-    false≢true (sym (welcome_framework limits rows framework roles none).some ∙ ap is_empty nothing)
-
-pub applied_framework : (rows tables : Rows) (framework : Text) (roles : List Path) (role : Path) (clients : List ClientRow) (before after : Content)
+pub applied_framework : (rows tables : Rows) (framework : Text) (roles : List Path) (clients : List ClientRow) (before after : Content)
     → before ≡ content_of rows
     → IsConsistent rows
     → has_framework rows framework ≡ false
-    → roles ≡ role ∷ []
-    → clients ≡ new_client role ∷ []
+    → clients ≡ map new_client (distinct roles)
     → tables ≡ record rows { frameworks = rows.frameworks ++ record { name = framework; clients = clients } ∷ [] }
-    → after ≡ with_client before (client_path role framework)
+    → after ≡ with_all before (paths_of framework (distinct roles))
     → StandAt (effect rows (AddFramework framework roles)) tables after
 unfolding effect
-applied_framework rows tables framework roles role clients before after sorted right new only made same added = record {
+applied_framework rows tables framework roles clients before after sorted right new made same added = record {
   same = same
-      ∙ (λ i. record rows { frameworks = rows.frameworks ++ record { name = framework; clients = made i } ∷ [] })
-      ∙ (λ i. record rows { frameworks = with_framework rows framework (sym only i) });
+      ∙ (λ i. record rows { frameworks = rows.frameworks ++ record { name = framework; clients = made i } ∷ [] });
   sorted = added
-      ∙ ap (λ (c : Content). with_client c (client_path role framework)) sorted
-      ∙ sym (content_of-with_framework rows framework role right new)
-      ∙ (λ i. content_of (record rows { frameworks = with_framework rows framework (sym only i) }));
+      ∙ ap (λ (c : Content). with_all c (paths_of framework (distinct roles))) sorted
+      ∙ content_of-registered rows framework right new (distinct roles);
 }

@@ -83,12 +83,6 @@ unregistered (f ∷ fs) client new =
     by true later known none next = cc
     by false later known none next = next none
 
-pub has_client-new : (rows : Rows) (role : Path) (name : Text)
-    → has_framework rows name ≡ false → has_client (content_of rows) (client_path role name) ≡ false
-has_client-new rows role name new =
-    let client : Client = record { role = role; framework = name } in
-    has_client-content_of rows client ∙ unregistered rows.frameworks client new
-
 -- ---- registrations
 
 -- one more agent adds to the total
@@ -206,15 +200,3 @@ content_of-one_more_client rows name roles role consistent new =
     ∙ sym (append_assoc before (ranked_all hs f) (added ∷ []))
     ∙ ap (λ (rs : List Ranked). rs ++ added ∷ []) (sym (clients_and hs rows.frameworks f)) in
     λ i. record { clients = all i; total = cluster_total rows.agents; weights = rows.weights }
-
--- a new framework of one client
-pub content_of-with_framework : (rows : Rows) (name : Text) (role : Path)
-    → IsConsistent rows
-    → has_framework rows name ≡ false
-    → content_of (record rows {
-      frameworks = rows.frameworks ++ record { name = name; clients = new_client role ∷ [] } ∷ [];
-    })
-    ≡ with_client (content_of rows) (client_path role name)
-content_of-with_framework rows name role consistent new =
-    content_of-one_more_client rows name [] role consistent new
-    ∙ ap (λ (c : Content). with_client c (client_path role name)) (content_of-no_clients rows name)

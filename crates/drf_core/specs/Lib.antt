@@ -3,3 +3,4 @@ pub mod MachineLaws
 pub mod Content
 pub mod Kept
 pub mod Drafting
+pub mod Registering

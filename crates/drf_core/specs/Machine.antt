@@ -8,7 +8,6 @@ use Rattle.drf_rows.specs.Step.{opening, live_rows, rows_after, rows_after_all, 
 use Rattle.drf_rows.specs.declared.reply.Reply.{Reply}
 use Rattle.drf_rows.specs.declared.rows.Rows.{Rows}
 use Rattle.drf_rows.specs.declared.event.Event.{Event}
-use Rattle.drf_rows.specs.declared.event.Event.TheVariants.{AddAgent, AddFramework, Cycle}
 
 pub record Machine : Type 0 where
   pub limits : LimitNumbers
@@ -55,9 +54,3 @@ pub record HasRun (old new : Machine) (events : List Event) (before told : List 
   pub few : number ≤ length events
   pub ended : IsAfterAll old new (take number events)
   pub replies : told ≡ before ++ replies_to old.limits old.rows (take number events)
-
--- what this stage lacks: a framework in several roles
-abbrev pub IsSupported : Event → Type 0
-IsSupported (AddAgent agent total) = Unit {0}
-IsSupported (AddFramework framework roles) = length roles ≤ 1
-IsSupported (Cycle at) = Unit {0}

@@ -1,5 +1,5 @@
 ghost use Rattle.std.specs.Prelude.{◌≡◌, ◌≤◌, ◌^◌, ◌++◌, None, IfOk, OnOk, OnErr};
-ghost use Rattle.drf_core.specs.Machine.{IsOpened, IsSame, IsAfter, IsAfterAll, IsSupported, HasRun};
+ghost use Rattle.drf_core.specs.Machine.{IsOpened, IsSame, IsAfter, IsAfterAll, HasRun};
 
 use crate::apply::apply;
 use crate::refusal::refusal;
@@ -54,7 +54,6 @@ impl<S: Sorter> Core<S> {
     /// Takes one event, whole or not at all. A refusal is a reply; a refused event changes nothing, nor does want of
     /// memory, which no refused event meets.
     pub fn step(&mut self, event: Event) -> Result<Reply, AllocError>
-        requires { IsSupported event }
         ensures reply { IfOk result (λ reply. reply ≡ reply_to self.old.limits self.old.rows event) }
         ensures ok { OnOk result (IsAfter self.old self.new event) }
         ensures err { OnErr result (IsSame self.old self.new) }
@@ -77,7 +76,6 @@ impl<S: Sorter> Core<S> {
     /// Takes events in order, and appends their replies. At an `Err` it stands after the events whose replies it has
     /// appended.
     pub fn run(&mut self, events: &[Event], replies: &mut Vec<Reply>) -> Result<(), AllocError>
-        requires { AllByRecursion IsSupported events.now }
         ensures run { HasRun self.old self.new events.now replies.old.items replies.new.items }
         ensures ok { OnOk result (IsAfterAll self.old self.new events.now) }
         ensures replies { OnOk result (replies.new.items ≡ replies.old.items ++ replies_to self.old.limits self.old.rows events.now) }

@@ -1,10 +1,10 @@
 //! The effects of events that are not refused.
-ghost use Rattle.std.specs.Prelude.{◌≡◌, ◌≤◌, None, [], ◌∷◌, length, IfOk, OnOk, OnErr};
-ghost use Rattle.drf_rows.specs.Step.{refusal_of, effect, answer, new_client};
+ghost use Rattle.std.specs.Prelude.{◌≡◌, None, map, IfOk, OnOk, OnErr};
+ghost use Rattle.drf_rows.specs.Step.{refusal_of, effect, answer, distinct, new_client};
 ghost use Rattle.drf_rows.specs.declared.event.Event.TheVariants.{AddAgent, AddFramework};
-ghost use Rattle.drf_core.specs.Machine.{IsSupported};
 ghost use Rattle.drf_core.specs.Content.{content_of};
 ghost use Rattle.drf_core.specs.Kept.{IsKept, StandAt};
+ghost use Rattle.drf_core.specs.Registering.{AreNew, paths_of, with_all};
 
 use crate::cycle::cycle;
 use drf_bundle::Bundle;
@@ -33,17 +33,67 @@ fn add_agent<S: Sorter>(
     Ok(())
 }
 
-/// The client of a framework that registers.
-fn new_clients(alloc: Global, role: Role) -> Result<Table<ClientRow>, AllocError>
-    ensures { IfOk result (λ clients. clients ≡ new_client role ∷ []) }
+/// The roles of a list, each once, where it first stands.
+fn distinct_roles(alloc: Global, roles: Table<Role>) -> Result<Vec<Role>, AllocError>
+    ensures { IfOk result (λ kept. kept.items ≡ distinct roles) }
 {
-    let mut clients = Vec::with_capacity(alloc, 1)?;
-    clients.push(ClientRow {
-        role,
-        count: 0,
-        suppressed: false,
-    })?;
+    let mut kept = Vec::new(alloc);
+    for role in roles.into_vec() {
+        if kept.contains(&role) {
+            continue;
+        }
+        kept.push(role)?;
+    }
+    Ok(kept)
+}
+
+/// The paths of the clients of a framework.
+fn client_paths(
+    alloc: Global,
+    framework: &Name,
+    roles: &[Role],
+) -> Result<Vec<ClientPath>, AllocError>
+    ensures { IfOk result (λ paths. paths.items ≡ paths_of framework.now roles.now) }
+{
+    let mut paths = Vec::with_capacity(alloc, roles.len())?;
+    for role in roles {
+        paths.push(ClientPath::new(alloc, role, framework)?)?;
+    }
+    Ok(paths)
+}
+
+/// The clients of a framework that registers.
+fn new_clients(alloc: Global, roles: Vec<Role>) -> Result<Table<ClientRow>, AllocError>
+    ensures { IfOk result (λ clients. clients ≡ map new_client roles.items) }
+{
+    let mut clients = Vec::with_capacity(alloc, roles.len())?;
+    for role in roles {
+        clients.push(ClientRow {
+            role,
+            count: 0,
+            suppressed: false,
+        })?;
+    }
     Ok(Table::from_vec(clients))
+}
+
+/// Adds clients to the sorter, all or none: where memory ends, those that came before are removed, which takes none.
+fn add_clients<S: Sorter>(sorter: &mut S, paths: &[ClientPath]) -> Result<(), AllocError>
+    requires { AreNew (S.content sorter.old) paths.now }
+    ensures ok { OnOk result (S.content sorter.new ≡ with_all (S.content sorter.old) paths.now) }
+    ensures err { OnErr result (S.content sorter.new ≡ S.content sorter.old) }
+{
+    let Some((first, rest)) = paths.split_first() else {
+        return Ok(());
+    };
+    sorter.add(first.copy()?)?;
+    match add_clients(sorter, rest) {
+        Ok(()) => Ok(()),
+        Err(error) => {
+            sorter.remove(first);
+            Err(error)
+        }
+    }
 }
 
 /// A framework registers.
@@ -56,18 +106,15 @@ fn add_framework<S: Sorter>(
     roles: Table<Role>,
 ) -> Result<(), AllocError>
     requires kept { IsKept (S.content sorter.old) limits.now tables.old.rows }
-    requires supported { length roles ≤ 1 }
     requires welcome { refusal_of limits.now tables.old.rows (AddFramework framework roles) ≡ None }
     ensures ok { OnOk result (StandAt (effect tables.old.rows (AddFramework framework roles)) tables.new.rows (S.content sorter.new)) }
     ensures err { OnErr result (StandAt tables.old.rows tables.new.rows (S.content sorter.new)) }
 {
-    let Some(role) = roles.into_vec().pop() else {
-        unreachable!()
-    };
-    let path = ClientPath::new(alloc, &role, &framework)?;
-    let clients = new_clients(alloc, role)?;
+    let roles = distinct_roles(alloc, roles)?;
+    let paths = client_paths(alloc, &framework, &roles)?;
+    let clients = new_clients(alloc, roles)?;
     tables.reserve_framework()?;
-    sorter.add(path)?;
+    add_clients(sorter, &paths)?;
     tables.add_framework(framework, clients);
     Ok(())
 }
@@ -81,7 +128,6 @@ pub fn apply<S: Sorter>(
     event: Event,
 ) -> Result<Reply, AllocError>
     requires kept { IsKept (S.content sorter.old) limits.now tables.old.rows }
-    requires supported { IsSupported event }
     requires welcome { refusal_of limits.now tables.old.rows event ≡ None }
     ensures reply { IfOk result (λ reply. reply ≡ answer tables.old.rows (effect tables.old.rows event) event) }
     ensures ok { OnOk result (StandAt (effect tables.old.rows event) tables.new.rows (S.content sorter.new)) }

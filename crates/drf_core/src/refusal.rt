@@ -1,9 +1,8 @@
 //! Why an event is refused. No test needs memory.
-ghost use Rattle.std.specs.Prelude.{◌≡◌, ◌≤◌, length, nat_lt};
+ghost use Rattle.std.specs.Prelude.{◌≡◌, ◌<◌, ◌≤◌, length, nat_lt, IfNone, IfSome};
 ghost use Rattle.std.specs.List.{list_any};
 ghost use Rattle.drf_bundle.specs.Bundle.{quantities_of};
-ghost use Rattle.drf_rows.specs.Step.{first_case, is_empty, is_full, too_many_agents, too_many_frameworks, with_agent, refusal_of};
-ghost use Rattle.drf_core.specs.Machine.{IsSupported};
+ghost use Rattle.drf_rows.specs.Step.{distinct, first_case, is_empty, is_full, too_many_agents, too_many_frameworks, with_agent, refusal_of};
 ghost use Rattle.drf_core.specs.Kept.{AreFew};
 
 use drf_bundle::Bundle;
@@ -46,22 +45,47 @@ fn too_many_agents(limits: &Limits, tables: &Tables, agent: &Name, total: &Bundl
     limits.agents() < agents || limits.scalar_names() < names
 }
 
+/// How many different roles stand in a list, if they are not more than some. It needs no memory.
+fn count_roles(roles: &[Role], most: usize) -> Option<usize>
+    requires { most ≤ 8 }
+    ensures none { IfNone result (most < length (distinct roles.now)) }
+    ensures some { IfSome result (λ count. (count ≡ length (distinct roles.now)) × (count ≤ most)) }
+{
+    let Some(first) = roles.first() else {
+        return Some(0);
+    };
+    // The roles that were counted, at the head; the other places are not looked at.
+    let mut counted = [first; 8];
+    let mut count = 0;
+    for role in roles {
+        if counted[..count].contains(&role) {
+            continue;
+        }
+        if count == most {
+            return None;
+        }
+        counted[count] = role;
+        count += 1;
+    }
+    Some(count)
+}
+
 /// With one more framework the frameworks, its roles, or the clients would be too many.
 fn too_many_frameworks(limits: &Limits, tables: &Tables, roles: &Table<Role>) -> bool
     requires few { AreFew limits.now tables.now.rows }
-    requires supported { length roles.now ≤ 1 }
     ensures { result ≡ too_many_frameworks limits.now tables.now.rows roles.now }
 {
+    let Some(roles) = count_roles(roles.as_slice(), limits.roles() as usize) else {
+        return true;
+    };
     let frameworks = tables.framework_count() as u64 + 1;
-    let roles = roles.len() as u64;
-    let clients = tables.client_count() as u64 + roles;
-    (limits.frameworks() < frameworks) | ((limits.roles() < roles) | (limits.clients() < clients))
+    let clients = tables.client_count() as u64 + roles as u64;
+    (limits.frameworks() < frameworks) | (limits.clients() < clients)
 }
 
 /// Why an event is refused, if it is: of several cases the one of the least number.
 pub fn refusal(limits: &Limits, tables: &Tables, event: &Event) -> Option<Refusal>
     requires few { AreFew limits.now tables.now.rows }
-    requires supported { IsSupported event.now }
     ensures { result ≡ refusal_of limits.now tables.now.rows event.now }
 {
     let full = (is_full(limits, tables), Refusal::HistoryFull);

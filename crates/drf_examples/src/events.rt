@@ -1,7 +1,4 @@
 //! Events through the core itself, and what its rows then tell.
-ghost use Rattle.std.specs.Prelude.{IfOk};
-ghost use Rattle.drf_core.specs.Machine.{IsSupported};
-
 use anyhow::Result;
 use drf_bundle::ScalarBundle;
 use drf_core::Core;
@@ -12,7 +9,6 @@ use std::alloc::Global;
 use std::rt::Runtime;
 
 fn new_agent(alloc: Global) -> Result<Event>
-    ensures { IfOk result IsSupported }
 {
     let agent = Name::read(alloc, "n1")?;
     let total = ScalarBundle::empty(alloc);
@@ -20,7 +16,6 @@ fn new_agent(alloc: Global) -> Result<Event>
 }
 
 fn new_framework(alloc: Global) -> Result<Event>
-    ensures { IfOk result IsSupported }
 {
     let framework = Name::read(alloc, "f1")?;
     let role = Role::default_role(alloc)?;
@@ -29,7 +24,6 @@ fn new_framework(alloc: Global) -> Result<Event>
 }
 
 fn run_one(alloc: Global, core: &mut Core<PlainSorter>, event: Event) -> Result<()>
-    requires { IsSupported event }
 {
     let mut replies = Vec::new(alloc);
     Ok(core.run(&[event], &mut replies)?)

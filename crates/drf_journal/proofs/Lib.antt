@@ -1,4 +1,3 @@
-pub mod Supported
 pub mod Cuts
 pub mod Kept
 pub mod Pieces

@@ -2,7 +2,7 @@
 ghost use Rattle.std.specs.Prelude.{◌≡◌, ◌⊎◌, ℕ, ◌+◌, ◌^◌, ◌<◌, ◌≤◌, [], ◌∷◌, ◌++◌, false, is_err, length, take, slice_index, IfOk, OnOk, OnErr, IfErr, IfSome, IfNone};
 ghost use Rattle.std.specs.Io.KnownBytes.{Appends};
 ghost use Rattle.drf_rows.specs.Step.{reply_to};
-ghost use Rattle.drf_core.specs.Machine.{live, after, IsSupported};
+ghost use Rattle.drf_core.specs.Machine.{live, after};
 ghost use Rattle.drf_lines.specs.Meaning.{meaning_of};
 ghost use Rattle.drf_journal.specs.Device.{AppendsFrontOf};
 ghost use Rattle.drf_journal.specs.Output.{kept_of};
@@ -23,7 +23,6 @@ const KEPT: usize = 65_537;
 
 /// Takes an event, as it is seen from outside.
 fn take_event<S: Sorter>(core: &mut Core<S>, event: Event) -> Result<Reply, AllocError>
-    requires { IsSupported event }
     ensures told { IfOk result (λ reply. reply ≡ reply_to (live core.old).limits (live core.old).rows event) }
     ensures ok { OnOk result (live core.new ≡ after (live core.old) event) }
     ensures err { OnErr result (live core.new ≡ live core.old) }

@@ -106,16 +106,13 @@ fn read_agent(alloc: Global, value: &Value) -> Result<Event, LineError>
     })
 }
 
-/// Reads no role, or one of one component.
-#[tactic(auto, unfolding(crate::specs::Words::roles_in))]
+/// Reads the roles of a framework, of which one may stand more than once.
 fn read_roles(alloc: Global, texts: &[&str]) -> Result<Table<Role>, LineError>
     ensures { IsReadOf result (roles_in (map (λ text. text.now) texts.now)) }
 {
-    let mut roles = Vec::new(alloc);
-    match texts {
-        [] => {}
-        [text] => roles.push(read_role(alloc, text)?)?,
-        _ => return Err(LineError::Fault(LineFault::BadText)),
+    let mut roles = Vec::with_capacity(alloc, texts.len())?;
+    for text in texts {
+        roles.push(read_role(alloc, text)?)?;
     }
     Ok(Table::from_vec(roles))
 }

@@ -1,0 +1,18 @@
+-- A framework that registers: its clients are added to the sorter one by one.
+use Rattle.std.specs.Prelude.{◌≡◌, false, List, [], ◌∷◌, map, fold}
+use Rattle.drf_role.specs.Text.{Text}
+use Rattle.drf_role.specs.Path.{Path, client_path}
+use Rattle.drf_sorter.specs.Content.{Content, has_client, with_client}
+
+-- the paths of the clients of a framework in some roles
+abbrev pub paths_of : Text → List Path → List Path
+paths_of framework roles = map (λ role. client_path role framework) roles
+
+-- clients that were added last, in that order
+abbrev pub with_all : Content → List Path → Content
+with_all content paths = fold with_client content paths
+
+-- each is unknown when all before it were added
+abbrev pub AreNew : Content → List Path → Type 0
+AreNew content [] = Unit {0}
+AreNew content (path ∷ paths) = (has_client content path ≡ false) × AreNew (with_client content path) paths

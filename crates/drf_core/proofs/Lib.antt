@@ -7,5 +7,6 @@ pub mod DraftLemmas
 pub mod DraftTried
 pub mod TurnLemmas
 pub mod CycleLemmas
+pub mod WeightLemmas
 pub mod ApplyLemmas
 pub mod StepLemmas

@@ -5,7 +5,7 @@ use Rattle.drf_rows.specs.Step.{opening, live_rows, rows_after, rows_after_all, 
 use Rattle.drf_rows.specs.declared.reply.Reply.{Reply}
 use Rattle.drf_rows.specs.declared.rows.Rows.{Rows}
 use Rattle.drf_rows.specs.declared.event.Event.{Event}
-use Rattle.drf_rows.specs.declared.event.Event.TheVariants.{AddAgent, AddFramework, Cycle}
+use Rattle.drf_rows.specs.declared.event.Event.TheVariants.{AddAgent, AddFramework, SetWeight, Cycle}
 
 pub record Machine : Type 0 where
   pub limits : LimitNumbers
@@ -53,4 +53,5 @@ pub record HasRun (old new : Machine) (events : List Event) (before told : List 
 abbrev pub IsSupported : Event → Type 0
 IsSupported (AddAgent agent total) = Unit {0}
 IsSupported (AddFramework framework roles) = length roles ≤ 1
+IsSupported (SetWeight role weight) = Unit {0}
 IsSupported (Cycle at) = Unit {0}

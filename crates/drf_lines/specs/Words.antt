@@ -40,6 +40,10 @@ is_plain_role text =
 unfoldable pub name_in : List ℕ → Result (List ℕ) LineFault
 name_in text = if is_name text then Ok text else Err BadText
 
+-- a role, as its components
+abbrev pub role_in : List ℕ → Result (List (List ℕ)) LineFault
+role_in text = if is_plain_role text then Ok (text ∷ []) else Err BadText
+
 -- no role, or one of one component
 unfoldable pub roles_in : List (List ℕ) → Result (List (List (List ℕ))) LineFault
 roles_in [] = Ok []

@@ -1,7 +1,7 @@
 //! Names, labels and roles as texts of a line.
-ghost use Rattle.std.specs.Prelude.{[], ◌∷◌, if◌then◌else◌};
+ghost use Rattle.std.specs.Prelude.{if◌then◌else◌};
 ghost use Rattle.drf_lines.specs.Fault.{IsReadOf};
-ghost use Rattle.drf_lines.specs.Words.{name_in, is_label, is_plain_role};
+ghost use Rattle.drf_lines.specs.Words.{name_in, is_label, role_in};
 
 use crate::fault::{LineError, LineFault};
 use drf_role::{Label, Name, Role};
@@ -23,7 +23,7 @@ pub fn read_label(alloc: Global, text: &str) -> Result<Label, LineError>
 
 /// Reads a role of one component, or `*`.
 pub fn read_role(alloc: Global, text: &str) -> Result<Role, LineError>
-    ensures { IsReadOf result (if is_plain_role text.now then Ok (text.now ∷ []) else Err LineFault.BadText) }
+    ensures { IsReadOf result (role_in text.now) }
 {
     let role = Role::read(alloc, text)?;
     if role.len() > 1 {

@@ -4,13 +4,14 @@ use Rattle.serde_json.specs.Data.{Data}
 use Rattle.drf_role.specs.Text.{same_text}
 use Rattle.drf_core.specs.Machine.{IsSupported}
 use Rattle.drf_rows.specs.declared.event.Event.{Event}
-use Rattle.drf_rows.specs.declared.event.Event.TheVariants.{AddAgent, AddFramework, Cycle}
+use Rattle.drf_rows.specs.declared.event.Event.TheVariants.{AddAgent, AddFramework, SetWeight, Cycle}
 use Rattle.drf_lines.specs.declared.fault.LineFault.{LineFault}
 use Rattle.drf_lines.specs.declared.fault.LineFault.TheVariants.{LineTooLong, BadText}
 use Rattle.drf_lines.specs.Fault.{◌>>=◌}
-use Rattle.drf_lines.specs.Words.{is_plain_role, name_in, roles_in}
+use Rattle.drf_lines.specs.Words.{is_plain_role, name_in, role_in, roles_in}
+use Rattle.drf_lines.specs.Weight.{weight_in}
 use Rattle.drf_lines.specs.Total.{total_in}
-use Rattle.drf_lines.specs.Meaning.{value_in, keys, text_at, number_at, texts_at, agent_event, framework_event, cycle_event, events, event_among, event_in, longest_line, meaning_of}
+use Rattle.drf_lines.specs.Meaning.{value_in, keys, text_at, number_at, texts_at, agent_event, framework_event, weight_event, cycle_event, events, event_among, event_in, longest_line, meaning_of}
 
 same_event : (event other : Event) → IsSupported event → ◌≡◌ {A = Result Event LineFault} (Ok event) (Ok other)
     → IsSupported other
@@ -64,6 +65,12 @@ plain_framework value event e =
     (texts_at (codes "roles") value) name_in roles_in AddFramework event
     (λ framework texts roles read. plain_roles texts roles read) e
 
+plain_weight : (value : Data) (event : Event) → weight_event value ≡ Ok event → IsSupported event
+unfolding weight_event
+plain_weight value event e =
+    plain_pair (keys 3 value) (text_at (codes "role") value)
+    (text_at (codes "weight") value) role_in weight_in SetWeight event (λ role text weight read. tt) e
+
 plain_moment : (keys : Result (Unit {0}) LineFault) (at : Result ℕ LineFault) (event : Event)
     → (keys >>= λ _. at >>= λ at. Ok (Cycle at)) ≡ Ok event → IsSupported event
 plain_moment (Ok one) (Ok at) event e = same_event (Cycle at) event tt e
@@ -84,7 +91,8 @@ plain_among : (name : List ℕ) (value : Data) (event : Event) → event_among e
 plain_among name value event e =
     chosen (same_text name (codes "add_agent")) _ _ event (plain_agent value event)
     (chosen (same_text name (codes "add_framework")) _ _ event (plain_framework value event)
-    (chosen (same_text name (codes "cycle")) _ _ event (plain_cycle value event) (λ none. cc))) e
+    (chosen (same_text name (codes "set_weight")) _ _ event (plain_weight value event)
+    (chosen (same_text name (codes "cycle")) _ _ event (plain_cycle value event) (λ none. cc)))) e
 
 plain_named : (name : Result (List ℕ) LineFault) (value : Data) (event : Event)
     → (name >>= λ name. event_among events name value) ≡ Ok event → IsSupported event

@@ -1,6 +1,6 @@
 -- Events that are not refused, from their cases to what is kept after them.
 use Rattle.std.proofs.Common.{◌≡◌, ℕ, ◌+◌, ◌*◌, ◌<◌, ◌≤◌, ◌^◌, Bool, true, false, List, [], ◌∷◌, ◌++◌, None, length, map, refl, sym, ap, ◌∙◌, inl, inr, arith, nat_lt}
-use Rattle.std.specs.Prelude.{◌||◌, filter}
+use Rattle.std.specs.Prelude.{◌||◌, filter, not}
 use Rattle.std.specs.List.{list_any, AllByRecursion}
 use Rattle.std.proofs.Math.Nat.{mul-le-mul_right}
 use Rattle.std.proofs.lemmas.Bool.{cases_Bool, false≢true, ltb-false, leb-false}
@@ -15,14 +15,15 @@ use Rattle.drf_rows.specs.LimitNumbers.{LimitNumbers}
 use Rattle.drf_rows.specs.Held.{clients_of, cluster_total}
 use Rattle.drf_rows.specs.Cycle.{at_moment, cycle}
 use Rattle.drf_rows.specs.Step.{has_agent, has_framework, is_empty, is_full, with_agent, with_framework, new_client, distinct, too_many_agents, too_many_frameworks, first_case, refusal_of, effect}
+use Rattle.drf_rows.specs.Weights.{is_weight, too_many_weights}
 use Rattle.drf_rows.specs.RegistrationLaws.{framework_added, length-clients_of-framework_added}
 use Rattle.drf_rows.specs.Consistent.{IsConsistent, IsNumberedByEvents}
 use Rattle.drf_rows.specs.ConsistentLaws.{numbers_within}
 use Rattle.drf_rows.specs.declared.limits.TheConstants.{LARGEST_AMOUNT, LATEST_MOMENT}
 use Rattle.drf_rows.specs.declared.event.Event.{Event}
-use Rattle.drf_rows.specs.declared.event.Event.TheVariants.{AddAgent, AddFramework, Cycle}
+use Rattle.drf_rows.specs.declared.event.Event.TheVariants.{AddAgent, AddFramework, SetWeight, Cycle}
 use Rattle.drf_rows.specs.declared.reply.Refusal.{Refusal}
-use Rattle.drf_rows.specs.declared.reply.Refusal.TheVariants.{HistoryFull, BadMoment, KnownAgent, KnownFramework, Empty, TooLarge, TooMany}
+use Rattle.drf_rows.specs.declared.reply.Refusal.TheVariants.{HistoryFull, BadMoment, KnownAgent, KnownFramework, Empty, BadWeight, TooLarge, TooMany}
 use Rattle.drf_rows.specs.declared.rows.AgentRow.{AgentRow}
 use Rattle.drf_rows.specs.declared.rows.ClientRow.{ClientRow}
 use Rattle.drf_rows.specs.declared.rows.FrameworkRow.{FrameworkRow}
@@ -35,6 +36,7 @@ use Rattle.drf_core.proofs.ContentRegister.{content_of-with_agent}
 use Rattle.drf_core.proofs.RegisterLemmas.{content_of-registered}
 use Rattle.drf_core.proofs.ContentSound.{IsSound-content_of}
 use Rattle.drf_core.proofs.CycleLemmas.{turns-clients, turns-tables, turns-next_offer}
+use Rattle.drf_core.proofs.WeightLemmas.{few_weights, weights-turns}
 
 -- ---- no case holds
 
@@ -80,6 +82,22 @@ welcome_framework limits rows framework roles none =
     let few = first_past (too_many_frameworks limits rows roles) TooMany [] some.1 in
     record { room = room.0; new = new.0; some = some.0; few = few.0 }
 
+-- a weight that is welcome
+pub record IsWelcomeWeight (limits : LimitNumbers) (rows : Rows) (role : Path) (weight : ℕ) : Type 0 where
+  pub room : is_full limits rows ≡ false
+  pub right : not (is_weight weight) ≡ false
+  pub few : too_many_weights limits rows role ≡ false
+
+pub welcome_weight : (limits : LimitNumbers) (rows : Rows) (role : Path) (weight : ℕ) → refusal_of limits rows (SetWeight role weight) ≡ None → IsWelcomeWeight limits rows role weight
+unfolding refusal_of
+welcome_weight limits rows role weight none =
+    let last : List (Bool × Refusal) = (too_many_weights limits rows role, TooMany) ∷ [] in
+    let second : List (Bool × Refusal) = (not (is_weight weight), BadWeight) ∷ last in
+    let room = first_past (is_full limits rows) HistoryFull second none in
+    let right = first_past (not (is_weight weight)) BadWeight last room.1 in
+    let few = first_past (too_many_weights limits rows role) TooMany [] right.1 in
+    record { room = room.0; right = right.0; few = few.0 }
+
 cycle_room : (limits : LimitNumbers) (rows : Rows) (at : ℕ) → refusal_of limits rows (Cycle at) ≡ None → is_full limits rows ≡ false
 unfolding refusal_of
 cycle_room limits rows at none = (first_past (is_full limits rows) HistoryFull ((nat_lt LATEST_MOMENT at, BadMoment) ∷ []) none).0
@@ -87,6 +105,7 @@ cycle_room limits rows at none = (first_past (is_full limits rows) HistoryFull (
 not_full : (limits : LimitNumbers) (rows : Rows) (event : Event) → refusal_of limits rows event ≡ None → is_full limits rows ≡ false
 not_full limits rows (AddAgent agent total) none = (welcome_agent limits rows agent total none).room
 not_full limits rows (AddFramework framework roles) none = (welcome_framework limits rows framework roles none).room
+not_full limits rows (SetWeight role weight) none = (welcome_weight limits rows role weight none).room
 not_full limits rows (Cycle at) none = cycle_room limits rows at none
 
 -- there is room for the event
@@ -128,7 +147,7 @@ few_after limits rows (AddAgent agent total) few none =
     let many = neither (nat_lt limits.agents (length (with_agent rows agent total))) (nat_lt limits.scalar_names (length (cluster_total (with_agent rows agent total)))) welcome.few in
     let room = room_for limits rows (AddAgent agent total) none in
     let long : length (with_agent rows agent total) ≤ limits.agents = ltb-false limits.agents (length (with_agent rows agent total)) many.0 in
-    record { ceilings = few.ceilings; agents = long; frameworks = few.frameworks; clients = few.clients; events = omega (arith, room) }
+    record { ceilings = few.ceilings; agents = long; frameworks = few.frameworks; clients = few.clients; weights = few.weights; events = omega (arith, room) }
 few_after limits rows (AddFramework framework roles) few none =
     let welcome = welcome_framework limits rows framework roles none in
     let many_roles = nat_lt limits.roles (length (distinct roles)) in
@@ -142,7 +161,11 @@ few_after limits rows (AddFramework framework roles) few none =
     let many_clients : length (clients_of rows) + length (distinct roles) ≤ limits.clients = ltb-false limits.clients (length (clients_of rows) + length (distinct roles)) rest.1 in
     let clients : length (clients_of (framework_added rows f)) ≤ limits.clients =
     omega (arith, many_clients, length-clients_of-framework_added rows f, length-map (distinct roles) new_client) in
-    record { ceilings = few.ceilings; agents = few.agents; frameworks = frameworks; clients = clients; events = omega (arith, room) }
+    record { ceilings = few.ceilings; agents = few.agents; frameworks = frameworks; clients = clients; weights = few.weights; events = omega (arith, room) }
+few_after limits rows (SetWeight role weight) few none =
+    let room = room_for limits rows (SetWeight role weight) none in
+    let weights = few_weights limits rows role weight few.weights (welcome_weight limits rows role weight none).few in
+    record { ceilings = few.ceilings; agents = few.agents; frameworks = few.frameworks; clients = few.clients; weights = weights; events = omega (arith, room) }
 few_after limits rows (Cycle at) few none =
     let room = room_for limits rows (Cycle at) none in
     let start : Rows = at_moment rows at in
@@ -153,6 +176,7 @@ few_after limits rows (Cycle at) few none =
       agents = rw kept.0 few.agents;
       frameworks = rw kept.1 few.frameworks;
       clients = rw (turns-clients start agents) few.clients;
+      weights = rw (weights-turns start agents) few.weights;
       events = omega (arith, room);
     }
 
@@ -162,6 +186,7 @@ pub numbered_after : (limits : LimitNumbers) (rows : Rows) (event : Event) → A
 unfolding effect cycle
 numbered_after limits rows (AddAgent agent total) few numbered = let before : rows.next_offer ≤ 1 + rows.accepted * 2 ^ 24 = numbered in omega (arith, before)
 numbered_after limits rows (AddFramework framework roles) few numbered = let before : rows.next_offer ≤ 1 + rows.accepted * 2 ^ 24 = numbered in omega (arith, before)
+numbered_after limits rows (SetWeight role weight) few numbered = let before : rows.next_offer ≤ 1 + rows.accepted * 2 ^ 24 = numbered in omega (arith, before)
 numbered_after limits rows (Cycle at) few numbered =
     let start : Rows = at_moment rows at in
     let agents : List AgentRow = filter (λ a. a.active) rows.agents in

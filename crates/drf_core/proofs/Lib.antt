@@ -8,5 +8,6 @@ pub mod DraftTried
 pub mod TurnLemmas
 pub mod CycleLemmas
 pub mod RegisterLemmas
+pub mod WeightLemmas
 pub mod ApplyLemmas
 pub mod StepLemmas

@@ -10,7 +10,7 @@ use Rattle.drf_rows.specs.RunLaws.{rows_after_all-append, replies_to-append}
 use Rattle.drf_rows.specs.LiveLaws.{reply_to-same_live, rows_after-same_live}
 use Rattle.drf_rows.specs.RegistrationLaws.{IsConsistent-opening}
 use Rattle.drf_rows.specs.declared.event.Event.{Event}
-use Rattle.drf_rows.specs.declared.event.Event.TheVariants.{AddAgent, AddFramework, Cycle}
+use Rattle.drf_rows.specs.declared.event.Event.TheVariants.{AddAgent, AddFramework, SetWeight, Cycle}
 use Rattle.drf_rows.specs.declared.reply.Refusal.{Refusal}
 use Rattle.drf_rows.specs.declared.reply.Reply.{Reply}
 use Rattle.drf_rows.specs.declared.rows.Rows.{Rows}
@@ -26,7 +26,7 @@ unfolding content_of
 IsKept-opening content limits rows opens nothing within = rw (opens, nothing) (record {
   sorted = refl;
   consistent = IsConsistent-opening;
-  few = record { ceilings = within; agents = omega arith; frameworks = omega arith; clients = omega arith; events = omega arith };
+  few = record { ceilings = within; agents = omega arith; frameworks = omega arith; clients = omega arith; weights = omega arith; events = omega arith };
   numbered = omega arith;
 })
 
@@ -40,6 +40,7 @@ accepted-effect : (rows : Rows) (event : Event) → (effect rows event).accepted
 unfolding effect cycle
 accepted-effect rows (AddAgent agent total) = refl
 accepted-effect rows (AddFramework framework roles) = refl
+accepted-effect rows (SetWeight role weight) = refl
 accepted-effect rows (Cycle at) = (turns-tables (at_moment rows at) (filter (λ a. a.active) rows.agents)).2
 
 -- an event that was applied and counted

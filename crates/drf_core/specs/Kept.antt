@@ -13,6 +13,7 @@ pub record AreFew (limits : LimitNumbers) (rows : Rows) : Type 0 where
   pub agents : length rows.agents ≤ limits.agents
   pub frameworks : length rows.frameworks ≤ limits.frameworks
   pub clients : length (clients_of rows) ≤ limits.clients
+  pub weights : length rows.weights ≤ limits.weights
   pub events : rows.accepted ≤ limits.events
 
 -- the sorter holds what the rows say

@@ -1,7 +1,7 @@
 //! The effects of events that are not refused.
 ghost use Rattle.std.specs.Prelude.{◌≡◌, None, map, IfOk, OnOk, OnErr};
 ghost use Rattle.drf_rows.specs.Step.{refusal_of, effect, answer, distinct, new_client};
-ghost use Rattle.drf_rows.specs.declared.event.Event.TheVariants.{AddAgent, AddFramework};
+ghost use Rattle.drf_rows.specs.declared.event.Event.TheVariants.{AddAgent, AddFramework, SetWeight};
 ghost use Rattle.drf_core.specs.Content.{content_of};
 ghost use Rattle.drf_core.specs.Kept.{IsKept, StandAt};
 ghost use Rattle.drf_core.specs.Registering.{AreNew, paths_of, with_all};
@@ -119,6 +119,25 @@ fn add_framework<S: Sorter>(
     Ok(())
 }
 
+/// A role gets a weight.
+fn set_weight<S: Sorter>(
+    limits: &Limits,
+    tables: &mut Tables,
+    sorter: &mut S,
+    role: Role,
+    weight: u64,
+) -> Result<(), AllocError>
+    requires kept { IsKept (S.content sorter.old) limits.now tables.old.rows }
+    requires welcome { refusal_of limits.now tables.old.rows (SetWeight role weight) ≡ None }
+    ensures ok { OnOk result (StandAt (effect tables.old.rows (SetWeight role weight)) tables.new.rows (S.content sorter.new)) }
+    ensures err { OnErr result (StandAt tables.old.rows tables.new.rows (S.content sorter.new)) }
+{
+    tables.reserve_weight()?;
+    sorter.set_weight(&role, weight)?;
+    tables.set_weight(role, weight);
+    Ok(())
+}
+
 /// Applies an event that is not refused, whole or not at all.
 pub fn apply<S: Sorter>(
     alloc: Global,
@@ -140,6 +159,10 @@ pub fn apply<S: Sorter>(
         }
         Event::AddFramework { framework, roles } => {
             add_framework(alloc, limits, tables, sorter, framework, roles)?;
+            Ok(Reply::Done)
+        }
+        Event::SetWeight { role, weight } => {
+            set_weight(limits, tables, sorter, role, weight)?;
             Ok(Reply::Done)
         }
         Event::Cycle { at } => {

@@ -1,8 +1,9 @@
 //! Why an event is refused. No test needs memory.
-ghost use Rattle.std.specs.Prelude.{◌≡◌, ◌<◌, ◌≤◌, length, nat_lt, IfNone, IfSome};
+ghost use Rattle.std.specs.Prelude.{◌≡◌, ◌<◌, ◌≤◌, length, nat_lt, not, IfNone, IfSome};
 ghost use Rattle.std.specs.List.{list_any};
 ghost use Rattle.drf_bundle.specs.Bundle.{quantities_of};
 ghost use Rattle.drf_rows.specs.Step.{distinct, first_case, is_empty, is_full, too_many_agents, too_many_frameworks, with_agent, refusal_of};
+ghost use Rattle.drf_rows.specs.Weights.{is_weight, too_many_weights};
 ghost use Rattle.drf_core.specs.Kept.{AreFew};
 
 use drf_bundle::Bundle;
@@ -83,6 +84,22 @@ fn too_many_frameworks(limits: &Limits, tables: &Tables, roles: &Table<Role>) ->
     (limits.frameworks() < frameworks) | (limits.clients() < clients)
 }
 
+/// The weight is below a thousandth or above 1000.
+fn is_bad_weight(weight: u64) -> bool
+    ensures { result ≡ not (is_weight weight) }
+{
+    !(1 <= weight && weight <= 1_000_000)
+}
+
+/// The role has no weight yet, and with one more the roles that have one would be too many.
+fn too_many_weights(limits: &Limits, tables: &Tables, role: &Role) -> bool
+    requires { AreFew limits.now tables.now.rows }
+    ensures { result ≡ too_many_weights limits.now tables.now.rows role.now }
+{
+    let weights = tables.weight_count() as u64 + 1;
+    !tables.has_weight(role) & (limits.weights() < weights)
+}
+
 /// Why an event is refused, if it is: of several cases the one of the least number.
 pub fn refusal(limits: &Limits, tables: &Tables, event: &Event) -> Option<Refusal>
     requires few { AreFew limits.now tables.now.rows }
@@ -104,6 +121,11 @@ pub fn refusal(limits: &Limits, tables: &Tables, event: &Event) -> Option<Refusa
             (tables.has_framework(framework), Refusal::KnownFramework),
             (roles.is_empty(), Refusal::Empty),
             (too_many_frameworks(limits, tables, roles), Refusal::TooMany),
+        ]),
+        Event::SetWeight { role, weight } => first_case(&[
+            full,
+            (is_bad_weight(*weight), Refusal::BadWeight),
+            (too_many_weights(limits, tables, role), Refusal::TooMany),
         ]),
         Event::Cycle { at } => first_case(&[full, (LATEST_MOMENT < *at, Refusal::BadMoment)]),
     }

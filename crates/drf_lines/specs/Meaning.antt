@@ -9,11 +9,12 @@ use Rattle.serde_json.specs.Read.{read}
 use Rattle.serde_json.specs.Find.{get, as_str, as_number, as_u64, as_array, as_object}
 use Rattle.drf_role.specs.Text.{same_text}
 use Rattle.drf_rows.specs.declared.event.Event.{Event}
-use Rattle.drf_rows.specs.declared.event.Event.TheVariants.{AddAgent, AddFramework, Cycle}
+use Rattle.drf_rows.specs.declared.event.Event.TheVariants.{AddAgent, AddFramework, SetWeight, Cycle}
 use Rattle.drf_lines.specs.declared.fault.LineFault.{LineFault}
 use Rattle.drf_lines.specs.declared.fault.LineFault.TheVariants.{LineTooLong, NotJson, BadShape}
 use Rattle.drf_lines.specs.Fault.{◌>>=◌}
-use Rattle.drf_lines.specs.Words.{name_in, roles_in}
+use Rattle.drf_lines.specs.Words.{name_in, role_in, roles_in}
+use Rattle.drf_lines.specs.Weight.{weight_in}
 use Rattle.drf_lines.specs.Total.{total_in}
 
 -- how many bytes a line has at most, without its line feed
@@ -66,6 +67,11 @@ framework_event value =
     keys 3 value >>= λ _. text_at (codes "framework") value >>= λ framework. texts_at (codes "roles") value >>= λ roles.
     name_in framework >>= λ framework. roles_in roles >>= λ roles. Ok (AddFramework framework roles)
 
+unfoldable pub weight_event : Data → Result Event LineFault
+weight_event value =
+    keys 3 value >>= λ _. text_at (codes "role") value >>= λ role. text_at (codes "weight") value >>= λ weight.
+    role_in role >>= λ role. weight_in weight >>= λ weight. Ok (SetWeight role weight)
+
 unfoldable pub cycle_event : Data → Result Event LineFault
 cycle_event value = keys 2 value >>= λ _. number_at (codes "at") value >>= λ at. Ok (Cycle at)
 
@@ -74,6 +80,7 @@ abbrev pub events : List (List ℕ × (Data → Result Event LineFault))
 events =
     (codes "add_agent", agent_event)
     ∷ (codes "add_framework", framework_event)
+    ∷ (codes "set_weight", weight_event)
     ∷ (codes "cycle", cycle_event)
     ∷ []
 

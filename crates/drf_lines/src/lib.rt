@@ -6,6 +6,7 @@ mod fault;
 mod line;
 mod reply;
 mod total;
+mod weight;
 mod words;
 
 pub use fault::{LineError, LineFault};

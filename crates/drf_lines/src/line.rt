@@ -4,10 +4,11 @@ ghost use Rattle.serde_json.specs.Find.{get, as_str, as_number, as_u64, as_array
 ghost use Rattle.serde_json.specs.View.{view, items_view};
 ghost use Rattle.drf_lines.specs.Fault.{IsFoundAs, IsReadAs, IsReadOf};
 ghost use Rattle.drf_lines.specs.Words.{roles_in};
-ghost use Rattle.drf_lines.specs.Meaning.{value_in, has_members, keys, text_at, number_at, texts_at, agent_event, framework_event, cycle_event, event_in, meaning_of};
+ghost use Rattle.drf_lines.specs.Meaning.{value_in, has_members, keys, text_at, number_at, texts_at, agent_event, framework_event, weight_event, cycle_event, event_in, meaning_of};
 
 use crate::fault::{LineError, LineFault};
 use crate::total::read_total;
+use crate::weight::read_weight;
 use crate::words::{read_name, read_role};
 use drf_role::Role;
 use drf_rows::{Event, Table};
@@ -130,6 +131,19 @@ fn read_framework(alloc: Global, value: &Value) -> Result<Event, LineError>
     })
 }
 
+#[tactic(auto, unfolding(crate::specs::Meaning::weight_event))]
+fn read_weighing(alloc: Global, value: &Value) -> Result<Event, LineError>
+    ensures { IsReadOf result (weight_event (view value.now)) }
+{
+    keys(value, 3)?;
+    let role = text_at(value, "role")?;
+    let weight = text_at(value, "weight")?;
+    Ok(Event::SetWeight {
+        role: read_role(alloc, role)?,
+        weight: read_weight(weight)?,
+    })
+}
+
 #[tactic(auto, unfolding(crate::specs::Meaning::cycle_event))]
 fn read_cycle(value: &Value) -> Result<Event, LineError>
     ensures { IsReadOf result (cycle_event (view value.now)) }
@@ -146,6 +160,7 @@ fn read_object(alloc: Global, value: &Value) -> Result<Event, LineError>
     match text_at(value, "event")? {
         "add_agent" => read_agent(alloc, value),
         "add_framework" => read_framework(alloc, value),
+        "set_weight" => read_weighing(alloc, value),
         "cycle" => read_cycle(value),
         _ => Err(LineError::Fault(LineFault::BadShape)),
     }

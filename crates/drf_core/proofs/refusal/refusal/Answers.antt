@@ -2,7 +2,7 @@ use Rattle.std.proofs.Common.{◌≡◌, ◌∷◌, [], List, Bool, true, false,
 use Rattle.drf_role.specs.Path.{Path}
 use Rattle.drf_rows.specs.Step.{first_case, is_empty, refusal_of}
 use Rattle.drf_rows.specs.declared.limits.TheConstants.{LATEST_MOMENT}
-use Rattle.drf_rows.specs.declared.reply.Refusal.TheVariants.{HistoryFull, BadMoment, KnownAgent, KnownFramework, Empty, TooLarge, TooMany}
+use Rattle.drf_rows.specs.declared.reply.Refusal.TheVariants.{HistoryFull, BadMoment, KnownAgent, KnownFramework, Empty, BadWeight, TooLarge, TooMany}
 use Rattle.drf_core.proofs.refusal.refusal.Goals as goal
 
 pub returns-in-AddAgent : goal.returns-in-AddAgent
@@ -24,6 +24,13 @@ returns-in-AddFramework c =
     c.first_case-in-AddFramework.ensures
     ∙ (λ i. first_case ((c.is_full.ensures i, HistoryFull) ∷ (c.has_framework.ensures i, KnownFramework) ∷ (empty i, Empty) ∷ (c.too_many_frameworks.ensures i, TooMany) ∷ []))
     ∙ ap (refusal_of c.args.limits.now c.args.tables.now.rows) (sym c.in-AddFramework.is)
+
+pub returns-in-SetWeight : goal.returns-in-SetWeight
+unfolding refusal_of
+returns-in-SetWeight c =
+    c.first_case-in-SetWeight.ensures
+    ∙ (λ i. first_case ((c.is_full.ensures i, HistoryFull) ∷ (c.is_bad_weight.ensures i, BadWeight) ∷ (c.too_many_weights.ensures i, TooMany) ∷ []))
+    ∙ ap (refusal_of c.args.limits.now c.args.tables.now.rows) (sym c.in-SetWeight.is)
 
 pub returns-in-Cycle : goal.returns-in-Cycle
 unfolding refusal_of

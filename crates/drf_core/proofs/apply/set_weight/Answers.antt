@@ -1,0 +1,22 @@
+use Rattle.std.proofs.Common.{◌∙◌}
+use Rattle.drf_rows.specs.Weights.{weights_with}
+use Rattle.drf_rows.specs.declared.rows.Rows.{Rows}
+use Rattle.drf_core.proofs.ApplyLemmas.{welcome_weight}
+use Rattle.drf_core.proofs.WeightLemmas.{weight_in_range, applied_weight}
+use Rattle.drf_core.proofs.apply.set_weight.Goals as goal
+
+pub set_weight-requires-clause-weighs : goal.set_weight-requires-clause-weighs
+set_weight-requires-clause-weighs g c =
+    (weight_in_range c.args.weight (welcome_weight c.args.limits.now c.args.tables.now.rows c.args.role c.args.weight c.requires.welcome).right).0
+
+pub set_weight-requires-clause-light : goal.set_weight-requires-clause-light
+set_weight-requires-clause-light g c =
+    (weight_in_range c.args.weight (welcome_weight c.args.limits.now c.args.tables.now.rows c.args.role c.args.weight c.requires.welcome).right).1
+
+pub returns-clause-ok : goal.returns-clause-ok
+returns-clause-ok g c =
+    let rows : Rows = c.args.tables.now.rows in
+    applied_weight rows c.set_weight-2.new.self.rows c.args.role c.args.weight (g.S.Sorter.content c.args.sorter.now) (g.S.Sorter.content c.set_weight.new.self)
+    c.requires.kept.sorted
+    (c.set_weight-2.ensures ∙ (λ i. record (c.reserve_weight.ensures.same i) { weights = weights_with (c.reserve_weight.ensures.same i).weights c.args.role c.args.weight }))
+    c.in_ok-set_weight.ensures.ok

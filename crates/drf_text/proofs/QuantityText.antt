@@ -38,7 +38,6 @@ weight_read weight small =
     ap number_of (trimmed_stays (amount_text weight) (amount_no_blank weight small))
     ∙ rw (read.number, read.value, lt-ltb weight (2 ^ 64) small) refl
 
-
 pub amount_body : (amount : ℕ) → amount < 2 ^ 64 → IsRightBody (amount_text amount)
 amount_body amount small =
     let square = begins_not 91 (amount_text amount) refl (amount_without 91 amount small refl) in

@@ -5,10 +5,15 @@ mod amount;
 mod fault;
 mod laws;
 mod number;
+mod piece;
+mod read;
 mod trim;
+mod values;
 mod write;
 
 pub use fault::TextFault;
-pub use laws::{bundle_text_example, quantities_round_trip_law, quantities_text_example, weight_round_trip_law};
+pub use laws::{
+    bundle_text_example, quantities_round_trip_law, quantities_text_example, weight_round_trip_law,
+};
 pub use number::read_weight;
 pub use write::{write_bundle, write_quantities};

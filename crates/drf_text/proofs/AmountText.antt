@@ -1,6 +1,6 @@
 -- What is written of an amount is read as that amount.
-use Rattle.std.proofs.Common.{◌≡◌, ◌≢◌, ◌⊎◌, ℕ, ◌+◌, ◌*◌, ◌/◌, ◌%◌, ◌^◌, ◌<◌, zero, suc, Bool, true, false, cond, List, [], ◌∷◌, ◌++◌, ◌&&◌, length, All, decimal, inl, inr, refl, sym, ap, subst, ◌∙◌, append-nil, arith}
-use Rattle.std.proofs.lemmas.Bool.{and_from, and_parts, le-leb, lt-ltb, leb-true}
+use Rattle.std.proofs.Common.{◌≡◌, ◌≢◌, ℕ, ◌+◌, ◌*◌, ◌/◌, ◌%◌, ◌^◌, ◌<◌, zero, suc, Bool, true, false, cond, [], ◌∷◌, ◌++◌, ◌&&◌, length, decimal, refl, sym, ap, subst, ◌∙◌, append-nil, arith}
+use Rattle.std.proofs.lemmas.Bool.{and_from, and_parts, le-leb, lt-ltb}
 use Rattle.std.proofs.lemmas.Fmt.{digits_decimal, digits_value-decimal, decimal_nonempty}
 use Rattle.std.proofs.lemmas.List.Elements.{All-append, All-cons, All-nil}
 use Rattle.std.specs.Char.{is_ascii_digit}
@@ -8,9 +8,11 @@ use Rattle.std.specs.Prelude.{◌||◌, IsTrue, nat_lt}
 use Rattle.std.specs.List.{list_all}
 use Rattle.std.specs.Str.Parse.{digits_value}
 use Rattle.drf_role.specs.Text.{Text}
-use Rattle.drf_text.specs.Number.{is_point, are_digits, is_number, rounded, thousandths_of, whole_of, decimals_of}
+use Rattle.drf_text.specs.Blanks.{is_blank}
+use Rattle.drf_text.specs.Number.{is_point, are_digits, is_number, rounded, thousandths_of, decimals_of, number_of}
+use Rattle.drf_text.specs.RoundTrip.{WeightIsRead}
 use Rattle.drf_text.specs.Written.{decimals_text, amount_text}
-use Rattle.drf_text.proofs.CutLemmas.{HasNone, none_of, not_that, before_at, after_at, any_at_mark, position_none}
+use Rattle.drf_text.proofs.CutLemmas.{HasNone, none_of, not_that, not_blank, trimmed_stays, before_at, after_at, any_at_mark, position_none}
 use Rattle.drf_text.proofs.Decimals.{decimals_none, decimals_one, decimals_two, decimals_three}
 use Rattle.drf_text.proofs.Numbers.{numerals, all_before}
 
@@ -63,14 +65,14 @@ decimals_said n some small = by (n % 100) (n % 10) refl refl
 -- ---- amounts
 
 -- the text is a number, and says so many thousandths
-pub record IsReadAs (amount : ℕ) (text : Text) : Type 0 where
+pub record SaysAmount (amount : ℕ) (text : Text) : Type 0 where
   pub number : is_number text ≡ true
   pub value : thousandths_of text ≡ amount
 
 no_point : (n : ℕ) → n < 2 ^ 64 → HasNone is_point (decimal n)
 no_point n small = none_of is_point is_ascii_digit (decimal n) (not_that is_ascii_digit 46 refl) (digits_of n small)
 
-with_decimals : (n : ℕ) (digits : Text) → n < 2 ^ 64 → are_digits digits ≡ true → IsReadAs (n * 1000 + rounded digits) (decimal n ++ 46 ∷ digits)
+with_decimals : (n : ℕ) (digits : Text) → n < 2 ^ 64 → are_digits digits ≡ true → SaysAmount (n * 1000 + rounded digits) (decimal n ++ 46 ∷ digits)
 with_decimals n digits small are =
     let none = no_point n small in
     let before = before_at is_point (decimal n) 46 digits none refl in
@@ -82,7 +84,7 @@ with_decimals n digits small are =
       value = (λ i. digits_value 10 (before i) * 1000 + rounded (after i)) ∙ ap (λ v. v * 1000 + rounded digits) (value_of_digits n small);
     }
 
-without_decimals : (n : ℕ) → n < 2 ^ 64 → IsReadAs (n * 1000) (decimal n)
+without_decimals : (n : ℕ) → n < 2 ^ 64 → SaysAmount (n * 1000) (decimal n)
 without_decimals n small =
     let parts = all_before is_point (decimal n) (position_none is_point (decimal n) (no_point n small)) in
     record {
@@ -92,20 +94,20 @@ without_decimals n small =
       value = (λ i. digits_value 10 (parts.1 i) * 1000 + rounded (parts.2 i)) ∙ omega (arith, value_of_digits n small);
     }
 
-pub amount_read : (amount : ℕ) → amount < 2 ^ 64 → IsReadAs amount (amount_text amount)
+pub amount_read : (amount : ℕ) → amount < 2 ^ 64 → SaysAmount amount (amount_text amount)
 amount_read amount small = by (amount % 1000) refl
   where
-    by : (rest : ℕ) → amount % 1000 ≡ rest → IsReadAs amount (amount_text amount)
+    by : (rest : ℕ) → amount % 1000 ≡ rest → SaysAmount amount (amount_text amount)
     by zero none =
         let text : amount_text amount ≡ decimal (amount / 1000) = ap (λ (t : Text). decimal (amount / 1000) ++ t) (decimals_none (amount % 1000) none) ∙ append-nil (decimal (amount / 1000)) in
         let whole : amount / 1000 * 1000 ≡ amount = omega (arith, none) in
-        subst (λ n. IsReadAs n (amount_text amount)) whole (subst (IsReadAs (amount / 1000 * 1000)) (sym text) (without_decimals (amount / 1000) (omega arith)))
+        subst (λ n. SaysAmount n (amount_text amount)) whole (subst (SaysAmount (amount / 1000 * 1000)) (sym text) (without_decimals (amount / 1000) (omega arith)))
     by (suc rest) some =
         let behind = decimals_said (amount % 1000) (λ none. omega (arith, none, some)) (omega arith) in
         let text : amount_text amount ≡ decimal (amount / 1000) ++ 46 ∷ behind.digits = ap (λ (t : Text). decimal (amount / 1000) ++ t) behind.written in
         let whole : amount / 1000 * 1000 + rounded behind.digits ≡ amount = omega (arith, behind.say) in
-        subst (λ n. IsReadAs n (amount_text amount)) whole
-        (subst (IsReadAs (amount / 1000 * 1000 + rounded behind.digits)) (sym text) (with_decimals (amount / 1000) behind.digits (omega arith) behind.are_digits))
+        subst (λ n. SaysAmount n (amount_text amount)) whole
+        (subst (SaysAmount (amount / 1000 * 1000 + rounded behind.digits)) (sym text) (with_decimals (amount / 1000) behind.digits (omega arith) behind.are_digits))
 
 -- ---- the bytes of an amount
 
@@ -128,3 +130,10 @@ amount_has_none p amount small apart = by (amount % 1000) refl
         let more = digits behind.digits (and_parts (nat_lt 0 (length behind.digits)) (list_all is_ascii_digit behind.digits) behind.are_digits).1 in
         All-append (λ b. p b ≡ false) (decimal (amount / 1000)) (decimals_text (amount % 1000)) (digits _ (digits_of (amount / 1000) (omega arith)))
         (subst (HasNone p) (sym behind.written) (All-cons (λ b. p b ≡ false) 46 behind.digits (apart 46 refl) more))
+
+pub weight_read : WeightIsRead
+unfolding number_of
+weight_read weight small =
+    let read = amount_read weight small in
+    ap number_of (trimmed_stays (amount_text weight) (amount_has_none is_blank weight small (not_blank is_amount_byte refl refl)))
+    ∙ rw (read.number, read.value, lt-ltb weight (2 ^ 64) small) refl

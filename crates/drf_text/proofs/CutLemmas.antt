@@ -1,8 +1,9 @@
 -- Texts of bytes of one class, and texts cut where they were joined.
-use Rattle.std.proofs.Common.{◌≡◌, ℕ, ◌+◌, ◌<◌, Bool, true, false, cond, eqb, List, [], ◌∷◌, ◌++◌, length, map, take, drop, All, refl, sym, ap, ◌∙◌, arith}
+use Rattle.std.proofs.Common.{◌≡◌, ℕ, ◌+◌, ◌-◌, ◌<◌, Bool, true, false, cond, eqb, List, [], ◌∷◌, ◌++◌, length, map, take, drop, All, refl, sym, ap, ◌∙◌, arith, length-append}
 use Rattle.std.proofs.Math.Seq.{take-append_seam, drop-append-add}
-use Rattle.std.proofs.lemmas.Bool.{true≢false, eq-eqb, ne_eqb, lt-ltb}
-use Rattle.std.proofs.lemmas.List.Elements.{All-head, All-tail, All-weaker}
+use Rattle.std.proofs.lemmas.Bool.{true≢false, and_from, eq-eqb, ne_eqb, lt-ltb}
+use Rattle.std.proofs.lemmas.List.{get_or_push}
+use Rattle.std.proofs.lemmas.List.Elements.{All-head, All-tail, All-weaker, All-nil, All-cons, All-append}
 use Rattle.std.proofs.lemmas.List.Folds.{list_any_none, list_any-append}
 use Rattle.std.proofs.lemmas.List.Splits.{slice_split_none, slice_split_at}
 use Rattle.std.proofs.lemmas.List.Sums.{AllPass-from_list_all}
@@ -10,7 +11,7 @@ use Rattle.std.specs.Prelude.{◌||◌, IsTrue, filter, nat_lt}
 use Rattle.std.specs.List.{list_all, list_any, slice_split, join_with_byte, position_or_len, before_first, after_first}
 use Rattle.drf_role.specs.Text.{Text}
 use Rattle.drf_text.specs.Blanks.{is_blank, without_first_blanks, without_last_blanks, trimmed}
-use Rattle.drf_text.specs.Pieces.{pieces_of}
+use Rattle.drf_text.specs.Pieces.{ends, inside, parts_inside, pieces_of}
 
 -- no byte of the text passes the test
 abbrev pub HasNone : (ℕ → Bool) → Text → Type 0
@@ -73,41 +74,84 @@ cut_joined c x (y ∷ ys) none =
     slice_split_at (λ b. eqb b c) x c (join_with_byte c (y ∷ ys)) (All-head (HasNone (λ b. eqb b c)) x (y ∷ ys) none) (eq-eqb c c refl)
     ∙ ap (λ (parts : List Text). x ∷ parts) (cut_joined c y ys (All-tail (HasNone (λ b. eqb b c)) x (y ∷ ys) none))
 
-pub all_stay : (xs : List Text) → All (HasNone is_blank) xs → map trimmed xs ≡ xs
+all_stay : (xs : List Text) → All (HasNone is_blank) xs → map trimmed xs ≡ xs
 all_stay [] none = refl
 all_stay (x ∷ xs) none = λ i. trimmed_stays x (All-head (HasNone is_blank) x xs none) i ∷ all_stay xs (All-tail (HasNone is_blank) x xs none) i
 
--- neither a blank nor the mark between pieces
-abbrev pub is_between : ℕ → Bool
-is_between b = is_blank b || eqb b 59
+-- a blank, or the mark between parts
+abbrev pub is_between : ℕ → ℕ → Bool
+is_between mark b = is_blank b || eqb b mark
 
--- a text that is a piece by itself
-pub record IsPiece (text : Text) : Type 0 where
+pub not_between : (class : ℕ → Bool) (mark : ℕ) → class 32 ≡ false → class 9 ≡ false → class mark ≡ false → (b : ℕ) → class b ≡ true → is_between mark b ≡ false
+not_between class mark space tab out b inside = rw (not_blank class space tab b inside, not_that class mark out b inside) refl
+
+-- a text that is one part where texts are joined by the mark
+pub record IsPart (mark : ℕ) (text : Text) : Type 0 where
   pub some : 0 < length text
-  pub whole : HasNone is_between text
+  pub whole : HasNone (is_between mark) text
 
-neither : (x y : Bool) → (x || y) ≡ false → (x ≡ false) × (y ≡ false)
+pub neither : (x y : Bool) → (x || y) ≡ false → (x ≡ false) × (y ≡ false)
 neither true y none = absurd (true≢false none)
 neither false y none = (refl, none)
 
-pub no_blanks : (text : Text) → IsPiece text → HasNone is_blank text
-no_blanks text is = All-weaker (λ b. is_between b ≡ false) (λ b. is_blank b ≡ false) (λ b none. (neither (is_blank b) (eqb b 59) none).0) text is.whole
+pub no_blanks : (mark : ℕ) (text : Text) → HasNone (is_between mark) text → HasNone is_blank text
+no_blanks mark text none = All-weaker (λ b. is_between mark b ≡ false) (λ b. is_blank b ≡ false) (λ b out. (neither (is_blank b) (eqb b mark) out).0) text none
 
-no_marks : (text : Text) → IsPiece text → HasNone (λ b. eqb b 59) text
-no_marks text is = All-weaker (λ b. is_between b ≡ false) (λ b. eqb b 59 ≡ false) (λ b none. (neither (is_blank b) (eqb b 59) none).1) text is.whole
+no_marks : (mark : ℕ) (text : Text) → HasNone (is_between mark) text → HasNone (λ b. eqb b mark) text
+no_marks mark text none = All-weaker (λ b. is_between mark b ≡ false) (λ b. eqb b mark ≡ false) (λ b out. (neither (is_blank b) (eqb b mark) out).1) text none
 
-filled_stay : (xs : List Text) → All IsPiece xs → filter (λ piece. nat_lt 0 (length piece)) xs ≡ xs
+parts_stay : (mark : ℕ) (x : Text) (xs : List Text) → All (IsPart mark) (x ∷ xs)
+    → map trimmed (slice_split (λ b. eqb b mark) (join_with_byte mark (x ∷ xs))) ≡ x ∷ xs
+parts_stay mark x xs are =
+    ap (λ (parts : List Text). map trimmed parts) (cut_joined mark x xs (All-weaker (IsPart mark) (HasNone (λ b. eqb b mark)) (λ t is. no_marks mark t is.whole) (x ∷ xs) are))
+    ∙ all_stay (x ∷ xs) (All-weaker (IsPart mark) (HasNone is_blank) (λ t is. no_blanks mark t is.whole) (x ∷ xs) are)
+
+filled_stay : (xs : List Text) → All (IsPart 59) xs → filter (λ piece. nat_lt 0 (length piece)) xs ≡ xs
 filled_stay [] are = refl
 filled_stay (x ∷ xs) are =
-    rw (lt-ltb 0 (length x) (All-head IsPiece x xs are).some) (ap (λ (parts : List Text). x ∷ parts) (filled_stay xs (All-tail IsPiece x xs are)))
+    rw (lt-ltb 0 (length x) (All-head (IsPart 59) x xs are).some) (ap (λ (parts : List Text). x ∷ parts) (filled_stay xs (All-tail (IsPart 59) x xs are)))
 
 -- pieces are found again in the text that they make
-pub pieces_found : (xs : List Text) → All IsPiece xs → pieces_of (join_with_byte 59 xs) ≡ xs
+pub pieces_found : (xs : List Text) → All (IsPart 59) xs → pieces_of (join_with_byte 59 xs) ≡ xs
 pieces_found [] are = refl
 pieces_found (x ∷ xs) are =
-    ap (λ (parts : List Text). filter (λ piece. nat_lt 0 (length piece)) (map trimmed parts)) (cut_joined 59 x xs (All-weaker IsPiece (HasNone (λ b. eqb b 59)) no_marks (x ∷ xs) are))
-    ∙ ap (λ (parts : List Text). filter (λ piece. nat_lt 0 (length piece)) parts) (all_stay (x ∷ xs) (All-weaker IsPiece (HasNone is_blank) no_blanks (x ∷ xs) are))
-    ∙ filled_stay (x ∷ xs) are
+    ap (λ (parts : List Text). filter (λ piece. nat_lt 0 (length piece)) parts) (parts_stay 59 x xs are) ∙ filled_stay (x ∷ xs) are
 
-pub not_between : (class : ℕ → Bool) → class 32 ≡ false → class 9 ≡ false → class 59 ≡ false → (b : ℕ) → class b ≡ true → is_between b ≡ false
-not_between class space tab mark b inside = rw (not_blank class space tab b inside, not_that class 59 mark b inside) refl
+-- ---- what stands between brackets
+
+pub take_all_but_last : (front : Text) (c : ℕ) → take (length (front ++ c ∷ []) - 1) (front ++ c ∷ []) ≡ front
+take_all_but_last front c =
+    let long : length (front ++ c ∷ []) - 1 ≡ length front = omega (arith, length-append front (c ∷ [])) in
+    ap (λ n. take n (front ++ c ∷ [])) long ∙ take-append_seam front (c ∷ [])
+
+pub ends_closed : (c : ℕ) (front : Text) → ends c (front ++ c ∷ []) ≡ true
+ends_closed c front =
+    let long : length front + 1 ≡ length (front ++ c ∷ []) = omega (arith, length-append front (c ∷ [])) in
+    and_from _ _ (lt-ltb 0 (length (front ++ c ∷ [])) (omega arith))
+    (eq-eqb _ c (get_or_push front c 0 (length (front ++ c ∷ []) - 1) (omega arith)))
+
+pub inside_of : (o c : ℕ) (text : Text) → inside (o ∷ text ++ c ∷ []) ≡ text
+inside_of o c text =
+    let long : length (o ∷ text ++ c ∷ []) - 2 ≡ length text = omega (arith, length-append text (c ∷ [])) in
+    ap (λ n. take n (text ++ c ∷ [])) long ∙ take-append_seam text (c ∷ [])
+
+not_all_blank : (mark : ℕ) (x : Text) (xs : List Text) → IsPart mark x → list_all is_blank (join_with_byte mark (x ∷ xs)) ≡ false
+not_all_blank mark [] xs is = absurd (omega (arith, is.some))
+not_all_blank mark (b ∷ bs) [] is = rw (All-head (λ c. is_blank c ≡ false) b bs (no_blanks mark (b ∷ bs) is.whole)) refl
+not_all_blank mark (b ∷ bs) (y ∷ ys) is = rw (All-head (λ c. is_blank c ≡ false) b bs (no_blanks mark (b ∷ bs) is.whole)) refl
+
+-- so are the parts that stand between brackets
+pub parts_found : (o c : ℕ) (xs : List Text) → All (IsPart 44) xs → parts_inside (o ∷ join_with_byte 44 xs ++ c ∷ []) ≡ xs
+parts_found o c [] are = refl
+parts_found o c (x ∷ xs) are =
+    ap (λ (text : Text). cond (list_all is_blank text) [] (map trimmed (slice_split (λ b. eqb b 44) text))) (inside_of o c (join_with_byte 44 (x ∷ xs)))
+    ∙ ap (λ (t : Bool). cond t [] (map trimmed (slice_split (λ b. eqb b 44) (join_with_byte 44 (x ∷ xs))))) (not_all_blank 44 x xs (All-head (IsPart 44) x xs are))
+    ∙ parts_stay 44 x xs are
+
+-- what neither the mark nor any part has, the joined text has not
+pub joined_has_none : (p : ℕ → Bool) (c : ℕ) (xs : List Text) → p c ≡ false → All (HasNone p) xs → HasNone p (join_with_byte c xs)
+joined_has_none p c [] mark none = All-nil (λ b. p b ≡ false)
+joined_has_none p c (x ∷ []) mark none = All-head (HasNone p) x [] none
+joined_has_none p c (x ∷ y ∷ ys) mark none =
+    All-append (λ b. p b ≡ false) x (c ∷ join_with_byte c (y ∷ ys)) (All-head (HasNone p) x (y ∷ ys) none)
+    (All-cons (λ b. p b ≡ false) c (join_with_byte c (y ∷ ys)) mark (joined_has_none p c (y ∷ ys) mark (All-tail (HasNone p) x (y ∷ ys) none)))

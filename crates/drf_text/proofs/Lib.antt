@@ -1,5 +1,6 @@
 pub mod AmountText
 pub mod BlankLemmas
+pub mod BundleText
 pub mod CutLemmas
 pub mod Cuts
 pub mod Decimals
@@ -11,3 +12,6 @@ pub mod Parts
 pub mod PieceLemmas
 pub mod QuantityText
 pub mod RangeLemmas
+pub mod ResourceText
+pub mod RoleText
+pub mod ValueText

@@ -1,20 +1,19 @@
 -- A head and a body with `:` between them, and when they have no fault.
-use Rattle.std.proofs.Common.{◌≡◌, ◌⊎◌, ℕ, ◌+◌, ◌≤◌, Bool, true, false, cond, eqb, List, [], ◌∷◌, ◌++◌, ◌&&◌, length, All, Option, Some, None, inl, inr, refl, sym, ap, subst, ◌∙◌, arith}
+use Rattle.std.proofs.Common.{◌≡◌, ℕ, Bool, true, false, cond, eqb, [], ◌∷◌, ◌++◌, ◌&&◌, length, Some, None, inl, inr, refl, sym, ap, subst, ◌∙◌}
 use Rattle.std.proofs.lemmas.Bool.{and_from, or_left, or_right, le-leb, lt-ltb}
 use Rattle.std.proofs.lemmas.List.Elements.{All-head, All-weaker}
 use Rattle.std.proofs.lemmas.List.Folds.{list_any_none}
 use Rattle.std.proofs.lemmas.List.Sums.{list_all-from_AllPass}
 use Rattle.std.specs.Char.{IsAsciiAlphanumeric, is_ascii_alphanumeric}
 use Rattle.std.specs.Int.{is_in_range}
-use Rattle.std.specs.Prelude.{◌||◌, IsTrue, not, nat_le, nat_lt}
+use Rattle.std.specs.Prelude.{◌||◌, IsTrue, not}
 use Rattle.std.specs.List.{list_all, list_any}
 use Rattle.drf_role.specs.Text.{Text}
-use Rattle.drf_role.specs.Name.{IsNameByte, IsLabelByte, IsLabel}
+use Rattle.drf_role.specs.Name.{IsLabelByte, IsLabel}
 use Rattle.drf_text.specs.Blanks.{is_blank, trimmed}
 use Rattle.drf_text.specs.NameTests.{is_label_byte, is_label}
 use Rattle.drf_text.specs.Number.{is_number}
-use Rattle.drf_text.specs.Pieces.{begins, parts_inside, head_of, body_of, name_of, is_head, is_body, is_range, fault_by}
-use Rattle.drf_text.specs.declared.fault.TextFault.{TextFault}
+use Rattle.drf_text.specs.Pieces.{begins, parts_inside, head_of, body_of, name_of, is_reserved, is_head, is_body, is_range, fault_by}
 use Rattle.drf_text.specs.declared.fault.TextFault.TheVariants.{Syntax, BadName, BadRole, BadNumber}
 use Rattle.drf_text.proofs.CutLemmas.{HasNone, none_of, not_that, not_blank, trimmed_stays, before_at, after_at, any_at_mark, position_none}
 use Rattle.drf_text.proofs.Numbers.{all_before}
@@ -67,13 +66,25 @@ pub record IsRightHead (is_bad_role : Text → Bool) (head : Text) : Type 0 wher
   pub name : is_label (name_of head) ≡ true
   pub role : is_bad_role head ≡ false
 
+pub not_reserved : (label : Text) → IsLabel label → is_reserved label ≡ false
+not_reserved label is = list_any_none (λ b. eqb b 40) label (label_without 40 label is refl)
+
+-- a name alone is such a head
+pub label_head : (is_bad_role : Text → Bool) (label : Text) → IsLabel label → is_bad_role label ≡ false → IsRightHead is_bad_role label
+label_head is_bad_role label is role = record {
+  shape = rw (not_reserved label is, list_any_none (λ b. eqb b 41) label (label_without 41 label is refl)) refl;
+  name = ap is_label (name_alone label is) ∙ label_test label is;
+  role = role;
+}
+
 -- a body without a fault
 pub record IsRightBody (body : Text) : Type 0 where
   pub shape : is_body body ≡ true
   pub members : cond (begins 123 body) (list_all is_label (parts_inside body)) true ≡ true
   pub numbers : cond (begins 91 body) (list_all is_range (parts_inside body)) (cond (begins 123 body) true (is_number body)) ≡ true
 
-fault_none : (is_bad_role : Text → Bool) (piece : Text) → list_any (λ b. eqb b 58) piece ≡ true → IsRightHead is_bad_role (head_of piece) → IsRightBody (body_of piece) → fault_by is_bad_role piece ≡ None
+fault_none : (is_bad_role : Text → Bool) (piece : Text) → list_any (λ b. eqb b 58) piece ≡ true → IsRightHead is_bad_role (head_of piece)
+    → IsRightBody (body_of piece) → fault_by is_bad_role piece ≡ None
 fault_none is_bad_role piece colon head body =
     λ i. cond (not (colon i && head.shape i && body.shape i)) (Some Syntax)
     (cond (not (head.name i && body.members i)) (Some BadName) (cond (head.role i) (Some BadRole) (cond (not (body.numbers i)) (Some BadNumber) None)))

@@ -1,10 +1,9 @@
 -- What is written of quantities means those quantities.
-use Rattle.std.proofs.Common.{◌≡◌, ℕ, ◌+◌, ◌^◌, ◌<◌, true, false, cond, eqb, List, [], ◌∷◌, ◌++◌, length, map, All, Ok, Err, None, refl, sym, ap, ◌∙◌, append_assoc, append-nil, length-append, arith}
+use Rattle.std.proofs.Common.{◌≡◌, ◌+◌, ◌^◌, ◌<◌, true, false, cond, eqb, List, [], ◌∷◌, ◌++◌, map, All, Ok, Err, None, refl, sym, ap, ◌∙◌, append_assoc, append-nil, length-append, arith}
 use Rattle.std.proofs.lemmas.Bool.{and_parts, lt-ltb}
 use Rattle.std.proofs.lemmas.List.Elements.{All-head, All-tail, All-append, All-cons, All-map, All-weaker}
-use Rattle.std.proofs.lemmas.List.Folds.{list_any_none, list_all-append}
+use Rattle.std.proofs.lemmas.List.Folds.{list_all-append}
 use Rattle.std.specs.Prelude.{IsTrue, nat_lt}
-use Rattle.drf_role.specs.Name.{IsLabel}
 use Rattle.drf_role.specs.Text.{Text, text_below}
 use Rattle.drf_role.specs.TextLaws.{below_other, cmp_above}
 use Rattle.drf_bundle.specs.Quantities.{amount_of, is_in_order, with_amount}
@@ -13,60 +12,24 @@ use Rattle.drf_bundle.specs.declared.quantities.Entry.{Entry}
 use Rattle.drf_bundle.specs.declared.value.Value.TheVariants.{Scalar}
 use Rattle.drf_text.specs.Blanks.{is_blank}
 use Rattle.drf_text.specs.Meaning.{after, counted, quantities_from}
-use Rattle.drf_text.specs.NameTests.{is_label_byte, is_label}
-use Rattle.drf_text.specs.Number.{number_of}
+use Rattle.drf_text.specs.NameTests.{is_label_byte}
 use Rattle.drf_text.specs.Pieces.{is_reserved, head_of, body_of, name_of, value_of, quantity_fault_of}
-use Rattle.drf_text.specs.RoundTrip.{WeightIsRead, IsEntry, QuantitiesAreRead}
+use Rattle.drf_text.specs.RoundTrip.{IsEntry, QuantitiesAreRead}
 use Rattle.drf_text.specs.Written.{amount_text, quantity_text}
 use Rattle.drf_text.specs.declared.fault.TextFault.TheVariants.{TooLarge}
-use Rattle.drf_text.proofs.AmountText.{amount_read, amount_has_none, is_amount_byte}
-use Rattle.drf_text.proofs.CutLemmas.{HasNone, not_that, not_blank, not_between, is_between, IsPiece, trimmed_stays, pieces_found}
-use Rattle.drf_text.proofs.PieceLemmas.{label_test, label_has_none, label_without, head_found, body_found, name_alone, IsRightHead, IsRightBody, right_piece, begins_not}
-
--- ---- amounts as bodies
-
-pub amount_without : (c amount : ℕ) → amount < 2 ^ 64 → is_amount_byte c ≡ false → HasNone (λ b. eqb b c) (amount_text amount)
-amount_without c amount small out = amount_has_none (λ b. eqb b c) amount small (not_that is_amount_byte c out)
-
-pub amount_no_blank : (amount : ℕ) → amount < 2 ^ 64 → HasNone is_blank (amount_text amount)
-amount_no_blank amount small = amount_has_none is_blank amount small (not_blank is_amount_byte refl refl)
-
-pub weight_read : WeightIsRead
-unfolding number_of
-weight_read weight small =
-    let read = amount_read weight small in
-    ap number_of (trimmed_stays (amount_text weight) (amount_no_blank weight small))
-    ∙ rw (read.number, read.value, lt-ltb weight (2 ^ 64) small) refl
-
-pub amount_body : (amount : ℕ) → amount < 2 ^ 64 → IsRightBody (amount_text amount)
-amount_body amount small =
-    let square = begins_not 91 (amount_text amount) refl (amount_without 91 amount small refl) in
-    let curly = begins_not 123 (amount_text amount) refl (amount_without 123 amount small refl) in
-    record {
-      shape = rw (square, curly) refl;
-      members = rw curly refl;
-      numbers = rw (square, curly) (amount_read amount small).number;
-    }
-
-pub amount_value : (amount : ℕ) → amount < 2 ^ 64 → value_of (amount_text amount) ≡ Scalar amount
-amount_value amount small =
-    let square = begins_not 91 (amount_text amount) refl (amount_without 91 amount small refl) in
-    let curly = begins_not 123 (amount_text amount) refl (amount_without 123 amount small refl) in
-    rw (square, curly) (ap Scalar (amount_read amount small).value)
+use Rattle.drf_text.proofs.CutLemmas.{HasNone, not_blank, not_between, is_between, IsPart, no_blanks, pieces_found}
+use Rattle.drf_text.proofs.PieceLemmas.{label_has_none, label_without, head_found, body_found, name_alone, not_reserved, label_head, right_piece}
+use Rattle.drf_text.proofs.ValueText.{IsTextOf, scalar_text}
 
 -- ---- one entry
 
-label_head : (label : Text) → IsLabel label → IsRightHead is_reserved label
-label_head label is = record {
-  shape = rw (none_reserved, list_any_none (λ b. eqb b 41) label (label_without 41 label is refl)) refl;
-  name = ap is_label (name_alone label is) ∙ label_test label is;
-  role = none_reserved;
-}
-  where
-    none_reserved : is_reserved label ≡ false
-    none_reserved = list_any_none (λ b. eqb b 40) label (label_without 40 label is refl)
-
 module _ (e : Entry) (is : IsEntry e) where
+  amount : IsTextOf (Scalar e.amount) (amount_text e.amount)
+  amount = scalar_text e.amount is.amount
+
+  amount_no_blank : HasNone is_blank (amount_text e.amount)
+  amount_no_blank = no_blanks 59 (amount_text e.amount) amount.whole
+
   no_colon : HasNone (λ b. eqb b 58) e.label
   no_colon = label_without 58 e.label is.label refl
 
@@ -75,24 +38,23 @@ module _ (e : Entry) (is : IsEntry e) where
 
   entry_fault : quantity_fault_of (quantity_text e) ≡ None
   entry_fault =
-      right_piece is_reserved e.label (amount_text e.amount) no_colon no_blank (amount_no_blank e.amount is.amount)
-      (label_head e.label is.label) (amount_body e.amount is.amount)
+      right_piece is_reserved e.label (amount_text e.amount) no_colon no_blank amount_no_blank
+      (label_head is_reserved e.label is.label (not_reserved e.label is.label)) amount.body
 
   entry_name : name_of (head_of (quantity_text e)) ≡ e.label
   entry_name = ap name_of (head_found e.label (amount_text e.amount) no_colon no_blank) ∙ name_alone e.label is.label
 
   entry_value : value_of (body_of (quantity_text e)) ≡ Scalar e.amount
   entry_value =
-      ap value_of (body_found e.label (amount_text e.amount) no_colon (amount_no_blank e.amount is.amount)) ∙ amount_value e.amount is.amount
+      ap value_of (body_found e.label (amount_text e.amount) no_colon amount_no_blank) ∙ amount.says
 
-  entry_piece : IsPiece (quantity_text e)
+  entry_piece : IsPart 59 (quantity_text e)
   entry_piece = record {
     some = omega (arith, length-append e.label (58 ∷ amount_text e.amount));
     whole =
-        All-append (λ b. is_between b ≡ false) e.label (58 ∷ amount_text e.amount)
-        (label_has_none is_between e.label is.label (not_between is_label_byte refl refl refl))
-        (All-cons (λ b. is_between b ≡ false) 58 (amount_text e.amount) refl
-        (amount_has_none is_between e.amount is.amount (not_between is_amount_byte refl refl refl)));
+        All-append (λ b. is_between 59 b ≡ false) e.label (58 ∷ amount_text e.amount)
+        (label_has_none (is_between 59) e.label is.label (not_between is_label_byte 59 refl refl refl))
+        (All-cons (λ b. is_between 59 b ≡ false) 58 (amount_text e.amount) refl amount.whole);
   }
 
 -- ---- entries put together
@@ -136,5 +98,6 @@ entries_from (e ∷ es) earlier ordered are =
 
 pub quantities_read : QuantitiesAreRead
 quantities_read entries ordered are =
-    ap (λ (pieces : List Text). quantities_from pieces []) (pieces_found (map quantity_text entries) (All-map IsPiece quantity_text entries (All-weaker IsEntry (λ e. IsPiece (quantity_text e)) entry_piece entries are)))
+    let each = All-map (IsPart 59) quantity_text entries (All-weaker IsEntry (λ e. IsPart 59 (quantity_text e)) entry_piece entries are) in
+    ap (λ (pieces : List Text). quantities_from pieces []) (pieces_found (map quantity_text entries) each)
     ∙ entries_from entries [] ordered are

@@ -3,7 +3,7 @@
 ghost use Rattle.std.specs.Prelude.{◌≡◌, [], ◌∷◌, Ok, Err, codes};
 ghost use Rattle.drf_bundle.specs.declared.value.Value.TheVariants.{Scalar};
 ghost use Rattle.drf_text.specs.Meaning.{meaning_of, quantities_meant};
-ghost use Rattle.drf_text.specs.RoundTrip.{WeightIsRead, QuantitiesAreRead};
+ghost use Rattle.drf_text.specs.RoundTrip.{BundleIsRead, QuantitiesAreRead, WeightIsRead};
 ghost use Rattle.drf_text.specs.declared.fault.TextFault.TheVariants.{Syntax, BadName, BadRole, BadNumber, Kind, TooLarge};
 
 /// Pieces are put together, and the first fault of the first piece that has one is told.
@@ -29,6 +29,11 @@ pub fn quantities_text_example()
     ensures zero { quantities_meant (codes "mem:0;cpus:1;cpus:2") ≡ Ok (record { label = codes "cpus"; amount = 3000 } ∷ record { label = codes "mem"; amount = 0 } ∷ []) }
     ensures reserved { quantities_meant (codes "cpus(*):1") ≡ Err BadRole }
     ensures ranges { quantities_meant (codes "ports:[]") ≡ Err Kind }
+{}
+
+/// The text that is written of a bundle means that bundle.
+pub fn bundle_round_trip_law()
+    ensures { BundleIsRead }
 {}
 
 /// The text that is written of quantities means those quantities.

@@ -13,7 +13,8 @@ mod write;
 
 pub use fault::TextFault;
 pub use laws::{
-    bundle_text_example, quantities_round_trip_law, quantities_text_example, weight_round_trip_law,
+    bundle_round_trip_law, bundle_text_example, quantities_round_trip_law, quantities_text_example,
+    weight_round_trip_law,
 };
 pub use number::read_weight;
 pub use write::{write_bundle, write_quantities};

@@ -1,7 +1,7 @@
 mod ChangeLemmas
 mod PlaceLemmas
 pub mod MergeLemmas
-pub mod OneLemmas
+pub mod NameLemmas
 pub mod SearchLemmas
 pub mod SumLemmas
 pub mod ValueAnswers

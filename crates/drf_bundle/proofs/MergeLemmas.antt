@@ -10,7 +10,7 @@ use Rattle.drf_role.specs.TextLaws.{cases_cmp, same_from_test, same_from_cmp, be
 use Rattle.drf_bundle.specs.Value.{clash_in}
 use Rattle.drf_bundle.specs.Bundle.{key_of, key_cmp, key_below, is_in_order, merged, clashes_with_some, have_clash}
 use Rattle.drf_bundle.specs.KeyLaws.{stands_first, cases_below}
-use Rattle.drf_bundle.specs.JoinLaws.{both_of}
+use Rattle.drf_bundle.specs.JoinLaws.{both_of, merged-empty}
 use Rattle.drf_bundle.specs.Sides.{side_of, next_side, names_cmp, none_before}
 use Rattle.drf_bundle.specs.declared.merge.Side.TheVariants.{Left, Right, Both}
 use Rattle.drf_bundle.specs.declared.resource.Resource.{Resource}
@@ -22,10 +22,6 @@ tail rs = take (length rs - 1) (drop 1 rs)
 
 pub tail_is : (r : Resource) (rs : List Resource) → tail (r ∷ rs) ≡ rs
 tail_is r rs = take_all _ _ (omega arith)
-
-merged-empty : (a : List Resource) → merged a [] ≡ a
-merged-empty [] = refl
-merged-empty (r ∷ rs) = refl
 
 -- ---- the steps of a merge
 

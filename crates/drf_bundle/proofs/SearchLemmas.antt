@@ -1,16 +1,19 @@
--- What a search by key finds.
-use Rattle.std.specs.Prelude.{◌≡◌, ℕ, ◌+◌, ◌<◌, false, List, [], ◌∷◌, length, Some, None, IsTrue}
-use Rattle.std.proofs.Common.{zero, suc, Ordering, Less, Equal, Greater, Ok, Err, get_or, refl, sym, ap, ◌∙◌, subst, inl, inr, arith}
+-- What a search by key finds, and what an edit at that place does.
+use Rattle.std.specs.Prelude.{◌≡◌, ℕ, ◌+◌, ◌<◌, true, false, not, List, [], ◌∷◌, length, Some, None, IsTrue}
+use Rattle.std.proofs.Common.{zero, suc, Ordering, Less, Equal, Greater, Result, Ok, Err, IfOk, IfErr, get_or, set, refl, sym, ap, ◌∙◌, subst, inl, inr, arith}
 use Rattle.std.specs.Cmp.{IsTotalOrder, then_flip}
 use Rattle.std.specs.Cmp.Lexicographic.{slice_cmp, nat_list_cmp_total}
-use Rattle.std.specs.Ordering.{nat_cmp, is_lt, ordering_then, ordering_reverse, ordering_index}
+use Rattle.std.specs.Ordering.{nat_cmp, is_lt, is_ne, ordering_then, ordering_reverse, ordering_index}
+use Rattle.std.specs.List.{insert}
 use Rattle.std.specs.List.Sorted.{IsSearchInRange, IsBinarySearchResult, IsNonDecreasingBy}
 use Rattle.std.proofs.lemmas.Bool.{false≢true, and_parts, cases_lt, false_from_ne_true}
 use Rattle.std.proofs.lemmas.List.Recursion.{and_at}
 use Rattle.std.proofs.lemmas.List.Sorted.{searchable_from_sorted}
 use Rattle.drf_role.specs.TextLaws.{cmp_itself}
-use Rattle.drf_bundle.specs.Bundle.{Key, key_of, key_cmp, key_below, same_key, is_in_order, value_at}
-use Rattle.drf_bundle.specs.KeyLaws.{key_trans, key_less, key_equal, same_key_itself, same_key_true, above_other, Has, stands_first}
+use Rattle.drf_bundle.specs.Bundle.{Key, key_of, key_cmp, key_below, same_key, is_in_order, value_at, merged}
+use Rattle.drf_bundle.specs.KeyLaws.{cases_key, key_trans, key_less, key_greater, key_equal, same_key_itself, below_other, above_other, Has, stands_first}
+use Rattle.drf_bundle.specs.JoinLaws.{both_of, merged-empty}
+use Rattle.drf_bundle.specs.Places.{IsKeyAt, IsKeyGap}
 use Rattle.drf_bundle.specs.declared.resource.Resource.{Resource}
 
 less_from_below : (k l : Key) → IsTrue (key_below k l) → key_cmp k l ≡ Less
@@ -35,7 +38,7 @@ first_at : (key : Key) (rs : List Resource) (k : ℕ) (d : Resource) → IsTrue 
     → IsTrue (key_below key (key_of (get_or rs k d)))
 first_at key rs k d first in_range = and_at (stands_first key) (λ r. key_below key (key_of r)) refl (λ _ _. refl) rs k d in_range first
 
-in_order_at : (rs : List Resource) (i j : ℕ) (d : Resource) → IsTrue (is_in_order rs) → i < j → j < length rs
+pub in_order_at : (rs : List Resource) (i j : ℕ) (d : Resource) → IsTrue (is_in_order rs) → i < j → j < length rs
     → IsTrue (key_below (key_of (get_or rs i d)) (key_of (get_or rs j d)))
 in_order_at [] i j d ordered later in_range = absurd (omega arith)
 in_order_at (r ∷ rs) i zero d ordered later in_range = absurd (omega arith)
@@ -55,7 +58,7 @@ before_later s r (t ∷ ts) first (inl is) = subst (λ (u : Resource). IsTrue (k
 before_later s r (t ∷ ts) first (inr later) = before_later s r ts (and_parts (key_below (key_of s) (key_of t)) (stands_first (key_of s) ts) first).1 later
 
 -- in order, a key has the value of its resource
-pub value_of_its_own : (rs : List Resource) (r : Resource) → IsTrue (is_in_order rs) → Has rs r
+value_of_its_own : (rs : List Resource) (r : Resource) → IsTrue (is_in_order rs) → Has rs r
     → value_at rs (key_of r) ≡ Some r.value
 value_of_its_own [] r ordered has = absurd has
 value_of_its_own (s ∷ ss) r ordered (inl is) =
@@ -83,29 +86,76 @@ module _ (rs : List Resource) (key : Key) (ordered : IsTrue (is_in_order rs)) wh
       let later = key_of (get_or rs (k + 1) d) in
       ap is_lt (key_cmp_total.antisymm later earlier ∙ ap ordering_reverse (less_from_below earlier later (in_order_at rs k (k + 1) d ordered (omega arith) high))))
 
-  pub found_value : (at : ℕ) (r : Resource) → IsSearchInRange (Ok at) (length rs)
-      → IsBinarySearchResult (λ r. key_cmp (key_of r) key) rs (Ok at) → r ≡ get_or rs at r
-      → Some r.value ≡ value_at rs key
-  found_value at r in_range equal read =
-      let keys : key_of r ≡ key = ap key_of read ∙ key_equal (key_of (get_or rs at r)) key (equal r) in
-      sym (value_of_its_own rs r ordered (has_at rs at r in_range read)) ∙ ap (value_at rs) keys
+  -- a binary search by key ends at the key, or at the gap for it
+  pub searched : (r : Result ℕ ℕ) → IsSearchInRange r (length rs)
+      → IsBinarySearchResult (λ s. key_cmp (key_of s) key) rs r
+      → record { found : IfOk r (IsKeyAt rs key); absent : IfErr r (IsKeyGap rs key) }
+  searched (Ok at) in_range equal = record { found = record { in_range = in_range; has_key = λ d. key_equal (key_of (get_or rs at d)) key (equal d) }; absent = tt }
+  searched (Err at) in_range parted = record {
+    found = tt;
+    absent = record {
+      in_range = in_range;
+      below_before = λ k d lt. key_less (key_of (get_or rs k d)) key ((parted comparisons_rise).0 k d (omega arith) lt);
+      above_after = λ k d le lt. key_greater (key_of (get_or rs k d)) key ((parted comparisons_rise).1 k d le lt);
+    };
+  }
 
-  pub nothing_found : (at : ℕ) → IsBinarySearchResult (λ r. key_cmp (key_of r) key) rs (Err at) → None ≡ value_at rs key
-  nothing_found at parted = sym (no_value rs key other)
+  pub found_value : (at : ℕ) (r : Resource) → IsKeyAt rs key at → r ≡ get_or rs at r → Some r.value ≡ value_at rs key
+  found_value at r is read =
+      let keys : key_of r ≡ key = ap key_of read ∙ is.has_key r in
+      sym (value_of_its_own rs r ordered (has_at rs at r is.in_range read)) ∙ ap (value_at rs) keys
+
+  pub nothing_found : (at : ℕ) → IsKeyGap rs key at → None ≡ value_at rs key
+  nothing_found at gap = sym (no_value rs key other)
     where
       other : (r : Resource) → Has rs r → same_key key (key_of r) ≡ false
       other r has =
           let i = has_index rs r has in
-          false_from_ne_true _ (λ same. elim (cases_lt i.0 at) [
-            | inl before ↦ differ Less r (sym (same_key_true key (key_of r) same)) (ap (λ (s : Resource). key_cmp (key_of s) key) i.2 ∙ (parted comparisons_rise).0 i.0 r (omega arith) before) (λ e. cc)
-            | inr after ↦ differ Greater r (sym (same_key_true key (key_of r) same)) (ap (λ (s : Resource). key_cmp (key_of s) key) i.2 ∙ (parted comparisons_rise).1 i.0 r after i.1) (λ e. cc)
+          subst (λ (s : Resource). same_key key (key_of s) ≡ false) (sym i.2) (elim (cases_lt i.0 at) [
+            | inl before ↦ above_other (key_of (get_or rs i.0 r)) key (gap.below_before i.0 r before)
+            | inr after ↦ below_other key (key_of (get_or rs i.0 r)) (gap.above_after i.0 r after i.1)
           ])
-        where
-          differ : (o : Ordering) (r : Resource) → key_of r ≡ key → key_cmp (key_of r) key ≡ o → (Equal ≡ o → ⊥) → ⊥
-          differ o r keys is not_equal = not_equal (sym (equal_itself key) ∙ ap (λ (k : Key). key_cmp k key) (sym keys) ∙ is)
-            where
-              equal_itself : (k : Key) → key_cmp k k ≡ Equal
-              equal_itself k = tied k
-                where
-                  tied : (k : Key) → key_cmp k k ≡ Equal
-                  tied k = rw (cmp_itself k.0, cmp_itself k.1) refl
+
+-- ---- a resource put in its place
+
+key_above : (k l : Key) → IsTrue (key_below k l) → key_cmp l k ≡ Greater
+key_above k l below = key_cmp_total.antisymm l k ∙ ap ordering_reverse (less_from_below k l below)
+
+key_itself : (k : Key) → key_cmp k k ≡ Equal
+key_itself k = rw (cmp_itself k.0, cmp_itself k.1) refl
+
+-- keys that do not compare as equal are two
+pub ne_is : (k l : Key) → is_ne (key_cmp k l) ≡ not (same_key k l)
+ne_is k l = elim (cases_key k l) [
+  | inl less ↦ ap is_ne less ∙ ap not (sym (below_other k l (key_less k l less)))
+  | inr (inl equal) ↦ ap is_ne equal ∙ ap not (sym (subst (λ (m : Key). same_key k m ≡ true) (key_equal k l equal) (same_key_itself k)))
+  | inr (inr greater) ↦ ap is_ne greater ∙ ap not (sym (above_other l k (key_greater k l greater)))
+]
+
+-- where the key stands, the two are united
+pub merged_at : (rs : List Resource) (r had : Resource) (i : ℕ) → IsTrue (is_in_order rs) → IsKeyAt rs (key_of r) i
+    → had ≡ get_or rs i had → merged rs (r ∷ []) ≡ set rs i (both_of had r)
+merged_at [] r had i ordered at read = absurd (omega (arith, at.in_range))
+merged_at (s ∷ ss) r had zero ordered at read =
+    let equal : key_cmp (key_of s) (key_of r) ≡ Equal = subst (λ (k : Key). key_cmp (key_of s) k ≡ Equal) (at.has_key had) (key_itself (key_of s)) in
+    let step : merged (s ∷ ss) (r ∷ []) ≡ both_of s r ∷ ss = rw equal (ap (λ (l : List Resource). both_of s r ∷ l) (merged-empty ss)) in
+    step ∙ ap (λ (x : Resource). both_of x r ∷ ss) (sym read)
+merged_at (s ∷ ss) r had (suc i) ordered at read =
+    let parts = and_parts (stands_first (key_of s) ss) (is_in_order ss) ordered in
+    let tail : IsKeyAt ss (key_of r) i = record { in_range = omega (arith, at.in_range); has_key = at.has_key } in
+    let below : IsTrue (key_below (key_of s) (key_of r)) = subst (λ (k : Key). IsTrue (key_below (key_of s) k)) (at.has_key had) (first_at (key_of s) ss i had parts.0 tail.in_range) in
+    rw (less_from_below (key_of s) (key_of r) below) (ap (λ (l : List Resource). s ∷ l) (merged_at ss r had i parts.1 tail read))
+
+-- where it does not, the resource goes into the gap
+pub merged_in_gap : (rs : List Resource) (r : Resource) (i : ℕ) → IsKeyGap rs (key_of r) i
+    → merged rs (r ∷ []) ≡ insert rs i r
+merged_in_gap [] r zero gap = refl
+merged_in_gap [] r (suc i) gap = absurd (omega (arith, gap.in_range))
+merged_in_gap (s ∷ ss) r zero gap = rw (key_above (key_of r) (key_of s) (gap.above_after 0 s (omega arith) (omega arith))) refl
+merged_in_gap (s ∷ ss) r (suc i) gap =
+    let tail : IsKeyGap ss (key_of r) i = record {
+      in_range = omega (arith, gap.in_range);
+      below_before = λ k d lt. gap.below_before (suc k) d (omega arith);
+      above_after = λ k d le lt. gap.above_after (suc k) d (omega arith) (omega arith);
+    } in
+    rw (less_from_below (key_of s) (key_of r) (gap.below_before 0 s (omega arith))) (ap (λ (l : List Resource). s ∷ l) (merged_in_gap ss r i tail))

@@ -9,7 +9,7 @@ use Rattle.drf_amount.specs.declared.algebra.AlgebraFault.{AlgebraFault}
 use Rattle.drf_amount.specs.declared.algebra.AlgebraFault.TheVariants as fault
 use Rattle.drf_bundle.specs.Value.{Point, amount_in}
 use Rattle.drf_bundle.specs.Bundle.{Key, stock, units, IsResource, Fits, IsBundle, amount, merged, have_clash, is_too_large, refusal, join_or, join, rest, covers}
-use Rattle.drf_bundle.specs.JoinLaws.{amount-merged, IsOrderly, same_bundle}
+use Rattle.drf_bundle.specs.JoinLaws.{merged-empty, amount-merged, IsOrderly, same_bundle}
 use Rattle.drf_bundle.specs.FitLaws.{fits_less, IsJoinOf, join_some, join_fits, cases_join}
 use Rattle.drf_bundle.specs.RestLaws.{bundle-rest, covered_units, covers_units, rest_join, covered_of_rest}
 use Rattle.drf_bundle.specs.declared.resource.Resource.{Resource}
@@ -121,10 +121,6 @@ cancellative a b c whole is_a is_b is_c one two =
     let with_b = join_some a b whole is_a is_b one in
     let with_c = join_some a c whole is_a is_c two in
     known_by_units b c is_b is_c (λ key p. omega (arith, with_b.units_add key p, with_c.units_add key p))
-
-merged-empty : (a : List Resource) → merged a [] ≡ a
-merged-empty [] = refl
-merged-empty (r ∷ rs) = refl
 
 neutral : (a : List Resource) → IsBundle a → join a [] ≡ Some a
 neutral a is =

@@ -17,7 +17,7 @@ use Rattle.drf_bundle.specs.declared.resource.Resource.{Resource}
 use Rattle.drf_bundle.specs.declared.value.Clash.{Clash}
 use Rattle.drf_bundle.specs.declared.value.Clash.TheVariants.{Kinds, Members}
 
-zero_or_some : (n : ℕ) → (n ≡ 0) ⊎ (0 < n)
+pub zero_or_some : (n : ℕ) → (n ≡ 0) ⊎ (0 < n)
 zero_or_some zero = inl refl
 zero_or_some (suc n) = inr (omega arith)
 
@@ -181,31 +181,32 @@ module _ (a b : List Resource) (first : IsBundle a) (second : IsBundle b) where
   both_at_most free name (Number n) = both_single free name (Number n) refl
   both_at_most free name (Member m) = both_single free name (Member m) refl
 
-  kinds_across : IsFree a b → (name : Text) (p q : Point) → 0 < stock a name p → 0 < stock b name q
-      → IsTrue (is_one_kind p q)
-  kinds_across free name p q some other = elim (cases_Bool (is_one_kind p q)) [
+  kinds_across : have_clash Kinds a b ≡ false → (name : Text) (p q : Point) → 0 < stock a name p
+      → 0 < stock b name q → IsTrue (is_one_kind p q)
+  kinds_across none name p q some other = elim (cases_Bool (is_one_kind p q)) [
     | inl one ↦ one
-    | inr two ↦ absurd (false≢true (sym free.kinds ∙ found_clash Kinds a b name p q some other
+    | inr two ↦ absurd (false≢true (sym none ∙ found_clash Kinds a b name p q some other
         (λ r s here there. ap not (kind_at r.value s.value p q here there ∙ two))))
   ]
 
-  pub fits_from_free : IsFree a b → Fits (stock_of_both a b)
-  fits_from_free free = record { one_kind = kinds; at_most = both_at_most free }
-    where
-      kinds : (name : Text) (p q : Point) → 0 < stock_of_both a b name p → 0 < stock_of_both a b name q
-          → IsTrue (is_one_kind p q)
-      kinds name p q some other = elim (zero_or_some (stock a name p)) [
-        | inl none ↦
-            let in_b : 0 < stock b name p = omega (arith, none, some) in
-            elim (zero_or_some (stock a name q)) [
-              | inl none_too ↦ second.fits.one_kind name p q in_b (omega (arith, none_too, other))
-              | inr in_a ↦ one_kind_turn p q ∙ kinds_across free name q p in_a in_b
-            ]
-        | inr in_a ↦ elim (zero_or_some (stock a name q)) [
-          | inl none ↦ kinds_across free name p q in_a (omega (arith, none, other))
-          | inr in_a_too ↦ first.fits.one_kind name p q in_a in_a_too
+  -- where no kinds clash, both together have one kind of each name
+  pub one_kind_of_both : have_clash Kinds a b ≡ false → (name : Text) (p q : Point) → 0 < stock_of_both a b name p
+      → 0 < stock_of_both a b name q → IsTrue (is_one_kind p q)
+  one_kind_of_both none name p q some other = elim (zero_or_some (stock a name p)) [
+    | inl none_here ↦
+        let in_b : 0 < stock b name p = omega (arith, none_here, some) in
+        elim (zero_or_some (stock a name q)) [
+          | inl none_too ↦ second.fits.one_kind name p q in_b (omega (arith, none_too, other))
+          | inr in_a ↦ one_kind_turn p q ∙ kinds_across none name q p in_a in_b
         ]
-      ]
+    | inr in_a ↦ elim (zero_or_some (stock a name q)) [
+      | inl none_here ↦ kinds_across none name p q in_a (omega (arith, none_here, other))
+      | inr in_a_too ↦ first.fits.one_kind name p q in_a in_a_too
+    ]
+  ]
+
+  pub fits_from_free : IsFree a b → Fits (stock_of_both a b)
+  fits_from_free free = record { one_kind = one_kind_of_both free.kinds; at_most = both_at_most free }
 
   free_from_fits : Fits (stock_of_both a b) → IsFree a b
   free_from_fits fits = record {
@@ -250,7 +251,7 @@ module _ (a b : List Resource) (first : IsBundle a) (second : IsBundle b) where
             role = one.role;
             role_read = one.role_read;
             value = given-united r.value s.value one.value other.value
-                (λ p. omega (arith, stock_has a r p in_a, subst (λ (t : Text). units_in s.value p ≤ stock b t p) same (stock_has b s p in_b), fits.at_most r.label p));
+                (omega (arith, stock_has a r Thousandths in_a, subst (λ (t : Text). units_in s.value Thousandths ≤ stock b t Thousandths) same (stock_has b s Thousandths in_b), fits.at_most r.label Thousandths));
             filled = omega (arith, amount-united r.value s.value joinable, one.filled);
           }
 

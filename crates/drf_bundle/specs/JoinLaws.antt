@@ -23,6 +23,10 @@ KeysJoin a b = (r s : Resource) → Has a r → Has b s → key_of r ≡ key_of 
 abbrev pub both_of : Resource → Resource → Resource
 both_of r s = with_value r (united r.value s.value)
 
+pub merged-empty : (a : List Resource) → merged a [] ≡ a
+merged-empty [] = refl
+merged-empty (r ∷ rs) = refl
+
 -- ---- sums over a merged list
 
 -- what a resource counts is the sum of its parts

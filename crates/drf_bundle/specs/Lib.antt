@@ -15,5 +15,7 @@ pub mod Sides
 pub mod PartLaws
 pub mod SumLaws
 pub mod Union
+pub mod UnionLaws
+pub mod OneLaws
 pub mod UnitLaws
 pub mod UnitProofs

@@ -1,7 +1,9 @@
--- Where a label stands among the entries, or would stand.
+-- Where a label stands among the entries, or a key among the resources, or would stand.
 use Rattle.std.specs.Prelude.{◌≡◌, ℕ, ◌<◌, ◌≤◌, List, length, slice_index_or, IsTrue}
 use Rattle.drf_role.specs.Text.{text_below}
+use Rattle.drf_bundle.specs.Bundle.{Key, key_of, key_below}
 use Rattle.drf_bundle.specs.declared.quantities.Entry.{Entry}
+use Rattle.drf_bundle.specs.declared.resource.Resource.{Resource}
 
 -- the entry at place i has the label
 pub record IsAt (entries : List Entry) (label : List ℕ) (i : ℕ) : Type 0 where
@@ -13,3 +15,14 @@ pub record IsGapFor (entries : List Entry) (label : List ℕ) (i : ℕ) : Type 0
   pub in_range : i ≤ length entries
   pub smaller_before : (k : ℕ) (d : Entry) → k < i → IsTrue (text_below (slice_index_or entries k d).label label)
   pub greater_after : (k : ℕ) (d : Entry) → i ≤ k → k < length entries → IsTrue (text_below label (slice_index_or entries k d).label)
+
+-- the resource at place i has the key
+pub record IsKeyAt (resources : List Resource) (key : Key) (i : ℕ) : Type 0 where
+  pub in_range : i < length resources
+  pub has_key : (d : Resource) → key_of (slice_index_or resources i d) ≡ key
+
+-- the key would go at place i: those before it are below it, and those from it on are above
+pub record IsKeyGap (resources : List Resource) (key : Key) (i : ℕ) : Type 0 where
+  pub in_range : i ≤ length resources
+  pub below_before : (k : ℕ) (d : Resource) → k < i → IsTrue (key_below (key_of (slice_index_or resources k d)) key)
+  pub above_after : (k : ℕ) (d : Resource) → i ≤ k → k < length resources → IsTrue (key_below key (key_of (slice_index_or resources k d)))

@@ -309,7 +309,7 @@ or_same : (s u : Bool) → (s || u) ≡ (s || (s || u))
 or_same true u = refl
 or_same false u = refl
 
-or_none : (s : Bool) → s ≡ (s || false)
+pub or_none : (s : Bool) → s ≡ (s || false)
 or_none true = refl
 or_none false = refl
 

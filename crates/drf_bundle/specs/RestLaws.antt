@@ -6,7 +6,7 @@ use Rattle.std.proofs.lemmas.Bool.{false≢true, true≢false, and_parts, and_fr
 use Rattle.std.proofs.lemmas.List.Elements.{All-head, All-tail, All-nil, All-cons}
 use Rattle.drf_role.specs.Text.{Text, same_text}
 use Rattle.drf_amount.specs.Algebra.{Covers}
-use Rattle.drf_bundle.specs.Value.{Point, units_in, most, amount_in, IsGiven, has_all_of}
+use Rattle.drf_bundle.specs.Value.{Point, Thousandths, units_in, most, amount_in, IsGiven, has_all_of}
 use Rattle.drf_bundle.specs.ValueLaws.{amount-united, given-united, filled_point, units-less, given-less, point_filled, joinable_from, units_covered, covered_from}
 use Rattle.drf_bundle.specs.Bundle.{Key, key_of, key_below, same_key, is_in_order, units_where, units, stock, value_at, IsResource, IsBundle, merged, join, less_at, filled_of, left_of, rest, covers}
 use Rattle.drf_bundle.specs.KeyLaws.{Has, at_each, stands_first, cases_same, same_key_itself, unit_of, where-cons, unit-here, unit-none, units_first, units_head, units_other, units_its_own, units_found, units_at}
@@ -53,7 +53,7 @@ each-changed f (r ∷ rs) passes all = elim (cases_Bool (nat_lt 0 (amount_in (f 
   | inr none ↦ rw none (each-changed f rs passes (All-tail IsResource r rs all))
 ]
 
-nothing_there : (v : Value) (p : Point) → nat_lt 0 (amount_in v) ≡ false → units_in v p ≡ 0
+pub nothing_there : (v : Value) (p : Point) → nat_lt 0 (amount_in v) ≡ false → units_in v p ≡ 0
 nothing_there v p none = by (units_in v p) refl
   where
     by : (n : ℕ) → units_in v p ≡ n → units_in v p ≡ 0
@@ -248,7 +248,7 @@ module _ (whole part : List Resource) (first : IsBundle whole) (second : IsBundl
         label = one.label;
         role = one.role;
         role_read = one.role_read;
-        value = given-united r.value s.value one.value other.value (parts_at_most r s in_rest in_part keys);
+        value = given-united r.value s.value one.value other.value (parts_at_most r s in_rest in_part keys Thousandths);
         filled = omega (arith, amount-united r.value s.value (rest_joins r s in_rest in_part keys), one.filled);
       }
 

@@ -1,13 +1,23 @@
 -- A resource united with a bundle: under one name and reservation scalars add and sets unite, shared members or not.
-use Rattle.std.specs.Prelude.{ℕ, ◌+◌, ◌^◌, Bool, not, ◌&&◌, List, [], ◌∷◌, Option, Some, None, nat_le, if◌then◌else◌}
+use Rattle.std.specs.Prelude.{◌≡◌, ℕ, ◌+◌, ◌^◌, Bool, not, ◌&&◌, List, [], ◌∷◌, Option, Some, None, nat_le, if◌then◌else◌}
 use Rattle.std.specs.List.{list_any}
 use Rattle.drf_role.specs.Text.{Text, same_text}
+use Rattle.drf_role.specs.Name.{IsLabel}
+use Rattle.drf_role.specs.Parts.{parts_of, text_of}
+use Rattle.drf_role.specs.Role.{IsRole}
 use Rattle.drf_amount.specs.declared.algebra.AlgebraFault.{AlgebraFault}
 use Rattle.drf_amount.specs.declared.algebra.AlgebraFault.TheVariants as fault
-use Rattle.drf_bundle.specs.Value.{Thousandths, units_in, is_same_kind, share_members}
+use Rattle.drf_bundle.specs.Value.{Thousandths, units_in, IsGiven, is_same_kind, share_members, united}
 use Rattle.drf_bundle.specs.Bundle.{key_of, same_key, stock, merged, filled_of, join_or}
 use Rattle.drf_bundle.specs.declared.resource.Resource.{Resource}
 use Rattle.drf_bundle.specs.declared.value.Value.{Value}
+
+-- a resource as it comes: there may be nothing of it
+pub record IsPiece (r : Resource) : Type 0 where
+  pub label : IsLabel r.label
+  pub role : IsRole r.role
+  pub role_read : parts_of (text_of r.role) ≡ r.role
+  pub value : IsGiven r.value
 
 -- the name has a value of another kind
 abbrev pub has_other_kind : List Resource → Text → Value → Bool
@@ -33,6 +43,11 @@ union_refusal bundle r =
 -- the resources with one more; a value with nothing in it adds none
 abbrev pub with_united : List Resource → Resource → List Resource
 with_united bundle r = merged bundle (filled_of (r ∷ []))
+
+-- what stands under its key then
+abbrev pub united_at : Option Value → Value → Value
+united_at None w = w
+united_at (Some v) w = united v w
 
 -- the union: the resources with one more, if nothing clashes
 abbrev pub union : List Resource → Resource → Option (List Resource)

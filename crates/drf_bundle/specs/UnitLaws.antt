@@ -1,12 +1,13 @@
 -- The laws of bundles by their units, as statements.
-use Rattle.std.specs.Prelude.{◌≡◌, ◌↔◌, ◌+◌, ◌-◌, ◌≤◌, List, Some, IsTrue}
+use Rattle.std.specs.Prelude.{◌≡◌, ◌↔◌, ◌+◌, ◌-◌, ◌≤◌, List, Some, None, IsTrue, if◌then◌else◌}
 use Rattle.drf_role.specs.Text.{Text}
 use Rattle.drf_role.specs.Parts.{parts_of, text_of}
 use Rattle.drf_role.specs.Path.{Path}
 use Rattle.drf_role.specs.Role.{IsRole}
-use Rattle.drf_bundle.specs.Value.{Point, Thousandths}
+use Rattle.drf_bundle.specs.Value.{Point, Thousandths, units_in}
 use Rattle.drf_bundle.specs.Quantities.{HasNoZeros, amount_of, plus}
-use Rattle.drf_bundle.specs.Bundle.{Key, IsBundle, units, stock, join, rest, covers, quantities_of, is_unreserved, part_for, clip, relabel}
+use Rattle.drf_bundle.specs.Bundle.{Key, key_of, same_key, value_at, IsBundle, units, stock, join, rest, covers, quantities_of, is_unreserved, part_for, clip, relabel}
+use Rattle.drf_bundle.specs.Union.{IsPiece, union_refusal, with_united, united_at}
 use Rattle.drf_bundle.specs.declared.quantities.Entry.{Entry}
 use Rattle.drf_bundle.specs.declared.resource.Resource.{Resource}
 
@@ -64,3 +65,11 @@ MovedIsBundle = (role : Path) (bundle : List Resource) → IsRole role → parts
 
 abbrev pub MovedKeepsStocks : Type 0
 MovedKeepsStocks = (role : Path) (bundle : List Resource) (name : Text) (p : Point) → stock (relabel role bundle) name p ≡ stock bundle name p
+
+-- a resource united with a bundle makes a bundle
+abbrev pub UnionIsBundle : Type 0
+UnionIsBundle = (bundle : List Resource) (r : Resource) → IsBundle bundle → IsPiece r → union_refusal bundle r ≡ None → IsBundle (with_united bundle r)
+
+-- under its key stands what stood there, united with it; all else is as it was
+abbrev pub UnionHasUnits : Type 0
+UnionHasUnits = (bundle : List Resource) (r : Resource) → IsBundle bundle → (key : Key) (p : Point) → units (with_united bundle r) key p ≡ (if same_key key (key_of r) then units_in (united_at (value_at bundle (key_of r)) r.value) p else units bundle key p)

@@ -63,7 +63,7 @@ moved_stocks role bundle name p = relabel-stock role name p bundle
 
 -- ---- quantities
 
-no_zeros-add_scalar : (sums : List Entry) (r : Resource) → 0 < amount_in r.value → HasNoZeros sums
+pub no_zeros-add_scalar : (sums : List Entry) (r : Resource) → 0 < amount_in r.value → HasNoZeros sums
     → HasNoZeros (add_scalar sums r)
 no_zeros-add_scalar sums r filled is = by r.value filled
   where

@@ -40,6 +40,12 @@ unit_or true false e = refl
 unit_or false true e = refl
 unit_or false false e = refl
 
+or_within : (x y : Bool) → (unit x ≤ unit (x || y)) × (unit (x || y) ≤ unit x + unit y)
+or_within true true = (omega arith, omega arith)
+or_within true false = (omega arith, omega arith)
+or_within false true = (omega arith, omega arith)
+or_within false false = (omega arith, omega arith)
+
 unit_without : (x y : Bool) → unit (x && not y) ≡ unit x - unit y
 unit_without true true = refl
 unit_without true false = refl
@@ -76,6 +82,11 @@ module _ {K : Type 0} {R : K → K → Ordering} (o : IsTotalOrder R) (same : se
   set-united : (a b : set.FinSet R) (k : K) → are_disjoint a b ≡ true
       → unit (has (set.union a b) k) ≡ unit (has a k) + unit (has b k)
   set-united a b k apart = ap unit (set.contains-union o a b k) ∙ unit_or (has a k) (has b k) (sets.out_of_both o same a b apart k)
+
+  set-within : (a b : set.FinSet R) (k : K)
+      → (unit (has a k) ≤ unit (has (set.union a b) k)) × (unit (has (set.union a b) k) ≤ unit (has a k) + unit (has b k))
+  set-within a b k =
+      subst (λ (x : Bool). (unit (has a k) ≤ unit x) × (unit x ≤ unit (has a k) + unit (has b k))) (sym (set.contains-union o a b k)) (or_within (has a k) (has b k))
 
   set-less : (a b : set.FinSet R) (k : K) → unit (has (set.difference a b) k) ≡ unit (has a k) - unit (has b k)
   set-less a b k = ap unit (set.contains-difference o a b k) ∙ unit_without (has a k) (has b k)
@@ -124,10 +135,42 @@ amount-united (Ranges a) (Items b) is = absurd (false≢true is.same_kind)
 amount-united (Items a) (Scalar b) is = absurd (false≢true is.same_kind)
 amount-united (Items a) (Ranges b) is = absurd (false≢true is.same_kind)
 
+-- what is united has the units of each, and no more than those of both
+pub united_within : (v w : Value) (p : Point)
+    → (units_in v p ≤ units_in (united v w) p) × (units_in (united v w) p ≤ units_in v p + units_in w p)
+united_within (Scalar a) (Scalar b) Thousandths = (omega arith, omega arith)
+united_within (Scalar a) (Scalar b) (Number n) = (omega arith, omega arith)
+united_within (Scalar a) (Scalar b) (Member m) = (omega arith, omega arith)
+united_within (Ranges a) (Ranges b) Thousandths = (omega arith, omega arith)
+united_within (Ranges a) (Ranges b) (Number n) = set-within nat_cmp_total set.nat_cmp-IsAntisymmetric a b n
+united_within (Ranges a) (Ranges b) (Member m) = (omega arith, omega arith)
+united_within (Items a) (Items b) Thousandths = (omega arith, omega arith)
+united_within (Items a) (Items b) (Number n) = (omega arith, omega arith)
+united_within (Items a) (Items b) (Member m) = set-within nat_list_cmp_total texts_apart a b m
+united_within (Scalar a) (Ranges b) p = (omega arith, omega arith)
+united_within (Scalar a) (Items b) p = (omega arith, omega arith)
+united_within (Ranges a) (Scalar b) p = (omega arith, omega arith)
+united_within (Ranges a) (Items b) p = (omega arith, omega arith)
+united_within (Items a) (Scalar b) p = (omega arith, omega arith)
+united_within (Items a) (Ranges b) p = (omega arith, omega arith)
+
+-- scalars add up, whatever members are shared
+pub thousandths-united : (v w : Value) → is_same_kind v w ≡ true
+    → units_in (united v w) Thousandths ≡ units_in v Thousandths + units_in w Thousandths
+thousandths-united (Scalar a) (Scalar b) same = refl
+thousandths-united (Scalar a) (Ranges b) same = omega arith
+thousandths-united (Scalar a) (Items b) same = omega arith
+thousandths-united (Ranges a) (Scalar b) same = absurd (false≢true same)
+thousandths-united (Ranges a) (Ranges b) same = omega arith
+thousandths-united (Ranges a) (Items b) same = omega arith
+thousandths-united (Items a) (Scalar b) same = absurd (false≢true same)
+thousandths-united (Items a) (Ranges b) same = omega arith
+thousandths-united (Items a) (Items b) same = omega arith
+
 -- what is united is given, if it is not too large
-pub given-united : (v w : Value) → IsGiven v → IsGiven w → ((p : Point) → units_in v p + units_in w p ≤ most p)
-    → IsGiven (united v w)
-given-united (Scalar a) (Scalar b) first second fits = omega (arith, fits Thousandths)
+pub given-united : (v w : Value) → IsGiven v → IsGiven w
+    → units_in v Thousandths + units_in w Thousandths ≤ most Thousandths → IsGiven (united v w)
+given-united (Scalar a) (Scalar b) first second fits = omega (arith, fits)
 given-united (Ranges a) (Ranges b) first second fits = sets.union_given nat_cmp_total set.nat_cmp-IsAntisymmetric _ a b first second
 given-united (Items a) (Items b) first second fits = sets.union_given nat_list_cmp_total texts_apart _ a b first second
 given-united (Scalar a) (Ranges b) first second fits = first
@@ -176,6 +219,16 @@ given-less (Ranges a) (Scalar b) given = given
 given-less (Ranges a) (Items b) given = given
 given-less (Items a) (Scalar b) given = given
 given-less (Items a) (Ranges b) given = given
+
+-- a number or a label has one unit at most
+pub units_single : (v : Value) (p : Point) → most p ≡ 1 → units_in v p ≤ 1
+units_single v Thousandths single = absurd (omega arith)
+units_single (Scalar a) (Number n) single = omega arith
+units_single (Ranges a) (Number n) single = unit_most (set.contains a n)
+units_single (Items a) (Number n) single = omega arith
+units_single (Scalar a) (Member m) single = omega arith
+units_single (Ranges a) (Member m) single = omega arith
+units_single (Items a) (Member m) single = unit_most (set.contains a m)
 
 pub units-most : (v : Value) (p : Point) → IsGiven v → units_in v p ≤ most p
 units-most (Scalar a) Thousandths given = omega arith

@@ -1,9 +1,10 @@
 //! Bundles of resources.
-ghost use Rattle.std.specs.Prelude.{◌≡◌, ◌+◌, ◌<◌, ◌^◌, IsTrue, [], ◌∷◌, ◌++◌, OnOk, IfOk};
+ghost use Rattle.std.specs.Prelude.{◌≡◌, ◌+◌, ◌<◌, ◌^◌, IsTrue, [], ◌∷◌, ◌++◌, OnOk, OnErr, IfOk, IfErr};
 ghost use Rattle.std.specs.Option.{option_copied};
 ghost use Rattle.drf_bundle.specs.Bundle.{IsBundle, IsKept, amount, join, refusal, is_too_large, is_in_order, exceeds, rest, filled_of, left_of, covers_one, reservation, add_scalar, value_at, quantities_of, one_of, is_unreserved, part_for, clip, clipped, relabel};
 ghost use Rattle.drf_bundle.specs.Value.{Thousandths, units_in, IsGiven};
 ghost use Rattle.drf_bundle.specs.Quantities.{amount_of};
+ghost use Rattle.drf_bundle.specs.Places.{IsKeyAt, IsKeyGap};
 ghost use Rattle.drf_bundle.specs.BundleLaws.{bundle_laws};
 
 use crate::merge::{have_clash, merged};
@@ -19,9 +20,9 @@ use std::marker::Model;
 /// stands under two reservations of a name, and the scalars of a name sum to less than 2^64.
 #[derive(Debug, Drop)]
 pub struct Bundle {
-    resources: Vec<Resource>,
+    pub(crate) resources: Vec<Resource>,
     // The scalars of each name over all reservations, kept to be lent.
-    quantities: Quantities,
+    pub(crate) quantities: Quantities,
 }
 
 impl Model for Bundle {
@@ -43,9 +44,10 @@ impl Model for Bundle {
 }
 
 /// Adds the resource's scalar to the sum of its name.
-fn add_scalar(sums: &mut Quantities, resource: &Resource) -> Result<(), AllocError>
+pub(crate) fn add_scalar(sums: &mut Quantities, resource: &Resource) -> Result<(), AllocError>
     requires { amount_of sums.old resource.now.label + units_in resource.now.value Thousandths < 2 ^ 64 }
-    ensures { OnOk result (sums.new ≡ add_scalar sums.old resource.now) }
+    ensures ok { OnOk result (sums.new ≡ add_scalar sums.old resource.now) }
+    ensures err { OnErr result (sums.new ≡ sums.old) }
 {
     let Value::Scalar(scalar) = &resource.value else {
         return Ok(());
@@ -66,12 +68,21 @@ fn sums(alloc: Global, resources: &[Resource]) -> Result<Quantities, AllocError>
     Ok(sums)
 }
 
+/// Where the resource of a name and a reservation stands, or where it would go.
+pub(crate) fn place(resources: &[Resource], label: &Label, role: &Role) -> Result<usize, usize>
+    requires { IsTrue (is_in_order resources.now) }
+    ensures found { IfOk result (IsKeyAt resources.now (label.now, reservation role.now)) }
+    ensures absent { IfErr result (IsKeyGap resources.now (label.now, reservation role.now)) }
+{
+    resources.binary_search_by(|resource| resource.cmp_key(label, role))
+}
+
 /// The value of a name under a reservation.
 fn value_at<'a>(resources: &'a [Resource], label: &Label, role: &Role) -> Option<&'a Value>
     requires { IsTrue (is_in_order resources.now) }
     ensures { option_copied result ≡ value_at resources.now (label.now, reservation role.now) }
 {
-    match resources.binary_search_by(|resource| resource.cmp_key(label, role)) {
+    match place(resources, label, role) {
         Ok(at) => {
             let resource = &resources[at];
             Some(&resource.value)

@@ -1,6 +1,6 @@
 //! Laws of amounts by label and of bundles by their units. A call does nothing: its contract is the law.
 ghost use Rattle.drf_bundle.specs.Laws.{SetsOneAmount, NamesOneLabel, SettingKeepsOrder, AmountsAdd, SumNamesBoth, AddingKeepsOrder, SumHasNoZeros, AddingCommutes, AddingAssociates, AmountsFall, NamesStay, LoweringKeepsOrder, ZerosCountNothing, NoZerosAreLeft, RestAmounts, RestHasNoZeros, NothingIsLeftOfAll, AllIsLeftOfNothing, RestAndPartMakeWhole, CoversByAmounts, KnownByAmounts};
-ghost use Rattle.drf_bundle.specs.UnitLaws.{KnownByUnits, JoinHasUnitsOfBoth, StocksAdd, CoversByUnits, RestHasTheOthers, RestIsBundle, RestAndPartJoin, QuantitiesSumScalars, QuantitiesHaveNoZeros, QuantitiesAdd, PartIsCovered, ClippedIsCovered, MovedIsBundle, MovedKeepsStocks};
+ghost use Rattle.drf_bundle.specs.UnitLaws.{KnownByUnits, JoinHasUnitsOfBoth, StocksAdd, CoversByUnits, RestHasTheOthers, RestIsBundle, RestAndPartJoin, QuantitiesSumScalars, QuantitiesHaveNoZeros, QuantitiesAdd, PartIsCovered, ClippedIsCovered, MovedIsBundle, MovedKeepsStocks, UnionIsBundle, UnionHasUnits};
 
 /// What setting an amount does.
 pub fn setting_law()
@@ -83,4 +83,10 @@ pub fn bundle_part_law()
     ensures clipped { ClippedIsCovered }
     ensures moved { MovedIsBundle }
     ensures stocks { MovedKeepsStocks }
+{}
+
+/// What a resource united with a bundle makes.
+pub fn bundle_union_law()
+    ensures bundle { UnionIsBundle }
+    ensures units { UnionHasUnits }
 {}

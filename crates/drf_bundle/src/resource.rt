@@ -68,14 +68,14 @@ impl Resource {
         })
     }
 
-    /// Both together, of two of one key that do not clash.
+    /// Both together, of two of one key.
     pub(crate) fn united(&self, other: &Resource) -> Result<Resource, AllocError>
         ensures { IfOk result (λ both. both ≡ with_value self.now (united self.now.value other.now.value)) }
     {
         Ok(Resource {
             label: self.label.copy()?,
             role: self.role.copy()?,
-            value: self.value.join(&other.value)?,
+            value: self.value.unite(&other.value)?,
         })
     }
 }

@@ -1,6 +1,6 @@
 //! One resource's value: thousandths, a set of numbers or a set of labels.
 ghost use Rattle.std.specs.Prelude.{◌≡◌, ◌<◌, ◌^◌, IsTrue, ◌↔◌, IfOk};
-ghost use Rattle.drf_bundle.specs.Value.{IsGiven, amount_in, clash_in, united, less, has_all_of};
+ghost use Rattle.drf_bundle.specs.Value.{Thousandths, units_in, IsGiven, amount_in, clash_in, united, less, has_all_of};
 
 use drf_amount::{Algebra, Scalar};
 use drf_kinds::{Items, Ranges};
@@ -51,6 +51,17 @@ impl Value {
         }
     }
 
+    /// Its thousandths, where it is a scalar.
+    pub(crate) fn thousandths(&self) -> u64
+        ensures { result ≡ units_in self.now Thousandths }
+    {
+        match self {
+            Value::Scalar(scalar) => scalar.thousandths(),
+            Value::Ranges(_) => 0,
+            Value::Items(_) => 0,
+        }
+    }
+
     pub fn copy(&self) -> Result<Value, AllocError>
         ensures { IfOk result (λ value. value ≡ self.now) }
     {
@@ -94,21 +105,21 @@ impl Value {
         }
     }
 
-    /// Both together, of two that do not clash.
-    pub(crate) fn join(&self, other: &Value) -> Result<Value, AllocError>
+    /// Both together, shared members or not, of two scalars whose sum is not too large.
+    pub(crate) fn unite(&self, other: &Value) -> Result<Value, AllocError>
         ensures { IfOk result (λ value. value ≡ united self.now other.now) }
     {
-        let joined = match (self, other) {
-            (Value::Scalar(scalar), Value::Scalar(other)) => {
-                scalar.try_join(other).map(Value::Scalar)
-            }
-            (Value::Ranges(ranges), Value::Ranges(others)) => {
-                ranges.try_join(others).map(Value::Ranges)
-            }
-            (Value::Items(items), Value::Items(others)) => items.try_join(others).map(Value::Items),
-            _ => return self.copy(),
-        };
-        joined.map_err(|_| AllocError)
+        match (self, other) {
+            (Value::Scalar(scalar), Value::Scalar(other)) => match scalar.try_join(other) {
+                Ok(sum) => Ok(Value::Scalar(sum)),
+                Err(_) => Err(AllocError),
+            },
+            (Value::Ranges(ranges), Value::Ranges(others)) => ranges
+                .unite(others)
+                .map(Value::Ranges),
+            (Value::Items(items), Value::Items(others)) => items.unite(others).map(Value::Items),
+            _ => self.copy(),
+        }
     }
 
     /// What is left without `part`, of one that covers it.

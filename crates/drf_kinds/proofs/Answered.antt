@@ -1,12 +1,12 @@
 -- What a pass over two sets side by side says of the sets.
-use Rattle.std.proofs.Common.{◌≡◌, ◌↔◌, Bool, true, false, not, ◌&&◌, ◌||◌, Some, None, IsSome, IsTrue, cond, refl, sym, ap, ◌∙◌, subst}
+use Rattle.std.proofs.Common.{◌≡◌, ◌↔◌, Bool, true, false, not, ◌&&◌, Some, None, IsSome, IsTrue, cond, refl, sym, ap, ◌∙◌, subst}
 use Rattle.std.specs.Bool.{OnTrue, OnFalse, beq}
 use Rattle.std.specs.declared.cmp.Ordering.{Ordering}
 use Rattle.std.specs.Cmp.{IsTotalOrder}
 use Rattle.std.specs.FinSet as set
 use Rattle.std.proofs.lemmas.Bool.{true≢false, both_ways}
 use Rattle.drf_amount.specs.Algebra.{Covers, IsRest}
-use Rattle.drf_kinds.specs.Places.{is_met, differ}
+use Rattle.drf_kinds.specs.Places.{is_met, differ, is_kept}
 use Rattle.drf_kinds.specs.Sets.{IsSetOf, are_disjoint, set_join}
 use Rattle.drf_kinds.specs.SetLaws.{out_of_both, disjoint_from, join_of, is_rest_difference, subset_of_rest, covers_subset}
 
@@ -25,12 +25,6 @@ unmet_outside : (x y : Bool) → (x && beq y false) ≡ false → x ≡ true →
 unmet_outside true true e f = refl
 unmet_outside true false e f = absurd (true≢false e)
 unmet_outside false y e f = absurd (true≢false (sym f))
-
-differ_apart : (x y : Bool) → (x && y) ≡ false → differ x y ≡ (x || y)
-differ_apart true true e = sym e
-differ_apart true false e = refl
-differ_apart false true e = refl
-differ_apart false false e = refl
 
 differ_within : (x y : Bool) → (y ≡ true → x ≡ true) → differ x y ≡ (x && not y)
 differ_within true true f = refl
@@ -77,13 +71,13 @@ module _ {K : Type 0} {R : K → K → Ordering} (o : IsTotalOrder R) (same : se
     λ _. refl,
   )
 
-  -- of disjoint sets what is in one alone is the join
-  pub joined_answer : (s t found : set.FinSet R) → IsSome (set_join s t) → ((k : K) → set.contains found k ≡ differ (set.contains s k) (set.contains t k)) → set_join s t ≡ Some found
-  joined_answer s t found some each =
-      let disjoint = (IsSome-join s t).0 some in
-      join_of o same s t disjoint
-      ∙ ap Some (set.same_set o same _ _ (λ k.
-      set.contains-union o s t k ∙ sym (each k ∙ differ_apart (set.contains s k) (set.contains t k) (out_of_both o same s t disjoint k))))
+  -- what is in either of two sets
+  pub united_answer : (s t found : set.FinSet R) → ((k : K) → set.contains found k ≡ is_kept true (set.contains s k) (set.contains t k)) → found ≡ set.union s t
+  united_answer s t found each = set.same_set o same _ _ (λ k. each k ∙ sym (set.contains-union o s t k))
+
+  -- of disjoint sets the union is the join
+  pub joined_answer : (s t found : set.FinSet R) → IsSome (set_join s t) → found ≡ set.union s t → set_join s t ≡ Some found
+  joined_answer s t found some is = join_of o same s t ((IsSome-join s t).0 some) ∙ ap Some (sym is)
 
   -- of a set and a part of it that is the rest
   pub rest_answer : (whole part found : set.FinSet R) → IsSetOf P whole → Covers (IsSetOf P) set_join whole part → ((k : K) → set.contains found k ≡ differ (set.contains whole k) (set.contains part k)) → IsRest (IsSetOf P) set_join whole part found
@@ -94,7 +88,7 @@ module _ {K : Type 0} {R : K → K → Ordering} (o : IsTotalOrder R) (same : se
       each k ∙ differ_within (set.contains whole k) (set.contains part k) (set.is_subset-contains o part whole within k) ∙ sym (set.contains-difference o whole part k)) in
       subst (IsRest (IsSetOf P) set_join whole part) (sym is) (is_rest_difference o same P whole part given within)
 
-  -- what is in one of two sets alone
-  pub differ_answer : (in_s in_t in_found : K → Bool) (s t found : set.FinSet R) → ((k : K) → set.contains s k ≡ in_s k) → ((k : K) → set.contains t k ≡ in_t k) → ((k : K) → set.contains found k ≡ in_found k) →
-      ((k : K) → in_found k ≡ differ (in_s k) (in_t k)) → (k : K) → set.contains found k ≡ differ (set.contains s k) (set.contains t k)
-  differ_answer in_s in_t in_found s t found s_is t_is found_is each k = found_is k ∙ each k ∙ rw (s_is k, t_is k)
+  -- what is kept of two sets
+  pub kept_answer : (kept : Bool → Bool → Bool) (in_s in_t in_found : K → Bool) (s t found : set.FinSet R) → ((k : K) → set.contains s k ≡ in_s k) → ((k : K) → set.contains t k ≡ in_t k) → ((k : K) → set.contains found k ≡ in_found k) →
+      ((k : K) → in_found k ≡ kept (in_s k) (in_t k)) → (k : K) → set.contains found k ≡ kept (set.contains s k) (set.contains t k)
+  kept_answer kept in_s in_t in_found s t found s_is t_is found_is each k = found_is k ∙ each k ∙ rw (s_is k, t_is k)

@@ -1,5 +1,5 @@
 -- The places where a set of numbers begins and ends, in ascending order.
-use Rattle.std.specs.Prelude.{◌≡◌, ◌==◌, ℕ, ◌+◌, ◌≤◌, ◌^◌, Bool, false, not, ◌&&◌, List, [], ◌∷◌, nat_lt, if◌then◌else◌}
+use Rattle.std.specs.Prelude.{◌≡◌, ◌==◌, ℕ, ◌+◌, ◌≤◌, ◌^◌, Bool, false, not, ◌&&◌, ◌||◌, List, [], ◌∷◌, nat_lt, if◌then◌else◌}
 use Rattle.std.specs.Bool.{beq}
 use Rattle.drf_kinds.specs.declared.interval.Interval.{Interval}
 
@@ -44,6 +44,10 @@ passed place s = if next_place s.places == place then record { inside = not s.in
 -- in one set alone
 abbrev pub differ : Bool → Bool → Bool
 differ left right = not (beq left right)
+
+-- in one set alone, or in both if what they share is kept
+abbrev pub is_kept : Bool → Bool → Bool → Bool
+is_kept shared left right = if shared then left || right else differ left right
 
 -- in the left set, and in the right one or out of it
 abbrev pub is_met : Bool → Bool → Bool → Bool

@@ -2,11 +2,11 @@ ghost use Rattle.std.specs.Prelude.{◌≡◌, ◌<◌, ◌^◌, ℕ, List, All,
 ghost use Rattle.std.specs.FinSet as set;
 ghost use Rattle.drf_kinds.specs.Sets.{set_join, set_refusal};
 ghost use Rattle.drf_kinds.specs.Names.{IsLabelSet, AreAscending, is_named};
-ghost use Rattle.drf_kinds.specs.Places.{differ};
+ghost use Rattle.drf_kinds.specs.Places.{is_kept};
 ghost use Rattle.drf_kinds.specs.TextSetLaws.{text_set_laws};
 ghost use Rattle.drf_role.specs.Name.{IsLabel};
 
-use crate::merge::{copies, meets, symmetric_difference};
+use crate::merge::{combined, copies, meets};
 use drf_amount::{Algebra, AlgebraFault};
 use drf_role::Label;
 use std::alloc::{AllocError, Global};
@@ -74,14 +74,21 @@ impl Items {
             .is_ok()
     }
 
-    /// The labels that are in one of the two sets alone.
-    fn symmetric_difference(&self, other: &Items) -> Result<Items, AllocError>
-        ensures { IfOk result (λ found. (text : List ℕ) → set.contains found text ≡ differ (set.contains self.now text) (set.contains other.now text)) }
+    /// The labels that are in one of the two sets alone, and if `shared` those that are in both.
+    fn combined(&self, other: &Items, shared: bool) -> Result<Items, AllocError>
+        ensures { IfOk result (λ found. (text : List ℕ) → set.contains found text ≡ is_kept shared (set.contains self.now text) (set.contains other.now text)) }
     {
         let alloc = *self.names.allocator();
         Ok(Items {
-            names: symmetric_difference(alloc, &self.names, &other.names)?,
+            names: combined(alloc, &self.names, &other.names, shared)?,
         })
+    }
+
+    /// The labels of both sets, shared or not.
+    pub fn unite(&self, other: &Items) -> Result<Items, AllocError>
+        ensures { IfOk result (λ found. found ≡ set.union self.now other.now) }
+    {
+        self.combined(other, true)
     }
 }
 
@@ -116,7 +123,7 @@ impl Algebra for Items {
         if !self.disjoint(other) {
             return Err(AlgebraFault::Overlap);
         }
-        Ok(self.symmetric_difference(other)?)
+        Ok(self.unite(other)?)
     }
 
     fn covers(&self, part: &Items) -> bool {
@@ -127,7 +134,7 @@ impl Algebra for Items {
         if !self.covers(part) {
             return Err(AlgebraFault::NotCovered);
         }
-        Ok(self.symmetric_difference(part)?)
+        Ok(self.combined(part, false)?)
     }
 
     fn amount(&self) -> u128

@@ -1,7 +1,7 @@
 //! Two lists of labels in order of bytes, gone through side by side.
 ghost use Rattle.std.specs.Prelude.{◌≡◌, List, ℕ, false, IsTrue, IfOk};
 ghost use Rattle.std.specs.Bool.{OnTrue, OnFalse};
-ghost use Rattle.drf_kinds.specs.Places.{is_met, differ};
+ghost use Rattle.drf_kinds.specs.Places.{is_met, is_kept};
 ghost use Rattle.drf_kinds.specs.Names.{AreAscending, is_named, next_side};
 
 use drf_role::Label;
@@ -65,16 +65,18 @@ pub fn meets(left: &[Label], right: &[Label], inside: bool) -> bool
     false
 }
 
-/// The labels that are in one of the two lists alone, in order.
-pub fn symmetric_difference(
+/// The labels that are in one of the two lists alone, and if `shared` those that are in both, in
+/// order.
+pub fn combined(
     alloc: Global,
     left: &[Label],
     right: &[Label],
+    shared: bool,
 ) -> Result<Vec<Label>, AllocError>
     requires left { AreAscending left.now }
     requires right { AreAscending right.now }
     ensures ascending { IfOk result (λ found. AreAscending found.items) }
-    ensures members { IfOk result (λ found. (text : List ℕ) → is_named found.items text ≡ differ (is_named left.now text) (is_named right.now text)) }
+    ensures members { IfOk result (λ found. (text : List ℕ) → is_named found.items text ≡ is_kept shared (is_named left.now text) (is_named right.now text)) }
 {
     let mut left = left;
     let mut right = right;
@@ -90,7 +92,10 @@ pub fn symmetric_difference(
                 right = &right[1..];
             }
             Side::Both => {
-                left = &left[1..];
+                // One that is kept is found later, in the left list.
+                if !shared {
+                    left = &left[1..];
+                }
                 right = &right[1..];
             }
         }

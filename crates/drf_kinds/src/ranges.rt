@@ -3,12 +3,12 @@ ghost use Rattle.std.specs.List.Sorted.{IsNonDecreasingBy, IsPermutation};
 ghost use Rattle.std.specs.FinSet as set;
 ghost use Rattle.drf_kinds.specs.Sets.{set_join, set_refusal};
 ghost use Rattle.drf_kinds.specs.Intervals.{IsNumberSet, AreMaximal, members, is_in, interval_of};
-ghost use Rattle.drf_kinds.specs.Places.{differ};
+ghost use Rattle.drf_kinds.specs.Places.{is_kept};
 ghost use Rattle.drf_kinds.specs.NumberSetLaws.{number_set_laws};
 ghost use Rattle.drf_kinds.specs.declared.ranges.RangesFault.TheVariants.{Memory};
 
 use crate::interval::Interval;
-use crate::sweep::{meets, symmetric_difference};
+use crate::sweep::{combined, meets};
 use drf_amount::{Algebra, AlgebraFault};
 use std::alloc::{AllocError, Global};
 use std::marker::Model;
@@ -114,12 +114,12 @@ impl Ranges {
         Ranges { intervals }
     }
 
-    /// The numbers that are in one of the two sets alone.
-    fn symmetric_difference(&self, other: &Ranges) -> Result<Ranges, AllocError>
-        ensures { IfOk result (λ found. (n : ℕ) → set.contains found n ≡ differ (set.contains self.now n) (set.contains other.now n)) }
+    /// The numbers that are in one of the two sets alone, and if `shared` those that are in both.
+    fn combined(&self, other: &Ranges, shared: bool) -> Result<Ranges, AllocError>
+        ensures { IfOk result (λ found. (n : ℕ) → set.contains found n ≡ is_kept shared (set.contains self.now n) (set.contains other.now n)) }
     {
         let alloc = *self.intervals.allocator();
-        Ok(Ranges::new(symmetric_difference(alloc, &self.intervals, &other.intervals)?))
+        Ok(Ranges::new(combined(alloc, &self.intervals, &other.intervals, shared)?))
     }
 
     /// The numbers of all the pairs, each from its first end to its second. A pair whose first end
@@ -134,6 +134,13 @@ impl Ranges {
         }
         let intervals = sorted(alloc, pairs)?;
         Ok(Ranges::new(merged(alloc, &intervals)?))
+    }
+
+    /// The numbers of both sets, shared or not.
+    pub fn unite(&self, other: &Ranges) -> Result<Ranges, AllocError>
+        ensures { IfOk result (λ found. found ≡ set.union self.now other.now) }
+    {
+        self.combined(other, true)
     }
 
     /// The maximal intervals, in ascending order: a number stands between any two that is in none.
@@ -188,7 +195,7 @@ impl Algebra for Ranges {
         if !self.disjoint(other) {
             return Err(AlgebraFault::Overlap);
         }
-        Ok(self.symmetric_difference(other)?)
+        Ok(self.unite(other)?)
     }
 
     fn covers(&self, part: &Ranges) -> bool {
@@ -199,7 +206,7 @@ impl Algebra for Ranges {
         if !self.covers(part) {
             return Err(AlgebraFault::NotCovered);
         }
-        Ok(self.symmetric_difference(part)?)
+        Ok(self.combined(part, false)?)
     }
 
     fn amount(&self) -> u128

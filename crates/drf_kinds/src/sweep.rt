@@ -3,7 +3,7 @@
 ghost use Rattle.std.specs.Prelude.{◌≡◌, ◌≢◌, ℕ, false, min, IsTrue, IfOk, IfSome, IfNone};
 ghost use Rattle.std.specs.Bool.{OnTrue, OnFalse};
 ghost use Rattle.drf_kinds.specs.Intervals.{AreMaximal, is_in};
-ghost use Rattle.drf_kinds.specs.Places.{next_place, passed, steps_of, is_met, differ};
+ghost use Rattle.drf_kinds.specs.Places.{next_place, passed, steps_of, is_met, is_kept};
 
 use crate::interval::Interval;
 use std::alloc::{AllocError, Global};
@@ -107,16 +107,24 @@ pub fn meets(left: &[Interval], right: &[Interval], inside: bool) -> bool
     false
 }
 
-/// The numbers that are in one of the two sets alone.
-pub fn symmetric_difference(
+/// Whether a number is kept, by whether it is in each of two sets.
+fn is_kept(shared: bool, left: bool, right: bool) -> bool
+    ensures { result ≡ is_kept shared left right }
+{
+    if shared { left || right } else { left != right }
+}
+
+/// The numbers that are in one of the two sets alone, and if `shared` those that are in both.
+pub fn combined(
     alloc: Global,
     left: &[Interval],
     right: &[Interval],
+    shared: bool,
 ) -> Result<Vec<Interval>, AllocError>
     requires left { AreMaximal left.now }
     requires right { AreMaximal right.now }
     ensures maximal { IfOk result (λ found. AreMaximal found.items) }
-    ensures members { IfOk result (λ found. (n : ℕ) → is_in found.items n ≡ differ (is_in left.now n) (is_in right.now n)) }
+    ensures members { IfOk result (λ found. (n : ℕ) → is_in found.items n ≡ is_kept shared (is_in left.now n) (is_in right.now n)) }
 {
     let mut left = Edges::new(left);
     let mut right = Edges::new(right);
@@ -125,7 +133,7 @@ pub fn symmetric_difference(
     let mut inside = false;
     while let Some(place) = pass_both(&mut left, &mut right) {
         let was_inside = inside;
-        inside = left.is_inside() != right.is_inside();
+        inside = is_kept(shared, left.is_inside(), right.is_inside());
         if inside == was_inside {
             continue;
         }

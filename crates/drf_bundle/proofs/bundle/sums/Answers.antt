@@ -13,7 +13,7 @@ add_scalar-requires c =
 
 pub loop-resource-preserved : goal.loop-resource-preserved
 loop-resource-preserved c =
-    subst (λ (sums : List Entry). Summed c.args.resources.now sums (drop (c.loop-resource.resource-index + 1) c.args.resources.now)) (sym c.in_ok-add_scalar.ensures)
+    subst (λ (sums : List Entry). Summed c.args.resources.now sums (drop (c.loop-resource.resource-index + 1) c.args.resources.now)) (sym c.in_ok-add_scalar.ensures.ok)
     (sum_more c.args.resources.now c.loop-resource.sums c.loop-resource.resource-index c.resource-item.result c.loop-resource-test.true c.resource-item.is c.loop-resource.invariant)
 
 pub returns : goal.returns

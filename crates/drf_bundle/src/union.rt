@@ -1,0 +1,135 @@
+//! One more resource in a bundle, where sets of one name and reservation may share members.
+ghost use Rattle.std.specs.Prelude.{◌≡◌, ℕ, ◌+◌, ◌<◌, ◌^◌, ◌&&◌, not, Some, [], ◌∷◌, filter, nat_le, IsTrue, IfOk, IfErr, OnOk, OnErr};
+ghost use Rattle.drf_amount.specs.Algebra.{IsJoinFault};
+ghost use Rattle.drf_role.specs.Text.{same_text};
+ghost use Rattle.drf_bundle.specs.Value.{Thousandths, units_in, share_members};
+ghost use Rattle.drf_bundle.specs.Bundle.{IsBundle, is_in_order, key_of, same_key, reservation, merged, add_scalar};
+ghost use Rattle.drf_bundle.specs.Quantities.{amount_of};
+ghost use Rattle.drf_bundle.specs.Union.{has_other_kind, is_reserved_elsewhere, union_refusal, union};
+
+use crate::bundle::{Bundle, add_scalar, place};
+use crate::quantities::Quantities;
+use crate::resource::Resource;
+use crate::value::{Clash, Value};
+use drf_amount::AlgebraFault;
+use drf_role::{Label, Role};
+use std::alloc::AllocError;
+
+/// The resources of a name, which stand together.
+fn named<'a>(resources: &'a [Resource], label: &Label) -> &'a [Resource]
+    requires { IsTrue (is_in_order resources.now) }
+    ensures { result.now ≡ filter (λ r. same_text r.label label.now) resources.now }
+{
+    let start = resources.partition_point(|resource| resource.label.cmp(label).is_lt());
+    let rest = &resources[start..];
+    let count = rest.partition_point(|resource| resource.label == *label);
+    &rest[..count]
+}
+
+/// Whether the name has a value of another kind.
+fn has_other_kind(resources: &[Resource], label: &Label, value: &Value) -> bool
+    requires { IsTrue (is_in_order resources.now) }
+    ensures { result ≡ has_other_kind resources.now label.now value.now }
+{
+    named(resources, label)
+        .iter()
+        .any(|other| other.value.clashes_with(value, Clash::Kinds))
+}
+
+/// Whether the two have different keys and share a member.
+fn share_apart(other: &Resource, resource: &Resource) -> bool
+    ensures { result ≡ (not (same_key (key_of other.now) (key_of resource.now)) && share_members other.now.value resource.now.value) }
+{
+    other.cmp_key(&resource.label, &resource.role).is_ne()
+        && other.value.clashes_with(&resource.value, Clash::Members)
+}
+
+/// Whether a member stands under another reservation of the name.
+fn is_reserved_elsewhere(resources: &[Resource], resource: &Resource) -> bool
+    requires { IsTrue (is_in_order resources.now) }
+    ensures { result ≡ is_reserved_elsewhere resources.now resource.now }
+{
+    named(resources, &resource.label)
+        .iter()
+        .any(|other| share_apart(other, resource))
+}
+
+/// Whether with the resource the scalars of its name exceed 2^64 - 1 thousandths.
+fn is_too_much(sums: &Quantities, resource: &Resource) -> bool
+    ensures { result ≡ nat_le (2 ^ 64) (amount_of sums.now resource.now.label + units_in resource.now.value Thousandths) }
+{
+    let sum = sums
+        .get(resource.label.text())
+        .checked_add(resource.value.thousandths());
+    sum.is_none()
+}
+
+/// Puts the resource among those in order, and adds its scalar to the sum of its name.
+fn put(
+    resources: &mut Vec<Resource>,
+    sums: &mut Quantities,
+    resource: Resource,
+) -> Result<(), AllocError>
+    requires in_order { IsTrue (is_in_order resources.old.items) }
+    requires fits { amount_of sums.old resource.label + units_in resource.value Thousandths < 2 ^ 64 }
+    ensures ok { OnOk result ((resources.new.items ≡ merged resources.old.items (resource ∷ [])) × (sums.new ≡ add_scalar sums.old resource)) }
+    ensures err { OnErr result ((resources.new.items ≡ resources.old.items) × (sums.new ≡ sums.old)) }
+{
+    match place(resources, &resource.label, &resource.role) {
+        Ok(at) => {
+            let had = &mut resources[at];
+            let value = had.value.unite(&resource.value)?;
+            add_scalar(sums, &resource)?;
+            had.value = value;
+        }
+        Err(at) => {
+            // With room the insertion takes no memory, so that nothing has to be taken back.
+            resources.reserve(1)?;
+            add_scalar(sums, &resource)?;
+            resources.insert(at, resource)?;
+        }
+    }
+    Ok(())
+}
+
+impl Bundle {
+    /// Whether the name has a value of another kind.
+    pub fn has_other_kind(&self, label: &Label, value: &Value) -> bool
+        ensures { result ≡ has_other_kind self.now label.now value.now }
+    {
+        has_other_kind(&self.resources, label, value)
+    }
+
+    /// Why the resource cannot be united with the bundle.
+    fn union_refusal(&self, resource: &Resource) -> Option<AlgebraFault>
+        ensures { result ≡ union_refusal self.now resource.now }
+    {
+        if has_other_kind(&self.resources, &resource.label, &resource.value) {
+            return Some(AlgebraFault::Kind);
+        }
+        if is_reserved_elsewhere(&self.resources, resource) {
+            return Some(AlgebraFault::Overlap);
+        }
+        is_too_much(&self.quantities, resource).then_some(AlgebraFault::TooLarge)
+    }
+
+    /// Puts one more resource in: under one name and reservation scalars add and sets unite, shared
+    /// members or not. An `Err` changes nothing.
+    pub fn unite(&mut self, label: Label, role: Role, value: Value) -> Result<(), AlgebraFault>
+        ensures ok { OnOk result (union self.old (record { label = label; role = role; value = value }) ≡ Some self.new) }
+        ensures err { OnErr result (self.new ≡ self.old) }
+        ensures fault { IfErr result (IsJoinFault (union_refusal self.old (record { label = label; role = role; value = value }))) }
+    {
+        let resource = Resource { label, role, value };
+        if let Some(fault) = self.union_refusal(&resource) {
+            return Err(fault);
+        }
+        if resource.value.is_empty() {
+            return Ok(());
+        }
+        // The proof learns of them that they are a label and a role by these calls alone.
+        let _ = resource.label.text();
+        let _ = resource.role.text();
+        Ok(put(&mut self.resources, &mut self.quantities, resource)?)
+    }
+}

@@ -1,21 +1,21 @@
 -- The members of a finite set in ascending order, and the maximal intervals of a set of numbers.
-use Rattle.std.specs.Prelude.{◌≡◌, ℕ, ◌+◌, ◌-◌, ◌<◌, ◌≤◌, ◌==◌, Bool, true, false, ◌&&◌, ◌||◌, T, Option, Some, None, List, [], ◌∷◌, ◌++◌, map, if◌then◌else◌}
+use Rattle.std.specs.Prelude.{◌≡◌, ℕ, ◌+◌, ◌-◌, ◌<◌, ◌≤◌, ◌==◌, Bool, true, false, ◌&&◌, ◌||◌, T, Option, Some, None, is_some, ◌^◌, List, [], ◌∷◌, ◌++◌, map, if◌then◌else◌}
 use Rattle.std.specs.List.{flat_map, range_with_len, list_any, AllByRecursion}
 use Rattle.std.specs.List.Sorted.{IsStrictlySortedBy}
 use Rattle.std.specs.declared.cmp.Ordering.{Ordering}
-use Rattle.std.specs.declared.cmp.Ordering.TheVariants.{Less}
-use Rattle.std.specs.Cmp.{IsTotalOrder, nat_cmp_total}
+use Rattle.std.specs.declared.cmp.Ordering.TheVariants.{Less, Equal, Greater}
+use Rattle.std.specs.Cmp.{IsTotalOrder, tied_itself, ranked, nat_cmp_total}
 use Rattle.std.specs.Cmp.Lexicographic.{nat_list_cmp_total, slice_cmp}
-use Rattle.std.specs.Ordering.{nat_cmp, eq_by_cmp, is_lt}
+use Rattle.std.specs.Ordering.{nat_cmp, eq_by_cmp, is_lt, is_eq}
 use Rattle.std.specs.FinSet as set
 use Rattle.std.specs.FinMap as finite
 use Rattle.std.specs.FinMap.{IsAntisymmetric, nat_cmp-IsAntisymmetric}
 use Rattle.std.specs.FinMap.Entries.{find, below_all, is_sorted}
-use Rattle.std.proofs.Common.{refl, sym, ap, subst, ◌∙◌, zero, suc, arith}
-use Rattle.std.proofs.lemmas.Bool.{and_from, lt-ltb, eq-eqb, ne_eqb}
+use Rattle.std.proofs.Common.{refl, sym, ap, subst, ◌∙◌, zero, suc, inl, inr, arith}
+use Rattle.std.proofs.lemmas.Bool.{or_left, or_right, and_from, and_parts, cases_eq, lt-ltb, eq-eqb, ne_eqb}
 use Rattle.std.proofs.lemmas.List.{append_assoc}
 use Rattle.drf_kinds.specs.declared.interval.Interval.{Interval}
-use Rattle.drf_kinds.specs.Intervals.{numbers, members, AreMaximalFrom, AreMaximal}
+use Rattle.drf_kinds.specs.Intervals.{numbers, members, IsNumberSet, AreMaximalFrom, AreMaximal}
 
 -- the members of a set in ascending order
 unfoldable pub listed : {K : Type 0} {R : K → K → Ordering} → set.FinSet R → List K
@@ -37,6 +37,19 @@ unfoldable pub intervals_of : set.FinSet nat_cmp → List Interval
 intervals_of numbers = runs_of (listed numbers)
 
 -- ---- the set of an ascending list
+
+less_of : (o : Ordering) → is_lt o ≡ true → o ≡ Less
+less_of Less is = refl
+less_of Equal is = cc
+less_of Greater is = cc
+
+true_of : (b : Bool) → T b → b ≡ true
+true_of true is = refl
+true_of false is = absurd is
+
+is_marked : (b : Bool) → is_some (if b then Some (tt {0}) else None) ≡ b
+is_marked true = refl
+is_marked false = refl
 
 module _ {K : Type 0} (R : K → K → Ordering) (total : IsTotalOrder R) (same : IsAntisymmetric R) where
   abbrev paired : List K → List (K × Unit {0})
@@ -85,10 +98,44 @@ module _ {K : Type 0} (R : K → K → Ordering) (total : IsTotalOrder R) (same 
       ∙ sym (finite.get-from_sorted R (paired ks) q sorted ∙ find-paired ks q)) in
       ap finite.keys one ∙ ap (map (λ (e : K × Unit {0}). e.0)) (finite.entries-from_sorted R (paired ks) sorted) ∙ keys-paired ks
 
+  above-keys : (x : K) (es : List (K × Unit {0})) → below_all R x es ≡ true → AllByRecursion (λ y. R x y ≡ Less) (map (λ e. e.0) es)
+  above-keys x [] all = tt
+  above-keys x (e ∷ es) all =
+      let parts = and_parts (is_lt (R x e.0)) (below_all R x es) all in
+      (less_of (R x e.0) parts.0, above-keys x es parts.1)
+
+  ascending-keys : (es : List (K × Unit {0})) → is_sorted R es ≡ true → IsStrictlySortedBy R (map (λ e. e.0) es)
+  unfolding IsStrictlySortedBy
+  ascending-keys [] sorted = tt
+  ascending-keys (e ∷ es) sorted =
+      let parts = and_parts (below_all R e.0 es) (is_sorted R es) sorted in
+      (above-keys e.0 es parts.0, ascending-keys es parts.1)
+
+  -- the members of any set ascend, and the set is that of its members
+  pub ascending-listed : (s : set.FinSet R) → IsStrictlySortedBy R (listed s)
+  unfolding listed
+  ascending-listed s =
+      let made : finite.FinMap R (Unit {0}) = finite.from_entries (paired (set.items s)) in
+      ascending-keys (finite.entries made) (true_of (is_sorted R (finite.entries made)) (finite.entries_sorted made))
+
+  pub from_list-listed : (s : set.FinSet R) → set.from_list (listed s) ≡ s
+  unfolding listed
+  from_list-listed s =
+      let made : finite.FinMap R (Unit {0}) = finite.from_entries (paired (set.items s)) in
+      set.same_set total same (set.from_list (finite.keys made)) s
+      (λ q. set.contains-from_list total (finite.keys made) q
+      ∙ sym (finite.contains_key-keys made q)
+      ∙ ap is_some (finite.get-from_entries total (paired (set.items s)) q ∙ find-paired (set.items s) q)
+      ∙ is_marked (list_any (eq_by_cmp R q) (set.items s))
+      ∙ sym (set.contains-items s q))
+
 -- ---- maximal intervals
 
 abbrev Above : ℕ → List ℕ → Type 0
 Above low ns = AllByRecursion (λ n. low ≤ n) ns
+
+less_than : (a b : ℕ) → nat_cmp a b ≡ Less → a < b
+less_than a b is = ranked a b Less (sym is)
 
 above-less : (a : ℕ) (ns : List ℕ) → Above (a + 1) ns → AllByRecursion (λ n. nat_cmp a n ≡ Less) ns
 above-less a [] all = tt
@@ -113,8 +160,7 @@ ascending-range : (a k : ℕ) (ns : List ℕ) → Above (a + k) ns → IsStrictl
 unfolding IsStrictlySortedBy
 ascending-range a zero ns all ascending = ascending
 ascending-range a (suc k) ns all ascending =
-    let past : Above (a + 1 + k) ns = subst (λ n. Above n ns) (omega arith) all in
-    (
+    let past : Above (a + 1 + k) ns = subst (λ n. Above n ns) (omega arith) all in (
       above-less a (range_with_len (a + 1) k ++ ns)
           (above-range (a + 1) (a + 1) k ns (omega arith) (above-weaker (a + 1 + k) (a + 1) ns (omega arith) past)),
       ascending-range (a + 1) k ns past ascending,
@@ -157,3 +203,76 @@ unfolding intervals_of members
 intervals_of-members is maximal =
     ap runs_of (listed-from_list nat_cmp nat_cmp_total nat_cmp-IsAntisymmetric (flat_map numbers is) (ascending-numbers 0 is maximal))
     ∙ runs-numbers 0 is maximal
+
+-- ---- the intervals of any set
+
+-- numbers below 2^32
+abbrev Below : List ℕ → Type 0
+Below ns = AllByRecursion (λ n. n < 2 ^ 32) ns
+
+-- a number before intervals that begin further on
+maximal-with : (low n : ℕ) (is : List Interval) → low ≤ n → n < 2 ^ 32 → AreMaximalFrom (n + 1) is → AreMaximalFrom low (with_number n is)
+maximal-with low n [] le small maximal = (le, omega arith, small, tt)
+maximal-with low n (i ∷ is) le small maximal = elim (cases_eq i.first (n + 1)) [
+  | inl next ↦ rw (eq-eqb i.first (n + 1) next) (le, omega (arith, next, maximal.1), maximal.2, maximal.3)
+  | inr apart ↦ rw (ne_eqb i.first (n + 1) apart) (le, omega arith, small, (omega (arith, maximal.0, apart), maximal.1, maximal.2, maximal.3))
+]
+
+numbers-with : (n : ℕ) (is : List Interval) → AreMaximalFrom (n + 1) is → flat_map numbers (with_number n is) ≡ n ∷ flat_map numbers is
+numbers-with n [] maximal = rw one refl
+  where
+    one : n + 1 - n ≡ suc zero
+    one = omega arith
+numbers-with n (i ∷ is) maximal = elim (cases_eq i.first (n + 1)) [
+  | inl next ↦
+      let long : i.last + 1 - n ≡ suc (i.last + 1 - i.first) = omega (arith, next, maximal.1) in
+      rw (eq-eqb i.first (n + 1) next)
+      (ap (λ k. range_with_len n k ++ flat_map numbers is) long
+      ∙ ap (λ a. n ∷ range_with_len a (i.last + 1 - i.first) ++ flat_map numbers is) (sym next))
+  | inr apart ↦
+      let one : n + 1 - n ≡ suc zero = omega arith in
+      rw (ne_eqb i.first (n + 1) apart) (ap (λ k. range_with_len n k ++ (numbers i ++ flat_map numbers is)) one)
+]
+
+above-from : (n : ℕ) (ns : List ℕ) → AllByRecursion (λ m. nat_cmp n m ≡ Less) ns → Above (n + 1) ns
+above-from n [] all = tt
+above-from n (m ∷ ns) all = (omega (arith, less_than n m all.0), above-from n ns all.1)
+
+maximal-runs : (low : ℕ) (ns : List ℕ) → IsStrictlySortedBy nat_cmp ns → Above low ns → Below ns → AreMaximalFrom low (runs_of ns)
+unfolding IsStrictlySortedBy
+maximal-runs low [] ascending above below = tt
+maximal-runs low (n ∷ ns) ascending above below =
+    maximal-with low n (runs_of ns) above.0 below.0 (maximal-runs (n + 1) ns ascending.1 (above-from n ns ascending.0) below.1)
+
+numbers-runs : (ns : List ℕ) → IsStrictlySortedBy nat_cmp ns → Below ns → flat_map numbers (runs_of ns) ≡ ns
+unfolding IsStrictlySortedBy
+numbers-runs [] ascending below = refl
+numbers-runs (n ∷ ns) ascending below =
+    numbers-with n (runs_of ns) (maximal-runs (n + 1) ns ascending.1 (above-from n ns ascending.0) below.1)
+    ∙ ap (λ ms. n ∷ ms) (numbers-runs ns ascending.1 below.1)
+
+each_found : (P : ℕ → Type 0) (ns : List ℕ) → ((n : ℕ) → list_any (eq_by_cmp nat_cmp n) ns ≡ true → P n) → AllByRecursion P ns
+each_found P [] found = tt
+each_found P (n ∷ ns) found = (
+  found n (or_left (eq_by_cmp nat_cmp n n) (list_any (eq_by_cmp nat_cmp n) ns) (ap is_eq (tied_itself nat_cmp_total n))),
+  each_found P ns (λ m later. found m (or_right (eq_by_cmp nat_cmp m n) (list_any (eq_by_cmp nat_cmp m) ns) later)),
+)
+
+below-listed : (s : set.FinSet nat_cmp) → IsNumberSet s → Below (listed s)
+below-listed s given =
+    each_found (λ n. n < 2 ^ 32) (listed s)
+    (λ n found. given.each n (ap (λ (t : set.FinSet nat_cmp). set.contains t n) (sym (from_list-listed nat_cmp nat_cmp_total nat_cmp-IsAntisymmetric s))
+    ∙ set.contains-from_list nat_cmp_total (listed s) n ∙ found))
+
+-- they are maximal, and have its numbers
+pub maximal-intervals_of : (s : set.FinSet nat_cmp) → IsNumberSet s → AreMaximal (intervals_of s)
+unfolding intervals_of
+maximal-intervals_of s given =
+    let ascending = ascending-listed nat_cmp nat_cmp_total nat_cmp-IsAntisymmetric s in
+    maximal-runs 0 (listed s) ascending (each_found (λ n. 0 ≤ n) (listed s) (λ n found. omega arith)) (below-listed s given)
+
+pub members-intervals_of : (s : set.FinSet nat_cmp) → IsNumberSet s → members (intervals_of s) ≡ s
+unfolding intervals_of members
+members-intervals_of s given =
+    ap set.from_list (numbers-runs (listed s) (ascending-listed nat_cmp nat_cmp_total nat_cmp-IsAntisymmetric s) (below-listed s given))
+    ∙ from_list-listed nat_cmp nat_cmp_total nat_cmp-IsAntisymmetric s

@@ -13,11 +13,11 @@ use Rattle.drf_bundle.specs.declared.resource.Resource.{Resource}
 use Rattle.drf_text.specs.Blanks.{is_blank, trimmed}
 use Rattle.drf_text.specs.NameTests.{is_label_byte, is_label, is_role}
 use Rattle.drf_text.specs.Pieces.{ends, is_reserved, head_of, body_of, name_of, role_text_of, role_of, value_of, has_bad_role, fault_of, resource_of}
-use Rattle.drf_text.specs.Written.{head_text, IsResourceText}
+use Rattle.drf_text.specs.Written.{head_text, value_text, resource_text}
 use Rattle.drf_text.proofs.CutLemmas.{HasNone, is_between, not_between, no_blanks, IsPart, trimmed_stays, before_at, after_at, any_at_mark, take_all_but_last, ends_closed}
 use Rattle.drf_text.proofs.PieceLemmas.{label_test, label_has_none, label_without, head_found, body_found, name_alone, not_reserved, label_head, IsRightHead, right_piece}
 use Rattle.drf_text.proofs.RoleText.{component_no_colon, component_no_blank, component_not_between, role_test, role_has_none, reserved_path}
-use Rattle.drf_text.proofs.ValueText.{IsTextOf, value_text}
+use Rattle.drf_text.proofs.ValueText.{IsTextOf, value_found}
 
 -- the text is a head without a fault, and says the name and the role
 record IsHeadOf (r : Resource) (head : Text) : Type 0 where
@@ -133,6 +133,5 @@ head_and_value r head value is_head is_value = record {
     said : value_of (body_of (head ++ 58 ∷ value)) ≡ r.value
     said = ap value_of (body_found head value is_head.no_colon no_blank_too) ∙ is_value.says
 
-pub resource_text : (r : Resource) (text : Text) → IsResource r → IsResourceText r text → IsPieceOf r text
-resource_text r text resource is =
-    subst (IsPieceOf r) (sym is.written) (head_and_value r (head_text r) is.value (head_is r resource) (value_text r.value is.value resource.value is.is_value))
+pub resource_found : (r : Resource) → IsResource r → IsPieceOf r (resource_text r)
+resource_found r resource = head_and_value r (head_text r) (value_text r.value) (head_is r resource) (value_found r.value resource.value)

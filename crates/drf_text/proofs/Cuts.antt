@@ -1,18 +1,16 @@
 -- Heads and bodies cut at their marks.
-use Rattle.std.proofs.Common.{◌≡◌, ◌≢◌, ℕ, suc, ◌+◌, ◌-◌, ◌<◌, Bool, true, false, cond, eqb, ltb, List, [], ◌∷◌, ◌++◌, ◌&&◌, length, take, drop, get_or, Option, Some, None, Result, Ok, Err, refl, sym, ap, subst, ◌∙◌, arith, sub-one, length-append}
+use Rattle.std.proofs.Common.{◌≡◌, ◌≢◌, ℕ, suc, ◌+◌, ◌-◌, ◌<◌, Bool, true, false, cond, eqb, ltb, List, [], ◌∷◌, ◌++◌, ◌&&◌, length, take, get_or, Option, Some, None, Result, Ok, Err, refl, sym, ap, ◌∙◌, arith, sub-one, length-append}
 use Rattle.std.proofs.Math.Seq.{take-append_seam}
 use Rattle.std.proofs.lemmas.Bool.{lt-ltb, eq-eqb, ne_eqb, eqb-true}
-use Rattle.std.proofs.lemmas.List.{get_or_push}
 use Rattle.std.proofs.lemmas.List.Sums.{split_at_first}
 use Rattle.std.specs.Prelude.{not}
 use Rattle.std.specs.List.{list_all, list_any, position_or_len, before_first, after_first}
 use Rattle.drf_role.specs.Text.{Text}
 use Rattle.drf_text.specs.Blanks.{trimmed}
-use Rattle.drf_text.specs.Pieces.{begins, ends, inside, parts_between, has_one_dash, is_reserved, name_of, role_text_of, is_head, is_body}
-use Rattle.drf_text.specs.Steps.{plain_head_in, head_in, kind_of, content_of, body_in}
+use Rattle.drf_text.specs.Pieces.{begins, ends, inside, parts_between, has_one_dash, role_text_of}
+use Rattle.drf_text.specs.Steps.{plain_head_in, head_in, body_in}
 use Rattle.drf_text.specs.declared.fault.TextFault.{TextFault}
 use Rattle.drf_text.specs.declared.fault.TextFault.TheVariants.{Syntax}
-use Rattle.drf_text.specs.declared.piece.Kind.{Kind}
 use Rattle.drf_text.specs.declared.piece.Kind.TheVariants.{Scalar, Ranges, Items}
 use Rattle.drf_text.proofs.Numbers.{any_at, all_before}
 

@@ -110,8 +110,8 @@ pub fn read_quantities(alloc: Global, text: &str) -> Result<Quantities, TextFaul
     ensures { IsMeaning result (quantities_meant text.now) }
 {
     let mut quantities = Quantities::empty(alloc);
-    for piece in text.split(';') {
-        count_piece(alloc, &mut quantities, piece)?;
+    for entry in text.split(';') {
+        count_piece(alloc, &mut quantities, entry)?;
     }
     Ok(quantities)
 }

@@ -8,23 +8,20 @@ use drf_sorter::PlainSorter;
 use std::alloc::Global;
 use std::rt::Runtime;
 
-fn new_agent(alloc: Global) -> Result<Event>
-{
+fn new_agent(alloc: Global) -> Result<Event> {
     let agent = Name::read(alloc, "n1")?;
     let total = ScalarBundle::empty(alloc);
     Ok(Event::AddAgent { agent, total })
 }
 
-fn new_framework(alloc: Global) -> Result<Event>
-{
+fn new_framework(alloc: Global) -> Result<Event> {
     let framework = Name::read(alloc, "f1")?;
     let role = Role::default_role(alloc)?;
     let roles = Table::from_vec(vec![in alloc; role]?);
     Ok(Event::AddFramework { framework, roles })
 }
 
-fn run_one(alloc: Global, core: &mut Core<PlainSorter>, event: Event) -> Result<()>
-{
+fn run_one(alloc: Global, core: &mut Core<PlainSorter>, event: Event) -> Result<()> {
     let mut replies = Vec::new(alloc);
     Ok(core.run(&[event], &mut replies)?)
 }

@@ -19,6 +19,7 @@ pub mod LiveLaws
 pub mod CycleLaws
 pub mod ConsistentLaws
 pub mod RegistrationLaws
+pub mod WeightLaws
 pub mod Examples
 pub mod OrderExamples
 pub mod WeightExamples

@@ -9,8 +9,8 @@ use Rattle.drf_rows.specs.declared.event.Event.{Event}
 use Rattle.drf_lines.specs.declared.fault.LineFault.{LineFault}
 use Rattle.drf_lines.specs.Meaning.{meaning_of}
 use Rattle.drf_journal.specs.Output.{events_among, echo_of, next_told, replies_left, told, text_of}
-use Rattle.drf_journal.specs.State.{reply_line_of, machine_after, answer_to}
-use Rattle.drf_journal.proofs.Pieces.{machine_after_lines, answers_from}
+use Rattle.drf_journal.specs.State.{reply_line_of, machine_after, machine_after_lines, answer_to}
+use Rattle.drf_journal.proofs.Pieces.{answers_from}
 
 told-lines : (echo : Bool) (machine : Machine) (lines : List (List ℕ))
     → told echo lines (replies_to machine.limits machine.rows (events_among (map meaning_of lines))) ≡ answers_from echo machine lines

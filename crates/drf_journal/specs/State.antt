@@ -11,7 +11,7 @@ use Rattle.drf_journal.specs.Lines.{is_line_feed}
 use Rattle.drf_journal.specs.Output.{kept_of, echo_of}
 
 -- the allocator, whether lines are told too, what is kept of the line at hand, the text that is not written yet, and how
--- many lines there were
+-- many lines were answered
 pub record State : Type 0 where
   pub machine : Machine
   pub echo : Bool
@@ -23,6 +23,9 @@ pub record State : Type 0 where
 abbrev pub begun : LimitNumbers → Bool → State
 begun limits echo = record { machine = opened limits; echo = echo; pending = []; unsent = []; lines = 0 }
 
+abbrev pub IsBegun : State → Type 0
+IsBegun state = state ≡ begun state.machine.limits state.echo
+
 -- the reply line of a line
 abbrev pub reply_line_of : Machine → Result Event LineFault → List ℕ
 reply_line_of machine (Ok event) = reply_line (reply_to machine.limits machine.rows event)
@@ -32,6 +35,11 @@ reply_line_of machine (Err fault) = fault_line fault
 abbrev pub machine_after : Machine → Result Event LineFault → Machine
 machine_after machine (Ok event) = after machine event
 machine_after machine (Err fault) = machine
+
+-- the allocator after some lines
+abbrev pub machine_after_lines : Machine → List (List ℕ) → Machine
+machine_after_lines machine [] = machine
+machine_after_lines machine (line ∷ lines) = machine_after_lines (machine_after machine (meaning_of line)) lines
 
 -- the text for a line
 abbrev pub answer_to : Bool → Machine → List ℕ → List ℕ
@@ -71,6 +79,7 @@ HasTakenAtMost old line new = (new ≡ old) ⊎ (new ≡ machine_after old (mean
 pub record AnswersFrontOf (old : State) (piece : List ℕ) (new : State) : Type 0 where
   pub answered : ℕ
   pub unsent : new.unsent ≡ (after_piece old (take answered piece)).unsent
+  pub lines : new.lines ≡ (after_piece old (take answered piece)).lines
   pub taken : ℕ
   pub machine : new.machine ≡ (after_piece old (take taken piece)).machine
   pub ahead :

@@ -164,7 +164,7 @@ impl<S: Sorter> Session<S> {
         requires within { IsWithinLine end.now }
         requires few { self.old.lines + 1 < 2 ^ 64 }
         ensures ok { OnOk result (self.new ≡ after_piece self.old (end.now ++ 10 ∷ [])) }
-        ensures err { OnErr result (self.new.unsent ≡ self.old.unsent) }
+        ensures err { OnErr result ((self.new.unsent ≡ self.old.unsent) × (self.new.lines ≡ self.old.lines)) }
         ensures taken { HasTakenAtMost self.old.machine (self.old.pending ++ end.now) self.new.machine }
     {
         let told = answer_end(alloc, &mut self.core, self.echo, &mut self.pending, end)?;
@@ -195,7 +195,7 @@ impl<S: Sorter> Session<S> {
     pub fn close(&mut self, alloc: Global) -> Result<(), AllocError>
         requires { self.old.lines + 1 < 2 ^ 64 }
         ensures ok { OnOk result (self.new ≡ at_end self.old) }
-        ensures err { OnErr result (self.new.unsent ≡ self.old.unsent) }
+        ensures err { OnErr result ((self.new.unsent ≡ self.old.unsent) × (self.new.lines ≡ self.old.lines)) }
         ensures taken { (self.new.machine ≡ self.old.machine) ⊎ (self.new.machine ≡ (at_end self.old).machine) }
     {
         if self.pending.is_empty() {
@@ -207,6 +207,7 @@ impl<S: Sorter> Session<S> {
     /// Writes the text that is not written yet, all in one. Where that fails, its front was written.
     pub fn send<W: Write>(&mut self, writer: &mut Device<W>) -> Result<(), RunFault>
         ensures ok { OnOk result (self.new ≡ record self.old { unsent = [] }) }
+        ensures kept { OnErr result (self.new ≡ self.old) }
         ensures sent { OnOk result (Appends (W.contents writer.old.inner) (W.contents writer.new.inner) self.old.unsent) }
         ensures err { OnErr result (AppendsFrontOf (W.contents writer.old.inner) (W.contents writer.new.inner) self.old.unsent) }
         ensures fault { IfErr result (λ fault. fault ≡ RunFault.Write) }

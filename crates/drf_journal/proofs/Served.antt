@@ -1,11 +1,12 @@
 -- What was read and written so far, and how a run ends.
 use Rattle.std.proofs.Common.{◌≡◌, ℕ, ◌+◌, ◌-◌, ◌≤◌, Bool, true, false, List, [], ◌∷◌, ◌++◌, length, take, drop, Option, Ok, Err, ◌⊎◌, ⊎_elim, inl, inr, refl, sym, ap, ◌∙◌, subst, append_assoc, append-nil, take-append-drop, if◌then◌else◌, ◌==◌, arith}
 use Rattle.std.proofs.Math.Seq.{take-append_seam}
+use Rattle.std.specs.Io.{StartsWith}
 use Rattle.std.specs.Io.KnownBytes.{Appends, Consumes, Keeps, IsAtEnd}
 use Rattle.std.proofs.KnownBytes.{Appends-nil, Appends-trans, Consumes-nil, Consumes-trans, Consumes-kept}
 use Rattle.std.proofs.lemmas.Bool.{ne_eqb}
 use Rattle.std.proofs.lemmas.List.{length-append, take_all, take-append-le}
-use Rattle.drf_core.specs.Machine.{Machine}
+use Rattle.drf_core.specs.Machine.{Machine, opened}
 use Rattle.drf_rows.specs.LimitNumbers.{LimitNumbers}
 use Rattle.drf_lines.specs.Meaning.{meaning_of}
 use Rattle.drf_journal.specs.declared.fault.RunFault.TheVariants.{Read, Write, Memory}
@@ -17,7 +18,7 @@ use Rattle.drf_journal.specs.Ended.{HaveEnded, HasRun, HasTaken, HasServed}
 use Rattle.drf_journal.proofs.Cuts.{within-nil, ended-within, goes_on}
 use Rattle.drf_journal.proofs.Kept.{answer-kept, meaning-kept}
 use Rattle.drf_journal.proofs.Pieces.{answers_from, after_lines, after_piece-lines, piece-append, piece-nil, piece-sent, end-none, end-line, end-sent, end-counted, end-machine}
-use Rattle.drf_journal.proofs.Texts.{text-lines, answers-append}
+use Rattle.drf_journal.proofs.Texts.{text-lines, text-append, answers-append}
 
 -- ---- the end of the input, where these lines had ended, and this much has come of the next
 
@@ -112,16 +113,11 @@ front_of told more count text e =
     ∙ sym (append_assoc told (take count more) (drop count more)) in
     (length front, sym (ap (take (length front)) whole ∙ take-append_seam front (drop count more)))
 
--- the bytes before the last read are of what was read before
-earlier_first : (before piece : List ℕ) → length piece ≤ 65536
-    → length (ended_lines_of (take (length (before ++ piece) - 65536) (before ++ piece))) ≤ length (ended_lines_of before)
-earlier_first before piece short =
-    let count = length (before ++ piece) - 65536 in
-    let few : count ≤ length before = let sum = length-append before piece in omega arith in
-    let same : take count (before ++ piece) ≡ take count before = take-append-le count before piece few in
-    let fewer = ended_few (take count before) (drop count before) before (sym (take-append-drop count before)) in
-    let counted = ap (λ l. length (ended_lines_of l)) same in
-    omega arith
+-- what was read before the last 65,536 bytes was read before the last piece
+early_count : (before piece : List ℕ) → length piece ≤ 65536
+    → take (length (before ++ piece) - 65536) (before ++ piece) ≡ take (length (before ++ piece) - 65536) before
+early_count before piece short =
+    take-append-le _ before piece (let sum = length-append before piece in omega arith)
 
 -- the line at hand may be past the last
 take_past : {A : Type 0} (front : List A) (last : Bool) (x : A)
@@ -150,6 +146,15 @@ module _ (old : State) (begins : IsBegun old) where
   text_from lines =
       ap (λ (s : State). s.unsent ++ answers_from old.echo s.machine lines) begins
       ∙ sym (text-lines old.machine.limits old.echo lines)
+
+  -- the text for the lines of a front comes first
+  text_rest : (front more read : List ℕ) → read ≡ front ++ more
+      → (rest : List ℕ) × (text (ended_lines_of read) ≡ text (ended_lines_of front) ++ rest)
+  text_rest front more read whole = (
+    answers_from old.echo (machine_after_lines (opened old.machine.limits) (ended_lines_of front)) (others front more read whole),
+    ap text (parted front more read whole)
+        ∙ text-append old.machine.limits old.echo (ended_lines_of front) (others front more read whole),
+  )
 
   number_from : (number : ℕ) → old.lines + number ≡ number
   number_from number = let none = ap (λ (s : State). s.lines) begins in omega arith
@@ -211,10 +216,20 @@ module _ (old : State) (begins : IsBegun old) where
     all_ended : (unread_after : Option (List ℕ)) → HaveEnded (length (ended_lines_of serving.read)) serving.read unread_after
     all_ended unread_after = inl (omega arith)
 
-    earlier_so_far : length (ended_lines_of (take (length serving.read - 65536) serving.read))
-        ≤ length (ended_lines_of serving.read)
-    earlier_so_far =
-        ended_few _ (drop (length serving.read - 65536) serving.read) serving.read (sym (take-append-drop _ serving.read))
+    -- the text for the lines of a front of what was read stands at the front of what was written
+    prompt_so_far : (count : ℕ) (more : List ℕ)
+        → StartsWith (serving.told ++ more) (text (ended_lines_of (take count serving.read)))
+    prompt_so_far count more =
+        let first = text (ended_lines_of (take count serving.read)) in
+        let rest = text_rest (take count serving.read) (drop count serving.read) serving.read
+        (sym (take-append-drop count serving.read)) in
+        ap (take (length first)) (ap (λ l. l ++ more) (told_so_far ∙ rest.1) ∙ append_assoc first rest.0 more)
+        ∙ take-append_seam first (rest.0 ++ more)
+
+    prompt_untold : (count : ℕ) → StartsWith serving.told (text (ended_lines_of (take count serving.read)))
+    prompt_untold count = subst
+        (λ written. StartsWith written (text (ended_lines_of (take count serving.read))))
+        (append-nil serving.told) (prompt_so_far count [])
 
     taken_so_far : (next : State) (unread_after : Option (List ℕ)) → next.machine ≡ session.machine
         → HasTaken old.machine next.machine (length (ended_lines_of serving.read)) serving.read unread_after
@@ -260,10 +275,10 @@ module _ (old : State) (begins : IsBegun old) where
         written = serving.told;
         consumed = Consumes-kept _ _ _ _ serving.consumed kept;
         appended = serving.appended;
-        number = length (ended_lines_of serving.read);
+        lines = length (ended_lines_of serving.read);
         answered = (told_so_far, refl);
         ended = all_ended unread_next;
-        earlier = earlier_so_far;
+        prompt = prompt_untold _;
       };
       counted = number_so_far;
       taken = taken_so_far session unread_next refl;
@@ -287,15 +302,6 @@ module _ (old : State) (begins : IsBegun old) where
       machine_at_end : (at_end session).machine ≡ machine_after_lines old.machine (lines_of serving.read)
       machine_at_end = end-machine session serving.told ∙ ap (λ (s : State). (at_end s).machine) serving.state
           ∙ machine_whole serving.read
-
-      earlier_at_end : length (ended_lines_of (take (length serving.read - 65536) serving.read))
-          ≤ length (lines_of serving.read)
-      unfolding lines_of
-      earlier_at_end =
-          let most = earlier_so_far in
-          let more = length-append (ended_lines_of serving.read)
-          (if length (open_line_of serving.read) == 0 then [] else open_line_of serving.read ∷ []) in
-          omega arith
 
       taken_at_end : (next : State) → IsAtEnd unread_next → next.machine ≡ (at_end session).machine
           → HasTaken old.machine next.machine (length (lines_of serving.read)) serving.read unread_next
@@ -327,13 +333,13 @@ module _ (old : State) (begins : IsBegun old) where
           written = serving.told;
           consumed = consumed_all;
           appended = serving.appended;
-          number = length (ended_lines_of serving.read);
+          lines = length (ended_lines_of serving.read);
           answered = (
             told_so_far ∙ ap text (sym (ended_first serving.read [] serving.read whole_so_far)),
             omega arith,
           );
           ended = all_ended unread_next;
-          earlier = earlier_so_far;
+          prompt = prompt_untold _;
         };
         counted = counted ∙ number_so_far;
         taken = ⊎_elim (taken_so_far next unread_next) (taken_last next end) machine;
@@ -351,10 +357,10 @@ module _ (old : State) (begins : IsBegun old) where
               written = serving.told ++ take sent.0 (at_end session).unsent;
               consumed = consumed_all;
               appended = Appends-trans _ _ _ _ _ serving.appended sent.1;
-              number = length (lines_of serving.read);
+              lines = length (lines_of serving.read);
               answered = front_of serving.told (at_end session).unsent sent.0 _ (told_at_end ∙ ap text (sym all));
               ended = inr end;
-              earlier = earlier_at_end;
+              prompt = prompt_so_far _ _;
             };
             counted = ap (λ (s : State). s.lines) is ∙ number_at_end;
             taken = taken_at_end next end (ap (λ (s : State). s.machine) is);
@@ -371,10 +377,10 @@ module _ (old : State) (begins : IsBegun old) where
               written = serving.told ++ (at_end session).unsent;
               consumed = consumed_all;
               appended = Appends-trans _ _ _ _ _ serving.appended sent;
-              number = length (lines_of serving.read);
+              lines = length (lines_of serving.read);
               answered = (told_at_end, refl, told ∙ counted);
               ended = inr end;
-              earlier = earlier_at_end;
+              prompt = prompt_so_far _ _;
             };
             counted = counted;
             taken = taken_at_end next end (ap (λ (s : State). s.machine) is);
@@ -407,12 +413,10 @@ module _ (old : State) (begins : IsBegun old) where
           ∙ ap (λ (s : State). s.unsent) (state_next (take answers.answered piece))
           ∙ text_ended (front answers.answered)
 
-      earlier_now : length (ended_lines_of (take (length read_now - 65536) read_now))
-          ≤ length (ended_lines_of (front answers.answered))
-      earlier_now =
-          let before = earlier_first serving.read piece short in
-          let more = ended_few serving.read (take answers.answered piece) (front answers.answered) refl in
-          omega arith
+      prompt_now : (more : List ℕ)
+          → StartsWith (serving.told ++ more) (text (ended_lines_of (take (length read_now - 65536) read_now)))
+      prompt_now more = subst (λ front. StartsWith (serving.told ++ more) (text (ended_lines_of front)))
+          (sym (early_count serving.read piece short)) (prompt_so_far _ more)
 
       taken_now : (next : State) → next.machine ≡ now.machine → HasTaken old.machine next.machine
           (length (ended_lines_of (front answers.answered))) read_now unread_next
@@ -439,7 +443,7 @@ module _ (old : State) (begins : IsBegun old) where
           written = serving.told ++ now.unsent;
           consumed = Consumes-trans _ _ _ _ _ serving.consumed consumed;
           appended = Appends-trans _ _ _ _ _ serving.appended sent;
-          number = length (ended_lines_of (front answers.answered));
+          lines = length (ended_lines_of (front answers.answered));
           answered = (
             told_now
                 ∙ ap text (sym (ended_first (front answers.answered) (drop answers.answered piece) read_now
@@ -447,7 +451,7 @@ module _ (old : State) (begins : IsBegun old) where
             few answers.answered,
           );
           ended = inl (few answers.answered);
-          earlier = earlier_now;
+          prompt = prompt_now _;
         };
         counted = ap (λ (s : State). s.lines) is ∙ answers.lines ∙ number_at answers.answered;
         taken = taken_now next (ap (λ (s : State). s.machine) is);
@@ -461,12 +465,12 @@ module _ (old : State) (begins : IsBegun old) where
           written = serving.told ++ take sent.0 now.unsent;
           consumed = Consumes-trans _ _ _ _ _ serving.consumed consumed;
           appended = Appends-trans _ _ _ _ _ serving.appended sent.1;
-          number = length (ended_lines_of (front answers.answered));
+          lines = length (ended_lines_of (front answers.answered));
           answered = front_of serving.told now.unsent sent.0 _
               (told_now ∙ ap text (sym (lines_first (front answers.answered) (drop answers.answered piece) read_now
               (whole answers.answered))));
           ended = inl (few answers.answered);
-          earlier = earlier_now;
+          prompt = prompt_now _;
         };
         counted = ap (λ (s : State). s.lines) is ∙ answers.lines ∙ number_at answers.answered;
         taken = taken_now next (ap (λ (s : State). s.machine) is);
@@ -476,18 +480,18 @@ module _ (old : State) (begins : IsBegun old) where
 
   pub never-served : (unread written : Option (List ℕ)) → HasServed old unread unread written written old (Err Memory)
   never-served unread written =
-      let serving = serving-begins unread written in
-      let none : ended_lines_of [] ≡ [] = ended-within [] within-nil in
+      let none : text (ended_lines_of []) ≡ [] =
+      ap text (ended-within [] within-nil) ∙ text-lines old.machine.limits old.echo [] in
       record {
         run = record {
           read = [];
           written = [];
           consumed = Consumes-nil unread;
           appended = Appends-nil written;
-          number = 0;
+          lines = 0;
           answered = (sym (text-lines old.machine.limits old.echo []), omega arith);
           ended = inl (omega arith);
-          earlier = let few = ap (λ (ls : List (List ℕ)). length ls) none in omega arith;
+          prompt = ap (λ (t : List ℕ). take (length t) []) none ∙ sym none;
         };
         counted = ap (λ (s : State). s.lines) begins;
         taken = record { taken = 0; machine = refl; ahead = inl refl; ended = inl (omega arith) };

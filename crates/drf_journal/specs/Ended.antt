@@ -1,5 +1,6 @@
 -- How a run ends: what it read and wrote, how its session stands, and which device failed.
 use Rattle.std.specs.Prelude.{◌≡◌, ℕ, ◌+◌, ◌-◌, ◌^◌, ◌≤◌, Bool, true, false, List, length, take, Option, Result, Ok, Err, ◌⊎◌}
+use Rattle.std.specs.Io.{StartsWith}
 use Rattle.std.specs.Io.KnownBytes.{Appends, Consumes, IsAtEnd}
 use Rattle.drf_core.specs.Machine.{Machine}
 use Rattle.drf_rows.specs.LimitNumbers.{LimitNumbers}
@@ -26,8 +27,8 @@ IsAnswered limits echo (Err Memory) answered read written =
 abbrev pub HaveEnded : ℕ → List ℕ → Option (List ℕ) → Type 0
 HaveEnded number read unread_after = (number ≤ length (ended_lines_of read)) ⊎ IsAtEnd unread_after
 
--- a run from the rows of an opening took bytes from a reader and gave bytes to a writer; a line that had ended and was not
--- answered came with the last read
+-- a run from the rows of an opening took bytes from a reader and gave bytes to a writer. Of the lines that had ended
+-- before the last 65,536 bytes the whole text was written, however the run ended.
 pub record HasRun (limits : LimitNumbers) (echo : Bool)
     (unread_before unread_after written_before written_after : Option (List ℕ))
     (result : Result ℕ RunFault) : Type 0 where
@@ -35,10 +36,10 @@ pub record HasRun (limits : LimitNumbers) (echo : Bool)
   pub written : List ℕ
   pub consumed : Consumes unread_before unread_after read
   pub appended : Appends written_before written_after written
-  pub number : ℕ
-  pub answered : IsAnswered limits echo result number read written
-  pub ended : HaveEnded number read unread_after
-  pub earlier : length (ended_lines_of (take (length read - 65536) read)) ≤ number
+  pub lines : ℕ
+  pub answered : IsAnswered limits echo result lines read written
+  pub ended : HaveEnded lines read unread_after
+  pub prompt : StartsWith written (text_of limits echo (ended_lines_of (take (length read - 65536) read)))
 
 -- the allocator has taken the lines that were answered, or one more
 pub record HasTaken (old new : Machine) (answered : ℕ) (read : List ℕ) (unread_after : Option (List ℕ)) : Type 0 where
@@ -52,8 +53,8 @@ pub record HasServed (old : State)
     (unread_before unread_after written_before written_after : Option (List ℕ))
     (new : State) (result : Result ℕ RunFault) : Type 0 where
   pub run : HasRun old.machine.limits old.echo unread_before unread_after written_before written_after result
-  pub counted : new.lines ≡ run.number
-  pub taken : HasTaken old.machine new.machine run.number run.read unread_after
+  pub counted : new.lines ≡ run.lines
+  pub taken : HasTaken old.machine new.machine run.lines run.read unread_after
 
 -- a read fault comes where the reader failed, or was asked 2^40 times; a write fault where the writer failed; and
 -- otherwise neither has

@@ -9,12 +9,13 @@ use Rattle.std.proofs.lemmas.List.{length-append, take_all, take-append-le}
 use Rattle.drf_core.specs.Machine.{Machine, opened}
 use Rattle.drf_rows.specs.LimitNumbers.{LimitNumbers}
 use Rattle.drf_lines.specs.Meaning.{meaning_of}
+use Rattle.drf_journal.specs.declared.fault.RunFault.{RunFault}
 use Rattle.drf_journal.specs.declared.fault.RunFault.TheVariants.{Read, Write, Memory}
 use Rattle.drf_journal.specs.Device.{AppendsFrontOf}
 use Rattle.drf_journal.specs.Lines.{ended_lines_of, open_line_of, lines_of}
 use Rattle.drf_journal.specs.Output.{text_of}
 use Rattle.drf_journal.specs.State.{State, begun, IsBegun, machine_after, machine_after_lines, after_line, after_piece, at_end, AnswersFrontOf}
-use Rattle.drf_journal.specs.Ended.{HaveEnded, HasRun, HasTaken, HasServed}
+use Rattle.drf_journal.specs.Ended.{HaveEnded, HasRun, HasTaken, HasServed, HasStopped, HasCause}
 use Rattle.drf_journal.proofs.Cuts.{within-nil, ended-within, goes_on}
 use Rattle.drf_journal.proofs.Kept.{answer-kept, meaning-kept}
 use Rattle.drf_journal.proofs.Pieces.{answers_from, after_lines, after_piece-lines, piece-append, piece-nil, piece-sent, end-none, end-line, end-sent, end-counted, end-machine}
@@ -501,3 +502,39 @@ module _ (old : State) (begins : IsBegun old) where
 pub never-run : (limits : LimitNumbers) (echo : Bool) (unread written : Option (List ℕ))
     → HasRun limits echo unread unread written written (Err Memory)
 never-run limits echo unread written = (never-served (begun limits echo) refl unread written).run
+
+-- ---- within a piece
+
+pub stopped_write : (old now new : State) (piece : List ℕ) (written written_next : Option (List ℕ)) → AnswersFrontOf old piece now
+    → new ≡ now → AppendsFrontOf written written_next now.unsent → HasStopped Write old piece new written written_next
+unfolding HasStopped
+stopped_write old now new piece written written_next answers same sent = (
+  subst (AnswersFrontOf old piece) (sym same) answers,
+  subst (λ (s : State). AppendsFrontOf written written_next s.unsent) (sym same) sent,
+)
+
+pub stopped_memory : (old now new : State) (piece : List ℕ) (written written_next : Option (List ℕ)) → AnswersFrontOf old piece now
+    → new ≡ record now { unsent = [] } → Appends written written_next now.unsent
+    → HasStopped Memory old piece new written written_next
+unfolding HasStopped
+stopped_memory old now new piece written written_next answers is sent = (now, answers, is, sent)
+
+pub run-stops : (old : State) (begins : IsBegun old)
+    (unread_first unread unread_next written_first written written_next : Option (List ℕ)) (session : State)
+    (serving : IsServing old unread_first unread written_first written session) (fault : RunFault) (piece : List ℕ) (next : State)
+    → length piece ≤ 65536 → Consumes unread unread_next piece
+    → HasStopped fault session piece next written written_next
+    → HasServed old unread_first unread_next written_first written_next next (Err fault)
+unfolding HasStopped
+run-stops old begins _ _ _ _ _ _ session serving Read piece next short consumed stopped = absurd stopped
+run-stops old begins _ _ _ _ _ _ session serving Write piece next short consumed stopped =
+    run-fails old begins _ _ _ _ _ _ session serving piece next short consumed stopped.0 next refl stopped.1
+run-stops old begins _ _ _ _ _ _ session serving Memory piece next short consumed stopped =
+    run-forgets old begins _ _ _ _ _ _ session serving piece stopped.0 short consumed stopped.1 next stopped.2 stopped.3
+
+-- a fault within a piece is none of the reader
+pub cause-stopped : (fault : RunFault) (reader_failed : Bool) (reads : ℕ) (writer_failed : Bool) → reader_failed ≡ false
+    → HasCause {T = Unit {0}} (Err fault) false 0 writer_failed → HasCause {T = ℕ} (Err fault) reader_failed reads writer_failed
+cause-stopped Read reader_failed reads writer_failed sound cause = absurd (⊎_elim (λ e. cc) (λ e. omega arith) cause.0)
+cause-stopped Write reader_failed reads writer_failed sound cause = (sound, cause.1)
+cause-stopped Memory reader_failed reads writer_failed sound cause = (sound, cause.1)

@@ -1,14 +1,15 @@
 -- How a run ends: what it read and wrote, how its session stands, and which device failed.
-use Rattle.std.specs.Prelude.{◌≡◌, ℕ, ◌+◌, ◌-◌, ◌^◌, ◌≤◌, Bool, true, false, List, length, take, Option, Result, Ok, Err, ◌⊎◌}
+use Rattle.std.specs.Prelude.{◌≡◌, ℕ, ◌+◌, ◌-◌, ◌^◌, ◌≤◌, Bool, true, false, List, length, take, Option, Result, Ok, Err, ◌⊎◌, []}
 use Rattle.std.specs.Io.{StartsWith}
 use Rattle.std.specs.Io.KnownBytes.{Appends, Consumes, IsAtEnd}
 use Rattle.drf_core.specs.Machine.{Machine}
 use Rattle.drf_rows.specs.LimitNumbers.{LimitNumbers}
 use Rattle.drf_journal.specs.declared.fault.RunFault.{RunFault}
 use Rattle.drf_journal.specs.declared.fault.RunFault.TheVariants.{Read, Write, Memory}
+use Rattle.drf_journal.specs.Device.{AppendsFrontOf}
 use Rattle.drf_journal.specs.Lines.{lines_of, ended_lines_of}
 use Rattle.drf_journal.specs.Output.{text_of}
-use Rattle.drf_journal.specs.State.{State, machine_after_lines}
+use Rattle.drf_journal.specs.State.{State, machine_after_lines, AnswersFrontOf}
 
 -- What was written for what was read, where the first `answered` lines were answered. At `Ok` these are all lines, and
 -- their number is told; after a failed read all that had ended; where memory ran out those before the one at hand, all of
@@ -41,6 +42,16 @@ pub record HasRun (limits : LimitNumbers) (echo : Bool)
   pub ended : HaveEnded lines read unread_after
   pub prompt : StartsWith written (text_of limits echo (ended_lines_of (take (length read - 65536) read)))
 
+-- Within a piece of the input a session has stopped. Where memory ran out, the text of all that it had answered of the
+-- piece was written; after a failed write a front of that.
+unfoldable pub HasStopped : RunFault → State → List ℕ → State → Option (List ℕ) → Option (List ℕ) → Type 0
+HasStopped Read old piece new written_before written_after = ⊥
+HasStopped Write old piece new written_before written_after =
+    AnswersFrontOf old piece new × AppendsFrontOf written_before written_after new.unsent
+HasStopped Memory old piece new written_before written_after =
+    (answered : State) × AnswersFrontOf old piece answered × (new ≡ record answered { unsent = [] })
+    × Appends written_before written_after answered.unsent
+
 -- the allocator has taken the lines that were answered, or one more
 pub record HasTaken (old new : Machine) (answered : ℕ) (read : List ℕ) (unread_after : Option (List ℕ)) : Type 0 where
   pub taken : ℕ
@@ -58,8 +69,8 @@ pub record HasServed (old : State)
 
 -- a read fault comes where the reader failed, or was asked 2^40 times; a write fault where the writer failed; and
 -- otherwise neither has
-abbrev pub HasCause : Result ℕ RunFault → Bool → ℕ → Bool → Type 0
-HasCause (Ok lines) reader_failed reads writer_failed = (reader_failed ≡ false) × (writer_failed ≡ false)
+abbrev pub HasCause : {T : Type 0} → Result T RunFault → Bool → ℕ → Bool → Type 0
+HasCause (Ok told) reader_failed reads writer_failed = (reader_failed ≡ false) × (writer_failed ≡ false)
 HasCause (Err Read) reader_failed reads writer_failed =
     ((reader_failed ≡ true) ⊎ (reads ≡ 2 ^ 40)) × (writer_failed ≡ false)
 HasCause (Err Write) reader_failed reads writer_failed = (reader_failed ≡ false) × (writer_failed ≡ true)

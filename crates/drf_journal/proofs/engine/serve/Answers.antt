@@ -4,7 +4,7 @@ use Rattle.std.proofs.lemmas.List.{length-take-le}
 use Rattle.std.proofs.KnownBytes.{Keeps-refl}
 use Rattle.drf_journal.specs.State.{State}
 use Rattle.drf_journal.proofs.Pieces.{few_lines}
-use Rattle.drf_journal.proofs.Served.{serving-begins, never-served, serving-takes, run-unread, run-forgotten, run-unwritten, run-ends, run-forgets, run-fails}
+use Rattle.drf_journal.proofs.Served.{serving-begins, never-served, serving-takes, run-unread, run-forgotten, run-unwritten, run-ends, run-stops, cause-stopped}
 use Rattle.drf_journal.proofs.engine.serve.Goals as goal
 
 pub returns-in_err-buffer-clause-served : goal.returns-in_err-buffer-clause-served
@@ -79,61 +79,37 @@ returns-then-count-eq0-clause-read g c =
     omega arith in
     bytes.1 refl some
 
-pub returns-in_err-send-2-clause-served : goal.returns-in_err-send-2-clause-served
-returns-in_err-send-2-clause-served g c =
-    let p = err_from_is_err_and c.from_residual-in_err-send-2.result c.from_residual-in_err-send-2.ensures.1 in
-    let piece = take c.in-Ok.count c.read.new.buf in
-    let short : length piece ≤ 65536 =
-    let bound = c.in-Ok.ensures.bound in
-    let whole = length-take-le c.in-Ok.count c.read.new.buf (omega arith) in
-    let a = c.read.auto.buf in let b = c.loop-turn.invariant.chunk in omega arith in
-    rw (p.1, p.2, c.in_err-send-2.ensures.fault)
-    (run-fails _ c.requires.session _ _ _ _ _ _ _ c.loop-turn.invariant.serving
-    piece c.take-taken.new.self short c.in-Ok.ensures.bytes.0 c.take-taken.ensures.answers _
-    c.in_err-send-2.ensures.kept c.in_err-send-2.ensures.err)
-
-pub returns-in_err-send-2-clause-cause : goal.returns-in_err-send-2-clause-cause
-returns-in_err-send-2-clause-cause g c =
-    let p = err_from_is_err_and c.from_residual-in_err-send-2.result c.from_residual-in_err-send-2.ensures.1 in
-    rw (p.1, p.2, c.in_err-send-2.ensures.fault) (
-      rw c.loop-turn.invariant.reader_sound at c.in-Ok.ensures.failed,
-      c.in_err-send-2.ensures.failed c.loop-turn.invariant.writer_sound,
-    )
-
-pub returns-in_err-taken-clause-served : goal.returns-in_err-taken-clause-served
-returns-in_err-taken-clause-served g c =
-    let p = err_from_is_err_and c.from_residual-in_err-taken.result c.from_residual-in_err-taken.ensures.1 in
+pub returns-in_err-answer_piece-clause-served : goal.returns-in_err-answer_piece-clause-served
+returns-in_err-answer_piece-clause-served g c =
+    let p = err_from_is_err_and c.from_residual-in_err-answer_piece.result c.from_residual-in_err-answer_piece.ensures.1 in
     let piece = take c.in-Ok.count c.read.new.buf in
     let short : length piece ≤ 65536 =
     let bound = c.in-Ok.ensures.bound in
     let whole = length-take-le c.in-Ok.count c.read.new.buf (omega arith) in
     let a = c.read.auto.buf in let b = c.loop-turn.invariant.chunk in omega arith in
     rw (p.1, p.2)
-    (run-forgets _ c.requires.session _ _ _ _ _ _ _ c.loop-turn.invariant.serving
-    piece c.take-taken.new.self short c.in-Ok.ensures.bytes.0 c.take-taken.ensures.answers _
-    c.in_ok-send-2.ensures.ok c.in_ok-send-2.ensures.sent)
+    (run-stops _ c.requires.session _ _ _ _ _ _ _ c.loop-turn.invariant.serving _ piece _ short c.in-Ok.ensures.bytes.0
+    c.in_err-answer_piece.ensures.err)
 
-pub returns-in_err-taken-clause-cause : goal.returns-in_err-taken-clause-cause
-returns-in_err-taken-clause-cause g c =
-    let p = err_from_is_err_and c.from_residual-in_err-taken.result c.from_residual-in_err-taken.ensures.1 in
-    rw (p.1, p.2) (
-      rw c.loop-turn.invariant.reader_sound at c.in-Ok.ensures.failed,
-      c.in_ok-send-2.ensures.failed c.loop-turn.invariant.writer_sound,
-    )
+pub returns-in_err-answer_piece-clause-cause : goal.returns-in_err-answer_piece-clause-cause
+returns-in_err-answer_piece-clause-cause g c =
+    let p = err_from_is_err_and c.from_residual-in_err-answer_piece.result c.from_residual-in_err-answer_piece.ensures.1 in
+    rw (p.1, p.2)
+    (cause-stopped _ _ _ _ (rw c.loop-turn.invariant.reader_sound at c.in-Ok.ensures.failed)
+    (c.in_err-answer_piece.ensures.cause c.loop-turn.invariant.writer_sound))
 
 pub loop-turn-preserved : goal.loop-turn-preserved
 loop-turn-preserved g c =
     let piece = take c.in-Ok.count c.read.new.buf in
-    let taken = c.in_ok-taken.ensures.ok in
-    let sent = rw taken at c.in_ok-send-2.ensures.sent in
-    let next = c.in_ok-send-2.ensures.ok ∙ ap (λ (s : State). record s { unsent = [] }) taken in
+    let sent = c.in_ok-answer_piece.ensures.sent in
+    let next = c.in_ok-answer_piece.ensures.ok in
     record {
       serving = serving-takes _ c.requires.session _ _ _ _ _ _ _ c.loop-turn.invariant.serving piece _
           c.in-Ok.ensures.bytes.0 sent next;
       reads = let a = c.in-Ok.ensures.calls in let b = c.loop-turn.invariant.reads in let d = c.loop-turn-test.true in
           omega arith;
       reader_sound = rw c.loop-turn.invariant.reader_sound at c.in-Ok.ensures.failed;
-      writer_sound = c.in_ok-send-2.ensures.failed c.loop-turn.invariant.writer_sound;
+      writer_sound = (c.in_ok-answer_piece.ensures.cause c.loop-turn.invariant.writer_sound).1;
       chunk = let a = c.read.auto.buf in let b = c.loop-turn.invariant.chunk in omega arith;
       few =
           let same = ap (λ (s : State). s.lines) next in

@@ -143,8 +143,8 @@ module _ (old : State) (begins : IsBegun old) where
   read_lines : (read : List ℕ) → after_piece old read ≡ after_lines old (ended_lines_of read) (open_line_of read)
   read_lines read = after_piece-lines old [] read within-nil (ap (λ (s : State). s.pending) begins)
 
-  text_from : (lines : List (List ℕ)) → old.unsent ++ answers_from old.echo old.machine lines ≡ text lines
-  text_from lines =
+  text_begun : (lines : List (List ℕ)) → old.unsent ++ answers_from old.echo old.machine lines ≡ text lines
+  text_begun lines =
       ap (λ (s : State). s.unsent ++ answers_from old.echo s.machine lines) begins
       ∙ sym (text-lines old.machine.limits old.echo lines)
 
@@ -162,7 +162,7 @@ module _ (old : State) (begins : IsBegun old) where
 
   -- the text so far, the number of lines and the allocator
   text_ended : (read : List ℕ) → (after_piece old read).unsent ≡ text (ended_lines_of read)
-  text_ended read = ap (λ (s : State). s.unsent) (read_lines read) ∙ text_from (ended_lines_of read)
+  text_ended read = ap (λ (s : State). s.unsent) (read_lines read) ∙ text_begun (ended_lines_of read)
 
   number_ended : (read : List ℕ) → (after_piece old read).lines ≡ length (ended_lines_of read)
   number_ended read = ap (λ (s : State). s.lines) (read_lines read) ∙ number_from _
@@ -176,7 +176,7 @@ module _ (old : State) (begins : IsBegun old) where
   text_whole read =
       ap (λ (s : State). (at_end s).unsent) (read_lines read)
       ∙ (at_end_all old (ended_lines_of read) (open_line_of read)).0
-      ∙ text_from (lines_with (ended_lines_of read) (open_line_of read))
+      ∙ text_begun (lines_with (ended_lines_of read) (open_line_of read))
 
   number_whole : (read : List ℕ) → (at_end (after_piece old read)).lines ≡ length (lines_of read)
   unfolding lines_of

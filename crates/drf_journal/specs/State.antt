@@ -2,13 +2,11 @@
 use Rattle.std.specs.Prelude.{◌≡◌, ℕ, ◌+◌, Bool, false, ◌==◌, List, [], ◌∷◌, ◌++◌, length, take, fold, All, Result, Ok, Err, ◌⊎◌, if◌then◌else◌}
 use Rattle.drf_core.specs.Machine.{Machine, opened, after}
 use Rattle.drf_rows.specs.LimitNumbers.{LimitNumbers}
-use Rattle.drf_rows.specs.Step.{reply_to}
 use Rattle.drf_rows.specs.declared.event.Event.{Event}
 use Rattle.drf_lines.specs.declared.fault.LineFault.{LineFault}
 use Rattle.drf_lines.specs.Meaning.{meaning_of}
-use Rattle.drf_lines.specs.ReplyLine.{reply_line, fault_line}
 use Rattle.drf_journal.specs.Lines.{is_line_feed}
-use Rattle.drf_journal.specs.Output.{kept_of, echo_of}
+use Rattle.drf_journal.specs.Output.{kept_of, echo_of, reply_line_after}
 
 -- the allocator, whether lines are told too, what is kept of the line at hand, the text that is not written yet, and how
 -- many lines were answered
@@ -26,11 +24,6 @@ begun limits echo = record { machine = opened limits; echo = echo; pending = [];
 abbrev pub IsBegun : State → Type 0
 IsBegun state = state ≡ begun state.machine.limits state.echo
 
--- the reply line of a line
-abbrev pub reply_line_of : Machine → Result Event LineFault → List ℕ
-reply_line_of machine (Ok event) = reply_line (reply_to machine.limits machine.rows event)
-reply_line_of machine (Err fault) = fault_line fault
-
 -- the allocator after a line; only an event changes it
 abbrev pub machine_after : Machine → Result Event LineFault → Machine
 machine_after machine (Ok event) = after machine event
@@ -43,7 +36,7 @@ machine_after_lines machine (line ∷ lines) = machine_after_lines (machine_afte
 
 -- the text for a line
 abbrev pub answer_to : Bool → Machine → List ℕ → List ℕ
-answer_to echo machine line = echo_of echo line ++ reply_line_of machine (meaning_of line)
+answer_to echo machine line = echo_of echo line ++ reply_line_after machine.limits machine.rows (meaning_of line)
 
 -- the line at hand is at its end, and is answered
 unfoldable pub after_line : State → State

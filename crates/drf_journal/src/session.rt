@@ -5,8 +5,8 @@ ghost use Rattle.drf_rows.specs.Step.{reply_to};
 ghost use Rattle.drf_core.specs.Machine.{live, after, IsSupported};
 ghost use Rattle.drf_lines.specs.Meaning.{meaning_of};
 ghost use Rattle.drf_journal.specs.Device.{AppendsFrontOf};
-ghost use Rattle.drf_journal.specs.Output.{kept_of};
-ghost use Rattle.drf_journal.specs.State.{begun, reply_line_of, machine_after, answer_to, after_piece, at_end, IsWithinLine, HasTakenAtMost, AnswersFrontOf};
+ghost use Rattle.drf_journal.specs.Output.{kept_of, reply_line_after};
+ghost use Rattle.drf_journal.specs.State.{begun, machine_after, answer_to, after_piece, at_end, IsWithinLine, HasTakenAtMost, AnswersFrontOf};
 
 use crate::device::{Device, write_whole};
 use crate::fault::RunFault;
@@ -37,7 +37,7 @@ fn reply_line<S: Sorter>(
     core: &mut Core<S>,
     line: &[u8],
 ) -> Result<Vec<u8>, AllocError>
-    ensures told { IfOk result (λ told. told.items ≡ reply_line_of (live core.old) (meaning_of line.now)) }
+    ensures told { IfOk result (λ told. told.items ≡ reply_line_after (live core.old).limits (live core.old).rows (meaning_of line.now)) }
     ensures ok { OnOk result (live core.new ≡ machine_after (live core.old) (meaning_of line.now)) }
     ensures taken { HasTakenAtMost (live core.old) line.now (live core.new) }
 {

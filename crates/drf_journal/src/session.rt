@@ -175,7 +175,7 @@ impl<S: Sorter> Session<S> {
     }
 
     /// Takes the next piece of the input, and answers each line that ends in it.
-    pub fn take(&mut self, alloc: Global, piece: &[u8]) -> Result<(), AllocError>
+    pub(crate) fn take(&mut self, alloc: Global, piece: &[u8]) -> Result<(), AllocError>
         requires { self.old.lines + length piece.now < 2 ^ 64 }
         ensures ok { OnOk result (self.new ≡ after_piece self.old piece.now) }
         ensures answers { AnswersFrontOf self.old piece.now self.new }
@@ -192,7 +192,7 @@ impl<S: Sorter> Session<S> {
     }
 
     /// The input ended: answers what stands behind its last line feed.
-    pub fn close(&mut self, alloc: Global) -> Result<(), AllocError>
+    pub(crate) fn close(&mut self, alloc: Global) -> Result<(), AllocError>
         requires { self.old.lines + 1 < 2 ^ 64 }
         ensures ok { OnOk result (self.new ≡ at_end self.old) }
         ensures err { OnErr result ((self.new.unsent ≡ self.old.unsent) × (self.new.lines ≡ self.old.lines)) }
@@ -205,7 +205,7 @@ impl<S: Sorter> Session<S> {
     }
 
     /// Writes the text that is not written yet, all in one. Where that fails, its front was written.
-    pub fn send<W: Write>(&mut self, writer: &mut Device<W>) -> Result<(), RunFault>
+    pub(crate) fn send<W: Write>(&mut self, writer: &mut Device<W>) -> Result<(), RunFault>
         ensures ok { OnOk result (self.new ≡ record self.old { unsent = [] }) }
         ensures kept { OnErr result (self.new ≡ self.old) }
         ensures sent { OnOk result (Appends (W.contents writer.old.inner) (W.contents writer.new.inner) self.old.unsent) }

@@ -13,7 +13,7 @@ use Rattle.drf_journal.specs.declared.fault.RunFault.{RunFault}
 use Rattle.drf_journal.specs.declared.fault.RunFault.TheVariants.{Read, Write, Memory}
 use Rattle.drf_journal.specs.Device.{AppendsFrontOf}
 use Rattle.drf_journal.specs.Lines.{ended_lines_of, open_line_of, lines_of}
-use Rattle.drf_journal.specs.Output.{text_of}
+use Rattle.drf_journal.specs.Output.{output_of}
 use Rattle.drf_journal.specs.State.{State, begun, IsBegun, machine_after, machine_after_lines, after_line, after_piece, at_end, AnswersFrontOf}
 use Rattle.drf_journal.specs.Ended.{HaveEnded, HasRun, HasTaken, HasServed, HasStopped, HasCause}
 use Rattle.drf_journal.proofs.Cuts.{within-nil, ended-within, goes_on}
@@ -138,7 +138,7 @@ pub record IsServing (old : State) (unread_first unread written_first written : 
 
 module _ (old : State) (begins : IsBegun old) where
   abbrev text : List (List ℕ) → List ℕ
-  text lines = text_of old.machine.limits old.echo lines
+  text lines = output_of old.machine.limits old.echo lines
 
   read_lines : (read : List ℕ) → after_piece old read ≡ after_lines old (ended_lines_of read) (open_line_of read)
   read_lines read = after_piece-lines old [] read within-nil (ap (λ (s : State). s.pending) begins)
@@ -436,7 +436,7 @@ module _ (old : State) (begins : IsBegun old) where
         ended = inl (few answers.taken);
       }
 
-      pub run-forgets : (next : State) → next ≡ record now { unsent = [] } → Appends written written_next now.unsent
+      run-forgets : (next : State) → next ≡ record now { unsent = [] } → Appends written written_next now.unsent
           → HasServed old unread_first unread_next written_first written_next next (Err Memory)
       run-forgets next is sent = record {
         run = record {
@@ -458,7 +458,7 @@ module _ (old : State) (begins : IsBegun old) where
         taken = taken_now next (ap (λ (s : State). s.machine) is);
       }
 
-      pub run-fails : (next : State) → next ≡ now → AppendsFrontOf written written_next now.unsent
+      run-fails : (next : State) → next ≡ now → AppendsFrontOf written written_next now.unsent
           → HasServed old unread_first unread_next written_first written_next next (Err Write)
       run-fails next is sent = record {
         run = record {

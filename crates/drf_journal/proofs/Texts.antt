@@ -9,37 +9,37 @@ use Rattle.drf_rows.specs.declared.event.Event.{Event}
 use Rattle.drf_lines.specs.declared.fault.LineFault.{LineFault}
 use Rattle.drf_lines.specs.Meaning.{meaning_of}
 use Rattle.drf_lines.specs.ReplyLine.{reply_line, fault_line}
-use Rattle.drf_journal.specs.Output.{echo_of, reply_line_after, rows_after_line, text_from, text_of}
+use Rattle.drf_journal.specs.Output.{echo_of, reply_line_after, rows_after_line, output_from, output_of}
 use Rattle.drf_journal.specs.State.{machine_after, machine_after_lines, answer_to}
 use Rattle.drf_journal.proofs.Pieces.{answers_from}
 
 -- rows that have the same live rows give the same text
 text-same_live : (limits : LimitNumbers) (echo : Bool) (a b : Rows) (lines : List (List ℕ)) → live_rows a ≡ live_rows b
-    → text_from limits echo a lines ≡ text_from limits echo b lines
+    → output_from limits echo a lines ≡ output_from limits echo b lines
 text-same_live limits echo a b [] same = refl
 text-same_live limits echo a b (line ∷ lines) same =
     by_meaning (meaning_of line) (λ a b same. text-same_live limits echo a b lines same)
   where
     by_meaning : (meaning : Result Event LineFault)
-        → ((a b : Rows) → live_rows a ≡ live_rows b → text_from limits echo a lines ≡ text_from limits echo b lines)
-        → echo_of echo line ++ (reply_line_after limits a meaning ++ text_from limits echo (rows_after_line limits a meaning) lines)
-        ≡ echo_of echo line ++ (reply_line_after limits b meaning ++ text_from limits echo (rows_after_line limits b meaning) lines)
+        → ((a b : Rows) → live_rows a ≡ live_rows b → output_from limits echo a lines ≡ output_from limits echo b lines)
+        → echo_of echo line ++ (reply_line_after limits a meaning ++ output_from limits echo (rows_after_line limits a meaning) lines)
+        ≡ echo_of echo line ++ (reply_line_after limits b meaning ++ output_from limits echo (rows_after_line limits b meaning) lines)
     by_meaning (Ok event) rest =
         let reply = reply_to-same_live limits a b same event in
         let text = rest (rows_after limits a event) (rows_after limits b event) (rows_after-same_live limits a b same event) in
         λ i. echo_of echo line ++ (reply_line (reply i) ++ text i)
     by_meaning (Err fault) rest = ap (λ l. echo_of echo line ++ (fault_line fault ++ l)) (rest a b same)
 
-text_from-lines : (echo : Bool) (machine : Machine) (lines : List (List ℕ))
-    → text_from machine.limits echo machine.rows lines ≡ answers_from echo machine lines
+output_from-lines : (echo : Bool) (machine : Machine) (lines : List (List ℕ))
+    → output_from machine.limits echo machine.rows lines ≡ answers_from echo machine lines
 unfolding after
-text_from-lines echo machine [] = refl
-text_from-lines echo machine (line ∷ lines) = by_meaning (meaning_of line) (λ machine. text_from-lines echo machine lines)
+output_from-lines echo machine [] = refl
+output_from-lines echo machine (line ∷ lines) = by_meaning (meaning_of line) (λ machine. output_from-lines echo machine lines)
   where
     by_meaning : (meaning : Result Event LineFault)
-        → ((machine : Machine) → text_from machine.limits echo machine.rows lines ≡ answers_from echo machine lines)
+        → ((machine : Machine) → output_from machine.limits echo machine.rows lines ≡ answers_from echo machine lines)
         → echo_of echo line ++ (reply_line_after machine.limits machine.rows meaning
-        ++ text_from machine.limits echo (rows_after_line machine.limits machine.rows meaning) lines)
+        ++ output_from machine.limits echo (rows_after_line machine.limits machine.rows meaning) lines)
         ≡ (echo_of echo line ++ reply_line_after machine.limits machine.rows meaning)
         ++ answers_from echo (machine_after machine meaning) lines
     by_meaning (Ok event) rest =
@@ -52,9 +52,9 @@ text_from-lines echo machine (line ∷ lines) = by_meaning (meaning_of line) (λ
         ap (λ l. echo_of echo line ++ (fault_line fault ++ l)) (rest machine)
         ∙ sym (append_assoc (echo_of echo line) (fault_line fault) _)
 
-pub text-lines : (limits : LimitNumbers) (echo : Bool) (lines : List (List ℕ)) → text_of limits echo lines ≡ answers_from echo (opened limits) lines
-unfolding text_of
-text-lines limits echo lines = text_from-lines echo (opened limits) lines
+pub text-lines : (limits : LimitNumbers) (echo : Bool) (lines : List (List ℕ)) → output_of limits echo lines ≡ answers_from echo (opened limits) lines
+unfolding output_of
+text-lines limits echo lines = output_from-lines echo (opened limits) lines
 
 pub answers-append : (echo : Bool) (machine : Machine) (front more : List (List ℕ))
     → answers_from echo machine (front ++ more) ≡ answers_from echo machine front ++ answers_from echo (machine_after_lines machine front) more
@@ -65,7 +65,7 @@ answers-append echo machine (line ∷ front) more =
 
 -- the text for the first lines comes first
 pub text-append : (limits : LimitNumbers) (echo : Bool) (front more : List (List ℕ))
-    → text_of limits echo (front ++ more) ≡ text_of limits echo front ++ answers_from echo (machine_after_lines (opened limits) front) more
+    → output_of limits echo (front ++ more) ≡ output_of limits echo front ++ answers_from echo (machine_after_lines (opened limits) front) more
 text-append limits echo front more =
     text-lines limits echo (front ++ more) ∙ answers-append echo (opened limits) front more
     ∙ ap (λ l. l ++ answers_from echo (machine_after_lines (opened limits) front) more) (sym (text-lines limits echo front))

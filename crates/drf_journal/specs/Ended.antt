@@ -8,7 +8,7 @@ use Rattle.drf_journal.specs.declared.fault.RunFault.{RunFault}
 use Rattle.drf_journal.specs.declared.fault.RunFault.TheVariants.{Read, Write, Memory}
 use Rattle.drf_journal.specs.Device.{AppendsFrontOf}
 use Rattle.drf_journal.specs.Lines.{lines_of, ended_lines_of}
-use Rattle.drf_journal.specs.Output.{text_of}
+use Rattle.drf_journal.specs.Output.{output_of}
 use Rattle.drf_journal.specs.State.{State, machine_after_lines, AnswersFrontOf}
 
 -- What was written for what was read, where the first `answered` lines were answered. At `Ok` these are all lines, and
@@ -16,13 +16,13 @@ use Rattle.drf_journal.specs.State.{State, machine_after_lines, AnswersFrontOf}
 -- which had ended. Their text was written, and after a failed write a front of it.
 abbrev pub IsAnswered : LimitNumbers → Bool → Result ℕ RunFault → ℕ → List ℕ → List ℕ → Type 0
 IsAnswered limits echo (Ok lines) answered read written =
-    (written ≡ text_of limits echo (lines_of read)) × (answered ≡ length (lines_of read)) × (lines ≡ answered)
+    (written ≡ output_of limits echo (lines_of read)) × (answered ≡ length (lines_of read)) × (lines ≡ answered)
 IsAnswered limits echo (Err Read) answered read written =
-    (written ≡ text_of limits echo (ended_lines_of read)) × (answered ≡ length (ended_lines_of read))
+    (written ≡ output_of limits echo (ended_lines_of read)) × (answered ≡ length (ended_lines_of read))
 IsAnswered limits echo (Err Write) answered read written =
-    (count : ℕ) × (written ≡ take count (text_of limits echo (take answered (lines_of read))))
+    (count : ℕ) × (written ≡ take count (output_of limits echo (take answered (lines_of read))))
 IsAnswered limits echo (Err Memory) answered read written =
-    (written ≡ text_of limits echo (take answered (ended_lines_of read))) × (answered ≤ length (ended_lines_of read))
+    (written ≡ output_of limits echo (take answered (ended_lines_of read))) × (answered ≤ length (ended_lines_of read))
 
 -- a number of lines had ended, each by a line feed or the last by the end of the input
 abbrev pub HaveEnded : ℕ → List ℕ → Option (List ℕ) → Type 0
@@ -40,7 +40,7 @@ pub record HasRun (limits : LimitNumbers) (echo : Bool)
   pub lines : ℕ
   pub answered : IsAnswered limits echo result lines read written
   pub ended : HaveEnded lines read unread_after
-  pub prompt : StartsWith written (text_of limits echo (ended_lines_of (take (length read - 65536) read)))
+  pub prompt : StartsWith written (output_of limits echo (ended_lines_of (take (length read - 65536) read)))
 
 -- Within a piece of the input a session has stopped. Where memory ran out, the text of all that it had answered of the
 -- piece was written; after a failed write a front of that.

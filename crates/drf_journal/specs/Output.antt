@@ -27,13 +27,13 @@ rows_after_line limits rows (Ok event) = rows_after limits rows event
 rows_after_line limits rows (Err fault) = rows
 
 -- the text for some lines: for each its reply line, and before that the line itself where lines are told too
-abbrev pub text_from : LimitNumbers → Bool → Rows → List (List ℕ) → List ℕ
-text_from limits echo rows [] = []
-text_from limits echo rows (line ∷ lines) =
+abbrev pub output_from : LimitNumbers → Bool → Rows → List (List ℕ) → List ℕ
+output_from limits echo rows [] = []
+output_from limits echo rows (line ∷ lines) =
     echo_of echo line
     ++ (reply_line_after limits rows (meaning_of line)
-    ++ text_from limits echo (rows_after_line limits rows (meaning_of line)) lines)
+    ++ output_from limits echo (rows_after_line limits rows (meaning_of line)) lines)
 
 -- the text for the lines of an input
-unfoldable pub text_of : LimitNumbers → Bool → List (List ℕ) → List ℕ
-text_of limits echo lines = text_from limits echo opening lines
+unfoldable pub output_of : LimitNumbers → Bool → List (List ℕ) → List ℕ
+output_of limits echo lines = output_from limits echo opening lines

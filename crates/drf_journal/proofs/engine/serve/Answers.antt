@@ -27,6 +27,11 @@ returns-in_default-clause-served g c =
     run-unread _ c.requires.session _ _ _ _ _ (g.W.Write.contents c.loop-turn.writer.inner) _ c.loop-turn.invariant.serving
     c.in_default.ensures.bytes
 
+pub returns-in_default-clause-reads : goal.returns-in_default-clause-reads
+returns-in_default-clause-reads g c =
+    let a = c.in_default.ensures.calls in let b = c.loop-turn.invariant.reads in let d = c.loop-turn-test.true in
+    omega arith
+
 pub returns-in_err-close-clause-served : goal.returns-in_err-close-clause-served
 returns-in_err-close-clause-served g c =
     let p = err_from_is_err_and c.from_residual-in_err-close.result c.from_residual-in_err-close.ensures.1 in

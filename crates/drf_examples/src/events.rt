@@ -1,6 +1,7 @@
 //! Events through the core itself, and what its rows then tell.
 use anyhow::Result;
-use drf_bundle::ScalarBundle;
+use drf_amount::Algebra;
+use drf_bundle::Bundle;
 use drf_core::Core;
 use drf_role::{Name, Role};
 use drf_rows::{Event, Limits, Table};
@@ -10,7 +11,7 @@ use std::rt::Runtime;
 
 fn new_agent(alloc: Global) -> Result<Event> {
     let agent = Name::read(alloc, "n1")?;
-    let total = ScalarBundle::empty(alloc);
+    let total = Bundle::empty(alloc);
     Ok(Event::AddAgent { agent, total })
 }
 

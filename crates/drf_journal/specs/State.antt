@@ -1,6 +1,7 @@
 -- A run between two reads, and what a byte of the input does to it.
-use Rattle.std.specs.Prelude.{◌≡◌, ℕ, ◌+◌, Bool, false, ◌==◌, List, [], ◌∷◌, ◌++◌, length, take, fold, All, Result, Ok, Err, ◌⊎◌, if◌then◌else◌}
-use Rattle.drf_core.specs.Machine.{Machine, opened, after}
+use Rattle.std.specs.Prelude.{refl, ◌≡◌, ℕ, ◌+◌, Bool, false, ◌==◌, List, [], ◌∷◌, ◌++◌, length, take, fold, All, Result, Ok, Err, ◌⊎◌, if◌then◌else◌}
+use Rattle.std.specs.Coded.{Coded, code_by, coded×, coded_ℕ, coded_bool, coded_list}
+use Rattle.drf_core.specs.Machine.{Machine, machine_code, opened, after}
 use Rattle.drf_rows.specs.LimitNumbers.{LimitNumbers}
 use Rattle.drf_rows.specs.declared.event.Event.{Event}
 use Rattle.drf_lines.specs.declared.fault.LineFault.{LineFault}
@@ -16,6 +17,13 @@ pub record State : Type 0 where
   pub pending : List ℕ
   pub unsent : List ℕ
   pub lines : ℕ
+
+-- by it a proof tells two of them apart
+abbrev pub state_code : Coded State
+state_code = code_by (Machine × (Bool × (List ℕ × (List ℕ × ℕ))))
+    (coded× machine_code (coded× coded_bool (coded× (coded_list coded_ℕ) (coded× (coded_list coded_ℕ) coded_ℕ))))
+    (λ s. (s.machine, (s.echo, (s.pending, (s.unsent, s.lines)))))
+    (λ p. record { machine = p.0; echo = p.1.0; pending = p.1.1.0; unsent = p.1.1.1.0; lines = p.1.1.1.1 }) (λ _. refl)
 
 -- a run that has read nothing
 abbrev pub begun : LimitNumbers → Bool → State

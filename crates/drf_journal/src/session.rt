@@ -124,9 +124,11 @@ pub struct Session<S: Sorter> {
 
 impl<S: Sorter> Model for Session<S> {
     ghost use Rattle.drf_core.specs.Machine.{live};
-    ghost use Rattle.drf_journal.specs.State.{State};
+    ghost use Rattle.drf_journal.specs.State.{State, state_code};
 
     ghost Value = { State };
+
+    ghost coded = { state_code };
 
     ghost view = { λ s. record {
       machine = live s.core;

@@ -1,62 +1,25 @@
 //! The filters of declined offers.
 ghost use Rattle.std.specs.Prelude.{◌≡◌, [], ◌∷◌, ◌++◌, IfOk, OnOk, OnErr};
-ghost use Rattle.drf_bundle.specs.Bundle.{covers};
-ghost use Rattle.drf_rows.specs.Filters.{filters_client, holds_back, is_held_back, in_force, number_in_force, without_client, without_agent, without_framework};
+ghost use Rattle.drf_rows.specs.Filters.{is_held_back, in_force, number_in_force, without_client, without_agent, without_framework};
 
-use drf_amount::Algebra;
+use crate::index::Index;
+use crate::row::{
+    copy_row, holds_back, keep_in_force, keep_other_agents, keep_other_clients,
+    keep_other_frameworks, soonest,
+};
 use drf_bundle::Bundle;
 use drf_role::{Name, Role};
 use drf_rows::{FilterRow, Table};
 use std::alloc::{AllocError, Global};
 use std::marker::Model;
 
-/// Whether the first bundle has all that the second has.
-fn covers(whole: &Bundle, part: &Bundle) -> bool
-    ensures { result ≡ covers whole.now part.now }
-{
-    whole.covers(part)
-}
-
-/// Whether the filter is that of the client.
-fn filters_client(row: &FilterRow, role: &Role, framework: &Name) -> bool
-    ensures { result ≡ filters_client (record { role = role.now; framework = framework.now }) row.now }
-{
-    row.role == *role && row.framework == *framework
-}
-
-/// Whether the filter is in force and holds the bundle back from the client on the agent.
-fn holds_back(
-    row: &FilterRow,
-    role: &Role,
-    framework: &Name,
-    agent: &Name,
-    bundle: &Bundle,
-    now: u64,
-) -> bool
-    ensures { result ≡ holds_back now (record { role = role.now; framework = framework.now }) agent.now bundle.now row.now }
-{
-    now < row.until
-        && filters_client(row, role, framework)
-        && row.agent == *agent
-        && covers(&row.bundle, bundle)
-}
-
-fn copy_row(row: &FilterRow) -> Result<FilterRow, AllocError>
-    ensures { IfOk result (λ copy. copy ≡ row.now) }
-{
-    Ok(FilterRow {
-        framework: row.framework.copy()?,
-        role: row.role.copy()?,
-        agent: row.agent.copy()?,
-        bundle: row.bundle.copy()?,
-        until: row.until,
-    })
-}
-
 /// The filters, in the order in which they were added. Contracts see their list.
 #[derive(Drop)]
 pub struct FilterTable {
     rows: Vec<FilterRow>,
+    index: Index,
+    // No filter ends before this moment.
+    soonest: u64,
 }
 
 impl Model for FilterTable {
@@ -71,6 +34,10 @@ impl Model for FilterTable {
     ghost coded = { coded_list filter_row.the_row.coded };
 
     ghost view = { λ t. t.rows.items };
+
+    ghost use Rattle.drf_gates.specs.Index.{IsKept};
+
+    ghost invariant = { λ t. IsKept t.rows.items t.index t.soonest };
 }
 
 impl FilterTable {
@@ -80,6 +47,8 @@ impl FilterTable {
     {
         FilterTable {
             rows: Vec::new(alloc),
+            index: Index::new(alloc),
+            soonest: u64::MAX,
         }
     }
 
@@ -87,7 +56,11 @@ impl FilterTable {
         ensures ok { OnOk result (self.new ≡ self.old ++ row ∷ []) }
         ensures err { OnErr result (self.new ≡ self.old) }
     {
-        self.rows.push(row)?;
+        self.rows.reserve(1)?;
+        self.index.make_room(&self.rows)?;
+        self.index.push(&row);
+        self.soonest = self.soonest.min(row.until);
+        self.rows.push_reserved(row);
         Ok(())
     }
 
@@ -102,15 +75,27 @@ impl FilterTable {
     ) -> bool
         ensures { result ≡ is_held_back self.now now (record { role = role.now; framework = framework.now }) agent.now bundle.now }
     {
-        self.rows
-            .iter()
-            .any(|row| holds_back(row, role, framework, agent, bundle, now))
+        if self.rows.is_empty() {
+            return false;
+        }
+        let mut after = self.index.last(role, framework, agent);
+        while after > 0 {
+            let place = after - 1;
+            if holds_back(&self.rows[place], role, framework, agent, bundle, now) {
+                return true;
+            }
+            after = self.index.before(place);
+        }
+        false
     }
 
     /// How many filters are in force.
     pub fn in_force(&self, now: u64) -> u64
         ensures { result ≡ number_in_force now self.now }
     {
+        if now < self.soonest {
+            return self.rows.len() as u64;
+        }
         self.rows.iter().filter(|row| now < row.until).count() as u64
     }
 
@@ -118,29 +103,36 @@ impl FilterTable {
     pub fn drop_spent(&mut self, now: u64)
         ensures { self.new ≡ in_force now self.old }
     {
-        self.rows.retain(|row| now < row.until);
+        if now < self.soonest {
+            return;
+        }
+        keep_in_force(&mut self.rows, now);
+        self.index.settle(&self.rows);
+        self.soonest = soonest(&self.rows);
     }
 
     /// Drops the filters of a client, on whatever agent.
     pub fn revive(&mut self, role: &Role, framework: &Name)
         ensures { self.new ≡ without_client (record { role = role.now; framework = framework.now }) self.old }
     {
-        self.rows
-            .retain(|row| !filters_client(row, role, framework));
+        keep_other_clients(&mut self.rows, role, framework);
+        self.index.settle(&self.rows);
     }
 
     /// Drops the filters on an agent.
     pub fn drop_agent(&mut self, agent: &Name)
         ensures { self.new ≡ without_agent agent.now self.old }
     {
-        self.rows.retain(|row| row.agent != *agent);
+        keep_other_agents(&mut self.rows, agent);
+        self.index.settle(&self.rows);
     }
 
     /// Drops the filters of a framework in all its roles.
     pub fn drop_framework(&mut self, framework: &Name)
         ensures { self.new ≡ without_framework framework.now self.old }
     {
-        self.rows.retain(|row| row.framework != *framework);
+        keep_other_frameworks(&mut self.rows, framework);
+        self.index.settle(&self.rows);
     }
 
     /// The filters, copied.

@@ -2,5 +2,9 @@
 #![tactic(auto)]
 
 mod filters;
+mod index;
+mod laws;
+mod row;
 
 pub use filters::FilterTable;
+pub use laws::filters_law;

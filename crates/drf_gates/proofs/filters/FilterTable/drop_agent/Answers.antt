@@ -1,10 +1,14 @@
-use Rattle.std.proofs.Common.{◌≡◌, List, not, subst, rules}
-use Rattle.std.proofs.lemmas.Fn.{filter_same}
-use Rattle.drf_rows.specs.Filters.{without_agent, filters_on}
-use Rattle.drf_rows.specs.declared.rows.FilterRow.{FilterRow}
+use Rattle.std.proofs.Common.{not, ◌∙◌}
+use Rattle.drf_rows.specs.Filters.{filters_on}
+use Rattle.drf_gates.proofs.FilterLemmas.{left-filter, kept-filter}
 use Rattle.drf_gates.proofs.filters.FilterTable.drop_agent.Goals as goal
 
-pub returns : goal.returns
-returns c =
-    subst (λ (rows : List FilterRow). c.retain.new.self.items ≡ without_agent c.args.agent.now rows) c.self.view_is
-    (filter_same _ (λ f. not (filters_on c.args.agent.now f)) _ (λ x b f k. search rules) _ _ c.retain.ensures.filtered)
+pub settle-requires : goal.settle-requires
+settle-requires c =
+    left-filter (λ f. not (filters_on c.args.agent.now f)) c.self.inside.rows.items c.deref.result.now c.self.inside.index
+    (c.deref.ensures.value ∙ c.keep_other_agents.ensures) c.self.invariant.indexed
+
+pub invariant_of-self : goal.invariant_of-self
+invariant_of-self c =
+    kept-filter (λ f. not (filters_on c.args.agent.now f)) c.self.inside.rows.items c.keep_other_agents.new.rows.items c.deref.result.now
+    c.self.inside.index c.settle.new.self c.self.inside.soonest c.keep_other_agents.ensures c.deref.ensures.value c.self.invariant c.settle.ensures

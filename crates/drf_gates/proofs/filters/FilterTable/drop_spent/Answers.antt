@@ -1,10 +1,16 @@
-use Rattle.std.proofs.Common.{◌≡◌, List, not, subst, rules}
-use Rattle.std.proofs.lemmas.Fn.{filter_same}
-use Rattle.drf_rows.specs.Filters.{in_force, is_in_force}
+use Rattle.std.proofs.Common.{◌≡◌, List, subst, sym, ◌∙◌}
+use Rattle.drf_rows.specs.Filters.{is_in_force, in_force}
 use Rattle.drf_rows.specs.declared.rows.FilterRow.{FilterRow}
+use Rattle.drf_gates.proofs.FilterLemmas.{left-filter, all_in_force}
 use Rattle.drf_gates.proofs.filters.FilterTable.drop_spent.Goals as goal
 
-pub returns : goal.returns
-returns c =
-    subst (λ (rows : List FilterRow). c.retain.new.self.items ≡ in_force c.args.now rows) c.self.view_is
-    (filter_same _ (is_in_force c.args.now) _ (λ x b f k. search rules) _ _ c.retain.ensures.filtered)
+pub returns-then-now-self : goal.returns-then-now-self
+returns-then-now-self c =
+    let t = c.self.inside in
+    subst (λ (rows : List FilterRow). rows ≡ in_force c.args.now rows) c.self.view_is
+    (sym (all_in_force c.args.now t.soonest t.rows.items c.if-now-self.true c.self.invariant.none_before))
+
+pub settle-requires : goal.settle-requires
+settle-requires c =
+    left-filter (is_in_force c.args.now) c.self.inside.rows.items c.deref.result.now c.self.inside.index
+    (c.deref.ensures.value ∙ c.keep_in_force.ensures) c.self.invariant.indexed

@@ -13,7 +13,7 @@ use Rattle.drf_bundle.specs.declared.resource.Resource.{Resource}
 use Rattle.drf_role.specs.Text.{Text, same_text}
 use Rattle.drf_role.specs.Path.{same_path}
 use Rattle.drf_rows.specs.Client.{Client}
-use Rattle.drf_rows.specs.Filters.{is_in_force, in_force, filters_client, filters_on, holds_back, is_held_back}
+use Rattle.drf_rows.specs.Filters.{is_in_force, in_force, is_of_client, is_on_agent, holds_back, is_held_back}
 use Rattle.drf_rows.specs.declared.rows.FilterRow.{FilterRow}
 use Rattle.drf_gates.specs.Laws.{SpentHoldNothing, LessIsHeldBack}
 use Rattle.drf_gates.specs.Chains.{IsLast, IsChained}
@@ -26,14 +26,14 @@ spent_hold_nothing filters now later client agent bundle le = any-filter_same (h
   where
     passes : (f : FilterRow) → holds_back later client agent bundle f ≡ true → is_in_force now f ≡ true
     passes f holds =
-        let still : nat_lt later f.until ≡ true = (and_parts _ (filters_client client f && (filters_on agent f && covers f.bundle bundle)) holds).0 in
+        let still : nat_lt later f.until ≡ true = (and_parts _ (is_of_client client f && (is_on_agent agent f && covers f.bundle bundle)) holds).0 in
         lt-ltb now f.until (omega (arith, le, ltb-true later f.until still))
 
 pub less_is_held_back : LessIsHeldBack
 less_is_held_back filters f clock bundle is_there before is_bundle is_part below =
     let client : Client = record { role = f.role; framework = f.framework } in
     let covered : covers f.bundle bundle ≡ true = (covers_by_units f.bundle bundle is_bundle is_part).1 below in
-    let own : filters_client client f ≡ true = and_from _ _ (same_path_itself f.role) (same_itself f.framework) in
+    let own : is_of_client client f ≡ true = and_from _ _ (same_path_itself f.role) (same_itself f.framework) in
     list_any-from_Any (holds_back clock client f.agent bundle) filters
     (is_there.0, f, is_there.1, is_there.2, and_from _ _ (lt-ltb clock f.until before) (and_from _ _ own (and_from _ _ (same_itself f.agent) covered)))
 
@@ -41,10 +41,10 @@ less_is_held_back filters f clock bundle is_there before is_bundle is_part below
 pub held_in_bucket : (number clock : ℕ) (client : Client) (agent : Text) (bundle : List Resource) (f : FilterRow)
     → holds_back clock client agent bundle f ≡ true → row_bucket number f ≡ bucket_of number client.role client.framework agent
 held_in_bucket number clock client agent bundle f holds =
-    let parts = and_parts (is_in_force clock f) (filters_client client f && (filters_on agent f && covers f.bundle bundle)) holds in
-    let own = and_parts (filters_client client f) (filters_on agent f && covers f.bundle bundle) parts.1 in
+    let parts = and_parts (is_in_force clock f) (is_of_client client f && (is_on_agent agent f && covers f.bundle bundle)) holds in
+    let own = and_parts (is_of_client client f) (is_on_agent agent f && covers f.bundle bundle) parts.1 in
     let names = and_parts (same_path f.role client.role) (same_text f.framework client.framework) own.0 in
-    let on = and_parts (filters_on agent f) (covers f.bundle bundle) own.1 in
+    let on = and_parts (is_on_agent agent f) (covers f.bundle bundle) own.1 in
     let role = same_path-true f.role client.role names.0 in
     let framework = same_from_test f.framework client.framework names.1 in
     let there = same_from_test f.agent agent on.0 in

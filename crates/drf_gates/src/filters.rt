@@ -4,7 +4,7 @@ ghost use Rattle.drf_rows.specs.Filters.{is_held_back, in_force, number_in_force
 
 use crate::index::Index;
 use crate::row::{
-    copy_row, holds_back, keep_in_force, keep_other_agents, keep_other_clients,
+    copy_row, holds_back, is_in_force, keep_in_force, keep_other_agents, keep_other_clients,
     keep_other_frameworks, soonest,
 };
 use drf_bundle::Bundle;
@@ -13,7 +13,7 @@ use drf_rows::{FilterRow, Table};
 use std::alloc::{AllocError, Global};
 use std::marker::Model;
 
-/// The filters, in the order in which they were added. Contracts see their list.
+/// The filters, in the order in which they were added. Contracts see their list. What leaves does so without memory.
 #[derive(Drop)]
 pub struct FilterTable {
     rows: Vec<FilterRow>,
@@ -52,6 +52,7 @@ impl FilterTable {
         }
     }
 
+    /// Adds a filter behind those that are there. An `Err` changes nothing.
     pub fn add(&mut self, row: FilterRow) -> Result<(), AllocError>
         ensures ok { OnOk result (self.new ≡ self.old ++ row ∷ []) }
         ensures err { OnErr result (self.new ≡ self.old) }
@@ -64,7 +65,7 @@ impl FilterTable {
         Ok(())
     }
 
-    /// Whether a filter in force of the client on the agent covers the bundle.
+    /// Whether a filter in force of the client on the agent covers the bundle. Looks at their chain alone.
     pub fn holds_back(
         &self,
         role: &Role,
@@ -96,7 +97,7 @@ impl FilterTable {
         if now < self.soonest {
             return self.rows.len() as u64;
         }
-        self.rows.iter().filter(|row| now < row.until).count() as u64
+        self.rows.iter().filter(|row| is_in_force(row, now)).count() as u64
     }
 
     /// Leaves the filters in force alone.

@@ -2,7 +2,7 @@
 ghost use Rattle.std.specs.Prelude.{◌≡◌, IfOk};
 ghost use Rattle.drf_bundle.specs.Bundle.{covers};
 ghost use Rattle.drf_gates.specs.Index.{NoneEndsBefore};
-ghost use Rattle.drf_rows.specs.Filters.{filters_client, holds_back, in_force, without_client, without_agent, without_framework};
+ghost use Rattle.drf_rows.specs.Filters.{is_in_force, is_of_client, holds_back, in_force, without_client, without_agent, without_framework};
 
 use drf_amount::Algebra;
 use drf_bundle::Bundle;
@@ -17,9 +17,16 @@ fn covers(whole: &Bundle, part: &Bundle) -> bool
     whole.covers(part)
 }
 
+/// Whether the filter's end is still to come.
+pub(crate) fn is_in_force(row: &FilterRow, now: u64) -> bool
+    ensures { result ≡ is_in_force now row.now }
+{
+    now < row.until
+}
+
 /// Whether the filter is that of the client.
-pub(crate) fn filters_client(row: &FilterRow, role: &Role, framework: &Name) -> bool
-    ensures { result ≡ filters_client (record { role = role.now; framework = framework.now }) row.now }
+fn is_of_client(row: &FilterRow, role: &Role, framework: &Name) -> bool
+    ensures { result ≡ is_of_client (record { role = role.now; framework = framework.now }) row.now }
 {
     row.role == *role && row.framework == *framework
 }
@@ -35,8 +42,8 @@ pub(crate) fn holds_back(
 ) -> bool
     ensures { result ≡ holds_back now (record { role = role.now; framework = framework.now }) agent.now bundle.now row.now }
 {
-    now < row.until
-        && filters_client(row, role, framework)
+    is_in_force(row, now)
+        && is_of_client(row, role, framework)
         && row.agent == *agent
         && covers(&row.bundle, bundle)
 }
@@ -68,14 +75,14 @@ pub(crate) fn soonest(rows: &[FilterRow]) -> u64
 pub(crate) fn keep_in_force(rows: &mut Vec<FilterRow>, now: u64)
     ensures { rows.new.items ≡ in_force now rows.old.items }
 {
-    rows.retain(|row| now < row.until);
+    rows.retain(|row| is_in_force(row, now));
 }
 
 /// Keeps those of other clients.
 pub(crate) fn keep_other_clients(rows: &mut Vec<FilterRow>, role: &Role, framework: &Name)
     ensures { rows.new.items ≡ without_client (record { role = role.now; framework = framework.now }) rows.old.items }
 {
-    rows.retain(|row| !filters_client(row, role, framework));
+    rows.retain(|row| !is_of_client(row, role, framework));
 }
 
 /// Keeps those on other agents.

@@ -21,17 +21,17 @@ abbrev pub number_in_force : ℕ → List FilterRow → ℕ
 number_in_force clock filters = count_by (is_in_force clock) filters
 
 -- the filter is that client's
-abbrev pub filters_client : Client → FilterRow → Bool
-filters_client client f = same_path f.role client.role && same_text f.framework client.framework
+abbrev pub is_of_client : Client → FilterRow → Bool
+is_of_client client f = same_path f.role client.role && same_text f.framework client.framework
 
 -- the filter is on that agent
-abbrev pub filters_on : Text → FilterRow → Bool
-filters_on agent f = same_text f.agent agent
+abbrev pub is_on_agent : Text → FilterRow → Bool
+is_on_agent agent f = same_text f.agent agent
 
 -- the filter is in force and holds the bundle back from the client on the agent: it covers it
 abbrev pub holds_back : ℕ → Client → Text → List Resource → FilterRow → Bool
 holds_back clock client agent bundle f =
-    is_in_force clock f && (filters_client client f && (filters_on agent f && covers f.bundle bundle))
+    is_in_force clock f && (is_of_client client f && (is_on_agent agent f && covers f.bundle bundle))
 
 -- some filter does
 abbrev pub is_held_back : List FilterRow → ℕ → Client → Text → List Resource → Bool
@@ -39,11 +39,11 @@ is_held_back filters clock client agent bundle = list_any (holds_back clock clie
 
 -- the filters that are left when a client revives
 abbrev pub without_client : Client → List FilterRow → List FilterRow
-without_client client filters = filter (λ f. not (filters_client client f)) filters
+without_client client filters = filter (λ f. not (is_of_client client f)) filters
 
 -- those that are left when an agent goes
 abbrev pub without_agent : Text → List FilterRow → List FilterRow
-without_agent agent filters = filter (λ f. not (filters_on agent f)) filters
+without_agent agent filters = filter (λ f. not (is_on_agent agent f)) filters
 
 -- those that are left when a framework goes
 abbrev pub without_framework : Text → List FilterRow → List FilterRow

@@ -1,6 +1,3 @@
-use Rattle.std.proofs.Common.{◌≡◌, ◌<◌, ◌&&◌, true, List, [], ◌∷◌, Contains, IsTrue, refl, ap, ◌∙◌, sym, arith}
-use Rattle.std.proofs.lemmas.Map.Views.{any-filter_same}
-use Rattle.std.proofs.lemmas.Bool.Decides.{nat_tests}
 use Rattle.drf_gates.proofs.FilterLemmas.{spent_hold_nothing, less_is_held_back}
 use Rattle.drf_gates.proofs.laws.filters_law.Goals as goal
 

@@ -1,4 +1,4 @@
-use Rattle.std.proofs.Common.{ℕ, ◌≤◌, ◌<◌, length, take, get_or, subst, ap, arith, sym}
+use Rattle.std.proofs.Common.{◌≤◌, take, subst, arith}
 use Rattle.std.proofs.lemmas.List.{take_all}
 use Rattle.std.proofs.lemmas.List.Elements.{All-more}
 use Rattle.drf_rows.specs.declared.rows.FilterRow.{FilterRow}

@@ -5,6 +5,7 @@ pub mod Share
 pub mod Holdings
 pub mod Held
 pub mod Weights
+pub mod Filters
 pub mod Cycle
 pub mod Endings
 pub mod Consistent

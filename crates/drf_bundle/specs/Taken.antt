@@ -25,6 +25,18 @@ joined bundle (part ∷ parts) = option_and_then (λ both. joined both parts) (j
 abbrev pub units_of_all : List (List Resource) → Key → Point → ℕ
 units_of_all parts key p = sum_by (λ part. units part key p) parts
 
+-- what is left of a bundle and the parts taken from it join to it, where it has the units of all parts
+abbrev pub TakenAndLeftJoin : Type 0
+TakenAndLeftJoin = (whole : List Resource) (parts : List (List Resource)) → IsBundle whole → AllByRecursion IsBundle parts
+    → ((key : Key) (p : Point) → units_of_all parts key p ≤ units whole key p)
+    → joined (rest_of_all whole parts) parts ≡ Some whole
+
+-- nothing but what is left does so
+abbrev pub OnlyTheRestJoins : Type 0
+OnlyTheRestJoins = (bundle whole : List Resource) (parts : List (List Resource))
+    → IsBundle bundle → IsBundle whole → AllByRecursion IsBundle parts → joined bundle parts ≡ Some whole
+    → bundle ≡ rest_of_all whole parts
+
 -- ---- what is left, by units
 
 pub bundle-rest_of_all : (whole : List Resource) (parts : List (List Resource)) → IsBundle whole → IsBundle (rest_of_all whole parts)
@@ -63,10 +75,7 @@ rest_of_all-insert whole before after part is others each one =
 -- ---- what is left and the parts
 
 -- they join to the whole, where it has the units of all parts
-pub joined-rest_of_all : (whole : List Resource) (parts : List (List Resource))
-    → IsBundle whole → AllByRecursion IsBundle parts
-    → ((key : Key) (p : Point) → units_of_all parts key p ≤ units whole key p)
-    → joined (rest_of_all whole parts) parts ≡ Some whole
+pub joined-rest_of_all : TakenAndLeftJoin
 joined-rest_of_all whole [] is each covered = refl
 joined-rest_of_all whole (part ∷ parts) is each covered =
     let left : List Resource = rest_of_all (rest whole part) parts in
@@ -121,9 +130,7 @@ pub stock-adds_up : (name : Text) (p : Point) → AddsUp (λ bundle. stock bundl
 stock-adds_up name p a b whole first second same = (join_some a b whole first second same).stocks_add name p
 
 -- and nothing but what is left does so
-pub only_rest_of_all : (bundle whole : List Resource) (parts : List (List Resource))
-    → IsBundle bundle → IsBundle whole → AllByRecursion IsBundle parts → joined bundle parts ≡ Some whole
-    → bundle ≡ rest_of_all whole parts
+pub only_rest_of_all : OnlyTheRestJoins
 only_rest_of_all bundle whole parts first is each same =
     known_by_units bundle (rest_of_all whole parts) first (bundle-rest_of_all whole parts is)
     (λ key p. omega (arith, units-rest_of_all whole parts key p is each, sum-joined (λ rs. units rs key p) (units-adds_up key p) bundle whole parts first each same))

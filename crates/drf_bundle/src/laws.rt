@@ -1,5 +1,6 @@
 //! Laws of amounts by label and of bundles by their units. A call does nothing: its contract is the law.
 ghost use Rattle.drf_bundle.specs.Laws.{SetsOneAmount, NamesOneLabel, SettingKeepsOrder, AmountsAdd, SumNamesBoth, AddingKeepsOrder, SumHasNoZeros, AddingCommutes, AddingAssociates, AmountsFall, NamesStay, LoweringKeepsOrder, ZerosCountNothing, NoZerosAreLeft, RestAmounts, RestHasNoZeros, NothingIsLeftOfAll, AllIsLeftOfNothing, RestAndPartMakeWhole, CoversByAmounts, KnownByAmounts};
+ghost use Rattle.drf_bundle.specs.Taken.{TakenAndLeftJoin, OnlyTheRestJoins};
 ghost use Rattle.drf_bundle.specs.UnitLaws.{KnownByUnits, JoinHasUnitsOfBoth, StocksAdd, CoversByUnits, RestHasTheOthers, RestIsBundle, RestAndPartJoin, QuantitiesSumScalars, QuantitiesHaveNoZeros, QuantitiesAdd, PartIsCovered, ClippedIsCovered, MovedIsBundle, MovedKeepsStocks, UnionIsBundle, UnionHasUnits};
 
 /// What setting an amount does.
@@ -89,4 +90,10 @@ pub fn bundle_part_law()
 pub fn bundle_union_law()
     ensures bundle { UnionIsBundle }
     ensures units { UnionHasUnits }
+{}
+
+/// What is left of a bundle when parts are taken from it.
+pub fn taking_law()
+    ensures joins { TakenAndLeftJoin }
+    ensures only { OnlyTheRestJoins }
 {}

@@ -5,7 +5,7 @@ use Rattle.std.specs.List.{list_any}
 use Rattle.std.specs.Option.{option_map_or}
 use Rattle.std.proofs.lemmas.Bool.{cases_Bool, and_parts, leb-true, ltb-false}
 use Rattle.drf_role.specs.Path.{Path, same_path}
-use Rattle.drf_bundle.specs.declared.quantities.Entry.{Entry}
+use Rattle.drf_bundle.specs.declared.resource.Resource.{Resource}
 use Rattle.drf_rows.specs.LimitNumbers.{LimitNumbers}
 use Rattle.drf_rows.specs.Client.{Client}
 use Rattle.drf_rows.specs.Cycle.{grant, new_offer, with_offer, tried, all_tried, turn_order, turn, turns}
@@ -61,7 +61,7 @@ few_weights limits rows role weight few room = elim (cases_Bool (has_weight rows
 
 -- ---- a cycle leaves them alone
 
-weights-tried : (rows : Rows) (agent : AgentRow) (client : Client) (granted : Option (List Entry))
+weights-tried : (rows : Rows) (agent : AgentRow) (client : Client) (granted : Option (List Resource))
     → (option_map_or (λ b. with_offer rows (new_offer rows agent client b)) granted rows).weights ≡ rows.weights
 unfolding with_offer
 weights-tried rows agent client None = refl

@@ -7,6 +7,7 @@ pub mod Held
 pub mod Weights
 pub mod Cycle
 pub mod Endings
+pub mod Report
 pub mod Consistent
 pub mod Refusal
 pub mod Step
@@ -22,4 +23,5 @@ pub mod RegistrationLaws
 pub mod Examples
 pub mod OrderExamples
 pub mod WeightExamples
+pub mod ReportExamples
 pub mod Laws

@@ -26,7 +26,7 @@ use Rattle.drf_rows.specs.declared.rows.AgentRow.{AgentRow}
 use Rattle.drf_rows.specs.declared.rows.ClientRow.{ClientRow}
 use Rattle.drf_rows.specs.declared.rows.FrameworkRow.{FrameworkRow}
 use Rattle.drf_rows.specs.declared.rows.Rows.{Rows}
-use Rattle.drf_sorter.specs.Content.{Content, Ranked, has_client, with_client}
+use Rattle.drf_sorter.specs.Content.{Ranked, has_client, with_client}
 use Rattle.drf_core.specs.Content.{ranked, content_of}
 use Rattle.drf_core.proofs.ContentOffer.{ranked_all, ranked-path}
 

@@ -3,6 +3,7 @@ pub mod Exits
 pub mod Numbers
 pub mod Pieces
 pub mod WordTests
+pub mod RoleLists
 pub mod Values
 pub mod Meanings
 pub mod Replies

@@ -1,17 +1,19 @@
 -- The tests on names, labels and roles are exact.
-use Rattle.std.proofs.Common.{◌≡◌, ◌≢◌, ℕ, ◌<◌, ◌≤◌, Bool, true, false, eqb, leb, List, [], ◌∷◌, ◌++◌, length, All, Decides, Some, codes, refl, sym, ap, subst, ◌∙◌, inl, inr, ⊎_elim, arith}
+use Rattle.std.proofs.Common.{◌≡◌, ℕ, ◌≤◌, Bool, true, eqb, leb, List, [], ◌∷◌, length, All, Decides, Some, codes, refl, sym, ap, subst, ◌∙◌, inl, inr, ⊎_elim, arith}
 use Rattle.std.specs.Int.{IsInRange, is_in_range}
-use Rattle.std.specs.List.{list_all, slice_get, slice_index}
-use Rattle.std.proofs.lemmas.Bool.{leb-true, le-leb, eq-eqb, ne_eqb, and_parts, and_from, and_left, and_right, or_parts, or_from, not-true, not_from_false, false≢true}
+use Rattle.std.specs.List.{list_all}
+use Rattle.std.specs.Prelude.{◌&&◌, nat_le}
+use Rattle.std.specs.Cmp.Lexicographic.{bytes_decides}
+use Rattle.std.proofs.lemmas.Bool.{leb-true, le-leb, or_cases, or_left, or_right, false≢true}
+use Rattle.std.proofs.lemmas.List.Splits.{join_with_byte-slice_split, length-slice_split}
 use Rattle.std.proofs.lemmas.Bool.Decides.{Decides-eqb, Decides-or, Decides-and, Decides-by_and, Decides-like, Decides-not}
-use Rattle.std.proofs.lemmas.List.Elements.{All-head, All-cons, All-nil}
-use Rattle.std.proofs.lemmas.Option.{none-some, same_Some}
+use Rattle.std.proofs.lemmas.Option.{same_Some}
 use Rattle.drf_role.specs.Text.{same_text}
-use Rattle.drf_role.specs.TextLaws.{same_from_test, test_from_same, test_from_other}
+use Rattle.drf_role.specs.TextLaws.{same_from_test, test_from_same}
 use Rattle.drf_role.specs.Name.{IsNameByte, IsLabelByte, IsName, IsLabel}
-use Rattle.drf_role.specs.Parts.{text_of}
+use Rattle.drf_role.specs.Parts.{parts_of, text_of}
 use Rattle.drf_role.specs.Role.{IsComponentByte, IsComponent, IsRole, IsRoleText, default_role}
-use Rattle.drf_lines.specs.Words.{is_name_byte, is_label_byte, is_short, is_name, is_label, is_role_byte, is_plain_role}
+use Rattle.drf_lines.specs.Words.{is_name_byte, is_label_byte, is_short, is_name, is_label, is_role_byte, is_component, is_role}
 
 decides_le : (a b : ℕ) → Decides (leb a b) (a ≤ b)
 decides_le a b = (leb-true a b, le-leb a b)
@@ -71,117 +73,67 @@ role_byte b =
     (Decides-or _ _ (Decides-eqb b 40)
     (Decides-or _ _ (Decides-eqb b 41) (Decides-or _ _ (Decides-eqb b 58) (Decides-eqb b 59)))))))
 
--- what the test on a role of one component says
-record Passes (text : List ℕ) : Type 0 where
-  not_empty : 1 ≤ length text
-  short : length text ≤ 64
-  alphabet : All IsComponentByte text
-  no_dash : eqb (slice_index text 0) 45 ≡ false
-  no_dot : same_text text (codes ".") ≡ false
-  no_dots : same_text text (codes "..") ≡ false
+component_decides : (text : List ℕ) → Decides (is_component text) (IsComponent text)
+unfolding is_component
+component_decides [] = (λ e. absurd (false≢true e), λ c. absurd (c.not_empty refl))
+component_decides (b ∷ bytes) =
+    let text : List ℕ = b ∷ bytes in
+    Decides-like _
+    (λ h. record {
+      not_empty = λ e. cc;
+      no_dot = λ e. h.1 (inr (inl e));
+      no_dots = λ e. h.1 (inr (inr (inl e)));
+      no_star = λ e. h.1 (inr (inr (inr e)));
+      no_dash = λ e. h.1 (inl (same_Some _ _ e));
+      alphabet = h.0.1;
+    })
+    (λ c. (
+      (omega arith, c.alphabet),
+      λ s. ⊎_elim (λ e. c.no_dash (ap Some e)) (λ t. ⊎_elim c.no_dot (λ u. ⊎_elim c.no_dots c.no_star u) t) s,
+    ))
+    (Decides-and _ _ (Decides-and _ _ (decides_le 1 (length text)) (all_decides is_role_byte IsComponentByte role_byte text))
+    (Decides-not _ (Decides-or _ _ (Decides-eqb b 45) (Decides-or _ _ (bytes_decides text (codes "."))
+    (Decides-or _ _ (bytes_decides text (codes "..")) (bytes_decides text (codes "*")))))))
 
-passes : (text : List ℕ) → is_plain_role text ≡ true → Passes text
-unfolding is_plain_role
-passes text h =
-    let parts = and_parts _ _ h in
-    let left = and_parts _ _ parts.0 in
-    let long = (short text).0 left.0 in
-    let apart = or_parts _ _ (not-true _ parts.1) in
-    let dots = or_parts _ _ apart.1 in
-    record {
-      not_empty = long.0;
-      short = long.1;
-      alphabet = (all_decides is_role_byte IsComponentByte role_byte text).0 left.1;
-      no_dash = apart.0;
-      no_dot = dots.0;
-      no_dots = dots.1;
-    }
+components_decide : (parts : List (List ℕ)) → Decides (list_all is_component parts) (All IsComponent parts)
+components_decide parts = Decides-by_and is_component IsComponent (list_all is_component) component_decides refl (λ _ _. refl) parts
 
-back : (text : List ℕ) → Passes text → is_plain_role text ≡ true
-unfolding is_plain_role
-back text p =
-    and_from _ _ (and_from _ _ ((short text).1 (p.not_empty, p.short))
-    ((all_decides is_role_byte IsComponentByte role_byte text).1 p.alphabet))
-    (not_from_false _ (or_from _ _ p.no_dash (or_from _ _ p.no_dot p.no_dots)))
+-- a text of at most 64 bytes, of at most 8 components
+path_decides : (text : List ℕ)
+    → Decides (nat_le (length text) 64 && nat_le (length (parts_of text)) 8 && list_all is_component (parts_of text))
+    (((length text ≤ 64) × (length (parts_of text) ≤ 8)) × All IsComponent (parts_of text))
+path_decides text =
+    Decides-and _ _ (Decides-and _ _ (decides_le (length text) 64) (decides_le (length (parts_of text)) 8)) (components_decide (parts_of text))
 
-first_byte : (text : List ℕ) → slice_get text 0 ≡ Some 45 → slice_index text 0 ≡ 45
-first_byte [] e = absurd (none-some 45 e)
-first_byte (b ∷ bytes) e = same_Some _ _ e
+-- what passes the test is a role
+pub role_passes : (text : List ℕ) → is_role text ≡ true → IsRoleText text
+unfolding is_role
+role_passes text h =
+    let joined : text_of (parts_of text) ≡ text = join_with_byte-slice_split 47 text in
+    elim (or_cases (same_text text (codes "*")) _ h) [
+      | inl star ↦ (default_role, inl refl, sym (same_from_test text (codes "*") star))
+      | inr path ↦
+          let parts = (path_decides text).0 path in (
+            parts_of text,
+            inr (record {
+              some = omega (arith, length-slice_split (λ (b : ℕ). eqb b 47) text);
+              few = parts.0.1;
+              short = subst (λ (t : List ℕ). length t ≤ 64) (sym joined) parts.0.0;
+              each = parts.1;
+            }),
+            joined,
+          )
+    ]
 
-component : (text : List ℕ) → Passes text → same_text text (codes "*") ≡ false → IsComponent text
-component text p other =
-    let differs = λ (word : List ℕ) (test : same_text text word ≡ false) (e : text ≡ word).
-    false≢true (sym test ∙ test_from_same text word e) in
-    record {
-      not_empty = λ e. let some = p.not_empty in let none = ap length e in absurd (omega arith);
-      no_dot = differs (codes ".") p.no_dot;
-      no_dots = differs (codes "..") p.no_dots;
-      no_star = differs (codes "*") other;
-      no_dash = λ e. false≢true (sym p.no_dash ∙ eq-eqb _ _ (first_byte text e));
-      alphabet = p.alphabet;
-    }
-
-role_of_cases : (text : List ℕ) → Passes text → (b : Bool) → same_text text (codes "*") ≡ b → IsRole (text ∷ [])
-role_of_cases text p true e = inl (ap (λ t. t ∷ []) (same_from_test text (codes "*") e))
-role_of_cases text p false e = inr (record {
-  some = omega arith;
-  few = omega arith;
-  short = p.short;
-  each = All-cons IsComponent text [] (component text p e) (All-nil IsComponent);
-})
-
--- what passes the test is a role of one component
-pub plain_is_role : (text : List ℕ) → is_plain_role text ≡ true → IsRoleText text
-plain_is_role text h = (text ∷ [], role_of_cases text (passes text h) _ refl, refl)
-
-star_passes : is_plain_role (codes "*") ≡ true
-unfolding is_plain_role
-star_passes = refl
-
-component_passes : (text : List ℕ) → IsComponent text → length text ≤ 64 → Passes text
-component_passes text c small = record {
-  not_empty = some text c.not_empty;
-  short = small;
-  alphabet = c.alphabet;
-  no_dash = ne_eqb _ _ (λ e. c.no_dash (first text c.not_empty e));
-  no_dot = test_from_other text (codes ".") c.no_dot;
-  no_dots = test_from_other text (codes "..") c.no_dots;
-}
-  where
-    some : (t : List ℕ) → t ≢ [] → 1 ≤ length t
-    some [] h = absurd (h refl)
-    some (x ∷ xs) h = omega arith
-
-    first : (t : List ℕ) → t ≢ [] → slice_index t 0 ≡ 45 → slice_get t 0 ≡ Some 45
-    first [] h e = absurd (h refl)
-    first (x ∷ xs) h e = ap Some e
-
--- a role of one component passes the test
-pub one_component : (role : List (List ℕ)) (text : List ℕ) → IsRole role → text_of role ≡ text → 1 ≤ length role
-    → length role ≤ 1
-    → (role ≡ text ∷ []) × (is_plain_role text ≡ true)
-one_component [] text h e some one = absurd (omega arith)
-one_component (c ∷ []) text h e some one = (
-  ap (λ t. t ∷ []) e,
-  subst (λ t. is_plain_role t ≡ true) e
-      (⊎_elim (λ star. subst (λ t. is_plain_role t ≡ true) (sym (same_head star)) star_passes)
-      (λ p. back c (component_passes c (All-head IsComponent c [] p.each) p.short)) h),
-)
-  where
-    same_head : (c ∷ []) ≡ default_role → c ≡ codes "*"
-    same_head star = cc
-one_component (c ∷ d ∷ ds) text h e some one = absurd (omega arith)
-
-slash_fails : (front back : List ℕ) → list_all is_role_byte (front ++ 47 ∷ back) ≡ false
-slash_fails [] back = refl
-slash_fails (b ∷ front) back = and_right (is_role_byte b) _ (slash_fails front back)
-
--- a role of more components doesn't
-pub more_components : (role : List (List ℕ)) (text : List ℕ) → text_of role ≡ text → 1 < length role
-    → is_plain_role text ≡ false
-unfolding is_plain_role
-more_components [] text e more = absurd (omega arith)
-more_components (c ∷ []) text e more = absurd (omega arith)
-more_components (c ∷ d ∷ ds) text e more =
-    subst (λ t. is_plain_role t ≡ false) e
-    (and_left _ _ (and_right (is_short (text_of (c ∷ d ∷ ds))) _ (slash_fails c (text_of (d ∷ ds)))))
+-- and a role passes it
+pub role_back : (text : List ℕ) (role : List (List ℕ)) → IsRole role → text_of role ≡ text → role ≡ parts_of text
+    → is_role text ≡ true
+unfolding is_role
+role_back text role right written parts =
+    elim right [
+      | inl default ↦ or_left _ _ (test_from_same text (codes "*") (sym written ∙ ap text_of default))
+      | inr path ↦ or_right (same_text text (codes "*")) _ ((path_decides text).1 (
+        (subst (λ (t : List ℕ). length t ≤ 64) written path.short, subst (λ (r : List (List ℕ)). length r ≤ 8) parts path.few),
+        subst (All IsComponent) parts path.each,
+      ))
+    ]

@@ -2,11 +2,16 @@ pub mod AmountText
 pub mod BlankLemmas
 pub mod BundleText
 pub mod CutLemmas
+pub mod Cuts
 pub mod Decimals
+pub mod Exits
 pub mod Joined
+pub mod NameLemmas
 pub mod Numbers
+pub mod Parts
 pub mod PieceLemmas
 pub mod QuantityText
+pub mod RangeLemmas
 pub mod ResourceText
 pub mod RoleText
 pub mod ValueText

@@ -38,7 +38,7 @@ any_at_cases : {X : Type 0} (p : X → Bool) (x : X) (xs : List X) (b : Bool) �
 any_at_cases p x xs true e rest = rw e (grind (arith, nat_tests))
 any_at_cases p x xs false e rest = rw (e, rest) (grind (arith, nat_tests))
 
-any_at : {X : Type 0} (p : X → Bool) (xs : List X) → list_any p xs ≡ ltb (position_or_len p xs) (length xs)
+pub any_at : {X : Type 0} (p : X → Bool) (xs : List X) → list_any p xs ≡ ltb (position_or_len p xs) (length xs)
 any_at p [] = refl
 any_at p (x ∷ xs) = any_at_cases p x xs (p x) refl (any_at p xs)
 

@@ -1,7 +1,9 @@
 pub mod Blanks
+pub mod Faults
 pub mod Meaning
 pub mod NameTests
 pub mod Number
 pub mod Pieces
 pub mod RoundTrip
+pub mod Steps
 pub mod Written

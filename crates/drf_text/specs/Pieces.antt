@@ -30,9 +30,12 @@ ends c text = nat_lt 0 (length text) && slice_index_or text (length text - 1) 0 
 abbrev pub inside : Text → Text
 inside text = take (length text - 2) (drop 1 text)
 
--- the parts between two brackets: none where nothing but blanks stands there
+-- the parts of what stands between two brackets: none where it is nothing but blanks
+abbrev pub parts_between : Text → List Text
+parts_between text = if list_all is_blank text then [] else map trimmed (slice_split (λ b. b == 44) text)
+
 abbrev pub parts_inside : Text → List Text
-parts_inside text = if list_all is_blank (inside text) then [] else map trimmed (slice_split (λ b. b == 44) (inside text))
+parts_inside text = parts_between (inside text)
 
 -- the pieces of a text: what `;` separates, without those that are empty
 abbrev pub pieces_of : Text → List Text

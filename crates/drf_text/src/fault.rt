@@ -1,7 +1,10 @@
 ghost use Rattle.std.specs.Prelude.{◌≡◌};
 ghost use Rattle.drf_text.specs.declared.fault.TextFault.TheVariants.{Memory};
 
-use std::alloc::AllocError;
+use drf_amount::AlgebraFault;
+use drf_kinds::RangesFault;
+use drf_role::{NameFault, RoleFault};
+use std::alloc::{AllocError, AllocFailed};
 use thiserror::Error;
 
 /// Why a text says no resources. Where a piece has several faults, the one listed first here is told.
@@ -34,5 +37,68 @@ impl From<AllocError> for TextFault {
 
     fn from(_error: AllocError) -> TextFault {
         TextFault::Memory
+    }
+}
+
+impl<T: Drop> From<AllocFailed<T>> for TextFault {
+    ghost from_gives = { λ _ fault. fault ≡ Memory };
+
+    fn from(_error: AllocFailed<T>) -> TextFault {
+        TextFault::Memory
+    }
+}
+
+impl From<NameFault> for TextFault {
+    ghost use Rattle.drf_text.specs.Faults.{fault_of_name};
+
+    ghost from_gives = { λ refused fault. fault ≡ fault_of_name refused };
+
+    fn from(refused: NameFault) -> TextFault {
+        match refused {
+            NameFault::BadName => TextFault::BadName,
+            NameFault::Memory => TextFault::Memory,
+        }
+    }
+}
+
+impl From<RoleFault> for TextFault {
+    ghost use Rattle.drf_text.specs.Faults.{fault_of_role};
+
+    ghost from_gives = { λ refused fault. fault ≡ fault_of_role refused };
+
+    fn from(refused: RoleFault) -> TextFault {
+        match refused {
+            RoleFault::BadRole => TextFault::BadRole,
+            RoleFault::Memory => TextFault::Memory,
+        }
+    }
+}
+
+impl From<RangesFault> for TextFault {
+    ghost use Rattle.drf_text.specs.Faults.{fault_of_ranges};
+
+    ghost from_gives = { λ refused fault. fault ≡ fault_of_ranges refused };
+
+    fn from(refused: RangesFault) -> TextFault {
+        match refused {
+            RangesFault::Backwards => TextFault::BadNumber,
+            RangesFault::Memory => TextFault::Memory,
+        }
+    }
+}
+
+/// No union is refused for the last two.
+impl From<AlgebraFault> for TextFault {
+    ghost use Rattle.drf_text.specs.Meaning.{text_fault_of};
+
+    ghost from_gives = { λ refused fault. fault ≡ text_fault_of refused };
+
+    fn from(refused: AlgebraFault) -> TextFault {
+        match refused {
+            AlgebraFault::Kind => TextFault::Kind,
+            AlgebraFault::Overlap => TextFault::Overlap,
+            AlgebraFault::TooLarge => TextFault::TooLarge,
+            AlgebraFault::NotCovered | AlgebraFault::Memory => TextFault::Memory,
+        }
     }
 }

@@ -5,7 +5,10 @@ mod amount;
 mod fault;
 mod laws;
 mod number;
+mod piece;
+mod read;
 mod trim;
+mod values;
 mod write;
 
 pub use fault::TextFault;

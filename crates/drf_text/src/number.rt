@@ -7,7 +7,7 @@ ghost use Rattle.drf_text.specs.declared.fault.TextFault.TheVariants.{BadNumber}
 use crate::fault::TextFault;
 use crate::trim::trim;
 
-fn are_digits(text: &str) -> bool
+pub fn are_digits(text: &str) -> bool
     ensures { result ≡ are_digits text.now }
 {
     !text.is_empty() && text.as_bytes().iter().all(|b| b.is_ascii_digit())

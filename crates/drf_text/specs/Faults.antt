@@ -1,0 +1,30 @@
+-- What a reader answers, and the faults of texts for those of their parts.
+use Rattle.std.specs.Prelude.{◌≡◌, ◌≢◌, Result, Ok, Err}
+use Rattle.drf_role.specs.declared.name.NameFault.{NameFault}
+use Rattle.drf_role.specs.declared.name.NameFault.TheVariants as name
+use Rattle.drf_role.specs.declared.role.RoleFault.{RoleFault}
+use Rattle.drf_role.specs.declared.role.RoleFault.TheVariants as role
+use Rattle.drf_kinds.specs.declared.ranges.RangesFault.{RangesFault}
+use Rattle.drf_kinds.specs.declared.ranges.RangesFault.TheVariants as ranges
+use Rattle.drf_text.specs.declared.fault.TextFault.{TextFault}
+use Rattle.drf_text.specs.declared.fault.TextFault.TheVariants.{BadName, BadRole, BadNumber, Memory}
+
+-- what is meant, seen by `view`, or the fault for which nothing is; where memory ends it says nothing
+abbrev pub IsReadAs : {A B : Type 0} → (A → B) → Result A TextFault → Result B TextFault → Type 0
+IsReadAs view (Ok x) meaning = meaning ≡ Ok (view x)
+IsReadAs view (Err fault) meaning = fault ≢ Memory → meaning ≡ Err fault
+
+abbrev pub IsMeaning : {A : Type 0} → Result A TextFault → Result A TextFault → Type 0
+IsMeaning = IsReadAs (λ x. x)
+
+abbrev pub fault_of_name : NameFault → TextFault
+fault_of_name name.BadName = BadName
+fault_of_name name.Memory = Memory
+
+abbrev pub fault_of_role : RoleFault → TextFault
+fault_of_role role.BadRole = BadRole
+fault_of_role role.Memory = Memory
+
+abbrev pub fault_of_ranges : RangesFault → TextFault
+fault_of_ranges ranges.Backwards = BadNumber
+fault_of_ranges ranges.Memory = Memory

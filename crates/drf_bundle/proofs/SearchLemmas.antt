@@ -6,7 +6,7 @@ use Rattle.std.specs.Cmp.Lexicographic.{slice_cmp, nat_list_cmp_total}
 use Rattle.std.specs.Ordering.{nat_cmp, is_lt, is_ne, ordering_then, ordering_reverse, ordering_index}
 use Rattle.std.specs.List.{insert}
 use Rattle.std.specs.List.Sorted.{IsSearchInRange, IsBinarySearchResult, IsNonDecreasingBy}
-use Rattle.std.proofs.lemmas.Bool.{false≢true, and_parts, cases_lt, false_from_ne_true}
+use Rattle.std.proofs.lemmas.Bool.{false≢true, and_parts, cases_lt}
 use Rattle.std.proofs.lemmas.List.Recursion.{and_at}
 use Rattle.std.proofs.lemmas.List.Sorted.{searchable_from_sorted}
 use Rattle.drf_role.specs.TextLaws.{cmp_itself}

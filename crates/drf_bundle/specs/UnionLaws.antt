@@ -1,23 +1,20 @@
 -- What a union does to units, and that it is a bundle.
-use Rattle.std.specs.Prelude.{◌≡◌, ℕ, ◌+◌, ◌^◌, ◌<◌, ◌≤◌, ◌&&◌, ◌||◌, Bool, true, false, not, List, [], ◌∷◌, IsTrue, All, Option, Some, None, nat_lt, nat_le, if◌then◌else◌}
+use Rattle.std.specs.Prelude.{◌≡◌, ℕ, ◌+◌, ◌^◌, ◌<◌, ◌≤◌, ◌&&◌, ◌||◌, Bool, true, false, not, List, [], ◌∷◌, IsTrue, Option, Some, None, nat_lt}
 use Rattle.std.specs.Bool.{then_some}
-use Rattle.std.specs.List.{list_any}
 use Rattle.std.proofs.Common.{refl, sym, ap, ◌∙◌, subst, inl, inr, cond, arith}
 use Rattle.std.proofs.lemmas.Bool.{false≢true, true≢false, and_parts, and_from, cases_Bool, false_from_ne_true, ltb-true, lt-ltb}
 use Rattle.std.proofs.lemmas.Bool.Decides.{nat_tests}
 use Rattle.std.proofs.lemmas.List.Elements.{All-nil, All-cons}
 use Rattle.drf_role.specs.Text.{Text, same_text}
 use Rattle.drf_role.specs.TextLaws.{same_itself, same_from_test, test_from_same}
-use Rattle.drf_amount.specs.declared.algebra.AlgebraFault.{AlgebraFault}
 use Rattle.drf_amount.specs.declared.algebra.AlgebraFault.TheVariants as fault
-use Rattle.drf_bundle.specs.Value.{Point, Thousandths, Number, Member, units_in, most, is_one_kind, amount_in, is_same_kind, share_members, united}
+use Rattle.drf_bundle.specs.Value.{Point, Thousandths, Number, Member, units_in, most, amount_in, is_same_kind, share_members, united}
 use Rattle.drf_bundle.specs.ValueLaws.{united_within, thousandths-united, given-united, filled_point, point_filled, units_single, share_at}
-use Rattle.drf_bundle.specs.Bundle.{Key, key_of, key_cmp, key_below, same_key, is_in_order, units_where, units, stock, IsResource, IsBundle, IsKept, value_at, merged, have_clash, quantities_of, add_scalar, join_or}
+use Rattle.drf_bundle.specs.Bundle.{Key, key_of, key_below, same_key, is_in_order, units_where, units, stock, IsResource, IsBundle, IsKept, value_at, merged, have_clash, quantities_of, add_scalar, join_or}
 use Rattle.drf_bundle.specs.KeyLaws.{cases_key, key_less, key_greater, key_equal, same_key_itself, same_key_true, below_other, above_other, cases_same, Has, stands_first, first_trans, unit_of, where-cons, unit-here, unit-none, units_found, units_at}
 use Rattle.drf_bundle.specs.JoinLaws.{both_of, merged-empty, in_order-merged, each-merged}
 use Rattle.drf_bundle.specs.FitLaws.{zero_or_some, stock_has, one_kind_of_both}
 use Rattle.drf_bundle.specs.OneLaws.{bundle-one}
-use Rattle.drf_bundle.specs.Quantities.{HasNoZeros, amount_of}
 use Rattle.drf_bundle.specs.QuantitiesLaws.{or_none, same_quantities}
 use Rattle.drf_bundle.specs.SumLaws.{of_name, nothing, amount-add_scalar, amount-quantities_of}
 use Rattle.drf_bundle.specs.RestLaws.{nothing_there}
@@ -27,7 +24,7 @@ use Rattle.drf_bundle.specs.Union.{IsPiece, has_other_kind, is_reserved_elsewher
 use Rattle.drf_bundle.specs.declared.quantities.Entry.{Entry}
 use Rattle.drf_bundle.specs.declared.resource.Resource.{Resource}
 use Rattle.drf_bundle.specs.declared.value.Value.{Value}
-use Rattle.drf_bundle.specs.declared.value.Clash.TheVariants.{Kinds, Members}
+use Rattle.drf_bundle.specs.declared.value.Clash.TheVariants.{Kinds}
 
 -- ---- units
 

@@ -1,6 +1,7 @@
 //! Events through the core itself, and what its rows then tell.
 use anyhow::Result;
-use drf_bundle::ScalarBundle;
+use drf_amount::Algebra;
+use drf_bundle::Bundle;
 use drf_core::Core;
 use drf_role::{Name, Role};
 use drf_rows::{Event, Limits, Table};
@@ -8,23 +9,20 @@ use drf_sorter::PlainSorter;
 use std::alloc::Global;
 use std::rt::Runtime;
 
-fn new_agent(alloc: Global) -> Result<Event>
-{
+fn new_agent(alloc: Global) -> Result<Event> {
     let agent = Name::read(alloc, "n1")?;
-    let total = ScalarBundle::empty(alloc);
+    let total = Bundle::empty(alloc);
     Ok(Event::AddAgent { agent, total })
 }
 
-fn new_framework(alloc: Global) -> Result<Event>
-{
+fn new_framework(alloc: Global) -> Result<Event> {
     let framework = Name::read(alloc, "f1")?;
     let role = Role::default_role(alloc)?;
     let roles = Table::from_vec(vec![in alloc; role]?);
     Ok(Event::AddFramework { framework, roles })
 }
 
-fn run_one(alloc: Global, core: &mut Core<PlainSorter>, event: Event) -> Result<()>
-{
+fn run_one(alloc: Global, core: &mut Core<PlainSorter>, event: Event) -> Result<()> {
     let mut replies = Vec::new(alloc);
     Ok(core.run(&[event], &mut replies)?)
 }

@@ -29,14 +29,16 @@ front-line old now next piece rest at took inside feed step = record {
 
 -- what it answered so far are the lines of a front, and the allocator has taken these
 pub front-answers : (old now next : State) (piece rest : List ℕ) → TookFront old now piece rest
-    → next.unsent ≡ now.unsent → next.machine ≡ now.machine → AnswersFrontOf old piece next
-front-answers old now next piece rest took same still =
+    → next.unsent ≡ now.unsent → next.lines ≡ now.lines → next.machine ≡ now.machine
+    → AnswersFrontOf old piece next
+front-answers old now next piece rest took same counted still =
     let cut : take (length took.front) piece ≡ took.front = ap (take (length took.front)) took.whole
     ∙ take-append_seam took.front rest in
     let state : now ≡ after_piece old (take (length took.front) piece) = took.state ∙ ap (after_piece old) (sym cut) in
     record {
       answered = length took.front;
       unsent = same ∙ ap (λ (t : State). t.unsent) state;
+      lines = counted ∙ ap (λ (t : State). t.lines) state;
       taken = length took.front;
       machine = still ∙ ap (λ (t : State). t.machine) state;
       ahead = inl refl;
@@ -45,10 +47,11 @@ front-answers old now next piece rest took same still =
 -- the allocator may have taken the line at hand too
 pub front-ahead : (old now next : State) (piece rest : List ℕ) (at : ℕ) → TookFront old now piece rest
     → at < length rest → get_or rest at 0 ≡ 10 → IsWithinLine (take at rest)
-    → next.unsent ≡ now.unsent → HasTakenAtMost now.machine (now.pending ++ take at rest) next.machine
+    → next.unsent ≡ now.unsent → next.lines ≡ now.lines
+    → HasTakenAtMost now.machine (now.pending ++ take at rest) next.machine
     → AnswersFrontOf old piece next
-front-ahead old now next piece rest at took inside feed within same taken =
-    ⊎_elim (front-answers old now next piece rest took same)
+front-ahead old now next piece rest at took inside feed within same counted taken =
+    ⊎_elim (front-answers old now next piece rest took same counted)
     (λ (more : next.machine ≡ machine_after now.machine (meaning_of (now.pending ++ take at rest))).
     let line = take at rest in
     let past = front-line old now (after_piece now (line ++ 10 ∷ [])) piece rest at took inside feed refl in
@@ -63,6 +66,7 @@ front-ahead old now next piece rest at took inside feed within same taken =
     record {
       answered = length took.front;
       unsent = same ∙ ap (λ (t : State). t.unsent) state;
+      lines = counted ∙ ap (λ (t : State). t.lines) state;
       taken = length past.front;
       machine = more ∙ ap (λ (t : State). t.machine) state_past;
       ahead = inr (sym (ap (λ (t : State). t.lines) state_past) ∙ ap (λ (t : State). t.lines + 1) state);

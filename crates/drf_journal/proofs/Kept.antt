@@ -5,8 +5,8 @@ use Rattle.std.proofs.lemmas.List.{take_all, length-take-le, take-take}
 use Rattle.drf_core.specs.Machine.{Machine}
 use Rattle.drf_lines.specs.Meaning.{longest_line, meaning_of}
 use Rattle.drf_lines.specs.declared.fault.LineFault.TheVariants.{LineTooLong}
-use Rattle.drf_journal.specs.Output.{kept_of}
-use Rattle.drf_journal.specs.State.{answer_to, reply_line_of}
+use Rattle.drf_journal.specs.Output.{kept_of, reply_line_after}
+use Rattle.drf_journal.specs.State.{answer_to}
 
 front_is_enough : (n : ℕ) (xs ys : List ℕ) → take n (take n xs ++ ys) ≡ take n (xs ++ ys)
 front_is_enough zero xs ys = refl
@@ -35,5 +35,5 @@ meaning-kept line =
 
 pub answer-kept : (echo : Bool) (machine : Machine) (line : List ℕ)
     → answer_to echo machine (kept_of line) ≡ answer_to echo machine line
-answer-kept true machine line = λ i. (kept-kept line i ++ 10 ∷ []) ++ reply_line_of machine (meaning-kept line i)
-answer-kept false machine line = ap (λ m. [] ++ reply_line_of machine m) (meaning-kept line)
+answer-kept true machine line = λ i. (kept-kept line i ++ 10 ∷ []) ++ reply_line_after machine.limits machine.rows (meaning-kept line i)
+answer-kept false machine line = ap (λ m. [] ++ reply_line_after machine.limits machine.rows m) (meaning-kept line)

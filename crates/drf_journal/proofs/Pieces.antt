@@ -6,14 +6,9 @@ use Rattle.drf_core.specs.Machine.{Machine}
 use Rattle.drf_lines.specs.Meaning.{meaning_of}
 use Rattle.drf_journal.specs.Lines.{is_line_feed, ended_lines_of, open_line_of}
 use Rattle.drf_journal.specs.Output.{kept_of}
-use Rattle.drf_journal.specs.State.{State, machine_after, answer_to, after_line, after_byte, after_piece, at_end, IsWithinLine, HasTakenAtMost}
+use Rattle.drf_journal.specs.State.{State, machine_after, machine_after_lines, answer_to, after_line, after_byte, after_piece, at_end, IsWithinLine, HasTakenAtMost}
 use Rattle.drf_journal.proofs.Cuts.{ended-feed, open-feed, ended-within, open-within, within-nil, within-push, within-head, within-tail}
 use Rattle.drf_journal.proofs.Kept.{kept-append, meaning-kept, answer-kept}
-
--- the allocator after some lines
-abbrev pub machine_after_lines : Machine → List (List ℕ) → Machine
-machine_after_lines machine [] = machine
-machine_after_lines machine (line ∷ lines) = machine_after_lines (machine_after machine (meaning_of line)) lines
 
 -- the text for some lines, one after another
 abbrev pub answers_from : Bool → Machine → List (List ℕ) → List ℕ
@@ -253,9 +248,10 @@ end-taken s machine some taken =
 at_end_apart : (s : State) (sent : List ℕ) (t : Bool) → eqb (length s.pending) 0 ≡ t
     → (sent ++ (at_end s).unsent ≡ (at_end (record s { unsent = sent ++ s.unsent })).unsent)
     × ((at_end s).lines ≡ (at_end (record s { unsent = sent ++ s.unsent })).lines)
+    × ((at_end s).machine ≡ (at_end (record s { unsent = sent ++ s.unsent })).machine)
 unfolding at_end after_line
-at_end_apart s sent true e = rw e (refl, refl)
-at_end_apart s sent false e = rw e (sym (append_assoc sent s.unsent (answer_to s.echo s.machine s.pending)), refl)
+at_end_apart s sent true e = rw e (refl, refl, refl)
+at_end_apart s sent false e = rw e (sym (append_assoc sent s.unsent (answer_to s.echo s.machine s.pending)), refl, refl)
 
 pub end-sent : (s : State) (sent : List ℕ)
     → sent ++ (at_end s).unsent ≡ (at_end (record s { unsent = sent ++ s.unsent })).unsent
@@ -264,3 +260,7 @@ end-sent s sent = (at_end_apart s sent (eqb (length s.pending) 0) refl).0
 pub end-counted : (s : State) (sent : List ℕ)
     → (at_end s).lines ≡ (at_end (record s { unsent = sent ++ s.unsent })).lines
 end-counted s sent = (at_end_apart s sent (eqb (length s.pending) 0) refl).1
+
+pub end-machine : (s : State) (sent : List ℕ)
+    → (at_end s).machine ≡ (at_end (record s { unsent = sent ++ s.unsent })).machine
+end-machine s sent = (at_end_apart s sent (eqb (length s.pending) 0) refl).2

@@ -1,20 +1,24 @@
 -- What was read and written so far, and how a run ends.
-use Rattle.std.proofs.Common.{◌≡◌, ℕ, ◌+◌, Bool, List, [], ◌∷◌, ◌++◌, length, take, drop, Option, Ok, Err, refl, sym, ap, ◌∙◌, subst, append_assoc, append-nil, take-append-drop, if◌then◌else◌, ◌==◌, arith}
+use Rattle.std.proofs.Common.{◌≡◌, ℕ, ◌+◌, ◌-◌, ◌≤◌, Bool, true, false, List, [], ◌∷◌, ◌++◌, length, take, drop, Option, Ok, Err, ◌⊎◌, ⊎_elim, inl, inr, refl, sym, ap, ◌∙◌, subst, append_assoc, append-nil, take-append-drop, if◌then◌else◌, ◌==◌, arith}
 use Rattle.std.proofs.Math.Seq.{take-append_seam}
-use Rattle.std.specs.Io.KnownBytes.{Appends, Consumes, Keeps}
+use Rattle.std.specs.Io.{StartsWith}
+use Rattle.std.specs.Io.KnownBytes.{Appends, Consumes, Keeps, IsAtEnd}
 use Rattle.std.proofs.KnownBytes.{Appends-nil, Appends-trans, Consumes-nil, Consumes-trans, Consumes-kept}
 use Rattle.std.proofs.lemmas.Bool.{ne_eqb}
-use Rattle.std.proofs.lemmas.List.{length-append}
+use Rattle.std.proofs.lemmas.List.{length-append, take_all, take-append-le}
+use Rattle.drf_core.specs.Machine.{Machine, opened}
 use Rattle.drf_rows.specs.LimitNumbers.{LimitNumbers}
+use Rattle.drf_lines.specs.Meaning.{meaning_of}
+use Rattle.drf_journal.specs.declared.fault.RunFault.{RunFault}
 use Rattle.drf_journal.specs.declared.fault.RunFault.TheVariants.{Read, Write, Memory}
 use Rattle.drf_journal.specs.Device.{AppendsFrontOf}
 use Rattle.drf_journal.specs.Lines.{ended_lines_of, open_line_of, lines_of}
-use Rattle.drf_journal.specs.Output.{text_of}
-use Rattle.drf_journal.specs.State.{State, begun, after_line, after_piece, at_end, AnswersFrontOf}
-use Rattle.drf_journal.specs.Ended.{HasRun}
-use Rattle.drf_journal.proofs.Cuts.{within-nil, goes_on}
-use Rattle.drf_journal.proofs.Kept.{answer-kept}
-use Rattle.drf_journal.proofs.Pieces.{machine_after_lines, answers_from, after_lines, after_piece-lines, piece-append, piece-nil, piece-sent, end-none, end-line, end-sent, end-counted}
+use Rattle.drf_journal.specs.Output.{output_of}
+use Rattle.drf_journal.specs.State.{State, begun, IsBegun, machine_after, machine_after_lines, after_line, after_piece, at_end, AnswersFrontOf}
+use Rattle.drf_journal.specs.Ended.{HaveEnded, HasRun, HasTaken, HasServed, HasStopped, HasCause}
+use Rattle.drf_journal.proofs.Cuts.{within-nil, ended-within, goes_on}
+use Rattle.drf_journal.proofs.Kept.{answer-kept, meaning-kept}
+use Rattle.drf_journal.proofs.Pieces.{answers_from, after_lines, after_piece-lines, piece-append, piece-nil, piece-sent, end-none, end-line, end-sent, end-counted, end-machine}
 use Rattle.drf_journal.proofs.Texts.{text-lines, text-append, answers-append}
 
 -- ---- the end of the input, where these lines had ended, and this much has come of the next
@@ -33,6 +37,17 @@ counted_last : (s : State) (lines : List (List ℕ)) (next : List ℕ)
 unfolding after_line
 counted_last s lines next = let more = length-append lines (next ∷ []) in omega arith
 
+machine_more : (machine : Machine) (lines : List (List ℕ)) (next : List ℕ)
+    → machine_after (machine_after_lines machine lines) (meaning_of next) ≡ machine_after_lines machine (lines ++ next ∷ [])
+machine_more machine [] next = refl
+machine_more machine (line ∷ lines) next = machine_more (machine_after machine (meaning_of line)) lines next
+
+machine_last : (s : State) (lines : List (List ℕ)) (next : List ℕ)
+    → (after_line (after_lines s lines next)).machine ≡ machine_after_lines s.machine (lines ++ next ∷ [])
+unfolding after_line
+machine_last s lines next =
+    ap (machine_after (machine_after_lines s.machine lines)) (meaning-kept next) ∙ machine_more s.machine lines next
+
 -- the lines, and the next one if anything has come of it
 abbrev lines_with : List (List ℕ) → List ℕ → List (List ℕ)
 lines_with lines next = lines ++ (if length next == 0 then [] else next ∷ [])
@@ -40,11 +55,13 @@ lines_with lines next = lines ++ (if length next == 0 then [] else next ∷ [])
 at_end_all : (s : State) (lines : List (List ℕ)) (next : List ℕ)
     → ((at_end (after_lines s lines next)).unsent ≡ s.unsent ++ answers_from s.echo s.machine (lines_with lines next))
     × ((at_end (after_lines s lines next)).lines ≡ s.lines + length (lines_with lines next))
+    × ((at_end (after_lines s lines next)).machine ≡ machine_after_lines s.machine (lines_with lines next))
 at_end_all s lines [] =
     let same = end-none (after_lines s lines []) refl in (
       ap (λ (t : State). t.unsent) same
           ∙ ap (λ l. s.unsent ++ answers_from s.echo s.machine l) (sym (append-nil lines)),
       ap (λ (t : State). t.lines) same ∙ ap (λ l. s.lines + length l) (sym (append-nil lines)),
+      ap (λ (t : State). t.machine) same ∙ ap (machine_after_lines s.machine) (sym (append-nil lines)),
     )
 at_end_all s lines (b ∷ next) =
     let whole = after_lines s lines (b ∷ next) in
@@ -54,114 +71,190 @@ at_end_all s lines (b ∷ next) =
       ap (λ (t : State). t.unsent) ended ∙ line_last s lines (b ∷ next),
       ap (λ (t : State). t.lines) ended
           ∙ counted_last s lines (b ∷ next),
+      ap (λ (t : State). t.machine) ended ∙ machine_last s lines (b ∷ next),
     )
 
--- the first lines of an input
-lines_first : (front more : List ℕ)
-    → (others : List (List ℕ)) × (lines_of (front ++ more) ≡ ended_lines_of front ++ others)
-unfolding lines_of
-lines_first front more =
-    let rest = goes_on front more in
-    let last = if length (open_line_of (front ++ more)) == 0 then [] else open_line_of (front ++ more) ∷ [] in
-    (rest.others ++ last, ap (λ l. l ++ last) rest.lines ∙ append_assoc (ended_lines_of front) rest.others last)
+-- ---- a front of an input
 
--- a front of a text
-front_of : (front rest text : List ℕ) → text ≡ front ++ rest → (count : ℕ) × (front ≡ take count text)
-front_of front rest text e = (length front, sym (ap (take (length front)) e ∙ take-append_seam front rest))
+module _ (front more read : List ℕ) (whole : read ≡ front ++ more) where
+  others : List (List ℕ)
+  others = (goes_on front more).others
 
-module _ (limits : LimitNumbers) (echo : Bool) where
-  read_lines : (read : List ℕ) → after_piece (begun limits echo) read
-      ≡ after_lines (begun limits echo) (ended_lines_of read) (open_line_of read)
-  read_lines read = after_piece-lines (begun limits echo) [] read within-nil refl
+  parted : ended_lines_of read ≡ ended_lines_of front ++ others
+  unfolding others
+  parted = ap ended_lines_of whole ∙ (goes_on front more).lines
 
-  -- the text so far
-  text_ended : (read : List ℕ) → (after_piece (begun limits echo) read).unsent
-      ≡ text_of limits echo (ended_lines_of read)
-  text_ended read = ap (λ (s : State). s.unsent) (read_lines read) ∙ sym (text-lines limits echo (ended_lines_of read))
+  parted_all : (last : List (List ℕ)) × (lines_of read ≡ ended_lines_of front ++ last)
+  unfolding lines_of
+  parted_all =
+      let last = if length (open_line_of read) == 0 then [] else open_line_of read ∷ [] in
+      (others ++ last, ap (λ l. l ++ last) parted ∙ append_assoc (ended_lines_of front) others last)
 
-  -- the text of the whole input, and the number of its lines
-  text_whole : (read : List ℕ) → (at_end (after_piece (begun limits echo) read)).unsent
-      ≡ text_of limits echo (lines_of read)
+  -- its lines come first
+  ended_first : take (length (ended_lines_of front)) (ended_lines_of read) ≡ ended_lines_of front
+  ended_first = ap (take (length (ended_lines_of front))) parted ∙ take-append_seam (ended_lines_of front) others
+
+  lines_first : take (length (ended_lines_of front)) (lines_of read) ≡ ended_lines_of front
+  lines_first = ap (take (length (ended_lines_of front))) parted_all.1
+      ∙ take-append_seam (ended_lines_of front) parted_all.0
+
+  ended_few : length (ended_lines_of front) ≤ length (ended_lines_of read)
+  ended_few =
+      let all = ap length parted in
+      let sum = length-append (ended_lines_of front) others in
+      omega arith
+
+-- a front is written of what was written and is to be written
+front_of : (told more : List ℕ) (count : ℕ) (text : List ℕ) → told ++ more ≡ text
+    → (all : ℕ) × (told ++ take count more ≡ take all text)
+front_of told more count text e =
+    let front = told ++ take count more in
+    let whole : text ≡ front ++ drop count more =
+    sym e ∙ ap (λ l. told ++ l) (sym (take-append-drop count more))
+    ∙ sym (append_assoc told (take count more) (drop count more)) in
+    (length front, sym (ap (take (length front)) whole ∙ take-append_seam front (drop count more)))
+
+-- what was read before the last 65,536 bytes was read before the last piece
+early_count : (before piece : List ℕ) → length piece ≤ 65536
+    → take (length (before ++ piece) - 65536) (before ++ piece) ≡ take (length (before ++ piece) - 65536) before
+early_count before piece short =
+    take-append-le _ before piece (let sum = length-append before piece in omega arith)
+
+-- the line at hand may be past the last
+take_past : {A : Type 0} (front : List A) (last : Bool) (x : A)
+    → take (length front + 1) (front ++ (if last then [] else x ∷ [])) ≡ front ++ (if last then [] else x ∷ [])
+take_past front true x = let sum = length-append front [] in take_all _ _ (omega arith)
+take_past front false x = let sum = length-append front (x ∷ []) in take_all _ _ (omega arith)
+
+-- what stands between the reader and the writer when the run reads again
+pub record IsServing (old : State) (unread_first unread written_first written : Option (List ℕ)) (session : State)
+    : Type 0 where
+  pub read : List ℕ
+  pub told : List ℕ
+  pub consumed : Consumes unread_first unread read
+  pub appended : Appends written_first written told
+  pub state : record session { unsent = told ++ session.unsent } ≡ after_piece old read
+  pub sent : session.unsent ≡ []
+
+module _ (old : State) (begins : IsBegun old) where
+  abbrev text : List (List ℕ) → List ℕ
+  text lines = output_of old.machine.limits old.echo lines
+
+  read_lines : (read : List ℕ) → after_piece old read ≡ after_lines old (ended_lines_of read) (open_line_of read)
+  read_lines read = after_piece-lines old [] read within-nil (ap (λ (s : State). s.pending) begins)
+
+  text_begun : (lines : List (List ℕ)) → old.unsent ++ answers_from old.echo old.machine lines ≡ text lines
+  text_begun lines =
+      ap (λ (s : State). s.unsent ++ answers_from old.echo s.machine lines) begins
+      ∙ sym (text-lines old.machine.limits old.echo lines)
+
+  -- the text for the lines of a front comes first
+  text_rest : (front more read : List ℕ) → read ≡ front ++ more
+      → (rest : List ℕ) × (text (ended_lines_of read) ≡ text (ended_lines_of front) ++ rest)
+  text_rest front more read whole = (
+    answers_from old.echo (machine_after_lines (opened old.machine.limits) (ended_lines_of front)) (others front more read whole),
+    ap text (parted front more read whole)
+        ∙ text-append old.machine.limits old.echo (ended_lines_of front) (others front more read whole),
+  )
+
+  number_from : (number : ℕ) → old.lines + number ≡ number
+  number_from number = let none = ap (λ (s : State). s.lines) begins in omega arith
+
+  -- the text so far, the number of lines and the allocator
+  text_ended : (read : List ℕ) → (after_piece old read).unsent ≡ text (ended_lines_of read)
+  text_ended read = ap (λ (s : State). s.unsent) (read_lines read) ∙ text_begun (ended_lines_of read)
+
+  number_ended : (read : List ℕ) → (after_piece old read).lines ≡ length (ended_lines_of read)
+  number_ended read = ap (λ (s : State). s.lines) (read_lines read) ∙ number_from _
+
+  machine_ended : (read : List ℕ) → (after_piece old read).machine ≡ machine_after_lines old.machine (ended_lines_of read)
+  machine_ended read = ap (λ (s : State). s.machine) (read_lines read)
+
+  -- those of the whole input
+  text_whole : (read : List ℕ) → (at_end (after_piece old read)).unsent ≡ text (lines_of read)
   unfolding lines_of
   text_whole read =
       ap (λ (s : State). (at_end s).unsent) (read_lines read)
-      ∙ (at_end_all (begun limits echo) (ended_lines_of read) (open_line_of read)).0
-      ∙ sym (text-lines limits echo (lines_with (ended_lines_of read) (open_line_of read)))
+      ∙ (at_end_all old (ended_lines_of read) (open_line_of read)).0
+      ∙ text_begun (lines_with (ended_lines_of read) (open_line_of read))
 
-  number_whole : (read : List ℕ) → (at_end (after_piece (begun limits echo) read)).lines ≡ length (lines_of read)
+  number_whole : (read : List ℕ) → (at_end (after_piece old read)).lines ≡ length (lines_of read)
   unfolding lines_of
   number_whole read =
-      let counted = (at_end_all (begun limits echo) (ended_lines_of read) (open_line_of read)).1 in
-      ap (λ (s : State). (at_end s).lines) (read_lines read) ∙ counted ∙ omega arith
+      ap (λ (s : State). (at_end s).lines) (read_lines read)
+      ∙ (at_end_all old (ended_lines_of read) (open_line_of read)).1 ∙ number_from _
 
-  -- the text for the lines of a front is the text for the first lines that end
-  text_first : (front more : List ℕ)
-      → (count : ℕ) × (text_of limits echo (ended_lines_of front)
-      ≡ text_of limits echo (take count (ended_lines_of (front ++ more))))
-  text_first front more =
-      let first = goes_on front more in (
-        length (ended_lines_of front),
-        ap (text_of limits echo) (sym (ap (take (length (ended_lines_of front))) first.lines
-            ∙ take-append_seam (ended_lines_of front) first.others)),
-      )
+  machine_whole : (read : List ℕ) → (at_end (after_piece old read)).machine
+      ≡ machine_after_lines old.machine (lines_of read)
+  unfolding lines_of
+  machine_whole read =
+      ap (λ (s : State). (at_end s).machine) (read_lines read)
+      ∙ (at_end_all old (ended_lines_of read) (open_line_of read)).2
 
-  -- and stands at the front
-  text_front : (front more : List ℕ)
-      → (rest : List ℕ) × (text_of limits echo (lines_of (front ++ more))
-      ≡ text_of limits echo (ended_lines_of front) ++ rest)
-  text_front front more =
-      let first = lines_first front more in
-      (_, ap (text_of limits echo) first.1 ∙ text-append limits echo (ended_lines_of front) first.0)
-
-  -- ---- what stands between the reader and the writer when the run reads again
-
-  pub record IsServing (unread_first unread written_first written : Option (List ℕ)) (session : State) : Type 0 where
-    pub read : List ℕ
-    pub told : List ℕ
-    pub consumed : Consumes unread_first unread read
-    pub appended : Appends written_first written told
-    pub state : record session { unsent = told ++ session.unsent } ≡ after_piece (begun limits echo) read
-    pub sent : session.unsent ≡ []
-
-  pub serving-begins : (unread written : Option (List ℕ)) (session : State) → session ≡ begun limits echo
-      → IsServing unread unread written written session
-  serving-begins unread written session begins = record {
+  pub serving-begins : (unread written : Option (List ℕ)) → IsServing old unread unread written written old
+  serving-begins unread written = record {
     read = [];
     told = [];
     consumed = Consumes-nil unread;
     appended = Appends-nil written;
-    state = begins ∙ sym (piece-nil (begun limits echo));
+    state = sym (piece-nil old);
     sent = ap (λ (s : State). s.unsent) begins;
   }
 
-  pub never-served : (unread written : Option (List ℕ)) → HasRun limits echo unread unread written written (Err Memory)
-  never-served unread written = record {
-    read = [];
-    written = [];
-    consumed = Consumes-nil unread;
-    appended = Appends-nil written;
-    answered = (0, sym (text-lines limits echo []));
-  }
-
   module _ (unread_first unread unread_next written_first written written_next : Option (List ℕ)) (session : State)
-      (serving : IsServing unread_first unread written_first written session) where
-    told_so_far : serving.told ≡ text_of limits echo (ended_lines_of serving.read)
+      (serving : IsServing old unread_first unread written_first written session) where
+    told_so_far : serving.told ≡ text (ended_lines_of serving.read)
     told_so_far =
         sym (append-nil serving.told) ∙ ap (λ l. serving.told ++ l) (sym serving.sent)
         ∙ ap (λ (s : State). s.unsent) serving.state ∙ text_ended serving.read
 
+    number_so_far : session.lines ≡ length (ended_lines_of serving.read)
+    number_so_far = ap (λ (s : State). s.lines) serving.state ∙ number_ended serving.read
+
+    whole_so_far : serving.read ≡ serving.read ++ []
+    whole_so_far = sym (append-nil serving.read)
+
+    all_ended : (unread_after : Option (List ℕ)) → HaveEnded (length (ended_lines_of serving.read)) serving.read unread_after
+    all_ended unread_after = inl (omega arith)
+
+    -- the text for the lines of a front of what was read stands at the front of what was written
+    prompt_so_far : (count : ℕ) (more : List ℕ)
+        → StartsWith (serving.told ++ more) (text (ended_lines_of (take count serving.read)))
+    prompt_so_far count more =
+        let first = text (ended_lines_of (take count serving.read)) in
+        let rest = text_rest (take count serving.read) (drop count serving.read) serving.read
+        (sym (take-append-drop count serving.read)) in
+        ap (take (length first)) (ap (λ l. l ++ more) (told_so_far ∙ rest.1) ∙ append_assoc first rest.0 more)
+        ∙ take-append_seam first (rest.0 ++ more)
+
+    prompt_untold : (count : ℕ) → StartsWith serving.told (text (ended_lines_of (take count serving.read)))
+    prompt_untold count = subst
+        (λ written. StartsWith written (text (ended_lines_of (take count serving.read))))
+        (append-nil serving.told) (prompt_so_far count [])
+
+    taken_so_far : (next : State) (unread_after : Option (List ℕ)) → next.machine ≡ session.machine
+        → HasTaken old.machine next.machine (length (ended_lines_of serving.read)) serving.read unread_after
+    taken_so_far next unread_after still = record {
+      taken = length (ended_lines_of serving.read);
+      machine =
+          still ∙ ap (λ (s : State). s.machine) serving.state ∙ machine_ended serving.read
+          ∙ ap (machine_after_lines old.machine) (sym (lines_first serving.read [] serving.read whole_so_far));
+      ahead = inl refl;
+      ended = all_ended unread_after;
+    }
+
     -- the run after more of its input
     state_next : (piece : List ℕ) → record
         (after_piece session piece) { unsent = serving.told ++ (after_piece session piece).unsent }
-        ≡ after_piece (begun limits echo) (serving.read ++ piece)
+        ≡ after_piece old (serving.read ++ piece)
     state_next piece =
         sym (piece-sent session serving.told piece) ∙ ap (λ (s : State). after_piece s piece) serving.state
-        ∙ sym (piece-append (begun limits echo) serving.read piece)
+        ∙ sym (piece-append old serving.read piece)
 
     pub serving-takes : (piece : List ℕ) (next : State) → Consumes unread unread_next piece
         → Appends written written_next (after_piece session piece).unsent
         → next ≡ record (after_piece session piece) { unsent = [] }
-        → IsServing unread_first unread_next written_first written_next next
+        → IsServing old unread_first unread_next written_first written_next next
     serving-takes piece next consumed appended is = record {
       read = serving.read ++ piece;
       told = serving.told ++ (after_piece session piece).unsent;
@@ -176,116 +269,272 @@ module _ (limits : LimitNumbers) (echo : Bool) where
     }
 
     pub run-unread : Keeps unread unread_next
-        → HasRun limits echo unread_first unread_next written_first written (Err Read)
+        → HasServed old unread_first unread_next written_first written session (Err Read)
     run-unread kept = record {
-      read = serving.read;
-      written = serving.told;
-      consumed = Consumes-kept _ _ _ _ serving.consumed kept;
-      appended = serving.appended;
-      answered = told_so_far;
+      run = record {
+        read = serving.read;
+        written = serving.told;
+        consumed = Consumes-kept _ _ _ _ serving.consumed kept;
+        appended = serving.appended;
+        lines = length (ended_lines_of serving.read);
+        answered = (told_so_far, refl);
+        ended = all_ended unread_next;
+        prompt = prompt_untold _;
+      };
+      counted = number_so_far;
+      taken = taken_so_far session unread_next refl;
     }
 
     -- ---- at the end of the input
 
-    consumed_all : Consumes unread unread_next [] → Consumes unread_first unread_next serving.read
-    consumed_all consumed = subst (Consumes unread_first unread_next) (append-nil serving.read)
-        (Consumes-trans _ _ _ _ _ serving.consumed consumed)
+    module _ (consumed : Consumes unread unread_next []) where
+      consumed_all : Consumes unread_first unread_next serving.read
+      consumed_all = subst (Consumes unread_first unread_next) (append-nil serving.read)
+          (Consumes-trans _ _ _ _ _ serving.consumed consumed)
 
-    told_at_end : serving.told ++ (at_end session).unsent ≡ text_of limits echo (lines_of serving.read)
-    told_at_end = end-sent session serving.told ∙ ap (λ (s : State). (at_end s).unsent) serving.state
-        ∙ text_whole serving.read
+      told_at_end : serving.told ++ (at_end session).unsent ≡ text (lines_of serving.read)
+      told_at_end = end-sent session serving.told ∙ ap (λ (s : State). (at_end s).unsent) serving.state
+          ∙ text_whole serving.read
 
-    pub run-forgotten : Consumes unread unread_next []
-        → HasRun limits echo unread_first unread_next written_first written (Err Memory)
-    run-forgotten consumed =
-        let first = text_first serving.read [] in
-        record {
+      number_at_end : (at_end session).lines ≡ length (lines_of serving.read)
+      number_at_end = end-counted session serving.told ∙ ap (λ (s : State). (at_end s).lines) serving.state
+          ∙ number_whole serving.read
+
+      machine_at_end : (at_end session).machine ≡ machine_after_lines old.machine (lines_of serving.read)
+      machine_at_end = end-machine session serving.told ∙ ap (λ (s : State). (at_end s).machine) serving.state
+          ∙ machine_whole serving.read
+
+      taken_at_end : (next : State) → IsAtEnd unread_next → next.machine ≡ (at_end session).machine
+          → HasTaken old.machine next.machine (length (lines_of serving.read)) serving.read unread_next
+      taken_at_end next end is = record {
+        taken = length (lines_of serving.read);
+        machine = is ∙ machine_at_end
+            ∙ ap (machine_after_lines old.machine) (sym (take_all _ (lines_of serving.read) (omega arith)));
+        ahead = inl refl;
+        ended = inr end;
+      }
+
+      taken_last : (next : State) → IsAtEnd unread_next → next.machine ≡ (at_end session).machine
+          → HasTaken old.machine next.machine (length (ended_lines_of serving.read)) serving.read unread_next
+      unfolding lines_of
+      taken_last next end is = record {
+        taken = length (ended_lines_of serving.read) + 1;
+        machine = is ∙ machine_at_end
+            ∙ ap (machine_after_lines old.machine) (sym (take_past (ended_lines_of serving.read) _ _));
+        ahead = inr refl;
+        ended = inr end;
+      }
+
+      pub run-forgotten : (next : State) → IsAtEnd unread_next → next.lines ≡ session.lines
+          → (next.machine ≡ session.machine) ⊎ (next.machine ≡ (at_end session).machine)
+          → HasServed old unread_first unread_next written_first written next (Err Memory)
+      run-forgotten next end counted machine = record {
+        run = record {
           read = serving.read;
           written = serving.told;
-          consumed = consumed_all consumed;
+          consumed = consumed_all;
           appended = serving.appended;
+          lines = length (ended_lines_of serving.read);
           answered = (
-            first.0,
-            told_so_far ∙ first.1
-                ∙ ap (λ l. text_of limits echo (take first.0 (ended_lines_of l))) (append-nil serving.read),
+            told_so_far ∙ ap text (sym (ended_first serving.read [] serving.read whole_so_far)),
+            omega arith,
           );
-        }
+          ended = all_ended unread_next;
+          prompt = prompt_untold _;
+        };
+        counted = counted ∙ number_so_far;
+        taken = ⊎_elim (taken_so_far next unread_next) (taken_last next end) machine;
+      }
 
-    pub run-unwritten : Consumes unread unread_next [] → AppendsFrontOf written written_next (at_end session).unsent
-        → HasRun limits echo unread_first unread_next written_first written_next (Err Write)
-    run-unwritten consumed sent =
-        let text = (at_end session).unsent in
-        record {
-          read = serving.read;
-          written = serving.told ++ take sent.0 text;
-          consumed = consumed_all consumed;
-          appended = Appends-trans _ _ _ _ _ serving.appended sent.1;
-          answered = front_of (serving.told ++ take sent.0 text) (drop sent.0 text)
-              (text_of limits echo (lines_of serving.read))
-              (sym told_at_end ∙ ap (λ l. serving.told ++ l) (sym (take-append-drop sent.0 text))
-              ∙ sym (append_assoc serving.told (take sent.0 text) (drop sent.0 text)));
-        }
+      pub run-unwritten : (next : State) → IsAtEnd unread_next → next ≡ at_end session
+          → AppendsFrontOf written written_next (at_end session).unsent
+          → HasServed old unread_first unread_next written_first written_next next (Err Write)
+      run-unwritten next end is sent =
+          let all : take (length (lines_of serving.read)) (lines_of serving.read) ≡ lines_of serving.read =
+          take_all _ _ (omega arith) in
+          record {
+            run = record {
+              read = serving.read;
+              written = serving.told ++ take sent.0 (at_end session).unsent;
+              consumed = consumed_all;
+              appended = Appends-trans _ _ _ _ _ serving.appended sent.1;
+              lines = length (lines_of serving.read);
+              answered = front_of serving.told (at_end session).unsent sent.0 _ (told_at_end ∙ ap text (sym all));
+              ended = inr end;
+              prompt = prompt_so_far _ _;
+            };
+            counted = ap (λ (s : State). s.lines) is ∙ number_at_end;
+            taken = taken_at_end next end (ap (λ (s : State). s.machine) is);
+          }
 
-    pub run-ends : (lines : ℕ) → Consumes unread unread_next [] → Appends written written_next (at_end session).unsent
-        → lines ≡ (at_end session).lines
-        → HasRun limits echo unread_first unread_next written_first written_next (Ok lines)
-    run-ends lines consumed sent counted = record {
-      read = serving.read;
-      written = serving.told ++ (at_end session).unsent;
-      consumed = consumed_all consumed;
-      appended = Appends-trans _ _ _ _ _ serving.appended sent;
-      answered = (
-        told_at_end,
-        counted ∙ end-counted session serving.told
-            ∙ ap (λ (s : State). (at_end s).lines) serving.state ∙ number_whole serving.read,
-      );
-    }
+      pub run-ends : (next : State) (lines : ℕ) → IsAtEnd unread_next → next ≡ record (at_end session) { unsent = [] }
+          → Appends written written_next (at_end session).unsent → lines ≡ next.lines
+          → HasServed old unread_first unread_next written_first written_next next (Ok lines)
+      run-ends next lines end is sent told =
+          let counted : next.lines ≡ length (lines_of serving.read) = ap (λ (s : State). s.lines) is ∙ number_at_end in
+          record {
+            run = record {
+              read = serving.read;
+              written = serving.told ++ (at_end session).unsent;
+              consumed = consumed_all;
+              appended = Appends-trans _ _ _ _ _ serving.appended sent;
+              lines = length (lines_of serving.read);
+              answered = (told_at_end, refl, told ∙ counted);
+              ended = inr end;
+              prompt = prompt_so_far _ _;
+            };
+            counted = counted;
+            taken = taken_at_end next end (ap (λ (s : State). s.machine) is);
+          }
 
     -- ---- in the middle of a piece
 
-    module _ (piece : List ℕ) (now : State) (consumed : Consumes unread unread_next piece)
+    module _ (piece : List ℕ) (now : State) (short : length piece ≤ 65536) (consumed : Consumes unread unread_next piece)
         (answers : AnswersFrontOf session piece now) where
-      front : List ℕ
-      front = serving.read ++ take answers.answered piece
+      abbrev read_now : List ℕ
+      read_now = serving.read ++ piece
 
-      whole : front ++ drop answers.answered piece ≡ serving.read ++ piece
-      unfolding front
-      whole = append_assoc serving.read (take answers.answered piece) (drop answers.answered piece)
-          ∙ ap (λ l. serving.read ++ l) (take-append-drop answers.answered piece)
+      -- what was answered of the input, and what the allocator has taken
+      abbrev front : ℕ → List ℕ
+      front count = serving.read ++ take count piece
 
-      told_now : serving.told ++ now.unsent ≡ text_of limits echo (ended_lines_of front)
-      unfolding front
+      whole : (count : ℕ) → read_now ≡ front count ++ drop count piece
+      whole count = sym (append_assoc serving.read (take count piece) (drop count piece)
+          ∙ ap (λ l. serving.read ++ l) (take-append-drop count piece))
+
+      number_at : (count : ℕ) → (after_piece session (take count piece)).lines ≡ length (ended_lines_of (front count))
+      number_at count = ap (λ (s : State). s.lines) (state_next (take count piece)) ∙ number_ended (front count)
+
+      few : (count : ℕ) → length (ended_lines_of (front count)) ≤ length (ended_lines_of read_now)
+      few count = ended_few (front count) (drop count piece) read_now (whole count)
+
+      told_now : serving.told ++ now.unsent ≡ text (ended_lines_of (front answers.answered))
       told_now =
-          ap (λ l. serving.told ++ l) answers.unsent ∙ ap (λ (s : State). s.unsent) (state_next (take answers.answered piece))
-          ∙ text_ended (serving.read ++ take answers.answered piece)
+          ap (λ l. serving.told ++ l) answers.unsent
+          ∙ ap (λ (s : State). s.unsent) (state_next (take answers.answered piece))
+          ∙ text_ended (front answers.answered)
 
-      pub run-forgets : Appends written written_next now.unsent
-          → HasRun limits echo unread_first unread_next written_first written_next (Err Memory)
-      run-forgets sent =
-          let first = text_first front (drop answers.answered piece) in
-          record {
-            read = serving.read ++ piece;
-            written = serving.told ++ now.unsent;
-            consumed = Consumes-trans _ _ _ _ _ serving.consumed consumed;
-            appended = Appends-trans _ _ _ _ _ serving.appended sent;
-            answered = (first.0, told_now ∙ first.1 ∙ ap (λ l. text_of limits echo (take first.0 (ended_lines_of l))) whole);
-          }
+      prompt_now : (more : List ℕ)
+          → StartsWith (serving.told ++ more) (text (ended_lines_of (take (length read_now - 65536) read_now)))
+      prompt_now more = subst (λ front. StartsWith (serving.told ++ more) (text (ended_lines_of front)))
+          (sym (early_count serving.read piece short)) (prompt_so_far _ more)
 
-      pub run-fails : AppendsFrontOf written written_next now.unsent
-          → HasRun limits echo unread_first unread_next written_first written_next (Err Write)
-      run-fails sent =
-          let text = now.unsent in
-          let rest = text_front front (drop answers.answered piece) in
-          record {
-            read = serving.read ++ piece;
-            written = serving.told ++ take sent.0 text;
-            consumed = Consumes-trans _ _ _ _ _ serving.consumed consumed;
-            appended = Appends-trans _ _ _ _ _ serving.appended sent.1;
-            answered = front_of (serving.told ++ take sent.0 text) (drop sent.0 text ++ rest.0)
-                (text_of limits echo (lines_of (serving.read ++ piece)))
-                (ap (λ l. text_of limits echo (lines_of l)) (sym whole) ∙ rest.1
-                ∙ ap (λ l. l ++ rest.0) (sym told_now
-                ∙ ap (λ l. serving.told ++ l) (sym (take-append-drop sent.0 text)))
-                ∙ ap (λ l. l ++ rest.0) (sym (append_assoc serving.told (take sent.0 text) (drop sent.0 text)))
-                ∙ append_assoc (serving.told ++ take sent.0 text) (drop sent.0 text) rest.0);
-          }
+      taken_now : (next : State) → next.machine ≡ now.machine → HasTaken old.machine next.machine
+          (length (ended_lines_of (front answers.answered))) read_now unread_next
+      taken_now next still = record {
+        taken = length (ended_lines_of (front answers.taken));
+        machine =
+            still ∙ answers.machine ∙ ap (λ (s : State). s.machine) (state_next (take answers.taken piece))
+            ∙ machine_ended (front answers.taken)
+            ∙ ap (machine_after_lines old.machine)
+            (sym (lines_first (front answers.taken) (drop answers.taken piece) read_now (whole answers.taken)));
+        ahead =
+            let taken = number_at answers.taken in
+            let answered = number_at answers.answered in
+            ⊎_elim (λ same. inl (sym taken ∙ same ∙ answered))
+            (λ more. inr (sym taken ∙ more ∙ ap (λ n. n + 1) answered)) answers.ahead;
+        ended = inl (few answers.taken);
+      }
+
+      run-forgets : (next : State) → next ≡ record now { unsent = [] } → Appends written written_next now.unsent
+          → HasServed old unread_first unread_next written_first written_next next (Err Memory)
+      run-forgets next is sent = record {
+        run = record {
+          read = read_now;
+          written = serving.told ++ now.unsent;
+          consumed = Consumes-trans _ _ _ _ _ serving.consumed consumed;
+          appended = Appends-trans _ _ _ _ _ serving.appended sent;
+          lines = length (ended_lines_of (front answers.answered));
+          answered = (
+            told_now
+                ∙ ap text (sym (ended_first (front answers.answered) (drop answers.answered piece) read_now
+                (whole answers.answered))),
+            few answers.answered,
+          );
+          ended = inl (few answers.answered);
+          prompt = prompt_now _;
+        };
+        counted = ap (λ (s : State). s.lines) is ∙ answers.lines ∙ number_at answers.answered;
+        taken = taken_now next (ap (λ (s : State). s.machine) is);
+      }
+
+      run-fails : (next : State) → next ≡ now → AppendsFrontOf written written_next now.unsent
+          → HasServed old unread_first unread_next written_first written_next next (Err Write)
+      run-fails next is sent = record {
+        run = record {
+          read = read_now;
+          written = serving.told ++ take sent.0 now.unsent;
+          consumed = Consumes-trans _ _ _ _ _ serving.consumed consumed;
+          appended = Appends-trans _ _ _ _ _ serving.appended sent.1;
+          lines = length (ended_lines_of (front answers.answered));
+          answered = front_of serving.told now.unsent sent.0 _
+              (told_now ∙ ap text (sym (lines_first (front answers.answered) (drop answers.answered piece) read_now
+              (whole answers.answered))));
+          ended = inl (few answers.answered);
+          prompt = prompt_now _;
+        };
+        counted = ap (λ (s : State). s.lines) is ∙ answers.lines ∙ number_at answers.answered;
+        taken = taken_now next (ap (λ (s : State). s.machine) is);
+      }
+
+  -- ---- before the first read
+
+  pub never-served : (unread written : Option (List ℕ)) → HasServed old unread unread written written old (Err Memory)
+  never-served unread written =
+      let none : text (ended_lines_of []) ≡ [] =
+      ap text (ended-within [] within-nil) ∙ text-lines old.machine.limits old.echo [] in
+      record {
+        run = record {
+          read = [];
+          written = [];
+          consumed = Consumes-nil unread;
+          appended = Appends-nil written;
+          lines = 0;
+          answered = (sym (text-lines old.machine.limits old.echo []), omega arith);
+          ended = inl (omega arith);
+          prompt = ap (λ (t : List ℕ). take (length t) []) none ∙ sym none;
+        };
+        counted = ap (λ (s : State). s.lines) begins;
+        taken = record { taken = 0; machine = refl; ahead = inl refl; ended = inl (omega arith) };
+      }
+
+-- no session was opened
+pub never-run : (limits : LimitNumbers) (echo : Bool) (unread written : Option (List ℕ))
+    → HasRun limits echo unread unread written written (Err Memory)
+never-run limits echo unread written = (never-served (begun limits echo) refl unread written).run
+
+-- ---- within a piece
+
+pub stopped_write : (old now new : State) (piece : List ℕ) (written written_next : Option (List ℕ)) → AnswersFrontOf old piece now
+    → new ≡ now → AppendsFrontOf written written_next now.unsent → HasStopped Write old piece new written written_next
+unfolding HasStopped
+stopped_write old now new piece written written_next answers same sent = (
+  subst (AnswersFrontOf old piece) (sym same) answers,
+  subst (λ (s : State). AppendsFrontOf written written_next s.unsent) (sym same) sent,
+)
+
+pub stopped_memory : (old now new : State) (piece : List ℕ) (written written_next : Option (List ℕ)) → AnswersFrontOf old piece now
+    → new ≡ record now { unsent = [] } → Appends written written_next now.unsent
+    → HasStopped Memory old piece new written written_next
+unfolding HasStopped
+stopped_memory old now new piece written written_next answers is sent = (now, answers, is, sent)
+
+pub run-stops : (old : State) (begins : IsBegun old)
+    (unread_first unread unread_next written_first written written_next : Option (List ℕ)) (session : State)
+    (serving : IsServing old unread_first unread written_first written session) (fault : RunFault) (piece : List ℕ) (next : State)
+    → length piece ≤ 65536 → Consumes unread unread_next piece
+    → HasStopped fault session piece next written written_next
+    → HasServed old unread_first unread_next written_first written_next next (Err fault)
+unfolding HasStopped
+run-stops old begins _ _ _ _ _ _ session serving Read piece next short consumed stopped = absurd stopped
+run-stops old begins _ _ _ _ _ _ session serving Write piece next short consumed stopped =
+    run-fails old begins _ _ _ _ _ _ session serving piece next short consumed stopped.0 next refl stopped.1
+run-stops old begins _ _ _ _ _ _ session serving Memory piece next short consumed stopped =
+    run-forgets old begins _ _ _ _ _ _ session serving piece stopped.0 short consumed stopped.1 next stopped.2 stopped.3
+
+-- a fault within a piece is none of the reader
+pub cause-stopped : (fault : RunFault) (reader_failed : Bool) (reads : ℕ) (writer_failed : Bool) → reader_failed ≡ false
+    → HasCause {T = Unit {0}} (Err fault) false 0 writer_failed → HasCause {T = ℕ} (Err fault) reader_failed reads writer_failed
+cause-stopped Read reader_failed reads writer_failed sound cause = absurd (⊎_elim (λ e. cc) (λ e. omega arith) cause.0)
+cause-stopped Write reader_failed reads writer_failed sound cause = (sound, cause.1)
+cause-stopped Memory reader_failed reads writer_failed sound cause = (sound, cause.1)

@@ -1,25 +1,35 @@
--- How a run ends: what it read and wrote, and which device failed.
-use Rattle.std.specs.Prelude.{◌≡◌, ℕ, ◌^◌, Bool, true, false, List, length, take, Option, Result, Ok, Err, ◌⊎◌}
-use Rattle.std.specs.Io.KnownBytes.{Appends, Consumes}
+-- How a run ends: what it read and wrote, how its session stands, and which device failed.
+use Rattle.std.specs.Prelude.{◌≡◌, ℕ, ◌+◌, ◌-◌, ◌^◌, ◌≤◌, Bool, true, false, List, length, take, Option, Result, Ok, Err, ◌⊎◌, []}
+use Rattle.std.specs.Io.{StartsWith}
+use Rattle.std.specs.Io.KnownBytes.{Appends, Consumes, IsAtEnd}
+use Rattle.drf_core.specs.Machine.{Machine}
 use Rattle.drf_rows.specs.LimitNumbers.{LimitNumbers}
 use Rattle.drf_journal.specs.declared.fault.RunFault.{RunFault}
 use Rattle.drf_journal.specs.declared.fault.RunFault.TheVariants.{Read, Write, Memory}
+use Rattle.drf_journal.specs.Device.{AppendsFrontOf}
 use Rattle.drf_journal.specs.Lines.{lines_of, ended_lines_of}
-use Rattle.drf_journal.specs.Output.{text_of}
+use Rattle.drf_journal.specs.Output.{output_of}
+use Rattle.drf_journal.specs.State.{State, machine_after_lines, AnswersFrontOf}
 
--- What was written for what was read. At `Ok` it is the text of all lines, and their number is told. After a failed read
--- it is the text of the lines that had ended, after a failed write the front of a text of lines, and where memory ran out
--- the text of the lines before the one at hand, all of which had ended.
-abbrev pub IsAnswered : LimitNumbers → Bool → Result ℕ RunFault → List ℕ → List ℕ → Type 0
-IsAnswered limits echo (Ok lines) read written =
-    (written ≡ text_of limits echo (lines_of read)) × (lines ≡ length (lines_of read))
-IsAnswered limits echo (Err Read) read written = written ≡ text_of limits echo (ended_lines_of read)
-IsAnswered limits echo (Err Write) read written =
-    (count : ℕ) × (written ≡ take count (text_of limits echo (lines_of read)))
-IsAnswered limits echo (Err Memory) read written =
-    (count : ℕ) × (written ≡ text_of limits echo (take count (ended_lines_of read)))
+-- What was written for what was read, where the first `answered` lines were answered. At `Ok` these are all lines, and
+-- their number is told; after a failed read all that had ended; where memory ran out those before the one at hand, all of
+-- which had ended. Their text was written, and after a failed write a front of it.
+abbrev pub IsAnswered : LimitNumbers → Bool → Result ℕ RunFault → ℕ → List ℕ → List ℕ → Type 0
+IsAnswered limits echo (Ok lines) answered read written =
+    (written ≡ output_of limits echo (lines_of read)) × (answered ≡ length (lines_of read)) × (lines ≡ answered)
+IsAnswered limits echo (Err Read) answered read written =
+    (written ≡ output_of limits echo (ended_lines_of read)) × (answered ≡ length (ended_lines_of read))
+IsAnswered limits echo (Err Write) answered read written =
+    (count : ℕ) × (written ≡ take count (output_of limits echo (take answered (lines_of read))))
+IsAnswered limits echo (Err Memory) answered read written =
+    (written ≡ output_of limits echo (take answered (ended_lines_of read))) × (answered ≤ length (ended_lines_of read))
 
--- a run from the rows of an opening took bytes from a reader and gave bytes to a writer
+-- a number of lines had ended, each by a line feed or the last by the end of the input
+abbrev pub HaveEnded : ℕ → List ℕ → Option (List ℕ) → Type 0
+HaveEnded number read unread_after = (number ≤ length (ended_lines_of read)) ⊎ IsAtEnd unread_after
+
+-- a run from the rows of an opening took bytes from a reader and gave bytes to a writer. Of the lines that had ended
+-- before the last 65,536 bytes the whole text was written, however the run ended.
 pub record HasRun (limits : LimitNumbers) (echo : Bool)
     (unread_before unread_after written_before written_after : Option (List ℕ))
     (result : Result ℕ RunFault) : Type 0 where
@@ -27,12 +37,40 @@ pub record HasRun (limits : LimitNumbers) (echo : Bool)
   pub written : List ℕ
   pub consumed : Consumes unread_before unread_after read
   pub appended : Appends written_before written_after written
-  pub answered : IsAnswered limits echo result read written
+  pub lines : ℕ
+  pub answered : IsAnswered limits echo result lines read written
+  pub ended : HaveEnded lines read unread_after
+  pub prompt : StartsWith written (output_of limits echo (ended_lines_of (take (length read - 65536) read)))
+
+-- Within a piece of the input a session has stopped. Where memory ran out, the text of all that it had answered of the
+-- piece was written; after a failed write a front of that.
+unfoldable pub HasStopped : RunFault → State → List ℕ → State → Option (List ℕ) → Option (List ℕ) → Type 0
+HasStopped Read old piece new written_before written_after = ⊥
+HasStopped Write old piece new written_before written_after =
+    AnswersFrontOf old piece new × AppendsFrontOf written_before written_after new.unsent
+HasStopped Memory old piece new written_before written_after =
+    (answered : State) × AnswersFrontOf old piece answered × (new ≡ record answered { unsent = [] })
+    × Appends written_before written_after answered.unsent
+
+-- the allocator has taken the lines that were answered, or one more
+pub record HasTaken (old new : Machine) (answered : ℕ) (read : List ℕ) (unread_after : Option (List ℕ)) : Type 0 where
+  pub taken : ℕ
+  pub machine : new ≡ machine_after_lines old (take taken (lines_of read))
+  pub ahead : (taken ≡ answered) ⊎ (taken ≡ answered + 1)
+  pub ended : HaveEnded taken read unread_after
+
+-- a session has run so, and counts the lines that were answered
+pub record HasServed (old : State)
+    (unread_before unread_after written_before written_after : Option (List ℕ))
+    (new : State) (result : Result ℕ RunFault) : Type 0 where
+  pub run : HasRun old.machine.limits old.echo unread_before unread_after written_before written_after result
+  pub counted : new.lines ≡ run.lines
+  pub taken : HasTaken old.machine new.machine run.lines run.read unread_after
 
 -- a read fault comes where the reader failed, or was asked 2^40 times; a write fault where the writer failed; and
 -- otherwise neither has
-abbrev pub HasCause : Result ℕ RunFault → Bool → ℕ → Bool → Type 0
-HasCause (Ok lines) reader_failed reads writer_failed = (reader_failed ≡ false) × (writer_failed ≡ false)
+abbrev pub HasCause : {T : Type 0} → Result T RunFault → Bool → ℕ → Bool → Type 0
+HasCause (Ok told) reader_failed reads writer_failed = (reader_failed ≡ false) × (writer_failed ≡ false)
 HasCause (Err Read) reader_failed reads writer_failed =
     ((reader_failed ≡ true) ⊎ (reads ≡ 2 ^ 40)) × (writer_failed ≡ false)
 HasCause (Err Write) reader_failed reads writer_failed = (reader_failed ≡ false) × (writer_failed ≡ true)

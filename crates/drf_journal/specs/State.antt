@@ -1,17 +1,16 @@
 -- A run between two reads, and what a byte of the input does to it.
-use Rattle.std.specs.Prelude.{◌≡◌, ℕ, ◌+◌, Bool, false, ◌==◌, List, [], ◌∷◌, ◌++◌, length, take, fold, All, Result, Ok, Err, ◌⊎◌, if◌then◌else◌}
-use Rattle.drf_core.specs.Machine.{Machine, opened, after}
+use Rattle.std.specs.Prelude.{refl, ◌≡◌, ℕ, ◌+◌, Bool, false, ◌==◌, List, [], ◌∷◌, ◌++◌, length, take, fold, All, Result, Ok, Err, ◌⊎◌, if◌then◌else◌}
+use Rattle.std.specs.Coded.{Coded, code_by, coded×, coded_ℕ, coded_bool, coded_list}
+use Rattle.drf_core.specs.Machine.{Machine, machine_code, opened, after}
 use Rattle.drf_rows.specs.LimitNumbers.{LimitNumbers}
-use Rattle.drf_rows.specs.Step.{reply_to}
 use Rattle.drf_rows.specs.declared.event.Event.{Event}
 use Rattle.drf_lines.specs.declared.fault.LineFault.{LineFault}
 use Rattle.drf_lines.specs.Meaning.{meaning_of}
-use Rattle.drf_lines.specs.ReplyLine.{reply_line, fault_line}
 use Rattle.drf_journal.specs.Lines.{is_line_feed}
-use Rattle.drf_journal.specs.Output.{kept_of, echo_of}
+use Rattle.drf_journal.specs.Output.{kept_of, echo_of, reply_line_after}
 
 -- the allocator, whether lines are told too, what is kept of the line at hand, the text that is not written yet, and how
--- many lines there were
+-- many lines were answered
 pub record State : Type 0 where
   pub machine : Machine
   pub echo : Bool
@@ -19,23 +18,33 @@ pub record State : Type 0 where
   pub unsent : List ℕ
   pub lines : ℕ
 
+-- by it a proof tells two of them apart
+abbrev pub state_code : Coded State
+state_code = code_by (Machine × (Bool × (List ℕ × (List ℕ × ℕ))))
+    (coded× machine_code (coded× coded_bool (coded× (coded_list coded_ℕ) (coded× (coded_list coded_ℕ) coded_ℕ))))
+    (λ s. (s.machine, (s.echo, (s.pending, (s.unsent, s.lines)))))
+    (λ p. record { machine = p.0; echo = p.1.0; pending = p.1.1.0; unsent = p.1.1.1.0; lines = p.1.1.1.1 }) (λ _. refl)
+
 -- a run that has read nothing
 abbrev pub begun : LimitNumbers → Bool → State
 begun limits echo = record { machine = opened limits; echo = echo; pending = []; unsent = []; lines = 0 }
 
--- the reply line of a line
-abbrev pub reply_line_of : Machine → Result Event LineFault → List ℕ
-reply_line_of machine (Ok event) = reply_line (reply_to machine.limits machine.rows event)
-reply_line_of machine (Err fault) = fault_line fault
+abbrev pub IsBegun : State → Type 0
+IsBegun state = state ≡ begun state.machine.limits state.echo
 
 -- the allocator after a line; only an event changes it
 abbrev pub machine_after : Machine → Result Event LineFault → Machine
 machine_after machine (Ok event) = after machine event
 machine_after machine (Err fault) = machine
 
+-- the allocator after some lines
+abbrev pub machine_after_lines : Machine → List (List ℕ) → Machine
+machine_after_lines machine [] = machine
+machine_after_lines machine (line ∷ lines) = machine_after_lines (machine_after machine (meaning_of line)) lines
+
 -- the text for a line
 abbrev pub answer_to : Bool → Machine → List ℕ → List ℕ
-answer_to echo machine line = echo_of echo line ++ reply_line_of machine (meaning_of line)
+answer_to echo machine line = echo_of echo line ++ reply_line_after machine.limits machine.rows (meaning_of line)
 
 -- the line at hand is at its end, and is answered
 unfoldable pub after_line : State → State
@@ -71,6 +80,7 @@ HasTakenAtMost old line new = (new ≡ old) ⊎ (new ≡ machine_after old (mean
 pub record AnswersFrontOf (old : State) (piece : List ℕ) (new : State) : Type 0 where
   pub answered : ℕ
   pub unsent : new.unsent ≡ (after_piece old (take answered piece)).unsent
+  pub lines : new.lines ≡ (after_piece old (take answered piece)).lines
   pub taken : ℕ
   pub machine : new.machine ≡ (after_piece old (take taken piece)).machine
   pub ahead :

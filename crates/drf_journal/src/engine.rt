@@ -1,8 +1,9 @@
 //! The engine: lines in, reply lines out.
-ghost use Rattle.std.specs.Prelude.{◌≡◌, ◌≤◌, ◌^◌, false, OnOk};
-ghost use Rattle.std.specs.Io.KnownBytes.{IsAtEnd};
+ghost use Rattle.std.specs.Prelude.{◌≡◌, ◌+◌, ◌<◌, ◌≤◌, ◌^◌, [], length, false, OnOk, IfErr};
+ghost use Rattle.std.specs.Io.KnownBytes.{Appends, IsAtEnd};
 ghost use Rattle.drf_journal.specs.Device.{IsNew};
-ghost use Rattle.drf_journal.specs.Ended.{HasRun, HasCause};
+ghost use Rattle.drf_journal.specs.Ended.{HasRun, HasServed, HasStopped, HasCause};
+ghost use Rattle.drf_journal.specs.State.{IsBegun, after_piece};
 
 use crate::device::Device;
 use crate::fault::RunFault;
@@ -18,25 +19,44 @@ const CHUNK: usize = 65_536;
 /// How often a run reads at most.
 const MAX_READS: u64 = 1_099_511_627_776;
 
-/// Answers the lines of a reader's bytes on a writer, and tells how many lines there were. With `echo` each line is
-/// written before its answer. The answers to all lines that a read brought are written and flushed before the next read,
-/// so that none waits for more input.
+/// Answers the lines that end in the next piece of the input. What was answered before memory ran out is written too.
+#[tactic(auto, using(crate::proofs::Served::stopped_write, crate::proofs::Served::stopped_memory))]
+fn answer_piece<S: Sorter, W: Write>(
+    alloc: Global,
+    session: &mut Session<S>,
+    piece: &[u8],
+    writer: &mut Device<W>,
+) -> Result<(), RunFault>
+    requires few { session.old.lines + length piece.now < 2 ^ 64 }
+    ensures ok { OnOk result (session.new ≡ record (after_piece session.old piece.now) { unsent = [] }) }
+    ensures sent { OnOk result (Appends (W.contents writer.old.inner) (W.contents writer.new.inner) (after_piece session.old piece.now).unsent) }
+    ensures err { IfErr result (λ fault. HasStopped fault session.old piece.now session.new
+        (W.contents writer.old.inner) (W.contents writer.new.inner)) }
+    ensures cause { writer.old.failed ≡ false → HasCause result false 0 writer.new.failed }
+{
+    let taken = session.take(alloc, piece);
+    session.send(writer)?;
+    taken?;
+    Ok(())
+}
+
+/// Answers the lines of a reader's bytes on a writer, and tells how many lines there were. The answers to all lines that
+/// a read brought are written and flushed before the next read, so that none waits for more input.
 pub fn serve<S: Sorter, R: Read, W: Write>(
     alloc: Global,
-    limits: Limits,
+    session: &mut Session<S>,
     reader: &mut Device<R>,
     writer: &mut Device<W>,
-    echo: bool,
 ) -> Result<u64, RunFault>
+    requires session { IsBegun session.old }
     requires reader { IsNew reader.old.calls reader.old.failed }
     requires writer { IsNew writer.old.calls writer.old.failed }
-    ensures run { HasRun limits echo (R.remaining reader.old.inner) (R.remaining reader.new.inner)
-        (W.contents writer.old.inner) (W.contents writer.new.inner) result }
+    ensures served { HasServed session.old (R.remaining reader.old.inner) (R.remaining reader.new.inner)
+        (W.contents writer.old.inner) (W.contents writer.new.inner) session.new result }
     ensures read { OnOk result (IsAtEnd (R.remaining reader.new.inner)) }
     ensures cause { HasCause result reader.new.failed reader.new.calls writer.new.failed }
     ensures reads { reader.new.calls ≤ 2 ^ 40 }
 {
-    let mut session = Session::<S>::open(alloc, limits, echo)?;
     let mut buffer = vec![in alloc; 0u8; CHUNK]?;
     let chunk = buffer.as_mut_slice();
     for _turn in 0..MAX_READS {
@@ -48,15 +68,12 @@ pub fn serve<S: Sorter, R: Read, W: Write>(
             session.send(writer)?;
             return Ok(session.lines());
         }
-        let taken = session.take(alloc, &chunk[..count]);
-        // What was answered before memory ran out is written too.
-        session.send(writer)?;
-        taken?;
+        answer_piece(alloc, session, &chunk[..count], writer)?;
     }
     Err(RunFault::Read)
 }
 
-/// Serves by the sorter that the program uses.
+/// Serves a session by the sorter that the program uses. With `echo` each line is written before its answer.
 pub fn run<R: Read, W: Write>(
     alloc: Global,
     limits: Limits,
@@ -72,5 +89,6 @@ pub fn run<R: Read, W: Write>(
     ensures cause { HasCause result reader.new.failed reader.new.calls writer.new.failed }
     ensures reads { reader.new.calls ≤ 2 ^ 40 }
 {
-    serve::<PlainSorter, _, _>(alloc, limits, reader, writer, echo)
+    let mut session = Session::<PlainSorter>::open(alloc, limits, echo)?;
+    serve(alloc, &mut session, reader, writer)
 }

@@ -9,3 +9,4 @@ mod session;
 pub use device::Device;
 pub use engine::{run, serve};
 pub use fault::RunFault;
+pub use session::Session;

@@ -5,8 +5,8 @@ ghost use Rattle.drf_rows.specs.Step.{reply_to};
 ghost use Rattle.drf_core.specs.Machine.{live, after};
 ghost use Rattle.drf_lines.specs.Meaning.{meaning_of};
 ghost use Rattle.drf_journal.specs.Device.{AppendsFrontOf};
-ghost use Rattle.drf_journal.specs.Output.{kept_of};
-ghost use Rattle.drf_journal.specs.State.{begun, reply_line_of, machine_after, answer_to, after_piece, at_end, IsWithinLine, HasTakenAtMost, AnswersFrontOf};
+ghost use Rattle.drf_journal.specs.Output.{kept_of, reply_line_after};
+ghost use Rattle.drf_journal.specs.State.{begun, machine_after, answer_to, after_piece, at_end, IsWithinLine, HasTakenAtMost, AnswersFrontOf};
 
 use crate::device::{Device, write_whole};
 use crate::fault::RunFault;
@@ -36,7 +36,7 @@ fn reply_line<S: Sorter>(
     core: &mut Core<S>,
     line: &[u8],
 ) -> Result<Vec<u8>, AllocError>
-    ensures told { IfOk result (λ told. told.items ≡ reply_line_of (live core.old) (meaning_of line.now)) }
+    ensures told { IfOk result (λ told. told.items ≡ reply_line_after (live core.old).limits (live core.old).rows (meaning_of line.now)) }
     ensures ok { OnOk result (live core.new ≡ machine_after (live core.old) (meaning_of line.now)) }
     ensures taken { HasTakenAtMost (live core.old) line.now (live core.new) }
 {
@@ -124,9 +124,11 @@ pub struct Session<S: Sorter> {
 
 impl<S: Sorter> Model for Session<S> {
     ghost use Rattle.drf_core.specs.Machine.{live};
-    ghost use Rattle.drf_journal.specs.State.{State};
+    ghost use Rattle.drf_journal.specs.State.{State, state_code};
 
     ghost Value = { State };
+
+    ghost coded = { state_code };
 
     ghost view = { λ s. record {
       machine = live s.core;
@@ -163,7 +165,7 @@ impl<S: Sorter> Session<S> {
         requires within { IsWithinLine end.now }
         requires few { self.old.lines + 1 < 2 ^ 64 }
         ensures ok { OnOk result (self.new ≡ after_piece self.old (end.now ++ 10 ∷ [])) }
-        ensures err { OnErr result (self.new.unsent ≡ self.old.unsent) }
+        ensures err { OnErr result ((self.new.unsent ≡ self.old.unsent) × (self.new.lines ≡ self.old.lines)) }
         ensures taken { HasTakenAtMost self.old.machine (self.old.pending ++ end.now) self.new.machine }
     {
         let told = answer_end(alloc, &mut self.core, self.echo, &mut self.pending, end)?;
@@ -174,7 +176,7 @@ impl<S: Sorter> Session<S> {
     }
 
     /// Takes the next piece of the input, and answers each line that ends in it.
-    pub fn take(&mut self, alloc: Global, piece: &[u8]) -> Result<(), AllocError>
+    pub(crate) fn take(&mut self, alloc: Global, piece: &[u8]) -> Result<(), AllocError>
         requires { self.old.lines + length piece.now < 2 ^ 64 }
         ensures ok { OnOk result (self.new ≡ after_piece self.old piece.now) }
         ensures answers { AnswersFrontOf self.old piece.now self.new }
@@ -191,10 +193,10 @@ impl<S: Sorter> Session<S> {
     }
 
     /// The input ended: answers what stands behind its last line feed.
-    pub fn close(&mut self, alloc: Global) -> Result<(), AllocError>
+    pub(crate) fn close(&mut self, alloc: Global) -> Result<(), AllocError>
         requires { self.old.lines + 1 < 2 ^ 64 }
         ensures ok { OnOk result (self.new ≡ at_end self.old) }
-        ensures err { OnErr result (self.new.unsent ≡ self.old.unsent) }
+        ensures err { OnErr result ((self.new.unsent ≡ self.old.unsent) × (self.new.lines ≡ self.old.lines)) }
         ensures taken { (self.new.machine ≡ self.old.machine) ⊎ (self.new.machine ≡ (at_end self.old).machine) }
     {
         if self.pending.is_empty() {
@@ -204,8 +206,9 @@ impl<S: Sorter> Session<S> {
     }
 
     /// Writes the text that is not written yet, all in one. Where that fails, its front was written.
-    pub fn send<W: Write>(&mut self, writer: &mut Device<W>) -> Result<(), RunFault>
+    pub(crate) fn send<W: Write>(&mut self, writer: &mut Device<W>) -> Result<(), RunFault>
         ensures ok { OnOk result (self.new ≡ record self.old { unsent = [] }) }
+        ensures kept { OnErr result (self.new ≡ self.old) }
         ensures sent { OnOk result (Appends (W.contents writer.old.inner) (W.contents writer.new.inner) self.old.unsent) }
         ensures err { OnErr result (AppendsFrontOf (W.contents writer.old.inner) (W.contents writer.new.inner) self.old.unsent) }
         ensures fault { IfErr result (λ fault. fault ≡ RunFault.Write) }

@@ -1,7 +1,4 @@
-pub mod Decimals
 pub mod Exits
-pub mod Numbers
-pub mod Pieces
 pub mod WordTests
 pub mod RoleLists
 pub mod Values

@@ -1,4 +1,4 @@
--- The tests on names, labels and roles are exact.
+-- The tests on names and roles are exact.
 use Rattle.std.proofs.Common.{◌≡◌, ℕ, ◌≤◌, Bool, true, eqb, leb, List, [], ◌∷◌, length, All, Decides, Some, codes, refl, sym, ap, subst, ◌∙◌, inl, inr, ⊎_elim, arith}
 use Rattle.std.specs.Int.{IsInRange, is_in_range}
 use Rattle.std.specs.List.{list_all}
@@ -10,10 +10,10 @@ use Rattle.std.proofs.lemmas.Bool.Decides.{Decides-eqb, Decides-or, Decides-and,
 use Rattle.std.proofs.lemmas.Option.{same_Some}
 use Rattle.drf_role.specs.Text.{same_text}
 use Rattle.drf_role.specs.TextLaws.{same_from_test, test_from_same}
-use Rattle.drf_role.specs.Name.{IsNameByte, IsLabelByte, IsName, IsLabel}
+use Rattle.drf_role.specs.Name.{IsNameByte, IsName}
 use Rattle.drf_role.specs.Parts.{parts_of, text_of}
 use Rattle.drf_role.specs.Role.{IsComponentByte, IsComponent, IsRole, IsRoleText, default_role}
-use Rattle.drf_lines.specs.Words.{is_name_byte, is_label_byte, is_short, is_name, is_label, is_role_byte, is_component, is_role}
+use Rattle.drf_lines.specs.Words.{is_name_byte, is_short, is_name, is_role_byte, is_component, is_role}
 
 decides_le : (a b : ℕ) → Decides (leb a b) (a ≤ b)
 decides_le a b = (leb-true a b, le-leb a b)
@@ -26,9 +26,6 @@ name_byte b =
     Decides-or _ _ (Decides-or _ _ (Decides-or _ _ (decides_range 48 57 b) (decides_range 65 90 b))
     (decides_range 97 122 b))
     (Decides-or _ _ (Decides-eqb b 95) (Decides-or _ _ (Decides-eqb b 45) (Decides-eqb b 46)))
-
-label_byte : (b : ℕ) → Decides (is_label_byte b) (IsLabelByte b)
-label_byte b = Decides-or _ _ (name_byte b) (Decides-eqb b 47)
 
 all_decides : (p : ℕ → Bool) (P : ℕ → Type 0) → ((b : ℕ) → Decides (p b) (P b)) → (text : List ℕ)
     → Decides (list_all p text) (All P text)
@@ -43,13 +40,6 @@ name_decides text =
     Decides-like _ (λ h. record { not_empty = h.0.0; short = h.0.1; alphabet = h.1 })
     (λ h. ((h.not_empty, h.short), h.alphabet))
     (Decides-and _ _ (short text) (all_decides is_name_byte IsNameByte name_byte text))
-
-pub label_decides : (text : List ℕ) → Decides (is_label text) (IsLabel text)
-unfolding is_label
-label_decides text =
-    Decides-like _ (λ h. record { not_empty = h.0.0; short = h.0.1; alphabet = h.1 })
-    (λ h. ((h.not_empty, h.short), h.alphabet))
-    (Decides-and _ _ (short text) (all_decides is_label_byte IsLabelByte label_byte text))
 
 role_byte : (b : ℕ) → Decides (is_role_byte b) (IsComponentByte b)
 role_byte b =

@@ -1,7 +1,5 @@
 pub mod Fault
 pub mod Words
-pub mod Amount
-pub mod Weight
-pub mod Total
+pub mod Resources
 pub mod Meaning
 pub mod ReplyLine

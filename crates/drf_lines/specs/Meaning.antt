@@ -14,8 +14,7 @@ use Rattle.drf_lines.specs.declared.fault.LineFault.{LineFault}
 use Rattle.drf_lines.specs.declared.fault.LineFault.TheVariants.{LineTooLong, NotJson, BadShape}
 use Rattle.drf_lines.specs.Fault.{◌>>=◌}
 use Rattle.drf_lines.specs.Words.{name_in, role_in, roles_in}
-use Rattle.drf_lines.specs.Weight.{weight_in}
-use Rattle.drf_lines.specs.Total.{total_in}
+use Rattle.drf_lines.specs.Resources.{bundle_in, weight_in}
 
 -- how many bytes a line has at most, without its line feed
 abbrev pub longest_line : ℕ
@@ -60,7 +59,7 @@ texts_at key value = ok_or (option_and_then texts_of (option_and_then as_array (
 unfoldable pub agent_event : Data → Result Event LineFault
 agent_event value =
     keys 3 value >>= λ _. text_at (codes "agent") value >>= λ agent. text_at (codes "total") value >>= λ total.
-    name_in agent >>= λ agent. total_in total >>= λ total. Ok (AddAgent agent total)
+    name_in agent >>= λ agent. bundle_in total >>= λ total. Ok (AddAgent agent total)
 
 unfoldable pub framework_event : Data → Result Event LineFault
 framework_event value =

@@ -10,14 +10,14 @@ use Rattle.drf_rows.specs.declared.reply.Reply.{Reply}
 use Rattle.drf_rows.specs.declared.reply.Reply.TheVariants.{Done, Offers, Refused}
 use Rattle.drf_lines.specs.declared.fault.LineFault.{LineFault}
 use Rattle.drf_lines.specs.Fault.{fault_number, fault_name}
-use Rattle.drf_lines.specs.Total.{resources_text}
+use Rattle.drf_text.specs.Written.{bundle_text}
 
 abbrev pub offer_value : OfferLine → Data
 offer_value offer = object (
     member (codes "agent") (string offer.agent)
     (member (codes "framework") (string offer.framework)
     (member (codes "offer") (number (unsigned offer.number))
-    (member (codes "resources") (string (resources_text offer.resources))
+    (member (codes "resources") (string (bundle_text offer.resources))
     (member (codes "role") (string (text_of offer.role))
     no_members)))))
 

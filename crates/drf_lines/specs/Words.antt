@@ -1,4 +1,4 @@
--- The tests on the texts that events name: names, labels and roles.
+-- The tests on the texts that events name: names and roles.
 use Rattle.std.specs.Prelude.{ℕ, Bool, not, ◌&&◌, ◌||◌, ◌==◌, List, [], ◌∷◌, Result, Ok, Err, if◌then◌else◌, length, nat_le, slice_index, codes}
 use Rattle.std.specs.List.{list_all}
 use Rattle.std.specs.Char.{is_ascii_alphanumeric}
@@ -12,20 +12,12 @@ use Rattle.drf_lines.specs.Fault.{◌>>=◌}
 abbrev pub is_name_byte : ℕ → Bool
 is_name_byte b = is_ascii_alphanumeric b || (b == 95 || (b == 45 || b == 46))
 
--- one of those, or `/`
-abbrev pub is_label_byte : ℕ → Bool
-is_label_byte b = is_name_byte b || b == 47
-
 abbrev pub is_short : List ℕ → Bool
 is_short text = nat_le 1 (length text) && nat_le (length text) 64
 
 -- the name of an agent or a framework
 unfoldable pub is_name : List ℕ → Bool
 is_name text = is_short text && list_all is_name_byte text
-
--- the name of a resource
-unfoldable pub is_label : List ℕ → Bool
-is_label text = is_short text && list_all is_label_byte text
 
 -- a visible ASCII character other than `/`, `(`, `)`, `:` and `;`
 abbrev pub is_role_byte : ℕ → Bool

@@ -1,12 +1,10 @@
 //! The lines of a journal: an event is read from a line, and a reply or a fault is written as one.
 #![tactic(auto)]
 
-mod amount;
 mod fault;
 mod line;
 mod reply;
-mod total;
-mod weight;
+mod resources;
 mod words;
 
 pub use fault::{LineError, LineFault};

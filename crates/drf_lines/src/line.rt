@@ -7,8 +7,7 @@ ghost use Rattle.drf_lines.specs.Words.{roles_in};
 ghost use Rattle.drf_lines.specs.Meaning.{value_in, has_members, keys, text_at, number_at, texts_at, agent_event, framework_event, weight_event, cycle_event, event_in, meaning_of};
 
 use crate::fault::{LineError, LineFault};
-use crate::total::read_total;
-use crate::weight::read_weight;
+use crate::resources::{read_bundle, read_weight};
 use crate::words::{read_name, read_role};
 use drf_role::Role;
 use drf_rows::{Event, Table};
@@ -103,7 +102,7 @@ fn read_agent(alloc: Global, value: &Value) -> Result<Event, LineError>
     let total = text_at(value, "total")?;
     Ok(Event::AddAgent {
         agent: read_name(alloc, agent)?,
-        total: read_total(alloc, total)?,
+        total: read_bundle(alloc, total)?,
     })
 }
 

@@ -5,15 +5,15 @@ ghost use Rattle.serde_json.specs.Written.{has_float};
 ghost use Rattle.drf_lines.specs.ReplyLine.{offer_value, offers_value, refused_value, reply_value, line_of, reply_line, fault_line};
 
 use crate::fault::LineFault;
-use crate::total::write_resources;
 use drf_rows::{OfferLine, Reply};
+use drf_text::write_bundle;
 use serde_json::{Value, json};
 use std::alloc::{AllocError, Global};
 
 fn offer_value(alloc: Global, offer: &OfferLine) -> Result<Value, AllocError>
     ensures { IfOk result (λ value. view value ≡ offer_value offer.now) }
 {
-    let resources = write_resources(alloc, &offer.resources)?;
+    let resources = write_bundle(alloc, &offer.resources)?;
     json!(in alloc; {
         "agent": (offer.agent.text()),
         "framework": (offer.framework.text()),

@@ -5,6 +5,7 @@ pub mod Share
 pub mod Holdings
 pub mod Held
 pub mod Weights
+pub mod Filters
 pub mod Cycle
 pub mod Endings
 pub mod Report
@@ -20,6 +21,7 @@ pub mod LiveLaws
 pub mod CycleLaws
 pub mod ConsistentLaws
 pub mod RegistrationLaws
+pub mod WeightLaws
 pub mod Examples
 pub mod OrderExamples
 pub mod WeightExamples

@@ -10,6 +10,7 @@ ghost use Rattle.drf_rows.specs.Examples.{one_cycle, two_cycles, two_cycles_repl
 ghost use Rattle.drf_rows.specs.OrderExamples.{served, offered, half_at_work, close_shares, equal_shares, weighted_shares, shares_of, first_agent, second_agent, role_tree, more_for_ops, half_weight_of_eng, nothing_held};
 ghost use Rattle.drf_rows.specs.Report.{report_of};
 ghost use Rattle.drf_rows.specs.ReportExamples.{tree_at_work, tree_report, one_weighted, weighted_report, nothing_there, nothing_report, reserved_held, reserved_report, two_reports, two_reports_replies};
+ghost use Rattle.drf_rows.specs.WeightLaws.{RoleHasItsWeight, OthersKeepTheirWeight, EachHasOneRow};
 ghost use Rattle.drf_rows.specs.WeightExamples.{bounds, bounds_replies, replaced, weights_after, replaced_rows, one_weight, one_weight_replies, replies_by_weight, third_to};
 
 use crate::reply::{Refusal, Reply};
@@ -92,6 +93,13 @@ pub fn order_example()
     ensures more_for_one { served (role_tree 2 more_for_ops []) ≡ codes "f1" ∷ codes "f2" ∷ codes "f3" ∷ [] }
     ensures light { served (role_tree 2 more_for_ops half_weight_of_eng) ≡ codes "f3" ∷ codes "f1" ∷ codes "f2" ∷ [] }
     ensures below { served nothing_held ≡ codes "f2" ∷ codes "f1" ∷ [] }
+{}
+
+/// An event that sets a weight changes the weight of its role, and no other; each role keeps one row.
+pub fn set_weight_law()
+    ensures set { RoleHasItsWeight }
+    ensures others { OthersKeepTheirWeight }
+    ensures one_row { EachHasOneRow }
 {}
 
 /// Weights are from a thousandth to 1000, a row that is replaced keeps its place, and the heavier of two roles that hold

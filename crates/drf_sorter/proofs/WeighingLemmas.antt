@@ -9,13 +9,13 @@ use Rattle.std.proofs.lemmas.List.Elements.{All-head, All-tail}
 use Rattle.drf_bundle.specs.Quantities.{amount_of}
 use Rattle.drf_bundle.specs.declared.quantities.Entry.{Entry}
 use Rattle.drf_role.specs.Path.{same_path, client_path}
-use Rattle.drf_role.specs.PathLaws.{same_path_itself, same_path-true}
+use Rattle.drf_role.specs.PathLaws.{same_path-true}
 use Rattle.drf_role.specs.Role.{IsComponent, IsRole, default_role}
 use Rattle.drf_role.specs.TextLaws.{cases_same}
 use Rattle.drf_rows.specs.Held.{weight_of}
 use Rattle.drf_rows.specs.Share.{Fraction, is_less, share_of, weighted_share_of}
 use Rattle.drf_rows.specs.declared.rows.WeightRow.{WeightRow}
-use Rattle.drf_rows.specs.Weights.{weights_with}
+use Rattle.drf_rows.specs.WeightLaws.{weight_of-set}
 use Rattle.drf_sorter.specs.Content.{Content, standing_in, with_weight}
 use Rattle.drf_sorter.specs.Fractions.{dominant_of, weigh}
 use Rattle.drf_sorter.specs.OrderLaws.{greatest_above}
@@ -65,20 +65,12 @@ held_some held label (e ∷ es) some there = elim (cases_same e.label label) [
 
 -- ---- a role is weighed
 
-weight-with : (role : List (List ℕ)) (weight : ℕ) (ws : List WeightRow)
-    → weight_of (weights_with ws role weight) role ≡ weight
-weight-with role weight [] = rw (same_path_itself role)
-weight-with role weight (x ∷ xs) = elim (cases_Bool (same_path x.role role)) [
-  | inl here ↦ rw (here, here)
-  | inr past ↦ rw (past, past) (weight-with role weight xs)
-]
-
 weighed : (content : Content) (role : List (List ℕ)) (weight : ℕ)
     → weighted_share_of (standing_in (with_weight content role weight)) role
     ≡ weigh (share_of (standing_in content) role) weight
 unfolding standing_in
 weighed content role weight =
-    ap (weigh (share_of (standing_in content) role)) (weight-with role weight content.weights)
+    ap (weigh (share_of (standing_in content) role)) (weight_of-set role weight content.weights)
 
 less_under : (f : Fraction) (light heavy : ℕ) → 0 < f.part → 0 < f.whole → light < heavy
     → is_less (weigh f heavy) (weigh f light) ≡ true

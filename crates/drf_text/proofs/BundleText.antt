@@ -1,5 +1,5 @@
 -- What is written of a bundle means that bundle.
-use Rattle.std.proofs.Common.{◌≡◌, ◌+◌, ◌^◌, ◌≤◌, Bool, true, false, cond, List, [], ◌∷◌, ◌++◌, ◌&&◌, All, Ok, Some, None, inl, inr, refl, sym, ap, subst, ◌∙◌, append_assoc, append-nil, arith}
+use Rattle.std.proofs.Common.{map, ◌≡◌, ◌+◌, ◌^◌, ◌≤◌, Bool, true, false, cond, List, [], ◌∷◌, ◌++◌, ◌&&◌, All, Ok, Some, None, inl, inr, refl, sym, ap, subst, ◌∙◌, append_assoc, append-nil, arith}
 use Rattle.std.proofs.lemmas.Bool.{true≢false, and_parts, lt-ltb, lt-leb}
 use Rattle.std.proofs.lemmas.List.Elements.{All-head, All-tail, All-nil, All-cons}
 use Rattle.std.proofs.lemmas.List.Folds.{list_all-append}
@@ -21,9 +21,9 @@ use Rattle.drf_bundle.specs.declared.resource.Resource.{Resource}
 use Rattle.drf_text.specs.Meaning.{after, text_fault_of, put_or, put, meaning_from, meaning_of}
 use Rattle.drf_text.specs.Pieces.{resource_of}
 use Rattle.drf_text.specs.RoundTrip.{BundleIsRead}
-use Rattle.drf_text.specs.Written.{AreResourceTexts}
+use Rattle.drf_text.specs.Written.{resource_text, bundle_text}
 use Rattle.drf_text.proofs.CutLemmas.{neither, IsPart, pieces_found}
-use Rattle.drf_text.proofs.ResourceText.{resource_text}
+use Rattle.drf_text.proofs.ResourceText.{resource_found}
 
 -- ---- a resource that stands behind all others
 
@@ -122,32 +122,28 @@ next_of earlier r later bundle is ordered fits =
     united : with_united earlier r ≡ earlier ++ r ∷ []
     united = ap (merged earlier) filled ∙ behind
 
-resources_from : (later : List Resource) (pieces : List Text) (earlier : List Resource) → IsBundle earlier → All IsResource later
-    → IsTrue (is_in_order (earlier ++ later)) → Fits (stock (earlier ++ later)) → AreResourceTexts later pieces → meaning_from pieces earlier ≡ Ok (earlier ++ later)
-resources_from [] [] earlier bundle each ordered fits are = ap Ok (sym (append-nil earlier))
-resources_from [] (t ∷ ts) earlier bundle each ordered fits are = absurd are
-resources_from (r ∷ rs) [] earlier bundle each ordered fits are = absurd are
-resources_from (r ∷ rs) (t ∷ ts) earlier bundle each ordered fits are =
+resources_from : (later earlier : List Resource) → IsBundle earlier → All IsResource later
+    → IsTrue (is_in_order (earlier ++ later)) → Fits (stock (earlier ++ later)) → meaning_from (map resource_text later) earlier ≡ Ok (earlier ++ later)
+resources_from [] earlier bundle each ordered fits = ap Ok (sym (append-nil earlier))
+resources_from (r ∷ rs) earlier bundle each ordered fits =
     let is = All-head IsResource r rs each in
-    let piece = resource_text r t is are.0 in
+    let piece = resource_found r is in
     let next = next_of earlier r rs bundle is ordered fits in
-    let filled : nat_lt 0 (amount_in (resource_of t).value) ≡ true = (λ i. nat_lt 0 (amount_in (piece.says i).value)) ∙ lt-ltb 0 (amount_in r.value) is.filled in
-    let step : put earlier (resource_of t) ≡ Ok (earlier ++ r ∷ []) = ap (put earlier) piece.says ∙ next.put_is in
+    let filled : nat_lt 0 (amount_in (resource_of (resource_text r)).value) ≡ true = (λ i. nat_lt 0 (amount_in (piece.says i).value)) ∙ lt-ltb 0 (amount_in r.value) is.filled in
+    let step : put earlier (resource_of (resource_text r)) ≡ Ok (earlier ++ r ∷ []) = ap (put earlier) piece.says ∙ next.put_is in
     let whole : (earlier ++ r ∷ []) ++ rs ≡ earlier ++ r ∷ rs = append_assoc earlier (r ∷ []) rs in
-    (λ i. after (piece.fault i) (filled i) (step i) earlier (meaning_from ts))
-    ∙ resources_from rs ts (earlier ++ r ∷ []) next.bundle (All-tail IsResource r rs each) (ap is_in_order whole ∙ ordered)
-    (subst (λ (all : List Resource). Fits (stock all)) (sym whole) fits) are.1
+    (λ i. after (piece.fault i) (filled i) (step i) earlier (meaning_from (map resource_text rs)))
+    ∙ resources_from rs (earlier ++ r ∷ []) next.bundle (All-tail IsResource r rs each) (ap is_in_order whole ∙ ordered)
+    (subst (λ (all : List Resource). Fits (stock all)) (sym whole) fits)
     ∙ ap Ok whole
 
-all_parts : (rs : List Resource) (ts : List Text) → All IsResource rs → AreResourceTexts rs ts → All (IsPart 59) ts
-all_parts [] [] each are = All-nil (IsPart 59)
-all_parts [] (t ∷ ts) each are = absurd are
-all_parts (r ∷ rs) [] each are = absurd are
-all_parts (r ∷ rs) (t ∷ ts) each are =
-    All-cons (IsPart 59) t ts (resource_text r t (All-head IsResource r rs each) are.0).part (all_parts rs ts (All-tail IsResource r rs each) are.1)
+all_parts : (rs : List Resource) → All IsResource rs → All (IsPart 59) (map resource_text rs)
+all_parts [] each = All-nil (IsPart 59)
+all_parts (r ∷ rs) each =
+    All-cons (IsPart 59) (resource_text r) (map resource_text rs) (resource_found r (All-head IsResource r rs each)).part (all_parts rs (All-tail IsResource r rs each))
 
 pub bundle_read : BundleIsRead
-bundle_read bundle text is written =
-    ap meaning_of written.written
-    ∙ ap (λ (pieces : List Text). meaning_from pieces []) (pieces_found written.pieces (all_parts bundle written.pieces is.each written.are_pieces))
-    ∙ resources_from bundle written.pieces [] bundle-empty is.each is.in_order is.fits written.are_pieces
+unfolding bundle_text
+bundle_read bundle is =
+    ap (λ (pieces : List Text). meaning_from pieces []) (pieces_found (map resource_text bundle) (all_parts bundle is.each))
+    ∙ resources_from bundle [] bundle-empty is.each is.in_order is.fits

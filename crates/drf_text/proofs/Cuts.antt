@@ -1,19 +1,17 @@
 -- Heads and bodies cut at their marks.
-use Rattle.std.proofs.Common.{◌≡◌, ◌≢◌, ℕ, suc, ◌+◌, ◌-◌, ◌<◌, Bool, true, false, cond, eqb, ltb, List, [], ◌∷◌, ◌++◌, ◌&&◌, length, take, drop, get_or, Option, Some, None, Result, Ok, Err, refl, sym, ap, subst, ◌∙◌, arith, sub-one, length-append}
-use Rattle.std.proofs.Math.Seq.{take-append_seam}
-use Rattle.std.proofs.lemmas.Bool.{lt-ltb, eq-eqb, ne_eqb, eqb-true}
-use Rattle.std.proofs.lemmas.List.{get_or_push}
+use Rattle.std.proofs.Common.{◌≡◌, ◌≢◌, ℕ, suc, ◌+◌, ◌-◌, ◌<◌, Bool, true, false, cond, eqb, ltb, List, [], ◌∷◌, ◌++◌, ◌&&◌, length, take, get_or, Option, Some, None, Result, Ok, Err, refl, sym, ap, ◌∙◌, arith, sub-one}
+use Rattle.std.proofs.lemmas.Bool.{lt-ltb, ne_eqb, eqb-true}
 use Rattle.std.proofs.lemmas.List.Sums.{split_at_first}
 use Rattle.std.specs.Prelude.{not}
 use Rattle.std.specs.List.{list_all, list_any, position_or_len, before_first, after_first}
 use Rattle.drf_role.specs.Text.{Text}
 use Rattle.drf_text.specs.Blanks.{trimmed}
-use Rattle.drf_text.specs.Pieces.{begins, ends, inside, parts_between, has_one_dash, is_reserved, name_of, role_text_of, is_head, is_body}
-use Rattle.drf_text.specs.Steps.{plain_head_in, head_in, kind_of, content_of, body_in}
+use Rattle.drf_text.specs.Pieces.{begins, ends, parts_between, has_one_dash, role_text_of}
+use Rattle.drf_text.specs.Steps.{plain_head_in, head_in, body_in}
 use Rattle.drf_text.specs.declared.fault.TextFault.{TextFault}
 use Rattle.drf_text.specs.declared.fault.TextFault.TheVariants.{Syntax}
-use Rattle.drf_text.specs.declared.piece.Kind.{Kind}
 use Rattle.drf_text.specs.declared.piece.Kind.TheVariants.{Scalar, Ranges, Items}
+use Rattle.drf_text.proofs.CutLemmas.{take_all_but_last, ends_closed, inside_of}
 use Rattle.drf_text.proofs.Numbers.{any_at, all_before}
 
 -- ---- last bytes
@@ -36,19 +34,6 @@ ends_not c [] none = refl
 ends_not c (b ∷ []) none = ne_eqb b c (λ e. none [] (ap (λ (x : ℕ). x ∷ []) e))
 ends_not c (b ∷ d ∷ bs) none =
     ends_more c b d bs ∙ ends_not c (d ∷ bs) (λ front e. none (b ∷ front) (ap (λ (t : Text). b ∷ t) e))
-
-ends_with : (c : ℕ) (front : Text) → ends c (front ++ c ∷ []) ≡ true
-ends_with c front = ends_behind c c front [] ∙ eq-eqb c c refl
-
-all_but_last : (front : Text) (c : ℕ) → take (length (front ++ c ∷ []) - 1) (front ++ c ∷ []) ≡ front
-all_but_last front c =
-    let long : length (front ++ c ∷ []) - 1 ≡ length front = omega (arith, length-append front (c ∷ [])) in
-    ap (λ (n : ℕ). take n (front ++ c ∷ [])) long ∙ take-append_seam front (c ∷ [])
-
-inside_between : (o c : ℕ) (text : Text) → inside (o ∷ text ++ c ∷ []) ≡ text
-inside_between o c text =
-    let long : length (o ∷ text ++ c ∷ []) - 2 ≡ length text = omega (arith, length-append text (c ∷ [])) in
-    ap (λ (n : ℕ). take n (text ++ c ∷ [])) long ∙ take-append_seam text (c ∷ [])
 
 -- ---- heads
 
@@ -94,8 +79,8 @@ pub head_with_role : (head rest role : Text) → position_or_len is_open head < 
 unfolding head_in
 head_with_role head rest role some is closed =
     let reserved : list_any is_open head ≡ true = any_at is_open head ∙ lt-ltb _ _ some in
-    let last : ends 41 head ≡ true = head_split head rest some is 41 ∙ ap (λ (t : Text). ends 41 (40 ∷ t)) closed ∙ ends_with 41 (40 ∷ role) in
-    let text : role_text_of head ≡ trimmed role = ap (λ (t : Text). trimmed (take (length t - 1) t)) (sym is ∙ closed) ∙ ap trimmed (all_but_last role 41) in
+    let last : ends 41 head ≡ true = head_split head rest some is 41 ∙ ap (λ (t : Text). ends 41 (40 ∷ t)) closed ∙ ends_closed 41 (40 ∷ role) in
+    let text : role_text_of head ≡ trimmed role = ap (λ (t : Text). trimmed (take (length t - 1) t)) (sym is ∙ closed) ∙ ap trimmed (take_all_but_last role 41) in
     rw (reserved, last, text) refl
 
 head_same : (b c : ℕ) (bs cs : Text) → b ∷ bs ≡ c ∷ cs → b ≡ c
@@ -126,12 +111,12 @@ bracket_ends o c rest apart none = ends_not c (o ∷ rest) by
 pub ranges_closed : (rest text : Text) → rest ≡ text ++ 93 ∷ [] → list_all has_one_dash (parts_between text) ≡ true → body_in (91 ∷ rest) ≡ Ok (Ranges, text)
 unfolding body_in
 ranges_closed rest text closed dashes =
-    ap (λ (t : Text). body_in (91 ∷ t)) closed ∙ rw (ends_with 93 (91 ∷ text), inside_between 91 93 text, dashes) refl
+    ap (λ (t : Text). body_in (91 ∷ t)) closed ∙ rw (ends_closed 93 (91 ∷ text), inside_of 91 93 text, dashes) refl
 
 pub ranges_without_dash : (rest text : Text) → rest ≡ text ++ 93 ∷ [] → list_all has_one_dash (parts_between text) ≡ false → body_in (91 ∷ rest) ≡ Err Syntax
 unfolding body_in
 ranges_without_dash rest text closed dashes =
-    ap (λ (t : Text). body_in (91 ∷ t)) closed ∙ rw (ends_with 93 (91 ∷ text), inside_between 91 93 text, dashes) refl
+    ap (λ (t : Text). body_in (91 ∷ t)) closed ∙ rw (ends_closed 93 (91 ∷ text), inside_of 91 93 text, dashes) refl
 
 pub ranges_open : (rest : Text) → ((front : Text) → rest ≢ front ++ 93 ∷ []) → body_in (91 ∷ rest) ≡ Err Syntax
 unfolding body_in
@@ -140,7 +125,7 @@ ranges_open rest none = rw (bracket_ends 91 93 rest (λ e. absurd (omega (arith,
 pub items_closed : (rest text : Text) → rest ≡ text ++ 125 ∷ [] → body_in (123 ∷ rest) ≡ Ok (Items, text)
 unfolding body_in
 items_closed rest text closed =
-    ap (λ (t : Text). body_in (123 ∷ t)) closed ∙ rw (ends_with 125 (123 ∷ text), inside_between 123 125 text) refl
+    ap (λ (t : Text). body_in (123 ∷ t)) closed ∙ rw (ends_closed 125 (123 ∷ text), inside_of 123 125 text) refl
 
 pub items_open : (rest : Text) → ((front : Text) → rest ≢ front ++ 125 ∷ []) → body_in (123 ∷ rest) ≡ Err Syntax
 unfolding body_in

@@ -1,5 +1,5 @@
 -- What a reader tells where a name, a role or a number is refused.
-use Rattle.std.proofs.Common.{◌≡◌, ◌≢◌, ℕ, ◌^◌, ◌<◌, Bool, true, false, cond, ltb, ◌&&◌, List, [], length, Option, Some, None, Result, Ok, Err, refl, sym, ap, ◌∙◌, inl, inr}
+use Rattle.std.proofs.Common.{◌≡◌, ◌≢◌, ℕ, ◌^◌, ◌<◌, Bool, true, false, cond, ltb, [], length, Option, Some, None, Result, Ok, Err, refl, ap, ◌∙◌, inl, inr}
 use Rattle.std.proofs.lemmas.Bool.{cases_Bool, lt-ltb, ltb-true, and_right}
 use Rattle.std.specs.Option.{ok_or}
 use Rattle.std.specs.Result.{OkIff, result_ok}
@@ -13,12 +13,11 @@ use Rattle.drf_bundle.specs.declared.value.Value.{Value}
 use Rattle.drf_bundle.specs.declared.value.Value.TheVariants.{Scalar}
 use Rattle.drf_text.specs.Blanks.{trimmed}
 use Rattle.drf_text.specs.Faults.{IsMeaning, fault_of_name, fault_of_role}
-use Rattle.drf_text.specs.Number.{are_digits, is_number, thousandths_of, small_or_fault, number_of}
-use Rattle.drf_text.specs.Pieces.{is_end, is_range, low_of, high_of}
+use Rattle.drf_text.specs.Number.{are_digits, is_number, thousandths_of, number_of}
+use Rattle.drf_text.specs.Pieces.{is_end, low_of, high_of}
 use Rattle.drf_text.specs.Steps.{end_in, ends_in, pair_in, scalar_in}
 use Rattle.drf_text.specs.declared.fault.TextFault.{TextFault}
 use Rattle.drf_text.specs.declared.fault.TextFault.TheVariants.{BadName, BadRole, BadNumber, TooLarge}
-use Rattle.drf_text.proofs.Numbers.{all_before}
 
 pub name_refused : {A : Type 0} (refused : NameFault) (b : Bool) (x : A) → (refused ≡ name.BadName → b ≡ false)
     → IsMeaning (Err (fault_of_name refused)) (cond b (Ok x) (Err BadName))

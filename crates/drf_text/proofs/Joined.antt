@@ -3,8 +3,6 @@ use Rattle.std.proofs.Common.{◌≡◌, ℕ, ◌+◌, ◌<◌, cond, eqb, List,
 use Rattle.std.specs.List.{join_with_byte}
 use Rattle.std.proofs.lemmas.Bool.{ne_eqb}
 use Rattle.std.proofs.lemmas.List.{take_more, map-append, length-take, length-map}
-use Rattle.drf_bundle.specs.declared.resource.Resource.{Resource}
-use Rattle.drf_text.specs.Written.{IsResourceText, AreResourceTexts}
 
 -- the mark, but not before the first
 abbrev pub mark_before : ℕ → ℕ → List ℕ
@@ -47,35 +45,6 @@ mapped_more {A} f front c es i e before now within read known is =
     joined_more front c (map f (take i es)) (f e) i before now long known is
     ∙ ap (λ (ts : List (List ℕ)). front ++ join_with_byte c ts) (sym (ap (map f) more ∙ map-append f (take i es) (e ∷ [])))
 
--- ---- texts of resources
-
--- the text so far is that of the resources so far
-pub record WrittenSoFar (rs : List Resource) (text : List ℕ) : Type 0 where
-  pub pieces : List (List ℕ)
-  pub are_pieces : AreResourceTexts rs pieces
-  pub written : text ≡ join_with_byte 59 pieces
-
-as_many : (rs : List Resource) (texts : List (List ℕ)) → AreResourceTexts rs texts → length texts ≡ length rs
-as_many [] [] are = refl
-as_many [] (t ∷ ts) are = absurd are
-as_many (r ∷ rs) [] are = absurd are
-as_many (r ∷ rs) (t ∷ ts) are = omega (arith, as_many rs ts are.1)
-
-one_more : (rs : List Resource) (texts : List (List ℕ)) (r : Resource) (t : List ℕ) → AreResourceTexts rs texts
-    → IsResourceText r t → AreResourceTexts (rs ++ r ∷ []) (texts ++ t ∷ [])
-one_more [] [] r t are is = (is, tt)
-one_more [] (u ∷ us) r t are is = absurd are
-one_more (s ∷ ss) [] r t are is = absurd are
-one_more (s ∷ ss) (u ∷ us) r t are is = (are.0, one_more ss us r t are.1 is)
-
-pub written_more : (rs : List Resource) (i : ℕ) (r : Resource) (piece before now : List ℕ) → i < length rs
-    → r ≡ get_or rs i r → WrittenSoFar (take i rs) before
-    → IsResourceText r piece → now ≡ (before ++ mark_before i 59) ++ piece → WrittenSoFar (take (i + 1) rs) now
-written_more rs i r piece before now within read known is_piece is =
-    let more : take (i + 1) rs ≡ take i rs ++ r ∷ [] = take_more rs i r within ∙ ap (λ (x : Resource). take i rs ++ x ∷ []) (sym read) in
-    let long : length known.pieces ≡ i = as_many (take i rs) known.pieces known.are_pieces ∙ simp length-take (omega arith) in
-    record {
-      pieces = known.pieces ++ piece ∷ [];
-      are_pieces = rw more (one_more (take i rs) known.pieces r piece known.are_pieces is_piece);
-      written = joined_more [] 59 known.pieces piece i before now long known.written is;
-    }
+pub map_same : (xs : List (List ℕ)) → map (λ x. x) xs ≡ xs
+map_same [] = refl
+map_same (x ∷ xs) = ap (λ ys. x ∷ ys) (map_same xs)

@@ -12,6 +12,8 @@ pub mod Parts
 pub mod PieceLemmas
 pub mod QuantityText
 pub mod RangeLemmas
+pub mod Readings
 pub mod ResourceText
 pub mod RoleText
+pub mod Together
 pub mod ValueText

@@ -1,5 +1,5 @@
 -- The tests on labels and roles are exact.
-use Rattle.std.proofs.Common.{◌≡◌, ◌≢◌, ℕ, ◌+◌, ◌<◌, ◌≤◌, Bool, true, false, eqb, leb, List, [], ◌∷◌, length, All, Decides, Some, codes, refl, sym, ap, subst, ◌∙◌, inl, inr, ⊎_elim, arith, get_or}
+use Rattle.std.proofs.Common.{◌≡◌, ◌≢◌, ℕ, ◌≤◌, Bool, true, eqb, leb, List, [], ◌∷◌, length, All, Decides, Some, codes, refl, sym, ap, subst, ◌∙◌, inl, inr, ⊎_elim, arith, get_or}
 use Rattle.std.specs.Prelude.{◌&&◌}
 use Rattle.std.specs.Int.{IsInRange, is_in_range}
 use Rattle.std.specs.List.{list_all, slice_get}

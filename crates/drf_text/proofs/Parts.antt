@@ -1,5 +1,5 @@
 -- Steps on each of some parts.
-use Rattle.std.proofs.Common.{◌≡◌, ℕ, Bool, true, false, cond, List, [], ◌∷◌, ◌++◌, ◌&&◌, map, Result, Ok, Err, refl, sym, ap, ◌∙◌, append_assoc, append-nil}
+use Rattle.std.proofs.Common.{◌≡◌, ℕ, Bool, true, false, cond, List, [], ◌∷◌, ◌++◌, ◌&&◌, map, Result, Ok, Err, refl, sym, ap, append_assoc, append-nil}
 use Rattle.std.specs.List.{list_all, flat_map}
 use Rattle.std.specs.Str.Parse.{digits_value}
 use Rattle.drf_role.specs.Text.{Text}

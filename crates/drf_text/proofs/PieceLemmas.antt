@@ -1,43 +1,30 @@
 -- A head and a body with `:` between them, and when they have no fault.
-use Rattle.std.proofs.Common.{◌≡◌, ℕ, Bool, true, false, cond, eqb, [], ◌∷◌, ◌++◌, ◌&&◌, length, Some, None, inl, inr, refl, sym, ap, subst, ◌∙◌}
-use Rattle.std.proofs.lemmas.Bool.{and_from, or_left, or_right, le-leb, lt-ltb}
-use Rattle.std.proofs.lemmas.List.Elements.{All-head, All-weaker}
+use Rattle.std.proofs.Common.{◌≡◌, ℕ, Bool, true, false, cond, eqb, [], ◌∷◌, ◌++◌, ◌&&◌, length, Some, None, refl, sym, ap, subst, ◌∙◌}
+use Rattle.std.proofs.lemmas.Bool.{and_parts}
+use Rattle.std.proofs.lemmas.List.Elements.{All-head}
 use Rattle.std.proofs.lemmas.List.Folds.{list_any_none}
-use Rattle.std.proofs.lemmas.List.Sums.{list_all-from_AllPass}
-use Rattle.std.specs.Char.{IsAsciiAlphanumeric, is_ascii_alphanumeric}
-use Rattle.std.specs.Int.{is_in_range}
-use Rattle.std.specs.Prelude.{◌||◌, IsTrue, not}
+use Rattle.std.specs.Prelude.{IsTrue, not, nat_le, nat_lt}
 use Rattle.std.specs.List.{list_all, list_any}
 use Rattle.drf_role.specs.Text.{Text}
-use Rattle.drf_role.specs.Name.{IsLabelByte, IsLabel}
+use Rattle.drf_role.specs.Name.{IsLabel}
 use Rattle.drf_text.specs.Blanks.{is_blank, trimmed}
 use Rattle.drf_text.specs.NameTests.{is_label_byte, is_label}
 use Rattle.drf_text.specs.Number.{is_number}
 use Rattle.drf_text.specs.Pieces.{begins, parts_inside, head_of, body_of, name_of, is_reserved, is_head, is_body, is_range, fault_by}
 use Rattle.drf_text.specs.declared.fault.TextFault.TheVariants.{Syntax, BadName, BadRole, BadNumber}
 use Rattle.drf_text.proofs.CutLemmas.{HasNone, none_of, not_that, not_blank, trimmed_stays, before_at, after_at, any_at_mark, position_none}
+use Rattle.drf_text.proofs.NameLemmas.{label_decides}
 use Rattle.drf_text.proofs.Numbers.{all_before}
 
 -- ---- labels
 
-alphanumeric : (b : ℕ) → IsAsciiAlphanumeric b → is_ascii_alphanumeric b ≡ true
-alphanumeric b (inl (inl digit)) = or_left _ (is_in_range 97 122 b) (or_left _ (is_in_range 65 90 b) (and_from _ _ (le-leb 48 b digit.0) (le-leb b 57 digit.1)))
-alphanumeric b (inl (inr upper)) = or_left _ (is_in_range 97 122 b) (or_right (is_in_range 48 57 b) _ (and_from _ _ (le-leb 65 b upper.0) (le-leb b 90 upper.1)))
-alphanumeric b (inr lower) = or_right (is_in_range 48 57 b || is_in_range 65 90 b) _ (and_from _ _ (le-leb 97 b lower.0) (le-leb b 122 lower.1))
-
-label_byte : (b : ℕ) → IsLabelByte b → is_label_byte b ≡ true
-label_byte b (inl (inl letter)) = rw (alphanumeric b letter) refl
-label_byte b (inl (inr (inl is))) = ap is_label_byte is
-label_byte b (inl (inr (inr (inl is)))) = ap is_label_byte is
-label_byte b (inl (inr (inr (inr is)))) = ap is_label_byte is
-label_byte b (inr is) = ap is_label_byte is
+pub label_test : (label : Text) → IsLabel label → is_label label ≡ true
+label_test label is = (label_decides label).1 is
 
 label_bytes : (label : Text) → IsLabel label → IsTrue (list_all is_label_byte label)
-label_bytes label is = list_all-from_AllPass is_label_byte label (All-weaker IsLabelByte (λ b. is_label_byte b ≡ true) label_byte label is.alphabet)
-
-pub label_test : (label : Text) → IsLabel label → is_label label ≡ true
-label_test label is =
-    and_from _ _ (lt-ltb 0 (length label) is.not_empty) (and_from _ _ (le-leb (length label) 64 is.short) (label_bytes label is))
+label_bytes label is =
+    let more = (and_parts (nat_lt 0 (length label)) (nat_le (length label) 64 && list_all is_label_byte label) (label_test label is)).1 in
+    (and_parts (nat_le (length label) 64) (list_all is_label_byte label) more).1
 
 pub label_has_none : (p : ℕ → Bool) (label : Text) → IsLabel label → ((b : ℕ) → is_label_byte b ≡ true → p b ≡ false) → HasNone p label
 label_has_none p label is apart = none_of p is_label_byte label apart (label_bytes label is)

@@ -6,18 +6,18 @@ use Rattle.std.specs.List.{list_any}
 use Rattle.std.specs.Prelude.{not}
 use Rattle.drf_role.specs.Parts.{parts_of, text_of}
 use Rattle.drf_role.specs.PathLaws.{same_path-true}
-use Rattle.drf_role.specs.Role.{IsRolePath, default_role}
+use Rattle.drf_role.specs.Role.{IsComponentByte, IsRolePath, default_role}
 use Rattle.drf_role.specs.Text.{Text}
 use Rattle.drf_bundle.specs.Bundle.{is_default, IsResource}
 use Rattle.drf_bundle.specs.declared.resource.Resource.{Resource}
 use Rattle.drf_text.specs.Blanks.{is_blank, trimmed}
-use Rattle.drf_text.specs.NameTests.{is_label_byte, is_component_byte, is_label, is_role}
+use Rattle.drf_text.specs.NameTests.{is_label_byte, is_label, is_role}
 use Rattle.drf_text.specs.Pieces.{ends, is_reserved, head_of, body_of, name_of, role_text_of, role_of, value_of, has_bad_role, fault_of, resource_of}
-use Rattle.drf_text.specs.Written.{head_text, IsResourceText}
-use Rattle.drf_text.proofs.CutLemmas.{HasNone, not_that, not_blank, is_between, not_between, no_blanks, IsPart, trimmed_stays, before_at, after_at, any_at_mark, take_all_but_last, ends_closed}
+use Rattle.drf_text.specs.Written.{head_text, value_text, resource_text}
+use Rattle.drf_text.proofs.CutLemmas.{HasNone, is_between, not_between, no_blanks, IsPart, trimmed_stays, before_at, after_at, any_at_mark, take_all_but_last, ends_closed}
 use Rattle.drf_text.proofs.PieceLemmas.{label_test, label_has_none, label_without, head_found, body_found, name_alone, not_reserved, label_head, IsRightHead, right_piece}
-use Rattle.drf_text.proofs.RoleText.{role_test, role_has_none, reserved_path}
-use Rattle.drf_text.proofs.ValueText.{IsTextOf, value_text}
+use Rattle.drf_text.proofs.RoleText.{component_no_colon, component_no_blank, component_not_between, role_test, role_has_none, reserved_path}
+use Rattle.drf_text.proofs.ValueText.{IsTextOf, value_found}
 
 -- the text is a head without a fault, and says the name and the role
 record IsHeadOf (r : Resource) (head : Text) : Type 0 where
@@ -47,7 +47,7 @@ module _ (r : Resource) (is : IsResource r) where
   in_parentheses = r.label ++ 40 ∷ text_of r.role ++ 41 ∷ []
 
   parentheses_have_none : (p : ℕ → Bool) → IsRolePath r.role → HasNone p r.label → p 40 ≡ false → p 41 ≡ false → p 47 ≡ false
-      → ((b : ℕ) → is_component_byte b ≡ true → p b ≡ false) → HasNone p in_parentheses
+      → ((b : ℕ) → IsComponentByte b → p b ≡ false) → HasNone p in_parentheses
   parentheses_have_none p path label first last slash apart =
       All-append (λ b. p b ≡ false) (r.label ++ 40 ∷ text_of r.role) (41 ∷ [])
       (All-append (λ b. p b ≡ false) r.label (40 ∷ text_of r.role) label (All-cons (λ b. p b ≡ false) 40 (text_of r.role) first (role_has_none p r.role path slash apart)))
@@ -60,12 +60,12 @@ module _ (r : Resource) (is : IsResource r) where
           ap (λ (b : Bool). cond b (ends 41 in_parentheses) (not (list_any (λ b. eqb b 41) in_parentheses))) reserved
           ∙ ends_closed 41 (r.label ++ 40 ∷ text_of r.role);
       name = ap is_label name ∙ label_test r.label is.label;
-      role = (λ i. reserved i && not (is_role (role_text i))) ∙ ap not (role_test r.role path is.role_read);
+      role = (λ i. reserved i && not (is_role (role_text i))) ∙ ap not (role_test r.role is.role is.role_read);
     };
     name = name;
     role = (λ i. cond (reserved i) (parts_of (role_text i)) default_role) ∙ is.role_read;
-    no_colon = parentheses_have_none (λ b. eqb b 58) path (label_without 58 r.label is.label refl) refl refl refl (not_that is_component_byte 58 refl);
-    whole = parentheses_have_none (is_between 59) path label_whole refl refl refl (not_between is_component_byte 59 refl refl refl);
+    no_colon = parentheses_have_none (λ b. eqb b 58) path (label_without 58 r.label is.label refl) refl refl refl component_no_colon;
+    whole = parentheses_have_none (is_between 59) path label_whole refl refl refl component_not_between;
   }
     where
       path : IsRolePath r.role
@@ -91,7 +91,7 @@ module _ (r : Resource) (is : IsResource r) where
           ap role_text_of cut
           ∙ ap (λ (rest : Text). trimmed (take (length rest - 1) rest)) (after_at (λ b. eqb b 40) r.label 40 (text_of r.role ++ 41 ∷ []) no_open refl)
           ∙ ap trimmed (take_all_but_last (text_of r.role) 41)
-          ∙ trimmed_stays (text_of r.role) (role_has_none is_blank r.role path refl (not_blank is_component_byte refl refl))
+          ∙ trimmed_stays (text_of r.role) (role_has_none is_blank r.role path refl component_no_blank)
 
   head_is : IsHeadOf r (head_text r)
   head_is = elim (cases_Bool (is_default r.role)) [
@@ -133,6 +133,5 @@ head_and_value r head value is_head is_value = record {
     said : value_of (body_of (head ++ 58 ∷ value)) ≡ r.value
     said = ap value_of (body_found head value is_head.no_colon no_blank_too) ∙ is_value.says
 
-pub resource_text : (r : Resource) (text : Text) → IsResource r → IsResourceText r text → IsPieceOf r text
-resource_text r text resource is =
-    subst (IsPieceOf r) (sym is.written) (head_and_value r (head_text r) is.value (head_is r resource) (value_text r.value is.value resource.value is.is_value))
+pub resource_found : (r : Resource) → IsResource r → IsPieceOf r (resource_text r)
+resource_found r resource = head_and_value r (head_text r) (value_text r.value) (head_is r resource) (value_found r.value resource.value)

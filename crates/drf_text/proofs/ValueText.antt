@@ -14,8 +14,8 @@ use Rattle.std.specs.Str.Parse.{digits_value}
 use Rattle.drf_role.specs.Name.{IsLabel}
 use Rattle.drf_role.specs.Text.{Text}
 use Rattle.drf_role.specs.TextLaws.{cmp_itself}
-use Rattle.drf_kinds.specs.Intervals.{AreMaximalFrom, numbers, members}
-use Rattle.drf_kinds.specs.Names.{text_cmp}
+use Rattle.drf_kinds.specs.Intervals.{AreMaximal, AreMaximalFrom, numbers, members}
+use Rattle.drf_kinds.specs.Names.{text_cmp, AreAscending}
 use Rattle.drf_kinds.specs.declared.interval.Interval.{Interval}
 use Rattle.drf_bundle.specs.Value.{IsGiven}
 use Rattle.drf_bundle.specs.declared.value.Value.{Value}
@@ -23,7 +23,8 @@ use Rattle.drf_bundle.specs.declared.value.Value.TheVariants.{Scalar, Ranges, It
 use Rattle.drf_text.specs.Blanks.{is_blank, trimmed}
 use Rattle.drf_text.specs.NameTests.{is_label_byte, is_label}
 use Rattle.drf_text.specs.Pieces.{parts_inside, low_of, high_of, has_one_dash, is_end, is_range, numbers_of, value_of}
-use Rattle.drf_text.specs.Written.{amount_text, interval_text, intervals_text, IsRangesText, IsItemsText, IsValueText}
+use Rattle.drf_text.specs.Written.{amount_text, interval_text, intervals_text, ranges_text, items_text, value_text}
+use Rattle.drf_kinds.specs.Listed.{listed, intervals_of, maximal-intervals_of, members-intervals_of, ascending-listed, from_list-listed}
 use Rattle.drf_text.proofs.AmountText.{digits_of, are_digits_of, value_of_digits, amount_read, is_amount_byte, amount_has_none}
 use Rattle.drf_text.proofs.CutLemmas.{HasNone, none_of, not_that, not_blank, is_between, not_between, IsPart, trimmed_stays, before_at, after_at, ends_closed, parts_found, joined_has_none}
 use Rattle.drf_text.proofs.PieceLemmas.{label_test, label_has_none, IsRightBody, begins_not}
@@ -141,9 +142,16 @@ each_passes : (test : Text → Bool) (is : List Interval) → ((i : Interval) �
 each_passes test is passes spans =
     list_all-from_AllPass test (map interval_text is) (each_text (λ t. test t ≡ true) is passes spans)
 
-ranges_text : (numbers : set.FinSet nat_cmp) (text : Text) → IsRangesText numbers text → IsTextOf (Ranges numbers) text
+-- the text is that of the maximal intervals of the set, in ascending order
+record IsRangesText (numbers : set.FinSet nat_cmp) (text : Text) : Type 0 where
+  pub intervals : List Interval
+  pub maximal : AreMaximal intervals
+  pub are_its : members intervals ≡ numbers
+  pub written : text ≡ 91 ∷ intervals_text intervals ++ 93 ∷ []
+
+ranges_found : (numbers : set.FinSet nat_cmp) (text : Text) → IsRangesText numbers text → IsTextOf (Ranges numbers) text
 unfolding members
-ranges_text numbers text is = subst (IsTextOf (Ranges numbers)) (sym is.written) (record {
+ranges_found numbers text is = subst (IsTextOf (Ranges numbers)) (sym is.written) (record {
   body = record {
     shape = and_from _ _ (ends_closed 93 (91 ∷ intervals_text is.intervals)) (ap (list_all has_one_dash) parts ∙ each_passes has_one_dash is.intervals one_dash spans);
     members = refl;
@@ -180,8 +188,15 @@ labels_of labels names same given =
 label_part : (label : Text) → IsLabel label → IsPart 44 label
 label_part label is = record { some = is.not_empty; whole = label_has_none (is_between 44) label is (not_between is_label_byte 44 refl refl refl) }
 
-items_text : (labels : set.FinSet text_cmp) (text : Text) → IsGiven (Items labels) → IsItemsText labels text → IsTextOf (Items labels) text
-items_text labels text given is = subst (IsTextOf (Items labels)) (sym is.written) (record {
+-- the text is that of the members of the set, in order of bytes
+record IsItemsText (labels : set.FinSet text_cmp) (text : Text) : Type 0 where
+  pub names : List Text
+  pub ascending : AreAscending names
+  pub are_its : set.from_list names ≡ labels
+  pub written : text ≡ 123 ∷ join_with_byte 44 names ++ 125 ∷ []
+
+items_found : (labels : set.FinSet text_cmp) (text : Text) → IsGiven (Items labels) → IsItemsText labels text → IsTextOf (Items labels) text
+items_found labels text given is = subst (IsTextOf (Items labels)) (sym is.written) (record {
   body = record {
     shape = ends_closed 125 (123 ∷ join_with_byte 44 is.names);
     members = ap (list_all is_label) parts ∙ list_all-from_AllPass is_label is.names (All-weaker IsLabel (λ name. is_label name ≡ true) label_test is.names each);
@@ -201,7 +216,19 @@ items_text labels text given is = subst (IsTextOf (Items labels)) (sym is.writte
 
 -- ---- values
 
-pub value_text : (value : Value) (text : Text) → IsGiven value → IsValueText value text → IsTextOf value text
-value_text (Scalar thousandths) text given is = subst (IsTextOf (Scalar thousandths)) (sym is) (scalar_text thousandths given)
-value_text (Ranges numbers) text given is = ranges_text numbers text is
-value_text (Items labels) text given is = items_text labels text given is
+pub value_found : (value : Value) → IsGiven value → IsTextOf value (value_text value)
+value_found (Scalar thousandths) given = scalar_text thousandths given
+value_found (Ranges numbers) given =
+    ranges_found numbers (ranges_text numbers) (record {
+      intervals = intervals_of numbers;
+      maximal = maximal-intervals_of numbers given;
+      are_its = members-intervals_of numbers given;
+      written = refl;
+    })
+value_found (Items labels) given =
+    items_found labels (items_text labels) given (record {
+      names = listed labels;
+      ascending = ascending-listed text_cmp nat_list_cmp_total (set.slice_cmp-IsAntisymmetric set.nat_cmp-IsAntisymmetric) labels;
+      are_its = from_list-listed text_cmp nat_list_cmp_total (set.slice_cmp-IsAntisymmetric set.nat_cmp-IsAntisymmetric) labels;
+      written = refl;
+    })

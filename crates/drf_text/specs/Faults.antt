@@ -9,10 +9,14 @@ use Rattle.drf_kinds.specs.declared.ranges.RangesFault.TheVariants as ranges
 use Rattle.drf_text.specs.declared.fault.TextFault.{TextFault}
 use Rattle.drf_text.specs.declared.fault.TextFault.TheVariants.{BadName, BadRole, BadNumber, Memory}
 
--- what is meant, seen by `view`, or the fault for which nothing is; where memory ends it says nothing
+-- a reader tells the fault for which nothing is meant; where memory ends it says nothing
+abbrev pub IsTold : {A : Type 0} → Result A TextFault → TextFault → Type 0
+IsTold meaning fault = fault ≢ Memory → meaning ≡ Err fault
+
+-- what is meant, seen by `view`, or a fault
 abbrev pub IsReadAs : {A B : Type 0} → (A → B) → Result A TextFault → Result B TextFault → Type 0
 IsReadAs view (Ok x) meaning = meaning ≡ Ok (view x)
-IsReadAs view (Err fault) meaning = fault ≢ Memory → meaning ≡ Err fault
+IsReadAs view (Err fault) meaning = IsTold meaning fault
 
 abbrev pub IsMeaning : {A : Type 0} → Result A TextFault → Result A TextFault → Type 0
 IsMeaning = IsReadAs (λ x. x)

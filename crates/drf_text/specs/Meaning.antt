@@ -1,5 +1,5 @@
 -- What the text of a bundle means, and that of quantities: each piece by itself, and the pieces put together from the left.
-use Rattle.std.specs.Prelude.{ℕ, ◌+◌, ◌^◌, Bool, true, false, List, [], ◌∷◌, Option, Some, None, Result, Ok, Err, if◌then◌else◌, nat_lt}
+use Rattle.std.specs.Prelude.{◌+◌, ◌^◌, Bool, true, false, List, [], ◌∷◌, Option, Some, None, Result, Ok, Err, if◌then◌else◌, nat_lt}
 use Rattle.std.specs.Option.{option_map}
 use Rattle.drf_role.specs.Text.{Text}
 use Rattle.drf_amount.specs.declared.algebra.AlgebraFault.{AlgebraFault}

@@ -1,6 +1,5 @@
 -- What is written means what it was written of, as statements.
 use Rattle.std.specs.Prelude.{◌≡◌, ℕ, ◌^◌, ◌<◌, List, Ok, IsTrue, All}
-use Rattle.drf_role.specs.Text.{Text}
 use Rattle.drf_role.specs.Name.{IsLabel}
 use Rattle.drf_bundle.specs.Bundle.{IsBundle}
 use Rattle.drf_bundle.specs.Quantities.{is_in_order}
@@ -8,7 +7,7 @@ use Rattle.drf_bundle.specs.declared.quantities.Entry.{Entry}
 use Rattle.drf_bundle.specs.declared.resource.Resource.{Resource}
 use Rattle.drf_text.specs.Meaning.{meaning_of, quantities_meant}
 use Rattle.drf_text.specs.Number.{weight_of}
-use Rattle.drf_text.specs.Written.{amount_text, quantities_text, IsBundleText}
+use Rattle.drf_text.specs.Written.{amount_text, quantities_text, bundle_text}
 
 -- the written form of a weight says that weight
 abbrev pub WeightIsRead : Type 0
@@ -25,4 +24,4 @@ QuantitiesAreRead = (entries : List Entry) → IsTrue (is_in_order entries) → 
 
 -- the written form of a bundle means that bundle
 abbrev pub BundleIsRead : Type 0
-BundleIsRead = (bundle : List Resource) (text : Text) → IsBundle bundle → IsBundleText bundle text → meaning_of text ≡ Ok bundle
+BundleIsRead = (bundle : List Resource) → IsBundle bundle → meaning_of (bundle_text bundle) ≡ Ok bundle

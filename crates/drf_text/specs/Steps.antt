@@ -1,7 +1,7 @@
 -- A piece read step by step, in the order of its faults: what the functions of the reader answer. That the steps together
 -- are the meaning of a piece is proved.
 use Rattle.std.specs.Prelude.{ℕ, ◌+◌, ◌-◌, ◌^◌, ◌&&◌, ◌==◌, List, [], ◌∷◌, length, Option, Some, None, Result, Ok, Err, if◌then◌else◌, nat_lt, nat_le}
-use Rattle.std.specs.List.{list_all, list_any, flat_map, range_with_len}
+use Rattle.std.specs.List.{list_any, flat_map, range_with_len}
 use Rattle.std.specs.Option.{option_copied, ok_or}
 use Rattle.std.specs.Ordering.{nat_cmp}
 use Rattle.std.specs.Str.Parse.{digits_value}
@@ -10,21 +10,27 @@ use Rattle.drf_role.specs.Text.{Text}
 use Rattle.drf_role.specs.Path.{Path}
 use Rattle.drf_role.specs.Parts.{parts_of}
 use Rattle.drf_role.specs.Role.{default_role}
+use Rattle.drf_bundle.specs.Union.{has_other_kind}
+use Rattle.drf_bundle.specs.Value.{amount_in}
+use Rattle.drf_bundle.specs.declared.quantities.Entry.{Entry}
+use Rattle.drf_bundle.specs.declared.resource.Resource.{Resource}
 use Rattle.drf_bundle.specs.declared.value.Value.{Value}
 use Rattle.drf_bundle.specs.declared.value.Value.TheVariants.{Scalar, Ranges, Items}
 use Rattle.drf_text.specs.Blanks.{trimmed}
+use Rattle.drf_text.specs.Meaning.{put, counted}
 use Rattle.drf_text.specs.Number.{is_number, thousandths_of}
 use Rattle.drf_text.specs.NameTests.{is_label, is_role}
 use Rattle.drf_text.specs.Pieces.{begins, inside, parts_between, head_of, body_of, is_reserved, name_of, role_text_of, low_of, high_of, is_head, is_body, is_end}
 use Rattle.drf_text.specs.declared.fault.TextFault.{TextFault}
-use Rattle.drf_text.specs.declared.fault.TextFault.TheVariants.{Syntax, BadName, BadRole, BadNumber}
+use Rattle.drf_text.specs.declared.fault.TextFault.TheVariants.{Syntax, BadName, BadRole, BadNumber, TooLarge}
+use Rattle.drf_text.specs.declared.fault.TextFault.TheVariants as fault
 use Rattle.drf_text.specs.declared.piece.Head.{Head}
 use Rattle.drf_text.specs.declared.piece.Kind.{Kind}
 use Rattle.drf_text.specs.declared.piece.Kind.TheVariants as kind
 use Rattle.drf_text.specs.declared.piece.Body.{Body}
-use Rattle.drf_text.specs.declared.read.Draft.{Draft}
-use Rattle.drf_text.specs.declared.read.Said.{Said}
-use Rattle.drf_text.specs.declared.read.Counted.{Counted}
+use Rattle.drf_text.specs.declared.said.Draft.{Draft}
+use Rattle.drf_text.specs.declared.said.Said.{Said}
+use Rattle.drf_text.specs.declared.said.Counted.{Counted}
 
 -- ---- steps
 
@@ -166,3 +172,30 @@ unfoldable pub counted_in : Text → Result Counted TextFault
 counted_in piece =
     draft_in piece >>= λ draft. no_role draft.role >>= λ _. value_in draft.body draft.members >>= λ value.
     Ok (record { label = draft.label; value = value })
+
+-- ---- pieces put together
+
+-- what a piece says, put to what earlier ones said; a name of two kinds is told before a scalar that is too large
+abbrev pub put_said : List Resource → Said → Result (List Resource) TextFault
+put_said earlier said = put_value said.value
+  where
+    put_value : Option Value → Result (List Resource) TextFault
+    put_value None = Err (if has_other_kind earlier said.label (Scalar 0) then fault.Kind else TooLarge)
+    put_value (Some v) =
+        if nat_lt 0 (amount_in v) then put earlier (record { label = said.label; role = said.role; value = v }) else Ok earlier
+
+abbrev pub put_counted : List Entry → Counted → Result (List Entry) TextFault
+put_counted earlier said = put_value said.value
+  where
+    put_value : Option Value → Result (List Entry) TextFault
+    put_value None = Err TooLarge
+    put_value (Some v) = counted earlier said.label v
+
+-- what stands between two `;`, put to what there is; nothing but blanks changes nothing
+unfoldable pub bundle_step : Text → List Resource → Result (List Resource) TextFault
+bundle_step text earlier =
+    if nat_lt 0 (length (trimmed text)) then (said_in (trimmed text) >>= put_said earlier) else Ok earlier
+
+unfoldable pub quantities_step : Text → List Entry → Result (List Entry) TextFault
+quantities_step text earlier =
+    if nat_lt 0 (length (trimmed text)) then (counted_in (trimmed text) >>= put_counted earlier) else Ok earlier

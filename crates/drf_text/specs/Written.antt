@@ -1,12 +1,12 @@
 -- The written forms of amounts, quantities and bundles.
-use Rattle.std.specs.Prelude.{◌≡◌, ℕ, ◌+◌, ◌/◌, ◌%◌, ◌==◌, List, [], ◌∷◌, ◌++◌, map, if◌then◌else◌, decimal}
+use Rattle.std.specs.Prelude.{ℕ, ◌+◌, ◌/◌, ◌%◌, ◌==◌, List, [], ◌∷◌, ◌++◌, map, if◌then◌else◌, decimal}
 use Rattle.std.specs.List.{list_all, join_with_byte}
 use Rattle.std.specs.FinSet as set
 use Rattle.std.specs.Ordering.{nat_cmp}
 use Rattle.drf_role.specs.Text.{Text}
 use Rattle.drf_role.specs.Parts.{text_of}
-use Rattle.drf_kinds.specs.Intervals.{AreMaximal, members}
-use Rattle.drf_kinds.specs.Names.{text_cmp, AreAscending}
+use Rattle.drf_kinds.specs.Listed.{listed, intervals_of}
+use Rattle.drf_kinds.specs.Names.{text_cmp}
 use Rattle.drf_kinds.specs.declared.interval.Interval.{Interval}
 use Rattle.drf_bundle.specs.Bundle.{is_default}
 use Rattle.drf_bundle.specs.declared.quantities.Entry.{Entry}
@@ -54,43 +54,27 @@ interval_text i = decimal i.first ++ 45 ∷ decimal i.last
 abbrev pub intervals_text : List Interval → Text
 intervals_text intervals = join_with_byte 44 (map interval_text intervals)
 
--- the text is that of the maximal intervals of the set, in ascending order
-pub record IsRangesText (numbers : set.FinSet nat_cmp) (text : Text) : Type 0 where
-  pub intervals : List Interval
-  pub maximal : AreMaximal intervals
-  pub are_its : members intervals ≡ numbers
-  pub written : text ≡ 91 ∷ intervals_text intervals ++ 93 ∷ []
+-- the maximal intervals of the set, in ascending order
+abbrev pub ranges_text : set.FinSet nat_cmp → Text
+ranges_text numbers = 91 ∷ intervals_text (intervals_of numbers) ++ 93 ∷ []
 
--- the text is that of the members of the set, in order of bytes
-pub record IsItemsText (labels : set.FinSet text_cmp) (text : Text) : Type 0 where
-  pub names : List Text
-  pub ascending : AreAscending names
-  pub are_its : set.from_list names ≡ labels
-  pub written : text ≡ 123 ∷ join_with_byte 44 names ++ 125 ∷ []
+-- the members of the set, in order of bytes
+abbrev pub items_text : set.FinSet text_cmp → Text
+items_text labels = 123 ∷ join_with_byte 44 (listed labels) ++ 125 ∷ []
 
-abbrev pub IsValueText : Value → Text → Type 0
-IsValueText (Scalar thousandths) text = text ≡ amount_text thousandths
-IsValueText (Ranges numbers) text = IsRangesText numbers text
-IsValueText (Items labels) text = IsItemsText labels text
+abbrev pub value_text : Value → Text
+value_text (Scalar thousandths) = amount_text thousandths
+value_text (Ranges numbers) = ranges_text numbers
+value_text (Items labels) = items_text labels
 
 -- the name, and the role in parentheses if it is reserved
 abbrev pub head_text : Resource → Text
 head_text r = if is_default r.role then r.label else r.label ++ 40 ∷ text_of r.role ++ 41 ∷ []
 
 -- the head, `:` and the value
-pub record IsResourceText (r : Resource) (text : Text) : Type 0 where
-  pub value : Text
-  pub is_value : IsValueText r.value value
-  pub written : text ≡ head_text r ++ 58 ∷ value
+abbrev pub resource_text : Resource → Text
+resource_text r = head_text r ++ 58 ∷ value_text r.value
 
-abbrev pub AreResourceTexts : List Resource → List Text → Type 0
-AreResourceTexts [] [] = Unit {0}
-AreResourceTexts [] (text ∷ texts) = ⊥
-AreResourceTexts (r ∷ rs) [] = ⊥
-AreResourceTexts (r ∷ rs) (text ∷ texts) = IsResourceText r text × AreResourceTexts rs texts
-
--- the text is that of each resource in order, joined by `;`
-pub record IsBundleText (bundle : List Resource) (text : Text) : Type 0 where
-  pub pieces : List Text
-  pub are_pieces : AreResourceTexts bundle pieces
-  pub written : text ≡ join_with_byte 59 pieces
+-- each resource in order, joined by `;`
+unfoldable pub bundle_text : List Resource → Text
+bundle_text bundle = join_with_byte 59 (map resource_text bundle)

@@ -7,6 +7,7 @@ mod laws;
 mod number;
 mod piece;
 mod read;
+mod said;
 mod trim;
 mod values;
 mod write;
@@ -17,4 +18,5 @@ pub use laws::{
     weight_round_trip_law,
 };
 pub use number::read_weight;
+pub use read::{read_bundle, read_quantities};
 pub use write::{write_bundle, write_quantities};

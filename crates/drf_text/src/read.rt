@@ -1,85 +1,117 @@
 //! Bundles and quantities read from text.
-ghost use Rattle.drf_text.specs.Faults.{IsReadAs, IsMeaning};
-ghost use Rattle.drf_text.specs.Steps.{view_draft, draft_in, said_in, counted_in};
+ghost use Rattle.std.specs.Prelude.{◌≡◌, if◌then◌else◌, OnOk, IfErr};
+ghost use Rattle.drf_bundle.specs.Union.{has_other_kind};
+ghost use Rattle.drf_text.specs.Faults.{IsTold, IsMeaning};
+ghost use Rattle.drf_text.specs.Meaning.{counted, meaning_of, quantities_meant};
+ghost use Rattle.drf_text.specs.Steps.{put_said, put_counted, bundle_step, quantities_step};
 
 use crate::fault::TextFault;
-use crate::piece::{Body, cut_body, cut_head, cut_piece};
-use crate::values::{read_label, read_members, read_role, read_value};
-use drf_bundle::Value;
-use drf_role::{Label, Role};
+use crate::said::{Counted, Said, read_count, read_piece};
+use crate::trim::trim;
+use drf_amount::{Algebra, Scalar};
+use drf_bundle::{Bundle, Quantities, Value};
+use drf_role::Label;
 use std::alloc::Global;
 
-/// A piece of which the role and all but the members of the value are still to be read.
-#[derive(Drop)]
-struct Draft<'a> {
-    label: Label,
-    role: Option<&'a str>,
-    body: Body<'a>,
-    members: Vec<Label>,
-}
-
-/// What a piece of a bundle says. There is no value where a scalar is too large.
-#[derive(Drop)]
-struct Said {
-    label: Label,
-    role: Role,
-    value: Option<Value>,
-}
-
-/// What a piece of quantities says.
-#[derive(Drop)]
-struct Counted {
-    label: Label,
-    value: Option<Value>,
-}
-
-#[tactic(auto, unfolding(crate::specs::Steps::draft_in))]
-fn read_draft(alloc: Global, piece: &str) -> Result<Draft<'_>, TextFault>
-    ensures { IsReadAs view_draft result (draft_in piece.now) }
+/// The fault of a scalar that is too large by itself.
+fn fault_of_too_large(bundle: &Bundle, label: &Label) -> TextFault
+    ensures { result ≡ (if has_other_kind bundle.now label.now (Value.Scalar 0) then TextFault.Kind else TextFault.TooLarge) }
 {
-    let (head, body) = cut_piece(piece)?;
-    let head = cut_head(head)?;
-    let body = cut_body(body)?;
-    let label = read_label(alloc, head.name)?;
-    let members = read_members(alloc, &body)?;
-    Ok(Draft {
-        label,
-        role: head.role,
-        body,
-        members,
-    })
-}
-
-/// Reads a piece of a bundle.
-#[tactic(auto, unfolding(crate::specs::Steps::said_in))]
-fn read_piece(alloc: Global, piece: &str) -> Result<Said, TextFault>
-    ensures { IsMeaning result (said_in piece.now) }
-{
-    let Draft {
-        label,
-        role,
-        body,
-        members,
-    } = read_draft(alloc, piece)?;
-    let role = read_role(alloc, role)?;
-    let value = read_value(alloc, &body, members)?;
-    Ok(Said { label, role, value })
-}
-
-/// Reads a piece of quantities, where nothing may stand in parentheses.
-#[tactic(auto, unfolding(crate::specs::Steps::counted_in))]
-fn read_count(alloc: Global, piece: &str) -> Result<Counted, TextFault>
-    ensures { IsMeaning result (counted_in piece.now) }
-{
-    let Draft {
-        label,
-        role,
-        body,
-        members,
-    } = read_draft(alloc, piece)?;
-    if role.is_some() {
-        return Err(TextFault::BadRole);
+    if bundle.has_other_kind(label, &Value::Scalar(Scalar::new(0))) {
+        return TextFault::Kind;
     }
-    let value = read_value(alloc, &body, members)?;
-    Ok(Counted { label, value })
+    TextFault::TooLarge
+}
+
+/// Puts what a piece says into the bundle.
+fn put_said(bundle: &mut Bundle, said: Said) -> Result<(), TextFault>
+    ensures ok { OnOk result (put_said bundle.old said ≡ Ok bundle.new) }
+    ensures fault { IfErr result (IsTold (put_said bundle.old said)) }
+{
+    let Said { label, role, value } = said;
+    match value {
+        None => Err(fault_of_too_large(bundle, &label)),
+        Some(value) => {
+            if value.is_empty() {
+                return Ok(());
+            }
+            Ok(bundle.unite(label, role, value)?)
+        }
+    }
+}
+
+/// Reads what stands between two `;`, and puts it into the bundle.
+fn add_piece(alloc: Global, bundle: &mut Bundle, text: &str) -> Result<(), TextFault>
+    ensures ok { OnOk result (bundle_step text.now bundle.old ≡ Ok bundle.new) }
+    ensures fault { IfErr result (IsTold (bundle_step text.now bundle.old)) }
+{
+    let piece = trim(text);
+    if piece.is_empty() {
+        return Ok(());
+    }
+    let said = read_piece(alloc, piece)?;
+    put_said(bundle, said)
+}
+
+/// Reads a bundle: pieces `name:value` or `name(role):value`, which `;` separates. The first fault of the first piece that
+/// has one is told, and `Memory` where memory ends.
+pub fn read_bundle(alloc: Global, text: &str) -> Result<Bundle, TextFault>
+    ensures { IsMeaning result (meaning_of text.now) }
+{
+    let mut bundle = Bundle::empty(alloc);
+    for piece in text.split(';') {
+        add_piece(alloc, &mut bundle, piece)?;
+    }
+    Ok(bundle)
+}
+
+/// Adds an amount to that of its name.
+fn add_amount(quantities: &mut Quantities, label: Label, thousandths: u64) -> Result<(), TextFault>
+    ensures ok { OnOk result (counted quantities.old label (Value.Scalar thousandths) ≡ Ok quantities.new) }
+    ensures fault { IfErr result (IsTold (counted quantities.old label (Value.Scalar thousandths))) }
+{
+    match quantities.get(label.text()).checked_add(thousandths) {
+        Some(sum) => Ok(quantities.set(label, sum)?),
+        None => Err(TextFault::TooLarge),
+    }
+}
+
+/// Adds what a piece says to the quantities.
+fn put_counted(quantities: &mut Quantities, said: Counted) -> Result<(), TextFault>
+    ensures ok { OnOk result (put_counted quantities.old said ≡ Ok quantities.new) }
+    ensures fault { IfErr result (IsTold (put_counted quantities.old said)) }
+{
+    let Counted { label, value } = said;
+    match value {
+        None => Err(TextFault::TooLarge),
+        Some(value) => match value {
+            Value::Scalar(scalar) => add_amount(quantities, label, scalar.thousandths()),
+            _ => Err(TextFault::Kind),
+        },
+    }
+}
+
+/// Reads what stands between two `;`, and adds it to the quantities.
+fn count_piece(alloc: Global, quantities: &mut Quantities, text: &str) -> Result<(), TextFault>
+    ensures ok { OnOk result (quantities_step text.now quantities.old ≡ Ok quantities.new) }
+    ensures fault { IfErr result (IsTold (quantities_step text.now quantities.old)) }
+{
+    let piece = trim(text);
+    if piece.is_empty() {
+        return Ok(());
+    }
+    let said = read_count(alloc, piece)?;
+    put_counted(quantities, said)
+}
+
+/// Reads quantities: pieces `name:amount`, which `;` separates. A name stays named, be its amount 0 or not. The first
+/// fault of the first piece that has one is told, and `Memory` where memory ends.
+pub fn read_quantities(alloc: Global, text: &str) -> Result<Quantities, TextFault>
+    ensures { IsMeaning result (quantities_meant text.now) }
+{
+    let mut quantities = Quantities::empty(alloc);
+    for entry in text.split(';') {
+        count_piece(alloc, &mut quantities, entry)?;
+    }
+    Ok(quantities)
 }

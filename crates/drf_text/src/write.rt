@@ -1,6 +1,6 @@
 //! Quantities and bundles as text.
 ghost use Rattle.std.specs.Prelude.{◌≡◌, ◌==◌, [], ◌∷◌, ◌++◌, ◌<◌, if◌then◌else◌, IfOk, OnOk, string_bytes};
-ghost use Rattle.drf_text.specs.Written.{amount_text, quantity_text, quantities_text, interval_text, head_text, IsRangesText, IsItemsText, IsValueText, IsResourceText, IsBundleText};
+ghost use Rattle.drf_text.specs.Written.{amount_text, quantity_text, quantities_text, interval_text, head_text, ranges_text, items_text, value_text, resource_text, bundle_text};
 
 use crate::amount::push_amount;
 use drf_bundle::{Bundle, Entry, Quantities, Resource, Value};
@@ -50,7 +50,7 @@ fn push_interval(text: &mut String, interval: &Interval) -> Result<(), AllocErro
 
 /// Writes the maximal intervals between `[` and `]`.
 fn write_ranges(alloc: Global, ranges: &Ranges) -> Result<String, AllocError>
-    ensures { IfOk result (λ text. IsRangesText ranges.now (string_bytes text)) }
+    ensures { IfOk result (λ text. string_bytes text ≡ ranges_text ranges.now) }
 {
     let intervals = ranges.intervals();
     let mut text = String::from_str(alloc, "[")?;
@@ -64,7 +64,7 @@ fn write_ranges(alloc: Global, ranges: &Ranges) -> Result<String, AllocError>
 
 /// Writes the members between `{` and `}`.
 fn write_items(alloc: Global, items: &Items) -> Result<String, AllocError>
-    ensures { IfOk result (λ text. IsItemsText items.now (string_bytes text)) }
+    ensures { IfOk result (λ text. string_bytes text ≡ items_text items.now) }
 {
     let names = items.names();
     let mut text = String::from_str(alloc, "{")?;
@@ -85,7 +85,7 @@ fn write_amount(alloc: Global, thousandths: u64) -> Result<String, AllocError>
 }
 
 fn write_value(alloc: Global, value: &Value) -> Result<String, AllocError>
-    ensures { IfOk result (λ text. IsValueText value.now (string_bytes text)) }
+    ensures { IfOk result (λ text. string_bytes text ≡ value_text value.now) }
 {
     match value {
         Value::Scalar(scalar) => write_amount(alloc, scalar.thousandths()),
@@ -107,7 +107,7 @@ fn push_head(text: &mut String, resource: &Resource) -> Result<(), AllocError>
 }
 
 fn write_resource(alloc: Global, resource: &Resource) -> Result<String, AllocError>
-    ensures { IfOk result (λ text. IsResourceText resource.now (string_bytes text)) }
+    ensures { IfOk result (λ text. string_bytes text ≡ resource_text resource.now) }
 {
     let value = write_value(alloc, &resource.value)?;
     let mut text = String::new(alloc);
@@ -120,7 +120,7 @@ fn write_resource(alloc: Global, resource: &Resource) -> Result<String, AllocErr
 /// Writes a bundle: for each resource in order its name, its role in parentheses if it is reserved, `:` and its value,
 /// joined by `;`.
 pub fn write_bundle(alloc: Global, bundle: &Bundle) -> Result<String, AllocError>
-    ensures { IfOk result (λ text. IsBundleText bundle.now (string_bytes text)) }
+    ensures { IfOk result (λ text. string_bytes text ≡ bundle_text bundle.now) }
 {
     let resources = bundle.entries();
     let mut text = String::new(alloc);

@@ -6,10 +6,12 @@ mod paths;
 mod pools;
 mod quantities;
 mod shares;
+mod texts;
 mod words;
 
 use anyhow::{Context, Result, bail};
 use drf_amount::Scalar;
+use drf_bundle::Bundle;
 use drf_kinds::{Items, Ranges};
 use drf_role::{Label, Name, NodePath, Role};
 use std::alloc::Global;
@@ -48,20 +50,35 @@ fn answer_of_paths(alloc: Global, kind: &str, text: &str) -> Result<String> {
     }
 }
 
+fn answer_of_texts(alloc: Global, kind: &str, text: &str) -> Result<String> {
+    match kind {
+        "bundle" => texts::bundle(alloc, text),
+        "quantity_text" => texts::quantities(alloc, text),
+        "weight" => texts::weight(alloc, text),
+        "part_for" => texts::part(alloc, text),
+        "clip" => texts::clipped(alloc, text),
+        "relabel" => texts::moved(alloc, text),
+        "get" => texts::found(alloc, text),
+        _ => answer_of_paths(alloc, kind, text),
+    }
+}
+
 fn answer(alloc: Global, question: &str) -> Result<String> {
     let (kind, text) = question.split_once(' ').unwrap_or((question, ""));
     match kind {
         "scalars" => amounts::compared::<Scalar>(alloc, text),
         "ranges" => amounts::compared::<Ranges>(alloc, text),
         "items" => amounts::compared::<Items>(alloc, text),
+        "bundles" => amounts::compared::<Bundle>(alloc, text),
         "has_number" => amounts::has_number(alloc, text),
         "has_name" => amounts::has_name(alloc, text),
         "pool_of_scalars" => pools::answers::<Scalar>(alloc, text),
         "pool_of_ranges" => pools::answers::<Ranges>(alloc, text),
         "pool_of_items" => pools::answers::<Items>(alloc, text),
+        "pool_of_bundles" => pools::answers::<Bundle>(alloc, text),
         "quantities" => quantities::compared(alloc, text),
         "shares" => shares::compared(alloc, text),
-        _ => answer_of_paths(alloc, kind, text),
+        _ => answer_of_texts(alloc, kind, text),
     }
 }
 

@@ -3,7 +3,7 @@ ghost use Rattle.drf_bundle.specs.Quantities.{amount_of};
 
 use crate::halves;
 use anyhow::Result;
-use drf_bundle::{Quantities, ScalarBundle};
+use drf_bundle::Quantities;
 use drf_role::Label;
 use std::alloc::Global;
 use std::fmt::Write;
@@ -31,7 +31,7 @@ fn show(alloc: Global, amounts: &Quantities) -> Result<String> {
     Ok(text)
 }
 
-/// The sum of two quantities, how many labels it has, what is left without the second, and the bundle of the sum.
+/// The sum of two quantities, how many labels it has, what is left without the second, and what of the sum is above 0.
 pub fn compared(alloc: Global, text: &str) -> Result<String> {
     let (kept_text, part_text) = halves(text, ' ')?;
     let kept = read(alloc, kept_text)?;
@@ -45,9 +45,10 @@ pub fn compared(alloc: Global, text: &str) -> Result<String> {
     let mut rest = sum.copy()?;
     rest.lower(&part);
     let (sum_text, rest_text) = (show(alloc, &sum)?, show(alloc, &rest)?);
-    let bundle = ScalarBundle::from_quantities(sum).copy()?;
-    let bundle_text = show(alloc, bundle.quantities())?;
+    let mut filled = sum;
+    filled.remove_zeros();
+    let filled_text = show(alloc, &filled)?;
     Ok(format!(in alloc;
-        "labels {counts:?}; sum {sum_text}; rest {rest_text}; bundle {bundle_text}"
+        "labels {counts:?}; sum {sum_text}; rest {rest_text}; above 0 {filled_text}"
     )?)
 }

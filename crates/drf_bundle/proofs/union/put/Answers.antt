@@ -1,4 +1,4 @@
-use Rattle.std.proofs.Common.{◌≡◌, List, IsTrue, set, sym, ap, ◌∙◌, subst}
+use Rattle.std.proofs.Common.{List, set, sym, ap, ◌∙◌, subst}
 use Rattle.std.specs.List.{insert}
 use Rattle.drf_bundle.specs.Bundle.{key_of, with_value}
 use Rattle.drf_bundle.specs.Places.{IsKeyAt, IsKeyGap}

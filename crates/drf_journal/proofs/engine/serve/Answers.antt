@@ -4,52 +4,60 @@ use Rattle.std.proofs.lemmas.List.{length-take-le}
 use Rattle.std.proofs.KnownBytes.{Keeps-refl}
 use Rattle.drf_journal.specs.State.{State}
 use Rattle.drf_journal.proofs.Pieces.{few_lines}
-use Rattle.drf_journal.proofs.Served.{serving-begins, never-served, serving-takes, run-unread, run-forgotten, run-unwritten, run-ends, run-forgets, run-fails}
+use Rattle.drf_journal.proofs.Served.{serving-begins, never-served, serving-takes, run-unread, run-forgotten, run-unwritten, run-ends, run-stops, cause-stopped}
 use Rattle.drf_journal.proofs.engine.serve.Goals as goal
 
-pub returns-in_err-session-clause-run : goal.returns-in_err-session-clause-run
-returns-in_err-session-clause-run g c =
+pub returns-in_err-buffer-clause-served : goal.returns-in_err-buffer-clause-served
+returns-in_err-buffer-clause-served g c =
     let p = err_from_is_err_and c.from_residual.result c.from_residual.ensures.1 in
-    rw (p.1, p.2) (never-served c.args.limits c.args.echo _ _)
-
-pub returns-in_err-buffer-clause-run : goal.returns-in_err-buffer-clause-run
-returns-in_err-buffer-clause-run g c =
-    let p = err_from_is_err_and c.from_residual-in_err-buffer.result c.from_residual-in_err-buffer.ensures.1 in
-    rw (p.1, p.2) (never-served c.args.limits c.args.echo _ _)
+    rw (p.1, p.2) (never-served _ c.requires.session _ _)
 
 pub loop-turn-init : goal.loop-turn-init
 loop-turn-init g c = record {
-  serving = serving-begins _ _ _ _ _ c.in_ok-session.ensures;
+  serving = serving-begins _ c.requires.session _ _;
   reads = c.requires.reader.0;
   reader_sound = c.requires.reader.1;
   writer_sound = c.requires.writer.1;
   chunk = let a = c.as_mut_slice-chunk.ensures.len in let b = c.in_ok-buffer.ensures.len in omega arith;
-  few = let none = ap (λ (s : State). s.lines) c.in_ok-session.ensures in omega arith;
+  few = let none = ap (λ (s : State). s.lines) c.requires.session in omega arith;
 }
 
-pub returns-in_default-clause-run : goal.returns-in_default-clause-run
-returns-in_default-clause-run g c =
-    run-unread _ _ _ _ _ _ _ (g.W.Write.contents c.loop-turn.writer.inner) _ c.loop-turn.invariant.serving c.in_default.ensures.bytes
+pub returns-in_default-clause-served : goal.returns-in_default-clause-served
+returns-in_default-clause-served g c =
+    run-unread _ c.requires.session _ _ _ _ _ (g.W.Write.contents c.loop-turn.writer.inner) _ c.loop-turn.invariant.serving
+    c.in_default.ensures.bytes
 
-pub returns-in_err-close-clause-run : goal.returns-in_err-close-clause-run
-returns-in_err-close-clause-run g c =
+pub returns-in_default-clause-reads : goal.returns-in_default-clause-reads
+returns-in_default-clause-reads g c =
+    let a = c.in_default.ensures.calls in let b = c.loop-turn.invariant.reads in let d = c.loop-turn-test.true in
+    omega arith
+
+pub returns-in_err-close-clause-served : goal.returns-in_err-close-clause-served
+returns-in_err-close-clause-served g c =
     let p = err_from_is_err_and c.from_residual-in_err-close.result c.from_residual-in_err-close.ensures.1 in
     let bytes = rw c.if-count-eq0.true at c.in-Ok.ensures.bytes in
-    rw (p.1, p.2) (run-forgotten _ _ _ _ _ _ _
-    (g.W.Write.contents c.loop-turn.writer.inner) _ c.loop-turn.invariant.serving bytes.0)
+    let some : 0 < length c.read.new.buf = let a = c.read.auto.buf in let b = c.loop-turn.invariant.chunk in
+    omega arith in
+    let same = c.in_err-close.ensures.err in
+    rw (p.1, p.2) (run-forgotten _ c.requires.session _ _ _ _ _
+    (g.W.Write.contents c.loop-turn.writer.inner) _ c.loop-turn.invariant.serving bytes.0 c.close.new.self
+    (bytes.1 refl some) same.1 c.in_err-close.ensures.taken)
 
 pub returns-in_err-close-clause-cause : goal.returns-in_err-close-clause-cause
 returns-in_err-close-clause-cause g c =
     let p = err_from_is_err_and c.from_residual-in_err-close.result c.from_residual-in_err-close.ensures.1 in
     rw (p.1, p.2) (rw c.loop-turn.invariant.reader_sound at c.in-Ok.ensures.failed, c.loop-turn.invariant.writer_sound)
 
-pub returns-in_err-send-clause-run : goal.returns-in_err-send-clause-run
-returns-in_err-send-clause-run g c =
+pub returns-in_err-send-clause-served : goal.returns-in_err-send-clause-served
+returns-in_err-send-clause-served g c =
     let p = err_from_is_err_and c.from_residual-in_err-send.result c.from_residual-in_err-send.ensures.1 in
     let bytes = rw c.if-count-eq0.true at c.in-Ok.ensures.bytes in
+    let some : 0 < length c.read.new.buf = let a = c.read.auto.buf in let b = c.loop-turn.invariant.chunk in
+    omega arith in
     let sent = rw c.in_ok-close.ensures.ok at c.in_err-send.ensures.err in
     rw (p.1, p.2, c.in_err-send.ensures.fault)
-    (run-unwritten _ _ _ _ _ _ _ _ _ c.loop-turn.invariant.serving bytes.0 sent)
+    (run-unwritten _ c.requires.session _ _ _ _ _ _ _ c.loop-turn.invariant.serving bytes.0 _ (bytes.1 refl some)
+    (c.in_err-send.ensures.kept ∙ c.in_ok-close.ensures.ok) sent)
 
 pub returns-in_err-send-clause-cause : goal.returns-in_err-send-clause-cause
 returns-in_err-send-clause-cause g c =
@@ -59,13 +67,15 @@ returns-in_err-send-clause-cause g c =
       c.in_err-send.ensures.failed c.loop-turn.invariant.writer_sound,
     )
 
-pub returns-then-count-eq0-clause-run : goal.returns-then-count-eq0-clause-run
-returns-then-count-eq0-clause-run g c =
+pub returns-then-count-eq0-clause-served : goal.returns-then-count-eq0-clause-served
+returns-then-count-eq0-clause-served g c =
     let bytes = rw c.if-count-eq0.true at c.in-Ok.ensures.bytes in
+    let some : 0 < length c.read.new.buf = let a = c.read.auto.buf in let b = c.loop-turn.invariant.chunk in
+    omega arith in
     let sent = rw c.in_ok-close.ensures.ok at c.in_ok-send.ensures.sent in
-    let counted = c.lines.ensures ∙ ap (λ (s : State). s.lines) c.in_ok-send.ensures.ok
-    ∙ ap (λ (s : State). s.lines) c.in_ok-close.ensures.ok in
-    run-ends _ _ _ _ _ _ _ _ _ c.loop-turn.invariant.serving c.lines.result bytes.0 sent counted
+    let next = c.in_ok-send.ensures.ok ∙ ap (λ (s : State). record s { unsent = [] }) c.in_ok-close.ensures.ok in
+    run-ends _ c.requires.session _ _ _ _ _ _ _ c.loop-turn.invariant.serving bytes.0 _ c.lines.result (bytes.1 refl some)
+    next sent c.lines.ensures
 
 pub returns-then-count-eq0-clause-read : goal.returns-then-count-eq0-clause-read
 returns-then-count-eq0-clause-read g c =
@@ -74,50 +84,37 @@ returns-then-count-eq0-clause-read g c =
     omega arith in
     bytes.1 refl some
 
-pub returns-in_err-send-2-clause-run : goal.returns-in_err-send-2-clause-run
-returns-in_err-send-2-clause-run g c =
-    let p = err_from_is_err_and c.from_residual-in_err-send-2.result c.from_residual-in_err-send-2.ensures.1 in
-    rw (p.1, p.2, c.in_err-send-2.ensures.fault)
-    (run-fails _ _ _ _ _ _ _ _ _ c.loop-turn.invariant.serving
-    (take c.in-Ok.count c.read.new.buf) c.take-taken.new.self c.in-Ok.ensures.bytes.0 c.take-taken.ensures.answers
-    c.in_err-send-2.ensures.err)
-
-pub returns-in_err-send-2-clause-cause : goal.returns-in_err-send-2-clause-cause
-returns-in_err-send-2-clause-cause g c =
-    let p = err_from_is_err_and c.from_residual-in_err-send-2.result c.from_residual-in_err-send-2.ensures.1 in
-    rw (p.1, p.2, c.in_err-send-2.ensures.fault) (
-      rw c.loop-turn.invariant.reader_sound at c.in-Ok.ensures.failed,
-      c.in_err-send-2.ensures.failed c.loop-turn.invariant.writer_sound,
-    )
-
-pub returns-in_err-taken-clause-run : goal.returns-in_err-taken-clause-run
-returns-in_err-taken-clause-run g c =
-    let p = err_from_is_err_and c.from_residual-in_err-taken.result c.from_residual-in_err-taken.ensures.1 in
+pub returns-in_err-answer_piece-clause-served : goal.returns-in_err-answer_piece-clause-served
+returns-in_err-answer_piece-clause-served g c =
+    let p = err_from_is_err_and c.from_residual-in_err-answer_piece.result c.from_residual-in_err-answer_piece.ensures.1 in
+    let piece = take c.in-Ok.count c.read.new.buf in
+    let short : length piece ≤ 65536 =
+    let bound = c.in-Ok.ensures.bound in
+    let whole = length-take-le c.in-Ok.count c.read.new.buf (omega arith) in
+    let a = c.read.auto.buf in let b = c.loop-turn.invariant.chunk in omega arith in
     rw (p.1, p.2)
-    (run-forgets _ _ _ _ _ _ _ _ _ c.loop-turn.invariant.serving
-    (take c.in-Ok.count c.read.new.buf) c.take-taken.new.self c.in-Ok.ensures.bytes.0 c.take-taken.ensures.answers
-    c.in_ok-send-2.ensures.sent)
+    (run-stops _ c.requires.session _ _ _ _ _ _ _ c.loop-turn.invariant.serving _ piece _ short c.in-Ok.ensures.bytes.0
+    c.in_err-answer_piece.ensures.err)
 
-pub returns-in_err-taken-clause-cause : goal.returns-in_err-taken-clause-cause
-returns-in_err-taken-clause-cause g c =
-    let p = err_from_is_err_and c.from_residual-in_err-taken.result c.from_residual-in_err-taken.ensures.1 in
-    rw (p.1, p.2) (
-      rw c.loop-turn.invariant.reader_sound at c.in-Ok.ensures.failed,
-      c.in_ok-send-2.ensures.failed c.loop-turn.invariant.writer_sound,
-    )
+pub returns-in_err-answer_piece-clause-cause : goal.returns-in_err-answer_piece-clause-cause
+returns-in_err-answer_piece-clause-cause g c =
+    let p = err_from_is_err_and c.from_residual-in_err-answer_piece.result c.from_residual-in_err-answer_piece.ensures.1 in
+    rw (p.1, p.2)
+    (cause-stopped _ _ _ _ (rw c.loop-turn.invariant.reader_sound at c.in-Ok.ensures.failed)
+    (c.in_err-answer_piece.ensures.cause c.loop-turn.invariant.writer_sound))
 
 pub loop-turn-preserved : goal.loop-turn-preserved
 loop-turn-preserved g c =
     let piece = take c.in-Ok.count c.read.new.buf in
-    let taken = c.in_ok-taken.ensures.ok in
-    let sent = rw taken at c.in_ok-send-2.ensures.sent in
-    let next = c.in_ok-send-2.ensures.ok ∙ ap (λ (s : State). record s { unsent = [] }) taken in
+    let sent = c.in_ok-answer_piece.ensures.sent in
+    let next = c.in_ok-answer_piece.ensures.ok in
     record {
-      serving = serving-takes _ _ _ _ _ _ _ _ _ c.loop-turn.invariant.serving piece _ c.in-Ok.ensures.bytes.0 sent next;
+      serving = serving-takes _ c.requires.session _ _ _ _ _ _ _ c.loop-turn.invariant.serving piece _
+          c.in-Ok.ensures.bytes.0 sent next;
       reads = let a = c.in-Ok.ensures.calls in let b = c.loop-turn.invariant.reads in let d = c.loop-turn-test.true in
           omega arith;
       reader_sound = rw c.loop-turn.invariant.reader_sound at c.in-Ok.ensures.failed;
-      writer_sound = c.in_ok-send-2.ensures.failed c.loop-turn.invariant.writer_sound;
+      writer_sound = (c.in_ok-answer_piece.ensures.cause c.loop-turn.invariant.writer_sound).1;
       chunk = let a = c.read.auto.buf in let b = c.loop-turn.invariant.chunk in omega arith;
       few =
           let same = ap (λ (s : State). s.lines) next in
@@ -130,6 +127,6 @@ loop-turn-preserved g c =
           omega arith;
     }
 
-pub returns-clause-run : goal.returns-clause-run
-returns-clause-run g c = run-unread _ _ _ _ _ _ _
+pub returns-clause-served : goal.returns-clause-served
+returns-clause-served g c = run-unread _ c.requires.session _ _ _ _ _
     (g.W.Write.contents c.loop-turn.writer.inner) _ c.loop-turn.invariant.serving (Keeps-refl _)

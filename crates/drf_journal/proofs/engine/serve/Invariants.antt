@@ -4,7 +4,7 @@ use Rattle.drf_journal.proofs.engine.serve.Given as goal
 
 abbrev pub invariant-loop-turn : goal.invariant-loop-turn
 invariant-loop-turn g l = record {
-  serving : IsServing l.fn.limits l.fn.echo (g.R.Read.remaining l.fn.reader.inner) (g.R.Read.remaining l.reader.inner)
+  serving : IsServing l.fn.session (g.R.Read.remaining l.fn.reader.inner) (g.R.Read.remaining l.reader.inner)
       (g.W.Write.contents l.fn.writer.inner) (g.W.Write.contents l.writer.inner) l.session;
   reads : l.reader.calls ≡ l._turn;
   reader_sound : l.reader.failed ≡ false;

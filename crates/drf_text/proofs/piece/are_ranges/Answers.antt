@@ -1,7 +1,6 @@
 use Rattle.std.proofs.Common.{◌≡◌, false, sym, ◌∙◌}
-use Rattle.std.specs.List.{list_all, slice_split}
-use Rattle.drf_text.specs.Blanks.{is_blank, trimmed}
-use Rattle.drf_text.specs.Pieces.{has_one_dash}
+use Rattle.std.specs.List.{list_all}
+use Rattle.drf_text.specs.Blanks.{is_blank}
 use Rattle.std.proofs.lemmas.List.Folds.{list_all-map}
 use Rattle.drf_text.proofs.piece.are_ranges.Goals as goal
 

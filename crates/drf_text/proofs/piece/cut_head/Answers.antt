@@ -1,4 +1,4 @@
-use Rattle.std.proofs.Common.{lit<, sym, subst, Result, Option, ap, ◌∙◌}
+use Rattle.std.proofs.Common.{lit<, sym, subst, Result, Option}
 use Rattle.std.proofs.lemmas.Str.Pattern.{split_once_first, strip_suffix_char}
 use Rattle.drf_role.specs.Text.{Text}
 use Rattle.drf_text.specs.Faults.{IsReadAs}

@@ -1,4 +1,4 @@
-use Rattle.std.proofs.Common.{lit<, sym, ◌∙◌}
+use Rattle.std.proofs.Common.{lit<}
 use Rattle.std.proofs.lemmas.Str.Pattern.{strip_suffix_char}
 use Rattle.drf_text.proofs.Cuts.{ranges_closed, ranges_without_dash, ranges_open}
 use Rattle.drf_text.proofs.piece.cut_ranges.Goals as goal

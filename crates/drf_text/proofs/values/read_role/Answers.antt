@@ -1,4 +1,4 @@
-use Rattle.std.proofs.Common.{Err, ap, subst, ◌≡◌, List, ℕ}
+use Rattle.std.proofs.Common.{Err, ap, subst}
 use Rattle.std.proofs.lemmas.Bool.{false_from_ne_true}
 use Rattle.std.proofs.lemmas.Result.{err_from_is_err_and}
 use Rattle.drf_role.specs.Role.{IsRole}

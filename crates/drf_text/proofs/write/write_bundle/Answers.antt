@@ -1,9 +1,20 @@
-use Rattle.std.proofs.Common.{◌∙◌, ◌++◌, string_bytes}
-use Rattle.drf_text.proofs.Joined.{written_more}
+use Rattle.std.proofs.Common.{[], List, map, ap, ◌∙◌, ◌++◌, string_bytes}
+use Rattle.std.specs.List.{join_with_byte}
+use Rattle.std.proofs.lemmas.List.{take_all}
+use Rattle.drf_bundle.specs.declared.resource.Resource.{Resource}
+use Rattle.drf_text.specs.Written.{resource_text, bundle_text}
+use Rattle.drf_text.proofs.Joined.{mapped_more}
 use Rattle.drf_text.proofs.write.write_bundle.Goals as goal
 
 pub loop-i-preserved : goal.loop-i-preserved
 loop-i-preserved c =
-    written_more c.entries-resources.result.now c.loop-i.i c.index-resources-i.result (string_bytes c.in_ok-write_resource.field-0) (string_bytes c.loop-i.text) (string_bytes c.push_str.new.self)
-    c.loop-i-test.true c.index-resources-i.is c.loop-i.invariant c.in_ok-write_resource.ensures
-    (c.in_ok-push_str.ensures.bytes ∙ (λ i. c.in_ok-push_separator.ensures i ++ c.as_str.ensures.value i))
+    mapped_more resource_text [] 59 c.entries-resources.result.now c.loop-i.i c.index-resources-i.result (string_bytes c.loop-i.text) (string_bytes c.push_str.new.self)
+    c.loop-i-test.true c.index-resources-i.is c.loop-i.invariant
+    (c.in_ok-push_str.ensures.bytes ∙ (λ i. c.in_ok-push_separator.ensures i ++ (c.as_str.ensures.value ∙ c.in_ok-write_resource.ensures) i))
+
+pub returns : goal.returns
+unfolding bundle_text
+returns c =
+    c.loop-i.invariant
+    ∙ ap (λ (rs : List Resource). join_with_byte 59 (map resource_text rs))
+    (take_all c.loop-i.i c.entries-resources.result.now c.loop-i-test.false ∙ c.entries-resources.ensures.value)

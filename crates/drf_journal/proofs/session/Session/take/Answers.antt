@@ -35,18 +35,20 @@ pub returns-in_err-end_line-clause-answers : goal.returns-in_err-end_line-clause
 returns-in_err-end_line-clause-answers g c =
     let found = c.in-Some.ensures.found in
     front-ahead c.args.self.now c.loop-at.self c.end_line.new.self c.args.piece.now c.loop-at.rest.now c.in-Some.at
-    c.loop-at.invariant.front found.0 found.1 found.2 c.in_err-end_line.ensures.err c.in_err-end_line.ensures.taken
+    c.loop-at.invariant.front found.0 found.1 found.2 c.in_err-end_line.ensures.err.0 c.in_err-end_line.ensures.err.1
+    c.in_err-end_line.ensures.taken
 
 pub returns-then-is_empty-clause-answers : goal.returns-then-is_empty-clause-answers
 returns-then-is_empty-clause-answers g c =
-    front-answers c.args.self.now c.loop-at.self c.loop-at.self c.args.piece.now c.loop-at.rest.now c.loop-at.invariant.front refl refl
+    front-answers c.args.self.now c.loop-at.self c.loop-at.self c.args.piece.now c.loop-at.rest.now c.loop-at.invariant.front refl refl refl
 
 pub returns-clause-answers : goal.returns-clause-answers
 returns-clause-answers g c =
     let inside = c.self.inside in
     let kept : State = record { machine = live inside.core; echo = inside.echo; pending = c.keep.new.pending.items; unsent = inside.unsent.items; lines = inside.lines } in
     front-answers c.args.self.now c.loop-at.self kept c.args.piece.now c.loop-at.rest.now c.loop-at.invariant.front
-    (ap (λ (s : State). s.unsent) c.self.view_is) (ap (λ (s : State). s.machine) c.self.view_is)
+    (ap (λ (s : State). s.unsent) c.self.view_is) (ap (λ (s : State). s.lines) c.self.view_is)
+    (ap (λ (s : State). s.machine) c.self.view_is)
 
 pub returns-clause-ok : goal.returns-clause-ok
 returns-clause-ok g c =

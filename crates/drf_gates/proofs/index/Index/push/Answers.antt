@@ -1,0 +1,14 @@
+use Rattle.std.proofs.Common.{◌≡◌, ◌+◌, length, get_or, ◌∙◌, arith}
+use Rattle.std.proofs.lemmas.List.{get_or_default}
+use Rattle.drf_gates.proofs.FilterLemmas.{chained-push}
+use Rattle.drf_gates.proofs.index.Index.push.Goals as goal
+
+pub returns-clause-chained : goal.returns-clause-chained
+returns-clause-chained c =
+    let index = c.args.self.now in
+    let next : c.len.result ≡ length index.links.items + 1 = omega (arith, c.len.ensures, c.push_reserved.ensures.len, index.links.ok.0) in
+    let head : c.index-head.result.now ≡ get_or index.heads.items c.bucket-bucket.result 0 =
+    c.index-head.ensures ∙ get_or_default index.heads.items c.bucket-bucket.result c.index-head.result.now 0 c.bucket-bucket.ensures.within
+    in
+    λ rows is. chained-push rows c.args.row.now index.heads.items index.links.items c.push_reserved.new.self.items c.bucket-bucket.result
+    c.index-head.result.now c.len.result is c.bucket-bucket.ensures.value c.bucket-bucket.ensures.within next head c.push_reserved.ensures.items

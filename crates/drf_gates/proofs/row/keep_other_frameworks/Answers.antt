@@ -1,0 +1,7 @@
+use Rattle.std.proofs.Common.{not, rules}
+use Rattle.std.proofs.lemmas.Fn.{filter_same}
+use Rattle.drf_role.specs.Text.{same_text}
+use Rattle.drf_gates.proofs.row.keep_other_frameworks.Goals as goal
+
+pub returns : goal.returns
+returns c = filter_same _ (λ f. not (same_text f.framework c.args.framework.now)) _ (λ x b f k. search rules) _ _ c.retain.ensures.filtered

@@ -1,0 +1,21 @@
+-- Laws of filters, as statements.
+use Rattle.std.specs.Prelude.{◌≡◌, ℕ, ◌<◌, ◌≤◌, List, IsTrue, Contains}
+use Rattle.drf_role.specs.Text.{Text}
+use Rattle.drf_bundle.specs.Value.{Point}
+use Rattle.drf_bundle.specs.Bundle.{Key, IsBundle, units}
+use Rattle.drf_bundle.specs.declared.resource.Resource.{Resource}
+use Rattle.drf_rows.specs.Client.{Client}
+use Rattle.drf_rows.specs.Filters.{in_force, is_held_back}
+use Rattle.drf_rows.specs.declared.rows.FilterRow.{FilterRow}
+
+-- from a moment on, what is held back is held back by the filters that are in force at that moment
+abbrev pub SpentHoldNothing : Type 0
+SpentHoldNothing = (filters : List FilterRow) (now later : ℕ) (client : Client) (agent : Text) (bundle : List Resource) → now ≤ later
+    → is_held_back (in_force now filters) later client agent bundle ≡ is_held_back filters later client agent bundle
+
+-- a filter in force holds back, from its client and on its agent, each bundle that has at most its units
+abbrev pub LessIsHeldBack : Type 0
+LessIsHeldBack = (filters : List FilterRow) (f : FilterRow) (clock : ℕ) (bundle : List Resource)
+    → Contains filters f → clock < f.until → IsBundle f.bundle → IsBundle bundle
+    → ((key : Key) (p : Point) → units bundle key p ≤ units f.bundle key p)
+    → IsTrue (is_held_back filters clock (record { role = f.role; framework = f.framework }) f.agent bundle)

@@ -1,0 +1,10 @@
+//! What stands between what is free on an agent and an offer of it: the filters of declined offers.
+#![tactic(auto)]
+
+mod filters;
+mod index;
+mod laws;
+mod row;
+
+pub use filters::FilterTable;
+pub use laws::filters_law;

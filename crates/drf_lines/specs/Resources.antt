@@ -1,0 +1,21 @@
+-- Resources and weights as texts of a line.
+use Rattle.std.specs.Prelude.{ℕ, List, Result, Ok, Err}
+use Rattle.drf_bundle.specs.declared.resource.Resource.{Resource}
+use Rattle.drf_text.specs.Meaning as text
+use Rattle.drf_text.specs.Number.{weight_of}
+use Rattle.drf_text.specs.declared.fault.TextFault.{TextFault}
+use Rattle.drf_lines.specs.declared.fault.LineFault.{LineFault}
+use Rattle.drf_lines.specs.declared.fault.LineFault.TheVariants.{BadText}
+
+-- what was read, and a bad text whatever its fault
+abbrev pub read_or_bad : {A : Type 0} → Result A TextFault → Result A LineFault
+read_or_bad (Ok x) = Ok x
+read_or_bad (Err fault) = Err BadText
+
+-- the bundle that a text says
+unfoldable pub bundle_in : List ℕ → Result (List Resource) LineFault
+bundle_in bytes = read_or_bad (text.meaning_of bytes)
+
+-- a weight in thousandths
+unfoldable pub weight_in : List ℕ → Result ℕ LineFault
+weight_in text = read_or_bad (weight_of text)

@@ -1,0 +1,29 @@
+//! Resources and weights as texts of a line.
+ghost use Rattle.std.specs.Prelude.{◌≡◌};
+ghost use Rattle.drf_lines.specs.Fault.{IsReadOf};
+ghost use Rattle.drf_lines.specs.Resources.{bundle_in, weight_in};
+
+use crate::fault::{LineError, LineFault};
+use drf_bundle::Bundle;
+use drf_text::TextFault;
+use std::alloc::Global;
+
+/// Reads a bundle.
+#[tactic(auto, unfolding(crate::specs::Resources::bundle_in))]
+pub fn read_bundle(alloc: Global, text: &str) -> Result<Bundle, LineError>
+    ensures { IsReadOf result (bundle_in text.now) }
+{
+    match drf_text::read_bundle(alloc, text) {
+        Ok(bundle) => Ok(bundle),
+        Err(TextFault::Memory) => Err(LineError::Memory),
+        Err(_) => Err(LineError::Fault(LineFault::BadText)),
+    }
+}
+
+/// Reads a weight, in thousandths.
+#[tactic(auto, unfolding(crate::specs::Resources::weight_in))]
+pub fn read_weight(text: &str) -> Result<u64, LineFault>
+    ensures { result ≡ weight_in text.now }
+{
+    drf_text::read_weight(text).map_err(|_| LineFault::BadText)
+}

@@ -1,0 +1,11 @@
+use Rattle.drf_rows.specs.WeightLaws.{role_has_its_weight, others_keep_their_weight, each_has_one_row}
+use Rattle.drf_rows.proofs.laws.set_weight_law.Goals as goal
+
+pub returns-clause-set : goal.returns-clause-set
+returns-clause-set c = role_has_its_weight
+
+pub returns-clause-others : goal.returns-clause-others
+returns-clause-others c = others_keep_their_weight
+
+pub returns-clause-one_row : goal.returns-clause-one_row
+returns-clause-one_row c = each_has_one_row

@@ -1,0 +1,85 @@
+//! What pieces say by themselves.
+ghost use Rattle.drf_text.specs.Faults.{IsReadAs, IsMeaning};
+ghost use Rattle.drf_text.specs.Steps.{view_draft, draft_in, said_in, counted_in};
+
+use crate::fault::TextFault;
+use crate::piece::{Body, cut_body, cut_head, cut_piece};
+use crate::values::{read_label, read_members, read_role, read_value};
+use drf_bundle::Value;
+use drf_role::{Label, Role};
+use std::alloc::Global;
+
+/// A piece of which the role and all but the members of the value are still to be read.
+#[derive(Drop)]
+struct Draft<'a> {
+    label: Label,
+    role: Option<&'a str>,
+    body: Body<'a>,
+    members: Vec<Label>,
+}
+
+/// What a piece of a bundle says. There is no value where a scalar is too large.
+#[derive(Drop)]
+pub struct Said {
+    pub label: Label,
+    pub role: Role,
+    pub value: Option<Value>,
+}
+
+/// What a piece of quantities says.
+#[derive(Drop)]
+pub struct Counted {
+    pub label: Label,
+    pub value: Option<Value>,
+}
+
+#[tactic(auto, unfolding(crate::specs::Steps::draft_in))]
+fn read_draft(alloc: Global, piece: &str) -> Result<Draft<'_>, TextFault>
+    ensures { IsReadAs view_draft result (draft_in piece.now) }
+{
+    let (head, body) = cut_piece(piece)?;
+    let head = cut_head(head)?;
+    let body = cut_body(body)?;
+    let label = read_label(alloc, head.name)?;
+    let members = read_members(alloc, &body)?;
+    Ok(Draft {
+        label,
+        role: head.role,
+        body,
+        members,
+    })
+}
+
+/// Reads a piece of a bundle.
+#[tactic(auto, unfolding(crate::specs::Steps::said_in))]
+pub fn read_piece(alloc: Global, piece: &str) -> Result<Said, TextFault>
+    ensures { IsMeaning result (said_in piece.now) }
+{
+    let Draft {
+        label,
+        role,
+        body,
+        members,
+    } = read_draft(alloc, piece)?;
+    let role = read_role(alloc, role)?;
+    let value = read_value(alloc, &body, members)?;
+    Ok(Said { label, role, value })
+}
+
+/// Reads a piece of quantities, where nothing may stand in parentheses.
+#[tactic(auto, unfolding(crate::specs::Steps::counted_in))]
+pub fn read_count(alloc: Global, piece: &str) -> Result<Counted, TextFault>
+    ensures { IsMeaning result (counted_in piece.now) }
+{
+    let Draft {
+        label,
+        role,
+        body,
+        members,
+    } = read_draft(alloc, piece)?;
+    if role.is_some() {
+        return Err(TextFault::BadRole);
+    }
+    let value = read_value(alloc, &body, members)?;
+    Ok(Counted { label, value })
+}

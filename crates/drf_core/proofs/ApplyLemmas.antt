@@ -21,7 +21,7 @@ use Rattle.drf_rows.specs.Consistent.{IsConsistent, IsNumberedByEvents}
 use Rattle.drf_rows.specs.ConsistentLaws.{numbers_within}
 use Rattle.drf_rows.specs.declared.limits.TheConstants.{LARGEST_AMOUNT, LATEST_MOMENT}
 use Rattle.drf_rows.specs.declared.event.Event.{Event}
-use Rattle.drf_rows.specs.declared.event.Event.TheVariants.{AddAgent, AddFramework, SetWeight, Cycle}
+use Rattle.drf_rows.specs.declared.event.Event.TheVariants.{AddAgent, AddFramework, SetWeight, Cycle, Report}
 use Rattle.drf_rows.specs.declared.reply.Refusal.{Refusal}
 use Rattle.drf_rows.specs.declared.reply.Refusal.TheVariants.{HistoryFull, BadMoment, KnownAgent, KnownFramework, Empty, BadWeight, TooLarge, TooMany}
 use Rattle.drf_rows.specs.declared.rows.AgentRow.{AgentRow}
@@ -102,11 +102,16 @@ cycle_room : (limits : LimitNumbers) (rows : Rows) (at : ℕ) → refusal_of lim
 unfolding refusal_of
 cycle_room limits rows at none = (first_past (is_full limits rows) HistoryFull ((nat_lt LATEST_MOMENT at, BadMoment) ∷ []) none).0
 
+report_room : (limits : LimitNumbers) (rows : Rows) → refusal_of limits rows Report ≡ None → is_full limits rows ≡ false
+unfolding refusal_of
+report_room limits rows none = (first_past (is_full limits rows) HistoryFull [] none).0
+
 not_full : (limits : LimitNumbers) (rows : Rows) (event : Event) → refusal_of limits rows event ≡ None → is_full limits rows ≡ false
 not_full limits rows (AddAgent agent total) none = (welcome_agent limits rows agent total none).room
 not_full limits rows (AddFramework framework roles) none = (welcome_framework limits rows framework roles none).room
 not_full limits rows (SetWeight role weight) none = (welcome_weight limits rows role weight none).room
 not_full limits rows (Cycle at) none = cycle_room limits rows at none
+not_full limits rows Report none = report_room limits rows none
 
 -- there is room for the event
 pub room_for : (limits : LimitNumbers) (rows : Rows) (event : Event) → refusal_of limits rows event ≡ None → rows.accepted < limits.events
@@ -179,6 +184,9 @@ few_after limits rows (Cycle at) few none =
       weights = rw (weights-turns start agents) few.weights;
       events = omega (arith, room);
     }
+few_after limits rows Report few none =
+    let room = room_for limits rows Report none in
+    record { ceilings = few.ceilings; agents = few.agents; frameworks = few.frameworks; clients = few.clients; weights = few.weights; events = omega (arith, room) }
 
 -- numbers of offers stay below what the events allow
 pub numbered_after : (limits : LimitNumbers) (rows : Rows) (event : Event) → AreFew limits rows → IsNumberedByEvents rows
@@ -196,6 +204,7 @@ numbered_after limits rows (Cycle at) few numbered =
     let few_clients : length (clients_of rows) ≤ 4096 = omega (arith, few.clients, few.ceilings.clients.1) in
     let first : length agents * length (clients_of rows) ≤ 4096 * length (clients_of rows) = mul-le-mul_right (length (clients_of rows)) few_agents in
     omega (arith, made, before, first, few_clients)
+numbered_after limits rows Report few numbered = let before : rows.next_offer ≤ 1 + rows.accepted * 2 ^ 24 = numbered in omega (arith, before)
 
 -- and so below what every run allows
 pub numbers_bounded : (content : Content) (limits : LimitNumbers) (rows : Rows) → IsKept content limits rows
@@ -255,3 +264,9 @@ applied_framework rows tables framework roles clients before after sorted right 
       ∙ ap (λ (c : Content). with_all c (paths_of framework (distinct roles))) sorted
       ∙ content_of-registered rows framework right new (distinct roles);
 }
+
+-- ---- a report
+
+pub applied_report : (rows : Rows) (content : Content) → content ≡ content_of rows → StandAt (effect rows Report) rows content
+unfolding effect
+applied_report rows content sorted = record { same = refl; sorted = sorted }

@@ -71,7 +71,7 @@ count_of-content_of rows node =
     ∙ sym (λ i. sum_by (λ f. sum_by-filter count (under f) f.clients i) rows.frameworks)
 
 -- so the sorter's order depends on what the rows' order does
-standing-content_of : (rows : Rows) → IsConsistent rows
+pub standing-content_of : (rows : Rows) → IsConsistent rows
     → sorter_word.standing_in (content_of rows) ≡ rows_word.standing_of rows
 unfolding sorter_word.standing_in rows_word.standing_of content_of
 standing-content_of rows consistent = λ i. record {

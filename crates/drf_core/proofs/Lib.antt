@@ -8,6 +8,10 @@ pub mod DraftTried
 pub mod TurnLemmas
 pub mod CycleLemmas
 pub mod RegisterLemmas
+pub mod ReportLemmas
+pub mod ReportSums
+pub mod ReportLines
+pub mod ReportNodes
 pub mod WeightLemmas
 pub mod ApplyLemmas
 pub mod StepLemmas

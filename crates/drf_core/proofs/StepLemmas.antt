@@ -10,7 +10,7 @@ use Rattle.drf_rows.specs.RunLaws.{rows_after_all-append, replies_to-append}
 use Rattle.drf_rows.specs.LiveLaws.{reply_to-same_live, rows_after-same_live}
 use Rattle.drf_rows.specs.RegistrationLaws.{IsConsistent-opening}
 use Rattle.drf_rows.specs.declared.event.Event.{Event}
-use Rattle.drf_rows.specs.declared.event.Event.TheVariants.{AddAgent, AddFramework, SetWeight, Cycle}
+use Rattle.drf_rows.specs.declared.event.Event.TheVariants.{AddAgent, AddFramework, SetWeight, Cycle, Report}
 use Rattle.drf_rows.specs.declared.reply.Refusal.{Refusal}
 use Rattle.drf_rows.specs.declared.reply.Reply.{Reply}
 use Rattle.drf_rows.specs.declared.rows.Rows.{Rows}
@@ -42,6 +42,7 @@ accepted-effect rows (AddAgent agent total) = refl
 accepted-effect rows (AddFramework framework roles) = refl
 accepted-effect rows (SetWeight role weight) = refl
 accepted-effect rows (Cycle at) = (turns-tables (at_moment rows at) (filter (λ a. a.active) rows.agents)).2
+accepted-effect rows Report = refl
 
 -- an event that was applied and counted
 module _ (limits : LimitNumbers) (rows tables counted : Rows) (event : Event) (none : refusal_of limits rows event ≡ None)

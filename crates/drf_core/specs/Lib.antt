@@ -4,3 +4,4 @@ pub mod Content
 pub mod Kept
 pub mod Drafting
 pub mod Registering
+pub mod Reporting

@@ -3,7 +3,8 @@ ghost use Rattle.drf_core.specs.Machine.{IsOpened, IsSame, IsAfter, IsAfterAll, 
 
 use crate::apply::apply;
 use crate::refusal::refusal;
-use drf_rows::{Event, Limits, Reply, Rows};
+use crate::report::report;
+use drf_rows::{Event, Limits, Reply, Report, Rows};
 use drf_sorter::Sorter;
 use drf_tables::Tables;
 use std::alloc::{AllocError, Global};
@@ -36,6 +37,7 @@ impl<S: Sorter> Core<S> {
     ghost use Rattle.std.specs.List.{AllByRecursion};
     ghost use Rattle.drf_rows.specs.Step.{live_rows, reply_to, replies_to, refusal_of};
     ghost use Rattle.drf_rows.specs.Consistent.{IsConserved};
+    ghost use Rattle.drf_rows.specs.Report.{report_of};
 
     /// An allocator with no rows.
     pub fn open(alloc: Global, limits: Limits) -> Result<Core<S>, AllocError>
@@ -87,6 +89,13 @@ impl<S: Sorter> Core<S> {
             replies.push_reserved(reply);
         }
         Ok(())
+    }
+
+    /// What there is, and who holds what of it.
+    pub fn report(&self) -> Result<Report, AllocError>
+        ensures { IfOk result (λ report. report ≡ report_of self.now.rows) }
+    {
+        report(self.alloc, &self.limits, &self.tables, &self.sorter)
     }
 
     /// The rows as they stand. Nothing is granted twice, and no number of an offer is above 2^56.

@@ -7,6 +7,7 @@ ghost use Rattle.drf_core.specs.Kept.{IsKept, StandAt};
 ghost use Rattle.drf_core.specs.Registering.{AreNew, paths_of, with_all};
 
 use crate::cycle::cycle;
+use crate::report::report;
 use drf_bundle::Bundle;
 use drf_role::{ClientPath, Name, Role};
 use drf_rows::{ClientRow, Event, Limits, Reply, Table};
@@ -169,5 +170,6 @@ pub fn apply<S: Sorter>(
             let lines = cycle(alloc, limits, tables, sorter, at)?;
             Ok(Reply::Offers(Table::from_vec(lines)))
         }
+        Event::Report => Ok(Reply::Report(report(alloc, limits, tables, sorter)?)),
     }
 }

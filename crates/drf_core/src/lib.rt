@@ -5,5 +5,6 @@ mod allocator;
 mod apply;
 mod cycle;
 mod refusal;
+mod report;
 
 pub use allocator::Core;

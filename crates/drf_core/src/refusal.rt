@@ -128,5 +128,6 @@ pub fn refusal(limits: &Limits, tables: &Tables, event: &Event) -> Option<Refusa
             (too_many_weights(limits, tables, role), Refusal::TooMany),
         ]),
         Event::Cycle { at } => first_case(&[full, (LATEST_MOMENT < *at, Refusal::BadMoment)]),
+        Event::Report => first_case(&[full]),
     }
 }

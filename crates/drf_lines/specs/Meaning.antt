@@ -9,7 +9,7 @@ use Rattle.serde_json.specs.Read.{read}
 use Rattle.serde_json.specs.Find.{get, as_str, as_number, as_u64, as_array, as_object}
 use Rattle.drf_role.specs.Text.{same_text}
 use Rattle.drf_rows.specs.declared.event.Event.{Event}
-use Rattle.drf_rows.specs.declared.event.Event.TheVariants.{AddAgent, AddFramework, SetWeight, Cycle}
+use Rattle.drf_rows.specs.declared.event.Event.TheVariants.{AddAgent, AddFramework, SetWeight, Cycle, Report}
 use Rattle.drf_lines.specs.declared.fault.LineFault.{LineFault}
 use Rattle.drf_lines.specs.declared.fault.LineFault.TheVariants.{LineTooLong, NotJson, BadShape}
 use Rattle.drf_lines.specs.Fault.{◌>>=◌}
@@ -74,6 +74,9 @@ weight_event value =
 unfoldable pub cycle_event : Data → Result Event LineFault
 cycle_event value = keys 2 value >>= λ _. number_at (codes "at") value >>= λ at. Ok (Cycle at)
 
+unfoldable pub report_event : Data → Result Event LineFault
+report_event value = keys 1 value >>= λ _. Ok Report
+
 -- the events by name
 abbrev pub events : List (List ℕ × (Data → Result Event LineFault))
 events =
@@ -81,6 +84,7 @@ events =
     ∷ (codes "add_framework", framework_event)
     ∷ (codes "set_weight", weight_event)
     ∷ (codes "cycle", cycle_event)
+    ∷ (codes "report", report_event)
     ∷ []
 
 -- what a value means whose `event` is that name

@@ -7,9 +7,10 @@ use Rattle.drf_role.specs.Parts.{text_of}
 use Rattle.drf_rows.specs.Refusal.{number_of, name_of}
 use Rattle.drf_rows.specs.declared.reply.OfferLine.{OfferLine}
 use Rattle.drf_rows.specs.declared.reply.Reply.{Reply}
-use Rattle.drf_rows.specs.declared.reply.Reply.TheVariants.{Done, Offers, Refused}
+use Rattle.drf_rows.specs.declared.reply.Reply.TheVariants.{Done, Offers, Report, Refused}
 use Rattle.drf_lines.specs.declared.fault.LineFault.{LineFault}
 use Rattle.drf_lines.specs.Fault.{fault_number, fault_name}
+use Rattle.drf_lines.specs.ReportLine.{report_value}
 use Rattle.drf_text.specs.Written.{bundle_text}
 
 abbrev pub offer_value : OfferLine → Data
@@ -33,6 +34,7 @@ refused_value name reason =
 abbrev pub reply_value : Reply → Data
 reply_value Done = object (member (codes "ok") (boolean true) no_members)
 reply_value (Offers offers) = offers_value offers
+reply_value (Report report) = report_value report
 reply_value (Refused refusal) = refused_value (name_of refusal) (number_of refusal)
 
 -- a value's line

@@ -4,6 +4,7 @@
 mod fault;
 mod line;
 mod reply;
+mod report;
 mod resources;
 mod words;
 

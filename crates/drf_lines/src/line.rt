@@ -4,7 +4,7 @@ ghost use Rattle.serde_json.specs.Find.{get, as_str, as_number, as_u64, as_array
 ghost use Rattle.serde_json.specs.View.{view, items_view};
 ghost use Rattle.drf_lines.specs.Fault.{IsFoundAs, IsReadAs, IsReadOf};
 ghost use Rattle.drf_lines.specs.Words.{roles_in};
-ghost use Rattle.drf_lines.specs.Meaning.{value_in, has_members, keys, text_at, number_at, texts_at, agent_event, framework_event, weight_event, cycle_event, event_in, meaning_of};
+ghost use Rattle.drf_lines.specs.Meaning.{value_in, has_members, keys, text_at, number_at, texts_at, agent_event, framework_event, weight_event, cycle_event, report_event, event_in, meaning_of};
 
 use crate::fault::{LineError, LineFault};
 use crate::resources::{read_bundle, read_weight};
@@ -152,6 +152,14 @@ fn read_cycle(value: &Value) -> Result<Event, LineError>
     Ok(Event::Cycle { at })
 }
 
+#[tactic(auto, unfolding(crate::specs::Meaning::report_event))]
+fn read_report(value: &Value) -> Result<Event, LineError>
+    ensures { IsReadOf result (report_event (view value.now)) }
+{
+    keys(value, 1)?;
+    Ok(Event::Report)
+}
+
 #[tactic(auto, unfolding(crate::specs::Meaning::event_in))]
 fn read_object(alloc: Global, value: &Value) -> Result<Event, LineError>
     ensures { IsReadOf result (event_in (view value.now)) }
@@ -161,6 +169,7 @@ fn read_object(alloc: Global, value: &Value) -> Result<Event, LineError>
         "add_framework" => read_framework(alloc, value),
         "set_weight" => read_weighing(alloc, value),
         "cycle" => read_cycle(value),
+        "report" => read_report(value),
         _ => Err(LineError::Fault(LineFault::BadShape)),
     }
 }

@@ -5,6 +5,7 @@ ghost use Rattle.serde_json.specs.Written.{has_float};
 ghost use Rattle.drf_lines.specs.ReplyLine.{offer_value, offers_value, refused_value, reply_value, line_of, reply_line, fault_line};
 
 use crate::fault::LineFault;
+use crate::report::report_value;
 use drf_rows::{OfferLine, Reply};
 use drf_text::write_bundle;
 use serde_json::{Value, json};
@@ -45,6 +46,7 @@ fn reply_value(alloc: Global, reply: &Reply) -> Result<Value, AllocError>
     match reply {
         Reply::Done => json!(in alloc; {"ok": true}),
         Reply::Offers(offers) => offers_value(alloc, offers.as_slice()),
+        Reply::Report(report) => report_value(alloc, report),
         Reply::Refused(refusal) => refused_value(alloc, refusal.name(), refusal.number()),
     }
 }

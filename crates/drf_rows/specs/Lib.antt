@@ -8,6 +8,7 @@ pub mod Weights
 pub mod Filters
 pub mod Cycle
 pub mod Endings
+pub mod Report
 pub mod Consistent
 pub mod Refusal
 pub mod Step
@@ -24,4 +25,5 @@ pub mod WeightLaws
 pub mod Examples
 pub mod OrderExamples
 pub mod WeightExamples
+pub mod ReportExamples
 pub mod Laws

@@ -9,9 +9,10 @@ use Rattle.drf_rows.specs.LimitNumbers.{LimitNumbers}
 use Rattle.drf_rows.specs.Client.{Client}
 use Rattle.drf_rows.specs.Held.{standing_of}
 use Rattle.drf_rows.specs.Cycle.{free_of, grant, new_offer, with_offer, tried, all_tried, turn_order, turn, turns, at_moment, cycle}
+use Rattle.drf_rows.specs.Report.{report_of}
 use Rattle.drf_rows.specs.Step.{live_rows, refusal_of, effect, answer, rows_after, rows_after_all, reply_to, replies_to}
 use Rattle.drf_rows.specs.declared.event.Event.{Event}
-use Rattle.drf_rows.specs.declared.event.Event.TheVariants.{AddAgent, AddFramework, SetWeight, Cycle}
+use Rattle.drf_rows.specs.declared.event.Event.TheVariants.{AddAgent, AddFramework, SetWeight, Cycle, Report}
 use Rattle.drf_rows.specs.declared.reply.Refusal.{Refusal}
 use Rattle.drf_rows.specs.declared.reply.Reply.TheVariants.{Refused}
 use Rattle.drf_rows.specs.declared.rows.AgentRow.{AgentRow}
@@ -100,6 +101,7 @@ refusal_of-live limits rows (AddAgent agent total) = refl
 refusal_of-live limits rows (AddFramework framework roles) = refl
 refusal_of-live limits rows (SetWeight role weight) = refl
 refusal_of-live limits rows (Cycle at) = refl
+refusal_of-live limits rows Report = refl
 
 -- the effect on the live rows has the live rows of the effect
 effect-live : (rows : Rows) (event : Event)
@@ -122,15 +124,18 @@ effect-live rows (Cycle at) n =
     ((λ i. filter (λ f. nat_lt (kept.1 i) f.until) fs)
     ∙ live_later rows.clock (max rows.clock at) rows.filters (omega arith)
     ∙ sym (λ i. filter (λ f. nat_lt (kept.1 i) f.until) (kept.0 i)))
+effect-live rows Report n =
+    ap (λ (fs : List FilterRow). record rows { accepted = n; filters = fs }) (live_later rows.clock rows.clock rows.filters (omega arith))
 
 answer-live : (rows : Rows) (event : Event) → answer (live_rows rows) (effect (live_rows rows) event) event ≡ answer rows (effect rows event) event
-unfolding effect cycle
+unfolding effect cycle report_of standing_of
 answer-live rows (AddAgent agent total) = refl
 answer-live rows (AddFramework framework roles) = refl
 answer-live rows (SetWeight role weight) = refl
 answer-live rows (Cycle at) =
     ap (λ (r : Rows). answer rows r (Cycle at))
     (turns-filters (at_moment rows at) (filter (λ f. nat_lt rows.clock f.until) rows.filters) (filter (λ a. a.active) rows.agents))
+answer-live rows Report = refl
 
 reply_by : (rows live : Rows) (event : Event) (refusal : Option Refusal) → answer live (effect live event) event ≡ answer rows (effect rows event) event
     → option_map_or Refused refusal (answer live (effect live event) event) ≡ option_map_or Refused refusal (answer rows (effect rows event) event)

@@ -9,6 +9,7 @@ use Rattle.drf_rows.specs.LimitNumbers.{LimitNumbers}
 use Rattle.drf_role.specs.Path.{Path, same_path}
 use Rattle.drf_rows.specs.Held.{cluster_total, clients_of}
 use Rattle.drf_rows.specs.Cycle.{cycle}
+use Rattle.drf_rows.specs.Report.{report_of}
 use Rattle.drf_rows.specs.Weights.{is_weight, too_many_weights, weights_with}
 use Rattle.drf_rows.specs.declared.limits.TheConstants.{LATEST_MOMENT, LARGEST_AMOUNT}
 use Rattle.drf_rows.specs.declared.rows.AgentRow.{AgentRow}
@@ -17,8 +18,10 @@ use Rattle.drf_rows.specs.declared.rows.FrameworkRow.{FrameworkRow}
 use Rattle.drf_rows.specs.declared.rows.OfferRow.{OfferRow}
 use Rattle.drf_rows.specs.declared.rows.Rows.{Rows}
 use Rattle.drf_rows.specs.declared.event.Event.{Event}
+use Rattle.drf_rows.specs.declared.event.Event.TheVariants as event
 use Rattle.drf_rows.specs.declared.event.Event.TheVariants.{AddAgent, AddFramework, SetWeight, Cycle}
 use Rattle.drf_rows.specs.declared.reply.Reply.{Reply}
+use Rattle.drf_rows.specs.declared.reply.Reply.TheVariants as reply
 use Rattle.drf_rows.specs.declared.reply.Reply.TheVariants.{Done, Offers, Refused}
 use Rattle.drf_rows.specs.declared.reply.Refusal.{Refusal}
 use Rattle.drf_rows.specs.declared.reply.Refusal.TheVariants.{HistoryFull, BadMoment, KnownAgent, KnownFramework, Empty, BadWeight, TooLarge, TooMany}
@@ -110,6 +113,7 @@ cases_of limits rows (Cycle at) =
     (is_full limits rows, HistoryFull)
     ∷ (nat_lt LATEST_MOMENT at, BadMoment)
     ∷ []
+cases_of limits rows event.Report = (is_full limits rows, HistoryFull) ∷ []
 
 -- why an event is refused, if it is; where several cases hold, the least number is told
 unfoldable pub refusal_of : LimitNumbers → Rows → Event → Option Refusal
@@ -121,6 +125,7 @@ effect rows (AddAgent agent total) = record rows { agents = with_agent rows agen
 effect rows (AddFramework framework roles) = record rows { frameworks = with_framework rows framework roles }
 effect rows (SetWeight role weight) = record rows { weights = weights_with rows.weights role weight }
 effect rows (Cycle at) = cycle rows at
+effect rows event.Report = rows
 
 -- an offer, as it is told
 abbrev pub line_of : OfferRow → OfferLine
@@ -136,6 +141,7 @@ answer before after (AddAgent agent total) = Done
 answer before after (AddFramework framework roles) = Done
 answer before after (SetWeight role weight) = Done
 answer before after (Cycle at) = Offers (map line_of (new_offers before after))
+answer before after event.Report = reply.Report (report_of before)
 
 -- the rows after an event
 unfoldable pub rows_after : LimitNumbers → Rows → Event → Rows

@@ -5,7 +5,7 @@ use Rattle.drf_rows.specs.LimitNumbers.{LimitNumbers}
 use Rattle.drf_rows.specs.Step.{refusal_of, effect, answer, rows_after, reply_to}
 use Rattle.drf_rows.specs.Laws.{CasesRise}
 use Rattle.drf_rows.specs.declared.event.Event.{Event}
-use Rattle.drf_rows.specs.declared.event.Event.TheVariants.{AddAgent, AddFramework, SetWeight, Cycle}
+use Rattle.drf_rows.specs.declared.event.Event.TheVariants.{AddAgent, AddFramework, SetWeight, Cycle, Report}
 use Rattle.drf_rows.specs.declared.reply.Refusal.{Refusal}
 use Rattle.drf_rows.specs.declared.reply.Reply.TheVariants.{Refused}
 use Rattle.drf_rows.specs.declared.rows.Rows.{Rows}
@@ -15,6 +15,7 @@ cases_rise limits rows (AddAgent agent total) = refl
 cases_rise limits rows (AddFramework framework roles) = refl
 cases_rise limits rows (SetWeight role weight) = refl
 cases_rise limits rows (Cycle at) = refl
+cases_rise limits rows Report = refl
 
 -- a refused event is told so, and the rows stay
 pub reply_to-refused : (limits : LimitNumbers) (rows : Rows) (event : Event) (refusal : Refusal)

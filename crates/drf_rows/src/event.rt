@@ -17,6 +17,8 @@ pub enum Event {
     SetWeight { role: Role, weight: u64 },
     /// The allocator offers what is free, at a moment in milliseconds.
     Cycle { at: u64 },
+    /// The allocator tells what there is, and who holds what of it.
+    Report,
 }
 
 fn copy_roles(roles: &Table<Role>) -> Result<Table<Role>, AllocError>
@@ -47,6 +49,7 @@ impl Event {
                 weight: *weight,
             }),
             Event::Cycle { at } => Ok(Event::Cycle { at: *at }),
+            Event::Report => Ok(Event::Report),
         }
     }
 }

@@ -1,6 +1,6 @@
 //! Laws of the definitions, and runs whose replies are computed from them. The functions do nothing: what they promise
 //! is proved of the definitions alone.
-#![tactic(auto, unfolding(crate::specs::Share::is_ahead, crate::specs::Held::standing_of, crate::specs::Cycle::free_of, crate::specs::Cycle::with_offer, crate::specs::Cycle::turn, crate::specs::Cycle::cycle, crate::specs::Step::refusal_of, crate::specs::Step::effect, crate::specs::Step::rows_after, crate::specs::Step::reply_to))]
+#![tactic(auto, unfolding(crate::specs::Share::is_ahead, crate::specs::Held::standing_of, crate::specs::Cycle::free_of, crate::specs::Cycle::with_offer, crate::specs::Cycle::turn, crate::specs::Cycle::cycle, crate::specs::Share::common_divisor, crate::specs::Report::report_of, crate::specs::Step::refusal_of, crate::specs::Step::effect, crate::specs::Step::rows_after, crate::specs::Step::reply_to))]
 
 ghost use Rattle.std.specs.Prelude.{◌≡◌, [], ◌∷◌, codes};
 ghost use Rattle.drf_rows.specs.LimitNumbers.{ceilings};
@@ -8,6 +8,8 @@ ghost use Rattle.drf_rows.specs.Step.{opening, replies_to};
 ghost use Rattle.drf_rows.specs.Laws.{NoneBeforeItself, AtMostOneBefore, OneServingOrder, TooLittleIsNotGranted, FirstIsGrantedAll, CasesRise, RefusedChangesNothing, AcceptedIsCounted, RunsGoOn, LiveRowsReply, LiveRowsGoOn, LiveRowsRun};
 ghost use Rattle.drf_rows.specs.Examples.{one_cycle, two_cycles, two_cycles_replies, two_frameworks, two_frameworks_replies, replies_with, not_offered, offered_whole, refused_as_too_large, one_agent, two_agents, two_events, two_names, three_names, one_framework, one_client, two_registrations, one_role, roles_listed, reserved_for_eng, reserved_for_eng_replies, cpus, cpus_for, mem, gpus};
 ghost use Rattle.drf_rows.specs.OrderExamples.{served, offered, half_at_work, close_shares, equal_shares, weighted_shares, shares_of, first_agent, second_agent, role_tree, more_for_ops, half_weight_of_eng, nothing_held};
+ghost use Rattle.drf_rows.specs.Report.{report_of};
+ghost use Rattle.drf_rows.specs.ReportExamples.{tree_at_work, tree_report, one_weighted, weighted_report, nothing_there, nothing_report, reserved_held, reserved_report, two_reports, two_reports_replies};
 ghost use Rattle.drf_rows.specs.WeightLaws.{RoleHasItsWeight, OthersKeepTheirWeight, EachHasOneRow};
 ghost use Rattle.drf_rows.specs.WeightExamples.{bounds, bounds_replies, replaced, weights_after, replaced_rows, one_weight, one_weight_replies, replies_by_weight, third_to};
 
@@ -108,4 +110,14 @@ pub fn weights_example()
     ensures one_row { replies_to one_weight opening replaced ≡ one_weight_replies }
     ensures weight_of_one { replies_by_weight 1000 ≡ third_to (codes "fa") (codes "a") }
     ensures heavier { replies_by_weight 1001 ≡ third_to (codes "fb") (codes "b") }
+{}
+
+/// What a role holds counts what the roles below it hold; weights are roles' alone; a client that is suppressed is
+/// reported, and scalars count over all reservations.
+pub fn report_example()
+    ensures tree { report_of tree_at_work ≡ tree_report }
+    ensures weighted { report_of one_weighted ≡ weighted_report }
+    ensures nothing { report_of nothing_there ≡ nothing_report }
+    ensures reserved { report_of reserved_held ≡ reserved_report }
+    ensures events { replies_to ceilings opening two_reports ≡ two_reports_replies }
 {}

@@ -1,5 +1,6 @@
 ghost use Rattle.std.specs.Prelude.{◌≡◌};
 
+use crate::report::Report;
 use crate::table::Table;
 use drf_bundle::Bundle;
 use drf_role::{Name, Role};
@@ -78,6 +79,8 @@ pub enum Reply {
     Done,
     /// A cycle was accepted, and made these offers.
     Offers(Table<OfferLine>),
+    /// A report was accepted, and tells this.
+    Report(Report),
     /// The event was refused, and changed nothing.
     Refused(Refusal),
 }

@@ -38,3 +38,10 @@ returns-in-Cycle c =
     c.first_case-in-Cycle.ensures
     ∙ (λ i. first_case ((c.is_full.ensures i, HistoryFull) ∷ (nat_lt LATEST_MOMENT c.in-Cycle.at, BadMoment) ∷ []))
     ∙ ap (refusal_of c.args.limits.now c.args.tables.now.rows) (sym c.in-Cycle.is)
+
+pub returns-in-Report : goal.returns-in-Report
+unfolding refusal_of
+returns-in-Report c =
+    c.first_case-in-Report.ensures
+    ∙ (λ i. first_case ((c.is_full.ensures i, HistoryFull) ∷ []))
+    ∙ ap (refusal_of c.args.limits.now c.args.tables.now.rows) (sym c.in-Report.is)

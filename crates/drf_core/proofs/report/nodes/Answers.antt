@@ -1,0 +1,16 @@
+use Rattle.std.proofs.Common.{[], sym, ◌∙◌}
+use Rattle.std.specs.Prelude.{map}
+use Rattle.drf_rows.specs.Held.{client_of}
+use Rattle.drf_core.specs.Reporting.{with_clients}
+use Rattle.drf_core.proofs.ReportLemmas.{frameworks-more}
+use Rattle.drf_core.proofs.report.nodes.Goals as goal
+
+pub loop-framework-preserved : goal.loop-framework-preserved
+loop-framework-preserved c =
+    let f = c.framework-item.result in
+    record {
+      nodes = c.in_ok-put_framework.ensures.nodes
+          ∙ (λ i. with_clients (c.loop-framework.invariant.nodes i) (map (client_of f) f.clients))
+          ∙ sym (frameworks-more [] c.args.frameworks.now c.loop-framework.framework-index f c.loop-framework-test.true c.framework-item.is);
+      nothing = c.in_ok-put_framework.ensures.nothing;
+    }

@@ -32,7 +32,7 @@ is_reserved_elsewhere bundle r =
 abbrev pub is_too_much : List Resource → Resource → Bool
 is_too_much bundle r = nat_le (2 ^ 64) (stock bundle r.label Thousandths + units_in r.value Thousandths)
 
--- why a resource cannot be united with a bundle
+-- why a resource cannot be united with a bundle; a value with nothing in it has a kind too
 abbrev pub union_refusal : List Resource → Resource → Option AlgebraFault
 union_refusal bundle r =
     if has_other_kind bundle r.label r.value then Some fault.Kind

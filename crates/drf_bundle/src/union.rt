@@ -114,7 +114,8 @@ impl Bundle {
     }
 
     /// Puts one more resource in: under one name and reservation scalars add and sets unite, shared
-    /// members or not. An `Err` changes nothing.
+    /// members or not. The first of `Kind`, `Overlap` and `TooLarge` that holds is told, `Kind` of a value
+    /// with nothing in it too, which else changes nothing. An `Err` changes nothing.
     pub fn unite(&mut self, label: Label, role: Role, value: Value) -> Result<(), AlgebraFault>
         ensures ok { OnOk result (union self.old (record { label = label; role = role; value = value }) ≡ Some self.new) }
         ensures err { OnErr result (self.new ≡ self.old) }

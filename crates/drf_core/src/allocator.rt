@@ -101,8 +101,8 @@ impl<S: Sorter> Core<S> {
     /// The rows as they stand. Nothing is granted twice, and no number of an offer is above 2^56.
     pub fn rows(&self) -> Result<Rows, AllocError>
         ensures rows { IfOk result (λ rows. rows ≡ live_rows self.now.rows) }
-        ensures conserved { AllByRecursion (IsConserved self.now.rows) self.now.rows.agents }
-        ensures numbers { AllByRecursion (λ o. o.number ≤ 2 ^ 56) self.now.rows.offers }
+        ensures conserved { IfOk result (λ rows. AllByRecursion (IsConserved rows) rows.agents) }
+        ensures numbers { IfOk result (λ rows. AllByRecursion (λ o. o.number ≤ 2 ^ 56) rows.offers) }
     {
         self.tables.rows()
     }

@@ -27,7 +27,8 @@ abbrev pub is_allocatable : List Resource → Bool
 is_allocatable bundle =
     nat_le 10 (amount_of (quantities_of bundle) (codes "cpus")) || nat_le 32000 (amount_of (quantities_of bundle) (codes "mem"))
 
--- what a client may have of a free bundle: what is unreserved, and what is reserved for its role or for a role above it
+-- what a client may have of a free bundle: what is unreserved, and what is reserved for its role or for a role above it.
+-- No event makes quota limits or filters yet, and no grant reads them
 abbrev pub entitlement : List Resource → Client → List Resource
 entitlement free client = part_for client.role free
 

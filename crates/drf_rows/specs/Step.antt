@@ -9,6 +9,7 @@ use Rattle.drf_rows.specs.LimitNumbers.{LimitNumbers}
 use Rattle.drf_role.specs.Path.{Path, same_path}
 use Rattle.drf_rows.specs.Held.{cluster_total, clients_of}
 use Rattle.drf_rows.specs.Cycle.{cycle}
+use Rattle.drf_rows.specs.Filters.{in_force}
 use Rattle.drf_rows.specs.Report.{report_of}
 use Rattle.drf_rows.specs.Weights.{is_weight, too_many_weights, weights_with}
 use Rattle.drf_rows.specs.declared.limits.TheConstants.{LATEST_MOMENT, LARGEST_AMOUNT}
@@ -44,7 +45,7 @@ opening = record {
 
 -- the rows that still tell of something: all but the filters that are not in force
 abbrev pub live_rows : Rows → Rows
-live_rows rows = record rows { filters = filter (λ f. nat_lt rows.clock f.until) rows.filters }
+live_rows rows = record rows { filters = in_force rows.clock rows.filters }
 
 abbrev pub has_agent : Rows → Text → Bool
 has_agent rows name = list_any (λ a. same_text a.name name) rows.agents

@@ -36,6 +36,14 @@ fn tell_rows(alloc: Global, core: &Core<PlainSorter>) -> Result<String> {
     )?)
 }
 
+fn tell_report(alloc: Global, core: &Core<PlainSorter>) -> Result<String> {
+    let report = core.report()?;
+    let copy = report.copy()?;
+    let (nodes, copied) = (report.nodes.len(), copy.nodes.len());
+    let offers = copy.nodes.as_slice().first().map_or(0, |node| node.count);
+    Ok(format!(in alloc; "{nodes} nodes, {copied} in a copy, {offers} offers to the first")?)
+}
+
 fn run_three(alloc: Global, core: &mut Core<PlainSorter>) -> Result<String> {
     run_one(alloc, core, new_agent(alloc)?)?;
     run_one(alloc, core, new_framework(alloc)?)?;
@@ -47,5 +55,7 @@ pub fn run_all<R: Runtime + AllocGlobal>(rt: &R) -> Result<()> {
     let mut core = Core::open(rt.alloc(), Limits::full())?;
     let told = run_three(rt.alloc(), &mut core)?;
     println!(rt; "rows: {told}")?;
+    let told = tell_report(rt.alloc(), &core)?;
+    println!(rt; "report: {told}")?;
     Ok(())
 }

@@ -7,7 +7,6 @@ mod merge;
 mod names;
 mod quantities;
 mod resource;
-mod scalar_bundle;
 mod union;
 mod value;
 
@@ -19,5 +18,4 @@ pub use laws::{
 pub use names::Names;
 pub use quantities::{Entry, Quantities};
 pub use resource::Resource;
-pub use scalar_bundle::ScalarBundle;
 pub use value::Value;

@@ -1,7 +1,7 @@
 -- The laws of amounts by label, as statements.
 use Rattle.std.specs.Prelude.{◌≡◌, ℕ, ◌+◌, ◌-◌, ◌≤◌, ◌↔◌, ◌||◌, List, [], if◌then◌else◌, IsTrue}
 use Rattle.drf_role.specs.Text.{same_text}
-use Rattle.drf_bundle.specs.Quantities.{HasNoZeros, amount_of, is_named, is_in_order, with_amount, plus, minus, covers, without_zeros, rest}
+use Rattle.drf_bundle.specs.Quantities.{HasNoZeros, amount_of, is_named, is_in_order, with_amount, plus, minus, covers, without_zeros}
 use Rattle.drf_bundle.specs.declared.quantities.Entry.{Entry}
 
 -- setting an amount changes that label alone
@@ -52,23 +52,6 @@ ZerosCountNothing = (entries : List Entry) (label : List ℕ) → IsTrue (is_in_
 
 abbrev pub NoZerosAreLeft : Type 0
 NoZerosAreLeft = (entries : List Entry) → IsTrue (is_in_order entries) → HasNoZeros (without_zeros entries)
-
--- what is left has each amount less that of the same label
-abbrev pub RestAmounts : Type 0
-RestAmounts = (a b : List Entry) (label : List ℕ) → IsTrue (is_in_order a) → amount_of (rest a b) label ≡ amount_of a label - amount_of b label
-
-abbrev pub RestHasNoZeros : Type 0
-RestHasNoZeros = (a b : List Entry) → IsTrue (is_in_order a) → HasNoZeros (rest a b)
-
-abbrev pub NothingIsLeftOfAll : Type 0
-NothingIsLeftOfAll = (a : List Entry) → IsTrue (is_in_order a) → rest a a ≡ []
-
-abbrev pub AllIsLeftOfNothing : Type 0
-AllIsLeftOfNothing = (a : List Entry) → HasNoZeros a → rest a [] ≡ a
-
--- what was taken and what is left make the whole
-abbrev pub RestAndPartMakeWhole : Type 0
-RestAndPartMakeWhole = (a b : List Entry) → HasNoZeros a → HasNoZeros b → IsTrue (covers a b) → plus (rest a b) b ≡ a
 
 -- a list covers another where no amount of the other is above its own
 abbrev pub CoversByAmounts : Type 0

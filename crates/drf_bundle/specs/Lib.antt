@@ -3,7 +3,6 @@ pub mod Laws
 pub mod Places
 pub mod Quantities
 pub mod QuantitiesLaws
-pub mod ScalarBundle
 pub mod Value
 pub mod ValueLaws
 pub mod KeyLaws

@@ -49,14 +49,6 @@ covers entries others = list_all (λ e. nat_le e.amount (amount_of entries e.lab
 abbrev pub without_zeros : List Entry → List Entry
 without_zeros entries = filter (λ e. nat_lt 0 e.amount) entries
 
--- what is left when of each label so much is taken away
-abbrev pub rest_by : List Entry → (List ℕ → ℕ) → List Entry
-rest_by entries by = without_zeros (map (λ e. record { label = e.label; amount = e.amount - by e.label }) entries)
-
--- what is left when another list is taken away
-abbrev pub rest : List Entry → List Entry → List Entry
-rest entries others = rest_by entries (amount_of others)
-
 -- in order of label, and no amount is 0
 pub record HasNoZeros (entries : List Entry) : Type 0 where
   pub in_order : IsTrue (is_in_order entries)

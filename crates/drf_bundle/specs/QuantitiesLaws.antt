@@ -6,7 +6,7 @@ use Rattle.std.proofs.lemmas.Bool.{false≢true, cases_Bool, and_parts, and_from
 use Rattle.std.proofs.lemmas.Bool.Decides.{nat_tests}
 use Rattle.drf_role.specs.Text.{same_text, text_below}
 use Rattle.drf_role.specs.TextLaws.{same_itself, same_from_test, test_from_same, cases_same, cases_cmp, same_from_cmp, below_from_cmp, above_from_cmp, below_other, above_other, below_trans}
-use Rattle.drf_bundle.specs.Quantities.{HasNoZeros, amount_of, is_named, is_in_order, with_amount, plus, minus, covers, without_zeros, rest_by, rest}
+use Rattle.drf_bundle.specs.Quantities.{HasNoZeros, amount_of, is_named, is_in_order, with_amount, plus, minus, covers, without_zeros}
 use Rattle.drf_bundle.specs.declared.quantities.Entry.{Entry}
 
 -- the label stands before that of each entry
@@ -53,9 +53,6 @@ amount-with (e ∷ es) label a n = elim (cases_cmp label e.label) [
       (tests_apart (same_text label n) (same_text e.label n) a e.amount (amount_of es n)
       (λ same. subst (λ (t : List ℕ). same_text e.label t ≡ false) (same_from_test label n same) (below_other e.label label (above_from_cmp label e.label greater)))))
 ]
-
-pub with-here : (es : List Entry) (label : List ℕ) (a : ℕ) → amount_of (with_amount es label a) label ≡ a
-with-here es label a = rw (amount-with es label a label) (rw (same_itself label))
 
 -- a label that stands before all, and before the one that is set, still does
 pub first-with : (es : List Entry) (label : List ℕ) (a : ℕ) (n : List ℕ) → IsTrue (text_below n label) → IsTrue (stands_first n es) → IsTrue (stands_first n (with_amount es label a))
@@ -181,7 +178,7 @@ covers_from a (e ∷ es) ordered below =
 pub covers-plus : (a b : List Entry) → IsTrue (is_in_order b) → IsTrue (covers (plus a b) b)
 covers-plus a b ordered = covers_from (plus a b) b ordered (λ n. omega (arith, amount-plus a b n ordered))
 
--- ---- bundles
+-- ---- lists without zeros
 
 above_zero-without_zeros : (es : List Entry) → IsTrue (list_all (λ e. nat_lt 0 e.amount) (without_zeros es))
 above_zero-without_zeros [] = refl
@@ -195,15 +192,6 @@ no_zeros-without_zeros es ordered = record { in_order = in_order-without_zeros e
 
 pub no_zeros-empty : HasNoZeros []
 no_zeros-empty = record { in_order = refl; above_zero = refl }
-
-pub in_order-rest : (a b : List Entry) → IsTrue (is_in_order a) → IsTrue (is_in_order (rest a b))
-in_order-rest a b ordered = in_order-without_zeros (minus a b) (in_order-minus a b ∙ ordered)
-
-pub no_zeros-rest : (a b : List Entry) → IsTrue (is_in_order a) → HasNoZeros (rest a b)
-no_zeros-rest a b ordered = no_zeros-without_zeros (minus a b) (in_order-minus a b ∙ ordered)
-
-pub amount-rest : (a b : List Entry) (n : List ℕ) → IsTrue (is_in_order a) → amount_of (rest a b) n ≡ amount_of a n - amount_of b n
-amount-rest a b n ordered = amount-without_zeros (minus a b) n (in_order-minus a b ∙ ordered) ∙ amount-minus a b n
 
 pub above_zero-with : (es : List Entry) (label : List ℕ) (a : ℕ) → 0 < a → IsTrue (list_all (λ e. nat_lt 0 e.amount) es) → IsTrue (list_all (λ e. nat_lt 0 e.amount) (with_amount es label a))
 above_zero-with [] label a some all = and_from _ _ (lt-ltb 0 a some) refl
@@ -225,7 +213,7 @@ above_zero-plus a (e ∷ es) first second =
 pub no_zeros-plus : (a b : List Entry) → HasNoZeros a → HasNoZeros b → HasNoZeros (plus a b)
 no_zeros-plus a b first second = record { in_order = in_order-plus a b first.in_order; above_zero = above_zero-plus a b first.above_zero second.above_zero }
 
--- ---- a bundle is known by its amounts
+-- ---- a list without zeros is known by its amounts
 
 abbrev SameAmounts : List Entry → List Entry → Type 0
 SameAmounts a b = (n : List ℕ) → amount_of a n ≡ amount_of b n
@@ -275,16 +263,6 @@ same_quantities (e ∷ es) (f ∷ fs) first second same =
           let above = above_from_cmp e.label f.label greater in
           absurd (begins_apart f fs (e ∷ es) (ltb-true 0 f.amount some_f.0) (and_from _ _ above (first_trans f.label e.label es above order_e.0)) (λ n. sym (same n)))
     ]
-
-pub rest-itself : (a : List Entry) → IsTrue (is_in_order a) → rest a a ≡ []
-rest-itself a ordered = same_quantities (rest a a) [] (no_zeros-rest a a ordered) no_zeros-empty (λ n. omega (arith, amount-rest a a n ordered))
-
-pub rest-nothing : (a : List Entry) → HasNoZeros a → rest a [] ≡ a
-rest-nothing a bundle = same_quantities (rest a []) a (no_zeros-rest a [] bundle.in_order) bundle (λ n. omega (arith, amount-rest a [] n bundle.in_order))
-
-pub plus-rest : (a b : List Entry) → HasNoZeros a → HasNoZeros b → IsTrue (covers a b) → plus (rest a b) b ≡ a
-plus-rest a b first second covered = same_quantities (plus (rest a b) b) a (no_zeros-plus (rest a b) b (no_zeros-rest a b first.in_order) second) first
-    (λ n. omega (arith, amount-plus (rest a b) b n second.in_order, amount-rest a b n first.in_order, covers_at a b covered n))
 
 pub plus_comm : (a b : List Entry) → HasNoZeros a → HasNoZeros b → plus a b ≡ plus b a
 plus_comm a b first second = same_quantities (plus a b) (plus b a) (no_zeros-plus a b first second) (no_zeros-plus b a second first)
@@ -383,45 +361,3 @@ length-plus a (e ∷ es) first second =
       | inl named ↦ rw named (omega (arith, more, others, rw named at here))
       | inr new ↦ rw new (omega (arith, more, others, rw new at here))
     ]
-
--- ---- what is left when of each label so much is taken
-
--- each amount less what stands against its label
-abbrev lowered : (List ℕ → ℕ) → List Entry → List Entry
-lowered by es = map (λ e. record { label = e.label; amount = e.amount - by e.label }) es
-
-amount-lowered : (by : List ℕ → ℕ) (es : List Entry) (n : List ℕ) → amount_of (lowered by es) n ≡ amount_of es n - by n
-amount-lowered by [] n = omega arith
-amount-lowered by (e ∷ es) n = elim (cases_same e.label n) [
-  | inl same ↦ rw same.0 (ap (λ (t : List ℕ). e.amount - by t) same.1)
-  | inr other ↦ rw other.0 (amount-lowered by es n)
-]
-
-first-lowered : (by : List ℕ → ℕ) (es : List Entry) (n : List ℕ) → stands_first n (lowered by es) ≡ stands_first n es
-first-lowered by [] n = refl
-first-lowered by (e ∷ es) n = ap (λ (t : Bool). text_below n e.label && t) (first-lowered by es n)
-
-in_order-lowered : (by : List ℕ → ℕ) (es : List Entry) → is_in_order (lowered by es) ≡ is_in_order es
-in_order-lowered by [] = refl
-in_order-lowered by (e ∷ es) = λ i. first-lowered by es e.label i && in_order-lowered by es i
-
-pub amount-rest_by : (es : List Entry) (by : List ℕ → ℕ) (n : List ℕ) → IsTrue (is_in_order es) → amount_of (rest_by es by) n ≡ amount_of es n - by n
-amount-rest_by es by n ordered = amount-without_zeros (lowered by es) n (in_order-lowered by es ∙ ordered) ∙ amount-lowered by es n
-
-pub no_zeros-rest_by : (es : List Entry) (by : List ℕ → ℕ) → IsTrue (is_in_order es) → HasNoZeros (rest_by es by)
-no_zeros-rest_by es by ordered = no_zeros-without_zeros (lowered by es) (in_order-lowered by es ∙ ordered)
-
--- what is taken at once can be taken one after the other
-pub rest_by-plus : (es : List Entry) (by : List ℕ → ℕ) (others : List Entry) → IsTrue (is_in_order es)
-    → rest_by es (λ label. by label + amount_of others label) ≡ rest (rest_by es by) others
-rest_by-plus es by others ordered =
-    let both : List ℕ → ℕ = λ label. by label + amount_of others label in
-    let left = no_zeros-rest_by es by ordered in
-    same_quantities (rest_by es both) (rest (rest_by es by) others) (no_zeros-rest_by es both ordered) (no_zeros-rest (rest_by es by) others left.in_order)
-    (λ n. omega (arith, amount-rest_by es both n ordered, amount-rest_by es by n ordered, amount-rest (rest_by es by) others n left.in_order))
-
--- of nothing taken all is left
-pub rest_by-nothing : (es : List Entry) (by : List ℕ → ℕ) → HasNoZeros es → ((n : List ℕ) → by n ≡ 0) → rest_by es by ≡ es
-rest_by-nothing es by no_zeros none =
-    same_quantities (rest_by es by) es (no_zeros-rest_by es by no_zeros.in_order) no_zeros
-    (λ n. omega (arith, amount-rest_by es by n no_zeros.in_order, none n))

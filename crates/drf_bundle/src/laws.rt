@@ -1,5 +1,5 @@
 //! Laws of amounts by label and of bundles by their units. A call does nothing: its contract is the law.
-ghost use Rattle.drf_bundle.specs.Laws.{SetsOneAmount, NamesOneLabel, SettingKeepsOrder, AmountsAdd, SumNamesBoth, AddingKeepsOrder, SumHasNoZeros, AddingCommutes, AddingAssociates, AmountsFall, NamesStay, LoweringKeepsOrder, ZerosCountNothing, NoZerosAreLeft, RestAmounts, RestHasNoZeros, NothingIsLeftOfAll, AllIsLeftOfNothing, RestAndPartMakeWhole, CoversByAmounts, KnownByAmounts};
+ghost use Rattle.drf_bundle.specs.Laws.{SetsOneAmount, NamesOneLabel, SettingKeepsOrder, AmountsAdd, SumNamesBoth, AddingKeepsOrder, SumHasNoZeros, AddingCommutes, AddingAssociates, AmountsFall, NamesStay, LoweringKeepsOrder, ZerosCountNothing, NoZerosAreLeft, CoversByAmounts, KnownByAmounts};
 ghost use Rattle.drf_bundle.specs.Taken.{TakenAndLeftJoin, OnlyTheRestJoins};
 ghost use Rattle.drf_bundle.specs.UnitLaws.{KnownByUnits, JoinHasUnitsOfBoth, StocksAdd, CoversByUnits, RestHasTheOthers, RestIsBundle, RestAndPartJoin, QuantitiesSumScalars, QuantitiesHaveNoZeros, QuantitiesAdd, PartIsCovered, ClippedIsCovered, MovedIsBundle, MovedKeepsStocks, UnionIsBundle, UnionHasUnits};
 
@@ -31,15 +31,6 @@ pub fn lowering_law()
 pub fn zeros_law()
     ensures amounts { ZerosCountNothing }
     ensures no_zeros { NoZerosAreLeft }
-{}
-
-/// What is left of a list when another is taken from it.
-pub fn rest_law()
-    ensures amounts { RestAmounts }
-    ensures no_zeros { RestHasNoZeros }
-    ensures of_all { NothingIsLeftOfAll }
-    ensures of_nothing { AllIsLeftOfNothing }
-    ensures whole { RestAndPartMakeWhole }
 {}
 
 /// When a list covers another.

@@ -7,18 +7,15 @@ mod merge;
 mod names;
 mod quantities;
 mod resource;
-mod scalar_bundle;
 mod union;
 mod value;
 
 pub use bundle::Bundle;
 pub use laws::{
     adding_law, amounts_law, bundle_join_law, bundle_part_law, bundle_rest_law, bundle_union_law,
-    covering_law, lowering_law, quantities_law, rest_law, setting_law, taking_law, units_law,
-    zeros_law,
+    covering_law, lowering_law, quantities_law, setting_law, taking_law, units_law, zeros_law,
 };
 pub use names::Names;
 pub use quantities::{Entry, Quantities};
 pub use resource::Resource;
-pub use scalar_bundle::ScalarBundle;
 pub use value::Value;

@@ -1,61 +1,18 @@
 -- The set of the numbers in intervals.
 use Rattle.std.proofs.Common.{◌≡◌, ℕ, suc, zero, ◌+◌, ◌-◌, ◌<◌, ◌≤◌, ◌^◌, Bool, true, false, ◌&&◌, ◌||◌, List, [], ◌∷◌, ◌++◌, length, get_or, take, eqb, ltb, leb, inl, inr, refl, sym, ap, ◌∙◌, cond, arith}
 use Rattle.std.specs.Prelude.{◌↔◌, IsTrue}
-use Rattle.std.specs.List.{flat_map, range_with_len, list_any, sum_by}
+use Rattle.std.specs.List.{flat_map, range_with_len, sum_by}
 use Rattle.std.specs.List.Sorted.{IsNonDecreasingBy, IsPartitionPoint}
 use Rattle.std.specs.Ordering.{nat_cmp}
 use Rattle.std.specs.Cmp.{nat_cmp_total}
 use Rattle.std.specs.FinSet as set
-use Rattle.std.proofs.lemmas.Bool.{true≢false, le-leb, lt-leb, le-ltb, lt-ltb, eq-eqb, ne_eqb, ltb-true, ltb-false, both_ways, cases_lt, cases_eq, or_from}
+use Rattle.std.proofs.lemmas.Bool.{true≢false, le-leb, lt-leb, eq-eqb, ne_eqb, ltb-true, ltb-false, both_ways, cases_lt, or_from}
 use Rattle.std.proofs.lemmas.List.Folds.{list_any-append}
 use Rattle.std.proofs.lemmas.List.Sums.{sum_by-cons, sum_by_more, sum_by-take-le}
 use Rattle.drf_kinds.specs.declared.interval.Interval.{Interval}
-use Rattle.drf_kinds.specs.Intervals.{members, numbers, is_in, is_within, AreMaximal, AreMaximalFrom, IsNumberSet}
+use Rattle.drf_kinds.specs.Intervals.{members, numbers, is_in, AreMaximal, AreMaximalFrom, IsNumberSet}
+use Rattle.drf_kinds.specs.IntervalLaws.{in_range, in_all_numbers, contains-members, same_numbers}
 use Rattle.drf_kinds.proofs.Steps.{none_below}
-
--- the numbers from a on
-in_range : (a k n : ℕ) → list_any (λ y. eqb y n) (range_with_len a k) ≡ (leb a n && ltb n (a + k))
-in_range a zero n =
-    elim (cases_lt n a) [
-      | inl less ↦ rw (lt-leb a n less)
-      | inr more ↦ rw (le-leb a n more, le-ltb n (a + 0) (omega arith))
-    ]
-in_range a (suc k) n =
-    elim (cases_lt n a) [
-      | inl less ↦ rw (ne_eqb a n (λ e. omega arith), in_range (a + 1) k n, lt-leb (a + 1) n (omega arith), lt-leb a n less)
-      | inr more ↦
-          elim (cases_eq a n) [
-            | inl same ↦ rw (eq-eqb a n same, le-leb a n more, lt-ltb n (a + suc k) (omega arith))
-            | inr other ↦ rw (ne_eqb a n other, in_range (a + 1) k n, le-leb (a + 1) n (omega arith), le-leb a n more) (ap (λ m. ltb n m) (omega arith))
-          ]
-    ]
-
--- the numbers of an interval
-in_numbers : (i : Interval) (n : ℕ) → list_any (λ y. eqb y n) (numbers i) ≡ is_within i n
-in_numbers i n =
-    in_range i.first (i.last + 1 - i.first) n
-    ∙ elim (cases_lt n i.first) [
-      | inl less ↦ rw (lt-leb i.first n less)
-      | inr more ↦
-          rw (le-leb i.first n more)
-          (elim (cases_lt i.last n) [
-            | inl above ↦ rw (lt-leb n i.last above, le-ltb n (i.first + (i.last + 1 - i.first)) (omega arith))
-            | inr within ↦ rw (le-leb n i.last within, lt-ltb n (i.first + (i.last + 1 - i.first)) (omega arith))
-          ])
-    ]
-
-in_all_numbers : (is : List Interval) (n : ℕ) → list_any (λ y. eqb y n) (flat_map numbers is) ≡ is_in is n
-in_all_numbers [] n = refl
-in_all_numbers (i ∷ is) n = list_any-append (λ y. eqb y n) (numbers i) (flat_map numbers is) ∙ rw (in_numbers i n, in_all_numbers is n)
-
--- the members are the numbers in an interval
-pub contains-members : (is : List Interval) (n : ℕ) → set.contains (members is) n ≡ is_in is n
-unfolding members
-contains-members is n = set.contains-from_list_nat (flat_map numbers is) n ∙ in_all_numbers is n
-
--- sets of numbers with the same members are equal
-pub same_numbers : (a b : set.FinSet nat_cmp) → ((n : ℕ) → set.contains a n ≡ set.contains b n) → a ≡ b
-same_numbers a b each = set.same_set nat_cmp_total set.nat_cmp-IsAntisymmetric a b each
 
 pub members_of-nil : members [] ≡ set.empty
 members_of-nil = same_numbers (members []) set.empty (λ n. contains-members [] n ∙ sym (set.contains-empty nat_cmp n))

@@ -1,12 +1,12 @@
 -- Intervals in order of their first ends, put together.
 use Rattle.std.proofs.Common.{◌≡◌, ◌≢◌, ℕ, suc, ◌+◌, ◌-◌, ◌<◌, ◌≤◌, ◌^◌, Bool, true, false, ◌&&◌, ◌||◌, List, [], ◌∷◌, ◌++◌, length, get_or, take, drop, take_all, max, leb, inl, inr, refl, sym, ap, ◌∙◌, arith}
-use Rattle.std.specs.Prelude.{◌↔◌, IsTrue, map}
-use Rattle.std.specs.List.{list_any, All, Any}
+use Rattle.std.specs.Prelude.{map}
+use Rattle.std.specs.List.{All}
 use Rattle.std.specs.List.Sorted.{IsNonDecreasingBy, IsPermutation}
-use Rattle.std.proofs.lemmas.Bool.{le-leb, lt-leb, leb-true, cases_lt, and_parts, and_from}
+use Rattle.std.proofs.lemmas.Bool.{le-leb, lt-leb, cases_lt}
 use Rattle.std.proofs.lemmas.List.{get_or_default}
 use Rattle.std.proofs.lemmas.List.Elements.{All-map}
-use Rattle.std.proofs.lemmas.List.Folds.{list_any_more, Any-from_list_any, list_any-from_Any}
+use Rattle.std.proofs.lemmas.List.Folds.{list_any_more}
 use Rattle.std.proofs.lemmas.List.Sorted.{All-permutation, list_any-IsPermutation}
 use Rattle.drf_kinds.specs.declared.interval.Interval.{Interval}
 use Rattle.drf_kinds.specs.Intervals.{AreMaximal, is_in, is_within, interval_of}
@@ -133,19 +133,3 @@ ordered_intervals pairs is moved ordered = All-permutation (λ i. i.first ≤ i.
 
 pub in_sorted : (pairs : List (ℕ × ℕ)) (is : List Interval) (n : ℕ) → IsPermutation (map interval_of pairs) is → is_in is n ≡ is_in (map interval_of pairs) n
 in_sorted pairs is n moved = sym (list_any-IsPermutation (λ i. is_within i n) (map interval_of pairs) is moved)
-
-is_in-pairs : (pairs : List (ℕ × ℕ)) (n : ℕ) → is_in (map interval_of pairs) n ≡ list_any (λ pair. is_within (interval_of pair) n) pairs
-is_in-pairs [] n = refl
-is_in-pairs (pair ∷ pairs) n = ap (λ b. is_within (interval_of pair) n || b) (is_in-pairs pairs n)
-
--- whether a number is in one of the pairs
-pub in_pairs : (pairs : List (ℕ × ℕ)) (n : ℕ) (b : Bool) → b ≡ is_in (map interval_of pairs) n → IsTrue b ↔ Any (λ pair. (pair.0 ≤ n) × (n ≤ pair.1)) pairs
-in_pairs pairs n b is = (
-  λ e.
-      let found = Any-from_list_any (λ pair. is_within (interval_of pair) n) pairs (sym (is_in-pairs pairs n) ∙ sym is ∙ e) in
-      let both = and_parts (leb found.1.0 n) (leb n found.1.1) found.4 in
-      (found.0, found.1, found.2, found.3, (leb-true found.1.0 n both.0, leb-true n found.1.1 both.1)),
-  λ found.
-      is ∙ is_in-pairs pairs n
-      ∙ list_any-from_Any (λ pair. is_within (interval_of pair) n) pairs (found.0, found.1, found.2, found.3, and_from (leb found.1.0 n) (leb n found.1.1) (le-leb found.1.0 n found.4.0) (le-leb n found.1.1 found.4.1)),
-)

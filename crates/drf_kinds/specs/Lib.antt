@@ -1,4 +1,5 @@
 pub mod Intervals
+pub mod IntervalLaws
 pub mod Listed
 pub mod Names
 pub mod NumberSetLaws

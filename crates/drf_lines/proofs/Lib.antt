@@ -1,5 +1,4 @@
 pub mod Exits
-pub mod WordTests
 pub mod RoleLists
 pub mod Values
 pub mod Meanings

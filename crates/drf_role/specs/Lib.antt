@@ -6,3 +6,5 @@ pub mod Path
 pub mod PathLaws
 pub mod Role
 pub mod Spans
+pub mod Tests
+pub mod TestLaws

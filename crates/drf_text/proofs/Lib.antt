@@ -6,7 +6,6 @@ pub mod Cuts
 pub mod Decimals
 pub mod Exits
 pub mod Joined
-pub mod NameLemmas
 pub mod Numbers
 pub mod Parts
 pub mod PieceLemmas

@@ -8,12 +8,12 @@ use Rattle.std.specs.List.{list_all, list_any}
 use Rattle.drf_role.specs.Text.{Text}
 use Rattle.drf_role.specs.Name.{IsLabel}
 use Rattle.drf_text.specs.Blanks.{is_blank, trimmed}
-use Rattle.drf_text.specs.NameTests.{is_label_byte, is_label}
+use Rattle.drf_role.specs.Tests.{is_label_byte, is_label}
 use Rattle.drf_text.specs.Number.{is_number}
 use Rattle.drf_text.specs.Pieces.{begins, parts_inside, head_of, body_of, name_of, is_reserved, is_head, is_body, is_range, fault_by}
 use Rattle.drf_text.specs.declared.fault.TextFault.TheVariants.{Syntax, BadName, BadRole, BadNumber}
 use Rattle.drf_text.proofs.CutLemmas.{HasNone, none_of, not_that, not_blank, trimmed_stays, before_at, after_at, any_at_mark, position_none}
-use Rattle.drf_text.proofs.NameLemmas.{label_decides}
+use Rattle.drf_role.specs.TestLaws.{label_decides}
 use Rattle.drf_text.proofs.Numbers.{all_before}
 
 -- ---- labels

@@ -12,7 +12,7 @@ use Rattle.drf_bundle.specs.declared.quantities.Entry.{Entry}
 use Rattle.drf_bundle.specs.declared.value.Value.TheVariants.{Scalar}
 use Rattle.drf_text.specs.Blanks.{is_blank}
 use Rattle.drf_text.specs.Meaning.{after, counted, quantities_from}
-use Rattle.drf_text.specs.NameTests.{is_label_byte}
+use Rattle.drf_role.specs.Tests.{is_label_byte}
 use Rattle.drf_text.specs.Pieces.{is_reserved, head_of, body_of, name_of, value_of, quantity_fault_of}
 use Rattle.drf_text.specs.RoundTrip.{IsEntry, QuantitiesAreRead}
 use Rattle.drf_text.specs.Written.{amount_text, quantity_text}

@@ -12,8 +12,7 @@ use Rattle.drf_role.specs.Text.{Text}
 use Rattle.drf_kinds.specs.declared.ranges.RangesFault.{RangesFault}
 use Rattle.drf_kinds.specs.declared.ranges.RangesFault.TheVariants as ranges
 use Rattle.drf_kinds.specs.Intervals.{members, numbers, interval_of, is_in}
-use Rattle.drf_kinds.proofs.Members.{contains-members, same_numbers}
-use Rattle.drf_kinds.proofs.Merged.{in_pairs}
+use Rattle.drf_kinds.specs.IntervalLaws.{contains-members, same_numbers, in_pairs}
 use Rattle.drf_text.specs.Faults.{IsMeaning, fault_of_ranges}
 use Rattle.drf_text.specs.Pieces.{low_of, high_of, is_end, is_range}
 use Rattle.drf_text.specs.Steps.{each_of, pair_in, numbers_between}

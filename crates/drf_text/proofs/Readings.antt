@@ -10,7 +10,7 @@ use Rattle.drf_role.specs.Path.{Path}
 use Rattle.drf_role.specs.Parts.{parts_of}
 use Rattle.drf_bundle.specs.declared.value.Value.{Value}
 use Rattle.drf_bundle.specs.declared.value.Value.TheVariants as value
-use Rattle.drf_text.specs.NameTests.{is_label, is_role}
+use Rattle.drf_role.specs.Tests.{is_label, is_role}
 use Rattle.drf_text.specs.Number.{is_number}
 use Rattle.drf_text.specs.Pieces.{begins, inside, parts_between, parts_inside, head_of, body_of, is_reserved, name_of, role_text_of, is_head, is_body, is_range, has_bad_role, fault_of, quantity_fault_of, numbers_of, value_of, role_of}
 use Rattle.drf_text.specs.Steps.{◌>>=◌, each_of, cut_in, head_in, kind_of, content_of, body_in, label_in, members_in, role_in, no_role, fitting, scalar_in, ranges_in, numbers_between, value_in, DraftOf, draft_in, said_in, counted_in}

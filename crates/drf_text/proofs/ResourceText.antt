@@ -11,7 +11,7 @@ use Rattle.drf_role.specs.Text.{Text}
 use Rattle.drf_bundle.specs.Bundle.{is_default, IsResource}
 use Rattle.drf_bundle.specs.declared.resource.Resource.{Resource}
 use Rattle.drf_text.specs.Blanks.{is_blank, trimmed}
-use Rattle.drf_text.specs.NameTests.{is_label_byte, is_label, is_role}
+use Rattle.drf_role.specs.Tests.{is_label_byte, is_label, is_role}
 use Rattle.drf_text.specs.Pieces.{ends, is_reserved, head_of, body_of, name_of, role_text_of, role_of, value_of, has_bad_role, fault_of, resource_of}
 use Rattle.drf_text.specs.Written.{head_text, value_text, resource_text}
 use Rattle.drf_text.proofs.CutLemmas.{HasNone, is_between, not_between, no_blanks, IsPart, trimmed_stays, before_at, after_at, any_at_mark, take_all_but_last, ends_closed}

@@ -8,9 +8,9 @@ use Rattle.drf_role.specs.PathLaws.{same_path_itself}
 use Rattle.drf_role.specs.Role.{IsComponentByte, IsComponent, IsRolePath, IsRole, default_role}
 use Rattle.drf_bundle.specs.Bundle.{is_default}
 use Rattle.drf_text.specs.Blanks.{is_blank}
-use Rattle.drf_text.specs.NameTests.{is_role}
+use Rattle.drf_role.specs.Tests.{is_role}
 use Rattle.drf_text.proofs.CutLemmas.{HasNone, is_between, joined_has_none}
-use Rattle.drf_text.proofs.NameLemmas.{role_passes}
+use Rattle.drf_role.specs.TestLaws.{role_decides}
 
 pub component_no_colon : (b : ℕ) → IsComponentByte b → eqb b 58 ≡ false
 component_no_colon b is = ne_eqb b 58 is.no_colon
@@ -29,7 +29,7 @@ role_has_none p role is slash apart =
     (All-weaker IsComponent (HasNone p) (λ component of_role. All-weaker IsComponentByte (λ b. p b ≡ false) apart component of_role.alphabet) role is.each)
 
 pub role_test : (role : Path) → IsRole role → parts_of (text_of role) ≡ role → is_role (text_of role) ≡ true
-role_test role is read = role_passes (text_of role) (subst IsRole (sym read) is)
+role_test role is read = (role_decides (text_of role)).1 (subst IsRole (sym read) is)
 
 -- a role that is not the default one is a path
 pub reserved_path : (role : Path) → IsRole role → is_default role ≡ false → IsRolePath role

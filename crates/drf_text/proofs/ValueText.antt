@@ -21,7 +21,7 @@ use Rattle.drf_bundle.specs.Value.{IsGiven}
 use Rattle.drf_bundle.specs.declared.value.Value.{Value}
 use Rattle.drf_bundle.specs.declared.value.Value.TheVariants.{Scalar, Ranges, Items}
 use Rattle.drf_text.specs.Blanks.{is_blank, trimmed}
-use Rattle.drf_text.specs.NameTests.{is_label_byte, is_label}
+use Rattle.drf_role.specs.Tests.{is_label_byte, is_label}
 use Rattle.drf_text.specs.Pieces.{parts_inside, low_of, high_of, has_one_dash, is_end, is_range, numbers_of, value_of}
 use Rattle.drf_text.specs.Written.{amount_text, interval_text, intervals_text, ranges_text, items_text, value_text}
 use Rattle.drf_kinds.specs.Listed.{listed, intervals_of, maximal-intervals_of, members-intervals_of, ascending-listed, from_list-listed}

@@ -1,7 +1,6 @@
 pub mod Blanks
 pub mod Faults
 pub mod Meaning
-pub mod NameTests
 pub mod Number
 pub mod Pieces
 pub mod RoundTrip

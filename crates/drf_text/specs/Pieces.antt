@@ -13,7 +13,7 @@ use Rattle.drf_bundle.specs.declared.value.Value.{Value}
 use Rattle.drf_bundle.specs.declared.value.Value.TheVariants.{Scalar, Ranges, Items}
 use Rattle.drf_text.specs.Blanks.{is_blank, trimmed}
 use Rattle.drf_text.specs.Number.{are_digits, is_number, thousandths_of}
-use Rattle.drf_text.specs.NameTests.{is_label, is_role}
+use Rattle.drf_role.specs.Tests.{is_label, is_role}
 use Rattle.drf_text.specs.declared.fault.TextFault.{TextFault}
 use Rattle.drf_text.specs.declared.fault.TextFault.TheVariants.{Syntax, BadName, BadRole, BadNumber}
 

@@ -19,7 +19,7 @@ use Rattle.drf_bundle.specs.declared.value.Value.TheVariants.{Scalar, Ranges, It
 use Rattle.drf_text.specs.Blanks.{trimmed}
 use Rattle.drf_text.specs.Meaning.{put, counted}
 use Rattle.drf_text.specs.Number.{is_number, thousandths_of}
-use Rattle.drf_text.specs.NameTests.{is_label, is_role}
+use Rattle.drf_role.specs.Tests.{is_label, is_role}
 use Rattle.drf_text.specs.Pieces.{begins, inside, parts_between, head_of, body_of, is_reserved, name_of, role_text_of, low_of, high_of, is_head, is_body, is_end}
 use Rattle.drf_text.specs.declared.fault.TextFault.{TextFault}
 use Rattle.drf_text.specs.declared.fault.TextFault.TheVariants.{Syntax, BadName, BadRole, BadNumber, TooLarge}

@@ -4,7 +4,7 @@ use Rattle.std.proofs.lemmas.Result.{err_from_is_err_and}
 use Rattle.drf_role.specs.Role.{IsRole}
 use Rattle.drf_text.specs.Steps.{role_in}
 use Rattle.drf_text.proofs.Exits.{role_refused}
-use Rattle.drf_text.proofs.NameLemmas.{role_passes, role_from_test}
+use Rattle.drf_role.specs.TestLaws.{role_decides, role_from_test}
 use Rattle.drf_text.proofs.values.read_role.Goals as goal
 
 pub returns-in_err-read-in-Some : goal.returns-in_err-read-in-Some
@@ -18,4 +18,4 @@ pub returns-in_ok-read-in-Some : goal.returns-in_ok-read-in-Some
 unfolding role_in
 returns-in_ok-read-in-Some c =
     let read = c.in_ok-read-in-Some.ensures in
-    rw (c.in-Some.is, role_passes c.in-Some.text.now (subst IsRole read.parts read.right), read.parts)
+    rw (c.in-Some.is, (role_decides c.in-Some.text.now).1 (subst IsRole read.parts read.right), read.parts)

@@ -1,18 +1,18 @@
--- The tests on labels and roles are exact.
+-- The tests on names, labels and roles are exact.
 use Rattle.std.proofs.Common.{◌≡◌, ◌≢◌, ℕ, ◌≤◌, Bool, true, eqb, leb, List, [], ◌∷◌, length, All, Decides, Some, codes, refl, sym, ap, subst, ◌∙◌, inl, inr, ⊎_elim, arith, get_or}
 use Rattle.std.specs.Prelude.{◌&&◌}
 use Rattle.std.specs.Int.{IsInRange, is_in_range}
 use Rattle.std.specs.List.{list_all, slice_get}
-use Rattle.std.proofs.lemmas.Bool.{leb-true, le-leb, eq-eqb, eqb-true, or_left, or_right, or_cases}
+use Rattle.std.proofs.lemmas.Bool.{leb-true, le-leb, eq-eqb, eqb-true}
 use Rattle.std.proofs.lemmas.Bool.Decides.{Decides-eqb, Decides-or, Decides-and, Decides-by_and, Decides-like, Decides-not}
 use Rattle.std.proofs.lemmas.List.Splits.{join_with_byte-slice_split, length-slice_split}
 use Rattle.std.proofs.lemmas.Option.{none-some, same_Some}
 use Rattle.drf_role.specs.Text.{Text, same_text}
 use Rattle.drf_role.specs.TextLaws.{same_from_test, test_from_same}
-use Rattle.drf_role.specs.Name.{IsLabelByte, IsLabel}
+use Rattle.drf_role.specs.Name.{IsNameByte, IsLabelByte, IsName, IsLabel}
 use Rattle.drf_role.specs.Parts.{parts_of, text_of}
 use Rattle.drf_role.specs.Role.{IsComponentByte, IsComponent, IsRolePath, IsRole, IsRoleText, default_role}
-use Rattle.drf_text.specs.NameTests.{is_label_byte, is_label, is_component_byte, is_component, is_role}
+use Rattle.drf_role.specs.Tests.{is_name_byte, is_label_byte, is_name, is_label, is_component_byte, is_component, is_role}
 
 decides_le : (a b : ℕ) → Decides (leb a b) (a ≤ b)
 decides_le a b = (leb-true a b, le-leb a b)
@@ -26,14 +26,20 @@ decides_same text word = (same_from_test text word, test_from_same text word)
 all_decide : {X : Type 0} (p : X → Bool) (P : X → Type 0) → ((x : X) → Decides (p x) (P x)) → (xs : List X) → Decides (list_all p xs) (All P xs)
 all_decide p P each xs = Decides-by_and p P (list_all p) each refl (λ _ _. refl) xs
 
--- ---- labels
+-- ---- names and labels
+
+name_byte : (b : ℕ) → Decides (is_name_byte b) (IsNameByte b)
+name_byte b =
+    Decides-or _ _ (Decides-or _ _ (Decides-or _ _ (decides_range 48 57 b) (decides_range 65 90 b)) (decides_range 97 122 b))
+    (Decides-or _ _ (Decides-eqb b 95) (Decides-or _ _ (Decides-eqb b 45) (Decides-eqb b 46)))
 
 label_byte : (b : ℕ) → Decides (is_label_byte b) (IsLabelByte b)
-label_byte b =
-    Decides-like _ (⊎_elim (λ h. inl (inl h)) (λ h. ⊎_elim (λ h. inl (inr (inl h))) (λ h. ⊎_elim (λ h. inl (inr (inr (inl h)))) (λ h. ⊎_elim (λ h. inl (inr (inr (inr h)))) inr h) h) h))
-    (⊎_elim (λ h. ⊎_elim inl (λ h. inr (⊎_elim inl (λ h. inr (⊎_elim inl (λ h. inr (inl h)) h)) h)) h) (λ h. inr (inr (inr (inr h)))))
-    (Decides-or _ _ (Decides-or _ _ (Decides-or _ _ (decides_range 48 57 b) (decides_range 65 90 b)) (decides_range 97 122 b))
-    (Decides-or _ _ (Decides-eqb b 95) (Decides-or _ _ (Decides-eqb b 45) (Decides-or _ _ (Decides-eqb b 46) (Decides-eqb b 47)))))
+label_byte b = Decides-or _ _ (name_byte b) (Decides-eqb b 47)
+
+pub name_decides : (text : Text) → Decides (is_name text) (IsName text)
+name_decides text =
+    Decides-like _ (λ h. record { not_empty = h.0; short = h.1.0; alphabet = h.1.1 }) (λ h. (h.not_empty, (h.short, h.alphabet)))
+    (Decides-and _ _ (decides_le 1 (length text)) (Decides-and _ _ (decides_le (length text) 64) (all_decide is_name_byte IsNameByte name_byte text)))
 
 pub label_decides : (text : Text) → Decides (is_label text) (IsLabel text)
 label_decides text =
@@ -97,13 +103,15 @@ path_decides text =
     (Decides-and _ _ (decides_le (length text) 64)
     (Decides-and _ _ (decides_le (length (parts_of text)) 8) (all_decide is_component IsComponent component_decides (parts_of text))))
 
--- a text whose parts are a role passes the test
-pub role_passes : (text : Text) → IsRole (parts_of text) → is_role text ≡ true
-role_passes text (inl star) = or_left _ _ (test_from_same text (codes "*") (sym (text_again text) ∙ ap text_of star))
-role_passes text (inr path) = or_right _ _ ((path_decides text).1 path)
+default_decides : (text : Text) → Decides (same_text text (codes "*")) (parts_of text ≡ default_role)
+default_decides text = (
+  λ h. ap parts_of (same_from_test text (codes "*") h),
+  λ e. test_from_same text (codes "*") (sym (text_again text) ∙ ap text_of e),
+)
 
--- what passes it is the text of a role
+-- what passes the test is cut into the parts of a role
+pub role_decides : (text : Text) → Decides (is_role text) (IsRole (parts_of text))
+role_decides text = Decides-or _ _ (default_decides text) (path_decides text)
+
 pub role_from_test : (text : Text) → is_role text ≡ true → IsRoleText text
-role_from_test text h =
-    ⊎_elim (λ star. (default_role, inl refl, sym (same_from_test text (codes "*") star)))
-    (λ path. (parts_of text, inr ((path_decides text).0 path), text_again text)) (or_cases _ _ h)
+role_from_test text h = (parts_of text, (role_decides text).0 h, text_again text)

@@ -21,6 +21,7 @@ use Rattle.drf_rows.specs.Client.{Client}
 use Rattle.drf_rows.specs.Holdings.{Holding, of_offer, of_task, holdings_of, held_where, is_on, parts_on, AreBundles}
 use Rattle.drf_rows.specs.HoldingsLaws.{parts_on-append, each_part, parts_on-with_offer, parts_on-other, each-with_offer}
 use Rattle.drf_rows.specs.Cycle.{free_of, new_offer, with_offer, counted, count_offer}
+use Rattle.drf_rows.specs.Step.{live_rows}
 use Rattle.drf_rows.specs.CycleLaws.{bundle-free_of, units-free_of}
 use Rattle.drf_rows.specs.Consistent.{are_distinct, are_distinct_roles, IsAgent, AreFrameworks, is_registered, IsHeld, IsCovered, offers_counted, are_rising, IsConsistent, IsConserved}
 use Rattle.drf_rows.specs.ListLaws.{cond_le, sum_by-map, sum_by-plus, sum_by_each_le, sum_by_none, count_by-any, list_any_at, list_any-both, none_has, none_has_at, only_none, count_once, each_at, each_from, each_from_both, each_map}
@@ -287,6 +288,11 @@ pub conserved-consistent : (rows : Rows) → IsConsistent rows → AllByRecursio
 conserved-consistent rows consistent =
     each_from_both IsAgent (IsCovered (holdings_of rows)) (IsConserved rows) rows.agents
     (conserved_one rows (bundles-consistent rows consistent)) consistent.agents.each consistent.covered
+
+-- and in the live rows, since what is held does not hang on filters
+pub conserved-live : (rows : Rows) → AllByRecursion (IsConserved rows) rows.agents → AllByRecursion (IsConserved (live_rows rows)) rows.agents
+unfolding free_of
+conserved-live rows all = all
 
 -- an offer takes no more than what is free
 covered_here : (rows : Rows) (offer : OfferRow) (agent : AgentRow)

@@ -1,18 +1,25 @@
-use Rattle.std.specs.Prelude.{◌≤◌, ◌^◌}
+use Rattle.std.specs.Prelude.{◌≡◌, ◌≤◌, ◌^◌}
 use Rattle.std.specs.List.{AllByRecursion}
-use Rattle.std.proofs.Common.{subst}
+use Rattle.std.proofs.Common.{subst, sym}
+use Rattle.std.proofs.lemmas.Result.{IfOk-weaker}
 use Rattle.drf_rows.specs.Consistent.{IsConserved}
-use Rattle.drf_rows.specs.ConsistentLaws.{conserved-consistent}
+use Rattle.drf_rows.specs.ConsistentLaws.{conserved-consistent, conserved-live}
+use Rattle.drf_rows.specs.Step.{live_rows}
+use Rattle.drf_rows.specs.declared.rows.Rows.{Rows}
 use Rattle.drf_core.specs.Machine.{Machine}
 use Rattle.drf_core.proofs.ApplyLemmas.{numbers_bounded}
 use Rattle.drf_core.proofs.allocator.Core.rows.Goals as goal
 
 pub returns-clause-conserved : goal.returns-clause-conserved
 returns-clause-conserved g c =
-    let AllConserved : Machine → Type 0 = λ m. AllByRecursion (IsConserved m.rows) m.rows.agents in
-    subst AllConserved c.self.view_is (conserved-consistent c.self.inside.tables.rows c.self.invariant.consistent)
+    let AllConserved : Rows → Type 0 = λ rows. AllByRecursion (IsConserved rows) rows.agents in
+    IfOk-weaker _ (λ rows. rows ≡ live_rows c.self.inside.tables.rows) AllConserved
+    (λ rows is. subst AllConserved (sym is) (conserved-live c.self.inside.tables.rows (conserved-consistent c.self.inside.tables.rows c.self.invariant.consistent)))
+    c.rows.ensures
 
 pub returns-clause-numbers : goal.returns-clause-numbers
 returns-clause-numbers g c =
-    let WithinBound : Machine → Type 0 = λ m. AllByRecursion (λ o. o.number ≤ 2 ^ 56) m.rows.offers in
-    subst WithinBound c.self.view_is (numbers_bounded _ c.self.inside.limits c.self.inside.tables.rows c.self.invariant)
+    let WithinBound : Rows → Type 0 = λ rows. AllByRecursion (λ o. o.number ≤ 2 ^ 56) rows.offers in
+    IfOk-weaker _ (λ rows. rows ≡ live_rows c.self.inside.tables.rows) WithinBound
+    (λ rows is. subst WithinBound (sym is) (numbers_bounded _ c.self.inside.limits c.self.inside.tables.rows c.self.invariant))
+    c.rows.ensures

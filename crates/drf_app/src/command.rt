@@ -3,7 +3,7 @@ ghost use Rattle.std.specs.Prelude.{◌≡◌, ◌≤◌, ◌^◌, ℕ, Result, 
 ghost use Rattle.std.specs.Io.KnownBytes.{IsAtEnd};
 ghost use Rattle.drf_rows.specs.LimitNumbers.{ceilings};
 ghost use Rattle.drf_journal.specs.Device.{IsNew};
-ghost use Rattle.drf_journal.specs.Ended.{HasRun, HasCause};
+ghost use Rattle.drf_journal.specs.Ended.{HasAnswered, HasCause};
 ghost use Rattle.drf_journal.specs.declared.fault.RunFault.{RunFault};
 ghost use Rattle.drf_app.specs.Status.{status_of};
 
@@ -22,7 +22,7 @@ pub fn command<R: Read, W: Write, E: Write>(
 ) -> u8
     requires input { IsNew input.old.calls input.old.failed }
     requires output { IsNew output.old.calls output.old.failed }
-    ensures run { (ended : Result ℕ RunFault) × HasRun ceilings false (R.remaining input.old.inner) (R.remaining input.new.inner)
+    ensures run { (ended : Result ℕ RunFault) × HasAnswered ceilings false (R.remaining input.old.inner) (R.remaining input.new.inner)
         (W.contents output.old.inner) (W.contents output.new.inner) ended
         × OnOk ended (IsAtEnd (R.remaining input.new.inner))
         × HasCause ended input.new.failed input.new.calls output.new.failed

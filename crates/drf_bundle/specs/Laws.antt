@@ -1,5 +1,5 @@
 -- The laws of amounts by label, as statements.
-use Rattle.std.specs.Prelude.{◌≡◌, ℕ, ◌+◌, ◌-◌, ◌≤◌, ◌↔◌, ◌||◌, List, [], if◌then◌else◌, IsTrue}
+use Rattle.std.specs.Prelude.{◌≡◌, ℕ, ◌+◌, ◌-◌, ◌≤◌, ◌↔◌, ◌||◌, List, if◌then◌else◌, IsTrue}
 use Rattle.drf_role.specs.Text.{same_text}
 use Rattle.drf_bundle.specs.Quantities.{HasNoZeros, amount_of, is_named, is_in_order, with_amount, plus, minus, covers, without_zeros}
 use Rattle.drf_bundle.specs.declared.quantities.Entry.{Entry}

@@ -22,7 +22,7 @@ use Rattle.drf_core.specs.Content.{content_of}
 use Rattle.drf_core.specs.Kept.{IsKept}
 use Rattle.drf_core.specs.Drafting.{IsDrafting, turn_at, turns_of}
 use Rattle.drf_core.proofs.ContentOrder.{length-turn_order}
-use Rattle.drf_core.proofs.DraftLemmas.{offers-with_offers}
+use Rattle.drf_tables.specs.DraftLaws.{offers-with_offers}
 
 -- what is left of a list from a place on begins with the element there
 record BeginsAt {A : Type 0} (xs : List A) (i : ℕ) : Type 0 where

@@ -24,7 +24,8 @@ use Rattle.drf_sorter.specs.Content.{Content, with_change, charged, has_client, 
 use Rattle.drf_tables.specs.Drafts.{with_offers}
 use Rattle.drf_core.specs.Content.{content_of}
 use Rattle.drf_core.specs.Drafting.{IsDrafting, IsRegisteredPath, IsFreeAt, IsTried}
-use Rattle.drf_core.proofs.DraftLemmas.{with_offers-push, agents-with_offers, next_offer-with_offers, is_registered-with_offers}
+use Rattle.drf_tables.specs.DraftLaws.{agents-with_offers, next-with_offers}
+use Rattle.drf_core.proofs.DraftLemmas.{with_offers-push, is_registered-with_offers}
 use Rattle.drf_core.proofs.ContentOffer.{content_of-with_offer}
 use Rattle.drf_core.proofs.ContentRegister.{has_client-registered}
 use Rattle.drf_core.proofs.ContentSound.{IsSound-content_of}
@@ -95,7 +96,7 @@ module _ (content : Content) (rows : Rows) (offers : List OfferRow) (drafting : 
 
   early_after : (with_offer (with_offers rows offers) (next_draft rows offers agent client bundle)).next_offer < 2 ^ 64
   unfolding with_offer
-  early_after = omega (arith, next_offer-with_offers rows offers, fits)
+  early_after = omega (arith, next-with_offers rows offers, fits)
 
   pub has_client-now : has_client content (path_of client) ≡ true
   has_client-now =
@@ -166,7 +167,7 @@ next_from rows offers place path free bundle row number name is_free registered 
     ap (λ (as' : List AgentRow). slice_get as' place) (sym (agents-with_offers rows offers)) ∙ is_free.at in
     let role : role_part path ≡ client.role = ap role_part registered.joined ∙ role_part-client_path client.role client.framework in
     let framework : framework_part path ≡ client.framework = ap framework_part registered.joined ∙ framework_part-client_path client.role client.framework in
-    let next : number ≡ (with_offers rows offers).next_offer = numbered ∙ sym (next_offer-with_offers rows offers) in
+    let next : number ≡ (with_offers rows offers).next_offer = numbered ∙ sym (next-with_offers rows offers) in
     record {
       agent = agent;
       at = at;

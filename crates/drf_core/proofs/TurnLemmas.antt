@@ -23,7 +23,8 @@ use Rattle.drf_tables.specs.Drafts.{with_offers, frees_of, frees_after}
 use Rattle.drf_tables.specs.declared.tables.Left.{Left}
 use Rattle.drf_core.specs.Drafting.{IsDrafting, IsFreeAt, HasLeft, is_open_at, turn_at}
 use Rattle.drf_sorter.specs.Content.{Content, IsSound, IsOrderOf}
-use Rattle.drf_core.proofs.DraftLemmas.{agents-with_offers, is_registered-with_offers, next_offer-with_offers}
+use Rattle.drf_tables.specs.DraftLaws.{agents-with_offers, next-with_offers}
+use Rattle.drf_core.proofs.DraftLemmas.{is_registered-with_offers}
 use Rattle.drf_core.proofs.ContentSound.{IsSound-content_of}
 use Rattle.drf_core.proofs.ContentOrder.{IsOrderOf-turn_order, turn_order-registered}
 
@@ -239,7 +240,7 @@ module _ (content : Content) (rows : Rows) (offers : List OfferRow) (drafting : 
       subst IsSound (sym drafting.sorted)
       (IsSound-content_of (with_offers rows offers) drafting.consistent
       (rw (agents-with_offers rows offers) drafting.few_agents)
-      (let early : rows.next_offer ≤ 2 ^ 57 = drafting.early in omega (arith, next_offer-with_offers rows offers)))
+      (let early : rows.next_offer ≤ 2 ^ 57 = drafting.early in omega (arith, next-with_offers rows offers)))
 
   pub ordered_from : (paths : List Path) → IsOrderOf content paths → IsOrdered rows offers paths
   ordered_from paths order =

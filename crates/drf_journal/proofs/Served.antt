@@ -15,7 +15,7 @@ use Rattle.drf_journal.specs.Device.{AppendsFrontOf}
 use Rattle.drf_journal.specs.Lines.{ended_lines_of, open_line_of, lines_of}
 use Rattle.drf_journal.specs.Output.{output_of}
 use Rattle.drf_journal.specs.State.{State, begun, IsBegun, machine_after, machine_after_lines, after_line, after_piece, at_end, AnswersFrontOf}
-use Rattle.drf_journal.specs.Ended.{HaveEnded, HasRun, HasTaken, HasServed, HasStopped, HasCause}
+use Rattle.drf_journal.specs.Ended.{HaveEnded, HasAnswered, HasTaken, HasServed, HasStopped, HasCause}
 use Rattle.drf_journal.proofs.Cuts.{within-nil, ended-within, goes_on}
 use Rattle.drf_journal.proofs.Kept.{answer-kept, meaning-kept}
 use Rattle.drf_journal.proofs.Pieces.{answers_from, after_lines, after_piece-lines, piece-append, piece-nil, piece-sent, end-none, end-line, end-sent, end-counted, end-machine}
@@ -500,7 +500,7 @@ module _ (old : State) (begins : IsBegun old) where
 
 -- no session was opened
 pub never-run : (limits : LimitNumbers) (echo : Bool) (unread written : Option (List ℕ))
-    → HasRun limits echo unread unread written written (Err Memory)
+    → HasAnswered limits echo unread unread written written (Err Memory)
 never-run limits echo unread written = (never-served (begun limits echo) refl unread written).run
 
 -- ---- within a piece

@@ -30,7 +30,7 @@ HaveEnded number read unread_after = (number ≤ length (ended_lines_of read)) �
 
 -- a run from the rows of an opening took bytes from a reader and gave bytes to a writer. Of the lines that had ended
 -- before the last 65,536 bytes the whole text was written, however the run ended.
-pub record HasRun (limits : LimitNumbers) (echo : Bool)
+pub record HasAnswered (limits : LimitNumbers) (echo : Bool)
     (unread_before unread_after written_before written_after : Option (List ℕ))
     (result : Result ℕ RunFault) : Type 0 where
   pub read : List ℕ
@@ -63,7 +63,7 @@ pub record HasTaken (old new : Machine) (answered : ℕ) (read : List ℕ) (unre
 pub record HasServed (old : State)
     (unread_before unread_after written_before written_after : Option (List ℕ))
     (new : State) (result : Result ℕ RunFault) : Type 0 where
-  pub run : HasRun old.machine.limits old.echo unread_before unread_after written_before written_after result
+  pub run : HasAnswered old.machine.limits old.echo unread_before unread_after written_before written_after result
   pub counted : new.lines ≡ run.lines
   pub taken : HasTaken old.machine new.machine run.lines run.read unread_after
 

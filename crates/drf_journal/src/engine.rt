@@ -2,7 +2,7 @@
 ghost use Rattle.std.specs.Prelude.{◌≡◌, ◌+◌, ◌<◌, ◌≤◌, ◌^◌, [], length, false, OnOk, IfErr};
 ghost use Rattle.std.specs.Io.KnownBytes.{Appends, IsAtEnd};
 ghost use Rattle.drf_journal.specs.Device.{IsNew};
-ghost use Rattle.drf_journal.specs.Ended.{HasRun, HasServed, HasStopped, HasCause};
+ghost use Rattle.drf_journal.specs.Ended.{HasAnswered, HasServed, HasStopped, HasCause};
 ghost use Rattle.drf_journal.specs.State.{IsBegun, after_piece};
 
 use crate::device::Device;
@@ -83,7 +83,7 @@ pub fn run<R: Read, W: Write>(
 ) -> Result<u64, RunFault>
     requires reader { IsNew reader.old.calls reader.old.failed }
     requires writer { IsNew writer.old.calls writer.old.failed }
-    ensures run { HasRun limits echo (R.remaining reader.old.inner) (R.remaining reader.new.inner)
+    ensures run { HasAnswered limits echo (R.remaining reader.old.inner) (R.remaining reader.new.inner)
         (W.contents writer.old.inner) (W.contents writer.new.inner) result }
     ensures read { OnOk result (IsAtEnd (R.remaining reader.new.inner)) }
     ensures cause { HasCause result reader.new.failed reader.new.calls writer.new.failed }

@@ -10,7 +10,8 @@ use Rattle.drf_rows.specs.Share.{Standing, stands_before, is_serving_order}
 use Rattle.drf_rows.specs.Held.{weight_of}
 use Rattle.drf_rows.specs.ServingOrder.{stands_before-back, same_path-before}
 use Rattle.drf_sorter.specs.Content.{Ranked, Content, IsOrderOf, active_paths, standing_in, clients_under}
-use Rattle.drf_sorter.proofs.SumLemmas.{part_of, sum_by-filter}
+use Rattle.drf_rows.specs.ListLaws.{sum_by-filter}
+use Rattle.drf_sorter.proofs.SumLemmas.{part_of}
 
 -- ---- a serving order is known by its members
 
@@ -93,9 +94,9 @@ module _ (one other : Content) (moved : IsPermutation one.clients other.clients)
       → sum_by f (clients_under one node) ≡ sum_by f (clients_under other node)
   same_sum f node =
       let under : Ranked → Bool = λ c. begins_with c.path node in
-      sum_by-filter under f one.clients
+      sum_by-filter f under one.clients
       ∙ sym (sum_by-IsPermutation (part_of under f) one.clients other.clients moved)
-      ∙ sym (sum_by-filter under f other.clients)
+      ∙ sym (sum_by-filter f under other.clients)
 
   same_standing : one.total ≡ other.total → one.weights ≡ other.weights → standing_in one ≡ standing_in other
   unfolding standing_in

@@ -1,32 +1,13 @@
--- Sums over the elements that pass a test, and over what a list is mapped to.
-use Rattle.std.proofs.Common.{◌≡◌, ◌<◌, ◌≤◌, ◌+◌, ℕ, Bool, true, false, cond, List, [], ◌∷◌, map, length, take, get_or, refl, sym, ap, ◌∙◌, inl, inr, arith}
+-- Sums over the elements that pass a test.
+use Rattle.std.proofs.Common.{◌≡◌, ◌<◌, ◌≤◌, ◌+◌, ℕ, Bool, true, false, cond, List, length, take, get_or, sym, ap, ◌∙◌, arith}
 use Rattle.std.specs.List.{filter, sum_by}
-use Rattle.std.proofs.lemmas.Bool.{cases_Bool}
 use Rattle.std.proofs.lemmas.List.{take_all}
-use Rattle.std.proofs.lemmas.List.Sums.{sum_by-cons, sum_by_more, sum_by-take-le, sum_by-le-sum_by}
+use Rattle.std.proofs.lemmas.List.Sums.{sum_by_more, sum_by-take-le, sum_by-le-sum_by}
+use Rattle.drf_rows.specs.ListLaws.{sum_by-filter, cond_le}
 
 -- f at the elements that pass, and 0 at the others
 abbrev pub part_of : {X : Type 0} → (X → Bool) → (X → ℕ) → X → ℕ
 part_of p f x = cond (p x) (f x) 0
-
-pub sum_by-map : {X Y : Type 0} (f : Y → ℕ) (g : X → Y) (xs : List X) → sum_by f (map g xs) ≡ sum_by (λ x. f (g x)) xs
-sum_by-map f g [] = refl
-sum_by-map f g (x ∷ xs) =
-    sum_by-cons f (g x) (map g xs) ∙ ap (λ n. f (g x) + n) (sum_by-map f g xs) ∙ sym (sum_by-cons (λ x. f (g x)) x xs)
-
-pub sum_by-filter : {X : Type 0} (p : X → Bool) (f : X → ℕ) (xs : List X)
-    → sum_by f (filter p xs) ≡ sum_by (part_of p f) xs
-sum_by-filter p f [] = refl
-sum_by-filter p f (x ∷ xs) = elim (cases_Bool (p x)) [
-  | inl passes ↦
-      rw (sum_by-cons (part_of p f) x xs, passes, sum_by-cons f x (filter p xs))
-      (ap (λ n. f x + n) (sum_by-filter p f xs))
-  | inr fails ↦ rw (sum_by-cons (part_of p f) x xs, fails) (omega (arith, sum_by-filter p f xs))
-]
-
-part_below : (b : Bool) (n : ℕ) → cond b n 0 ≤ n
-part_below true n = omega arith
-part_below false n = omega arith
 
 module _ {X : Type 0} (p : X → Bool) (f : X → ℕ) (xs : List X) (i : ℕ) (x : X) (n : ℕ) (inside : i < length xs)
     (is : x ≡ get_or xs i x) (so_far : n ≡ sum_by (part_of p f) (take i xs)) where
@@ -44,14 +25,14 @@ module _ {X : Type 0} (p : X → Bool) (f : X → ℕ) (xs : List X) (i : ℕ) (
 
   pub sum_part_fits : p x ≡ true → n + f x ≤ sum_by f (filter p xs)
   sum_part_fits passes =
-      omega (arith, sum_part_more passes, sum_by-take-le (part_of p f) xs (i + 1), sum_by-filter p f xs)
+      omega (arith, sum_part_more passes, sum_by-take-le (part_of p f) xs (i + 1), sum_by-filter f p xs)
 
 pub sum_part_all : {X : Type 0} (p : X → Bool) (f : X → ℕ) (xs : List X) (i n : ℕ) → length xs ≤ i
     → n ≡ sum_by (part_of p f) (take i xs) → n ≡ sum_by f (filter p xs)
 sum_part_all p f xs i n end so_far =
-    so_far ∙ ap (λ ys. sum_by (part_of p f) ys) (take_all i xs end) ∙ sym (sum_by-filter p f xs)
+    so_far ∙ ap (λ ys. sum_by (part_of p f) ys) (take_all i xs end) ∙ sym (sum_by-filter f p xs)
 
 -- those that pass have no more than all have
 pub sum_part_le : {X : Type 0} (p : X → Bool) (f : X → ℕ) (xs : List X) → sum_by f (filter p xs) ≤ sum_by f xs
 sum_part_le p f xs =
-    omega (arith, sum_by-filter p f xs, sum_by-le-sum_by (part_of p f) f xs (λ y. part_below (p y) (f y)))
+    omega (arith, sum_by-filter f p xs, sum_by-le-sum_by (part_of p f) f xs (λ y. cond_le (p y) (f y)))

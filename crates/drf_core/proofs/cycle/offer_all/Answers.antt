@@ -1,6 +1,6 @@
 use Rattle.std.proofs.Common.{◌≤◌, ◌^◌, map, ap, ◌∙◌, sym, arith}
 use Rattle.drf_rows.specs.Step.{line_of}
-use Rattle.drf_core.proofs.DraftLemmas.{next_offer-with_offers}
+use Rattle.drf_tables.specs.DraftLaws.{next-with_offers}
 use Rattle.drf_core.proofs.CycleLemmas.{new_offers-drafts}
 use Rattle.drf_core.proofs.cycle.offer_all.Goals as goal
 
@@ -8,7 +8,7 @@ pub commit-requires-clause-fits : goal.commit-requires-clause-fits
 commit-requires-clause-fits g c =
     let offers = c.turns.new.drafts.offers in
     let early : c.args.tables.now.rows.next_offer ≤ 2 ^ 57 = c.requires.drafting.early in
-    omega (arith, next_offer-with_offers c.args.tables.now.rows offers.items, offers.ok.0, offers.ok.1, offers.small)
+    omega (arith, next-with_offers c.args.tables.now.rows offers.items, offers.ok.0, offers.ok.1, offers.small)
 
 pub returns-clause-lines : goal.returns-clause-lines
 returns-clause-lines g c =

@@ -10,7 +10,7 @@ use Rattle.drf_rows.specs.declared.rows.Rows.{Rows}
 use Rattle.drf_sorter.specs.Content.{Content}
 use Rattle.drf_tables.specs.Drafts.{with_offers}
 use Rattle.drf_core.specs.Drafting.{IsDrafting}
-use Rattle.drf_core.proofs.DraftLemmas.{agents-with_offers}
+use Rattle.drf_tables.specs.DraftLaws.{agents-with_offers}
 use Rattle.drf_core.proofs.TurnLemmas.{turn_at-closed, turn_at-open, is_open_at-before, HasLeft-closed, HasLeft-turn, free-before, tried-step, tried_all, client_at, element_at, IsOrdered, sound_now, ordered_from}
 use Rattle.drf_core.proofs.cycle.turn.Given as given
 use Rattle.drf_core.proofs.cycle.turn.Goals.{After-deref-client-items}

@@ -33,6 +33,20 @@ def cycles(count):
     return [line("cycle", at=i) for i in range(count)]
 
 
+def wide(count):
+    """The total of an agent with so many resources of all kinds, some of them reserved."""
+    kinds = ("r{0}:{0}.5", "r{0}(eng):{0}", "p{0}:[{0}-99,200-299]", "d{0}(eng/web):{{a{0},b}}")
+    return ";".join(["cpus:4"] + [kinds[i % 4].format(i) for i in range(1, count)])
+
+
+def wide_agents(count):
+    return [line("add_agent", agent=f"w{i}", total=wide(4 + i % 37)) for i in range(count)]
+
+
+def intervals(count):
+    return "cpus:1;ports:[" + ",".join(f"{3 * i}-{3 * i + 1}" for i in range(count)) + "]"
+
+
 def each_followed(lines, by):
     return list(itertools.chain.from_iterable(zip(lines, by)))
 
@@ -41,10 +55,14 @@ INPUTS = {
     "agents": agents(AGENTS),
     "frameworks": frameworks(FRAMEWORKS),
     "refused agents": agents(1) * (400_000 // SHORTER),
+    "refused agents of 4 to 40 resources": wide_agents(37) * (100_000 // 37 // SHORTER),
+    "refused agents of 4,000 intervals": [line("add_agent", agent="n0", total=intervals(4000))] * (400 // SHORTER),
+    "one cycle, 32 offers of 4 to 40 resources": [line("add_framework", framework="f0", roles=["eng/web"])] + wide_agents(32) + cycles(1),
     "one cycle, 4,096 offers, 16 frameworks": frameworks(16) + agents(AGENTS) + cycles(1),
     "one cycle, 256 offers, 1,024 frameworks": frameworks(FRAMEWORKS) + agents(AGENTS // 16) + cycles(1),
     "a cycle for each agent, 16 frameworks": frameworks(16) + each_followed(agents(AGENTS), cycles(AGENTS)),
     "a cycle for each agent, 1 framework": frameworks(1) + each_followed(agents(AGENTS), cycles(AGENTS)),
+    "a report, 1,024 frameworks in 10 roles": frameworks(FRAMEWORKS) + agents(AGENTS // 16) + [line("report")],
     "empty cycles, 1 agent": frameworks(1) + agents(1) + cycles(400_000 // SHORTER),
     "empty cycles, 4,096 agents": frameworks(16) + agents(AGENTS) + cycles(40_000 // SHORTER),
     "lines of 1 KB": [it.ljust(1023) for it in cycles(100_000 // SHORTER)],
@@ -53,7 +71,7 @@ INPUTS = {
 
 
 def measure(lines):
-    """The seconds and the megabytes that the program took for the lines."""
+    """The seconds that the program took for the lines, and its megabytes at most."""
     with tempfile.TemporaryDirectory() as room:
         with open(f"{room}/input", "w") as given:
             given.write("".join(it + "\n" for it in lines))
@@ -67,10 +85,11 @@ def measure(lines):
 def main():
     # builds the program where it must
     subprocess.run([f"{ROOT}/drf", "run"], stdin=subprocess.DEVNULL, check=True)
-    print(f"{'input':42}{'lines':>9}{'seconds':>9}{'lines/s':>10}{'peak MB':>9}")
+    print(f"{'input':42}{'lines':>9}{'seconds':>9}{'lines/s':>10}{'MB/s':>8}{'peak MB':>9}")
     for name, lines in INPUTS.items():
         seconds, peak = measure(lines)
-        print(f"{name:42}{len(lines):9}{seconds:9.2f}{len(lines) / seconds:10.0f}{peak:9.1f}", flush=True)
+        speed = sum(len(it) + 1 for it in lines) / seconds / 1_000_000
+        print(f"{name:42}{len(lines):9}{seconds:9.2f}{len(lines) / seconds:10.0f}{speed:8.1f}{peak:9.1f}", flush=True)
     print(f"cores: {os.cpu_count()}")
 
 

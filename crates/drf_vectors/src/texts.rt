@@ -68,6 +68,9 @@ pub fn found(alloc: Global, text: &str) -> Result<String> {
     let bundle = read_bundle(alloc, text)?;
     let value = bundle.get(&label, &role).context("nothing there")?;
     let one = Bundle::one(alloc, &label, &role, value.copy()?)?;
-    let (shown, sums) = (show(alloc, &one)?, write_quantities(alloc, bundle.quantities())?);
+    let (shown, sums) = (
+        show(alloc, &one)?,
+        write_quantities(alloc, bundle.quantities())?,
+    );
     Ok(format!(in alloc; "{shown}; sums {sums}")?)
 }

@@ -2,11 +2,16 @@
 use Rattle.std.specs.Prelude.{◌≡◌, ℕ, ◌+◌, Bool, true, false, ◌&&◌, List, [], ◌∷◌, ◌++◌, map, length, Some, None, IsTrue, nat_lt}
 use Rattle.std.specs.List.{list_all}
 use Rattle.std.specs.List.Sorted.{IsPermutation}
+use Rattle.std.specs.Ordering.{is_lt}
+use Rattle.drf_role.specs.Text.{Text}
 use Rattle.drf_role.specs.Path.{Path}
+use Rattle.drf_bundle.specs.Quantities.{amount_of}
 use Rattle.drf_bundle.specs.Bundle.{IsBundle}
 use Rattle.drf_rows.specs.LimitNumbers.{LimitNumbers}
 use Rattle.drf_rows.specs.Client.{Client, path_of}
 use Rattle.drf_rows.specs.Holdings.{holdings_of, AreBundles}
+use Rattle.drf_rows.specs.Held.{held_by}
+use Rattle.drf_rows.specs.Report.{path_cmp, nodes_of, node_line}
 use Rattle.drf_rows.specs.Share.{Standing, stands_before, is_serving_order}
 use Rattle.drf_rows.specs.Cycle.{free_of, is_allocatable, grant, new_offer, with_offer, all_tried, serving_order}
 use Rattle.drf_rows.specs.Refusal.{number_of}
@@ -102,3 +107,19 @@ LiveRowsRun =
     (limits : LimitNumbers) (rows : Rows) (events : List Event)
     → (replies_to limits (live_rows rows) events ≡ replies_to limits rows events)
     × (live_rows (rows_after_all limits (live_rows rows) events) ≡ live_rows (rows_after_all limits rows events))
+
+-- of each scalar a node's line tells what its clients hold
+abbrev pub HeldIsReported : Type 0
+HeldIsReported =
+    (rows : Rows) (node : Path) (label : Text)
+    → AreBundles (holdings_of rows)
+    → amount_of (node_line rows node).held label ≡ held_by rows node label
+
+-- each path stands before all later ones, and so but once
+abbrev pub are_in_order : List Path → Bool
+are_in_order [] = true
+are_in_order (path ∷ paths) = list_all (λ p. is_lt (path_cmp path p)) paths && are_in_order paths
+
+-- the nodes are reported in order of path
+abbrev pub NodesRise : Type 0
+NodesRise = (rows : Rows) → are_in_order (nodes_of rows) ≡ true

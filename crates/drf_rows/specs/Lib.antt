@@ -27,3 +27,4 @@ pub mod OrderExamples
 pub mod WeightExamples
 pub mod ReportExamples
 pub mod Laws
+pub mod ReportLaws

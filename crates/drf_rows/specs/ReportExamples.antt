@@ -1,8 +1,7 @@
 -- Some rows, and what is reported of them.
-use Rattle.std.specs.Prelude.{ℕ, true, List, [], ◌∷◌, ◌++◌, map, codes}
+use Rattle.std.specs.Prelude.{ℕ, true, List, [], ◌∷◌, ◌++◌, codes}
 use Rattle.drf_bundle.specs.declared.quantities.Entry.{Entry}
 use Rattle.drf_bundle.specs.declared.resource.Resource.{Resource}
-use Rattle.drf_rows.specs.Report.{report_of}
 use Rattle.drf_rows.specs.Examples.{cpus, cpus_for, mem, offer, one_cycle}
 use Rattle.drf_rows.specs.OrderExamples.{agent_with, framework_in, holding, rows_with, role_a, role_b, eng, eng_web, ops}
 use Rattle.drf_rows.specs.declared.event.Event.{Event}

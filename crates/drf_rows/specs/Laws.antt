@@ -1,16 +1,16 @@
 -- What is proved of the definitions.
-use Rattle.std.specs.Prelude.{◌≡◌, ℕ, ◌+◌, Bool, true, false, ◌&&◌, List, [], ◌∷◌, ◌++◌, map, length, Some, None, IsTrue, nat_lt}
-use Rattle.std.specs.List.{list_all}
+use Rattle.std.specs.Prelude.{◌≡◌, ℕ, ◌+◌, ◌≤◌, Bool, true, false, ◌&&◌, List, [], ◌∷◌, ◌++◌, map, length, Some, None, IsTrue, nat_lt}
+use Rattle.std.specs.List.{list_all, list_any}
 use Rattle.std.specs.List.Sorted.{IsPermutation}
 use Rattle.std.specs.Ordering.{is_lt}
 use Rattle.drf_role.specs.Text.{Text}
-use Rattle.drf_role.specs.Path.{Path}
+use Rattle.drf_role.specs.Path.{Path, same_path, begins_with}
 use Rattle.drf_bundle.specs.Quantities.{amount_of}
 use Rattle.drf_bundle.specs.Bundle.{IsBundle}
 use Rattle.drf_rows.specs.LimitNumbers.{LimitNumbers}
 use Rattle.drf_rows.specs.Client.{Client, path_of}
 use Rattle.drf_rows.specs.Holdings.{holdings_of, AreBundles}
-use Rattle.drf_rows.specs.Held.{held_by}
+use Rattle.drf_rows.specs.Held.{held_by, clients_of}
 use Rattle.drf_rows.specs.Report.{path_cmp, nodes_of, node_line}
 use Rattle.drf_rows.specs.Share.{Standing, stands_before, is_serving_order}
 use Rattle.drf_rows.specs.Cycle.{free_of, is_allocatable, grant, new_offer, with_offer, all_tried, serving_order}
@@ -123,3 +123,10 @@ are_in_order (path ∷ paths) = list_all (λ p. is_lt (path_cmp path p)) paths &
 -- the nodes are reported in order of path
 abbrev pub NodesRise : Type 0
 NodesRise = (rows : Rows) → are_in_order (nodes_of rows) ≡ true
+
+-- a path of one part at least is reported exactly where a registered client's path begins with it
+abbrev pub NodesBeginPaths : Type 0
+NodesBeginPaths =
+    (rows : Rows) (node : Path)
+    → 1 ≤ length node
+    → list_any (same_path node) (nodes_of rows) ≡ list_any (λ c. begins_with (path_of c) node) (clients_of rows)

@@ -1,25 +1,30 @@
 -- What is reported of a node is what its clients hold, and the nodes are those of the registered clients, in order.
-use Rattle.std.specs.Prelude.{◌≡◌, ◌+◌, Bool, true, List, [], ◌∷◌, fold, filter, flat_map, sum_by, IsTrue}
-use Rattle.std.specs.List.{list_all}
-use Rattle.std.specs.Ordering.{is_lt, match_ordering, ordering_reverse}
-use Rattle.std.specs.Cmp.Lexicographic.{lists_total, nat_list_cmp_total}
+use Rattle.std.specs.Prelude.{◌≡◌, ℕ, zero, suc, ◌+◌, ◌≤◌, ◌⊎◌, Bool, true, false, ◌&&◌, ◌||◌, List, [], ◌∷◌, ◌++◌, length, take, drop, fold, filter, flat_map, sum_by, IsTrue}
+use Rattle.std.specs.List.{AllByRecursion, list_all, list_any}
+use Rattle.std.specs.Ordering.{nat_cmp, is_lt, is_eq, match_ordering, ordering_reverse}
+use Rattle.std.specs.Cmp.Lexicographic.{slice_cmp, lists_total, lists_ties, texts_ties, bytes_decides, nat_list_cmp_total}
 use Rattle.std.specs.declared.cmp.Ordering.{Ordering}
 use Rattle.std.specs.declared.cmp.Ordering.TheVariants.{Less, Equal, Greater}
-use Rattle.std.proofs.Common.{refl, ap, ◌∙◌, arith}
-use Rattle.std.proofs.lemmas.Bool.{and_from, and_parts}
+use Rattle.std.proofs.Common.{refl, sym, ap, ◌∙◌, inl, inr, ⊎_elim, arith, length-append}
+use Rattle.std.proofs.Math.Seq.{take-append_seam}
+use Rattle.std.proofs.lemmas.Bool.{cases_Bool, cases_eq, and_from, and_parts, or_left, or_right, false_from_ne_true, false≢true}
+use Rattle.std.proofs.lemmas.List.{take-append-drop}
+use Rattle.std.proofs.lemmas.List.Folds.{list_any-append}
 use Rattle.std.proofs.lemmas.List.Sums.{sum_by-cons}
+use Rattle.std.proofs.lemmas.Slice.Eq.{starts_is}
 use Rattle.drf_role.specs.Text.{Text}
-use Rattle.drf_role.specs.Path.{Path}
+use Rattle.drf_role.specs.Path.{Path, same_path, begins_with}
+use Rattle.drf_role.specs.PathLaws.{same_path-true, same_path_itself}
 use Rattle.drf_bundle.specs.Quantities.{plus, amount_of, is_in_order}
 use Rattle.drf_bundle.specs.QuantitiesLaws.{amount-plus, in_order-plus, amount-without_zeros}
 use Rattle.drf_bundle.specs.Bundle.{IsBundle, quantities_of}
 use Rattle.drf_bundle.specs.UnitProofs.{quantities_no_zeros}
 use Rattle.drf_bundle.specs.declared.quantities.Entry.{Entry}
+use Rattle.drf_rows.specs.Client.{Client, path_of}
 use Rattle.drf_rows.specs.Holdings.{Holding, holdings_of, amount_in, is_under, AreBundles}
 use Rattle.drf_rows.specs.Held.{clients_of}
-use Rattle.drf_rows.specs.Client.{path_of}
-use Rattle.drf_rows.specs.Report.{path_cmp, with_node, nodes_on}
-use Rattle.drf_rows.specs.Laws.{HeldIsReported, NodesRise, are_in_order}
+use Rattle.drf_rows.specs.Report.{path_cmp, with_node, nodes_to, nodes_on}
+use Rattle.drf_rows.specs.Laws.{HeldIsReported, NodesRise, NodesBeginPaths, are_in_order}
 use Rattle.drf_rows.specs.ListLaws.{each_filter}
 
 -- ---- what a node holds
@@ -103,3 +108,106 @@ in_order-put ns (m ∷ ms) ordered = in_order-put (with_node ns m) ms (in_order-
 
 pub nodes_rise : NodesRise
 nodes_rise rows = in_order-put [] (flat_map (λ client. nodes_on (path_of client)) (clients_of rows)) refl
+
+-- ---- which nodes there are
+
+or_twice : (a b : Bool) → (a || b) ≡ (a || (a || b))
+or_twice true b = refl
+or_twice false b = refl
+
+or_moved : (a b d : Bool) → (a || (b || d)) ≡ ((b || a) || d)
+or_moved true true d = refl
+or_moved true false d = refl
+or_moved false true d = refl
+or_moved false false d = refl
+
+or_swapped : (a b d : Bool) → (a || (b || d)) ≡ (b || (a || d))
+or_swapped true true d = refl
+or_swapped true false d = refl
+or_swapped false b d = refl
+
+tied : (a b : Path) → path_cmp a b ≡ Equal → a ≡ b
+tied a b equal = same_path-true a b (lists_ties (slice_cmp nat_cmp) texts_ties a b ∙ ap is_eq equal)
+
+any-with : (x : Path) (ns : List Path) (n : Path)
+    → list_any (same_path x) (with_node ns n) ≡ (same_path x n || list_any (same_path x) ns)
+any-with x [] n = refl
+any-with x (m ∷ ms) n = by (any-with x ms n) (path_cmp n m) refl
+  where
+    by : list_any (same_path x) (with_node ms n) ≡ (same_path x n || list_any (same_path x) ms)
+        → (o : Ordering) → path_cmp n m ≡ o
+        → list_any (same_path x) (match_ordering o (n ∷ m ∷ ms) (m ∷ ms) (m ∷ with_node ms n))
+        ≡ (same_path x n || (same_path x m || list_any (same_path x) ms))
+    by later Less is = refl
+    by later Equal is =
+        or_twice (same_path x m) (list_any (same_path x) ms)
+        ∙ ap (λ (p : Path). same_path x p || (same_path x m || list_any (same_path x) ms)) (sym (tied n m is))
+    by later Greater is =
+        ap (λ (b : Bool). same_path x m || b) later ∙ or_swapped (same_path x m) (same_path x n) (list_any (same_path x) ms)
+
+any-put : (x : Path) (ns ms : List Path)
+    → list_any (same_path x) (fold with_node ns ms) ≡ (list_any (same_path x) ms || list_any (same_path x) ns)
+any-put x ns [] = refl
+any-put x ns (m ∷ ms) =
+    any-put x (with_node ns m) ms
+    ∙ ap (λ (b : Bool). list_any (same_path x) ms || b) (any-with x ns m)
+    ∙ or_moved (list_any (same_path x) ms) (same_path x m) (list_any (same_path x) ns)
+
+begins_take : (path : Path) (n : ℕ) → begins_with path (take n path) ≡ true
+begins_take path n =
+    (starts_is bytes_decides path (take n path) (begins_with path (take n path)) refl).1 (drop n path) (sym (take-append-drop n path))
+
+any-later : (x path : Path) (n : ℕ)
+    → list_any (same_path x) (nodes_to path (suc n)) ≡ (list_any (same_path x) (nodes_to path n) || (same_path x (take (suc n) path) || false))
+any-later x path n = list_any-append (same_path x) (nodes_to path n) (take (suc n) path ∷ [])
+
+none_to : (x path : Path) (n : ℕ) → begins_with path x ≡ false → list_any (same_path x) (nodes_to path n) ≡ false
+none_to x path zero other = refl
+none_to x path (suc n) other =
+    let apart : same_path x (take (suc n) path) ≡ false =
+    false_from_ne_true (same_path x (take (suc n) path)) (λ same.
+    absurd (false≢true (sym other ∙ ap (begins_with path) (same_path-true x (take (suc n) path) same) ∙ begins_take path (suc n)))) in
+    any-later x path n ∙ (λ i. none_to x path n other i || (apart i || false))
+
+some_to : (path : Path) (n m : ℕ) → 1 ≤ m → m ≤ n → list_any (same_path (take m path)) (nodes_to path n) ≡ true
+some_to path zero m some within = absurd (omega arith)
+some_to path (suc n) m some within =
+    any-later (take m path) path n
+    ∙ ⊎_elim
+    (λ (last : m ≡ suc n).
+    or_right (list_any (same_path (take m path)) (nodes_to path n)) (same_path (take m path) (take (suc n) path) || false)
+    (or_left (same_path (take m path) (take (suc n) path)) false
+    (ap (λ (k : ℕ). same_path (take m path) (take k path)) (sym last) ∙ same_path_itself (take m path))))
+    (λ (other : m ≡ suc n → ⊥).
+    or_left (list_any (same_path (take m path)) (nodes_to path n)) (same_path (take m path) (take (suc n) path) || false)
+    (some_to path n m some (omega arith)))
+    (cases_eq m (suc n))
+
+any-on_path : (x path : Path) → 1 ≤ length x → list_any (same_path x) (nodes_on path) ≡ begins_with path x
+any-on_path x path some = elim (cases_Bool (begins_with path x)) [
+  | inl begins ↦
+      let whole = (starts_is bytes_decides path x (begins_with path x) refl).0 begins in
+      let front : take (length x) path ≡ x =
+      ap (take (length x)) whole ∙ take-append_seam x (drop (length x) path) in
+      let short : length x ≤ length path = omega (arith, ap length whole, length-append x (drop (length x) path)) in
+      ap (λ (p : Path). list_any (same_path p) (nodes_on path)) (sym front)
+      ∙ some_to path (length path) (length x) some short ∙ sym begins
+  | inr other ↦ none_to x path (length path) other ∙ sym other
+]
+
+any-clients : (x : Path) (cs : List Client) → 1 ≤ length x
+    → list_any (same_path x) (flat_map (λ client. nodes_on (path_of client)) cs) ≡ list_any (λ c. begins_with (path_of c) x) cs
+any-clients x [] some = refl
+any-clients x (c ∷ cs) some =
+    list_any-append (same_path x) (nodes_on (path_of c)) (flat_map (λ client. nodes_on (path_of client)) cs)
+    ∙ (λ i. any-on_path x (path_of c) some i || any-clients x cs some i)
+
+or_none : (b : Bool) → (b || false) ≡ b
+or_none true = refl
+or_none false = refl
+
+pub nodes_begin_paths : NodesBeginPaths
+nodes_begin_paths rows node some =
+    any-put node [] (flat_map (λ client. nodes_on (path_of client)) (clients_of rows))
+    ∙ or_none (list_any (same_path node) (flat_map (λ client. nodes_on (path_of client)) (clients_of rows)))
+    ∙ any-clients node (clients_of rows) some

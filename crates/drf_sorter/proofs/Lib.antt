@@ -10,3 +10,4 @@ pub mod SiblingLemmas
 pub mod WeighingLemmas
 pub mod ArrivalLemmas
 pub mod EffectLemmas
+pub mod ServedLemmas

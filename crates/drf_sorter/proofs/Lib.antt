@@ -11,3 +11,4 @@ pub mod WeighingLemmas
 pub mod ArrivalLemmas
 pub mod EffectLemmas
 pub mod ServedLemmas
+pub mod TurnLemmas

@@ -10,3 +10,5 @@ pub mod SiblingLemmas
 pub mod WeighingLemmas
 pub mod ArrivalLemmas
 pub mod EffectLemmas
+pub mod ServedLemmas
+pub mod TurnLemmas

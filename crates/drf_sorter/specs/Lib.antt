@@ -10,3 +10,4 @@ pub mod Plain
 pub mod Candidates
 pub mod Laws
 pub mod Examples
+pub mod Served

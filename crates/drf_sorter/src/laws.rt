@@ -5,6 +5,7 @@ ghost use Rattle.std.specs.Ordering.{is_lt, is_eq};
 ghost use Rattle.drf_role.specs.Path.{Path, begins_with};
 ghost use Rattle.drf_rows.specs.Share.{Standing, is_less, is_same, stands_before};
 ghost use Rattle.drf_sorter.specs.Laws.{ArrivalDoesNotMatter, ClientsHaveDefaultWeight, HeavierHasLess, LesserNameFirst, LowestIsFound, NothingIsZero, OneLowestForm, ProductsFit, SameLowestForm, SuppressedCounts, UndoneChargeChangesNothing};
+ghost use Rattle.drf_sorter.specs.Served.{EachBeforeAllLater, EachHasItsTurn, EachIsServedOnce};
 ghost use Rattle.drf_sorter.specs.Share.{fraction_of, share_cmp, share_eq};
 ghost use Rattle.drf_sorter.specs.declared.share.Share.{Share};
 
@@ -33,6 +34,14 @@ pub fn client_order_law()
         begins_with a b ≡ false → begins_with b a ≡ false → stands_before s b a ≡ not (stands_before s a b) }
     ensures transitive { (s : Standing) → ((node : Path) → 1 ≤ s.weight node) →
         (a b c : Path) → stands_before s a b ≡ true → stands_before s b c ≡ true → stands_before s a c ≡ true }
+{}
+
+/// Where every node has a weight, an order that is picked one by one leaves out no client and has none twice, and each
+/// stands before all later ones. So the turn of an agent tries every active client.
+pub fn everyone_is_served_law()
+    ensures each_once { EachIsServedOnce }
+    ensures in_order { EachBeforeAllLater }
+    ensures turn { EachHasItsTurn }
 {}
 
 /// Of two siblings that differ in nothing but their names, the one whose name is less comes first.

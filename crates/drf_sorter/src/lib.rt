@@ -12,8 +12,8 @@ mod sorter;
 
 pub use examples::{order_of_three_example, share_of_a_role_example};
 pub use laws::{
-    arrival_law, change_law, client_order_law, lowest_terms_law, share_order_law, sibling_law,
-    weight_law,
+    arrival_law, change_law, client_order_law, everyone_is_served_law, lowest_terms_law,
+    share_order_law, sibling_law, weight_law,
 };
 pub use plain::PlainSorter;
 pub use share::Share;

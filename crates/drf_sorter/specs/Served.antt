@@ -1,0 +1,46 @@
+-- That everybody is served: an order in which clients are tried one by one has each of them.
+use Rattle.std.specs.Prelude.{◌≤◌, List, length, map, IsTrue}
+use Rattle.std.specs.List.{AllByRecursion, IsDistinct, list_all}
+use Rattle.std.specs.List.Sorted.{IsPermutation}
+use Rattle.drf_role.specs.Path.{Path, IsClientPath, same_path}
+use Rattle.drf_rows.specs.Client.{Client, path_of}
+use Rattle.drf_rows.specs.Share.{Standing, is_serving_order}
+use Rattle.drf_rows.specs.Cycle.{serving_order, turn_order}
+use Rattle.drf_rows.specs.Held.{active_clients}
+use Rattle.drf_rows.specs.Weights.{is_weight}
+use Rattle.drf_rows.specs.Consistent.{IsConsistent}
+use Rattle.drf_rows.specs.declared.rows.Rows.{Rows}
+
+-- frameworks in roles, none of them twice
+pub record AreClients (clients : List Client) : Type 0 where
+  pub each : AllByRecursion (λ c. IsClientPath (path_of c)) clients
+  pub distinct : IsDistinct same_path (map path_of clients)
+
+-- every node has a weight
+abbrev pub Weighs : Standing → Type 0
+Weighs s = (node : Path) → 1 ≤ s.weight node
+
+-- the order has each of the clients, and each once
+abbrev pub EachIsServedOnce : Type 0
+EachIsServedOnce =
+    (s : Standing) (clients : List Client)
+    → Weighs s
+    → AreClients clients
+    → IsPermutation clients (serving_order s (length clients) clients)
+
+-- each stands before all later ones
+abbrev pub EachBeforeAllLater : Type 0
+EachBeforeAllLater =
+    (s : Standing) (clients : List Client)
+    → Weighs s
+    → AreClients clients
+    → IsTrue (is_serving_order s (map path_of (serving_order s (length clients) clients)))
+
+-- the turn of an agent serves each active client, and each once
+abbrev pub EachHasItsTurn : Type 0
+EachHasItsTurn =
+    (rows : Rows)
+    → IsConsistent rows
+    → IsTrue (list_all (λ w. is_weight w.weight) rows.weights)
+    → AllByRecursion (λ c. IsClientPath (path_of c)) (active_clients rows)
+    → IsPermutation (active_clients rows) (turn_order rows)

@@ -3,3 +3,4 @@ pub mod RoleLists
 pub mod Values
 pub mod Meanings
 pub mod Replies
+pub mod Events

@@ -4,3 +4,4 @@ pub mod Resources
 pub mod Meaning
 pub mod ReportLine
 pub mod ReplyLine
+pub mod EventLine

@@ -1,6 +1,7 @@
-//! The lines of a journal: an event is read from a line, and a reply or a fault is written as one.
+//! The lines of a journal: an event is read from a line, and an event, a reply or a fault is written as one.
 #![tactic(auto)]
 
+mod event_line;
 mod fault;
 mod line;
 mod reply;
@@ -8,6 +9,7 @@ mod report;
 mod resources;
 mod words;
 
+pub use event_line::write_event;
 pub use fault::{LineError, LineFault};
 pub use line::read_event;
 pub use reply::{write_fault, write_reply};

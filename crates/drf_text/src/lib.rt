@@ -19,4 +19,4 @@ pub use laws::{
 };
 pub use number::read_weight;
 pub use read::{read_bundle, read_quantities};
-pub use write::{write_bundle, write_quantities};
+pub use write::{write_bundle, write_quantities, write_weight};

@@ -84,6 +84,13 @@ fn write_amount(alloc: Global, thousandths: u64) -> Result<String, AllocError>
     Ok(text)
 }
 
+/// Writes a weight of thousandths: 1500 as `1.5`, 4000 as `4`.
+pub fn write_weight(alloc: Global, weight: u64) -> Result<String, AllocError>
+    ensures { IfOk result (λ text. string_bytes text ≡ amount_text weight) }
+{
+    write_amount(alloc, weight)
+}
+
 fn write_value(alloc: Global, value: &Value) -> Result<String, AllocError>
     ensures { IfOk result (λ text. string_bytes text ≡ value_text value.now) }
 {

@@ -18,7 +18,7 @@ use Rattle.drf_bundle.specs.FitLaws.{stock_has, fits_less, stock_of_both, IsFree
 use Rattle.drf_bundle.specs.KeyLaws.{cases_key, stands_first, unit_of, where-cons}
 use Rattle.drf_bundle.specs.Union.{has_other_kind, is_reserved_elsewhere, is_too_much, union_refusal, with_united}
 use Rattle.drf_bundle.specs.declared.resource.Resource.{Resource}
-use Rattle.drf_text.specs.Meaning.{after, text_fault_of, put_or, put, meaning_from, meaning_of}
+use Rattle.drf_text.specs.Meaning.{after, text_fault_of, put_or, put, meaning_from}
 use Rattle.drf_text.specs.Pieces.{resource_of}
 use Rattle.drf_text.specs.RoundTrip.{BundleIsRead}
 use Rattle.drf_text.specs.Written.{resource_text, bundle_text}

@@ -2,7 +2,6 @@ use Rattle.std.proofs.Common.{◌≡◌, map, take, lit<, [], ◌∷◌, ◌∙�
 use Rattle.std.specs.List.{join_with_byte}
 use Rattle.std.proofs.lemmas.List.{take_all}
 use Rattle.std.specs.FinSet as set
-use Rattle.std.specs.Ordering.{nat_cmp}
 use Rattle.std.specs.Cmp.Lexicographic.{nat_list_cmp_total}
 use Rattle.drf_kinds.specs.Names.{text_cmp}
 use Rattle.drf_kinds.specs.Listed.{listed, listed-from_list}

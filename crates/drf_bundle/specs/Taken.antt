@@ -7,7 +7,7 @@ use Rattle.drf_bundle.specs.Value.{Point}
 use Rattle.drf_role.specs.Text.{Text}
 use Rattle.drf_bundle.specs.Bundle.{Key, units, stock, IsBundle, join, rest}
 use Rattle.drf_bundle.specs.BundleLaws.{known_by_units, bundle-empty}
-use Rattle.drf_bundle.specs.FitLaws.{IsJoinOf, join_some}
+use Rattle.drf_bundle.specs.FitLaws.{join_some}
 use Rattle.drf_bundle.specs.RestLaws.{units-rest, bundle-rest}
 use Rattle.drf_bundle.specs.UnitProofs.{join_by_units}
 use Rattle.drf_bundle.specs.declared.resource.Resource.{Resource}

@@ -1,11 +1,10 @@
 -- The members of a finite set in ascending order, and the maximal intervals of a set of numbers.
-use Rattle.std.specs.Prelude.{◌≡◌, ℕ, ◌+◌, ◌-◌, ◌<◌, ◌≤◌, ◌==◌, Bool, true, false, ◌&&◌, ◌||◌, T, Option, Some, None, is_some, ◌^◌, List, [], ◌∷◌, ◌++◌, map, if◌then◌else◌}
+use Rattle.std.specs.Prelude.{◌≡◌, ℕ, ◌+◌, ◌-◌, ◌<◌, ◌≤◌, ◌==◌, Bool, true, false, ◌||◌, T, Option, Some, None, is_some, ◌^◌, List, [], ◌∷◌, ◌++◌, map, if◌then◌else◌}
 use Rattle.std.specs.List.{flat_map, range_with_len, list_any, AllByRecursion}
 use Rattle.std.specs.List.Sorted.{IsStrictlySortedBy}
 use Rattle.std.specs.declared.cmp.Ordering.{Ordering}
 use Rattle.std.specs.declared.cmp.Ordering.TheVariants.{Less, Equal, Greater}
 use Rattle.std.specs.Cmp.{IsTotalOrder, tied_itself, ranked, nat_cmp_total}
-use Rattle.std.specs.Cmp.Lexicographic.{nat_list_cmp_total, slice_cmp}
 use Rattle.std.specs.Ordering.{nat_cmp, eq_by_cmp, is_lt, is_eq}
 use Rattle.std.specs.FinSet as set
 use Rattle.std.specs.FinMap as finite
@@ -13,7 +12,6 @@ use Rattle.std.specs.FinMap.{IsAntisymmetric, nat_cmp-IsAntisymmetric}
 use Rattle.std.specs.FinMap.Entries.{find, below_all, is_sorted}
 use Rattle.std.proofs.Common.{refl, sym, ap, subst, ◌∙◌, zero, suc, inl, inr, arith}
 use Rattle.std.proofs.lemmas.Bool.{or_left, or_right, and_from, and_parts, cases_eq, lt-ltb, eq-eqb, ne_eqb}
-use Rattle.std.proofs.lemmas.List.{append_assoc}
 use Rattle.drf_kinds.specs.declared.interval.Interval.{Interval}
 use Rattle.drf_kinds.specs.Intervals.{numbers, members, IsNumberSet, AreMaximalFrom, AreMaximal}
 

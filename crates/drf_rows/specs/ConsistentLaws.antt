@@ -15,7 +15,7 @@ use Rattle.drf_bundle.specs.Value.{Point, Thousandths}
 use Rattle.drf_bundle.specs.Bundle.{Key, IsBundle, units, stock, quantities_of}
 use Rattle.drf_bundle.specs.Quantities.{amount_of}
 use Rattle.drf_bundle.specs.SumLaws.{amount-quantities_of}
-use Rattle.drf_bundle.specs.Taken.{joined, units_of_all, joined-rest_of_all, sum-joined, stock-adds_up}
+use Rattle.drf_bundle.specs.Taken.{units_of_all, joined-rest_of_all, sum-joined, stock-adds_up}
 use Rattle.drf_bundle.specs.declared.resource.Resource.{Resource}
 use Rattle.drf_rows.specs.Client.{Client}
 use Rattle.drf_rows.specs.Holdings.{Holding, of_offer, of_task, holdings_of, held_where, is_on, parts_on, AreBundles}
@@ -24,7 +24,7 @@ use Rattle.drf_rows.specs.Cycle.{free_of, new_offer, with_offer, counted, count_
 use Rattle.drf_rows.specs.Step.{live_rows}
 use Rattle.drf_rows.specs.CycleLaws.{bundle-free_of, units-free_of}
 use Rattle.drf_rows.specs.Consistent.{are_distinct, are_distinct_roles, IsAgent, AreFrameworks, is_registered, IsHeld, IsCovered, offers_counted, are_rising, IsConsistent, IsConserved}
-use Rattle.drf_rows.specs.ListLaws.{cond_le, sum_by-map, sum_by-plus, sum_by_each_le, sum_by_none, count_by-any, list_any_at, list_any-both, none_has, none_has_at, only_none, count_once, each_at, each_from, each_from_both, each_map}
+use Rattle.drf_rows.specs.ListLaws.{sum_by-map, sum_by-plus, sum_by_each_le, sum_by_none, count_by-any, list_any_at, list_any-both, none_has, none_has_at, only_none, count_once, each_at, each_from, each_from_both, each_map}
 use Rattle.drf_rows.specs.declared.rows.AgentRow.{AgentRow}
 use Rattle.drf_rows.specs.declared.rows.ClientRow.{ClientRow}
 use Rattle.drf_rows.specs.declared.rows.FrameworkRow.{FrameworkRow}

@@ -14,7 +14,9 @@ use Rattle.drf_bundle.specs.declared.resource.Resource.{Resource}
 use Rattle.drf_rows.specs.LimitNumbers.{LimitNumbers}
 use Rattle.drf_rows.specs.Held.{clients_of, cluster_total}
 use Rattle.drf_rows.specs.Cycle.{at_moment, cycle}
-use Rattle.drf_rows.specs.Step.{has_agent, has_framework, is_empty, is_full, with_agent, with_framework, new_client, distinct, too_many_agents, too_many_frameworks, first_case, refusal_of, effect}
+use Rattle.drf_rows.specs.Step.{is_full, too_many_agents, too_many_frameworks, first_case, refusal_of, effect}
+use Rattle.drf_rows.specs.Members.{has_agent, has_framework, with_agent, with_framework, new_client, distinct}
+use Rattle.drf_rows.specs.Offers.{is_empty}
 use Rattle.drf_rows.specs.Weights.{is_weight, too_many_weights}
 use Rattle.drf_rows.specs.RegistrationLaws.{framework_added, length-clients_of-framework_added}
 use Rattle.drf_rows.specs.Consistent.{IsConsistent, IsNumberedByEvents}

@@ -14,11 +14,11 @@ use Rattle.drf_role.specs.Path.{Path, same_path, begins_with}
 use Rattle.drf_role.specs.PathLaws.{same_path-true, same_path_itself}
 use Rattle.drf_rows.specs.Client.{Client, path_of}
 use Rattle.drf_rows.specs.Holdings.{Holding, holdings_of, held_where, amount_in, is_of, is_under}
-use Rattle.drf_rows.specs.Held.{client_of, clients_of, active_clients, held_by, count_of, cluster_total, weight_of}
+use Rattle.drf_rows.specs.Held.{client_of, clients_of, active_clients, held_by, count_of, cluster_total, weight_of, is_registered}
 use Rattle.drf_rows.specs.Share.{Standing, is_serving_order}
 use Rattle.drf_rows.specs.Cycle.{first_of, without, serving_order, turn_order}
 use Rattle.drf_rows.specs.ServingOrder.{serving_order-unique}
-use Rattle.drf_rows.specs.Consistent.{is_registered, IsConsistent}
+use Rattle.drf_rows.specs.Consistent.{IsConsistent}
 use Rattle.drf_rows.specs.ConsistentLaws.{in_role}
 use Rattle.drf_rows.specs.ListLaws.{sum_by-filter, sum_by-as_one, each_append, each_from, each_map, each_filter, each_find, each_found}
 use Rattle.drf_rows.specs.declared.rows.ClientRow.{ClientRow}

@@ -16,7 +16,8 @@ use Rattle.drf_rows.specs.Client.{Client, path_of}
 use Rattle.drf_rows.specs.Holdings.{of_offer}
 use Rattle.drf_rows.specs.Cycle.{free_of, grant, is_allocatable, new_offer, with_offer, tried}
 use Rattle.drf_rows.specs.CycleLaws.{bundle-free_of, free_of-with_offer}
-use Rattle.drf_rows.specs.Consistent.{IsAgent, IsConsistent, is_registered}
+use Rattle.drf_rows.specs.Consistent.{IsAgent, IsConsistent}
+use Rattle.drf_rows.specs.Held.{is_registered}
 use Rattle.drf_rows.specs.declared.rows.AgentRow.{AgentRow}
 use Rattle.drf_rows.specs.declared.rows.OfferRow.{OfferRow}
 use Rattle.drf_rows.specs.declared.rows.Rows.{Rows}

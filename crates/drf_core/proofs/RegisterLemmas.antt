@@ -10,7 +10,7 @@ use Rattle.std.proofs.lemmas.Map.Views.{any-filter_same}
 use Rattle.drf_role.specs.Text.{Text}
 use Rattle.drf_role.specs.Path.{Path, same_path}
 use Rattle.drf_role.specs.PathLaws.{same_path-true, same_path_itself}
-use Rattle.drf_rows.specs.Step.{distinct, has_framework, new_client}
+use Rattle.drf_rows.specs.Members.{distinct, has_framework, new_client}
 use Rattle.drf_rows.specs.Consistent.{IsConsistent, are_distinct_roles}
 use Rattle.drf_rows.specs.declared.rows.Rows.{Rows}
 use Rattle.drf_sorter.specs.Content.{Content, Ranked, has_client, with_client, without_client}

@@ -1,6 +1,7 @@
 //! The effects of events that are not refused.
 ghost use Rattle.std.specs.Prelude.{◌≡◌, None, map, IfOk, OnOk, OnErr};
-ghost use Rattle.drf_rows.specs.Step.{refusal_of, effect, answer, distinct, new_client};
+ghost use Rattle.drf_rows.specs.Step.{refusal_of, effect, answer};
+ghost use Rattle.drf_rows.specs.Members.{distinct, new_client};
 ghost use Rattle.drf_rows.specs.declared.event.Event.TheVariants.{AddAgent, AddFramework, SetWeight};
 ghost use Rattle.drf_core.specs.Content.{content_of};
 ghost use Rattle.drf_core.specs.Kept.{IsKept, StandAt};

@@ -2,7 +2,9 @@
 ghost use Rattle.std.specs.Prelude.{◌≡◌, ◌<◌, ◌≤◌, length, nat_lt, not, IfNone, IfSome};
 ghost use Rattle.std.specs.List.{list_any};
 ghost use Rattle.drf_bundle.specs.Bundle.{quantities_of};
-ghost use Rattle.drf_rows.specs.Step.{distinct, first_case, is_empty, is_full, too_many_agents, too_many_frameworks, with_agent, refusal_of};
+ghost use Rattle.drf_rows.specs.Step.{first_case, is_full, too_many_agents, too_many_frameworks, refusal_of};
+ghost use Rattle.drf_rows.specs.Members.{distinct, with_agent};
+ghost use Rattle.drf_rows.specs.Offers.{is_empty};
 ghost use Rattle.drf_rows.specs.Weights.{is_weight, too_many_weights};
 ghost use Rattle.drf_core.specs.Kept.{AreFew};
 

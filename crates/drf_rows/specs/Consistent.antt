@@ -9,8 +9,12 @@ use Rattle.drf_bundle.specs.Bundle.{Key, IsBundle, units, quantities_of}
 use Rattle.drf_bundle.specs.Taken.{joined, units_of_all}
 use Rattle.drf_rows.specs.Client.{Client}
 use Rattle.drf_rows.specs.Holdings.{Holding, holdings_of, parts_on}
+use Rattle.drf_rows.specs.Held.{is_registered}
+use Rattle.drf_rows.specs.Offers.{is_task}
 use Rattle.drf_rows.specs.Cycle.{free_of}
-use Rattle.drf_rows.specs.declared.limits.TheConstants.{LARGEST_AMOUNT}
+use Rattle.drf_rows.specs.declared.limits.TheConstants.{LARGEST_AMOUNT, LATEST_MOMENT}
+use Rattle.drf_rows.specs.declared.rows.FilterRow.{FilterRow}
+use Rattle.drf_rows.specs.declared.rows.TaskRow.{TaskRow}
 use Rattle.drf_rows.specs.declared.rows.AgentRow.{AgentRow}
 use Rattle.drf_rows.specs.declared.rows.FrameworkRow.{FrameworkRow}
 use Rattle.drf_rows.specs.declared.rows.Rows.{Rows}
@@ -39,16 +43,23 @@ pub record AreFrameworks (frameworks : List FrameworkRow) : Type 0 where
   pub names : are_distinct (map (λ f. f.name) frameworks) ≡ true
   pub roles : AllByRecursion (λ f. are_distinct_roles (map (λ c. c.role) f.clients) ≡ true) frameworks
 
--- the framework is registered in the role
-abbrev pub is_registered : List FrameworkRow → Client → Bool
-is_registered frameworks client =
-    list_any (λ f. same_text f.name client.framework && list_any (λ c. same_path c.role client.role) f.clients) frameworks
-
 -- a registered client holds a bundle on a registered agent
 pub record IsHeld (agents : List AgentRow) (frameworks : List FrameworkRow) (h : Holding) : Type 0 where
   pub agent : list_any (λ a. same_text a.name h.agent) agents ≡ true
   pub client : is_registered frameworks h.client ≡ true
   pub bundle : IsBundle h.bundle
+
+-- a framework has one task of a name
+abbrev pub are_distinct_tasks : List TaskRow → Bool
+are_distinct_tasks [] = true
+are_distinct_tasks (task ∷ tasks) = list_all (λ t. not (is_task task.framework task.name t)) tasks && are_distinct_tasks tasks
+
+-- a filter is that of a registered client on a registered agent, has a bundle, and ends before 2^63
+pub record IsFilter (agents : List AgentRow) (frameworks : List FrameworkRow) (f : FilterRow) : Type 0 where
+  pub agent : list_any (λ a. same_text a.name f.agent) agents ≡ true
+  pub client : is_registered frameworks (record { role = f.role; framework = f.framework }) ≡ true
+  pub bundle : IsBundle f.bundle
+  pub until : f.until < 2 ^ 63
 
 -- on an agent no more is held than there is
 abbrev pub IsCovered : List Holding → AgentRow → Type 0
@@ -69,6 +80,9 @@ pub record IsConsistent (rows : Rows) : Type 0 where
   pub frameworks : AreFrameworks rows.frameworks
   pub holdings : AllByRecursion (IsHeld rows.agents rows.frameworks) (holdings_of rows)
   pub covered : AllByRecursion (IsCovered (holdings_of rows)) rows.agents
+  pub tasks : are_distinct_tasks rows.tasks ≡ true
+  pub filters : AllByRecursion (IsFilter rows.agents rows.frameworks) rows.filters
+  pub early : rows.clock ≤ LATEST_MOMENT
   pub counted : offers_counted rows.frameworks < rows.next_offer
   pub numbered : are_rising (map (λ o. o.number) rows.offers) rows.next_offer ≡ true
 

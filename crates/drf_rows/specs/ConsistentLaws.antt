@@ -23,7 +23,8 @@ use Rattle.drf_rows.specs.HoldingsLaws.{parts_on-append, each_part, parts_on-wit
 use Rattle.drf_rows.specs.Cycle.{free_of, new_offer, with_offer, counted, count_offer}
 use Rattle.drf_rows.specs.Step.{live_rows}
 use Rattle.drf_rows.specs.CycleLaws.{bundle-free_of, units-free_of}
-use Rattle.drf_rows.specs.Consistent.{are_distinct, are_distinct_roles, IsAgent, AreFrameworks, is_registered, IsHeld, IsCovered, offers_counted, are_rising, IsConsistent, IsConserved}
+use Rattle.drf_rows.specs.Consistent.{are_distinct, are_distinct_roles, IsAgent, AreFrameworks, IsHeld, IsCovered, offers_counted, are_rising, IsConsistent, IsConserved, IsFilter}
+use Rattle.drf_rows.specs.Held.{is_registered}
 use Rattle.drf_rows.specs.ListLaws.{sum_by-map, sum_by-plus, sum_by_each_le, sum_by_none, count_by-any, list_any_at, list_any-both, none_has, none_has_at, only_none, count_once, each_at, each_from, each_from_both, each_map}
 use Rattle.drf_rows.specs.declared.rows.AgentRow.{AgentRow}
 use Rattle.drf_rows.specs.declared.rows.ClientRow.{ClientRow}
@@ -371,6 +372,15 @@ IsConsistent-with_offer rows agent place client bundle consistent at known right
           });
       covered = each_from_both (IsCovered before) IsOnly (IsCovered after) rows.agents covers consistent.covered
           (only_named (λ a. a.name) rows.agents place agent consistent.agents.names at);
+      tasks = consistent.tasks;
+      filters = each_from (IsFilter rows.agents rows.frameworks) (IsFilter rows.agents frameworks) rows.filters
+          (λ f right. record {
+            agent = right.agent;
+            client = is_registered-counted client (record { role = f.role; framework = f.framework }) rows.frameworks ∙ right.client;
+            bundle = right.bundle;
+            until = right.until;
+          }) consistent.filters;
+      early = consistent.early;
       counted = omega (
         arith,
         offers_counted-counted client rows.frameworks,

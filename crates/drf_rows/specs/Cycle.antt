@@ -1,5 +1,5 @@
 -- The allocation cycle.
-use Rattle.std.specs.Prelude.{ℕ, zero, suc, ◌+◌, max, Bool, not, ◌||◌, List, [], ◌∷◌, ◌++◌, length, map, fold, filter, find, Option, Some, None, if◌then◌else◌, nat_le, codes}
+use Rattle.std.specs.Prelude.{ℕ, zero, suc, ◌+◌, max, Bool, not, ◌&&◌, ◌||◌, List, [], ◌∷◌, ◌++◌, length, map, fold, filter, find, Option, Some, None, if◌then◌else◌, nat_le, codes}
 use Rattle.std.specs.List.{list_all}
 use Rattle.std.specs.Option.{option_map_or}
 use Rattle.drf_role.specs.Text.{same_text}
@@ -11,6 +11,7 @@ use Rattle.drf_bundle.specs.declared.resource.Resource.{Resource}
 use Rattle.drf_role.specs.Path.{same_path}
 use Rattle.drf_rows.specs.Client.{Client, path_of}
 use Rattle.drf_rows.specs.Share.{Standing, stands_before}
+use Rattle.drf_rows.specs.Filters.{is_held_back}
 use Rattle.drf_rows.specs.Held.{active_clients, standing_of}
 use Rattle.drf_rows.specs.declared.rows.AgentRow.{AgentRow}
 use Rattle.drf_rows.specs.declared.rows.ClientRow.{ClientRow}
@@ -28,15 +29,20 @@ is_allocatable bundle =
     nat_le 10 (amount_of (quantities_of bundle) (codes "cpus")) || nat_le 32000 (amount_of (quantities_of bundle) (codes "mem"))
 
 -- what a client may have of a free bundle: what is unreserved, and what is reserved for its role or for a role above it.
--- No event makes quota limits or filters yet, and no grant reads them
+-- No event makes quota limits yet, and no grant reads them
 abbrev pub entitlement : List Resource → Client → List Resource
 entitlement free client = part_for client.role free
+
+-- a client is granted a bundle on an agent if that is worth an offer, and no filter holds it back
+abbrev pub is_grantable : Rows → AgentRow → Client → List Resource → Bool
+is_grantable rows agent client bundle =
+    is_allocatable bundle && not (is_held_back rows.filters rows.clock client agent.name bundle)
 
 -- what a client is granted on an agent, as the rows stand
 abbrev pub grant : Rows → AgentRow → Client → Option (List Resource)
 grant rows agent client =
     let bundle = entitlement (free_of rows agent) client in
-    if is_allocatable bundle then Some bundle else None
+    if is_grantable rows agent client bundle then Some bundle else None
 
 -- one more offer was made to the client
 abbrev pub counted : Client → ClientRow → ClientRow

@@ -1,7 +1,8 @@
 -- Who is registered, what they hold, and what there is, by the rows.
-use Rattle.std.specs.Prelude.{ℕ, not, List, [], map, fold, filter, find, flat_map, sum_by}
+use Rattle.std.specs.Prelude.{ℕ, Bool, not, ◌&&◌, List, [], map, fold, filter, find, flat_map, sum_by}
+use Rattle.std.specs.List.{list_any}
 use Rattle.std.specs.Option.{option_map_or}
-use Rattle.drf_role.specs.Text.{Text}
+use Rattle.drf_role.specs.Text.{Text, same_text}
 use Rattle.drf_role.specs.Path.{Path, same_path, begins_with}
 use Rattle.drf_bundle.specs.Quantities.{plus}
 use Rattle.drf_bundle.specs.Bundle.{quantities_of}
@@ -22,6 +23,11 @@ client_of framework client = record { role = client.role; framework = framework.
 -- the registered clients, in order of registration
 abbrev pub clients_of : Rows → List Client
 clients_of rows = flat_map (λ f. map (client_of f) f.clients) rows.frameworks
+
+-- the framework is registered in the role
+abbrev pub is_registered : List FrameworkRow → Client → Bool
+is_registered frameworks client =
+    list_any (λ f. same_text f.name client.framework && list_any (λ c. same_path c.role client.role) f.clients) frameworks
 
 -- those that are not suppressed
 abbrev pub active_clients : Rows → List Client

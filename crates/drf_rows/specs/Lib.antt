@@ -8,6 +8,8 @@ pub mod Weights
 pub mod Filters
 pub mod Cycle
 pub mod Endings
+pub mod Offers
+pub mod Members
 pub mod Report
 pub mod Consistent
 pub mod Refusal

@@ -16,11 +16,12 @@ use Rattle.drf_bundle.specs.declared.resource.Resource.{Resource}
 use Rattle.drf_role.specs.Path.{same_path}
 use Rattle.drf_rows.specs.Client.{Client}
 use Rattle.drf_rows.specs.Holdings.{Holding, holdings_of, is_on, parts_on}
-use Rattle.drf_rows.specs.Held.{client_of, clients_of, cluster_total}
+use Rattle.drf_rows.specs.Held.{client_of, clients_of, cluster_total, is_registered}
 use Rattle.drf_rows.specs.Cycle.{free_of}
-use Rattle.drf_rows.specs.Step.{opening, has_agent, has_framework, with_agent}
+use Rattle.drf_rows.specs.Step.{opening}
+use Rattle.drf_rows.specs.Members.{has_agent, has_framework, with_agent}
 use Rattle.drf_rows.specs.ListLaws.{each_from, each_append, none_has}
-use Rattle.drf_rows.specs.Consistent.{are_distinct, are_distinct_roles, is_registered, offers_counted, IsAgent, IsHeld, IsCovered, IsConsistent}
+use Rattle.drf_rows.specs.Consistent.{are_distinct, are_distinct_roles, offers_counted, IsAgent, IsHeld, IsCovered, IsConsistent, IsFilter}
 use Rattle.drf_rows.specs.declared.rows.AgentRow.{AgentRow}
 use Rattle.drf_rows.specs.declared.rows.ClientRow.{ClientRow}
 use Rattle.drf_rows.specs.declared.rows.FrameworkRow.{FrameworkRow}
@@ -120,6 +121,16 @@ IsConsistent-agent_added rows name total consistent new right =
           each_from (IsHeld rows.agents rows.frameworks) (IsHeld (with_agent rows name total) rows.frameworks)
           (holdings_of rows) stays consistent.holdings;
       covered = each_append (IsCovered (holdings_of rows)) rows.agents (agent ∷ []) consistent.covered (covers, tt);
+      tasks = consistent.tasks;
+      filters = each_from (IsFilter rows.agents rows.frameworks) (IsFilter (with_agent rows name total) rows.frameworks) rows.filters
+          (λ f here. record {
+            agent = list_any-append (λ (a : AgentRow). same_text a.name f.agent) rows.agents (agent ∷ [])
+                ∙ or_left (has_agent rows f.agent) (list_any (λ (a : AgentRow). same_text a.name f.agent) (agent ∷ [])) here.agent;
+            client = here.client;
+            bundle = here.bundle;
+            until = here.until;
+          }) consistent.filters;
+      early = consistent.early;
       counted = consistent.counted;
       numbered = consistent.numbered;
     }
@@ -186,6 +197,15 @@ IsConsistent-framework_added rows f consistent new apart none =
           each_from (IsHeld rows.agents rows.frameworks) (IsHeld rows.agents frameworks)
           (holdings_of rows) stays consistent.holdings;
       covered = consistent.covered;
+      tasks = consistent.tasks;
+      filters = each_from (IsFilter rows.agents rows.frameworks) (IsFilter rows.agents frameworks) rows.filters
+          (λ g here. record {
+            agent = here.agent;
+            client = registered-push rows.frameworks f (record { role = g.role; framework = g.framework }) here.client;
+            bundle = here.bundle;
+            until = here.until;
+          }) consistent.filters;
+      early = consistent.early;
       counted = omega (arith, offers_counted-push rows.frameworks f none, consistent.counted);
       numbered = consistent.numbered;
     }
@@ -198,6 +218,9 @@ IsConsistent-opening = record {
   frameworks = record { names = refl; roles = tt };
   holdings = tt;
   covered = tt;
+  tasks = refl;
+  filters = tt;
+  early = omega arith;
   counted = omega arith;
   numbered = refl;
 }

@@ -1,31 +1,32 @@
 -- The step of the allocator, and its run over a list of events.
-use Rattle.std.specs.Prelude.{◌+◌, Bool, true, false, not, ◌||◌, List, [], ◌∷◌, ◌++◌, length, map, filter, find, drop, Option, nat_lt, nat_le}
+use Rattle.std.specs.Prelude.{ℕ, ◌+◌, Bool, true, false, not, ◌&&◌, ◌||◌, List, [], ◌∷◌, ◌++◌, length, map, find, drop, Option, nat_lt, nat_le}
 use Rattle.std.specs.List.{list_any}
 use Rattle.std.specs.Option.{option_map, option_map_or}
-use Rattle.drf_role.specs.Text.{Text, same_text}
+use Rattle.drf_role.specs.Text.{Text}
+use Rattle.drf_role.specs.Path.{Path}
 use Rattle.drf_bundle.specs.Bundle.{quantities_of}
-use Rattle.drf_bundle.specs.declared.resource.Resource.{Resource}
+use Rattle.drf_rows.specs.Client.{Client}
 use Rattle.drf_rows.specs.LimitNumbers.{LimitNumbers}
-use Rattle.drf_role.specs.Path.{Path, same_path}
-use Rattle.drf_rows.specs.Held.{cluster_total, clients_of}
-use Rattle.drf_rows.specs.Cycle.{cycle}
+use Rattle.drf_rows.specs.Held.{cluster_total, clients_of, is_registered}
+use Rattle.drf_rows.specs.Members.{has_agent, has_framework, distinct, with_agent, with_framework, with_activity, with_suppression, deactivated, revived, agent_removed, framework_removed}
+use Rattle.drf_rows.specs.Offers.{Start, offer_at, has_offer, is_anothers, is_beyond, has_task, is_empty, refuses_all, refuses_rest, are_many_filters, accepted, declined}
+use Rattle.drf_rows.specs.Endings.{without_ended, one_offer, one_task}
+use Rattle.drf_rows.specs.Cycle.{at_moment, cycle}
 use Rattle.drf_rows.specs.Filters.{in_force}
 use Rattle.drf_rows.specs.Report.{report_of}
 use Rattle.drf_rows.specs.Weights.{is_weight, too_many_weights, weights_with}
 use Rattle.drf_rows.specs.declared.limits.TheConstants.{LATEST_MOMENT, LARGEST_AMOUNT}
 use Rattle.drf_rows.specs.declared.rows.AgentRow.{AgentRow}
-use Rattle.drf_rows.specs.declared.rows.ClientRow.{ClientRow}
-use Rattle.drf_rows.specs.declared.rows.FrameworkRow.{FrameworkRow}
 use Rattle.drf_rows.specs.declared.rows.OfferRow.{OfferRow}
 use Rattle.drf_rows.specs.declared.rows.Rows.{Rows}
 use Rattle.drf_rows.specs.declared.event.Event.{Event}
 use Rattle.drf_rows.specs.declared.event.Event.TheVariants as event
-use Rattle.drf_rows.specs.declared.event.Event.TheVariants.{AddAgent, AddFramework, SetWeight, Cycle}
+use Rattle.drf_rows.specs.declared.event.Event.TheVariants.{AddAgent, RemoveAgent, ActivateAgent, DeactivateAgent, AddFramework, RemoveFramework, Accept, Decline, Rescind, Finish, Suppress, Revive, SetWeight, Cycle}
 use Rattle.drf_rows.specs.declared.reply.Reply.{Reply}
 use Rattle.drf_rows.specs.declared.reply.Reply.TheVariants as reply
 use Rattle.drf_rows.specs.declared.reply.Reply.TheVariants.{Done, Offers, Refused}
 use Rattle.drf_rows.specs.declared.reply.Refusal.{Refusal}
-use Rattle.drf_rows.specs.declared.reply.Refusal.TheVariants.{HistoryFull, BadMoment, KnownAgent, KnownFramework, Empty, BadWeight, TooLarge, TooMany}
+use Rattle.drf_rows.specs.declared.reply.Refusal.TheVariants.{HistoryFull, BadMoment, UnknownAgent, KnownAgent, UnknownFramework, KnownFramework, UnknownOffer, NotYours, UnknownTask, KnownTask, NotInRole, Empty, NotCovered, BadWeight, TooLarge, TooMany}
 use Rattle.drf_rows.specs.declared.reply.OfferLine.{OfferLine}
 
 -- the rows of an allocator that has just been opened
@@ -47,29 +48,6 @@ opening = record {
 abbrev pub live_rows : Rows → Rows
 live_rows rows = record rows { filters = in_force rows.clock rows.filters }
 
-abbrev pub has_agent : Rows → Text → Bool
-has_agent rows name = list_any (λ a. same_text a.name name) rows.agents
-
-abbrev pub has_framework : Rows → Text → Bool
-has_framework rows name = list_any (λ f. same_text f.name name) rows.frameworks
-
--- each role once, where it first stands
-abbrev pub distinct : List Path → List Path
-distinct [] = []
-distinct (role ∷ roles) = role ∷ filter (λ r. not (same_path role r)) (distinct roles)
-
--- the agents' rows, with one that registers last
-abbrev pub with_agent : Rows → Text → List Resource → List AgentRow
-with_agent rows name total = rows.agents ++ record { name = name; total = total; active = true } ∷ []
-
--- a client of a framework that registers
-abbrev pub new_client : Path → ClientRow
-new_client role = record { role = role; count = 0; suppressed = false }
-
--- the frameworks' rows, with one that registers last
-abbrev pub with_framework : Rows → Text → List Path → List FrameworkRow
-with_framework rows name roles = rows.frameworks ++ record { name = name; clients = map new_client (distinct roles) } ∷ []
-
 abbrev pub is_full : LimitNumbers → Rows → Bool
 is_full limits rows = nat_le limits.events rows.accepted
 
@@ -83,9 +61,18 @@ too_many_frameworks limits rows roles =
     nat_lt limits.frameworks (length rows.frameworks + 1)
     || (nat_lt limits.roles (length (distinct roles)) || nat_lt limits.clients (length (clients_of rows) + length (distinct roles)))
 
-abbrev pub is_empty : {A : Type 0} → List A → Bool
-is_empty [] = true
-is_empty (x ∷ xs) = false
+-- an accept would set one filter too many
+abbrev pub accept_is_too_much : LimitNumbers → Rows → ℕ → Start → ℕ → ℕ → Bool
+accept_is_too_much limits rows number start at refuse_ms =
+    option_map_or (λ o. refuses_rest o (start ∷ []) refuse_ms) (offer_at rows number) false && are_many_filters limits rows at
+
+-- a decline would
+abbrev pub decline_is_too_much : LimitNumbers → Rows → ℕ → ℕ → Bool
+decline_is_too_much limits rows at refuse_ms = refuses_all refuse_ms && are_many_filters limits rows at
+
+-- the framework is in the role
+abbrev pub is_in_role : Rows → Text → Path → Bool
+is_in_role rows framework role = is_registered rows.frameworks (record { role = role; framework = framework })
 
 -- the first of some cases that holds
 abbrev pub first_case : List (Bool × Refusal) → Option Refusal
@@ -99,11 +86,65 @@ cases_of limits rows (AddAgent agent total) =
     ∷ (list_any (λ e. nat_lt LARGEST_AMOUNT e.amount) (quantities_of total), TooLarge)
     ∷ (too_many_agents limits (with_agent rows agent total), TooMany)
     ∷ []
+cases_of limits rows (RemoveAgent agent) =
+    (is_full limits rows, HistoryFull)
+    ∷ (not (has_agent rows agent), UnknownAgent)
+    ∷ []
+cases_of limits rows (ActivateAgent agent) =
+    (is_full limits rows, HistoryFull)
+    ∷ (not (has_agent rows agent), UnknownAgent)
+    ∷ []
+cases_of limits rows (DeactivateAgent agent) =
+    (is_full limits rows, HistoryFull)
+    ∷ (not (has_agent rows agent), UnknownAgent)
+    ∷ []
 cases_of limits rows (AddFramework framework roles) =
     (is_full limits rows, HistoryFull)
     ∷ (has_framework rows framework, KnownFramework)
     ∷ (is_empty roles, Empty)
     ∷ (too_many_frameworks limits rows roles, TooMany)
+    ∷ []
+cases_of limits rows (RemoveFramework framework) =
+    (is_full limits rows, HistoryFull)
+    ∷ (not (has_framework rows framework), UnknownFramework)
+    ∷ []
+cases_of limits rows (Accept framework offer task used at refuse_ms) =
+    (is_full limits rows, HistoryFull)
+    ∷ (nat_lt LATEST_MOMENT at, BadMoment)
+    ∷ (not (has_framework rows framework), UnknownFramework)
+    ∷ (not (has_offer rows offer), UnknownOffer)
+    ∷ (is_anothers rows framework offer, NotYours)
+    ∷ (has_task rows framework task, KnownTask)
+    ∷ (is_empty used, Empty)
+    ∷ (is_beyond rows offer used, NotCovered)
+    ∷ (accept_is_too_much limits rows offer (task, used) at refuse_ms, TooMany)
+    ∷ []
+cases_of limits rows (Decline framework offer at refuse_ms) =
+    (is_full limits rows, HistoryFull)
+    ∷ (nat_lt LATEST_MOMENT at, BadMoment)
+    ∷ (not (has_framework rows framework), UnknownFramework)
+    ∷ (not (has_offer rows offer), UnknownOffer)
+    ∷ (is_anothers rows framework offer, NotYours)
+    ∷ (decline_is_too_much limits rows at refuse_ms, TooMany)
+    ∷ []
+cases_of limits rows (Rescind offer) =
+    (is_full limits rows, HistoryFull)
+    ∷ (not (has_offer rows offer), UnknownOffer)
+    ∷ []
+cases_of limits rows (Finish framework task) =
+    (is_full limits rows, HistoryFull)
+    ∷ (not (has_framework rows framework), UnknownFramework)
+    ∷ (not (has_task rows framework task), UnknownTask)
+    ∷ []
+cases_of limits rows (Suppress framework role) =
+    (is_full limits rows, HistoryFull)
+    ∷ (not (has_framework rows framework), UnknownFramework)
+    ∷ (not (is_in_role rows framework role), NotInRole)
+    ∷ []
+cases_of limits rows (Revive framework role) =
+    (is_full limits rows, HistoryFull)
+    ∷ (not (has_framework rows framework), UnknownFramework)
+    ∷ (not (is_in_role rows framework role), NotInRole)
     ∷ []
 cases_of limits rows (SetWeight role weight) =
     (is_full limits rows, HistoryFull)
@@ -123,7 +164,20 @@ refusal_of limits rows event = first_case (cases_of limits rows event)
 -- the rows after an event that is not refused
 unfoldable pub effect : Rows → Event → Rows
 effect rows (AddAgent agent total) = record rows { agents = with_agent rows agent total }
+effect rows (RemoveAgent agent) = agent_removed rows agent
+effect rows (ActivateAgent agent) = record rows { agents = with_activity rows agent true }
+effect rows (DeactivateAgent agent) = deactivated rows agent
 effect rows (AddFramework framework roles) = record rows { frameworks = with_framework rows framework roles }
+effect rows (RemoveFramework framework) = framework_removed rows framework
+effect rows (Accept framework offer task used at refuse_ms) =
+    option_map_or (λ o. accepted (at_moment rows at) o ((task, used) ∷ []) refuse_ms) (offer_at rows offer) rows
+effect rows (Decline framework offer at refuse_ms) =
+    option_map_or (λ o. declined (at_moment rows at) o refuse_ms) (offer_at rows offer) rows
+effect rows (Rescind offer) = without_ended rows (one_offer offer)
+effect rows (Finish framework task) = without_ended rows (one_task framework task)
+effect rows (Suppress framework role) =
+    record rows { frameworks = with_suppression rows (record { role = role; framework = framework }) true }
+effect rows (Revive framework role) = revived rows (record { role = role; framework = framework })
 effect rows (SetWeight role weight) = record rows { weights = weights_with rows.weights role weight }
 effect rows (Cycle at) = cycle rows at
 effect rows event.Report = rows
@@ -138,11 +192,9 @@ new_offers before after = drop (length before.offers) after.offers
 
 -- what an event that is not refused is answered
 abbrev pub answer : Rows → Rows → Event → Reply
-answer before after (AddAgent agent total) = Done
-answer before after (AddFramework framework roles) = Done
-answer before after (SetWeight role weight) = Done
 answer before after (Cycle at) = Offers (map line_of (new_offers before after))
 answer before after event.Report = reply.Report (report_of before)
+answer before after other = Done
 
 -- the rows after an event
 unfoldable pub rows_after : LimitNumbers → Rows → Event → Rows

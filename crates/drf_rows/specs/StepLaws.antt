@@ -5,14 +5,24 @@ use Rattle.drf_rows.specs.LimitNumbers.{LimitNumbers}
 use Rattle.drf_rows.specs.Step.{refusal_of, effect, answer, rows_after, reply_to}
 use Rattle.drf_rows.specs.Laws.{CasesRise}
 use Rattle.drf_rows.specs.declared.event.Event.{Event}
-use Rattle.drf_rows.specs.declared.event.Event.TheVariants.{AddAgent, AddFramework, SetWeight, Cycle, Report}
+use Rattle.drf_rows.specs.declared.event.Event.TheVariants.{AddAgent, RemoveAgent, ActivateAgent, DeactivateAgent, AddFramework, RemoveFramework, Accept, Decline, Rescind, Finish, Suppress, Revive, SetWeight, Cycle, Report}
 use Rattle.drf_rows.specs.declared.reply.Refusal.{Refusal}
 use Rattle.drf_rows.specs.declared.reply.Reply.TheVariants.{Refused}
 use Rattle.drf_rows.specs.declared.rows.Rows.{Rows}
 
 pub cases_rise : CasesRise
 cases_rise limits rows (AddAgent agent total) = refl
+cases_rise limits rows (RemoveAgent agent) = refl
+cases_rise limits rows (ActivateAgent agent) = refl
+cases_rise limits rows (DeactivateAgent agent) = refl
 cases_rise limits rows (AddFramework framework roles) = refl
+cases_rise limits rows (RemoveFramework framework) = refl
+cases_rise limits rows (Accept framework offer task used at refuse_ms) = refl
+cases_rise limits rows (Decline framework offer at refuse_ms) = refl
+cases_rise limits rows (Rescind offer) = refl
+cases_rise limits rows (Finish framework task) = refl
+cases_rise limits rows (Suppress framework role) = refl
+cases_rise limits rows (Revive framework role) = refl
 cases_rise limits rows (SetWeight role weight) = refl
 cases_rise limits rows (Cycle at) = refl
 cases_rise limits rows Report = refl

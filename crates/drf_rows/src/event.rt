@@ -6,13 +6,47 @@ use drf_bundle::Bundle;
 use drf_role::{Name, Role};
 use std::alloc::AllocError;
 
-/// What happens to the cluster. The allocator takes one event at a time, whole or not at all.
+/// What happens to the cluster. The allocator takes one event at a time, whole or not at all. Moments and times are in
+/// milliseconds; a `refuse_ms` above 365 days counts as 365 days, and with 0 nothing is refused.
 #[derive(Debug, Drop)]
 pub enum Event {
     /// An agent registers with all its resources.
     AddAgent { agent: Name, total: Bundle },
+    /// An agent leaves, with its total and all that is held there.
+    RemoveAgent { agent: Name },
+    /// What is free on an agent is offered, from now on.
+    ActivateAgent { agent: Name },
+    /// An agent's offers are rescinded, and no more are made. Its tasks stay.
+    DeactivateAgent { agent: Name },
     /// A framework registers in its roles.
     AddFramework { framework: Name, roles: Table<Role> },
+    /// A framework leaves. What it held is free.
+    RemoveFramework { framework: Name },
+    /// A framework starts a task with a part of an offer. The rest is free, and is not offered to its client there again
+    /// for a time.
+    Accept {
+        framework: Name,
+        offer: u64,
+        task: Name,
+        used: Bundle,
+        at: u64,
+        refuse_ms: u64,
+    },
+    /// A framework gives an offer back, and its client is not offered that there again for a time.
+    Decline {
+        framework: Name,
+        offer: u64,
+        at: u64,
+        refuse_ms: u64,
+    },
+    /// An offer is taken back.
+    Rescind { offer: u64 },
+    /// A task ends. What it used is free.
+    Finish { framework: Name, task: Name },
+    /// A framework is not to be served in a role, until it revives.
+    Suppress { framework: Name, role: Role },
+    /// A framework is to be served in a role, and no longer refuses anything there.
+    Revive { framework: Name, role: Role },
     /// A role gets a weight, in thousandths.
     SetWeight { role: Role, weight: u64 },
     /// The allocator offers what is free, at a moment in milliseconds.
@@ -40,9 +74,60 @@ impl Event {
                 agent: agent.copy()?,
                 total: total.copy()?,
             }),
+            Event::RemoveAgent { agent } => Ok(Event::RemoveAgent {
+                agent: agent.copy()?,
+            }),
+            Event::ActivateAgent { agent } => Ok(Event::ActivateAgent {
+                agent: agent.copy()?,
+            }),
+            Event::DeactivateAgent { agent } => Ok(Event::DeactivateAgent {
+                agent: agent.copy()?,
+            }),
             Event::AddFramework { framework, roles } => Ok(Event::AddFramework {
                 framework: framework.copy()?,
                 roles: copy_roles(roles)?,
+            }),
+            Event::RemoveFramework { framework } => Ok(Event::RemoveFramework {
+                framework: framework.copy()?,
+            }),
+            Event::Accept {
+                framework,
+                offer,
+                task,
+                used,
+                at,
+                refuse_ms,
+            } => Ok(Event::Accept {
+                framework: framework.copy()?,
+                offer: *offer,
+                task: task.copy()?,
+                used: used.copy()?,
+                at: *at,
+                refuse_ms: *refuse_ms,
+            }),
+            Event::Decline {
+                framework,
+                offer,
+                at,
+                refuse_ms,
+            } => Ok(Event::Decline {
+                framework: framework.copy()?,
+                offer: *offer,
+                at: *at,
+                refuse_ms: *refuse_ms,
+            }),
+            Event::Rescind { offer } => Ok(Event::Rescind { offer: *offer }),
+            Event::Finish { framework, task } => Ok(Event::Finish {
+                framework: framework.copy()?,
+                task: task.copy()?,
+            }),
+            Event::Suppress { framework, role } => Ok(Event::Suppress {
+                framework: framework.copy()?,
+                role: role.copy()?,
+            }),
+            Event::Revive { framework, role } => Ok(Event::Revive {
+                framework: framework.copy()?,
+                role: role.copy()?,
             }),
             Event::SetWeight { role, weight } => Ok(Event::SetWeight {
                 role: role.copy()?,

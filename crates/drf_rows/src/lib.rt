@@ -15,7 +15,7 @@ pub use laws::{
     order_example, report_example, report_law, reservations_example, serving_order_law,
     set_weight_law, step_law, turn_law, weights_example,
 };
-pub use limits::{LARGEST_AMOUNT, LATEST_MOMENT, Limits};
+pub use limits::{LARGEST_AMOUNT, LATEST_MOMENT, LONGEST_REFUSAL, Limits};
 pub use reply::{OfferLine, Refusal, Reply};
 pub use report::{NodeLine, Report};
 pub use rows::{

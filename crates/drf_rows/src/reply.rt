@@ -12,12 +12,28 @@ pub enum Refusal {
     HistoryFull,
     /// The moment is later than 2^62 milliseconds.
     BadMoment,
+    /// No agent is registered under the name.
+    UnknownAgent,
     /// An agent is registered under the name already.
     KnownAgent,
+    /// No framework is registered under the name.
+    UnknownFramework,
     /// A framework is registered under the name already.
     KnownFramework,
-    /// The framework has no roles.
+    /// No offer stands under the number.
+    UnknownOffer,
+    /// The offer is another framework's.
+    NotYours,
+    /// The framework has no task of that name.
+    UnknownTask,
+    /// The framework has a task of that name already.
+    KnownTask,
+    /// The framework is not in the role.
+    NotInRole,
+    /// The framework has no roles, or the resources are empty.
     Empty,
+    /// The offer does not cover the resources.
+    NotCovered,
     /// The weight is not from 1 to 1,000,000 thousandths.
     BadWeight,
     /// A scalar of the agent exceeds 2^40 - 1 thousandths.
@@ -36,9 +52,17 @@ impl Refusal {
         match self {
             Refusal::HistoryFull => 1,
             Refusal::BadMoment => 2,
+            Refusal::UnknownAgent => 3,
             Refusal::KnownAgent => 4,
+            Refusal::UnknownFramework => 5,
             Refusal::KnownFramework => 6,
+            Refusal::UnknownOffer => 7,
+            Refusal::NotYours => 8,
+            Refusal::UnknownTask => 9,
+            Refusal::KnownTask => 10,
+            Refusal::NotInRole => 11,
             Refusal::Empty => 13,
+            Refusal::NotCovered => 15,
             Refusal::BadWeight => 17,
             Refusal::TooLarge => 18,
             Refusal::TooMany => 19,
@@ -52,9 +76,17 @@ impl Refusal {
         match self {
             Refusal::HistoryFull => "HistoryFull",
             Refusal::BadMoment => "BadMoment",
+            Refusal::UnknownAgent => "UnknownAgent",
             Refusal::KnownAgent => "KnownAgent",
+            Refusal::UnknownFramework => "UnknownFramework",
             Refusal::KnownFramework => "KnownFramework",
+            Refusal::UnknownOffer => "UnknownOffer",
+            Refusal::NotYours => "NotYours",
+            Refusal::UnknownTask => "UnknownTask",
+            Refusal::KnownTask => "KnownTask",
+            Refusal::NotInRole => "NotInRole",
             Refusal::Empty => "Empty",
+            Refusal::NotCovered => "NotCovered",
             Refusal::BadWeight => "BadWeight",
             Refusal::TooLarge => "TooLarge",
             Refusal::TooMany => "TooMany",

@@ -16,7 +16,7 @@ use Rattle.drf_bundle.specs.Bundle.{quantities_of}
 use Rattle.drf_bundle.specs.declared.quantities.Entry.{Entry}
 use Rattle.drf_rows.specs.Held.{cluster_total}
 use Rattle.drf_rows.specs.Cycle.{free_of}
-use Rattle.drf_rows.specs.Step.{has_agent, has_framework}
+use Rattle.drf_rows.specs.Members.{has_agent, has_framework}
 use Rattle.drf_rows.specs.Consistent.{IsAgent}
 use Rattle.drf_rows.specs.RegistrationLaws.{agent_added, framework_added}
 use Rattle.drf_rows.specs.declared.limits.TheConstants.{LARGEST_AMOUNT}

@@ -10,7 +10,7 @@ use Rattle.drf_bundle.specs.declared.quantities.Entry.{Entry}
 use Rattle.drf_bundle.specs.declared.resource.Resource.{Resource}
 use Rattle.drf_rows.specs.Held.{clients_of, cluster_total}
 use Rattle.drf_rows.specs.Cycle.{free_of}
-use Rattle.drf_rows.specs.Step.{has_agent, has_framework, with_agent}
+use Rattle.drf_rows.specs.Members.{has_agent, has_framework, with_agent}
 use Rattle.drf_rows.specs.Consistent.{IsAgent, IsConsistent, are_distinct_roles}
 use Rattle.drf_rows.specs.RegistrationLaws.{new_agent, agent_added, framework_added, free_of-agent_added, free_of-new, free_of-framework_added, cluster_total-with_agent, length-clients_of-framework_added, IsConsistent-agent_added, IsConsistent-framework_added}
 use Rattle.drf_rows.specs.declared.rows.FrameworkRow.{FrameworkRow}

@@ -1,7 +1,7 @@
 use Rattle.std.proofs.Common.{◌≡◌, ◌++◌, ◌∷◌, [], ap, sym, subst, ◌∙◌}
 use Rattle.std.specs.Prelude.{map}
 use Rattle.std.specs.List.{AllByRecursion}
-use Rattle.drf_rows.specs.Step.{distinct, has_framework, new_client}
+use Rattle.drf_rows.specs.Members.{distinct, has_framework, new_client}
 use Rattle.drf_rows.specs.Consistent.{are_distinct_roles}
 use Rattle.drf_rows.specs.declared.rows.ClientRow.{ClientRow}
 use Rattle.drf_rows.specs.declared.rows.Rows.{Rows}

@@ -1,5 +1,5 @@
 use Rattle.std.proofs.Common.{◌≡◌}
-use Rattle.drf_rows.specs.Step.{distinct}
+use Rattle.drf_rows.specs.Members.{distinct}
 use Rattle.drf_core.proofs.apply.distinct_roles.Given as goal
 
 abbrev pub invariant-loop-role : goal.invariant-loop-role

@@ -1,5 +1,5 @@
 use Rattle.std.proofs.Common.{◌≡◌, map}
-use Rattle.drf_rows.specs.Step.{new_client}
+use Rattle.drf_rows.specs.Members.{new_client}
 use Rattle.drf_core.proofs.apply.new_clients.Given as goal
 
 abbrev pub invariant-loop-role : goal.invariant-loop-role

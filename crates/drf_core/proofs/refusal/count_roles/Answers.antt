@@ -2,7 +2,7 @@ use Rattle.std.proofs.Common.{◌≡◌, ◌+◌, ◌<◌, ◌∷◌, [], ◌++�
 use Rattle.std.specs.List.{list_any, slice_index_or}
 use Rattle.std.proofs.lemmas.List.{take_more, take_more_set, take_all, map-append, length-append}
 use Rattle.drf_role.specs.Path.{Path}
-use Rattle.drf_rows.specs.Step.{distinct}
+use Rattle.drf_rows.specs.Members.{distinct}
 use Rattle.drf_core.proofs.RegisterLemmas.{is_role, list_any-seen, distinct-known, distinct-new, distinct-grows}
 use Rattle.drf_core.proofs.refusal.count_roles.Goals as goal
 

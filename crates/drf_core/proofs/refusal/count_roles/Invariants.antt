@@ -1,5 +1,5 @@
 use Rattle.std.proofs.Common.{◌≡◌, ◌≤◌, map, take, length}
-use Rattle.drf_rows.specs.Step.{distinct}
+use Rattle.drf_rows.specs.Members.{distinct}
 use Rattle.drf_core.proofs.refusal.count_roles.Given as goal
 
 -- those that were counted are the different ones so far

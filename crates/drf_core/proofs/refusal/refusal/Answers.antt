@@ -1,6 +1,7 @@
 use Rattle.std.proofs.Common.{◌≡◌, ◌∷◌, [], List, Bool, true, false, refl, ap, ◌∙◌, sym, nat_lt}
 use Rattle.drf_role.specs.Path.{Path}
-use Rattle.drf_rows.specs.Step.{first_case, is_empty, refusal_of}
+use Rattle.drf_rows.specs.Step.{first_case, refusal_of}
+use Rattle.drf_rows.specs.Offers.{is_empty}
 use Rattle.drf_rows.specs.declared.limits.TheConstants.{LATEST_MOMENT}
 use Rattle.drf_rows.specs.declared.reply.Refusal.TheVariants.{HistoryFull, BadMoment, KnownAgent, KnownFramework, Empty, BadWeight, TooLarge, TooMany}
 use Rattle.drf_core.proofs.refusal.refusal.Goals as goal

@@ -5,7 +5,7 @@ use Rattle.drf_bundle.specs.declared.resource.Resource.{Resource}
 use Rattle.drf_bundle.specs.Bundle.{quantities_of}
 use Rattle.drf_rows.specs.Consistent.{IsAgent}
 use Rattle.drf_rows.specs.RegistrationLaws.{new_agent, agent_added}
-use Rattle.drf_rows.specs.Step.{has_agent}
+use Rattle.drf_rows.specs.Members.{has_agent}
 use Rattle.drf_tables.specs.Inside.{rows_in, frees_in}
 use Rattle.drf_tables.specs.Stored.{Stored}
 use Rattle.drf_tables.specs.declared.tables.Agent.{Agent}

@@ -1,0 +1,101 @@
+-- What a framework makes of an offer: it starts tasks with parts of it, or declines it, and is not offered the rest again
+-- for a time.
+use Rattle.std.specs.Prelude.{ℕ, ◌+◌, ◌==◌, max, min, Bool, true, false, not, ◌&&◌, List, [], ◌∷◌, ◌++◌, map, find, Option, is_some, if◌then◌else◌, nat_le, nat_lt}
+use Rattle.std.specs.List.{list_any}
+use Rattle.std.specs.Option.{option_map_or}
+use Rattle.drf_role.specs.Text.{Text, same_text}
+use Rattle.drf_bundle.specs.Bundle.{covers}
+use Rattle.drf_bundle.specs.Taken.{rest_of_all}
+use Rattle.drf_bundle.specs.declared.resource.Resource.{Resource}
+use Rattle.drf_rows.specs.LimitNumbers.{LimitNumbers}
+use Rattle.drf_rows.specs.Endings.{without_ended, one_offer}
+use Rattle.drf_rows.specs.Filters.{number_in_force}
+use Rattle.drf_rows.specs.declared.limits.TheConstants.{LONGEST_REFUSAL}
+use Rattle.drf_rows.specs.declared.rows.FilterRow.{FilterRow}
+use Rattle.drf_rows.specs.declared.rows.OfferRow.{OfferRow}
+use Rattle.drf_rows.specs.declared.rows.Rows.{Rows}
+use Rattle.drf_rows.specs.declared.rows.TaskRow.{TaskRow}
+
+-- ---- what stands
+
+-- the offer of a number
+abbrev pub offer_at : Rows → ℕ → Option OfferRow
+offer_at rows number = find (λ o. o.number == number) rows.offers
+
+abbrev pub has_offer : Rows → ℕ → Bool
+has_offer rows number = is_some (offer_at rows number)
+
+-- it is there, and another framework's
+abbrev pub is_anothers : Rows → Text → ℕ → Bool
+is_anothers rows framework number = option_map_or (λ o. not (same_text o.framework framework)) (offer_at rows number) false
+
+-- it is there, and does not cover the resources
+abbrev pub is_beyond : Rows → ℕ → List Resource → Bool
+is_beyond rows number used = option_map_or (λ o. not (covers o.bundle used)) (offer_at rows number) false
+
+-- the task is the framework's, and has that name
+abbrev pub is_task : Text → Text → TaskRow → Bool
+is_task framework name t = same_text t.framework framework && same_text t.name name
+
+abbrev pub has_task : Rows → Text → Text → Bool
+has_task rows framework name = list_any (is_task framework name) rows.tasks
+
+-- ---- tasks that are started with parts of an offer
+
+-- a task to start: its name and its part
+abbrev pub Start : Type 0
+Start = Text × List Resource
+
+-- the task runs where the offer was made, and is its client's
+abbrev pub task_of : OfferRow → Start → TaskRow
+task_of o start = record { name = start.0; agent = o.agent; framework = o.framework; role = o.role; bundle = start.1 }
+
+-- what is left of the offer
+abbrev pub left_of_offer : OfferRow → List Start → List Resource
+left_of_offer o starts = rest_of_all o.bundle (map (λ s. s.1) starts)
+
+-- ---- filters that a framework sets
+
+-- a refusal ends so long after the clock; more than 365 days are 365 days
+abbrev pub refused_until : ℕ → ℕ → ℕ
+refused_until clock refuse_ms = clock + min refuse_ms LONGEST_REFUSAL
+
+-- the filter of an offer's client, where the offer was made
+abbrev pub filter_of : OfferRow → List Resource → ℕ → FilterRow
+filter_of o bundle until = record { framework = o.framework; role = o.role; agent = o.agent; bundle = bundle; until = until }
+
+abbrev pub is_empty : {A : Type 0} → List A → Bool
+is_empty [] = true
+is_empty (x ∷ xs) = false
+
+-- what is declined is refused, if for any time
+abbrev pub refuses_all : ℕ → Bool
+refuses_all refuse_ms = nat_lt 0 refuse_ms
+
+-- of what is accepted the rest is refused, if there is any, and for any time
+abbrev pub refuses_rest : OfferRow → List Start → ℕ → Bool
+refuses_rest o starts refuse_ms = nat_lt 0 refuse_ms && not (is_empty (left_of_offer o starts))
+
+-- the filters, with that of a bundle if it is refused
+abbrev pub filters_with : Rows → Bool → OfferRow → List Resource → ℕ → List FilterRow
+filters_with rows refused o bundle refuse_ms =
+    if refused then rows.filters ++ filter_of o bundle (refused_until rows.clock refuse_ms) ∷ [] else rows.filters
+
+-- as many filters as the limit are in force at a moment
+abbrev pub are_many_filters : LimitNumbers → Rows → ℕ → Bool
+are_many_filters limits rows at = nat_le limits.filters (number_in_force (max rows.clock at) rows.filters)
+
+-- ---- what becomes of the offer
+
+-- its framework starts tasks, and the rest is free
+abbrev pub accepted : Rows → OfferRow → List Start → ℕ → Rows
+accepted rows o starts refuse_ms = record (without_ended rows (one_offer o.number)) {
+  tasks = rows.tasks ++ map (task_of o) starts;
+  filters = filters_with rows (refuses_rest o starts refuse_ms) o (left_of_offer o starts) refuse_ms;
+}
+
+-- its framework declines it, and all is free
+abbrev pub declined : Rows → OfferRow → ℕ → Rows
+declined rows o refuse_ms = record (without_ended rows (one_offer o.number)) {
+  filters = filters_with rows (refuses_all refuse_ms) o o.bundle refuse_ms;
+}

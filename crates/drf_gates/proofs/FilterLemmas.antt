@@ -21,14 +21,6 @@ use Rattle.drf_gates.specs.Index.{key_hash, bucket_of, row_bucket, buckets_of, I
 use Rattle.drf_gates.specs.declared.index.Index.{Index}
 use Rattle.drf_gates.proofs.ChainLemmas.{chained-more, passed-last, passed-more}
 
-pub spent_hold_nothing : SpentHoldNothing
-spent_hold_nothing filters now later client agent bundle le = any-filter_same (holds_back later client agent bundle) (is_in_force now) true passes filters
-  where
-    passes : (f : FilterRow) → holds_back later client agent bundle f ≡ true → is_in_force now f ≡ true
-    passes f holds =
-        let still : nat_lt later f.until ≡ true = (and_parts _ (is_of_client client f && (is_on_agent agent f && covers f.bundle bundle)) holds).0 in
-        lt-ltb now f.until (omega (arith, le, ltb-true later f.until still))
-
 pub less_is_held_back : LessIsHeldBack
 less_is_held_back filters f clock bundle is_there before is_bundle is_part below =
     let client : Client = record { role = f.role; framework = f.framework } in

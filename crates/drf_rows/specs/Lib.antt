@@ -19,6 +19,7 @@ pub mod HoldingsLaws
 pub mod ListLaws
 pub mod StepLaws
 pub mod RunLaws
+pub mod FilterLaws
 pub mod LiveLaws
 pub mod CycleLaws
 pub mod ConsistentLaws

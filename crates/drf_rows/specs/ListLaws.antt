@@ -77,6 +77,21 @@ sum_by-as_one {X} f p q one (x ∷ xs) all = elim (cases_Bool (p x)) [
     joined true m n = refl
     joined false m n = omega arith
 
+-- ---- two filters, in either order
+
+pub filter-swap : {X : Type 0} (p q : X → Bool) (xs : List X) → filter p (filter q xs) ≡ filter q (filter p xs)
+filter-swap p q [] = refl
+filter-swap {X} p q (x ∷ xs) = elim (cases_Bool (p x)) [
+  | inl one ↦ elim (cases_Bool (q x)) [
+    | inl two ↦ rw (one, two, one) (ap (λ (ys : List X). x ∷ ys) (filter-swap p q xs))
+    | inr two ↦ rw (one, two) (filter-swap p q xs)
+  ]
+  | inr one ↦ elim (cases_Bool (q x)) [
+    | inl two ↦ rw (one, two, one) (filter-swap p q xs)
+    | inr two ↦ rw (one, two) (filter-swap p q xs)
+  ]
+]
+
 -- ---- counts
 
 pub count_by-cons : {X : Type 0} (p : X → Bool) (x : X) (xs : List X)

@@ -25,8 +25,8 @@ use Rattle.drf_rows.specs.Filters.{is_of_client, is_on_agent, without_agent, wit
 use Rattle.drf_rows.specs.Cycle.{free_of}
 use Rattle.drf_rows.specs.Consistent.{are_distinct, are_distinct_roles, IsAgent, AreAgents, AreFrameworks, IsHeld, IsCovered, IsFilter, offers_counted, IsConsistent}
 use Rattle.drf_rows.specs.ConsistentLaws.{same_text-swap}
-use Rattle.drf_rows.specs.Members.{has_agent, has_framework, activated, with_activity, suppressed_at, suppressed_in, with_suppression, revived, agent_removed, framework_removed}
-use Rattle.drf_rows.specs.Endings.{without_ended, all_on, all_of}
+use Rattle.drf_rows.specs.Members.{has_agent, has_framework, activated, with_activity, suppressed_at, suppressed_in, with_suppression, deactivated, revived, agent_removed, framework_removed}
+use Rattle.drf_rows.specs.Endings.{without_ended, offers_on, all_on, all_of}
 use Rattle.drf_rows.specs.EndingLaws.{sum_by-out, filter-one, none-filter, find-place, IsConsistent-filters}
 use Rattle.drf_rows.specs.ListLaws.{sum_by-map, sum_by-filter-cons, cond_le, each_from, each_from_both, each_append, each_map, each_filter, none_has}
 use Rattle.drf_rows.specs.declared.limits.TheConstants.{LATEST_MOMENT}
@@ -40,7 +40,8 @@ use Rattle.drf_rows.specs.declared.rows.Rows.{Rows}
 
 -- ---- the clock, and filters
 
-pub IsConsistent-clock : (rows : Rows) (clock : ℕ) → IsConsistent rows → clock ≤ LATEST_MOMENT → IsConsistent (record rows { clock = clock })
+pub IsConsistent-clock : (rows : Rows) (clock : ℕ) → IsConsistent rows → clock ≤ LATEST_MOMENT
+    → IsConsistent (record rows { clock = clock })
 IsConsistent-clock rows clock consistent early = record {
   agents = consistent.agents;
   frameworks = consistent.frameworks;
@@ -128,7 +129,8 @@ module _ (rows : Rows) (name : Text) (active : Bool) where
         agents = record {
           names = ap are_distinct names-with_activity ∙ consistent.agents.names;
           each = subst (AllByRecursion IsAgent) same (each_map IsAgent told rows.agents
-              (each_from IsAgent (λ a. IsAgent (told a)) rows.agents (λ a right. record { total = right.total; small = right.small }) consistent.agents.each));
+              (each_from IsAgent (λ a. IsAgent (told a)) rows.agents (λ a right. record { total = right.total; small = right.small })
+              consistent.agents.each));
         };
         frameworks = consistent.frameworks;
         holdings = each_from (IsHeld rows.agents rows.frameworks) (IsHeld agents rows.frameworks) (holdings_of rows)
@@ -158,16 +160,19 @@ quiet_as is_quiet c = record c { suppressed = is_quiet c }
 abbrev suppressed_as : (FrameworkRow → ClientRow → Bool) → FrameworkRow → FrameworkRow
 suppressed_as is_quiet f = record f { clients = map (quiet_as (is_quiet f)) f.clients }
 
+abbrev suppression_in : Client → Bool → ClientRow → Bool
+suppression_in client suppressed c = if same_path c.role client.role then suppressed else c.suppressed
+
 abbrev suppression : Client → Bool → FrameworkRow → ClientRow → Bool
-suppression client suppressed f c =
-    if same_text f.name client.framework then (if same_path c.role client.role then suppressed else c.suppressed) else c.suppressed
+suppression client suppressed f c = if same_text f.name client.framework then suppression_in client suppressed c else c.suppressed
 
 suppressed_at-is : (client : Client) (suppressed : Bool) (c : ClientRow)
     → suppressed_at client suppressed c
-    ≡ quiet_as (λ c. if same_path c.role client.role then suppressed else c.suppressed) c
+    ≡ quiet_as (suppression_in client suppressed) c
 suppressed_at-is client suppressed c = by (same_path c.role client.role)
   where
-    by : (b : Bool) → (if b then record c { suppressed = suppressed } else c) ≡ record c { suppressed = if b then suppressed else c.suppressed }
+    by : (b : Bool)
+        → (if b then record c { suppressed = suppressed } else c) ≡ record c { suppressed = if b then suppressed else c.suppressed }
     by true = refl
     by false = refl
 
@@ -176,7 +181,7 @@ suppressed_in-is : (client : Client) (suppressed : Bool) (f : FrameworkRow)
 suppressed_in-is client suppressed f = by (same_text f.name client.framework)
   where
     by : (b : Bool) → (if b then record f { clients = map (suppressed_at client suppressed) f.clients } else f)
-        ≡ record f { clients = map (quiet_as (λ c. if b then (if same_path c.role client.role then suppressed else c.suppressed) else c.suppressed)) f.clients }
+        ≡ record f { clients = map (quiet_as (λ c. if b then suppression_in client suppressed c else c.suppressed)) f.clients }
     by true = λ i. record f { clients = map (λ c. suppressed_at-is client suppressed c i) f.clients }
     by false = λ i. record f { clients = sym (map-id f.clients) i }
 
@@ -294,7 +299,8 @@ pub free_of-clock : (rows : Rows) (clock : ℕ) (a : AgentRow) → free_of (reco
 unfolding free_of
 free_of-clock rows clock a = refl
 
-pub free_of-filters : (rows : Rows) (filters : List FilterRow) (a : AgentRow) → free_of (record rows { filters = filters }) a ≡ free_of rows a
+pub free_of-filters : (rows : Rows) (filters : List FilterRow) (a : AgentRow)
+    → free_of (record rows { filters = filters }) a ≡ free_of rows a
 unfolding free_of
 free_of-filters rows filters a = refl
 
@@ -329,7 +335,8 @@ none_has-kept name n q [] none = none
 none_has-kept name n q (x ∷ xs) none =
     let parts = and_parts (not (same_text n (name x))) (none_has same_text name n xs) none in
     elim (cases_Bool (q x)) [
-      | inl here ↦ rw here (and_from (not (same_text n (name x))) (none_has same_text name n (filter q xs)) parts.0 (none_has-kept name n q xs parts.1))
+      | inl here ↦ rw here (and_from (not (same_text n (name x))) (none_has same_text name n (filter q xs))
+          parts.0 (none_has-kept name n q xs parts.1))
       | inr past ↦ rw past (none_has-kept name n q xs parts.1)
     ]
 
@@ -387,20 +394,23 @@ module _ (rows : Rows) (name : Text) (nothing : without_ended rows (all_on name)
   IsConsistent-agent_removed consistent =
       let known : (agent : Text) → same_text agent name ≡ false → has_agent rows agent ≡ true
       → list_any (λ a. same_text a.name agent) others ≡ true
-      = λ agent other. list_any-kept (λ (a : AgentRow). same_text a.name agent) stays rows.agents (λ a same. other_name a.name agent name same other) in
+      = λ agent other. list_any-kept (λ (a : AgentRow). same_text a.name agent) stays rows.agents
+      (λ a same. other_name a.name agent name same other) in
       subst IsConsistent (sym removed) (record {
         agents = record {
           names = are_distinct-kept (λ (a : AgentRow). a.name) stays rows.agents consistent.agents.names;
           each = each_filter IsAgent stays rows.agents consistent.agents.each;
         };
         frameworks = consistent.frameworks;
-        holdings = each_from_both (IsHeld rows.agents rows.frameworks) (λ h. same_text h.agent name ≡ false) (IsHeld others rows.frameworks) (holdings_of rows)
+        holdings = each_from_both (IsHeld rows.agents rows.frameworks) (λ h. same_text h.agent name ≡ false)
+            (IsHeld others rows.frameworks) (holdings_of rows)
             (λ h held other. record { agent = known h.agent other held.agent; client = held.client; bundle = held.bundle })
             consistent.holdings (none_on rows name nothing);
         covered = each_filter (IsCovered (holdings_of rows)) stays rows.agents consistent.covered;
         tasks = consistent.tasks;
         filters = each_kept (IsFilter others rows.frameworks) (λ f. not (is_on_agent name f)) rows.filters
-            (each_from (IsFilter rows.agents rows.frameworks) (λ f. not (is_on_agent name f) ≡ true → IsFilter others rows.frameworks f) rows.filters
+            (each_from (IsFilter rows.agents rows.frameworks)
+            (λ f. not (is_on_agent name f) ≡ true → IsFilter others rows.frameworks f) rows.filters
             (λ f right past. record {
               agent = known f.agent (not-true (same_text f.agent name) past) right.agent;
               client = right.client;
@@ -474,16 +484,23 @@ module _ (rows : Rows) (name : Text) (nothing : without_ended rows (all_of name)
           names = are_distinct-kept (λ (f : FrameworkRow). f.name) stays_of rows.frameworks consistent.frameworks.names;
           roles = each_filter HasRoles stays_of rows.frameworks consistent.frameworks.roles;
         };
-        holdings = each_from_both (IsHeld rows.agents rows.frameworks) (λ h. same_text h.client.framework name ≡ false) (IsHeld rows.agents others_of) (holdings_of rows)
-            (λ h held other. record { agent = held.agent; client = is_registered-framework_removed h.client other held.client; bundle = held.bundle })
+        holdings = each_from_both (IsHeld rows.agents rows.frameworks) (λ h. same_text h.client.framework name ≡ false)
+            (IsHeld rows.agents others_of) (holdings_of rows)
+            (λ h held other. record {
+              agent = held.agent;
+              client = is_registered-framework_removed h.client other held.client;
+              bundle = held.bundle;
+            })
             consistent.holdings (none_of rows name nothing);
         covered = consistent.covered;
         tasks = consistent.tasks;
         filters = each_kept (IsFilter rows.agents others_of) (λ f. not (same_text f.framework name)) rows.filters
-            (each_from (IsFilter rows.agents rows.frameworks) (λ f. not (same_text f.framework name) ≡ true → IsFilter rows.agents others_of f) rows.filters
+            (each_from (IsFilter rows.agents rows.frameworks)
+            (λ f. not (same_text f.framework name) ≡ true → IsFilter rows.agents others_of f) rows.filters
             (λ f right past. record {
               agent = right.agent;
-              client = is_registered-framework_removed (record { role = f.role; framework = f.framework }) (not-true (same_text f.framework name) past) right.client;
+              client = is_registered-framework_removed (record { role = f.role; framework = f.framework })
+                  (not-true (same_text f.framework name) past) right.client;
               bundle = right.bundle;
               until = right.until;
             }) consistent.filters);
@@ -521,7 +538,8 @@ amount-cluster_total agents label all = amount-added [] agents label all ∙ ome
 -- names that are distinct tell all others from one
 none_has-one : {X : Type 0} (name : X → Text) (n : Text) (xs ys : List X) (x : X)
     → none_has same_text name n (xs ++ x ∷ ys) ≡ true → same_text n (name x) ≡ false
-none_has-one name n [] ys x none = not-true (same_text n (name x)) (and_parts (not (same_text n (name x))) (none_has same_text name n ys) none).0
+none_has-one name n [] ys x none =
+    not-true (same_text n (name x)) (and_parts (not (same_text n (name x))) (none_has same_text name n ys) none).0
 none_has-one name n (z ∷ xs) ys x none =
     none_has-one name n xs ys x (and_parts (not (same_text n (name z))) (none_has same_text name n (xs ++ x ∷ ys)) none).1
 
@@ -537,8 +555,9 @@ pub others_of_name : {X : Type 0} (name : X → Text) (before after : List X) (x
     → AllByRecursion (λ y. same_text (name y) (name x) ≡ false) (before ++ after)
 others_of_name name [] after x apart =
     none_has-each name (name x) after (and_parts (none_has same_text name (name x) after) (are_distinct (map name after)) apart).0
-others_of_name name (y ∷ before) after x apart =
-    let parts = and_parts (none_has same_text name (name y) (before ++ x ∷ after)) (are_distinct (map name (before ++ x ∷ after))) apart in
+others_of_name {X} name (y ∷ before) after x apart =
+    let later : List X = before ++ x ∷ after in
+    let parts = and_parts (none_has same_text name (name y) later) (are_distinct (map name later)) apart in
     (none_has-one name (name y) before after x parts.0, others_of_name name before after x parts.1)
 
 -- and all others are left without the one of a name
@@ -574,6 +593,29 @@ pub amount-without_named : (agents : List AgentRow) (name : Text) (a : AgentRow)
     ≡ amount_of (cluster_total agents) label
 amount-without_named agents name a label right found =
     let at = find-place (λ (b : AgentRow). same_text b.name name) agents a found in
-    subst (λ (n : Text). amount_of (cluster_total (filter (λ b. not (same_text b.name n)) agents)) label + amount_of (quantities_of a.total) label
-    ≡ amount_of (cluster_total agents) label) (same_from_test a.name name at.1)
+    let without : Text → ℕ = λ n. amount_of (cluster_total (filter (λ b. not (same_text b.name n)) agents)) label in
+    subst (λ (n : Text). without n + amount_of (quantities_of a.total) label ≡ amount_of (cluster_total agents) label)
+    (same_from_test a.name name at.1)
     (amount-without_agent agents at.0.before at.0.after a label right at.0.stands)
+
+-- ---- what ends first
+
+-- where all that ends has ended, what is still to be done is done to the rows that are left
+module _ (old new : Rows) (name : Text) where
+  pub deactivated-ended : new ≡ without_ended old (offers_on name)
+      → record new { agents = with_activity new name false } ≡ deactivated old name
+  deactivated-ended ended = λ i. record (ended i) { agents = with_activity (ended i) name false }
+
+  pub agent_removed-ended : new ≡ without_ended old (all_on name) → without_ended new (all_on name) ≡ new
+      → agent_removed new name ≡ agent_removed old name
+  agent_removed-ended ended nothing =
+      let left : Rows → List AgentRow = λ r. filter (λ a. not (same_text a.name name)) r.agents in
+      (λ i. record (nothing i) { agents = left new; filters = without_agent name new.filters })
+      ∙ (λ i. record (ended i) { agents = left (ended i); filters = without_agent name (ended i).filters })
+
+  pub framework_removed-ended : new ≡ without_ended old (all_of name) → without_ended new (all_of name) ≡ new
+      → framework_removed new name ≡ framework_removed old name
+  framework_removed-ended ended nothing =
+      let left : Rows → List FrameworkRow = λ r. filter (λ f. not (same_text f.name name)) r.frameworks in
+      (λ i. record (nothing i) { frameworks = left new; filters = without_framework name new.filters })
+      ∙ (λ i. record (ended i) { frameworks = left (ended i); filters = without_framework name (ended i).filters })

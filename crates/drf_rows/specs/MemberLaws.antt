@@ -468,8 +468,10 @@ module _ (rows : Rows) (name : Text) (nothing : without_ended rows (all_of name)
       ∙ ap (λ (b : Bool). b && same_path h.client.role client.role) (ap (same_text h.client.framework) its ∙ past))
       (none_of rows name nothing))
 
+  -- other frameworks' clients stay registered
   pub is_registered-framework_removed : (client : Client) → same_text client.framework name ≡ false
-      → is_registered rows.frameworks client ≡ true → is_registered others_of client ≡ true
+      → is_registered rows.frameworks client ≡ true
+      → is_registered (filter (λ f. not (same_text f.name name)) rows.frameworks) client ≡ true
   is_registered-framework_removed client other =
       let roles : FrameworkRow → Bool = λ f. list_any (λ c. same_path c.role client.role) f.clients in
       list_any-kept (λ (f : FrameworkRow). same_text f.name client.framework && roles f) stays_of rows.frameworks

@@ -25,6 +25,7 @@ pub mod CycleLaws
 pub mod ConsistentLaws
 pub mod RegistrationLaws
 pub mod EndingLaws
+pub mod MemberLaws
 pub mod WeightLaws
 pub mod Examples
 pub mod OrderExamples

@@ -25,6 +25,7 @@ pub mod CycleLaws
 pub mod ConsistentLaws
 pub mod RegistrationLaws
 pub mod WeightLaws
+pub mod LifeLaws
 pub mod Examples
 pub mod OrderExamples
 pub mod WeightExamples

@@ -1,13 +1,12 @@
 -- What is proved of the definitions.
-use Rattle.std.specs.Prelude.{◌≡◌, ℕ, ◌+◌, ◌≤◌, max, Bool, true, false, ◌&&◌, List, [], ◌∷◌, ◌++◌, map, length, slice_get, Some, None, IsTrue, nat_lt}
+use Rattle.std.specs.Prelude.{◌≡◌, ℕ, ◌+◌, ◌≤◌, Bool, true, false, ◌&&◌, List, [], ◌∷◌, ◌++◌, map, length, Some, None, IsTrue, nat_lt}
 use Rattle.std.specs.List.{list_all, list_any}
 use Rattle.std.specs.List.Sorted.{IsPermutation}
 use Rattle.std.specs.Ordering.{is_lt}
-use Rattle.drf_role.specs.Text.{Text, same_text}
+use Rattle.drf_role.specs.Text.{Text}
 use Rattle.drf_role.specs.Path.{Path, same_path, begins_with}
 use Rattle.drf_bundle.specs.Quantities.{amount_of}
-use Rattle.drf_bundle.specs.Bundle.{IsBundle, join}
-use Rattle.drf_bundle.specs.declared.resource.Resource.{Resource}
+use Rattle.drf_bundle.specs.Bundle.{IsBundle}
 use Rattle.drf_rows.specs.LimitNumbers.{LimitNumbers}
 use Rattle.drf_rows.specs.Client.{Client, path_of}
 use Rattle.drf_rows.specs.Holdings.{holdings_of, AreBundles}
@@ -15,16 +14,11 @@ use Rattle.drf_rows.specs.Held.{held_by, clients_of}
 use Rattle.drf_rows.specs.Report.{path_cmp, nodes_of, node_line}
 use Rattle.drf_rows.specs.Share.{Standing, stands_before, is_serving_order}
 use Rattle.drf_rows.specs.Cycle.{free_of, is_allocatable, grant, new_offer, with_offer, all_tried, serving_order}
-use Rattle.drf_rows.specs.Filters.{is_of_client, is_on_agent}
-use Rattle.drf_rows.specs.Consistent.{IsConsistent}
 use Rattle.drf_rows.specs.Refusal.{number_of}
 use Rattle.drf_rows.specs.Step.{live_rows, cases_of, refusal_of, effect, answer, rows_after, reply_to, rows_after_all, replies_to}
 use Rattle.drf_rows.specs.declared.rows.AgentRow.{AgentRow}
-use Rattle.drf_rows.specs.declared.rows.OfferRow.{OfferRow}
-use Rattle.drf_rows.specs.declared.rows.TaskRow.{TaskRow}
 use Rattle.drf_rows.specs.declared.rows.Rows.{Rows}
 use Rattle.drf_rows.specs.declared.event.Event.{Event}
-use Rattle.drf_rows.specs.declared.event.Event.TheVariants.{RemoveAgent, RemoveFramework, Decline, Finish, Revive}
 use Rattle.drf_rows.specs.declared.reply.Refusal.{Refusal}
 use Rattle.drf_rows.specs.declared.reply.Reply.TheVariants.{Refused}
 
@@ -136,34 +130,3 @@ NodesBeginPaths =
     (rows : Rows) (node : Path)
     → 1 ≤ length node
     → list_any (same_path node) (nodes_of rows) ≡ list_any (λ c. begins_with (path_of c) node) (clients_of rows)
-
--- an offer that is declined at once, for no time, leaves the rows as they were, but for the clock, the counts and the
--- next number
-abbrev pub DeclinedAtOnceIsUndone : Type 0
-DeclinedAtOnceIsUndone =
-    (rows : Rows) (agent : AgentRow) (client : Client) (bundle : List Resource) (at : ℕ)
-    → IsConsistent rows
-    → let o : OfferRow = new_offer rows agent client bundle in
-    effect (with_offer rows o) (Decline client.framework o.number at 0)
-    ≡ record rows { frameworks = (with_offer rows o).frameworks; next_offer = rows.next_offer + 1; clock = max rows.clock at }
-
--- a task that finishes goes alone, and gives back to its agent exactly what it used
-abbrev pub FinishedIsGivenBack : Type 0
-FinishedIsGivenBack =
-    (rows : Rows) (before later : List TaskRow) (t : TaskRow) (agent : AgentRow) (place : ℕ)
-    → IsConsistent rows
-    → rows.tasks ≡ before ++ t ∷ later
-    → slice_get rows.agents place ≡ Some agent
-    → let after : Rows = effect rows (Finish t.framework t.name) in
-    (after.tasks ≡ before ++ later)
-    × (after.offers ≡ rows.offers)
-    × (same_text t.agent agent.name ≡ true → join (free_of rows agent) t.bundle ≡ Some (free_of after agent))
-    × (same_text t.agent agent.name ≡ false → free_of after agent ≡ free_of rows agent)
-
--- no filter outlives its agent, its framework, or the next revival of its client
-abbrev pub FiltersGoWithTheirOwner : Type 0
-FiltersGoWithTheirOwner =
-    (rows : Rows) (agent framework : Text) (client : Client)
-    → (list_any (is_on_agent agent) (effect rows (RemoveAgent agent)).filters ≡ false)
-    × (list_any (λ f. same_text f.framework framework) (effect rows (RemoveFramework framework)).filters ≡ false)
-    × (list_any (is_of_client client) (effect rows (Revive client.framework client.role)).filters ≡ false)

@@ -25,10 +25,12 @@ pub mod CycleLaws
 pub mod ConsistentLaws
 pub mod RegistrationLaws
 pub mod WeightLaws
-pub mod LifeLaws
 pub mod Examples
 pub mod OrderExamples
 pub mod WeightExamples
 pub mod ReportExamples
 pub mod Laws
+pub mod LifeLaws
+pub mod EndedLaws
+pub mod OfferedLaws
 pub mod ReportLaws

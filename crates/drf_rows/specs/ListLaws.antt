@@ -285,6 +285,10 @@ pub filter_each : {X : Type 0} (p : X → Bool) (xs : List X) → AllByRecursion
 filter_each p [] each = refl
 filter_each {X} p (x ∷ xs) each = rw each.0 (ap (λ (ys : List X). x ∷ ys) (filter_each p xs each.1))
 
+pub any_fails : {X : Type 0} (p : X → Bool) (xs : List X) → AllByRecursion (λ x. p x ≡ false) xs → list_any p xs ≡ false
+any_fails p [] each = refl
+any_fails p (x ∷ xs) each = rw each.0 (any_fails p xs each.1)
+
 module _ {X : Type 0} (p : X → Bool) (before later : List X) (x : X)
     (none : AllByRecursion (λ y. p y ≡ false) before) (passes : p x ≡ true) where
   -- it is found

@@ -1,4 +1,4 @@
-use Rattle.drf_rows.specs.LifeLaws.{declined_at_once, finished_is_given_back, filters_go}
+use Rattle.drf_rows.specs.EndedLaws.{declined_at_once, finished_is_given_back, filters_go}
 use Rattle.drf_rows.proofs.laws.life_law.Goals as goal
 
 pub returns-clause-declined : goal.returns-clause-declined

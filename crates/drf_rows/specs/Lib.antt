@@ -32,4 +32,7 @@ pub mod OrderExamples
 pub mod WeightExamples
 pub mod ReportExamples
 pub mod Laws
+pub mod LifeLaws
+pub mod EndedLaws
+pub mod OfferedLaws
 pub mod ReportLaws

@@ -6,6 +6,7 @@ ghost use Rattle.std.specs.Prelude.{◌≡◌, [], ◌∷◌, codes};
 ghost use Rattle.drf_rows.specs.LimitNumbers.{ceilings};
 ghost use Rattle.drf_rows.specs.Step.{opening, replies_to};
 ghost use Rattle.drf_rows.specs.Laws.{NoneBeforeItself, AtMostOneBefore, OneServingOrder, TooLittleIsNotGranted, FirstIsGrantedAll, CasesRise, RefusedChangesNothing, AcceptedIsCounted, RunsGoOn, LiveRowsReply, LiveRowsGoOn, LiveRowsRun, HeldIsReported, NodesRise, NodesBeginPaths};
+ghost use Rattle.drf_rows.specs.LifeLaws.{DeclinedAtOnceIsUndone, FinishedIsGivenBack, FiltersGoWithTheirOwner, SuppressedIsNotOffered, NumbersAreNew};
 ghost use Rattle.drf_rows.specs.Examples.{one_cycle, two_cycles, two_cycles_replies, two_frameworks, two_frameworks_replies, replies_with, not_offered, offered_whole, refused_as_too_large, one_agent, two_agents, two_events, two_names, three_names, one_framework, one_client, two_registrations, one_role, roles_listed, reserved_for_eng, reserved_for_eng_replies, cpus, cpus_for, mem, gpus};
 ghost use Rattle.drf_rows.specs.OrderExamples.{served, offered, half_at_work, close_shares, equal_shares, weighted_shares, shares_of, first_agent, second_agent, role_tree, more_for_ops, half_weight_of_eng, nothing_held};
 ghost use Rattle.drf_rows.specs.Report.{report_of};
@@ -41,6 +42,20 @@ pub fn live_rows_law()
     ensures reply { LiveRowsReply }
     ensures go_on { LiveRowsGoOn }
     ensures run { LiveRowsRun }
+{}
+
+/// An offer that is declined at once leaves nothing behind, a task that finishes gives back exactly what it used, and no
+/// filter outlives its agent, its framework, or the next revival of its client.
+pub fn life_law()
+    ensures declined { DeclinedAtOnceIsUndone }
+    ensures finished { FinishedIsGivenBack }
+    ensures filters { FiltersGoWithTheirOwner }
+{}
+
+/// A cycle offers nothing to a client that is suppressed, and no number is given to two offers.
+pub fn offers_law()
+    ensures suppressed { SuppressedIsNotOffered }
+    ensures numbers { NumbersAreNew }
 {}
 
 /// A report tells of each node what its clients hold: of those that begin a client's path, in order of path.

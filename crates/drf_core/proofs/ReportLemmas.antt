@@ -39,7 +39,7 @@ pub with_nodes-more : (nodes : List Path) (path : Path) (n : ℕ)
 with_nodes-more nodes path n = rw add-one (fold-append with_node nodes (nodes_to path n) (take (suc n) path ∷ []))
 
 -- the clients of two lists
-pub with_clients-append : (nodes : List Path) (first second : List Client)
+with_clients-append : (nodes : List Path) (first second : List Client)
     → with_clients nodes (first ++ second) ≡ with_clients (with_clients nodes first) second
 with_clients-append nodes first second =
     let on : Client → List Path = λ client. nodes_on (path_of client) in

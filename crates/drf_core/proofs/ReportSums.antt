@@ -5,9 +5,9 @@ use Rattle.std.specs.Cmp.Lexicographic.{slice_cmp, bytes_decides, lists_ties, te
 use Rattle.std.specs.Option.{option_map}
 use Rattle.std.specs.BTreeMap.{get, keys, Updates}
 use Rattle.std.proofs.Common.{refl, sym, ap, subst, ◌∙◌, inl, inr, cond, arith, add-one, get_or}
-use Rattle.std.proofs.Math.Seq.{take-append_seam}
+use Rattle.std.proofs.Math.Seq.{take-append_seam, split_at}
 use Rattle.std.proofs.lemmas.Bool.{cases_Bool, false_from_ne_true, false≢true, or_left, or_right}
-use Rattle.std.proofs.lemmas.List.{length-take-le, take-append-drop}
+use Rattle.std.proofs.lemmas.List.{length-take-le, take-append-drop, map-append}
 use Rattle.std.proofs.Common.{length-append}
 use Rattle.std.proofs.lemmas.List.Elements.{filter-append}
 use Rattle.std.proofs.lemmas.List.Sums.{sum_by-cons, sum_by-append}
@@ -236,13 +236,13 @@ module _ (first second : List Holding) (old : Sums) (can : CanAddAll (first ++ s
             );
       }
 
--- ---- a loop over holdings
+-- ---- a loop over rows that hold something
 
 parted_at : {X : Type 0} (of : X → Holding) (xs : List X) (i : ℕ) (x : X) → i < length xs → x ≡ get_or xs i x
     → map of xs ≡ map of (take i xs) ++ of x ∷ map of (drop (suc i) xs)
-parted_at of [] i x within is = absurd (omega arith)
-parted_at {X} of (y ∷ xs) zero x within is = ap (λ (z : X). of z ∷ map of xs) (sym is)
-parted_at of (y ∷ xs) (suc i) x within is = ap (λ (hs : List Holding). of y ∷ hs) (parted_at of xs i x (omega arith) is)
+parted_at {X} of xs i x within is =
+    ap (map of) (split_at xs i x within ∙ ap (λ (y : X). take i xs ++ y ∷ drop (suc i) xs) (sym is))
+    ∙ map-append of (take i xs) (x ∷ drop (suc i) xs)
 
 module _ {X : Type 0} (of : X → Holding) (xs : List X) (i : ℕ) (x : X) (within : i < length xs) (is : x ≡ get_or xs i x)
     (old now : Sums) (added : AddAll (map of (take i xs)) old now) where

@@ -25,7 +25,7 @@ Sums = BTreeMap Path (List Entry)
 abbrev pub with_clients : List Path → List Client → List Path
 with_clients nodes clients = fold with_node nodes (flat_map (λ client. nodes_on (path_of client)) clients)
 
--- the sorter has a client below each of the nodes
+-- the sorter has a client at or below each of the nodes
 abbrev pub AreNodes : Content → List Path → Type 0
 AreNodes content nodes = AllByRecursion (λ node. has_node content node ≡ true) nodes
 

@@ -1,8 +1,8 @@
 //! The report of shares. What a node holds is summed from the rows, each holding along the path of its client; its
 //! shares and its count are the sorter's.
 ghost use Rattle.std.specs.Prelude.{◌≡◌, ◌<◌, ◌^◌, [], true, map, fold, flat_map, length, All, IfOk, IsTrue, OnOk, Some, sum_by};
-ghost use Rattle.drf_role.specs.Text.{Text};
 ghost use Rattle.std.specs.BTreeMap.{get, keys};
+ghost use Rattle.drf_role.specs.Text.{Text};
 ghost use Rattle.drf_bundle.specs.Quantities.{amount_of, is_in_order};
 ghost use Rattle.drf_bundle.specs.Bundle.{quantities_of};
 ghost use Rattle.drf_rows.specs.Held.{client_of};

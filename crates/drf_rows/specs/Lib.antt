@@ -31,6 +31,7 @@ pub mod Examples
 pub mod OrderExamples
 pub mod WeightExamples
 pub mod ReportExamples
+pub mod LifeExamples
 pub mod Laws
 pub mod LifeLaws
 pub mod EndedLaws

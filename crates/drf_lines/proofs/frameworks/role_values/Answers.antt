@@ -1,7 +1,7 @@
 use Rattle.std.proofs.Common.{subst, take_all}
 use Rattle.std.proofs.lemmas.List.Elements.{All-more}
-use Rattle.drf_lines.proofs.Events.{IsRoleRead, AreRolesRead, roles_read, values_more}
-use Rattle.drf_lines.proofs.event_line.role_values.Goals as goal
+use Rattle.drf_lines.proofs.Texts.{IsRoleRead, AreRolesRead, roles_read, values_more}
+use Rattle.drf_lines.proofs.frameworks.role_values.Goals as goal
 
 pub loop-role-preserved : goal.loop-role-preserved
 loop-role-preserved c =

@@ -1,5 +1,6 @@
-use Rattle.drf_lines.proofs.Events.{holds_at_ok, agent_read}
-use Rattle.drf_lines.proofs.event_line.agent_value.Goals as goal
+use Rattle.drf_lines.proofs.Events.{agent_read}
+use Rattle.drf_lines.proofs.Texts.{holds_at_ok}
+use Rattle.drf_lines.proofs.agents.agent_value.Goals as goal
 
 pub returns-clause-read : goal.returns-clause-read
 returns-clause-read c =

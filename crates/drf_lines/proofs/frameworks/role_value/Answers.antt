@@ -1,7 +1,7 @@
 use Rattle.std.proofs.Common.{ap, sym, ◌∙◌}
 use Rattle.drf_role.specs.Parts.{parts_of}
-use Rattle.drf_lines.proofs.Events.{role_read}
-use Rattle.drf_lines.proofs.event_line.role_value.Goals as goal
+use Rattle.drf_lines.proofs.Texts.{role_read}
+use Rattle.drf_lines.proofs.frameworks.role_value.Goals as goal
 
 pub returns-in-Ok-json-clause-read : goal.returns-in-Ok-json-clause-read
 returns-in-Ok-json-clause-read c =

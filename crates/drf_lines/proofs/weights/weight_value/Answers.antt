@@ -1,7 +1,8 @@
 use Rattle.std.proofs.Common.{ap, sym, ◌∙◌, rules, arith}
 use Rattle.drf_role.specs.Parts.{parts_of}
-use Rattle.drf_lines.proofs.Events.{holds_at_ok, role_read, weight_read}
-use Rattle.drf_lines.proofs.event_line.weight_value.Goals as goal
+use Rattle.drf_lines.proofs.Events.{weight_read}
+use Rattle.drf_lines.proofs.Texts.{holds_at_ok, role_read}
+use Rattle.drf_lines.proofs.weights.weight_value.Goals as goal
 
 pub returns-clause-read : goal.returns-clause-read
 returns-clause-read c =

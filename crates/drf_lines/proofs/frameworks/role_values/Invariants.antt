@@ -1,8 +1,8 @@
 use Rattle.std.proofs.Common.{◌≡◌, map, take, All}
 use Rattle.serde_json.specs.View.{view}
-use Rattle.drf_lines.specs.EventLine.{role_value}
-use Rattle.drf_lines.proofs.Events.{IsRoleRead}
-use Rattle.drf_lines.proofs.event_line.role_values.Given as goal
+use Rattle.drf_lines.specs.FrameworkEvents.{role_value}
+use Rattle.drf_lines.proofs.Texts.{IsRoleRead}
+use Rattle.drf_lines.proofs.frameworks.role_values.Given as goal
 
 abbrev pub invariant-loop-role : goal.invariant-loop-role
 invariant-loop-role l =

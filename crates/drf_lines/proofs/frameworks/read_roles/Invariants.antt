@@ -1,7 +1,7 @@
 use Rattle.std.proofs.Common.{◌≡◌, map, drop}
 use Rattle.drf_lines.specs.Words.{roles_in}
 use Rattle.drf_lines.proofs.RoleLists.{roles_after}
-use Rattle.drf_lines.proofs.line.read_roles.Given as goal
+use Rattle.drf_lines.proofs.frameworks.read_roles.Given as goal
 
 abbrev pub invariant-loop-text : goal.invariant-loop-text
 invariant-loop-text l =

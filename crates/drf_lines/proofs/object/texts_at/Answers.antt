@@ -5,10 +5,10 @@ use Rattle.std.specs.Option.{ok_or}
 use Rattle.drf_lines.specs.declared.fault.LineFault.TheVariants.{BadShape}
 use Rattle.serde_json.specs.Find.{get, as_str, as_array}
 use Rattle.serde_json.specs.View.{view}
-use Rattle.drf_lines.specs.Meaning.{texts_of, texts_at}
+use Rattle.drf_lines.specs.Object.{texts_of, texts_at}
 use Rattle.drf_lines.proofs.Values.{texts_after, texts_after-nil, texts_after-end, texts_after-text, texts_after-none}
 use Rattle.drf_lines.proofs.Exits.{fault_of_none}
-use Rattle.drf_lines.proofs.line.texts_at.Goals as goal
+use Rattle.drf_lines.proofs.object.texts_at.Goals as goal
 
 pub returns-in_err-items : goal.returns-in_err-items
 unfolding texts_at

@@ -1,6 +1,6 @@
 use Rattle.serde_json.specs.View.{view}
 use Rattle.drf_lines.proofs.Values.{members_counted}
-use Rattle.drf_lines.proofs.line.has_members.Goals as goal
+use Rattle.drf_lines.proofs.object.has_members.Goals as goal
 
 pub returns-in-Some : goal.returns-in-Some
 returns-in-Some c = rw c.len.ensures.len

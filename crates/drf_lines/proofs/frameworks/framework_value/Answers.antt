@@ -1,5 +1,5 @@
 use Rattle.drf_lines.proofs.Events.{framework_read}
-use Rattle.drf_lines.proofs.event_line.framework_value.Goals as goal
+use Rattle.drf_lines.proofs.frameworks.framework_value.Goals as goal
 
 pub returns-in-Ok-json-6-clause-read : goal.returns-in-Ok-json-6-clause-read
 returns-in-Ok-json-6-clause-read c =

@@ -4,7 +4,7 @@ use Rattle.std.proofs.lemmas.List.{at_drop_more, at_drop_all}
 use Rattle.std.proofs.lemmas.Result.{err_from_is_err_and}
 use Rattle.drf_lines.specs.Fault.{IsReadOf}
 use Rattle.drf_lines.proofs.RoleLists.{roles_after, roles_after-end, roles_after-role, roles_after-refused}
-use Rattle.drf_lines.proofs.line.read_roles.Goals as goal
+use Rattle.drf_lines.proofs.frameworks.read_roles.Goals as goal
 
 -- the text at a place is the first of those that are left
 first_left : (roles : List (List (List ℕ))) (texts : List (Bor (List ℕ))) (i : ℕ) (d : Bor (List ℕ)) → i < length texts

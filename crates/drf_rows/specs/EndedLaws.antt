@@ -18,7 +18,8 @@ use Rattle.drf_rows.specs.Holdings.{Holding, of_offer, of_task, holdings_of, Are
 use Rattle.drf_rows.specs.HoldingsLaws.{units_on, units_on-append, units_on-cons}
 use Rattle.drf_rows.specs.Cycle.{free_of, new_offer, with_offer, at_moment}
 use Rattle.drf_rows.specs.CycleLaws.{bundle-free_of, units-free_of}
-use Rattle.drf_rows.specs.Offers.{offer_at, is_task, declined}
+use Rattle.drf_rows.specs.Endings.{is_task}
+use Rattle.drf_rows.specs.Offers.{offer_at, declined}
 use Rattle.drf_rows.specs.Consistent.{are_distinct_tasks, IsAgent, IsCovered, IsConsistent}
 use Rattle.drf_rows.specs.ConsistentLaws.{same_text-swap, numbers_within, bundles-consistent}
 use Rattle.drf_rows.specs.ListLaws.{filter_each, find_only, filter_only, each_from, each_at, each_true, each_fails, each_append, each_parts}

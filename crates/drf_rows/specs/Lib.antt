@@ -19,6 +19,7 @@ pub mod HoldingsLaws
 pub mod ListLaws
 pub mod StepLaws
 pub mod RunLaws
+pub mod FilterLaws
 pub mod LiveLaws
 pub mod CycleLaws
 pub mod ConsistentLaws
@@ -30,5 +31,9 @@ pub mod Examples
 pub mod OrderExamples
 pub mod WeightExamples
 pub mod ReportExamples
+pub mod LifeExamples
 pub mod Laws
+pub mod LifeLaws
+pub mod EndedLaws
+pub mod OfferedLaws
 pub mod ReportLaws

@@ -1,29 +1,43 @@
 -- Filters that are no longer in force change nothing.
-use Rattle.std.specs.Prelude.{◌≡◌, ℕ, ◌+◌, ◌≤◌, max, false, List, [], ◌∷◌, filter, Option, Some, None, nat_lt}
+use Rattle.std.specs.Prelude.{◌≡◌, ℕ, ◌+◌, ◌≤◌, max, Bool, true, false, not, ◌&&◌, List, [], ◌∷◌, ◌++◌, filter, Option, Some, None, if◌then◌else◌, nat_le}
 use Rattle.std.specs.Option.{option_map_or}
-use Rattle.std.proofs.Common.{refl, sym, ap, ◌∙◌, inl, inr, cond, arith}
-use Rattle.std.proofs.lemmas.Bool.{cases_Bool}
-use Rattle.std.proofs.lemmas.Bool.Decides.{nat_tests}
+use Rattle.std.proofs.Common.{refl, sym, ap, subst, ◌∙◌, arith}
+use Rattle.drf_role.specs.Text.{Text, same_text}
 use Rattle.drf_bundle.specs.declared.resource.Resource.{Resource}
 use Rattle.drf_rows.specs.LimitNumbers.{LimitNumbers}
 use Rattle.drf_rows.specs.Client.{Client}
 use Rattle.drf_rows.specs.Held.{standing_of}
-use Rattle.drf_rows.specs.Cycle.{free_of, grant, new_offer, with_offer, tried, all_tried, turn_order, turn, turns, at_moment, cycle}
+use Rattle.drf_rows.specs.Filters.{in_force, is_of_client, is_on_agent, is_held_back}
+use Rattle.drf_rows.specs.FilterLaws.{held_back-in_force, in_force-later, number_in_force-later, in_force-left, in_force-more}
+use Rattle.drf_rows.specs.Cycle.{free_of, is_allocatable, entitlement, grant, new_offer, with_offer, tried, all_tried, turn_order, turn, turns, at_moment, cycle}
+use Rattle.drf_rows.specs.Offers.{Start, offer_at, left_of_offer, refused_until, filter_of, refuses_all, refuses_rest, filters_with, are_many_filters, accepted, declined}
 use Rattle.drf_rows.specs.Report.{report_of}
 use Rattle.drf_rows.specs.Step.{live_rows, refusal_of, effect, answer, rows_after, rows_after_all, reply_to, replies_to}
 use Rattle.drf_rows.specs.declared.event.Event.{Event}
-use Rattle.drf_rows.specs.declared.event.Event.TheVariants.{AddAgent, AddFramework, SetWeight, Cycle, Report}
+use Rattle.drf_rows.specs.declared.event.Event.TheVariants.{AddAgent, RemoveAgent, ActivateAgent, DeactivateAgent, AddFramework, RemoveFramework, Accept, Decline, Rescind, Finish, Suppress, Revive, SetWeight, Cycle, Report}
 use Rattle.drf_rows.specs.declared.reply.Refusal.{Refusal}
 use Rattle.drf_rows.specs.declared.reply.Reply.TheVariants.{Refused}
 use Rattle.drf_rows.specs.declared.rows.AgentRow.{AgentRow}
 use Rattle.drf_rows.specs.declared.rows.FilterRow.{FilterRow}
+use Rattle.drf_rows.specs.declared.rows.OfferRow.{OfferRow}
 use Rattle.drf_rows.specs.declared.rows.Rows.{Rows}
 
 -- the rows with other filters
 abbrev with_filters : Rows → List FilterRow → Rows
 with_filters rows filters = record rows { filters = filters }
 
--- ---- no grant reads a filter yet
+-- ---- a cycle over rows whose filters hold the same back
+
+abbrev HoldTheSame : List FilterRow → List FilterRow → ℕ → Type 0
+HoldTheSame fs gs clock =
+    (client : Client) (agent : Text) (bundle : List Resource) → is_held_back fs clock client agent bundle ≡ is_held_back gs clock client agent bundle
+
+granted-filters : (rows : Rows) (fs : List FilterRow) (agent : AgentRow) (client : Client) → HoldTheSame fs rows.filters rows.clock
+    → grant (with_filters rows fs) agent client ≡ grant rows agent client
+unfolding free_of
+granted-filters rows fs agent client same =
+    let bundle = entitlement (free_of rows agent) client in
+    λ i. if is_allocatable bundle && not (same client agent.name bundle i) then Some bundle else None
 
 offered-filters : (rows : Rows) (fs : List FilterRow) (agent : AgentRow) (client : Client) (granted : Option (List Resource))
     → option_map_or (λ bundle. with_offer (with_filters rows fs) (new_offer rows agent client bundle)) granted (with_filters rows fs)
@@ -32,30 +46,14 @@ unfolding with_offer
 offered-filters rows fs agent client None = refl
 offered-filters rows fs agent client (Some bundle) = refl
 
-tried-filters : (rows : Rows) (fs : List FilterRow) (agent : AgentRow) (client : Client)
+tried-filters : (rows : Rows) (fs : List FilterRow) (agent : AgentRow) (client : Client) → HoldTheSame fs rows.filters rows.clock
     → tried (with_filters rows fs) agent client ≡ with_filters (tried rows agent client) fs
-unfolding free_of
-tried-filters rows fs agent client = offered-filters rows fs agent client (grant rows agent client)
+tried-filters rows fs agent client same =
+    ap (λ (granted : Option (List Resource)). option_map_or (λ bundle. with_offer (with_filters rows fs) (new_offer rows agent client bundle)) granted (with_filters rows fs))
+    (granted-filters rows fs agent client same)
+    ∙ offered-filters rows fs agent client (grant rows agent client)
 
-all_tried-filters : (rows : Rows) (fs : List FilterRow) (agent : AgentRow) (clients : List Client)
-    → all_tried (with_filters rows fs) agent clients ≡ with_filters (all_tried rows agent clients) fs
-all_tried-filters rows fs agent [] = refl
-all_tried-filters rows fs agent (client ∷ clients) =
-    ap (λ (r : Rows). all_tried r agent clients) (tried-filters rows fs agent client)
-    ∙ all_tried-filters (tried rows agent client) fs agent clients
-
-turn-filters : (rows : Rows) (fs : List FilterRow) (agent : AgentRow)
-    → turn (with_filters rows fs) agent ≡ with_filters (turn rows agent) fs
-unfolding turn standing_of
-turn-filters rows fs agent = all_tried-filters rows fs agent (turn_order rows)
-
-turns-filters : (rows : Rows) (fs : List FilterRow) (agents : List AgentRow)
-    → turns (with_filters rows fs) agents ≡ with_filters (turns rows agents) fs
-turns-filters rows fs [] = refl
-turns-filters rows fs (agent ∷ agents) =
-    ap (λ (r : Rows). turns r agents) (turn-filters rows fs agent) ∙ turns-filters (turn rows agent) fs agents
-
--- a cycle moves the clock, and keeps the filters
+-- filters and clock stay in a turn, and so does what is held back
 kept-tried : (rows : Rows) (agent : AgentRow) (client : Client) (granted : Option (List Resource))
     → let after : Rows = option_map_or (λ bundle. with_offer rows (new_offer rows agent client bundle)) granted rows in
     (after.filters ≡ rows.filters) × (after.clock ≡ rows.clock)
@@ -82,59 +80,162 @@ kept-turns rows (agent ∷ agents) =
     let later = kept-turns (turn rows agent) agents in
     (later.0 ∙ first.0, later.1 ∙ first.1)
 
--- ---- filters in force
+still_the_same : (rows after : Rows) (fs : List FilterRow) → (after.filters ≡ rows.filters) × (after.clock ≡ rows.clock)
+    → HoldTheSame fs rows.filters rows.clock → HoldTheSame fs after.filters after.clock
+still_the_same rows after fs kept same = subst (λ (q : List FilterRow × ℕ). HoldTheSame fs q.0 q.1) (λ i. (sym kept.0 i, sym kept.1 i)) same
 
--- of those in force at a moment, those in force at a later one
-live_later : (now later : ℕ) (fs : List FilterRow) → now ≤ later
-    → filter (λ f. nat_lt later f.until) (filter (λ f. nat_lt now f.until) fs) ≡ filter (λ f. nat_lt later f.until) fs
-live_later now later [] le = refl
-live_later now later (f ∷ fs) le = elim (cases_Bool (nat_lt now f.until)) [
-  | inl here ↦ rw here (ap (λ (gs : List FilterRow). cond (nat_lt later f.until) (f ∷ gs) gs) (live_later now later fs le))
-  | inr past ↦
-      let gone : nat_lt later f.until ≡ false = grind (arith, nat_tests) in
-      rw (past, gone) (live_later now later fs le)
-]
+all_tried-filters : (rows : Rows) (fs : List FilterRow) (agent : AgentRow) (clients : List Client) → HoldTheSame fs rows.filters rows.clock
+    → all_tried (with_filters rows fs) agent clients ≡ with_filters (all_tried rows agent clients) fs
+all_tried-filters rows fs agent [] same = refl
+all_tried-filters rows fs agent (client ∷ clients) same =
+    let after : Rows = tried rows agent client in
+    ap (λ (r : Rows). all_tried r agent clients) (tried-filters rows fs agent client same)
+    ∙ all_tried-filters after fs agent clients (still_the_same rows after fs (kept-tried rows agent client (grant rows agent client)) same)
+
+turn-filters : (rows : Rows) (fs : List FilterRow) (agent : AgentRow) → HoldTheSame fs rows.filters rows.clock
+    → turn (with_filters rows fs) agent ≡ with_filters (turn rows agent) fs
+unfolding turn standing_of
+turn-filters rows fs agent same = all_tried-filters rows fs agent (turn_order rows) same
+
+turns-filters : (rows : Rows) (fs : List FilterRow) (agents : List AgentRow) → HoldTheSame fs rows.filters rows.clock
+    → turns (with_filters rows fs) agents ≡ with_filters (turns rows agents) fs
+turns-filters rows fs [] same = refl
+turns-filters rows fs (agent ∷ agents) same =
+    let after : Rows = turn rows agent in
+    ap (λ (r : Rows). turns r agents) (turn-filters rows fs agent same)
+    ∙ turns-filters after fs agents (still_the_same rows after fs (kept-turn rows agent) same)
+
+-- ---- the rows with the filters in force alone
+
+module _ (rows : Rows) (at : ℕ) where
+  -- from the clock on
+  late : rows.clock ≤ max rows.clock at
+  late = omega arith
+
+  live_hold_the_same : HoldTheSame (in_force rows.clock rows.filters) rows.filters (max rows.clock at)
+  live_hold_the_same client agent bundle = held_back-in_force rows.filters rows.clock (max rows.clock at) client agent bundle late
+
+  are_many-live : (limits : LimitNumbers) → are_many_filters limits (live_rows rows) at ≡ are_many_filters limits rows at
+  are_many-live limits = ap (nat_le limits.filters) (number_in_force-later rows.clock (max rows.clock at) rows.filters late)
+
+  cycle-live : cycle (live_rows rows) at ≡ with_filters (cycle rows at) (in_force rows.clock rows.filters)
+  unfolding cycle
+  cycle-live = turns-filters (at_moment rows at) (in_force rows.clock rows.filters) (filter (λ a. a.active) rows.agents) live_hold_the_same
 
 refusal_of-live : (limits : LimitNumbers) (rows : Rows) (event : Event) → refusal_of limits (live_rows rows) event ≡ refusal_of limits rows event
 unfolding refusal_of
 refusal_of-live limits rows (AddAgent agent total) = refl
+refusal_of-live limits rows (RemoveAgent agent) = refl
+refusal_of-live limits rows (ActivateAgent agent) = refl
+refusal_of-live limits rows (DeactivateAgent agent) = refl
 refusal_of-live limits rows (AddFramework framework roles) = refl
+refusal_of-live limits rows (RemoveFramework framework) = refl
+refusal_of-live limits rows (Accept framework offer task used at refuse_ms) = rw (are_many-live rows at limits)
+refusal_of-live limits rows (Decline framework offer at refuse_ms) = rw (are_many-live rows at limits)
+refusal_of-live limits rows (Rescind offer) = refl
+refusal_of-live limits rows (Finish framework task) = refl
+refusal_of-live limits rows (Suppress framework role) = refl
+refusal_of-live limits rows (Revive framework role) = refl
 refusal_of-live limits rows (SetWeight role weight) = refl
 refusal_of-live limits rows (Cycle at) = refl
 refusal_of-live limits rows Report = refl
 
--- the effect on the live rows has the live rows of the effect
-effect-live : (rows : Rows) (event : Event)
-    → (n : ℕ)
-    → live_rows (record (effect (live_rows rows) event) { accepted = n }) ≡ live_rows (record (effect rows event) { accepted = n })
-unfolding effect cycle
-effect-live rows (AddAgent agent total) n =
-    ap (λ (fs : List FilterRow). record (effect rows (AddAgent agent total)) { accepted = n; filters = fs }) (live_later rows.clock rows.clock rows.filters (omega arith))
-effect-live rows (AddFramework framework roles) n =
-    ap (λ (fs : List FilterRow). record (effect rows (AddFramework framework roles)) { accepted = n; filters = fs }) (live_later rows.clock rows.clock rows.filters (omega arith))
-effect-live rows (SetWeight role weight) n =
-    ap (λ (fs : List FilterRow). record (effect rows (SetWeight role weight)) { accepted = n; filters = fs }) (live_later rows.clock rows.clock rows.filters (omega arith))
-effect-live rows (Cycle at) n =
-    let agents : List AgentRow = filter (λ a. a.active) rows.agents in
-    let start : Rows = at_moment rows at in
-    let fs : List FilterRow = filter (λ f. nat_lt rows.clock f.until) rows.filters in
-    let kept = kept-turns start agents in
-    ap (λ (r : Rows). live_rows (record r { accepted = n })) (turns-filters start fs agents)
-    ∙ ap (λ (gs : List FilterRow). record (turns start agents) { accepted = n; filters = gs })
-    ((λ i. filter (λ f. nat_lt (kept.1 i) f.until) fs)
-    ∙ live_later rows.clock (max rows.clock at) rows.filters (omega arith)
-    ∙ sym (λ i. filter (λ f. nat_lt (kept.1 i) f.until) (kept.0 i)))
-effect-live rows Report n =
-    ap (λ (fs : List FilterRow). record rows { accepted = n; filters = fs }) (live_later rows.clock rows.clock rows.filters (omega arith))
+-- rows that are the same but for filters, of which the same are in force at their clock
+live-kept : (after : Rows) (fs : List FilterRow) → in_force after.clock fs ≡ in_force after.clock after.filters
+    → live_rows (with_filters after fs) ≡ live_rows after
+live-kept after fs same = ap (with_filters after) same
+
+-- as those that were in force before
+live-late : (after : Rows) (now : ℕ) → now ≤ after.clock → live_rows (with_filters after (in_force now after.filters)) ≡ live_rows after
+live-late after now le = live-kept after (in_force now after.filters) (in_force-later now after.clock after.filters le)
+
+-- one more filter, or none
+live-refused : (now later : ℕ) (fs : List FilterRow) (refused : Bool) (more : List FilterRow) → now ≤ later
+    → in_force later (if refused then in_force now fs ++ more else in_force now fs) ≡ in_force later (if refused then fs ++ more else fs)
+live-refused now later fs true more le = in_force-more now later fs more le
+live-refused now later fs false more le = in_force-later now later fs le
+
+-- the live rows after some event, counted
+module _ (rows : Rows) (n : ℕ) where
+  -- where the filters stay
+  live-stay : (after : Rows) → rows.clock ≤ after.clock → after.filters ≡ rows.filters
+      → live_rows (record after { filters = in_force rows.clock rows.filters; accepted = n }) ≡ live_rows (record after { accepted = n })
+  live-stay after le same =
+      ap (λ (fs : List FilterRow). live_rows (record after { filters = in_force rows.clock fs; accepted = n })) (sym same)
+      ∙ live-late (record after { accepted = n }) rows.clock le
+
+  -- where some leave
+  live-leave : (after : Rows) (p : FilterRow → Bool) → after.clock ≡ rows.clock → after.filters ≡ filter p rows.filters
+      → live_rows (record after { filters = filter p (in_force rows.clock rows.filters); accepted = n }) ≡ live_rows (record after { accepted = n })
+  live-leave after p clock left =
+      live-kept (record after { accepted = n }) (filter p (in_force rows.clock rows.filters)) (
+      in_force-left rows.clock after.clock p rows.filters (omega (arith, clock)) ∙ ap (in_force after.clock) (sym left))
+
+  live-accepted : (at : ℕ) (starts : List Start) (refuse_ms : ℕ) (found : Option OfferRow)
+      → live_rows (record (option_map_or (λ o. accepted (at_moment (live_rows rows) at) o starts refuse_ms) found (live_rows rows)) { accepted = n })
+      ≡ live_rows (record (option_map_or (λ o. accepted (at_moment rows at) o starts refuse_ms) found rows) { accepted = n })
+  live-accepted at starts refuse_ms None = live-stay rows (omega arith) refl
+  live-accepted at starts refuse_ms (Some o) =
+      let start : Rows = at_moment rows at in
+      let refused : Bool = refuses_rest o starts refuse_ms in
+      live-kept (record (accepted start o starts refuse_ms) { accepted = n })
+      (filters_with (at_moment (live_rows rows) at) refused o (left_of_offer o starts) refuse_ms)
+      (live-refused rows.clock start.clock rows.filters refused (filter_of o (left_of_offer o starts) (refused_until start.clock refuse_ms) ∷ []) (omega arith))
+
+  live-declined : (at refuse_ms : ℕ) (found : Option OfferRow)
+      → live_rows (record (option_map_or (λ o. declined (at_moment (live_rows rows) at) o refuse_ms) found (live_rows rows)) { accepted = n })
+      ≡ live_rows (record (option_map_or (λ o. declined (at_moment rows at) o refuse_ms) found rows) { accepted = n })
+  live-declined at refuse_ms None = live-stay rows (omega arith) refl
+  live-declined at refuse_ms (Some o) =
+      let start : Rows = at_moment rows at in
+      live-kept (record (declined start o refuse_ms) { accepted = n })
+      (filters_with (at_moment (live_rows rows) at) (refuses_all refuse_ms) o o.bundle refuse_ms)
+      (live-refused rows.clock start.clock rows.filters (refuses_all refuse_ms) (filter_of o o.bundle (refused_until start.clock refuse_ms) ∷ []) (omega arith))
+
+  live-cycle : (at : ℕ) → live_rows (record (cycle (live_rows rows) at) { accepted = n }) ≡ live_rows (record (cycle rows at) { accepted = n })
+  unfolding cycle
+  live-cycle at =
+      let agents : List AgentRow = filter (λ a. a.active) rows.agents in
+      let kept = kept-turns (at_moment rows at) agents in
+      ap (λ (r : Rows). live_rows (record r { accepted = n })) (cycle-live rows at)
+      ∙ live-stay (turns (at_moment rows at) agents) (omega (arith, kept.1)) kept.0
+
+  -- the effect on the live rows has the live rows of the effect
+  effect-live : (event : Event) → live_rows (record (effect (live_rows rows) event) { accepted = n }) ≡ live_rows (record (effect rows event) { accepted = n })
+  unfolding effect
+  effect-live (AddAgent agent total) = live-stay (effect rows (AddAgent agent total)) (omega arith) refl
+  effect-live (RemoveAgent agent) = live-leave (effect rows (RemoveAgent agent)) (λ f. not (is_on_agent agent f)) refl refl
+  effect-live (ActivateAgent agent) = live-stay (effect rows (ActivateAgent agent)) (omega arith) refl
+  effect-live (DeactivateAgent agent) = live-stay (effect rows (DeactivateAgent agent)) (omega arith) refl
+  effect-live (AddFramework framework roles) = live-stay (effect rows (AddFramework framework roles)) (omega arith) refl
+  effect-live (RemoveFramework framework) = live-leave (effect rows (RemoveFramework framework)) (λ f. not (same_text f.framework framework)) refl refl
+  effect-live (Accept framework offer task used at refuse_ms) = live-accepted at ((task, used) ∷ []) refuse_ms (offer_at rows offer)
+  effect-live (Decline framework offer at refuse_ms) = live-declined at refuse_ms (offer_at rows offer)
+  effect-live (Rescind offer) = live-stay (effect rows (Rescind offer)) (omega arith) refl
+  effect-live (Finish framework task) = live-stay (effect rows (Finish framework task)) (omega arith) refl
+  effect-live (Suppress framework role) = live-stay (effect rows (Suppress framework role)) (omega arith) refl
+  effect-live (Revive framework role) =
+      live-leave (effect rows (Revive framework role)) (λ f. not (is_of_client (record { role = role; framework = framework }) f)) refl refl
+  effect-live (SetWeight role weight) = live-stay (effect rows (SetWeight role weight)) (omega arith) refl
+  effect-live (Cycle at) = live-cycle at
+  effect-live Report = live-stay rows (omega arith) refl
 
 answer-live : (rows : Rows) (event : Event) → answer (live_rows rows) (effect (live_rows rows) event) event ≡ answer rows (effect rows event) event
-unfolding effect cycle report_of standing_of
+unfolding effect report_of standing_of
 answer-live rows (AddAgent agent total) = refl
+answer-live rows (RemoveAgent agent) = refl
+answer-live rows (ActivateAgent agent) = refl
+answer-live rows (DeactivateAgent agent) = refl
 answer-live rows (AddFramework framework roles) = refl
+answer-live rows (RemoveFramework framework) = refl
+answer-live rows (Accept framework offer task used at refuse_ms) = refl
+answer-live rows (Decline framework offer at refuse_ms) = refl
+answer-live rows (Rescind offer) = refl
+answer-live rows (Finish framework task) = refl
+answer-live rows (Suppress framework role) = refl
+answer-live rows (Revive framework role) = refl
 answer-live rows (SetWeight role weight) = refl
-answer-live rows (Cycle at) =
-    ap (λ (r : Rows). answer rows r (Cycle at))
-    (turns-filters (at_moment rows at) (filter (λ f. nat_lt rows.clock f.until) rows.filters) (filter (λ a. a.active) rows.agents))
+answer-live rows (Cycle at) = ap (λ (r : Rows). answer rows r (Cycle at)) (cycle-live rows at)
 answer-live rows Report = refl
 
 reply_by : (rows live : Rows) (event : Event) (refusal : Option Refusal) → answer live (effect live event) event ≡ answer rows (effect rows event) event
@@ -151,9 +252,9 @@ reply_to-live limits rows event =
 live_by : (rows : Rows) (event : Event) (refusal : Option Refusal) (n : ℕ)
     → live_rows (option_map_or (λ refusal. live_rows rows) refusal (record (effect (live_rows rows) event) { accepted = n }))
     ≡ live_rows (option_map_or (λ refusal. rows) refusal (record (effect rows event) { accepted = n }))
-live_by rows event None n = effect-live rows event n
+live_by rows event None n = effect-live rows n event
 live_by rows event (Some refusal) n =
-    ap (λ (fs : List FilterRow). record rows { filters = fs }) (live_later rows.clock rows.clock rows.filters (omega arith))
+    live-late rows rows.clock (omega arith)
 
 pub rows_after-live : (limits : LimitNumbers) (rows : Rows) (event : Event)
     → live_rows (rows_after limits (live_rows rows) event) ≡ live_rows (rows_after limits rows event)
@@ -187,4 +288,4 @@ rows_after_all-same_live limits a b (event ∷ events) same =
     rows_after_all-same_live limits (rows_after limits a event) (rows_after limits b event) events (rows_after-same_live limits a b same event)
 
 pub live_rows-twice : (rows : Rows) → live_rows (live_rows rows) ≡ live_rows rows
-live_rows-twice rows = ap (λ (fs : List FilterRow). record rows { filters = fs }) (live_later rows.clock rows.clock rows.filters (omega arith))
+live_rows-twice rows = live-late rows rows.clock (omega arith)

@@ -1,11 +1,10 @@
 -- The step of the allocator, and its run over a list of events.
-use Rattle.std.specs.Prelude.{ℕ, ◌+◌, Bool, true, false, not, ◌&&◌, ◌||◌, List, [], ◌∷◌, ◌++◌, length, map, find, drop, Option, nat_lt, nat_le}
+use Rattle.std.specs.Prelude.{ℕ, ◌+◌, Bool, true, false, not, ◌&&◌, ◌||◌, List, [], ◌∷◌, length, map, find, drop, Option, nat_lt, nat_le}
 use Rattle.std.specs.List.{list_any}
 use Rattle.std.specs.Option.{option_map, option_map_or}
 use Rattle.drf_role.specs.Text.{Text}
 use Rattle.drf_role.specs.Path.{Path}
 use Rattle.drf_bundle.specs.Bundle.{quantities_of}
-use Rattle.drf_rows.specs.Client.{Client}
 use Rattle.drf_rows.specs.LimitNumbers.{LimitNumbers}
 use Rattle.drf_rows.specs.Held.{cluster_total, clients_of, is_registered}
 use Rattle.drf_rows.specs.Members.{has_agent, has_framework, distinct, with_agent, with_framework, with_activity, with_suppression, deactivated, revived, agent_removed, framework_removed}

@@ -2,9 +2,8 @@
 ghost use Rattle.std.specs.Prelude.{◌≡◌, ◌==◌, ◌<◌, true, length, find, map, IfOk, MatchOption, option_copied, vec_capacity};
 ghost use Rattle.std.specs.List.{list_any, position};
 ghost use Rattle.drf_bundle.specs.Taken.{rest_of_all};
-ghost use Rattle.drf_rows.specs.Endings.{ends_offer, ends_task};
+ghost use Rattle.drf_rows.specs.Endings.{ends_offer, ends_task, is_task};
 ghost use Rattle.drf_rows.specs.Holdings.{of_offer, of_task, parts_on};
-ghost use Rattle.drf_rows.specs.Offers.{is_task};
 ghost use Rattle.drf_tables.specs.Ended.{ending_of};
 ghost use Rattle.drf_tables.specs.Taking.{IsTaken, HasNone, HasTaken, HasStarted, holdings_in};
 

@@ -4,20 +4,17 @@
     bench/speed.py           inputs of full length
     bench/speed.py 100       a hundredth of it, for a try"""
 import itertools
-import json
 import os
 import subprocess
 import sys
 import tempfile
 
+from churn import churn, line
+
 ROOT = os.path.dirname(os.path.dirname(os.path.realpath(__file__)))
 PROGRAM = f"{ROOT}/crates/drf_app/out/drf_app"
 SHORTER = int(sys.argv[1]) if len(sys.argv) > 1 else 1
 AGENTS, FRAMEWORKS = 4096 // SHORTER, 1024 // SHORTER
-
-
-def line(event, **keys):
-    return json.dumps({"event": event, **keys}, separators=(",", ":"))
 
 
 def agents(count):
@@ -27,6 +24,11 @@ def agents(count):
 
 def frameworks(count, roles=10):
     return [line("add_framework", framework=f"f{i}", roles=[f"r{i % roles}"]) for i in range(count)]
+
+
+def in_many_roles(count):
+    """Frameworks in eight roles each, which are as many clients as there can be at 512 of them."""
+    return [line("add_framework", framework=f"f{i}", roles=[f"r{role}" for role in range(8)]) for i in range(count)]
 
 
 def cycles(count):
@@ -63,6 +65,7 @@ INPUTS = {
     "a cycle for each agent, 16 frameworks": frameworks(16) + each_followed(agents(AGENTS), cycles(AGENTS)),
     "a cycle for each agent, 1 framework": frameworks(1) + each_followed(agents(AGENTS), cycles(AGENTS)),
     "a report, 1,024 frameworks in 10 roles": frameworks(FRAMEWORKS) + agents(AGENTS // 16) + [line("report")],
+    "a report, 512 frameworks in 8 roles each": in_many_roles(FRAMEWORKS // 2 or 1) + agents(AGENTS // 16 or 1) + [line("report")],
     "empty cycles, 1 agent": frameworks(1) + agents(1) + cycles(400_000 // SHORTER),
     "empty cycles, 4,096 agents": frameworks(16) + agents(AGENTS) + cycles(40_000 // SHORTER),
     "lines of 1 KB": [it.ljust(1023) for it in cycles(100_000 // SHORTER)],
@@ -82,15 +85,21 @@ def measure(lines):
         return max(float(seconds), 0.01), int(kilobytes) / 1024
 
 
+def show(name, lines):
+    seconds, peak = measure(lines)
+    speed = sum(len(it) + 1 for it in lines) / seconds / 1_000_000
+    print(f"{name:45}{len(lines):9}{seconds:9.2f}{len(lines) / seconds:10.0f}{speed:8.1f}{peak:9.1f}", flush=True)
+
+
 def main():
     # builds the program where it must
     subprocess.run([f"{ROOT}/drf", "run"], stdin=subprocess.DEVNULL, check=True)
-    print(f"{'input':42}{'lines':>9}{'seconds':>9}{'lines/s':>10}{'MB/s':>8}{'peak MB':>9}")
+    print(f"{'input':45}{'lines':>9}{'seconds':>9}{'lines/s':>10}{'MB/s':>8}{'peak MB':>9}")
     for name, lines in INPUTS.items():
-        seconds, peak = measure(lines)
-        speed = sum(len(it) + 1 for it in lines) / seconds / 1_000_000
-        print(f"{name:42}{len(lines):9}{seconds:9.2f}{len(lines) / seconds:10.0f}{speed:8.1f}{peak:9.1f}", flush=True)
+        show(name, lines)
+    show("a cluster in use, 500 agents, 100 frameworks", churn([PROGRAM, "run"], 500 // SHORTER or 1, 100 // SHORTER or 1))
     print(f"cores: {os.cpu_count()}")
 
 
-main()
+if __name__ == "__main__":
+    main()

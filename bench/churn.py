@@ -1,0 +1,73 @@
+#!/usr/bin/env python3
+"""Writes the lines of a cluster in use: cycles, offers that are accepted in part or declined, tasks that end. What comes
+depends on what is offered, so the lines are made by talking to the program, a line at a time; a reply that is not as
+expected ends it.
+
+    bench/churn.py PROGRAM WORD.. > FILE     the program's lines, for 500 agents, 100 frameworks and 40 cycles"""
+import json
+import random
+import subprocess
+import sys
+
+# milliseconds from one cycle to the next
+PERIOD = 1000
+
+
+def line(event, **keys):
+    return json.dumps({"event": event, **keys}, separators=(",", ":"))
+
+
+class Talk:
+    """A program that answers lines, and the lines that it was asked."""
+
+    def __init__(self, words):
+        self.program = subprocess.Popen(words, stdin=subprocess.PIPE, stdout=subprocess.PIPE, text=True)
+        self.lines = []
+
+    def ask(self, event, **keys):
+        self.lines.append(line(event, **keys))
+        self.program.stdin.write(self.lines[-1] + "\n")
+        self.program.stdin.flush()
+        reply = json.loads(self.program.stdout.readline())
+        if reply != {"ok": True} and "offers" not in reply:
+            raise SystemExit(f"{self.lines[-1]}\nwas answered by {reply}")
+        return reply
+
+    def close(self):
+        self.program.stdin.close()
+        self.program.wait()
+
+
+def part_of(chance, offer):
+    """What a task takes of an offer: some cpus and some mem, or nothing where one of them is missing."""
+    amounts = dict(it.split(":") for it in offer["resources"].split(";"))
+    if {"cpus", "mem"} - {*amounts}:
+        return None
+    cpus, mem = (int(amounts[it]) for it in ("cpus", "mem"))
+    return f"cpus:{min(cpus, chance.randint(1, 4))};mem:{min(mem, chance.choice((512, 1024, 4096)))}"
+
+
+def churn(words, agents=500, frameworks=100, cycles=40):
+    """The lines, as the program that these words start answers them."""
+    talk, chance, ends = Talk(words), random.Random(1), {}
+    for i in range(agents):
+        talk.ask("add_agent", agent=f"n{i}", total=f"cpus:{4 << i % 4};mem:{8192 << i % 4}")
+    for i in range(frameworks):
+        talk.ask("add_framework", framework=f"f{i}", roles=[f"r{i % 10}/q{i % 3}"])
+    for turn in range(cycles):
+        at = turn * PERIOD
+        for framework, task in ends.pop(turn, []):
+            talk.ask("finish", framework=framework, task=task)
+        for offer in talk.ask("cycle", at=at)["offers"]:
+            framework, number, used = offer["framework"], offer["offer"], part_of(chance, offer)
+            if used is None or chance.random() < 0.1:
+                talk.ask("decline", framework=framework, offer=number, at=at)
+                continue
+            talk.ask("accept", framework=framework, offer=number, task=f"t{number}", use=used, at=at, refuse_ms=chance.choice((0, 3 * PERIOD)))
+            ends.setdefault(turn + chance.randint(1, 12), []).append((framework, f"t{number}"))
+    talk.close()
+    return talk.lines
+
+
+if __name__ == "__main__":
+    sys.stdout.writelines(f"{it}\n" for it in churn(sys.argv[1:]))

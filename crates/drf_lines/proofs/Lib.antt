@@ -2,6 +2,6 @@ pub mod Exits
 pub mod RoleLists
 pub mod Values
 pub mod Meanings
-pub mod Replies
 pub mod Texts
 pub mod Events
+pub mod ReplyTokens

@@ -10,3 +10,4 @@ pub mod Meaning
 pub mod EventLine
 pub mod ReportLine
 pub mod ReplyLine
+pub mod Written

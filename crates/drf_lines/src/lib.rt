@@ -6,6 +6,7 @@ mod event_line;
 mod fault;
 mod frameworks;
 mod line;
+mod member;
 mod object;
 mod offers;
 mod reply;

@@ -1,61 +1,86 @@
 //! The writer of a reply line.
-ghost use Rattle.std.specs.Prelude.{◌≡◌, false, IfOk};
-ghost use Rattle.serde_json.specs.View.{view};
-ghost use Rattle.serde_json.specs.Written.{has_float};
-ghost use Rattle.drf_lines.specs.ReplyLine.{offer_value, offers_value, refused_value, reply_value, line_of, reply_line, fault_line};
+ghost use Rattle.std.specs.Prelude.{◌≡◌, ◌++◌, ◌∷◌, [], map, IfOk};
+ghost use Rattle.json.specs.Print.{print};
+ghost use Rattle.serde_json.specs.Data.{array};
+ghost use Rattle.serde_json.specs.View.{items_of};
+ghost use Rattle.drf_lines.specs.ReplyLine.{offer_value, offers_value, refused_value, reply_value, reply_line, fault_line};
+ghost use Rattle.drf_lines.specs.Written.{tokens_of, Appends};
 
 use crate::fault::LineFault;
-use crate::report::report_value;
+use crate::member::{put_number, put_text};
+use crate::report::put_report;
 use drf_rows::{OfferLine, Reply};
 use drf_text::write_bundle;
-use serde_json::{Value, json};
+use json::Writer;
 use std::alloc::{AllocError, Global};
 
-fn offer_value(alloc: Global, offer: &OfferLine) -> Result<Value, AllocError>
-    ensures { IfOk result (λ value. view value ≡ offer_value offer.now) }
+fn put_offer(alloc: Global, out: &mut Writer, offer: &OfferLine) -> Result<(), AllocError>
+    ensures { Appends result out.old out.new (tokens_of (offer_value offer.now)) }
 {
     let resources = write_bundle(alloc, &offer.resources)?;
-    json!(in alloc; {
-        "agent": (offer.agent.text()),
-        "framework": (offer.framework.text()),
-        "offer": (offer.number),
-        "resources": (resources.as_str()),
-        "role": (offer.role.text())
-    })
+    out.begin_object()?;
+    put_text(out, "agent", offer.agent.text())?;
+    put_text(out, "framework", offer.framework.text())?;
+    put_number(out, "offer", offer.number)?;
+    put_text(out, "resources", resources.as_str())?;
+    put_text(out, "role", offer.role.text())?;
+    out.end_object()
 }
 
-fn offers_value(alloc: Global, offers: &[OfferLine]) -> Result<Value, AllocError>
-    ensures { IfOk result (λ value. view value ≡ offers_value offers.now) }
+/// The offers, one after another.
+fn put_offer_list(alloc: Global, out: &mut Writer, offers: &[OfferLine]) -> Result<(), AllocError>
+    ensures { Appends result out.old out.new (tokens_of (array (items_of (map offer_value offers.now)))) }
 {
-    let mut values = Vec::new(alloc);
+    out.begin_array()?;
     for offer in offers {
-        values.push(offer_value(alloc, offer)?)?;
+        put_offer(alloc, out, offer)?;
     }
-    json!(in alloc; {"offers": (Value::Array(values))})
+    out.end_array()
 }
 
-fn refused_value(alloc: Global, name: &str, reason: u64) -> Result<Value, AllocError>
-    ensures { IfOk result (λ value. view value ≡ refused_value name.now reason) }
+fn put_offers(alloc: Global, out: &mut Writer, offers: &[OfferLine]) -> Result<(), AllocError>
+    ensures { Appends result out.old out.new (tokens_of (offers_value offers.now)) }
 {
-    json!(in alloc; {"name": name, "refused": reason})
+    out.begin_object()?;
+    out.key("offers")?;
+    put_offer_list(alloc, out, offers)?;
+    out.end_object()
 }
 
-fn reply_value(alloc: Global, reply: &Reply) -> Result<Value, AllocError>
-    ensures { IfOk result (λ value. view value ≡ reply_value reply.now) }
+fn put_refused(out: &mut Writer, name: &str, reason: u64) -> Result<(), AllocError>
+    ensures { Appends result out.old out.new (tokens_of (refused_value name.now reason)) }
+{
+    out.begin_object()?;
+    put_text(out, "name", name)?;
+    put_number(out, "refused", reason)?;
+    out.end_object()
+}
+
+fn put_done(out: &mut Writer) -> Result<(), AllocError>
+    ensures { Appends result out.old out.new (tokens_of (reply_value Reply.Done)) }
+{
+    out.begin_object()?;
+    out.key("ok")?;
+    out.boolean(true)?;
+    out.end_object()
+}
+
+fn put_reply(alloc: Global, out: &mut Writer, reply: &Reply) -> Result<(), AllocError>
+    ensures { Appends result out.old out.new (tokens_of (reply_value reply.now)) }
 {
     match reply {
-        Reply::Done => json!(in alloc; {"ok": true}),
-        Reply::Offers(offers) => offers_value(alloc, offers.as_slice()),
-        Reply::Report(report) => report_value(alloc, report),
-        Reply::Refused(refusal) => refused_value(alloc, refusal.name(), refusal.number()),
+        Reply::Done => put_done(out),
+        Reply::Offers(offers) => put_offers(alloc, out, offers.as_slice()),
+        Reply::Report(report) => put_report(alloc, out, report),
+        Reply::Refused(refusal) => put_refused(out, refusal.name(), refusal.number()),
     }
 }
 
-fn write_line(alloc: Global, value: &Value) -> Result<Vec<u8>, AllocError>
-    requires { has_float (view value.now) ≡ false }
-    ensures { IfOk result (λ line. line.items ≡ line_of (view value.now)) }
+fn end_line(out: Writer) -> Result<Vec<u8>, AllocError>
+    requires { out.before ≡ [] }
+    ensures { IfOk result (λ line. line.items ≡ print out.tokens ++ 10 ∷ []) }
 {
-    let mut line = value.to_vec(alloc)?;
+    let mut line = out.into_inner();
     line.push(b'\n')?;
     Ok(line)
 }
@@ -64,14 +89,16 @@ fn write_line(alloc: Global, value: &Value) -> Result<Vec<u8>, AllocError>
 pub fn write_reply(alloc: Global, reply: &Reply) -> Result<Vec<u8>, AllocError>
     ensures { IfOk result (λ line. line.items ≡ reply_line reply.now) }
 {
-    let value = reply_value(alloc, reply)?;
-    write_line(alloc, &value)
+    let mut out = Writer::new(Vec::new(alloc));
+    put_reply(alloc, &mut out, reply)?;
+    end_line(out)
 }
 
 /// The line that tells why a line is no event.
 pub fn write_fault(alloc: Global, fault: LineFault) -> Result<Vec<u8>, AllocError>
     ensures { IfOk result (λ line. line.items ≡ fault_line fault) }
 {
-    let value = refused_value(alloc, fault.name(), fault.number())?;
-    write_line(alloc, &value)
+    let mut out = Writer::new(Vec::new(alloc));
+    put_refused(&mut out, fault.name(), fault.number())?;
+    end_line(out)
 }

@@ -1,10 +1,7 @@
 use Rattle.drf_lines.specs.ReplyLine.{reply_line}
-use Rattle.drf_lines.proofs.Replies.{reply_has_no_float}
+use Rattle.drf_lines.proofs.ReplyTokens.{line_printed}
 use Rattle.drf_lines.proofs.reply.write_reply.Goals as goal
-
-pub write_line-requires : goal.write_line-requires
-write_line-requires c = rw c.in_ok-value.ensures (reply_has_no_float c.args.reply.now)
 
 pub returns : goal.returns
 unfolding reply_line
-returns c = rw c.in_ok-value.ensures at c.write_line.ensures
+returns c = rw (line_printed _ c.new-out.ensures.tokens c.in_ok-put_reply.ensures) at c.end_line.ensures

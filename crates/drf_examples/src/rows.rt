@@ -1,5 +1,5 @@
-//! The worked examples: `rows` names each, behind it the word `echo`, or its limits on agents and events where they are
-//! not the greatest. The lines of `NAME.in` are answered by those of `NAME.out`.
+//! The worked examples: `rows` names each, behind it the word `echo`, or a limit that is not the greatest: `agents`,
+//! `filters` or `events`, and its number. The lines of `NAME.in` are answered by those of `NAME.out`.
 use anyhow::{Context, Result};
 use drf_journal::{Device, run};
 use drf_rows::Limits;
@@ -20,18 +20,30 @@ struct Settings {
     echo: bool,
 }
 
+/// The greatest limits, but for one of them.
+fn limits_of(limit: &str, number: u64) -> Option<Limits> {
+    let full = Limits::full();
+    let most = |name: &str, ceiling: u64| if name == limit { number } else { ceiling };
+    Limits::new(
+        most("agents", full.agents()),
+        full.frameworks(),
+        full.roles(),
+        full.clients(),
+        most("filters", full.filters()),
+        full.weights(),
+        full.limits(),
+        full.scalar_names(),
+        most("events", full.events()),
+    )
+}
+
 fn settings_of(words: &str) -> Option<Settings> {
-    let full = Settings {
-        limits: Limits::full(),
-        echo: words == "echo",
+    let echo = words == "echo";
+    let limits = match words.split_once(' ') {
+        Some((limit, number)) => limits_of(limit, number.parse::<u64>().ok()?)?,
+        None => Limits::full(),
     };
-    let Some((agents, events)) = words.split_once(' ') else {
-        return Some(full);
-    };
-    let agents = agents.parse::<u64>().ok()?;
-    let events = events.parse::<u64>().ok()?;
-    let limits = Limits::new(agents, 1024, 8, 4096, 65_536, 4096, 4096, 32, events)?;
-    Some(Settings { limits, ..full })
+    Some(Settings { limits, echo })
 }
 
 fn answered(alloc: Global, settings: Settings, input: &[u8]) -> Result<Vec<u8>> {

@@ -24,6 +24,7 @@ pub mod LiveLaws
 pub mod CycleLaws
 pub mod ConsistentLaws
 pub mod RegistrationLaws
+pub mod EndingLaws
 pub mod WeightLaws
 pub mod Examples
 pub mod OrderExamples

@@ -6,7 +6,7 @@ use Rattle.std.specs.declared.cmp.Ordering.TheVariants.{Less, Equal, Greater}
 use Rattle.std.specs.Map.{keys_of}
 use Rattle.std.specs.BTreeMap.{insert_entry, Updates}
 use Rattle.std.proofs.Common.{refl, sym, ap, ◌∙◌, inl, inr, add-one, get_or}
-use Rattle.std.proofs.lemmas.List.{append-nil, map-append, take_more}
+use Rattle.std.proofs.lemmas.List.{append-nil, map_more, take_more}
 use Rattle.std.proofs.lemmas.Bool.{cases_Bool}
 use Rattle.std.proofs.lemmas.Grind.{flat_map-append, fold-append}
 use Rattle.drf_role.specs.Path.{Path}
@@ -14,7 +14,6 @@ use Rattle.drf_bundle.specs.declared.quantities.Entry.{Entry}
 use Rattle.drf_rows.specs.Client.{Client, path_of}
 use Rattle.drf_rows.specs.Report.{path_cmp, with_node, nodes_to, nodes_on}
 use Rattle.drf_rows.specs.Held.{client_of}
-use Rattle.drf_rows.specs.declared.rows.ClientRow.{ClientRow}
 use Rattle.drf_rows.specs.declared.rows.FrameworkRow.{FrameworkRow}
 use Rattle.drf_core.specs.Reporting.{Sums, HoldNothing, with_clients}
 
@@ -40,7 +39,7 @@ pub with_nodes-more : (nodes : List Path) (path : Path) (n : ℕ)
 with_nodes-more nodes path n = rw add-one (fold-append with_node nodes (nodes_to path n) (take (suc n) path ∷ []))
 
 -- the clients of two lists
-pub with_clients-append : (nodes : List Path) (first second : List Client)
+with_clients-append : (nodes : List Path) (first second : List Client)
     → with_clients nodes (first ++ second) ≡ with_clients (with_clients nodes first) second
 with_clients-append nodes first second =
     let on : Client → List Path = λ client. nodes_on (path_of client) in
@@ -53,12 +52,10 @@ with_clients-one nodes clients client =
     with_clients-append nodes clients (client ∷ [])
     ∙ ap (fold with_node (with_clients nodes clients)) (append-nil (nodes_on (path_of client)))
 
--- of the clients that a loop has passed, and of one more
-pub clients-more : (f : FrameworkRow) (cs : List ClientRow) (i : ℕ) (c : ClientRow) → i < length cs → c ≡ get_or cs i c
-    → map (client_of f) (take (i + 1) cs) ≡ map (client_of f) (take i cs) ++ client_of f c ∷ []
-clients-more f cs i c within is =
-    ap (map (client_of f)) (take_more cs i c within ∙ ap (λ (d : ClientRow). take i cs ++ d ∷ []) (sym is))
-    ∙ map-append (client_of f) (take i cs) (c ∷ [])
+-- of what a loop has passed, and of one more
+pub map_next : {X Y : Type 0} (f : X → Y) (xs : List X) (i : ℕ) (x : X) → i < length xs → x ≡ get_or xs i x
+    → map f (take (i + 1) xs) ≡ map f (take i xs) ++ f x ∷ []
+map_next {X} f xs i x within is = map_more f xs i x within ∙ ap (λ (y : X). map f (take i xs) ++ f y ∷ []) (sym is)
 
 abbrev clients_in : List FrameworkRow → List Client
 clients_in fs = flat_map (λ f. map (client_of f) f.clients) fs

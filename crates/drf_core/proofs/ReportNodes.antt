@@ -1,5 +1,5 @@
 -- Which nodes are reported, and that their lines are those of the rows.
-use Rattle.std.specs.Prelude.{◌≡◌, ℕ, zero, suc, ◌+◌, ◌*◌, ◌^◌, ◌<◌, ◌≤◌, ◌||◌, Bool, true, IsTrue, List, [], ◌∷◌, ◌++◌, length, take, map, fold, flat_map, sum_by, Some, All}
+use Rattle.std.specs.Prelude.{◌≡◌, ℕ, zero, suc, ◌+◌, ◌*◌, ◌^◌, ◌<◌, ◌≤◌, ◌||◌, Bool, true, IsTrue, List, [], ◌∷◌, length, take, map, fold, flat_map, sum_by, Some, All}
 use Rattle.std.specs.List.{AllByRecursion, list_any}
 use Rattle.std.specs.Map.{keys_of}
 use Rattle.std.specs.BTreeMap.{get}
@@ -8,36 +8,34 @@ use Rattle.std.specs.declared.cmp.Ordering.{Ordering}
 use Rattle.std.specs.declared.cmp.Ordering.TheVariants.{Less, Equal, Greater}
 use Rattle.std.proofs.Common.{refl, sym, ap, subst, ◌∙◌, arith}
 use Rattle.std.proofs.lemmas.Bool.{or_left, or_right}
-use Rattle.std.proofs.lemmas.List.{append-nil, length-take-le}
+use Rattle.std.proofs.lemmas.List.{length-take-le}
 use Rattle.std.proofs.lemmas.List.Elements.{All-head, All-tail}
 use Rattle.std.proofs.lemmas.List.Folds.{list_any-append}
+use Rattle.drf_role.specs.Text.{Text}
 use Rattle.drf_role.specs.Path.{Path, begins_with}
-use Rattle.drf_bundle.specs.Quantities.{amount_of, is_in_order, without_zeros}
+use Rattle.drf_bundle.specs.Quantities.{is_in_order, without_zeros}
 use Rattle.drf_bundle.specs.declared.quantities.Entry.{Entry}
 use Rattle.drf_rows.specs.LimitNumbers.{LimitNumbers}
 use Rattle.drf_rows.specs.Client.{Client, path_of}
-use Rattle.drf_rows.specs.Holdings.{Holding, of_offer, of_task, holdings_of, amount_in, AreBundles}
+use Rattle.drf_rows.specs.Holdings.{Holding, holdings_of, amount_in}
 use Rattle.drf_rows.specs.Held.{client_of, clients_of, cluster_total}
 use Rattle.drf_rows.specs.Held as rows_word
-use Rattle.drf_rows.specs.Report.{path_cmp, with_node, nodes_to, nodes_on, nodes_of, line_by, node_line, held_under, report_of}
-use Rattle.drf_rows.specs.ConsistentLaws.{bundles-consistent}
+use Rattle.drf_rows.specs.Report.{path_cmp, with_node, nodes_to, nodes_on, nodes_of, line_by, node_line, report_of}
 use Rattle.drf_rows.specs.ListLaws.{each_append, each_from}
 use Rattle.drf_rows.specs.declared.report.NodeLine.{NodeLine}
 use Rattle.drf_rows.specs.declared.rows.ClientRow.{ClientRow}
 use Rattle.drf_rows.specs.declared.rows.FrameworkRow.{FrameworkRow}
-use Rattle.drf_rows.specs.declared.rows.TaskRow.{TaskRow}
 use Rattle.drf_rows.specs.declared.rows.Rows.{Rows}
 use Rattle.drf_sorter.specs.Content.{Content, Ranked, IsSound, has_node}
 use Rattle.drf_sorter.specs.Content as sorter_word
-use Rattle.drf_tables.specs.Stored.{IsPlain}
 use Rattle.drf_core.specs.Content.{ranked, content_of}
 use Rattle.drf_core.specs.Kept.{IsKept}
-use Rattle.drf_core.specs.Reporting.{Sums, HoldNothing, CanAdd, AddAll, AreNodes, held_with, line_in}
+use Rattle.drf_core.specs.Reporting.{Sums, HoldAll, AreNodes, line_in}
 use Rattle.drf_core.proofs.ContentOffer.{ranked_all, ranked-path}
 use Rattle.drf_core.proofs.ContentHeld.{all_held}
 use Rattle.drf_core.proofs.ContentOrder.{standing-content_of}
 use Rattle.drf_core.proofs.ContentSound.{IsSound-content_of}
-use Rattle.drf_core.proofs.ReportSums.{begins_take, held_first}
+use Rattle.drf_core.proofs.ReportSums.{begins_take}
 use Rattle.drf_core.proofs.ReportLines.{in_order-cluster_total}
 
 -- ---- what holds of each node
@@ -127,14 +125,7 @@ total-content_of rows = refl
 
 -- ---- a core as it stands
 
-module _ (content : Content) (limits : LimitNumbers) (rows : Rows) (kept : IsKept content limits rows) (plain : IsPlain rows) where
-  holdings_plain : holdings_of rows ≡ map of_offer rows.offers
-  holdings_plain =
-      ap (λ (ts : List TaskRow). map of_offer rows.offers ++ map of_task ts) plain.tasks ∙ append-nil (map of_offer rows.offers)
-
-  pub bundles-offered : AreBundles (map of_offer rows.offers)
-  bundles-offered = subst AreBundles holdings_plain (bundles-consistent rows kept.consistent)
-
+module _ (content : Content) (limits : LimitNumbers) (rows : Rows) (kept : IsKept content limits rows) where
   sound-rows : IsSound (content_of rows)
   sound-rows =
       let events : rows.accepted ≤ 4294967295 = omega (arith, kept.few.events, kept.few.ceilings.events.1) in
@@ -150,15 +141,9 @@ module _ (content : Content) (limits : LimitNumbers) (rows : Rows) (kept : IsKep
       subst (λ (es : List Entry). IsTrue (is_in_order es)) (sym (ap (λ (c : Content). c.total) kept.sorted ∙ total-content_of rows))
       (in_order-cluster_total rows.agents)
 
-  -- what is offered fits, where nothing was added yet
-  pub CanAdd-offered : (sums : Sums) → HoldNothing sums → CanAdd (λ label. sum_by (amount_in label) (map of_offer rows.offers)) sums
-  CanAdd-offered sums nothing = λ n held some found label.
-      let sums_to = ap (sum_by (amount_in label)) holdings_plain in
-      let all = all_held rows label kept.consistent in
-      let none : amount_of held label ≡ 0 = ap (λ (es : List Entry). amount_of es label) (nothing n held found) in
-      let below = sound-rows.held label in
-      let small = sound-rows.total label in
-      omega (arith, sums_to, all, none, below, small)
+  -- what is held fits
+  pub fits-kept : (label : Text) → sum_by (amount_in label) (holdings_of rows) < 2 ^ 64
+  fits-kept label = omega (arith, all_held rows label kept.consistent, sound-rows.held label, sound-rows.total label)
 
   pub AreNodes-kept : AreNodes content (nodes_of rows)
   AreNodes-kept =
@@ -169,17 +154,9 @@ module _ (content : Content) (limits : LimitNumbers) (rows : Rows) (kept : IsKep
   standing-kept = ap sorter_word.standing_in kept.sorted ∙ standing-content_of rows kept.consistent
 
   -- the lines of the nodes that were summed up
-  module _ (start sums : Sums) (nothing : HoldNothing start) (added : AddAll (map of_offer rows.offers) start sums) where
-    held_is : (n : Path) (held : List Entry) → 1 ≤ length n → get path_cmp sums n ≡ Some held → held ≡ held_under (holdings_of rows) n
-    held_is n held some found =
-        let hs : List Holding = map of_offer rows.offers in
-        let first = held_first (λ h. held_with h hs n) (get path_cmp start n) held (sym found ∙ added n some) in
-        first.2
-        ∙ ap (λ (h : List Entry). held_with h hs n) (nothing n first.0 first.1)
-        ∙ ap (λ (gs : List Holding). held_under gs n) (sym holdings_plain)
-
+  module _ (sums : Sums) (held : HoldAll (holdings_of rows) sums) where
     line_is : (e : Path × List Entry) → 1 ≤ length e.0 → get path_cmp sums e.0 ≡ Some e.1 → line_in content e ≡ node_line rows e.0
-    line_is e some found = λ i. line_by (standing-kept i) e.0 (held_is e.0 e.1 some found i)
+    line_is e some found = λ i. line_by (standing-kept i) e.0 (held e.0 e.1 some found i)
 
     each_line : (es : List (Path × List Entry)) → All (λ e. get path_cmp sums e.0 ≡ Some e.1) es
         → AllByRecursion (IsNode rows) (keys_of es) → map (line_in content) es ≡ map (node_line rows) (keys_of es)

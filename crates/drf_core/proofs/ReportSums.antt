@@ -5,12 +5,12 @@ use Rattle.std.specs.Cmp.Lexicographic.{slice_cmp, bytes_decides, lists_ties, te
 use Rattle.std.specs.Option.{option_map}
 use Rattle.std.specs.BTreeMap.{get, keys, Updates}
 use Rattle.std.proofs.Common.{refl, sym, ap, subst, ◌∙◌, inl, inr, cond, arith, add-one, get_or}
-use Rattle.std.proofs.Math.Seq.{take-append_seam}
+use Rattle.std.proofs.Math.Seq.{take-append_seam, split_at}
 use Rattle.std.proofs.lemmas.Bool.{cases_Bool, false_from_ne_true, false≢true, or_left, or_right}
-use Rattle.std.proofs.lemmas.List.{length-take-le, take-append-drop, take_more, map-append}
+use Rattle.std.proofs.lemmas.List.{length-take-le, take-append-drop, map-append}
 use Rattle.std.proofs.Common.{length-append}
 use Rattle.std.proofs.lemmas.List.Elements.{filter-append}
-use Rattle.std.proofs.lemmas.List.Sums.{sum_by-cons}
+use Rattle.std.proofs.lemmas.List.Sums.{sum_by-cons, sum_by-append}
 use Rattle.std.proofs.lemmas.Grind.{fold-append}
 use Rattle.std.proofs.lemmas.Slice.Eq.{starts_is}
 use Rattle.drf_role.specs.Text.{Text}
@@ -22,20 +22,20 @@ use Rattle.drf_bundle.specs.UnitProofs.{quantities_no_zeros}
 use Rattle.drf_bundle.specs.Bundle.{quantities_of}
 use Rattle.drf_bundle.specs.declared.quantities.Entry.{Entry}
 use Rattle.drf_rows.specs.Client.{path_of}
-use Rattle.drf_rows.specs.Holdings.{Holding, of_offer, amount_in, is_under, AreBundles}
+use Rattle.drf_rows.specs.Holdings.{Holding, amount_in, is_under, AreBundles}
 use Rattle.drf_rows.specs.Report.{path_cmp}
-use Rattle.drf_rows.specs.declared.rows.OfferRow.{OfferRow}
-use Rattle.drf_core.specs.Reporting.{Sums, is_passed, AddTo, CanAdd, AddAll, held_with}
+use Rattle.drf_core.specs.Reporting.{Sums, HoldNothing, HoldAll, is_passed, AddTo, CanAdd, AddAll, CanAddAll, held_with}
+use Rattle.drf_core.proofs.ReportLemmas.{map_next}
 
 -- ---- which nodes are passed
 
 path_ties : (a b : Path) → same_path a b ≡ is_eq (path_cmp a b)
 path_ties a b = lists_ties (slice_cmp nat_cmp) texts_ties a b
 
-pub tied : (a b : Path) → is_eq (path_cmp a b) ≡ true → a ≡ b
+tied : (a b : Path) → is_eq (path_cmp a b) ≡ true → a ≡ b
 tied a b tie = same_path-true a b (path_ties a b ∙ tie)
 
-pub ties_itself : (a : Path) → is_eq (path_cmp a a) ≡ true
+ties_itself : (a : Path) → is_eq (path_cmp a a) ≡ true
 ties_itself a = sym (path_ties a a) ∙ same_path_itself a
 
 -- a longer one is not
@@ -77,7 +77,7 @@ passed-none path (suc n) node other =
     rw apart (passed-none path n node other)
 
 -- on the whole way are the nodes that the path begins with
-pub passed-all : (path node : Path) → 1 ≤ length node → is_passed path (length path) node ≡ begins_with path node
+passed-all : (path node : Path) → 1 ≤ length node → is_passed path (length path) node ≡ begins_with path node
 passed-all path node some = elim (cases_Bool (begins_with path node)) [
   | inl begins ↦
       let whole = (starts_is bytes_decides path node (begins_with path node) refl).0 begins in
@@ -97,6 +97,11 @@ held_before quantities held b None none is = is
 held_before quantities held true (Some h) none is = absurd (false≢true (sym none))
 held_before quantities held false (Some h) none is = is
 
+held_first : (f : List Entry → List Entry) (o : Option (List Entry)) (held : List Entry) → Some held ≡ option_map f o
+    → (h : List Entry) × (o ≡ Some h) × (held ≡ f h)
+held_first f None held is = cc
+held_first f (Some h) held is = (h, refl, let e : held ≡ f h = cc in e)
+
 none_before : (f : List Entry → List Entry) (o : Option (List Entry)) → option_map f o ≡ None → o ≡ None
 none_before f None is = refl
 none_before f (Some h) is = cc
@@ -104,7 +109,7 @@ none_before f (Some h) is = cc
 module _ (path : Path) (i : ℕ) (quantities : List Entry) (old now : Sums) (within : i < length path)
     (added : AddTo path i quantities old now) where
   -- the next node holds what it held
-  pub held_yet : (held : List Entry) → get path_cmp now (take (i + 1) path) ≡ Some held
+  held_yet : (held : List Entry) → get path_cmp now (take (i + 1) path) ≡ Some held
       → get path_cmp old (take (i + 1) path) ≡ Some held
   held_yet held found =
       held_before quantities held (is_passed path i (take (i + 1) path)) (get path_cmp old (take (i + 1) path))
@@ -112,7 +117,7 @@ module _ (path : Path) (i : ℕ) (quantities : List Entry) (old now : Sums) (wit
       (sym (added (take (i + 1) path)) ∙ found)
 
   -- it holds more
-  pub AddTo-more : (new : Sums) (held : List Entry) → get path_cmp now (take (i + 1) path) ≡ Some held
+  AddTo-more : (new : Sums) (held : List Entry) → get path_cmp now (take (i + 1) path) ≡ Some held
       → Updates path_cmp now new (take (i + 1) path) (Some (plus held quantities))
       → AddTo path (i + 1) quantities old new
   AddTo-more new held found updates = λ n. rw add-one (elim (cases_Bool (is_eq (path_cmp (take (suc i) path) n))) [
@@ -127,7 +132,7 @@ module _ (path : Path) (i : ℕ) (quantities : List Entry) (old now : Sums) (wit
   ])
 
   -- it is not there
-  pub AddTo-none : get path_cmp now (take (i + 1) path) ≡ None → AddTo path (i + 1) quantities old now
+  AddTo-none : get path_cmp now (take (i + 1) path) ≡ None → AddTo path (i + 1) quantities old now
   AddTo-none missing = λ n. rw add-one (elim (cases_Bool (is_eq (path_cmp (take (suc i) path) n))) [
     | inl here ↦
         let at : take (i + 1) path ≡ n = rw add-one (tied (take (suc i) path) n here) in
@@ -140,50 +145,44 @@ module _ (path : Path) (i : ℕ) (quantities : List Entry) (old now : Sums) (wit
 
 -- ---- holdings are added one after another
 
-held_with-one : (held : List Entry) (hs : List Holding) (h : Holding) (node : Path)
-    → held_with held (hs ++ h ∷ []) node
-    ≡ cond (is_under node h) (plus (held_with held hs node) (quantities_of h.bundle)) (held_with held hs node)
-held_with-one held hs h node =
-    let add : List Entry → Holding → List Entry = λ sum g. plus sum (quantities_of g.bundle) in
-    let split = ap (fold add held) (filter-append (is_under node) hs (h ∷ []))
-    ∙ fold-append add held (filter (is_under node) hs) (filter (is_under node) (h ∷ [])) in
-    elim (cases_Bool (is_under node h)) [
-      | inl here ↦ rw here at split ∙ sym (rw here)
-      | inr past ↦ rw past at split ∙ sym (rw past)
-    ]
+held_with-append : (held : List Entry) (first second : List Holding) (node : Path)
+    → held_with held (first ++ second) node ≡ held_with (held_with held first node) second node
+held_with-append held first second node =
+    let add : List Entry → Holding → List Entry = λ sum h. plus sum (quantities_of h.bundle) in
+    ap (fold add held) (filter-append (is_under node) first second)
+    ∙ fold-append add held (filter (is_under node) first) (filter (is_under node) second)
+
+held_with-one : (held : List Entry) (h : Holding) (node : Path)
+    → held_with held (h ∷ []) node ≡ cond (is_under node h) (plus held (quantities_of h.bundle)) held
+held_with-one held h node = elim (cases_Bool (is_under node h)) [ inl here ↦ rw here refl | inr past ↦ rw past refl ]
 
 both_mapped : (f g k : List Entry → List Entry) (o : Option (List Entry)) → ((x : List Entry) → g (f x) ≡ k x)
     → option_map g (option_map f o) ≡ option_map k o
 both_mapped f g k None same = refl
 both_mapped f g k (Some x) same = ap Some (same x)
 
-pub AddAll-none : (sums : Sums) → AddAll [] sums sums
-AddAll-none sums = λ n some. by (get path_cmp sums n)
-  where
-    by : (o : Option (List Entry)) → o ≡ option_map (λ (h : List Entry). h) o
-    by None = refl
-    by (Some h) = refl
-
-pub AddAll-more : (os : List OfferRow) (i : ℕ) (o : OfferRow) (path : Path) (old now new : Sums)
-    → i < length os → o ≡ get_or os i o → path ≡ path_of (of_offer o).client
-    → AddAll (map of_offer (take i os)) old now → AddTo path (length path) (quantities_of o.bundle) now new
-    → AddAll (map of_offer (take (i + 1) os)) old new
-AddAll-more os i o path old now new within is of before added = λ n some.
-    let hs : List Holding = map of_offer (take i os) in
-    let more : map of_offer (take (i + 1) os) ≡ hs ++ of_offer o ∷ [] =
-    ap (map of_offer) (take_more os i o within ∙ ap (λ (p : OfferRow). take i os ++ p ∷ []) (sym is))
-    ∙ map-append of_offer (take i os) (o ∷ []) in
-    let under : is_passed path (length path) n ≡ is_under n (of_offer o) =
+AddAll-one : (h : Holding) (path : Path) (old new : Sums) → path ≡ path_of h.client
+    → AddTo path (length path) (quantities_of h.bundle) old new → AddAll (h ∷ []) old new
+AddAll-one h path old new of added = λ n some.
+    let under : is_passed path (length path) n ≡ is_under n h =
     passed-all path n some ∙ ap (λ (p : Path). begins_with p n) of in
-    let one : (x : List Entry) → cond (is_passed path (length path) n) (plus (held_with x hs n) (quantities_of o.bundle)) (held_with x hs n)
-    ≡ held_with x (map of_offer (take (i + 1) os)) n =
-    λ x. ap (λ (b : Bool). cond b (plus (held_with x hs n) (quantities_of o.bundle)) (held_with x hs n)) under
-    ∙ sym (held_with-one x hs (of_offer o) n)
-    ∙ ap (λ (gs : List Holding). held_with x gs n) (sym more) in
-    added n
-    ∙ ap (option_map (λ h. cond (is_passed path (length path) n) (plus h (quantities_of o.bundle)) h)) (before n some)
-    ∙ both_mapped (λ x. held_with x hs n) (λ h. cond (is_passed path (length path) n) (plus h (quantities_of o.bundle)) h)
-    (λ x. held_with x (map of_offer (take (i + 1) os)) n) (get path_cmp old n) one
+    let one : (x : List Entry) → cond (is_passed path (length path) n) (plus x (quantities_of h.bundle)) x ≡ held_with x (h ∷ []) n =
+    λ x. ap (λ (b : Bool). cond b (plus x (quantities_of h.bundle)) x) under ∙ sym (held_with-one x h n) in
+    added n ∙ (λ i. option_map (λ x. one x i) (get path_cmp old n))
+
+pub AddAll-append : (first second : List Holding) (old now new : Sums)
+    → AddAll first old now → AddAll second now new → AddAll (first ++ second) old new
+AddAll-append first second old now new before later = λ n some.
+    later n some
+    ∙ ap (option_map (λ h. held_with h second n)) (before n some)
+    ∙ both_mapped (λ h. held_with h first n) (λ h. held_with h second n) (λ h. held_with h (first ++ second) n) (get path_cmp old n)
+    (λ h. sym (held_with-append h first second n))
+
+-- where nothing was held, all is held now
+pub HoldAll-added : (hs : List Holding) (start sums : Sums) → HoldNothing start → AddAll hs start sums → HoldAll hs sums
+HoldAll-added hs start sums nothing added = λ n held some found.
+    let first = held_first (λ h. held_with h hs n) (get path_cmp start n) held (sym found ∙ added n some) in
+    first.2 ∙ ap (λ (h : List Entry). held_with h hs n) (nothing n first.0 first.1)
 
 -- ---- the sums fit
 
@@ -200,44 +199,65 @@ amount-held_with held (h ∷ hs) node label all = elim (cases_Bool (is_under nod
   | inr past ↦ rw past (omega (arith, amount-held_with held hs node label all.1, sum_by-cons (amount_in label) h hs))
 ]
 
-bundles_before : (os : List OfferRow) (i : ℕ) → AreBundles (map of_offer os) → AreBundles (map of_offer (take i os))
-bundles_before os zero all = tt
-bundles_before [] (suc i) all = tt
-bundles_before (o ∷ os) (suc i) all = (all.0, bundles_before os i all.1)
+bundles_parted : (first second : List Holding) → AreBundles (first ++ second) → AreBundles first × AreBundles second
+bundles_parted [] second all = (tt, all)
+bundles_parted (h ∷ first) second all =
+    let later = bundles_parted first second all.1 in
+    ((all.0, later.0), later.1)
 
-sum_before : (f : Holding → ℕ) (os : List OfferRow) (i : ℕ) (o : OfferRow) → i < length os → o ≡ get_or os i o
-    → sum_by f (map of_offer (take i os)) + f (of_offer o) ≤ sum_by f (map of_offer os)
-sum_before f [] i o within is = absurd (omega arith)
-sum_before f (p ∷ os) zero o within is =
-    omega (arith, ap (λ (q : OfferRow). f (of_offer q)) is, sum_by-cons f (of_offer p) (map of_offer os))
-sum_before f (p ∷ os) (suc i) o within is = omega (
-  arith,
-  sum_before f os i o (omega arith) is,
-  sum_by-cons f (of_offer p) (map of_offer os),
-  sum_by-cons f (of_offer p) (map of_offer (take i os)),
-)
+pub CanAddAll-nothing : (hs : List Holding) (sums : Sums)
+    → AreBundles hs → ((label : Text) → sum_by (amount_in label) hs < 2 ^ 64) → HoldNothing sums → CanAddAll hs sums
+CanAddAll-nothing hs sums all fits nothing = record {
+  bundles = all;
+  fits = λ n held some found label. omega (arith, fits label, ap (λ (es : List Entry). amount_of es label) (nothing n held found));
+}
 
-pub held_first : (f : List Entry → List Entry) (o : Option (List Entry)) (held : List Entry) → Some held ≡ option_map f o
-    → (h : List Entry) × (o ≡ Some h) × (held ≡ f h)
-held_first f None held is = cc
-held_first f (Some h) held is = (h, refl, let e : held ≡ f h = cc in e)
+module _ (first second : List Holding) (old : Sums) (can : CanAddAll (first ++ second) old) where
+  pub CanAddAll-first : CanAddAll first old
+  CanAddAll-first = record {
+    bundles = (bundles_parted first second can.bundles).0;
+    fits = λ n held some found label. omega (arith, can.fits n held some found label, sum_by-append (amount_in label) first second);
+  }
 
-pub CanAdd-next : (os : List OfferRow) (i : ℕ) (o : OfferRow) (old now : Sums)
-    → i < length os → o ≡ get_or os i o → AreBundles (map of_offer os)
-    → CanAdd (λ label. sum_by (amount_in label) (map of_offer os)) old
-    → AddAll (map of_offer (take i os)) old now
-    → CanAdd (amount_of (quantities_of o.bundle)) now
-CanAdd-next os i o old now within is all can added = λ n held some found label.
-    let hs : List Holding = map of_offer (take i os) in
-    let first = held_first (λ h. held_with h hs n) (get path_cmp old n) held (sym found ∙ added n some) in
-    let most = can n first.0 some first.1 label in
-    omega (
-      arith,
-      most,
-      amount-held_with first.0 hs n label (bundles_before os i all),
-      ap (λ (es : List Entry). amount_of es label) first.2,
-      sum_before (amount_in label) os i o within is,
-    )
+  -- once the first were added
+  pub CanAddAll-second : (now : Sums) → AddAll first old now → CanAddAll second now
+  CanAddAll-second now added =
+      let parts = bundles_parted first second can.bundles in
+      record {
+        bundles = parts.1;
+        fits = λ n held some found label.
+            let before = held_first (λ h. held_with h first n) (get path_cmp old n) held (sym found ∙ added n some) in
+            omega (
+              arith,
+              can.fits n before.0 some before.1 label,
+              amount-held_with before.0 first n label parts.0,
+              ap (λ (es : List Entry). amount_of es label) before.2,
+              sum_by-append (amount_in label) first second,
+            );
+      }
+
+-- ---- a loop over rows that hold something
+
+parted_at : {X : Type 0} (of : X → Holding) (xs : List X) (i : ℕ) (x : X) → i < length xs → x ≡ get_or xs i x
+    → map of xs ≡ map of (take i xs) ++ of x ∷ map of (drop (suc i) xs)
+parted_at {X} of xs i x within is =
+    ap (map of) (split_at xs i x within ∙ ap (λ (y : X). take i xs ++ y ∷ drop (suc i) xs) (sym is))
+    ∙ map-append of (take i xs) (x ∷ drop (suc i) xs)
+
+module _ {X : Type 0} (of : X → Holding) (xs : List X) (i : ℕ) (x : X) (within : i < length xs) (is : x ≡ get_or xs i x)
+    (old now : Sums) (added : AddAll (map of (take i xs)) old now) where
+  pub CanAdd-next : CanAddAll (map of xs) old → CanAdd (amount_of (quantities_of (of x).bundle)) now
+  CanAdd-next can = λ n held some found label.
+      let rest : List Holding = map of (drop (suc i) xs) in
+      let now_can = CanAddAll-second (map of (take i xs)) (of x ∷ rest) old
+      (subst (λ (hs : List Holding). CanAddAll hs old) (parted_at of xs i x within is) can) now added in
+      omega (arith, now_can.fits n held some found label, sum_by-cons (amount_in label) (of x) rest)
+
+  pub AddAll-next : (path : Path) (new : Sums) → path ≡ path_of (of x).client
+      → AddTo path (length path) (quantities_of (of x).bundle) now new → AddAll (map of (take (i + 1) xs)) old new
+  AddAll-next path new own more =
+      subst (λ (hs : List Holding). AddAll hs old new) (sym (map_next of xs i x within is))
+      (AddAll-append (map of (take i xs)) (of x ∷ []) old now new added (AddAll-one (of x) path now new own more))
 
 -- ---- a node that is passed
 

@@ -1,19 +1,20 @@
 //! The report of shares. What a node holds is summed from the rows, each holding along the path of its client; its
 //! shares and its count are the sorter's.
-ghost use Rattle.std.specs.Prelude.{◌≡◌, [], true, map, fold, flat_map, length, All, IfOk, IsTrue, OnOk, Some, sum_by};
+ghost use Rattle.std.specs.Prelude.{◌≡◌, ◌<◌, ◌^◌, [], true, map, fold, flat_map, length, All, IfOk, IsTrue, OnOk, Some, sum_by};
 ghost use Rattle.std.specs.BTreeMap.{get, keys};
+ghost use Rattle.drf_role.specs.Text.{Text};
 ghost use Rattle.drf_bundle.specs.Quantities.{amount_of, is_in_order};
 ghost use Rattle.drf_bundle.specs.Bundle.{quantities_of};
 ghost use Rattle.drf_rows.specs.Held.{client_of};
-ghost use Rattle.drf_rows.specs.Holdings.{of_offer, amount_in, AreBundles};
-ghost use Rattle.drf_rows.specs.Report.{path_cmp, with_node, nodes_on, report_of};
+ghost use Rattle.drf_rows.specs.Holdings.{of_offer, of_task, holdings_of, amount_in, AreBundles};
+ghost use Rattle.drf_rows.specs.Report.{path_cmp, with_node, nodes_on, nodes_of, report_of};
 ghost use Rattle.drf_sorter.specs.Content.{IsSound, has_node};
 ghost use Rattle.drf_core.specs.Kept.{IsKept};
-ghost use Rattle.drf_core.specs.Reporting.{with_clients, HoldNothing, AddTo, CanAdd, AddAll, AreNodes, line_in};
+ghost use Rattle.drf_core.specs.Reporting.{with_clients, HoldNothing, HoldAll, AddTo, CanAdd, AddAll, CanAddAll, AreNodes, line_in};
 
 use drf_bundle::{Bundle, Quantities};
 use drf_role::{ClientPath, NodePath};
-use drf_rows::{FrameworkRow, Limits, NodeLine, OfferRow, Report, Table};
+use drf_rows::{FrameworkRow, Limits, NodeLine, OfferRow, Report, Rows, Table, TaskRow};
 use drf_sorter::Sorter;
 use drf_tables::Tables;
 use std::alloc::{AllocError, Global};
@@ -93,8 +94,7 @@ fn add_offers(
     sums: &mut BTreeMap<NodePath, Quantities>,
     offers: &[OfferRow],
 ) -> Result<(), AllocError>
-    requires bundles { AreBundles (map of_offer offers.now) }
-    requires fits { CanAdd (λ label. sum_by (amount_in label) (map of_offer offers.now)) sums.old }
+    requires { CanAddAll (map of_offer offers.now) sums.old }
     ensures nodes { OnOk result (keys sums.new ≡ keys sums.old) }
     ensures added { OnOk result (AddAll (map of_offer offers.now) sums.old sums.new) }
 {
@@ -103,6 +103,36 @@ fn add_offers(
         add_holding(sums, &client, &offer.bundle)?;
     }
     Ok(())
+}
+
+/// Adds what tasks hold to the nodes of the clients.
+fn add_tasks(
+    alloc: Global,
+    sums: &mut BTreeMap<NodePath, Quantities>,
+    tasks: &[TaskRow],
+) -> Result<(), AllocError>
+    requires { CanAddAll (map of_task tasks.now) sums.old }
+    ensures nodes { OnOk result (keys sums.new ≡ keys sums.old) }
+    ensures added { OnOk result (AddAll (map of_task tasks.now) sums.old sums.new) }
+{
+    for task in tasks {
+        let client = ClientPath::new(alloc, &task.role, &task.framework)?;
+        add_holding(sums, &client, &task.bundle)?;
+    }
+    Ok(())
+}
+
+/// What each node holds, in offers and in tasks.
+fn held_by_nodes(alloc: Global, rows: &Rows) -> Result<BTreeMap<NodePath, Quantities>, AllocError>
+    requires bundles { AreBundles (holdings_of rows.now) }
+    requires fits { (label : Text) → sum_by (amount_in label) (holdings_of rows.now) < 2 ^ 64 }
+    ensures nodes { IfOk result (λ sums. keys sums ≡ nodes_of rows.now) }
+    ensures held { IfOk result (HoldAll (holdings_of rows.now)) }
+{
+    let mut sums = nodes(alloc, rows.frameworks.as_slice())?;
+    add_offers(alloc, &mut sums, rows.offers.as_slice())?;
+    add_tasks(alloc, &mut sums, rows.tasks.as_slice())?;
+    Ok(sums)
 }
 
 /// The line of a node.
@@ -157,11 +187,8 @@ pub fn report<S: Sorter>(
     requires { IsKept (S.content sorter.now) limits.now tables.now.rows }
     ensures { IfOk result (λ report. report ≡ report_of tables.now.rows) }
 {
-    // No tasks stand yet, which this call tells.
-    let _ = tables.accepted();
     let rows = tables.rows()?;
-    let mut sums = nodes(alloc, rows.frameworks.as_slice())?;
-    add_offers(alloc, &mut sums, rows.offers.as_slice())?;
+    let sums = held_by_nodes(alloc, &rows)?;
     let mut total = tables.total().copy()?;
     total.remove_zeros();
     Ok(Report {

@@ -1,8 +1,7 @@
 -- Laws of filters.
 use Rattle.std.proofs.Common.{◌≡◌, ◌+◌, ◌<◌, ◌≤◌, ◌&&◌, ℕ, suc, Bool, true, false, filter, inl, inr, refl, List, [], ◌∷◌, ◌++◌, nat_lt, length, get_or, set, ap, ◌∙◌, sym, subst, min, arith, length-append, mod-lt}
-use Rattle.std.proofs.lemmas.Bool.{cases_Bool, and_parts, and_from, ltb-true, lt-ltb}
+use Rattle.std.proofs.lemmas.Bool.{cases_Bool, and_parts, and_from, lt-ltb}
 use Rattle.std.proofs.lemmas.List.{map-append, length-map, length-set}
-use Rattle.std.proofs.lemmas.Map.Views.{any-filter_same}
 use Rattle.std.proofs.lemmas.List.Elements.{All-filter, All-push}
 use Rattle.std.proofs.lemmas.List.Folds.{list_any-from_Any, list_any_none}
 use Rattle.drf_role.specs.TextLaws.{same_itself, same_from_test}
@@ -15,7 +14,7 @@ use Rattle.drf_role.specs.Path.{same_path}
 use Rattle.drf_rows.specs.Client.{Client}
 use Rattle.drf_rows.specs.Filters.{is_in_force, in_force, is_of_client, is_on_agent, holds_back, is_held_back}
 use Rattle.drf_rows.specs.declared.rows.FilterRow.{FilterRow}
-use Rattle.drf_gates.specs.Laws.{SpentHoldNothing, LessIsHeldBack}
+use Rattle.drf_gates.specs.Laws.{LessIsHeldBack}
 use Rattle.drf_gates.specs.Chains.{IsLast, IsChained}
 use Rattle.drf_gates.specs.Index.{key_hash, bucket_of, row_bucket, buckets_of, IsChainedBy, IsIndexed, IsLeft, HasRoom, IsKept, NoneEndsBefore}
 use Rattle.drf_gates.specs.declared.index.Index.{Index}

@@ -1,5 +1,5 @@
 //! The filters of declined offers.
-ghost use Rattle.std.specs.Prelude.{◌≡◌, [], ◌∷◌, ◌++◌, IfOk, OnOk, OnErr};
+ghost use Rattle.std.specs.Prelude.{◌≡◌, [], ◌∷◌, ◌++◌, length, IfOk, OnOk, OnErr};
 ghost use Rattle.drf_rows.specs.Filters.{is_held_back, in_force, number_in_force, without_client, without_agent, without_framework};
 
 use crate::index::Index;
@@ -50,6 +50,13 @@ impl FilterTable {
             index: Index::new(alloc),
             soonest: u64::MAX,
         }
+    }
+
+    /// How many filters stand, in force or not.
+    pub fn len(&self) -> usize
+        ensures { result ≡ length self.now }
+    {
+        self.rows.len()
     }
 
     /// Adds a filter behind those that are there. An `Err` changes nothing.
@@ -136,13 +143,15 @@ impl FilterTable {
         self.index.settle(&self.rows);
     }
 
-    /// The filters, copied.
-    pub fn rows(&self) -> Result<Table<FilterRow>, AllocError>
-        ensures { IfOk result (λ rows. rows ≡ self.now) }
+    /// The filters in force, copied.
+    pub fn copy_in_force(&self, now: u64) -> Result<Table<FilterRow>, AllocError>
+        ensures { IfOk result (λ rows. rows ≡ in_force now self.now) }
     {
-        let mut rows = Vec::with_capacity(*self.rows.allocator(), self.rows.len())?;
+        let mut rows = Vec::new(*self.rows.allocator());
         for row in &self.rows {
-            rows.push(copy_row(row)?)?;
+            if is_in_force(row, now) {
+                rows.push(copy_row(row)?)?;
+            }
         }
         Ok(Table::from_vec(rows))
     }

@@ -3,4 +3,5 @@ pub mod RoleLists
 pub mod Values
 pub mod Meanings
 pub mod Replies
+pub mod Texts
 pub mod Events

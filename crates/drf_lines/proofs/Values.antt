@@ -9,7 +9,8 @@ use Rattle.serde_json.specs.View.{view, members_view, items_view}
 use Rattle.serde_json.specs.declared.value.Value.{Value}
 use Rattle.std.specs.Option.{ok_or}
 use Rattle.drf_lines.specs.declared.fault.LineFault.TheVariants.{NotJson}
-use Rattle.drf_lines.specs.Meaning.{value_in, member_count, has_members, texts_of}
+use Rattle.drf_lines.specs.Meaning.{value_in}
+use Rattle.drf_lines.specs.Object.{member_count, has_members, texts_of}
 
 member_count-members_view : (es : List (String Global × Value)) → member_count (members_view es) ≡ length es
 member_count-members_view [] = refl

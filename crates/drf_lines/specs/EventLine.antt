@@ -1,39 +1,13 @@
 -- The line of an event, without its line feed: compact JSON, the keys in order of bytes (RFC 8259).
-use Rattle.std.specs.Prelude.{ℕ, List, map, codes}
-use Rattle.serde_json.specs.Data.{Data, number, unsigned, string, array, object, member, no_members}
-use Rattle.serde_json.specs.View.{items_of}
+use Rattle.std.specs.Prelude.{ℕ, List, codes}
+use Rattle.serde_json.specs.Data.{Data, number, unsigned, string, object, member, no_members}
 use Rattle.serde_json.specs.Written.{compact_text}
-use Rattle.drf_bundle.specs.declared.resource.Resource.{Resource}
-use Rattle.drf_role.specs.Parts.{text_of}
 use Rattle.drf_rows.specs.declared.event.Event.{Event}
-use Rattle.drf_rows.specs.declared.event.Event.TheVariants.{AddAgent, AddFramework, SetWeight, Cycle, Report}
-use Rattle.drf_text.specs.Written.{amount_text, bundle_text}
-
-abbrev pub agent_value : List ℕ → List Resource → Data
-agent_value agent total = object (
-    member (codes "agent") (string agent)
-    (member (codes "event") (string (codes "add_agent"))
-    (member (codes "total") (string (bundle_text total))
-    no_members)))
-
--- a role as JSON
-abbrev pub role_value : List (List ℕ) → Data
-role_value role = string (text_of role)
-
--- each role as often as it stands
-abbrev pub framework_value : List ℕ → List (List (List ℕ)) → Data
-framework_value framework roles = object (
-    member (codes "event") (string (codes "add_framework"))
-    (member (codes "framework") (string framework)
-    (member (codes "roles") (array (items_of (map role_value roles)))
-    no_members)))
-
-abbrev pub weight_value : List (List ℕ) → ℕ → Data
-weight_value role weight = object (
-    member (codes "event") (string (codes "set_weight"))
-    (member (codes "role") (string (text_of role))
-    (member (codes "weight") (string (amount_text weight))
-    no_members)))
+use Rattle.drf_rows.specs.declared.event.Event.TheVariants.{AddAgent, RemoveAgent, ActivateAgent, DeactivateAgent, AddFramework, RemoveFramework, Accept, Decline, Rescind, Finish, Suppress, Revive, SetWeight, Cycle, Report}
+use Rattle.drf_lines.specs.AgentEvents.{agent_value, of_agent}
+use Rattle.drf_lines.specs.FrameworkEvents.{framework_value, of_framework, of_client}
+use Rattle.drf_lines.specs.OfferEvents.{accept_value, decline_value, rescind_value, finish_value}
+use Rattle.drf_lines.specs.WeightEvents.{weight_value}
 
 abbrev pub cycle_value : ℕ → Data
 cycle_value at = object (
@@ -45,7 +19,17 @@ report_request = object (member (codes "event") (string (codes "report")) no_mem
 -- an event as JSON
 abbrev pub event_value : Event → Data
 event_value (AddAgent agent total) = agent_value agent total
+event_value (RemoveAgent agent) = of_agent (codes "remove_agent") agent
+event_value (ActivateAgent agent) = of_agent (codes "activate_agent") agent
+event_value (DeactivateAgent agent) = of_agent (codes "deactivate_agent") agent
 event_value (AddFramework framework roles) = framework_value framework roles
+event_value (RemoveFramework framework) = of_framework (codes "remove_framework") framework
+event_value (Accept framework offer task used at refuse_ms) = accept_value framework offer task used at refuse_ms
+event_value (Decline framework offer at refuse_ms) = decline_value framework offer at refuse_ms
+event_value (Rescind offer) = rescind_value offer
+event_value (Finish framework task) = finish_value framework task
+event_value (Suppress framework role) = of_client (codes "suppress") framework role
+event_value (Revive framework role) = of_client (codes "revive") framework role
 event_value (SetWeight role weight) = weight_value role weight
 event_value (Cycle at) = cycle_value at
 event_value Report = report_request

@@ -1,7 +1,12 @@
 pub mod Fault
 pub mod Words
 pub mod Resources
+pub mod Object
+pub mod AgentEvents
+pub mod FrameworkEvents
+pub mod OfferEvents
+pub mod WeightEvents
 pub mod Meaning
+pub mod EventLine
 pub mod ReportLine
 pub mod ReplyLine
-pub mod EventLine

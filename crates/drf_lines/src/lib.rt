@@ -1,12 +1,17 @@
 //! The lines of a journal: an event is read from a line, and an event, a reply or a fault is written as one.
 #![tactic(auto)]
 
+mod agents;
 mod event_line;
 mod fault;
+mod frameworks;
 mod line;
+mod object;
+mod offers;
 mod reply;
 mod report;
 mod resources;
+mod weights;
 mod words;
 
 pub use event_line::write_event;

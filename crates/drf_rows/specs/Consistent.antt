@@ -9,7 +9,7 @@ use Rattle.drf_bundle.specs.Bundle.{Key, IsBundle, units, quantities_of}
 use Rattle.drf_bundle.specs.Taken.{joined, units_of_all}
 use Rattle.drf_rows.specs.Holdings.{Holding, holdings_of, parts_on}
 use Rattle.drf_rows.specs.Held.{is_registered}
-use Rattle.drf_rows.specs.Offers.{is_task}
+use Rattle.drf_rows.specs.Endings.{is_task}
 use Rattle.drf_rows.specs.Cycle.{free_of}
 use Rattle.drf_rows.specs.declared.limits.TheConstants.{LARGEST_AMOUNT, LATEST_MOMENT}
 use Rattle.drf_rows.specs.declared.rows.FilterRow.{FilterRow}

@@ -1,8 +1,8 @@
 -- What is held once a holding ends, or once an offer is accepted; and that the rows stay consistent.
-use Rattle.std.specs.Prelude.{◌≡◌, ℕ, ◌+◌, ◌<◌, ◌≤◌, ◌==◌, Bool, true, false, not, ◌&&◌, ◌||◌, List, [], ◌∷◌, ◌++◌, length, map, filter, find, take, drop, slice_get, sum_by, nat_lt, Option}
+use Rattle.std.specs.Prelude.{◌≡◌, ℕ, ◌+◌, ◌<◌, ◌≤◌, ◌==◌, Bool, true, false, not, ◌&&◌, List, [], ◌∷◌, ◌++◌, length, map, filter, find, take, drop, slice_get, sum_by, nat_lt, Option}
 use Rattle.std.specs.List.{list_all, list_any, count_by, AllByRecursion}
 use Rattle.std.proofs.Common.{refl, sym, ap, subst, ◌∙◌, inl, inr, cond, zero, suc, arith, Some, append_assoc}
-use Rattle.std.proofs.lemmas.Bool.{cases_Bool, and_parts, and_from, or_parts, false≢true, ltb-true, eqb-true, eq-eqb, ne_eqb}
+use Rattle.std.proofs.lemmas.Bool.{cases_Bool, and_parts, and_from, or_parts, ltb-true, eqb-true, eq-eqb, ne_eqb}
 use Rattle.std.proofs.lemmas.List.{map-append, append-nil}
 use Rattle.std.proofs.lemmas.List.Elements.{filter-append}
 use Rattle.std.proofs.lemmas.List.Sums.{sum_by-cons, sum_by-append, length-filter, count_by-le-length}
@@ -20,9 +20,9 @@ use Rattle.drf_rows.specs.HoldingsLaws.{held_where-append, held_where-cons, part
 use Rattle.drf_rows.specs.Cycle.{free_of}
 use Rattle.drf_rows.specs.Consistent.{IsHeld, IsCovered, IsConsistent, IsFilter, are_rising, are_distinct_tasks}
 use Rattle.drf_rows.specs.ConsistentLaws.{same_text-swap}
-use Rattle.drf_rows.specs.Endings.{Ending, one_offer, ends_offer, ends_task, without_ended}
+use Rattle.drf_rows.specs.Endings.{Ending, one_offer, ends_offer, ends_task, without_ended, is_task}
 use Rattle.drf_rows.specs.ListLaws.{each_from, each_append, count_by-any}
-use Rattle.drf_rows.specs.Offers.{Start, is_task, has_task, offer_at, task_of}
+use Rattle.drf_rows.specs.Offers.{Start, has_task, offer_at, task_of, filter_of, refused_until}
 use Rattle.drf_rows.specs.declared.rows.AgentRow.{AgentRow}
 use Rattle.drf_rows.specs.declared.rows.FilterRow.{FilterRow}
 use Rattle.drf_rows.specs.declared.rows.OfferRow.{OfferRow}
@@ -135,7 +135,10 @@ module _ (old new : List Holding) (h : Holding) (less : IsOneLess old new h) whe
       of : List Resource → ℕ
       of part = units part key p
 
-      first : (b : Bool) → units_of_all (map (λ g. g.bundle) (cond b (h ∷ filter (is_on agent) less.after) (filter (is_on agent) less.after))) key p
+      later : List Holding
+      later = filter (is_on agent) less.after
+
+      first : (b : Bool) → units_of_all (map (λ g. g.bundle) (cond b (h ∷ later) later)) key p
           ≡ cond b (units h.bundle key p) 0 + units_of_all (parts_on agent less.after) key p
       first true = sum_by-cons of h.bundle (parts_on agent less.after)
       first false = omega arith
@@ -278,23 +281,26 @@ each_past p (x ∷ xs) none =
     (parts.0, each_past p xs parts.1)
 
 -- where no element passes a test, none is left out
-pub filter-none : {X : Type 0} (p : X → Bool) (xs : List X) → AllByRecursion (λ x. p x ≡ false) xs → filter (λ x. not (p x)) xs ≡ xs
+pub filter-none : {X : Type 0} (p : X → Bool) (xs : List X)
+    → AllByRecursion (λ x. p x ≡ false) xs → filter (λ x. not (p x)) xs ≡ xs
 filter-none p [] none = refl
 filter-none p (x ∷ xs) none = λ i. cond (not (none.0 i)) (x ∷ filter-none p xs none.1 i) (filter-none p xs none.1 i)
 
 -- and only there
-pub none-filter : {X : Type 0} (p : X → Bool) (xs : List X) → filter (λ x. not (p x)) xs ≡ xs → AllByRecursion (λ x. p x ≡ false) xs
+pub none-filter : {X : Type 0} (p : X → Bool) (xs : List X)
+    → filter (λ x. not (p x)) xs ≡ xs → AllByRecursion (λ x. p x ≡ false) xs
 none-filter p [] same = tt
 none-filter {X} p (x ∷ xs) same =
     let stays : X → Bool = λ y. not (p y) in
+    let left : List X = filter stays xs in
+    let chosen : Bool → List X = λ b. cond (not b) (x ∷ left) left in
     elim (cases_Bool (p x)) [
       | inl here ↦
-          let fewer : filter stays xs ≡ x ∷ xs = sym (ap (λ (b : Bool). cond (not b) (x ∷ filter stays xs) (filter stays xs)) here) ∙ same in
+          let fewer : left ≡ x ∷ xs = sym (ap chosen here) ∙ same in
           absurd (omega (arith, ap length fewer, length-filter stays xs, count_by-le-length stays xs))
       | inr past ↦
-          let others : x ∷ filter stays xs ≡ x ∷ xs
-          = sym (ap (λ (b : Bool). cond (not b) (x ∷ filter stays xs) (filter stays xs)) past) ∙ same in
-          let later : filter stays xs ≡ xs = cc in
+          let others : x ∷ left ≡ x ∷ xs = sym (ap chosen past) ∙ same in
+          let later : left ≡ xs = cc in
           (past, none-filter p xs later)
     ]
 
@@ -354,6 +360,27 @@ pub offer_at-place : (rows : Rows) (number : ℕ) (o : OfferRow) → offer_at ro
 offer_at-place rows number o found =
     let at = find-place (λ (p : OfferRow). p.number == number) rows.offers o found in
     (at.0, eqb-true o.number number at.1)
+
+-- it is held by a registered client on a registered agent
+pub held-offer_at : (rows : Rows) (number : ℕ) (o : OfferRow) → IsConsistent rows → offer_at rows number ≡ Some o
+    → IsHeld rows.agents rows.frameworks (of_offer o)
+held-offer_at rows number o consistent found =
+    let at = (offer_at-place rows number o found).0 in
+    one-one_less (holdings_of rows) (holdings_of (record rows { offers = at.before ++ at.after })) (of_offer o)
+    (one_less-offer rows at.before at.after o at.stands) (IsHeld rows.agents rows.frameworks) consistent.holdings
+
+-- so its client may refuse a bundle there
+pub IsFilter-filter_of : (rows : Rows) (number : ℕ) (o : OfferRow) (bundle : List Resource) (refuse_ms : ℕ)
+    → IsConsistent rows → offer_at rows number ≡ Some o → IsBundle bundle
+    → IsFilter rows.agents rows.frameworks (filter_of o bundle (refused_until rows.clock refuse_ms))
+IsFilter-filter_of rows number o bundle refuse_ms consistent found right =
+    let held = held-offer_at rows number o consistent found in
+    record {
+      agent = held.agent;
+      client = held.client;
+      bundle = right;
+      until = omega (arith, consistent.early);
+    }
 
 -- numbers that rise tell offers apart
 list_all-one : {X : Type 0} (p : X → Bool) (xs ys : List X) (x : X) → list_all p (xs ++ x ∷ ys) ≡ true → p x ≡ true
@@ -445,24 +472,27 @@ tasks_apart-push (s ∷ ts) t apart new =
 -- of the whole a scalar is in the part or in the rest
 amount-rest : (whole part : List Resource) (label : Text) → IsBundle whole → IsBundle part → covers whole part ≡ true
     → amount_of (quantities_of whole) label ≡ amount_of (quantities_of part) label + amount_of (quantities_of (rest whole part)) label
-amount-rest whole part label first second all = omega (
-  arith,
-  amount-quantities_of whole label,
-  amount-quantities_of part label,
-  amount-quantities_of (rest whole part) label,
-  stocks_add (rest whole part) part whole (bundle-rest whole part first) second (rest_and_part whole part first second all) label Thousandths,
-)
+amount-rest whole part label first second all =
+    let joined = rest_and_part whole part first second all in
+    omega (
+      arith,
+      amount-quantities_of whole label,
+      amount-quantities_of part label,
+      amount-quantities_of (rest whole part) label,
+      stocks_add (rest whole part) part whole (bundle-rest whole part first) second joined label Thousandths,
+    )
 
 -- one holding stands in another's stead, which passes the same test and has so much more
 held_where-instead : (old middle new : List Holding) (h g : Holding) (test : Holding → Bool) (label : Text) (more : ℕ)
     → IsOneLess old middle h → IsOneLess new middle g → test h ≡ test g → amount_in label h ≡ amount_in label g + more
     → held_where test old label ≡ held_where test new label + cond (test h) more 0
 held_where-instead old middle new h g test label more out in_place same amounts =
-    held_where-one_less old middle h out test label
-    ∙ by (test h)
-    ∙ ap (λ (n : ℕ). n + cond (test h) more 0)
-    (sym (held_where-one_less new middle g in_place test label ∙ ap (λ (b : Bool). held_where test middle label + cond b (amount_in label g) 0) (sym same)))
+    held_where-one_less old middle h out test label ∙ by (test h) ∙ ap (λ (n : ℕ). n + cond (test h) more 0) (sym after)
   where
+    after : held_where test new label ≡ held_where test middle label + cond (test h) (amount_in label g) 0
+    after = held_where-one_less new middle g in_place test label
+        ∙ ap (λ (b : Bool). held_where test middle label + cond b (amount_in label g) 0) (sym same)
+
     by : (b : Bool) → held_where test middle label + cond b (amount_in label h) 0
         ≡ held_where test middle label + cond b (amount_in label g) 0 + cond b more 0
     by true = omega (arith, amounts)
@@ -511,6 +541,9 @@ module _ (rows : Rows) (number : ℕ) (o : OfferRow) (task : Text) (used : List 
     lacks = sym (append-nil between);
   }
 
+  offer_held : IsHeld rows.agents rows.frameworks (of_offer o)
+  offer_held = held-offer_at rows number o consistent found
+
   -- where the task passes the same test as the offer did, the rest is no longer held
   pub held_where-accepted : (test : Holding → Bool) (label : Text)
       → IsBundle used → covers o.bundle used ≡ true → test (of_offer o) ≡ test (of_task (task_of o (task, used)))
@@ -520,10 +553,7 @@ module _ (rows : Rows) (number : ℕ) (o : OfferRow) (task : Text) (used : List 
   held_where-accepted test label right covered same =
       held_where-instead (holdings_of rows) between (holdings_of after) (of_offer o) (of_task started) test label
       (amount_of (quantities_of (rest o.bundle used)) label) offer_out task_out same
-      (amount-rest o.bundle used label whole right covered)
-    where
-      whole : IsBundle o.bundle
-      whole = (one-one_less (holdings_of rows) between (of_offer o) offer_out (IsHeld rows.agents rows.frameworks) consistent.holdings).bundle
+      (amount-rest o.bundle used label offer_held.bundle right covered)
 
   -- on other agents the same is held
   pub parts_on-accepted : (agent : Text) → same_text o.agent agent ≡ false
@@ -542,8 +572,7 @@ module _ (rows : Rows) (number : ℕ) (o : OfferRow) (task : Text) (used : List 
       → units_of_all (parts_on agent (holdings_of (accepted_in rows o (task, used) filters))) key p
       ≤ units_of_all (parts_on agent (holdings_of rows)) key p
   units-accepted right covered agent key p =
-      let held = one-one_less (holdings_of rows) between (of_offer o) offer_out (IsHeld rows.agents rows.frameworks) consistent.holdings in
-      let below : units used key p ≤ units o.bundle key p = (covers_by_units o.bundle used held.bundle right).0 covered key p in
+      let below : units used key p ≤ units o.bundle key p = (covers_by_units o.bundle used offer_held.bundle right).0 covered key p in
       omega (
         arith,
         units-one_less (holdings_of rows) between (of_offer o) offer_out agent key p,
@@ -561,14 +590,13 @@ module _ (rows : Rows) (number : ℕ) (o : OfferRow) (task : Text) (used : List 
   unfolding task_out
   IsConsistent-accepted right covered new each =
       let Held : Holding → Type 0 = IsHeld rows.agents rows.frameworks in
-      let held : Held (of_offer o) = one-one_less (holdings_of rows) between (of_offer o) offer_out Held consistent.holdings in
       let at = (offer_at-place rows number o found).0 in
       let fewer : IsConsistent (record rows { offers = at.before ++ at.after })
       = IsConsistent-offer_out rows at.before at.after o at.stands consistent in
       let rising : are_rising (map number_of left) rows.next_offer ≡ true
       = ap (λ (os : List OfferRow). are_rising (map number_of os) rows.next_offer)
       (without_offer-place rows at.before at.after o consistent at.stands) ∙ fewer.numbered in
-      let runs : Held (of_task started) = record { agent = held.agent; client = held.client; bundle = right } in
+      let runs : Held (of_task started) = record { agent = offer_held.agent; client = offer_held.client; bundle = right } in
       let more : AllByRecursion Held (holdings_of after) = subst (AllByRecursion Held) (sym task_out.has)
       (each_append Held between (of_task started ∷ [])
       (each-one_less (holdings_of rows) between (of_offer o) offer_out Held consistent.holdings) (runs, tt)) in

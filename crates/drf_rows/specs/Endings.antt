@@ -24,9 +24,13 @@ ends_offer (offers_on agent) o = same_text o.agent agent
 ends_offer (all_on agent) o = same_text o.agent agent
 ends_offer (all_of framework) o = same_text o.framework framework
 
+-- the task is the framework's, and has that name
+abbrev pub is_task : Text → Text → TaskRow → Bool
+is_task framework name t = same_text t.framework framework && same_text t.name name
+
 abbrev pub ends_task : Ending → TaskRow → Bool
 ends_task (one_offer number) t = false
-ends_task (one_task framework name) t = same_text t.framework framework && same_text t.name name
+ends_task (one_task framework name) t = is_task framework name t
 ends_task (offers_on agent) t = false
 ends_task (all_on agent) t = same_text t.agent agent
 ends_task (all_of framework) t = same_text t.framework framework

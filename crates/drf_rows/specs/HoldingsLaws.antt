@@ -7,7 +7,9 @@ use Rattle.std.proofs.lemmas.List.{map-append}
 use Rattle.std.proofs.lemmas.List.Elements.{filter-append}
 use Rattle.std.proofs.lemmas.List.Sums.{sum_by-cons, sum_by-append}
 use Rattle.drf_role.specs.Text.{Text, same_text}
-use Rattle.drf_bundle.specs.Bundle.{IsBundle}
+use Rattle.drf_bundle.specs.Value.{Point}
+use Rattle.drf_bundle.specs.Bundle.{Key, IsBundle, units}
+use Rattle.drf_bundle.specs.Taken.{units_of_all}
 use Rattle.drf_bundle.specs.declared.resource.Resource.{Resource}
 use Rattle.drf_rows.specs.Holdings.{Holding, of_offer, of_task, holdings_of, amount_in, held_where, is_on, parts_on, AreBundles}
 use Rattle.drf_rows.specs.Cycle.{with_offer}
@@ -44,6 +46,23 @@ each_part agent (h ∷ hs) all = elim (cases_Bool (is_on agent h)) [
   | inl here ↦ rw here (all.0, each_part agent hs all.1)
   | inr past ↦ rw past (each_part agent hs all.1)
 ]
+
+-- the units that are held on an agent
+abbrev pub units_on : Text → List Holding → Key → Point → ℕ
+units_on agent hs key p = units_of_all (parts_on agent hs) key p
+
+module _ (agent : Text) (key : Key) (p : Point) where
+  pub units_on-append : (hs gs : List Holding) → units_on agent (hs ++ gs) key p ≡ units_on agent hs key p + units_on agent gs key p
+  units_on-append hs gs =
+      ap (sum_by (λ part. units part key p)) (parts_on-append agent hs gs)
+      ∙ sum_by-append (λ part. units part key p) (parts_on agent hs) (parts_on agent gs)
+
+  pub units_on-cons : (h : Holding) (hs : List Holding)
+      → units_on agent (h ∷ hs) key p ≡ cond (is_on agent h) (units h.bundle key p) 0 + units_on agent hs key p
+  units_on-cons h hs = elim (cases_Bool (is_on agent h)) [
+    | inl here ↦ rw here (sum_by-cons (λ part. units part key p) h.bundle (parts_on agent hs))
+    | inr past ↦ rw past (omega arith)
+  ]
 
 -- ---- a holding is added
 

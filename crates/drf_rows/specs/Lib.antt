@@ -25,10 +25,15 @@ pub mod CycleLaws
 pub mod ConsistentLaws
 pub mod RegistrationLaws
 pub mod EndingLaws
+pub mod MemberLaws
 pub mod WeightLaws
 pub mod Examples
 pub mod OrderExamples
 pub mod WeightExamples
 pub mod ReportExamples
+pub mod LifeExamples
 pub mod Laws
+pub mod LifeLaws
+pub mod EndedLaws
+pub mod OfferedLaws
 pub mod ReportLaws

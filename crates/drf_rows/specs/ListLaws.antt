@@ -227,6 +227,13 @@ pub each_append : {X : Type 0} (P : X → Type 0) (xs ys : List X)
 each_append P [] ys first later = later
 each_append P (x ∷ xs) ys first later = (first.0, each_append P xs ys first.1 later)
 
+pub each_parts : {X : Type 0} (P : X → Type 0) (xs ys : List X)
+    → AllByRecursion P (xs ++ ys) → AllByRecursion P xs × AllByRecursion P ys
+each_parts P [] ys all = (tt, all)
+each_parts P (x ∷ xs) ys all =
+    let others = each_parts P xs ys all.1 in
+    ((all.0, others.0), others.1)
+
 pub each_map : {X Y : Type 0} (P : Y → Type 0) (g : X → Y) (xs : List X)
     → AllByRecursion (λ x. P (g x)) xs → AllByRecursion P (map g xs)
 each_map P g [] all = tt
@@ -261,3 +268,41 @@ each_found same (x ∷ xs) itself = (
   each_from (λ z. list_any (λ y. same y z) xs ≡ true) (λ z. list_any (λ y. same y z) (x ∷ xs) ≡ true) xs
       (λ z found. or_right (same x z) (list_any (λ y. same y z) xs) found) (each_found same xs itself),
 )
+
+-- ---- one element that passes a test
+
+pub each_true : {X : Type 0} (xs : List X) → AllByRecursion (λ x. ◌≡◌ {A = Bool} true true) xs
+each_true [] = tt
+each_true (x ∷ xs) = (refl, each_true xs)
+
+pub each_fails : {X : Type 0} (p : X → Bool) (xs : List X) → list_all (λ x. not (p x)) xs ≡ true → AllByRecursion (λ x. p x ≡ false) xs
+each_fails p [] all = tt
+each_fails p (x ∷ xs) all =
+    let parts = and_parts (not (p x)) (list_all (λ x. not (p x)) xs) all in
+    (not-true (p x) parts.0, each_fails p xs parts.1)
+
+pub filter_each : {X : Type 0} (p : X → Bool) (xs : List X) → AllByRecursion (λ x. p x ≡ true) xs → filter p xs ≡ xs
+filter_each p [] each = refl
+filter_each {X} p (x ∷ xs) each = rw each.0 (ap (λ (ys : List X). x ∷ ys) (filter_each p xs each.1))
+
+pub any_fails : {X : Type 0} (p : X → Bool) (xs : List X) → AllByRecursion (λ x. p x ≡ false) xs → list_any p xs ≡ false
+any_fails p [] each = refl
+any_fails p (x ∷ xs) each = rw each.0 (any_fails p xs each.1)
+
+module _ {X : Type 0} (p : X → Bool) (before later : List X) (x : X)
+    (none : AllByRecursion (λ y. p y ≡ false) before) (passes : p x ≡ true) where
+  -- it is found
+  pub find_only : find p (before ++ x ∷ later) ≡ Some x
+  find_only = by before none
+    where
+      by : (ys : List X) → AllByRecursion (λ y. p y ≡ false) ys → find p (ys ++ x ∷ later) ≡ Some x
+      by [] past = rw passes
+      by (y ∷ ys) past = rw past.0 (by ys past.1)
+
+  -- and goes alone
+  pub filter_only : AllByRecursion (λ y. p y ≡ false) later → filter (λ y. not (p y)) (before ++ x ∷ later) ≡ before ++ later
+  filter_only rest = by before none
+    where
+      by : (ys : List X) → AllByRecursion (λ y. p y ≡ false) ys → filter (λ y. not (p y)) (ys ++ x ∷ later) ≡ ys ++ later
+      by [] past = rw passes (filter_each (λ y. not (p y)) later (each_from (λ y. p y ≡ false) (λ y. not (p y) ≡ true) later (λ y other. ap not other) rest))
+      by (y ∷ ys) past = rw past.0 (ap (λ (zs : List X). y ∷ zs) (by ys past.1))

@@ -8,7 +8,7 @@ use Rattle.drf_bundle.specs.Bundle.{covers}
 use Rattle.drf_bundle.specs.Taken.{rest_of_all}
 use Rattle.drf_bundle.specs.declared.resource.Resource.{Resource}
 use Rattle.drf_rows.specs.LimitNumbers.{LimitNumbers}
-use Rattle.drf_rows.specs.Endings.{without_ended, one_offer}
+use Rattle.drf_rows.specs.Endings.{without_ended, one_offer, is_task}
 use Rattle.drf_rows.specs.Filters.{number_in_force}
 use Rattle.drf_rows.specs.declared.limits.TheConstants.{LONGEST_REFUSAL}
 use Rattle.drf_rows.specs.declared.rows.FilterRow.{FilterRow}
@@ -33,10 +33,7 @@ is_anothers rows framework number = option_map_or (λ o. not (same_text o.framew
 abbrev pub is_beyond : Rows → ℕ → List Resource → Bool
 is_beyond rows number used = option_map_or (λ o. not (covers o.bundle used)) (offer_at rows number) false
 
--- the task is the framework's, and has that name
-abbrev pub is_task : Text → Text → TaskRow → Bool
-is_task framework name t = same_text t.framework framework && same_text t.name name
-
+-- the framework has a task of that name
 abbrev pub has_task : Rows → Text → Text → Bool
 has_task rows framework name = list_any (is_task framework name) rows.tasks
 

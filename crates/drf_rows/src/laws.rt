@@ -6,10 +6,12 @@ ghost use Rattle.std.specs.Prelude.{◌≡◌, [], ◌∷◌, codes};
 ghost use Rattle.drf_rows.specs.LimitNumbers.{ceilings};
 ghost use Rattle.drf_rows.specs.Step.{opening, replies_to};
 ghost use Rattle.drf_rows.specs.Laws.{NoneBeforeItself, AtMostOneBefore, OneServingOrder, TooLittleIsNotGranted, FirstIsGrantedAll, CasesRise, RefusedChangesNothing, AcceptedIsCounted, RunsGoOn, LiveRowsReply, LiveRowsGoOn, LiveRowsRun, HeldIsReported, NodesRise, NodesBeginPaths};
+ghost use Rattle.drf_rows.specs.LifeLaws.{DeclinedAtOnceIsUndone, FinishedIsGivenBack, FiltersGoWithTheirOwner, SuppressedIsNotOffered, NumbersAreNew};
 ghost use Rattle.drf_rows.specs.Examples.{one_cycle, two_cycles, two_cycles_replies, two_frameworks, two_frameworks_replies, replies_with, not_offered, offered_whole, refused_as_too_large, one_agent, two_agents, two_events, two_names, three_names, one_framework, one_client, two_registrations, one_role, roles_listed, reserved_for_eng, reserved_for_eng_replies, cpus, cpus_for, mem, gpus};
 ghost use Rattle.drf_rows.specs.OrderExamples.{served, offered, half_at_work, close_shares, equal_shares, weighted_shares, shares_of, first_agent, second_agent, role_tree, more_for_ops, half_weight_of_eng, nothing_held};
 ghost use Rattle.drf_rows.specs.Report.{report_of};
 ghost use Rattle.drf_rows.specs.ReportExamples.{tree_at_work, tree_report, one_weighted, weighted_report, nothing_there, nothing_report, reserved_held, reserved_report, two_reports, two_reports_replies};
+ghost use Rattle.drf_rows.specs.LifeExamples.{a_task, a_task_replies, a_filter, a_filter_replies, a_clock, a_clock_replies, a_year, a_year_replies, one_filter, two_filters, two_filters_replies, taking_part, taking_part_replies, refused, refused_replies};
 ghost use Rattle.drf_rows.specs.WeightLaws.{RoleHasItsWeight, OthersKeepTheirWeight, EachHasOneRow};
 ghost use Rattle.drf_rows.specs.WeightExamples.{bounds, bounds_replies, replaced, weights_after, replaced_rows, one_weight, one_weight_replies, replies_by_weight, third_to};
 
@@ -41,6 +43,20 @@ pub fn live_rows_law()
     ensures reply { LiveRowsReply }
     ensures go_on { LiveRowsGoOn }
     ensures run { LiveRowsRun }
+{}
+
+/// An offer that is declined at once leaves nothing behind, a task that finishes gives back exactly what it used, and no
+/// filter outlives its agent, its framework, or the next revival of its client.
+pub fn life_law()
+    ensures declined { DeclinedAtOnceIsUndone }
+    ensures finished { FinishedIsGivenBack }
+    ensures filters { FiltersGoWithTheirOwner }
+{}
+
+/// A cycle offers nothing to a client that is suppressed, and no number is given to two offers.
+pub fn offers_law()
+    ensures suppressed { SuppressedIsNotOffered }
+    ensures numbers { NumbersAreNew }
 {}
 
 /// A report tells of each node what its clients hold: of those that begin a client's path, in order of path.
@@ -127,4 +143,19 @@ pub fn report_example()
     ensures nothing { report_of nothing_there ≡ nothing_report }
     ensures reserved { report_of reserved_held ≡ reserved_report }
     ensures events { replies_to ceilings opening two_reports ≡ two_reports_replies }
+{}
+
+/// What a task used is offered again when it has finished, and what was declined when its filter has ended.
+pub fn life_example()
+    ensures task { replies_to ceilings opening a_task ≡ a_task_replies }
+    ensures filter { replies_to ceilings opening a_filter ≡ a_filter_replies }
+    ensures clock { replies_to ceilings opening a_clock ≡ a_clock_replies }
+    ensures year { replies_to ceilings opening a_year ≡ a_year_replies }
+    ensures limit { replies_to one_filter opening two_filters ≡ two_filters_replies }
+{}
+
+/// What a deactivated agent, a suppressed client and a client that revives is offered, and what is refused.
+pub fn taking_part_example()
+    ensures part { replies_to ceilings opening taking_part ≡ taking_part_replies }
+    ensures refused { replies_to ceilings opening refused ≡ refused_replies }
 {}

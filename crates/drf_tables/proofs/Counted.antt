@@ -16,7 +16,7 @@ use Rattle.drf_rows.specs.Holdings.{of_offer}
 use Rattle.drf_rows.specs.declared.rows.ClientRow.{ClientRow}
 use Rattle.drf_rows.specs.declared.rows.FrameworkRow.{FrameworkRow}
 use Rattle.drf_rows.specs.declared.rows.OfferRow.{OfferRow}
-use Rattle.drf_tables.specs.Counting.{counting, counting_all, CanCount, CanCountAll}
+use Rattle.drf_tables.specs.Counting.{counting, counting_all, count_clients, CanCount, CanCountAll}
 use Rattle.drf_rows.specs.ConsistentLaws.{same_text-swap}
 
 -- ---- one client after another
@@ -140,11 +140,7 @@ count_offer-here client f named =
     ap (λ n. same_text n client.framework) named ∙ same_itself client.framework in
     rw same refl
 
--- the number of all clients
-abbrev pub count_clients : List FrameworkRow → ℕ
-count_clients fs = length (flat_map (λ f. map (client_of f) f.clients) fs)
-
-count_clients-cons : (f : FrameworkRow) (fs : List FrameworkRow)
+pub count_clients-cons : (f : FrameworkRow) (fs : List FrameworkRow)
     → count_clients (f ∷ fs) ≡ length f.clients + count_clients fs
 count_clients-cons f fs =
     length-append (map (client_of f) f.clients) (flat_map (λ f. map (client_of f) f.clients) fs)

@@ -4,9 +4,7 @@ use Rattle.std.specs.List.{AllByRecursion}
 use Rattle.std.specs.Global.{Vec}
 use Rattle.std.specs.Map.{lookup, values_of}
 use Rattle.std.proofs.Common.{refl, sym, ap, ◌∙◌, zero, suc, arith}
-use Rattle.std.specs.Option.{option_map}
 use Rattle.std.proofs.lemmas.List.{map-append}
-use Rattle.std.proofs.lemmas.Option.{slice_get-map}
 use Rattle.indexmap.specs.IndexMap.{insert_entry}
 use Rattle.drf_role.specs.Text.{Text, same_text}
 use Rattle.drf_bundle.specs.Quantities.{amount_of, plus}
@@ -24,10 +22,14 @@ use Rattle.drf_rows.specs.declared.rows.AgentRow.{AgentRow}
 use Rattle.drf_rows.specs.declared.rows.ClientRow.{ClientRow}
 use Rattle.drf_rows.specs.declared.rows.OfferRow.{OfferRow}
 use Rattle.drf_rows.specs.declared.rows.Rows.{Rows}
-use Rattle.drf_tables.specs.Drafts.{with_offers, frees_of}
+use Rattle.drf_tables.specs.Drafts.{with_offers}
 use Rattle.drf_tables.specs.DraftLaws.{offers_added, with_offers-added}
 use Rattle.drf_tables.specs.Counting.{counting_all}
-use Rattle.drf_tables.specs.Inside.{agent_row, framework_row, framework_rows, frees_in, rows_of, rows_in}
+use Rattle.drf_tables.specs.Inside.{agent_row, framework_row, framework_rows, rows_of, rows_in, IsKnown}
+use Rattle.drf_rows.specs.Holdings.{holdings_of}
+use Rattle.drf_rows.specs.ListLaws.{each_at}
+use Rattle.drf_bundle.specs.declared.resource.Resource.{Resource}
+use Rattle.drf_tables.specs.declared.holdings.Holdings.{Holdings}
 use Rattle.drf_tables.specs.declared.tables.Agent.{Agent}
 use Rattle.drf_tables.specs.declared.tables.Tables.TheInside.{Inside}
 use Rattle.drf_tables.proofs.Entries.{known-lookup, insert_entry-new}
@@ -43,27 +45,35 @@ active_at (e ∷ agents) zero v a value row =
     (λ i. (sym same i).active) ∙ (λ i. (read i).active)
 active_at (e ∷ agents) (suc i) v a value row = active_at agents i v a value row
 
-free_at : (agents : List (Text × Agent)) (i : ℕ) (v : Agent)
-    → slice_get (values_of agents) i ≡ Some v → slice_get (frees_in agents) i ≡ Some v.free
-free_at [] i v value = cc
-free_at (e ∷ agents) zero v value =
+pub agent_at : (agents : List (Text × Agent)) (i : ℕ) (v : Agent) (a : AgentRow)
+    → slice_get (values_of agents) i ≡ Some v → slice_get (map agent_row agents) i ≡ Some a
+    → (key : Text) × (slice_get agents i ≡ Some (key, v)) × (agent_row (key, v) ≡ a)
+agent_at [] i v a value row = cc
+agent_at (e ∷ agents) zero v a value row =
     let same : e.1 ≡ v = cc in
-    λ i. Some (same i).free
-free_at (e ∷ agents) (suc i) v value = free_at agents i v value
+    let read : agent_row e ≡ a = cc in
+    (e.0, (λ j. Some (e.0, same j)), (λ j. agent_row (e.0, sym same j)) ∙ read)
+agent_at (e ∷ agents) (suc i) v a value row = agent_at agents i v a value row
 
-pub free_of-at : (rows : Rows) (agents : List (Text × Agent)) (i : ℕ) (v : Agent) (a : AgentRow)
-    → frees_in agents ≡ frees_of rows → slice_get (values_of agents) i ≡ Some v → slice_get rows.agents i ≡ Some a
-    → v.free ≡ free_of rows a
-free_of-at rows agents i v a kept value row =
-    let here : slice_get (frees_in agents) i ≡ Some v.free = free_at agents i v value in
-    let there : slice_get (frees_of rows) i ≡ Some (free_of rows a) =
-    slice_get-map (free_of rows) rows.agents i ∙ ap (option_map (free_of rows)) row in
-    let both : slice_get (frees_in agents) i ≡ slice_get (frees_of rows) i = ap (λ fs. slice_get fs i) kept in
-    cc
+pub free_of-at : (rows : Rows) (agents : List (Text × Agent)) (i : ℕ) (v : Agent) (a : AgentRow) (free : List Resource)
+    → AllByRecursion (IsKnown (holdings_of rows)) agents → slice_get (values_of agents) i ≡ Some v
+    → slice_get (map agent_row agents) i ≡ Some a → v.free ≡ Some free → free ≡ free_of rows a
+unfolding free_of
+free_of-at rows agents i v a free known value row is =
+    let at = agent_at agents i v a value row in
+    each_at (IsKnown (holdings_of rows)) agents i (at.0, v) known at.1 free is ∙ ap (free_of rows) at.2
 
 -- ---- the fields
 
 module _ (t : Inside) where
+  pub agents_in : (rows_in t).agents ≡ map agent_row t.agents.entries
+  unfolding rows_of
+  agents_in = refl
+
+  pub frameworks_in : (rows_in t).frameworks ≡ framework_rows t.frameworks.entries
+  unfolding rows_of
+  frameworks_in = refl
+
   pub has_agent-rows_in : (name : Text) → has_agent (rows_in t) name ≡ is_some (lookup (same_text name) t.agents.entries)
   unfolding rows_of
   has_agent-rows_in name = known-lookup (λ a. a.name) agent_row name t.agents.entries (λ e. refl)
@@ -76,11 +86,11 @@ module _ (t : Inside) where
   -- an agent that is inserted comes last
   module _ (entries : List (Text × Agent)) (name : Text) (a : Agent) (new : has_agent (rows_in t) name ≡ false)
       (inserted : entries ≡ insert_entry same_text t.agents.entries name a) where
-    last_agent : entries ≡ t.agents.entries ++ (name, a) ∷ []
+    pub last_agent : entries ≡ t.agents.entries ++ (name, a) ∷ []
     last_agent = inserted ∙ insert_entry-new name a t.agents.entries (sym (has_agent-rows_in name) ∙ new)
 
     pub rows_of-agent : a.active ≡ true
-        → rows_of entries t.frameworks.entries t.offers.items t.weights.entries t.clock t.next_offer t.accepted
+        → rows_of entries t.frameworks.entries t.holdings t.filters t.weights.entries t.clock t.next_offer t.accepted
         ≡ agent_added (rows_in t) name a.total
     unfolding rows_of
     rows_of-agent active =
@@ -91,13 +101,10 @@ module _ (t : Inside) where
         ∙ (λ i. map agent_row t.agents.entries ++ row (active i) ∷ []) in
         λ i. record (rows_in t) { agents = read i }
 
-    pub frees-agent : frees_in entries ≡ frees_in t.agents.entries ++ a.free ∷ []
-    frees-agent = ap frees_in last_agent ∙ map-append (λ e. e.1.free) t.agents.entries ((name, a) ∷ [])
-
   -- and so does a framework
   pub rows_of-framework : (entries : List (Text × Vec ClientRow)) (name : Text) (v : Vec ClientRow)
       → has_framework (rows_in t) name ≡ false → entries ≡ insert_entry same_text t.frameworks.entries name v
-      → rows_of t.agents.entries entries t.offers.items t.weights.entries t.clock t.next_offer t.accepted
+      → rows_of t.agents.entries entries t.holdings t.filters t.weights.entries t.clock t.next_offer t.accepted
       ≡ framework_added (rows_in t) (framework_row (name, v))
   unfolding rows_of
   rows_of-framework entries name v new inserted =
@@ -107,15 +114,20 @@ module _ (t : Inside) where
       ap framework_rows last ∙ map-append framework_row fs ((name, v) ∷ []) in
       λ i. record (rows_in t) { frameworks = read i }
 
-  pub rows_of-offers : (entries : List (Text × Agent)) (counted : List (Text × Vec ClientRow)) (all made : List OfferRow)
+  pub rows_of-offers : (entries : List (Text × Agent)) (counted : List (Text × Vec ClientRow)) (held : Holdings) (made : List OfferRow)
       → map agent_row entries ≡ map agent_row t.agents.entries
       → framework_rows counted ≡ counting_all (framework_rows t.frameworks.entries) made
-      → all ≡ t.offers.items ++ made
-      → rows_of entries counted all t.weights.entries t.clock (t.next_offer + length made) t.accepted
+      → held.offers.items ≡ t.holdings.offers.items ++ made → held.tasks.items ≡ t.holdings.tasks.items
+      → rows_of entries counted held t.filters t.weights.entries t.clock (t.next_offer + length made) t.accepted
       ≡ with_offers (rows_in t) made
   unfolding rows_of
-  rows_of-offers entries counted all made agents frameworks offers =
-      (λ i. record (offers_added (rows_in t) made) { agents = agents i; frameworks = frameworks i; offers = offers i })
+  rows_of-offers entries counted held made agents frameworks offers tasks =
+      (λ i. record (offers_added (rows_in t) made) {
+        agents = agents i;
+        frameworks = frameworks i;
+        offers = offers i;
+        tasks = tasks i;
+      })
       ∙ sym (with_offers-added (rows_in t) made)
 
 -- ---- the total

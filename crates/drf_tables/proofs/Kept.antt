@@ -1,94 +1,131 @@
 -- What tables keep beside their rows, change by change.
-use Rattle.std.specs.Prelude.{◌≡◌, ℕ, ◌+◌, true, false, List, [], ◌∷◌, ◌++◌, length, map}
+use Rattle.std.specs.Prelude.{◌≡◌, ℕ, ◌+◌, ◌≤◌, true, false, List, [], ◌∷◌, ◌++◌, length, map, Option, Some}
 use Rattle.std.specs.List.{AllByRecursion}
-use Rattle.std.proofs.Common.{refl, sym, ap, ◌∙◌}
-use Rattle.std.proofs.lemmas.List.{map-append}
+use Rattle.std.proofs.Common.{refl, sym, ap, ◌∙◌, subst}
 use Rattle.drf_role.specs.Text.{Text}
 use Rattle.drf_bundle.specs.Quantities.{plus}
 use Rattle.drf_bundle.specs.Bundle.{quantities_of}
+use Rattle.drf_bundle.specs.Taken.{rest_of_all}
 use Rattle.drf_bundle.specs.declared.quantities.Entry.{Entry}
 use Rattle.drf_bundle.specs.declared.resource.Resource.{Resource}
 use Rattle.drf_rows.specs.Held.{clients_of, cluster_total}
-use Rattle.drf_rows.specs.Cycle.{free_of}
-use Rattle.drf_rows.specs.Members.{has_agent, has_framework, with_agent}
+use Rattle.drf_rows.specs.Holdings.{Holding, holdings_of, parts_on}
+use Rattle.drf_rows.specs.Members.{has_agent, has_framework}
 use Rattle.drf_rows.specs.Consistent.{IsAgent, IsConsistent, are_distinct_roles}
-use Rattle.drf_rows.specs.RegistrationLaws.{new_agent, agent_added, framework_added, free_of-agent_added, free_of-new, free_of-framework_added, cluster_total-with_agent, length-clients_of-framework_added, IsConsistent-agent_added, IsConsistent-framework_added}
+use Rattle.drf_rows.specs.ListLaws.{each_append}
+use Rattle.drf_rows.specs.RegistrationLaws.{new_agent, agent_added, framework_added, cluster_total-with_agent, parts_on-nothing, length-clients_of-framework_added, IsConsistent-agent_added, IsConsistent-framework_added}
+use Rattle.drf_rows.specs.declared.limits.TheConstants.{LATEST_MOMENT}
+use Rattle.drf_rows.specs.Cycle.{free_of}
+use Rattle.drf_rows.specs.declared.rows.AgentRow.{AgentRow}
 use Rattle.drf_rows.specs.declared.rows.FrameworkRow.{FrameworkRow}
 use Rattle.drf_rows.specs.declared.rows.OfferRow.{OfferRow}
 use Rattle.drf_rows.specs.declared.rows.Rows.{Rows}
-use Rattle.drf_tables.specs.Drafts.{with_offers, frees_of}
-use Rattle.drf_tables.specs.DraftLaws.{with_offers-added}
-use Rattle.drf_tables.specs.Inside.{IsKept}
+use Rattle.drf_tables.specs.Drafts.{with_offers, frees_of, frees_after}
+use Rattle.drf_tables.specs.DraftLaws.{with_offers-added, agents-with_offers}
+use Rattle.drf_tables.specs.Inside.{agent_row, frees_in, known_after, is_settled, IsKnown, IsKept}
+use Rattle.drf_tables.specs.declared.tables.Agent.{Agent}
+use Rattle.drf_tables.specs.declared.tables.Left.{Left}
 use Rattle.drf_tables.proofs.Counted.{count_clients-counting_all}
+use Rattle.drf_tables.proofs.Known.{frees-settled, known-frees, known_after-some}
+
+-- ---- what is held stays, and so do agents and clients
+
+module _ (rows new : Rows) (agents : List (Text × Agent)) (sum : List Entry) (number : ℕ) (kept : IsKept rows agents sum number) where
+  pub IsKept-same : IsConsistent new → holdings_of rows ≡ holdings_of new
+      → cluster_total rows.agents ≡ cluster_total new.agents → length (clients_of rows) ≡ length (clients_of new)
+      → IsKept new agents sum number
+  IsKept-same consistent held total clients = record {
+    consistent = consistent;
+    free = subst (λ (hs : List Holding). AllByRecursion (IsKnown hs) agents) held kept.free;
+    total = kept.total ∙ total;
+    clients = kept.clients ∙ clients;
+  }
 
 -- ---- another clock, and another number of events
 
-frees-clocked : (rows : Rows) (clock accepted : ℕ)
-    → frees_of (record rows { clock = clock; accepted = accepted }) ≡ frees_of rows
-unfolding free_of
-frees-clocked rows clock accepted = refl
-
-pub IsKept-clocked : (rows : Rows) (frees : List (List Resource)) (sum : List Entry) (number clock accepted : ℕ)
-    → IsKept rows frees sum number → IsKept (record rows { clock = clock; accepted = accepted }) frees sum number
-IsKept-clocked rows frees sum number clock accepted kept = record {
-  consistent = record {
-    agents = kept.consistent.agents;
-    frameworks = kept.consistent.frameworks;
-    holdings = kept.consistent.holdings;
-    covered = kept.consistent.covered;
-    counted = kept.consistent.counted;
-    numbered = kept.consistent.numbered;
-  };
-  free = kept.free ∙ sym (frees-clocked rows clock accepted);
-  total = kept.total;
-  clients = kept.clients;
-}
+pub IsKept-clocked : (rows : Rows) (agents : List (Text × Agent)) (sum : List Entry) (number clock accepted : ℕ)
+    → clock ≤ LATEST_MOMENT → IsKept rows agents sum number
+    → IsKept (record rows { clock = clock; accepted = accepted }) agents sum number
+IsKept-clocked rows agents sum number clock accepted early kept =
+    IsKept-same rows (record rows { clock = clock; accepted = accepted }) agents sum number kept
+    (record {
+      agents = kept.consistent.agents;
+      frameworks = kept.consistent.frameworks;
+      holdings = kept.consistent.holdings;
+      covered = kept.consistent.covered;
+      tasks = kept.consistent.tasks;
+      filters = kept.consistent.filters;
+      early = early;
+      counted = kept.consistent.counted;
+      numbered = kept.consistent.numbered;
+    })
+    refl refl refl
 
 -- ---- one more agent
 
-frees-agent_added : (rows : Rows) (name : Text) (total : List Resource)
-    → IsConsistent rows → has_agent rows name ≡ false → IsAgent (new_agent name total)
-    → frees_of rows ++ total ∷ [] ≡ frees_of (agent_added rows name total)
-frees-agent_added rows name total consistent new right =
-    ap (λ (free : List Resource). frees_of rows ++ free ∷ []) (sym (free_of-new rows name total consistent new))
-    ∙ sym (map-append (free_of rows) rows.agents (new_agent name total ∷ []))
-    ∙ sym (λ i. map (λ a. free_of-agent_added rows name total a i) (with_agent rows name total))
-
 pub IsKept-agent_added :
-    (rows : Rows) (frees : List (List Resource)) (sum : List Entry) (number : ℕ) (name : Text) (total : List Resource)
-    → IsKept rows frees sum number → has_agent rows name ≡ false → IsAgent (new_agent name total)
-    → IsKept (agent_added rows name total) (frees ++ total ∷ []) (plus sum (quantities_of total)) number
-IsKept-agent_added rows frees sum number name total kept new right = record {
-  consistent = IsConsistent-agent_added rows name total kept.consistent new right;
-  free = ap (λ fs. fs ++ total ∷ []) kept.free ∙ frees-agent_added rows name total kept.consistent new right;
-  total = ap (λ es. plus es (quantities_of total)) kept.total ∙ sym (cluster_total-with_agent rows name total);
-  clients = kept.clients;
-}
+    (rows : Rows) (agents : List (Text × Agent)) (sum : List Entry) (number : ℕ) (name : Text) (a : Agent)
+    → IsKept rows agents sum number → has_agent rows name ≡ false → IsAgent (new_agent name a.total) → a.free ≡ Some a.total
+    → IsKept (agent_added rows name a.total) (agents ++ (name, a) ∷ []) (plus sum (quantities_of a.total)) number
+IsKept-agent_added rows agents sum number name a kept new right all =
+    let nothing : parts_on name (holdings_of rows) ≡ [] = parts_on-nothing rows name kept.consistent new in
+    let known : IsKnown (holdings_of rows) (name, a) = λ free is.
+    by free (sym all ∙ is) ∙ sym (ap (rest_of_all a.total) nothing) in
+    record {
+      consistent = IsConsistent-agent_added rows name a.total kept.consistent new right;
+      free = each_append (IsKnown (holdings_of rows)) agents ((name, a) ∷ []) kept.free (known, tt);
+      total = ap (λ es. plus es (quantities_of a.total)) kept.total ∙ sym (cluster_total-with_agent rows name a.total);
+      clients = kept.clients;
+    }
+  where
+    by : (free : List Resource) → ◌≡◌ {A = Option (List Resource)} (Some a.total) (Some free) → free ≡ a.total
+    by free is = cc
 
 -- ---- one more framework
 
-pub IsKept-framework_added : (rows : Rows) (frees : List (List Resource)) (sum : List Entry) (number : ℕ) (f : FrameworkRow)
-    → IsKept rows frees sum number → has_framework rows f.name ≡ false
+pub IsKept-framework_added : (rows : Rows) (agents : List (Text × Agent)) (sum : List Entry) (number : ℕ) (f : FrameworkRow)
+    → IsKept rows agents sum number → has_framework rows f.name ≡ false
     → are_distinct_roles (map (λ c. c.role) f.clients) ≡ true
-    → AllByRecursion (λ c. c.count ≡ 0) f.clients → IsKept (framework_added rows f) frees sum (number + length f.clients)
-IsKept-framework_added rows frees sum number f kept new apart none = record {
+    → AllByRecursion (λ c. c.count ≡ 0) f.clients → IsKept (framework_added rows f) agents sum (number + length f.clients)
+IsKept-framework_added rows agents sum number f kept new apart none = record {
   consistent = IsConsistent-framework_added rows f kept.consistent new apart none;
-  free = kept.free ∙ sym (λ i. map (λ a. free_of-framework_added rows f a i) rows.agents);
+  free = kept.free;
   total = kept.total;
   clients = ap (λ n. n + length f.clients) kept.clients ∙ sym (length-clients_of-framework_added rows f);
 }
 
 -- ---- offers
 
+-- what a cycle left is known of all agents
+pub known-left : (rows : Rows) (old new : List (Text × Agent)) (offers : List OfferRow) (lefts : List Left)
+    → rows.agents ≡ map agent_row old → map agent_row new ≡ map agent_row old
+    → is_settled old ≡ true → AllByRecursion (IsKnown (holdings_of rows)) old
+    → frees_in new ≡ known_after (frees_in old) lefts
+    → frees_after (frees_of rows) lefts ≡ frees_of (with_offers rows offers)
+    → AllByRecursion (IsKnown (holdings_of (with_offers rows offers))) new
+known-left rows old new offers lefts agents same settled known put left =
+    let after : Rows = with_offers rows offers in
+    let before : frees_in old ≡ map (λ f. Some f) (frees_of rows) =
+    frees-settled rows old settled known ∙ ap (λ (agents : List AgentRow). map (λ f. Some f) (map (free_of rows) agents)) (sym agents) in
+    let stay : after.agents ≡ map agent_row new = agents-with_offers rows offers ∙ agents ∙ sym same in
+    known-frees after new (
+    put
+    ∙ ap (λ (fs : List (Option (List Resource))). known_after fs lefts) before
+    ∙ known_after-some (frees_of rows) lefts
+    ∙ ap (map (λ f. Some f)) left
+    ∙ ap (λ (agents : List AgentRow). map (λ f. Some f) (map (free_of after) agents)) stay
+    )
+
 pub IsKept-with_offers :
-    (rows : Rows) (frees before : List (List Resource)) (sum : List Entry) (number : ℕ) (offers : List OfferRow)
-    → IsKept rows before sum number → IsConsistent (with_offers rows offers) → frees ≡ frees_of (with_offers rows offers)
-    → IsKept (with_offers rows offers) frees sum number
-IsKept-with_offers rows frees before sum number offers kept consistent left =
+    (rows : Rows) (old new : List (Text × Agent)) (sum : List Entry) (number : ℕ) (offers : List OfferRow)
+    → IsKept rows old sum number → IsConsistent (with_offers rows offers)
+    → AllByRecursion (IsKnown (holdings_of (with_offers rows offers))) new
+    → IsKept (with_offers rows offers) new sum number
+IsKept-with_offers rows old new sum number offers kept consistent known =
     let added = with_offers-added rows offers in
     record {
       consistent = consistent;
-      free = left;
+      free = known;
       total = kept.total ∙ sym (ap (λ (rs : Rows). cluster_total rs.agents) added);
       clients = kept.clients ∙ sym (count_clients-counting_all rows.frameworks offers)
           ∙ sym (ap (λ (rs : Rows). length (clients_of rs)) added);

@@ -1,4 +1,11 @@
 pub mod Entries
+pub mod Known
+pub mod Taken
+pub mod Suppressed
+pub mod Ended
+pub mod Changes
+pub mod Spent
+pub mod Totals
 pub mod Counted
 pub mod Kept
 pub mod Fields

@@ -1,20 +1,20 @@
 -- The table of weights, as rows.
-use Rattle.std.specs.Prelude.{◌≡◌, ℕ, ◌||◌, List, [], ◌∷◌, is_some}
+use Rattle.std.specs.Prelude.{◌≡◌, ℕ, List, [], ◌∷◌, is_some}
 use Rattle.std.specs.List.{list_any}
 use Rattle.std.specs.Map.{lookup}
-use Rattle.std.proofs.Common.{refl, ap, sym, ◌∙◌, inl, inr}
+use Rattle.std.proofs.Common.{refl, ap, ◌∙◌, inl, inr}
 use Rattle.std.proofs.lemmas.Bool.{cases_Bool}
 use Rattle.indexmap.specs.IndexMap.{insert_entry}
 use Rattle.drf_role.specs.Path.{Path, same_path}
 use Rattle.drf_role.specs.PathLaws.{same_path-swap}
 use Rattle.drf_bundle.specs.declared.quantities.Entry.{Entry}
-use Rattle.drf_bundle.specs.declared.resource.Resource.{Resource}
-use Rattle.drf_rows.specs.Cycle.{free_of}
 use Rattle.drf_rows.specs.Weights.{has_weight, weights_with}
-use Rattle.drf_rows.specs.declared.rows.WeightRow.{WeightRow}
 use Rattle.drf_rows.specs.declared.rows.Rows.{Rows}
 use Rattle.drf_tables.specs.Inside.{weight_row, weight_rows, rows_of, rows_in, IsKept}
+use Rattle.drf_tables.specs.declared.tables.Agent.{Agent}
 use Rattle.drf_tables.specs.declared.tables.Tables.TheInside.{Inside}
+use Rattle.drf_role.specs.Text.{Text}
+use Rattle.drf_tables.proofs.Kept.{IsKept-same}
 
 -- a role is found among the keys exactly where a row has it
 known_weight : (role : Path) (es : List (Path × ℕ))
@@ -51,7 +51,7 @@ weight_set rows role weight = record rows { weights = weights_with rows.weights 
 
 pub rows_of-weight : (t : Inside) (entries : List (Path × ℕ)) (role : Path) (weight : ℕ)
     → entries ≡ insert_entry same_path t.weights.entries role weight
-    → rows_of t.agents.entries t.frameworks.entries t.offers.items entries t.clock t.next_offer t.accepted
+    → rows_of t.agents.entries t.frameworks.entries t.holdings t.filters entries t.clock t.next_offer t.accepted
     ≡ weight_set (rows_in t) role weight
 unfolding rows_of
 rows_of-weight t entries role weight inserted =
@@ -59,19 +59,19 @@ rows_of-weight t entries role weight inserted =
     λ i. record (rows_in t) { weights = read i }
 
 -- nothing else depends on weights
-pub IsKept-weight_set : (rows : Rows) (frees : List (List Resource)) (sum : List Entry) (number : ℕ) (role : Path) (weight : ℕ)
-    → IsKept rows frees sum number → IsKept (weight_set rows role weight) frees sum number
-unfolding free_of
-IsKept-weight_set rows frees sum number role weight kept = record {
-  consistent = record {
-    agents = kept.consistent.agents;
-    frameworks = kept.consistent.frameworks;
-    holdings = kept.consistent.holdings;
-    covered = kept.consistent.covered;
-    counted = kept.consistent.counted;
-    numbered = kept.consistent.numbered;
-  };
-  free = kept.free;
-  total = kept.total;
-  clients = kept.clients;
-}
+pub IsKept-weight_set : (rows : Rows) (agents : List (Text × Agent)) (sum : List Entry) (number : ℕ) (role : Path) (weight : ℕ)
+    → IsKept rows agents sum number → IsKept (weight_set rows role weight) agents sum number
+IsKept-weight_set rows agents sum number role weight kept =
+    IsKept-same rows (weight_set rows role weight) agents sum number kept
+    (record {
+      agents = kept.consistent.agents;
+      frameworks = kept.consistent.frameworks;
+      holdings = kept.consistent.holdings;
+      covered = kept.consistent.covered;
+      tasks = kept.consistent.tasks;
+      filters = kept.consistent.filters;
+      early = kept.consistent.early;
+      counted = kept.consistent.counted;
+      numbered = kept.consistent.numbered;
+    })
+    refl refl refl

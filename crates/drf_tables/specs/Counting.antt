@@ -1,7 +1,8 @@
 -- Offers that are counted at their clients.
-use Rattle.std.specs.Prelude.{ℕ, ◌+◌, ◌^◌, ◌<◌, List, fold, map}
+use Rattle.std.specs.Prelude.{ℕ, ◌+◌, ◌^◌, ◌<◌, List, fold, flat_map, length, map}
 use Rattle.std.specs.List.{AllByRecursion}
 use Rattle.drf_rows.specs.Cycle.{count_offer}
+use Rattle.drf_rows.specs.Held.{client_of}
 use Rattle.drf_rows.specs.Holdings.{of_offer}
 use Rattle.drf_rows.specs.declared.rows.ClientRow.{ClientRow}
 use Rattle.drf_rows.specs.declared.rows.FrameworkRow.{FrameworkRow}
@@ -20,3 +21,7 @@ CanCount number clients = AllByRecursion (λ c. c.count + number < 2 ^ 64) clien
 
 abbrev pub CanCountAll : ℕ → List FrameworkRow → Type 0
 CanCountAll number frameworks = AllByRecursion (λ f. CanCount number f.clients) frameworks
+
+-- the number of all clients
+abbrev pub count_clients : List FrameworkRow → ℕ
+count_clients frameworks = length (flat_map (λ f. map (client_of f) f.clients) frameworks)

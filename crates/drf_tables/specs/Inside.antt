@@ -1,5 +1,6 @@
 -- The rows that the fields of tables stand for, and what the fields keep beside the rows.
-use Rattle.std.specs.Prelude.{◌≡◌, ℕ, List, [], length, map}
+use Rattle.std.specs.Prelude.{◌≡◌, ℕ, Bool, List, [], length, map, fold, slice_set, Option, Some, is_some}
+use Rattle.std.specs.List.{list_all, AllByRecursion}
 use Rattle.std.specs.Global.{Vec}
 use Rattle.drf_role.specs.Text.{Text}
 use Rattle.drf_role.specs.Path.{Path}
@@ -10,10 +11,13 @@ use Rattle.drf_rows.specs.Consistent.{IsConsistent}
 use Rattle.drf_rows.specs.declared.rows.AgentRow.{AgentRow}
 use Rattle.drf_rows.specs.declared.rows.ClientRow.{ClientRow}
 use Rattle.drf_rows.specs.declared.rows.FrameworkRow.{FrameworkRow}
-use Rattle.drf_rows.specs.declared.rows.OfferRow.{OfferRow}
 use Rattle.drf_rows.specs.declared.rows.WeightRow.{WeightRow}
 use Rattle.drf_rows.specs.declared.rows.Rows.{Rows}
-use Rattle.drf_tables.specs.Drafts.{frees_of}
+use Rattle.drf_bundle.specs.Taken.{rest_of_all}
+use Rattle.drf_rows.specs.Holdings.{Holding, holdings_of, parts_on}
+use Rattle.drf_rows.specs.declared.rows.FilterRow.{FilterRow}
+use Rattle.drf_tables.specs.declared.holdings.Holdings.{Holdings}
+use Rattle.drf_tables.specs.declared.tables.Left.{Left}
 use Rattle.drf_tables.specs.declared.tables.Agent.{Agent}
 use Rattle.drf_tables.specs.declared.tables.Tables.TheInside.{Inside}
 
@@ -32,20 +36,28 @@ weight_row e = record { role = e.0; weight = e.1 }
 abbrev pub weight_rows : List (Path × ℕ) → List WeightRow
 weight_rows entries = map weight_row entries
 
--- the free part of each agent
-abbrev pub frees_in : List (Text × Agent) → List (List Resource)
+-- the free part of each agent, where it is known
+abbrev pub frees_in : List (Text × Agent) → List (Option (List Resource))
 frees_in entries = map (λ e. e.1.free) entries
 
+-- the free parts, some of them replaced by what is left
+abbrev pub known_after : List (Option (List Resource)) → List Left → List (Option (List Resource))
+known_after frees lefts = fold (λ frees left. slice_set frees left.agent (Some left.free)) frees lefts
+
+-- what is free is known of every agent
+abbrev pub is_settled : List (Text × Agent) → Bool
+is_settled entries = list_all (λ e. is_some e.1.free) entries
+
 unfoldable pub rows_of :
-    List (Text × Agent) → List (Text × Vec ClientRow) → List OfferRow → List (Path × ℕ) → ℕ → ℕ → ℕ → Rows
-rows_of agents frameworks offers weights clock next_offer accepted = record {
+    List (Text × Agent) → List (Text × Vec ClientRow) → Holdings → List FilterRow → List (Path × ℕ) → ℕ → ℕ → ℕ → Rows
+rows_of agents frameworks holdings filters weights clock next_offer accepted = record {
   agents = map agent_row agents;
   frameworks = framework_rows frameworks;
-  offers = offers;
-  tasks = [];
+  offers = holdings.offers.items;
+  tasks = holdings.tasks.items;
   weights = weight_rows weights;
   limits = [];
-  filters = [];
+  filters = filters;
   clock = clock;
   next_offer = next_offer;
   accepted = accepted;
@@ -54,11 +66,15 @@ rows_of agents frameworks offers weights clock next_offer accepted = record {
 -- the rows that the fields stand for
 abbrev pub rows_in : Inside → Rows
 rows_in t =
-    rows_of t.agents.entries t.frameworks.entries t.offers.items t.weights.entries t.clock t.next_offer t.accepted
+    rows_of t.agents.entries t.frameworks.entries t.holdings t.filters t.weights.entries t.clock t.next_offer t.accepted
+
+-- what is kept of an agent as its free part is left of its total when all that is held there is taken from it
+abbrev pub IsKnown : List Holding → Text × Agent → Type 0
+IsKnown holdings e = (free : List Resource) → e.1.free ≡ Some free → free ≡ rest_of_all e.1.total (parts_on e.0 holdings)
 
 -- what is kept beside the rows is what they say
-pub record IsKept (rows : Rows) (frees : List (List Resource)) (sum : List Entry) (number : ℕ) : Type 0 where
+pub record IsKept (rows : Rows) (agents : List (Text × Agent)) (sum : List Entry) (number : ℕ) : Type 0 where
   pub consistent : IsConsistent rows
-  pub free : frees ≡ frees_of rows
+  pub free : AllByRecursion (IsKnown (holdings_of rows)) agents
   pub total : sum ≡ cluster_total rows.agents
   pub clients : number ≡ length (clients_of rows)

@@ -1,5 +1,8 @@
 pub mod Drafts
+pub mod Taking
+pub mod Ended
 pub mod Stored
 pub mod Inside
+pub mod Changing
 pub mod Counting
 pub mod DraftLaws

@@ -2,8 +2,15 @@
 //! and the total of the cluster. Contracts see the rows alone.
 #![tactic(auto)]
 
+mod ending;
+mod filtering;
+mod holdings;
+mod leaving;
 mod listing;
+mod members;
 mod offers;
+mod settling;
 mod tables;
 
+pub use holdings::{Ending, Held};
 pub use tables::{Left, Tables};

@@ -5,7 +5,7 @@ ghost use Rattle.drf_tables.specs.Inside.{agent_row, framework_rows, weight_rows
 use crate::tables::Agent;
 use drf_amount::Algebra;
 use drf_role::{Name, Role};
-use drf_rows::{AgentRow, ClientRow, FrameworkRow, OfferRow, Table, WeightRow};
+use drf_rows::{AgentRow, ClientRow, FrameworkRow, OfferRow, Table, TaskRow, WeightRow};
 use indexmap::IndexMap;
 use std::alloc::{AllocError, Global};
 
@@ -67,6 +67,22 @@ pub(crate) fn offer_rows(alloc: Global, offers: &[OfferRow]) -> Result<Table<Off
             framework: offer.framework.copy()?,
             role: offer.role.copy()?,
             bundle: offer.bundle.copy()?,
+        })?;
+    }
+    Ok(Table::from_vec(rows))
+}
+
+pub(crate) fn task_rows(alloc: Global, tasks: &[TaskRow]) -> Result<Table<TaskRow>, AllocError>
+    ensures { IfOk result (λ rows. rows ≡ tasks.now) }
+{
+    let mut rows = Vec::with_capacity(alloc, tasks.len())?;
+    for task in tasks {
+        rows.push(TaskRow {
+            name: task.name.copy()?,
+            agent: task.agent.copy()?,
+            framework: task.framework.copy()?,
+            role: task.role.copy()?,
+            bundle: task.bundle.copy()?,
         })?;
     }
     Ok(Table::from_vec(rows))

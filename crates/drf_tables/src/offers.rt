@@ -3,9 +3,8 @@ ghost use Rattle.std.specs.Prelude.{◌≡◌, ◌<◌, map, length, All, true};
 ghost use Rattle.drf_rows.specs.Cycle.{counted};
 ghost use Rattle.drf_rows.specs.Holdings.{of_offer};
 ghost use Rattle.drf_rows.specs.Consistent.{are_distinct};
-ghost use Rattle.drf_tables.specs.Drafts.{frees_after};
 ghost use Rattle.drf_tables.specs.Counting.{counting, counting_all, CanCount, CanCountAll};
-ghost use Rattle.drf_tables.specs.Inside.{agent_row, framework_rows, frees_in};
+ghost use Rattle.drf_tables.specs.Inside.{agent_row, framework_rows, frees_in, known_after};
 
 use crate::tables::{Agent, Left};
 use drf_role::Name;
@@ -50,9 +49,9 @@ pub(crate) fn count_offers(frameworks: &mut IndexMap<Name, Vec<ClientRow>>, offe
 pub(crate) fn put_lefts(agents: &mut IndexMap<Name, Agent>, lefts: Vec<Left>)
     requires { All (λ left. left.agent < length agents.old.entries) lefts.items }
     ensures rows { map agent_row agents.new.entries ≡ map agent_row agents.old.entries }
-    ensures free { frees_in agents.new.entries ≡ frees_after (frees_in agents.old.entries) lefts.items }
+    ensures free { frees_in agents.new.entries ≡ known_after (frees_in agents.old.entries) lefts.items }
 {
     for left in lefts {
-        agents[left.agent].free = left.free;
+        agents[left.agent].free = Some(left.free);
     }
 }

@@ -11,28 +11,29 @@ ghost use Rattle.drf_rows.specs.Step.{opening, live_rows};
 ghost use Rattle.drf_rows.specs.Members.{has_agent, has_framework, with_agent};
 ghost use Rattle.drf_rows.specs.Weights.{has_weight, weights_with};
 ghost use Rattle.drf_rows.specs.Consistent.{IsConsistent, are_distinct_roles};
-ghost use Rattle.drf_rows.specs.declared.limits.TheConstants.{LARGEST_AMOUNT};
+ghost use Rattle.drf_rows.specs.declared.limits.TheConstants.{LARGEST_AMOUNT, LATEST_MOMENT};
 ghost use Rattle.drf_rows.specs.declared.rows.AgentRow.{AgentRow};
 ghost use Rattle.drf_rows.specs.declared.rows.FrameworkRow.{FrameworkRow};
 ghost use Rattle.drf_tables.specs.Drafts.{with_offers, frees_of, frees_after};
-ghost use Rattle.drf_tables.specs.Stored.{IsPlain};
 
-use crate::listing::{agent_rows, framework_rows, offer_rows, weight_rows};
+use crate::holdings::Holdings;
+use crate::listing::{agent_rows, framework_rows, offer_rows, task_rows, weight_rows};
 use crate::offers::{count_offers, put_lefts};
 use drf_amount::Algebra;
 use drf_bundle::{Bundle, Quantities};
+use drf_gates::FilterTable;
 use drf_role::{Name, Role};
 use drf_rows::{ClientRow, OfferRow, Rows, Table};
 use indexmap::IndexMap;
 use std::alloc::{AllocError, Global};
 use std::marker::Model;
 
-/// A registered agent, and what is free of its total.
+/// A registered agent, and what is free of its total, where that is known.
 #[derive(Drop)]
 pub(crate) struct Agent {
     pub(crate) total: Bundle,
     pub(crate) active: bool,
-    pub(crate) free: Bundle,
+    pub(crate) free: Option<Bundle>,
 }
 
 /// What an agent's turn leaves of its free part.
@@ -46,17 +47,20 @@ pub struct Left {
 /// The rows of the allocator. Agents and frameworks are found by their names.
 #[derive(Drop)]
 pub struct Tables {
-    agents: IndexMap<Name, Agent>,
-    frameworks: IndexMap<Name, Vec<ClientRow>>,
-    offers: Vec<OfferRow>,
-    weights: IndexMap<Role, u64>,
-    clock: u64,
-    next_offer: u64,
-    accepted: u64,
+    pub(crate) agents: IndexMap<Name, Agent>,
+    pub(crate) frameworks: IndexMap<Name, Vec<ClientRow>>,
+    pub(crate) holdings: Holdings,
+    pub(crate) filters: FilterTable,
+    pub(crate) weights: IndexMap<Role, u64>,
+    pub(crate) clock: u64,
+    pub(crate) next_offer: u64,
+    pub(crate) accepted: u64,
     // What the agents have together.
-    total: Quantities,
+    pub(crate) total: Quantities,
     // How many clients the frameworks have together.
-    clients: usize,
+    pub(crate) clients: usize,
+    // Those that have run out are dropped when the filters are so many.
+    pub(crate) sweep_at: usize,
 }
 
 impl Model for Tables {
@@ -67,28 +71,34 @@ impl Model for Tables {
     ghost coded = { stored_code };
 
     ghost use Rattle.indexmap.specs.IndexMap.{spare};
-    ghost use Rattle.drf_tables.specs.Inside.{rows_in, frees_in, IsKept};
+    ghost use Rattle.drf_tables.specs.Inside.{rows_in, is_settled, IsKept};
 
-    ghost view = { λ t. record { rows = rows_in t; room = spare t.frameworks; weight_room = spare t.weights } };
+    ghost view = { λ t. record { rows = rows_in t; room = spare t.frameworks; weight_room = spare t.weights; settled = is_settled t.agents.entries } };
 
-    ghost invariant = { λ t. IsKept (rows_in t) (frees_in t.agents.entries) t.total t.clients };
+    ghost invariant = { λ t. IsKept (rows_in t) t.agents.entries t.total t.clients };
 }
 
 impl Tables {
     /// Tables with no rows.
     pub fn new(alloc: Global) -> Tables
-        ensures { result.rows ≡ opening }
+        ensures rows { result.rows ≡ opening }
+        ensures settled { result.settled ≡ true }
     {
         Tables {
             agents: IndexMap::new(alloc),
             frameworks: IndexMap::new(alloc),
-            offers: Vec::new(alloc),
+            holdings: Holdings {
+                offers: Vec::new(alloc),
+                tasks: Vec::new(alloc),
+            },
+            filters: FilterTable::new(alloc),
             weights: IndexMap::new(alloc),
             clock: 0,
             next_offer: 1,
             accepted: 0,
             total: Quantities::empty(alloc),
             clients: 0,
+            sweep_at: 8,
         }
     }
 
@@ -109,7 +119,7 @@ impl Tables {
     /// How many events were accepted.
     pub fn accepted(&self) -> u64
         ensures value { result ≡ self.now.rows.accepted }
-        ensures plain { IsPlain self.now.rows }
+        ensures limits { self.now.rows.limits ≡ [] }
     {
         self.accepted
     }
@@ -184,13 +194,15 @@ impl Tables {
 
     /// What is free on the agent at a place.
     pub fn free(&self, place: usize) -> &Bundle
-        requires { place < length self.now.rows.agents }
+        requires place { place < length self.now.rows.agents }
+        requires settled { self.now.settled ≡ true }
         ensures { (a : AgentRow) → slice_get self.now.rows.agents place ≡ Some a → result.now ≡ free_of self.now.rows a }
     {
-        &self.agents[place].free
+        self.agents[place].free.as_ref().unwrap()
     }
 
     pub fn set_clock(&mut self, clock: u64)
+        requires { clock ≤ LATEST_MOMENT }
         ensures { self.new.rows ≡ record self.old.rows { clock = clock } }
     {
         self.clock = clock;
@@ -220,7 +232,7 @@ impl Tables {
             Agent {
                 total,
                 active: true,
-                free,
+                free: Some(free),
             },
         )?;
         self.total = sum;
@@ -267,6 +279,7 @@ impl Tables {
     /// Takes the offers of a whole cycle over: they stand last, each is counted at its client, and on the agents is free
     /// what they left. An `Err` changes no row and no offer.
     pub fn commit(&mut self, offers: &mut Vec<OfferRow>, lefts: Vec<Left>) -> Result<(), AllocError>
+        requires settled { self.old.settled ≡ true }
         requires consistent { IsConsistent (with_offers self.old.rows offers.old.items) }
         requires left { frees_after (frees_of self.old.rows) lefts.items ≡ frees_of (with_offers self.old.rows offers.old.items) }
         requires places { All (λ left. left.agent < length self.old.rows.agents) lefts.items }
@@ -275,10 +288,10 @@ impl Tables {
         ensures moved { OnOk result (offers.new.items ≡ []) }
         ensures err { OnErr result ((self.new.rows ≡ self.old.rows) × (offers.new.items ≡ offers.old.items)) }
     {
-        let before = self.offers.len();
+        let before = self.holdings.offers.len();
         let made = offers.len();
-        self.offers.append(offers)?;
-        count_offers(&mut self.frameworks, &self.offers[before..]);
+        self.holdings.offers.append(offers)?;
+        count_offers(&mut self.frameworks, &self.holdings.offers[before..]);
         put_lefts(&mut self.agents, lefts);
         self.next_offer += made as u64;
         Ok(())
@@ -288,15 +301,15 @@ impl Tables {
     pub fn rows(&self) -> Result<Rows, AllocError>
         ensures { IfOk result (λ rows. rows ≡ live_rows self.now.rows) }
     {
-        let alloc = *self.offers.allocator();
+        let alloc = *self.holdings.offers.allocator();
         Ok(Rows {
             agents: agent_rows(alloc, &self.agents)?,
             frameworks: framework_rows(alloc, &self.frameworks)?,
-            offers: offer_rows(alloc, &self.offers)?,
-            tasks: Table::from_vec(Vec::new(alloc)),
+            offers: offer_rows(alloc, &self.holdings.offers)?,
+            tasks: task_rows(alloc, &self.holdings.tasks)?,
             weights: weight_rows(alloc, &self.weights)?,
             limits: Table::from_vec(Vec::new(alloc)),
-            filters: Table::from_vec(Vec::new(alloc)),
+            filters: self.filters.copy_in_force(self.clock)?,
             clock: self.clock,
             next_offer: self.next_offer,
             accepted: self.accepted,

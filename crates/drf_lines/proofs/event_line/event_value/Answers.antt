@@ -1,8 +1,38 @@
-use Rattle.drf_lines.proofs.Events.{cycle_read, report_read}
+use Rattle.std.proofs.lemmas.Result.{on_ok_weaker}
+use Rattle.drf_lines.proofs.Events.{remove_agent_read, activate_agent_read, deactivate_agent_read, remove_framework_read, suppress_read, revive_read, rescind_read, cycle_read, report_read}
 use Rattle.drf_lines.proofs.event_line.event_value.Goals as goal
 
-pub returns-in-Ok-json-4-clause-read : goal.returns-in-Ok-json-4-clause-read
-returns-in-Ok-json-4-clause-read c = rw c.in-Cycle.is (cycle_read c.in-Cycle.at)
+pub returns-in-RemoveAgent-clause-read : goal.returns-in-RemoveAgent-clause-read
+returns-in-RemoveAgent-clause-read c =
+    rw c.in-RemoveAgent.is (on_ok_weaker c.of_agent.result (remove_agent_read c.in-RemoveAgent.agent) c.of_agent.ensures.read)
 
-pub returns-in-Ok-json-6-clause-read : goal.returns-in-Ok-json-6-clause-read
-returns-in-Ok-json-6-clause-read c = rw c.in-Report.is report_read
+pub returns-in-ActivateAgent-clause-read : goal.returns-in-ActivateAgent-clause-read
+returns-in-ActivateAgent-clause-read c =
+    rw c.in-ActivateAgent.is (on_ok_weaker c.of_agent-in-ActivateAgent.result (activate_agent_read c.in-ActivateAgent.agent) c.of_agent-in-ActivateAgent.ensures.read)
+
+pub returns-in-DeactivateAgent-clause-read : goal.returns-in-DeactivateAgent-clause-read
+returns-in-DeactivateAgent-clause-read c =
+    rw c.in-DeactivateAgent.is (on_ok_weaker c.of_agent-in-DeactivateAgent.result (deactivate_agent_read c.in-DeactivateAgent.agent) c.of_agent-in-DeactivateAgent.ensures.read)
+
+pub returns-in-RemoveFramework-clause-read : goal.returns-in-RemoveFramework-clause-read
+returns-in-RemoveFramework-clause-read c =
+    rw c.in-RemoveFramework.is (on_ok_weaker c.of_framework.result (remove_framework_read c.in-RemoveFramework.framework) c.of_framework.ensures.read)
+
+pub returns-in-Suppress-clause-read : goal.returns-in-Suppress-clause-read
+returns-in-Suppress-clause-read c =
+    rw c.in-Suppress.is (on_ok_weaker c.of_client.result
+    (λ read. suppress_read c.in-Suppress.framework c.in-Suppress.role read.0 read.1) c.of_client.ensures.read)
+
+pub returns-in-Revive-clause-read : goal.returns-in-Revive-clause-read
+returns-in-Revive-clause-read c =
+    rw c.in-Revive.is (on_ok_weaker c.of_client-in-Revive.result
+    (λ read. revive_read c.in-Revive.framework c.in-Revive.role read.0 read.1) c.of_client-in-Revive.ensures.read)
+
+pub returns-in-Ok-json-4-clause-read : goal.returns-in-Ok-json-4-clause-read
+returns-in-Ok-json-4-clause-read c = rw c.in-Rescind.is (rescind_read c.in-Rescind.offer)
+
+pub returns-in-Ok-json-8-clause-read : goal.returns-in-Ok-json-8-clause-read
+returns-in-Ok-json-8-clause-read c = rw c.in-Cycle.is (cycle_read c.in-Cycle.at)
+
+pub returns-in-Ok-json-10-clause-read : goal.returns-in-Ok-json-10-clause-read
+returns-in-Ok-json-10-clause-read c = rw c.in-Report.is report_read

@@ -40,7 +40,7 @@ returns-in-Some c =
     let here : count_offer client (framework_row (key.key, v)) ≡ framework_row (key.key, with_items v new) =
     count_offer-here client (framework_row (key.key, v)) named
     ∙ (λ i. record { name = key.key; clients = sym items i }) in
-    changed_at (count_offer client) client.framework (count_offer-other client)
+    changed_at framework_row (λ f. f.name) (λ e. refl) (count_offer client) client.framework (count_offer-other client)
     entries place (key.key, v) (with_items v new) c.requires.names key.at named here
 
 pub returns-in_default : goal.returns-in_default

@@ -1,4 +1,4 @@
-use Rattle.std.proofs.Common.{◌≡◌, ◌∷◌, [], ◌++◌, List, true, false, length, ap, ◌∙◌, refl, arith}
+use Rattle.std.proofs.Common.{◌≡◌, List, Some, true, false, length, ap, ◌∙◌, refl, arith}
 use Rattle.drf_bundle.specs.Quantities.{amount_of, plus}
 use Rattle.drf_bundle.specs.declared.quantities.Entry.{Entry}
 use Rattle.drf_bundle.specs.declared.resource.Resource.{Resource}
@@ -6,10 +6,10 @@ use Rattle.drf_bundle.specs.Bundle.{quantities_of}
 use Rattle.drf_rows.specs.Consistent.{IsAgent}
 use Rattle.drf_rows.specs.RegistrationLaws.{new_agent, agent_added}
 use Rattle.drf_rows.specs.Members.{has_agent}
-use Rattle.drf_tables.specs.Inside.{rows_in, frees_in}
+use Rattle.drf_tables.specs.Inside.{rows_in}
 use Rattle.drf_tables.specs.Stored.{Stored}
 use Rattle.drf_tables.specs.declared.tables.Agent.{Agent}
-use Rattle.drf_tables.proofs.Fields.{rows_of-agent, frees-agent, sums_fit}
+use Rattle.drf_tables.proofs.Fields.{rows_of-agent, last_agent, sums_fit}
 use Rattle.drf_tables.proofs.Kept.{IsKept-agent_added}
 use Rattle.drf_tables.proofs.tables.Tables.add_agent.Goals as goal
 
@@ -29,29 +29,28 @@ invariant_of-self-2 c =
     let t = c.self.inside in
     let name = c.args.name in
     let total : List Resource = c.args.total in
-    let agent : Agent = record { total = total; active = true; free = c.in_ok-free.free } in
+    let agent : Agent = record { total = total; active = true; free = Some c.in_ok-free.free } in
     let new : has_agent (rows_in t) name ≡ false =
     ap (λ (s : Stored). has_agent s.rows name) c.self.view_is ∙ c.requires.new in
     let inserted = c.in_ok-insert.ensures.entries in
     let rows = rows_of-agent t c.insert.new.self.entries name agent new inserted refl in
-    let frees =
-    frees-agent t c.insert.new.self.entries name agent new inserted
-    ∙ ap (λ (free : List Resource). frees_in t.agents.entries ++ free ∷ []) c.in_ok-free.ensures.same in
+    let last = last_agent t c.insert.new.self.entries name agent new inserted in
+    let all : agent.free ≡ Some total = ap (λ (free : List Resource). Some free) c.in_ok-free.ensures.same in
     let right : IsAgent (new_agent name total) = record {
       total = c.quantities.ensures.bundle;
       small =
           c.requires.small;
     } in
     let sum : c.in_ok-sum.sum ≡ plus t.total (quantities_of total) = c.in_ok-sum.ensures ∙ ap (plus t.total) c.quantities.ensures.value in
-    rw (rows, frees, sum) (
-    IsKept-agent_added (rows_in t) (frees_in t.agents.entries) t.total t.clients name total c.self.invariant new right
+    rw (rows, last, sum) (
+    IsKept-agent_added (rows_in t) t.agents.entries t.total t.clients name agent c.self.invariant new right all
     )
 
 pub returns-clause-ok : goal.returns-clause-ok
 returns-clause-ok c =
     let t = c.self.inside in
     let name = c.args.name in
-    let agent : Agent = record { total = c.args.total; active = true; free = c.in_ok-free.free } in
+    let agent : Agent = record { total = c.args.total; active = true; free = Some c.in_ok-free.free } in
     let new : has_agent (rows_in t) name ≡ false =
     ap (λ (s : Stored). has_agent s.rows name) c.self.view_is ∙ c.requires.new in
     rows_of-agent t c.insert.new.self.entries name agent new c.in_ok-insert.ensures.entries refl

@@ -5,7 +5,7 @@ use Rattle.drf_rows.specs.RegistrationLaws.{framework_added}
 use Rattle.drf_rows.specs.Members.{has_framework}
 use Rattle.drf_rows.specs.declared.rows.ClientRow.{ClientRow}
 use Rattle.drf_rows.specs.declared.rows.FrameworkRow.{FrameworkRow}
-use Rattle.drf_tables.specs.Inside.{rows_in, frees_in}
+use Rattle.drf_tables.specs.Inside.{rows_in}
 use Rattle.drf_tables.specs.Stored.{Stored}
 use Rattle.drf_tables.proofs.Entries.{from_ok}
 use Rattle.drf_tables.proofs.Fields.{rows_of-framework}
@@ -26,7 +26,7 @@ invariant_of-self c =
     ∙ ap (λ (clients : List ClientRow). framework_added (rows_in t) (record { name = name; clients = clients }))
     c.into_vec.ensures in
     rw (rows, c.len.ensures) (
-    IsKept-framework_added (rows_in t) (frees_in t.agents.entries) t.total t.clients f
+    IsKept-framework_added (rows_in t) t.agents.entries t.total t.clients f
     c.self.invariant new c.requires.roles c.requires.uncounted
     )
 

@@ -1,16 +1,15 @@
-use Rattle.std.proofs.Common.{◌≡◌, List, length, sym, ap, ◌∙◌, subst, arith}
-use Rattle.drf_bundle.specs.declared.resource.Resource.{Resource}
+use Rattle.std.proofs.Common.{◌≡◌, List, true, refl, length, sym, ap, ◌∙◌, subst, arith}
 use Rattle.drf_rows.specs.Consistent.{IsConsistent}
 use Rattle.drf_rows.specs.declared.rows.OfferRow.{OfferRow}
 use Rattle.drf_tables.specs.Counting.{counting_all}
 use Rattle.drf_tables.specs.DraftLaws.{next-with_offers}
 use Rattle.drf_tables.specs.Drafts.{with_offers, frees_of, frees_after}
-use Rattle.drf_tables.specs.Inside.{rows_of, rows_in, framework_rows, frees_in}
+use Rattle.drf_tables.specs.Inside.{rows_of, rows_in, framework_rows, is_settled}
 use Rattle.drf_tables.specs.Stored.{Stored}
 use Rattle.drf_tables.proofs.Counted.{CanCountAll-from}
 use Rattle.drf_tables.proofs.Entries.{appended}
-use Rattle.drf_tables.proofs.Fields.{rows_of-offers}
-use Rattle.drf_tables.proofs.Kept.{IsKept-with_offers}
+use Rattle.drf_tables.proofs.Fields.{rows_of-offers, agents_in}
+use Rattle.drf_tables.proofs.Kept.{IsKept-with_offers, known-left}
 use Rattle.drf_tables.proofs.tables.Tables.commit.Goals as goal
 
 pub count_offers-requires-clause-fits : goal.count_offers-requires-clause-fits
@@ -19,8 +18,8 @@ count_offers-requires-clause-fits c =
     let t = c.self.inside in
     let offers : List OfferRow = c.args.offers.now.items in
     let all = c.deref.ensures.value ∙ c.in_ok-append.ensures.items in
-    let before : c.len-before.result ≡ length t.offers.items = omega (arith, c.len-before.ensures, t.offers.ok.0) in
-    let made = appended t.offers.items offers c.deref.result.now c.len-before.result all before in
+    let before : c.len-before.result ≡ length t.holdings.offers.items = omega (arith, c.len-before.ensures, t.holdings.offers.ok.0) in
+    let made = appended t.holdings.offers.items offers c.deref.result.now c.len-before.result all before in
     let next = next-with_offers (rows_in t) offers in
     let view = ap (λ (s : Stored). (with_offers s.rows offers).next_offer) c.self.view_is in
     let few = c.self.invariant.consistent.counted in
@@ -41,25 +40,25 @@ invariant_of-self-2 c =
     let t = c.self.inside in
     let offers : List OfferRow = c.args.offers.now.items in
     let lefts = c.args.lefts.items in
-    let frees : List (List Resource) = frees_in c.put_lefts.new.agents.entries in
     let all = c.deref.ensures.value ∙ c.in_ok-append.ensures.items in
-    let before : c.len-before.result ≡ length t.offers.items = omega (arith, c.len-before.ensures, t.offers.ok.0) in
-    let made = appended t.offers.items offers c.deref.result.now c.len-before.result all before in
+    let before : c.len-before.result ≡ length t.holdings.offers.items = omega (arith, c.len-before.ensures, t.holdings.offers.ok.0) in
+    let made = appended t.holdings.offers.items offers c.deref.result.now c.len-before.result all before in
     let long : c.len-made.result ≡ length offers = omega (arith, c.len-made.ensures, c.args.offers.now.ok.0) in
     let counted = c.count_offers.ensures ∙ ap (counting_all (framework_rows t.frameworks.entries)) made in
     let rows =
-    rows_of-offers t c.put_lefts.new.agents.entries c.count_offers.new.frameworks.entries c.append.new.self.items offers
-    c.put_lefts.ensures.rows counted c.in_ok-append.ensures.items in
+    rows_of-offers t c.put_lefts.new.agents.entries c.count_offers.new.frameworks.entries
+    (record t.holdings { offers = c.append.new.self }) offers c.put_lefts.ensures.rows counted c.in_ok-append.ensures.items refl in
     let consistent : IsConsistent (with_offers (rows_in t) offers) =
     subst (λ (s : Stored). IsConsistent (with_offers s.rows offers)) (sym c.self.view_is) c.requires.consistent in
     let left : frees_after (frees_of (rows_in t)) lefts ≡ frees_of (with_offers (rows_in t) offers) =
     subst (λ (s : Stored). frees_after (frees_of s.rows) lefts ≡ frees_of (with_offers s.rows offers))
     (sym c.self.view_is) c.requires.left in
-    let free =
-    c.put_lefts.ensures.free ∙ ap (λ (fs : List (List Resource)). frees_after fs lefts) c.self.invariant.free ∙ left in
+    let settled : is_settled t.agents.entries ≡ true = ap (λ (s : Stored). s.settled) c.self.view_is ∙ c.requires.settled in
+    let known = known-left (rows_in t) t.agents.entries c.put_lefts.new.agents.entries offers lefts
+    (agents_in t) c.put_lefts.ensures.rows settled c.self.invariant.free c.put_lefts.ensures.free left in
     rw (long, rows) (
-    IsKept-with_offers (rows_in t) frees (frees_in t.agents.entries) t.total t.clients offers
-    c.self.invariant consistent free
+    IsKept-with_offers (rows_in t) t.agents.entries c.put_lefts.new.agents.entries t.total t.clients offers
+    c.self.invariant consistent known
     )
 
 pub returns-clause-ok : goal.returns-clause-ok
@@ -67,12 +66,12 @@ returns-clause-ok c =
     let t = c.self.inside in
     let offers : List OfferRow = c.args.offers.now.items in
     let all = c.deref.ensures.value ∙ c.in_ok-append.ensures.items in
-    let before : c.len-before.result ≡ length t.offers.items = omega (arith, c.len-before.ensures, t.offers.ok.0) in
-    let made = appended t.offers.items offers c.deref.result.now c.len-before.result all before in
+    let before : c.len-before.result ≡ length t.holdings.offers.items = omega (arith, c.len-before.ensures, t.holdings.offers.ok.0) in
+    let made = appended t.holdings.offers.items offers c.deref.result.now c.len-before.result all before in
     let long : c.len-made.result ≡ length offers = omega (arith, c.len-made.ensures, c.args.offers.now.ok.0) in
     let counted = c.count_offers.ensures ∙ ap (counting_all (framework_rows t.frameworks.entries)) made in
     rw long (
-    rows_of-offers t c.put_lefts.new.agents.entries c.count_offers.new.frameworks.entries c.append.new.self.items offers
-    c.put_lefts.ensures.rows counted c.in_ok-append.ensures.items
+    rows_of-offers t c.put_lefts.new.agents.entries c.count_offers.new.frameworks.entries
+    (record t.holdings { offers = c.append.new.self }) offers c.put_lefts.ensures.rows counted c.in_ok-append.ensures.items refl
     )
     ∙ ap (λ (s : Stored). with_offers s.rows offers) c.self.view_is

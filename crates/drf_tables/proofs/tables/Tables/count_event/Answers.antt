@@ -7,4 +7,4 @@ pub invariant_of-self : goal.invariant_of-self
 unfolding rows_of
 invariant_of-self c =
     let t = c.self.inside in
-    IsKept-clocked (rows_in t) _ _ _ t.clock (t.accepted + 1) c.self.invariant
+    IsKept-clocked (rows_in t) _ _ _ t.clock (t.accepted + 1) c.self.invariant.consistent.early c.self.invariant

@@ -6,4 +6,4 @@ pub invariant_of-self : goal.invariant_of-self
 unfolding rows_of
 invariant_of-self c =
     let t = c.self.inside in
-    IsKept-clocked (rows_in t) _ _ _ c.args.clock t.accepted c.self.invariant
+    IsKept-clocked (rows_in t) _ _ _ c.args.clock t.accepted c.requires c.self.invariant

@@ -1,7 +1,7 @@
 use Rattle.std.proofs.Common.{◌≡◌, ap, ◌∙◌}
 use Rattle.indexmap.specs.IndexMap.{insert_entry}
 use Rattle.drf_role.specs.Path.{same_path}
-use Rattle.drf_tables.specs.Inside.{rows_in, frees_in}
+use Rattle.drf_tables.specs.Inside.{rows_in}
 use Rattle.drf_tables.specs.Stored.{Stored}
 use Rattle.drf_tables.proofs.Entries.{from_ok}
 use Rattle.drf_tables.proofs.Weighed.{weight_set, rows_of-weight, IsKept-weight_set}
@@ -14,7 +14,7 @@ invariant_of-self c =
     let inserted : c.insert.new.self.entries ≡ insert_entry same_path t.weights.entries role c.args.weight =
     from_ok c.insert.result c.unwrap.result _ c.unwrap.ensures c.insert.ensures.entries in
     rw (rows_of-weight t c.insert.new.self.entries role c.args.weight inserted) (
-    IsKept-weight_set (rows_in t) (frees_in t.agents.entries) t.total t.clients role c.args.weight c.self.invariant
+    IsKept-weight_set (rows_in t) t.agents.entries t.total t.clients role c.args.weight c.self.invariant
     )
 
 pub returns : goal.returns

@@ -1,6 +1,0 @@
-use Rattle.drf_lines.proofs.Events.{holds_at_ok, agent_read}
-use Rattle.drf_lines.proofs.event_line.agent_value.Goals as goal
-
-pub returns-clause-read : goal.returns-clause-read
-returns-clause-read c =
-    holds_at_ok _ _ (agent_read c.args.agent.now c.args.total.now c.bundle_round_trip_law.ensures c.text.ensures.right c.quantities.ensures.bundle)

@@ -1,0 +1,34 @@
+-- The events of agents. Each is read by steps: how many keys there are with `event`, what stands under them, and then the
+-- texts. It is written with its keys in order of bytes.
+use Rattle.std.specs.Prelude.{ℕ, List, Result, Ok, codes}
+use Rattle.serde_json.specs.Data.{Data, string, object, member, no_members}
+use Rattle.drf_bundle.specs.declared.resource.Resource.{Resource}
+use Rattle.drf_rows.specs.declared.event.Event.{Event}
+use Rattle.drf_rows.specs.declared.event.Event.TheVariants.{AddAgent}
+use Rattle.drf_text.specs.Written.{bundle_text}
+use Rattle.drf_lines.specs.declared.fault.LineFault.{LineFault}
+use Rattle.drf_lines.specs.Fault.{◌>>=◌}
+use Rattle.drf_lines.specs.Object.{keys, text_at}
+use Rattle.drf_lines.specs.Words.{name_in}
+use Rattle.drf_lines.specs.Resources.{bundle_in}
+
+-- an agent registers
+unfoldable pub agent_event : Data → Result Event LineFault
+agent_event value =
+    keys 3 value >>= λ _. text_at (codes "agent") value >>= λ agent. text_at (codes "total") value >>= λ total.
+    name_in agent >>= λ agent. bundle_in total >>= λ total. Ok (AddAgent agent total)
+
+abbrev pub agent_value : List ℕ → List Resource → Data
+agent_value agent total = object (
+    member (codes "agent") (string agent)
+    (member (codes "event") (string (codes "add_agent"))
+    (member (codes "total") (string (bundle_text total))
+    no_members)))
+
+-- the agent of an event that has no other key
+unfoldable pub agent_of : Data → Result (List ℕ) LineFault
+agent_of value = keys 2 value >>= λ _. text_at (codes "agent") value >>= λ agent. name_in agent
+
+abbrev pub of_agent : List ℕ → List ℕ → Data
+of_agent event agent =
+    object (member (codes "agent") (string agent) (member (codes "event") (string event) no_members))

@@ -1,0 +1,11 @@
+use Rattle.drf_rows.specs.EndedLaws.{declined_at_once, finished_is_given_back, filters_go}
+use Rattle.drf_rows.proofs.laws.life_law.Goals as goal
+
+pub returns-clause-declined : goal.returns-clause-declined
+returns-clause-declined c = declined_at_once
+
+pub returns-clause-finished : goal.returns-clause-finished
+returns-clause-finished c = finished_is_given_back
+
+pub returns-clause-filters : goal.returns-clause-filters
+returns-clause-filters c = filters_go

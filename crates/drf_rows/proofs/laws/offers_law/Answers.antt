@@ -1,0 +1,8 @@
+use Rattle.drf_rows.specs.OfferedLaws.{suppressed_is_not_offered, numbers_are_new}
+use Rattle.drf_rows.proofs.laws.offers_law.Goals as goal
+
+pub returns-clause-suppressed : goal.returns-clause-suppressed
+returns-clause-suppressed c = suppressed_is_not_offered
+
+pub returns-clause-numbers : goal.returns-clause-numbers
+returns-clause-numbers c = numbers_are_new

@@ -1,0 +1,234 @@
+-- Runs in which offers are accepted and declined, tasks finish, and agents and frameworks leave.
+use Rattle.std.specs.Prelude.{ℕ, List, [], ◌∷◌, codes}
+use Rattle.drf_bundle.specs.declared.resource.Resource.{Resource}
+use Rattle.drf_rows.specs.LimitNumbers.{LimitNumbers, ceilings}
+use Rattle.drf_rows.specs.Examples.{cpus, mem, in_role, offer}
+use Rattle.drf_rows.specs.declared.event.Event.{Event}
+use Rattle.drf_rows.specs.declared.event.Event.TheVariants.{AddAgent, RemoveAgent, ActivateAgent, DeactivateAgent, RemoveFramework, Accept, Decline, Rescind, Finish, Suppress, Revive, Cycle}
+use Rattle.drf_rows.specs.declared.reply.Refusal.TheVariants.{BadMoment, UnknownAgent, KnownAgent, UnknownFramework, KnownFramework, UnknownOffer, NotYours, UnknownTask, KnownTask, NotInRole, Empty, NotCovered, TooMany}
+use Rattle.drf_rows.specs.declared.reply.OfferLine.{OfferLine}
+use Rattle.drf_rows.specs.declared.reply.Reply.{Reply}
+use Rattle.drf_rows.specs.declared.reply.Reply.TheVariants.{Done, Offers, Refused}
+
+-- one offer is all that a cycle makes, or none is
+abbrev one : OfferLine → Reply
+one line = Offers (line ∷ [])
+
+abbrev none : Reply
+none = Offers []
+
+-- at moment 0, and for no time
+abbrev accept : List ℕ → ℕ → List ℕ → List Resource → Event
+accept framework number task used = Accept framework number task used 0 0
+
+abbrev decline : List ℕ → ℕ → Event
+decline framework number = Decline framework number 0 0
+
+-- an offer of all of an agent that has one of `cpus`
+abbrev offer_of_n1 : ℕ → OfferLine
+offer_of_n1 number = offer number (codes "f1") (codes "a") (codes "n1") (cpus 1000 ∷ [])
+
+-- what a task uses is offered again when it has finished
+abbrev pub a_task : List Event
+a_task =
+    AddAgent (codes "n1") (cpus 1000 ∷ mem 64000 ∷ [])
+    ∷ in_role (codes "f1") (codes "a")
+    ∷ Cycle 0
+    ∷ accept (codes "f1") 1 (codes "t") (cpus 1000 ∷ [])
+    ∷ Cycle 0
+    ∷ Finish (codes "f1") (codes "t")
+    ∷ Finish (codes "f1") (codes "t")
+    ∷ decline (codes "f1") 2
+    ∷ Cycle 0
+    ∷ AddAgent (codes "n1") (cpus 5000 ∷ [])
+    ∷ []
+
+abbrev pub a_task_replies : List Reply
+a_task_replies =
+    Done
+    ∷ Done
+    ∷ one (offer 1 (codes "f1") (codes "a") (codes "n1") (cpus 1000 ∷ mem 64000 ∷ []))
+    ∷ Done
+    ∷ one (offer 2 (codes "f1") (codes "a") (codes "n1") (mem 64000 ∷ []))
+    ∷ Done
+    ∷ Refused UnknownTask
+    ∷ Done
+    ∷ one (offer 3 (codes "f1") (codes "a") (codes "n1") (cpus 1000 ∷ mem 64000 ∷ []))
+    ∷ Refused KnownAgent
+    ∷ []
+
+-- what is declined is offered to another, and again to the first from the end of its filter on
+abbrev pub a_filter : List Event
+a_filter =
+    AddAgent (codes "n1") (cpus 2000 ∷ mem 512000 ∷ [])
+    ∷ in_role (codes "fa") (codes "a")
+    ∷ in_role (codes "fb") (codes "b")
+    ∷ Cycle 1000
+    ∷ Decline (codes "fa") 1 1000 5000
+    ∷ Cycle 2000
+    ∷ accept (codes "fb") 2 (codes "t") (cpus 1000 ∷ [])
+    ∷ Cycle 5999
+    ∷ decline (codes "fb") 3
+    ∷ Cycle 6000
+    ∷ []
+
+abbrev pub a_filter_replies : List Reply
+a_filter_replies =
+    Done
+    ∷ Done
+    ∷ Done
+    ∷ one (offer 1 (codes "fa") (codes "a") (codes "n1") (cpus 2000 ∷ mem 512000 ∷ []))
+    ∷ Done
+    ∷ one (offer 2 (codes "fb") (codes "b") (codes "n1") (cpus 2000 ∷ mem 512000 ∷ []))
+    ∷ Done
+    ∷ one (offer 3 (codes "fb") (codes "b") (codes "n1") (cpus 1000 ∷ mem 512000 ∷ []))
+    ∷ Done
+    ∷ one (offer 4 (codes "fa") (codes "a") (codes "n1") (cpus 1000 ∷ mem 512000 ∷ []))
+    ∷ []
+
+-- a filter's time counts from the clock, which a cycle at an earlier moment does not set back
+abbrev pub a_clock : List Event
+a_clock =
+    AddAgent (codes "n1") (cpus 1000 ∷ [])
+    ∷ in_role (codes "f1") (codes "a")
+    ∷ Cycle 7000
+    ∷ Decline (codes "f1") 1 2000 5000
+    ∷ Cycle 11999
+    ∷ Cycle 3
+    ∷ Cycle 12000
+    ∷ []
+
+abbrev pub a_clock_replies : List Reply
+a_clock_replies = Done ∷ Done ∷ one (offer_of_n1 1) ∷ Done ∷ none ∷ none ∷ one (offer_of_n1 2) ∷ []
+
+-- nothing is refused for longer than 365 days
+abbrev pub a_year : List Event
+a_year =
+    AddAgent (codes "n1") (cpus 1000 ∷ [])
+    ∷ in_role (codes "f1") (codes "a")
+    ∷ Cycle 0
+    ∷ Decline (codes "f1") 1 0 18446744073709551615
+    ∷ Cycle 31535999999
+    ∷ Cycle 31536000000
+    ∷ []
+
+abbrev pub a_year_replies : List Reply
+a_year_replies = Done ∷ Done ∷ one (offer_of_n1 1) ∷ Done ∷ none ∷ one (offer_of_n1 2) ∷ []
+
+-- agents and clients take part or do not, and leave
+abbrev pub taking_part : List Event
+taking_part =
+    AddAgent (codes "n1") (cpus 1000 ∷ [])
+    ∷ in_role (codes "f1") (codes "a")
+    ∷ Cycle 0
+    ∷ DeactivateAgent (codes "n1")
+    ∷ Cycle 0
+    ∷ accept (codes "f1") 1 (codes "t") (cpus 1000 ∷ [])
+    ∷ ActivateAgent (codes "n1")
+    ∷ Suppress (codes "f1") (codes "a" ∷ [])
+    ∷ Cycle 0
+    ∷ Revive (codes "f1") (codes "a" ∷ [])
+    ∷ Cycle 0
+    ∷ Decline (codes "f1") 2 0 5000
+    ∷ Cycle 0
+    ∷ Revive (codes "f1") (codes "a" ∷ [])
+    ∷ Cycle 0
+    ∷ Rescind 3
+    ∷ RemoveAgent (codes "n1")
+    ∷ RemoveFramework (codes "f1")
+    ∷ []
+
+abbrev pub taking_part_replies : List Reply
+taking_part_replies =
+    Done
+    ∷ Done
+    ∷ one (offer_of_n1 1)
+    ∷ Done
+    ∷ none
+    ∷ Refused UnknownOffer
+    ∷ Done
+    ∷ Done
+    ∷ none
+    ∷ Done
+    ∷ one (offer_of_n1 2)
+    ∷ Done
+    ∷ none
+    ∷ Done
+    ∷ one (offer_of_n1 3)
+    ∷ Done
+    ∷ Done
+    ∷ Done
+    ∷ []
+
+-- what is refused, one case at a time
+abbrev pub refused : List Event
+refused =
+    AddAgent (codes "n1") (cpus 2000 ∷ mem 64000 ∷ [])
+    ∷ in_role (codes "f1") (codes "a")
+    ∷ in_role (codes "f2") (codes "b")
+    ∷ Cycle 0
+    ∷ RemoveAgent (codes "n9")
+    ∷ Finish (codes "f9") (codes "t")
+    ∷ in_role (codes "f1") (codes "c")
+    ∷ decline (codes "f1") 7
+    ∷ decline (codes "f2") 1
+    ∷ Finish (codes "f1") (codes "t")
+    ∷ Suppress (codes "f1") (codes "b" ∷ [])
+    ∷ accept (codes "f1") 1 (codes "t") []
+    ∷ accept (codes "f1") 1 (codes "t") (cpus 3000 ∷ [])
+    ∷ Decline (codes "f1") 1 4611686018427387905 0
+    ∷ Suppress (codes "f2") (codes "b" ∷ [])
+    ∷ accept (codes "f1") 1 (codes "t") (cpus 1000 ∷ [])
+    ∷ Cycle 0
+    ∷ accept (codes "f1") 2 (codes "t") (cpus 1000 ∷ [])
+    ∷ []
+
+abbrev pub refused_replies : List Reply
+refused_replies =
+    Done
+    ∷ Done
+    ∷ Done
+    ∷ one (offer 1 (codes "f1") (codes "a") (codes "n1") (cpus 2000 ∷ mem 64000 ∷ []))
+    ∷ Refused UnknownAgent
+    ∷ Refused UnknownFramework
+    ∷ Refused KnownFramework
+    ∷ Refused UnknownOffer
+    ∷ Refused NotYours
+    ∷ Refused UnknownTask
+    ∷ Refused NotInRole
+    ∷ Refused Empty
+    ∷ Refused NotCovered
+    ∷ Refused BadMoment
+    ∷ Done
+    ∷ Done
+    ∷ one (offer 2 (codes "f1") (codes "a") (codes "n1") (cpus 1000 ∷ mem 64000 ∷ []))
+    ∷ Refused KnownTask
+    ∷ []
+
+-- the limit of filters counts those in force
+abbrev pub one_filter : LimitNumbers
+one_filter = record ceilings { filters = 1 }
+
+abbrev pub two_filters : List Event
+two_filters =
+    AddAgent (codes "n1") (cpus 1000 ∷ [])
+    ∷ AddAgent (codes "n2") (cpus 2000 ∷ [])
+    ∷ in_role (codes "f1") (codes "a")
+    ∷ Cycle 0
+    ∷ Decline (codes "f1") 1 0 10
+    ∷ Decline (codes "f1") 2 9 10
+    ∷ Accept (codes "f1") 2 (codes "t") (cpus 1000 ∷ []) 9 10
+    ∷ Accept (codes "f1") 2 (codes "t") (cpus 1000 ∷ []) 10 10
+    ∷ []
+
+abbrev pub two_filters_replies : List Reply
+two_filters_replies =
+    Done
+    ∷ Done
+    ∷ Done
+    ∷ Offers (offer_of_n1 1 ∷ offer 2 (codes "f1") (codes "a") (codes "n2") (cpus 2000 ∷ []) ∷ [])
+    ∷ Done
+    ∷ Refused TooMany
+    ∷ Refused TooMany
+    ∷ Done
+    ∷ []

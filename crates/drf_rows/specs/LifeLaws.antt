@@ -1,0 +1,88 @@
+-- What is proved of offers, tasks and filters, from their making to their end.
+use Rattle.std.specs.Prelude.{◌≡◌, ℕ, ◌+◌, max, Bool, true, false, not, ◌&&◌, ◌||◌, List, [], ◌∷◌, ◌++◌, map, flat_map, slice_get, Some}
+use Rattle.std.specs.List.{list_all, list_any}
+use Rattle.drf_role.specs.Text.{Text, same_text}
+use Rattle.drf_role.specs.Path.{same_path}
+use Rattle.drf_bundle.specs.Bundle.{join}
+use Rattle.drf_bundle.specs.declared.resource.Resource.{Resource}
+use Rattle.drf_rows.specs.LimitNumbers.{LimitNumbers}
+use Rattle.drf_rows.specs.Client.{Client}
+use Rattle.drf_rows.specs.Holdings.{of_offer}
+use Rattle.drf_rows.specs.Held.{client_of}
+use Rattle.drf_rows.specs.Filters.{is_of_client, is_on_agent}
+use Rattle.drf_rows.specs.Consistent.{IsConsistent}
+use Rattle.drf_rows.specs.Cycle.{free_of, new_offer, with_offer, cycle}
+use Rattle.drf_rows.specs.Step.{effect, new_offers, rows_after_all, replies_to}
+use Rattle.drf_rows.specs.declared.rows.AgentRow.{AgentRow}
+use Rattle.drf_rows.specs.declared.rows.OfferRow.{OfferRow}
+use Rattle.drf_rows.specs.declared.rows.TaskRow.{TaskRow}
+use Rattle.drf_rows.specs.declared.rows.Rows.{Rows}
+use Rattle.drf_rows.specs.declared.event.Event.{Event}
+use Rattle.drf_rows.specs.declared.event.Event.TheVariants.{RemoveAgent, RemoveFramework, Decline, Finish, Revive}
+use Rattle.drf_rows.specs.declared.reply.OfferLine.{OfferLine}
+use Rattle.drf_rows.specs.declared.reply.Reply.{Reply}
+use Rattle.drf_rows.specs.declared.reply.Reply.TheVariants.{Offers}
+
+-- an offer that is declined at once, for no time, leaves the rows as they were, but for the clock, the counts and the
+-- next number
+abbrev pub DeclinedAtOnceIsUndone : Type 0
+DeclinedAtOnceIsUndone =
+    (rows : Rows) (agent : AgentRow) (client : Client) (bundle : List Resource) (at : ℕ)
+    → IsConsistent rows
+    → let o : OfferRow = new_offer rows agent client bundle in
+    effect (with_offer rows o) (Decline client.framework o.number at 0)
+    ≡ record rows { frameworks = (with_offer rows o).frameworks; next_offer = rows.next_offer + 1; clock = max rows.clock at }
+
+-- a task that finishes goes alone, and gives back to its agent exactly what it used
+abbrev pub FinishedIsGivenBack : Type 0
+FinishedIsGivenBack =
+    (rows : Rows) (before later : List TaskRow) (t : TaskRow) (agent : AgentRow) (place : ℕ)
+    → IsConsistent rows
+    → rows.tasks ≡ before ++ t ∷ later
+    → slice_get rows.agents place ≡ Some agent
+    → let after : Rows = effect rows (Finish t.framework t.name) in
+    (after.tasks ≡ before ++ later)
+    × (after.offers ≡ rows.offers)
+    × (same_text t.agent agent.name ≡ true → join (free_of rows agent) t.bundle ≡ Some (free_of after agent))
+    × (same_text t.agent agent.name ≡ false → free_of after agent ≡ free_of rows agent)
+
+-- no filter outlives its agent, its framework, or the next revival of its client
+abbrev pub FiltersGoWithTheirOwner : Type 0
+FiltersGoWithTheirOwner =
+    (rows : Rows) (agent framework : Text) (client : Client)
+    → (list_any (is_on_agent agent) (effect rows (RemoveAgent agent)).filters ≡ false)
+    × (list_any (λ f. same_text f.framework framework) (effect rows (RemoveFramework framework)).filters ≡ false)
+    × (list_any (is_of_client client) (effect rows (Revive client.framework client.role)).filters ≡ false)
+
+abbrev pub is_same_client : Client → Client → Bool
+is_same_client client other = same_path other.role client.role && same_text other.framework client.framework
+
+-- each row of the client is suppressed
+abbrev pub is_suppressed : Rows → Client → Bool
+is_suppressed rows client =
+    list_all (λ f. list_all (λ c. not (is_same_client client (client_of f c)) || c.suppressed) f.clients) rows.frameworks
+
+-- no cycle offers anything to a client that is suppressed
+abbrev pub SuppressedIsNotOffered : Type 0
+SuppressedIsNotOffered =
+    (rows : Rows) (client : Client) (at : ℕ)
+    → is_suppressed rows client ≡ true
+    → list_any (λ o. is_same_client client (of_offer o).client) (new_offers rows (cycle rows at)) ≡ false
+
+-- the numbers are those from one to before another, in order
+abbrev pub CountUp : ℕ → List ℕ → ℕ → Type 0
+CountUp first [] next = next ≡ first
+CountUp first (n ∷ ns) next = (n ≡ first) × CountUp (first + 1) ns next
+
+-- the offers that a reply tells
+abbrev pub lines_of : Reply → List OfferLine
+lines_of (Offers lines) = lines
+lines_of other = []
+
+-- no number is given to two offers: a run tells them with the next numbers, one after another
+abbrev pub NumbersAreNew : Type 0
+NumbersAreNew =
+    (limits : LimitNumbers) (rows : Rows) (events : List Event)
+    → CountUp rows.next_offer
+    (map (λ line. line.number) (flat_map lines_of (replies_to limits rows events)))
+    (rows_after_all limits rows events).next_offer

@@ -1,0 +1,231 @@
+-- The rows once one holding is taken out, and once an offer is a task.
+use Rattle.std.specs.Prelude.{◌≡◌, ℕ, ◌+◌, ◌==◌, ◌||◌, Bool, true, false, not, List, [], ◌∷◌, ◌++◌, length, map, filter, find, Option, Some, None, cond, ◌⊎◌}
+use Rattle.std.specs.List.{list_any, AllByRecursion}
+use Rattle.std.specs.Option.{option_map_or}
+use Rattle.std.proofs.Common.{refl, sym, ap, ◌∙◌, subst, inl, inr}
+use Rattle.std.proofs.lemmas.Bool.{eqb-true}
+use Rattle.drf_role.specs.Text.{Text}
+use Rattle.drf_bundle.specs.Bundle.{IsBundle, covers}
+use Rattle.drf_bundle.specs.declared.quantities.Entry.{Entry}
+use Rattle.drf_bundle.specs.declared.resource.Resource.{Resource}
+use Rattle.drf_rows.specs.Client.{path_of}
+use Rattle.drf_rows.specs.Consistent.{IsConsistent, IsHeld, IsFilter, are_rising}
+use Rattle.drf_rows.specs.Endings.{Ending, without_ended}
+use Rattle.drf_rows.specs.EndingLaws.{IsOneLess, held_where-one_less, parts_on-one_less, one-one_less, one_less-offer, IsConsistent-offer_out, without_ended-offer, left-offer, one_less-task, IsConsistent-task_out, without_ended-task, left-task, without_ended-none, parts_on-accepted, IsConsistent-accepted, others_of_number, without_offer-place}
+use Rattle.drf_rows.specs.Held.{clients_of, cluster_total}
+use Rattle.drf_rows.specs.Holdings.{Holding, of_offer, of_task, holdings_of}
+use Rattle.drf_rows.specs.Offers.{offer_at, has_task, task_of}
+use Rattle.drf_rows.specs.declared.rows.FilterRow.{FilterRow}
+use Rattle.drf_rows.specs.declared.rows.OfferRow.{OfferRow}
+use Rattle.drf_rows.specs.declared.rows.TaskRow.{TaskRow}
+use Rattle.drf_rows.specs.declared.rows.Rows.{Rows}
+use Rattle.drf_tables.specs.Changing.{changed, forgotten}
+use Rattle.drf_tables.specs.Ended.{left_to_end, HasEnded, with_accepted}
+use Rattle.drf_tables.specs.Inside.{agent_row, rows_of, rows_in, IsKnown, IsKept}
+use Rattle.drf_tables.specs.Taking.{HasLostOffer, HasLostTask, HasLostNone, HasStarted, holding_of}
+use Rattle.drf_tables.specs.declared.holdings.Held.{Held}
+use Rattle.drf_tables.specs.declared.holdings.Holdings.{Holdings}
+use Rattle.drf_tables.specs.declared.holdings.Taken.{Taken}
+use Rattle.drf_tables.specs.declared.tables.Agent.{Agent}
+use Rattle.drf_tables.specs.declared.tables.Tables.TheInside.{Inside}
+use Rattle.drf_tables.proofs.Known.{known-forgotten, rows-forgotten}
+
+-- ---- one holding ends
+
+pub record IsWithoutOne (old new : Rows) (ending : Ending) (h : Holding) : Type 0 where
+  pub others : new ≡ record old { offers = new.offers; tasks = new.tasks }
+  pub consistent : IsConsistent new
+  pub less : IsOneLess (holdings_of old) (holdings_of new) h
+  pub later : without_ended new ending ≡ without_ended old ending
+  pub fewer : left_to_end old ending ≡ left_to_end new ending + 1
+
+-- the rows with other holdings
+abbrev pub rows_with : Inside → Holdings → Rows
+rows_with t held = rows_of t.agents.entries t.frameworks.entries held t.filters t.weights.entries t.clock t.next_offer t.accepted
+
+module _ (t : Inside) (held : Holdings) (ending : Ending) (taken : Taken) (consistent : IsConsistent (rows_in t)) where
+  lost_offer : HasLostOffer ending t.holdings held taken → IsWithoutOne (rows_in t) (rows_with t held) ending (holding_of taken)
+  unfolding rows_of
+  lost_offer lost =
+      let o : OfferRow = lost.offer in
+      let before = lost.taken.before in
+      let after = lost.taken.after in
+      let new : Rows = record (rows_in t) { offers = before ++ after } in
+      let rows : new ≡ rows_with t held = λ i. record (rows_in t) { offers = sym lost.taken.left i; tasks = sym lost.same i } in
+      let one : IsWithoutOne (rows_in t) new ending (of_offer o) = record {
+        others = refl;
+        consistent = IsConsistent-offer_out (rows_in t) before after o lost.taken.whole consistent;
+        less = one_less-offer (rows_in t) before after o lost.taken.whole;
+        later = without_ended-offer (rows_in t) before after o lost.taken.whole ending lost.taken.passes;
+        fewer = left-offer (rows_in t) before after o lost.taken.whole ending lost.taken.passes;
+      } in
+      subst (λ (q : Rows × Holding). IsWithoutOne (rows_in t) q.0 ending q.1) (λ i. (rows i, sym lost.told i)) one
+
+  lost_task : HasLostTask ending t.holdings held taken → IsWithoutOne (rows_in t) (rows_with t held) ending (holding_of taken)
+  unfolding rows_of
+  lost_task lost =
+      let x : TaskRow = lost.task in
+      let before = lost.taken.before in
+      let after = lost.taken.after in
+      let new : Rows = record (rows_in t) { tasks = before ++ after } in
+      let rows : new ≡ rows_with t held = λ i. record (rows_in t) { tasks = sym lost.taken.left i; offers = sym lost.same i } in
+      let one : IsWithoutOne (rows_in t) new ending (of_task x) = record {
+        others = refl;
+        consistent = IsConsistent-task_out (rows_in t) before after x lost.taken.whole consistent;
+        less = one_less-task (rows_in t) before after x lost.taken.whole;
+        later = without_ended-task (rows_in t) before after x lost.taken.whole ending lost.taken.passes;
+        fewer = left-task (rows_in t) before after x lost.taken.whole ending lost.taken.passes;
+      } in
+      subst (λ (q : Rows × Holding). IsWithoutOne (rows_in t) q.0 ending q.1) (λ i. (rows i, sym lost.told i)) one
+
+  pub without_taken : HasLostOffer ending t.holdings held taken ⊎ HasLostTask ending t.holdings held taken
+      → IsWithoutOne (rows_in t) (rows_with t held) ending (holding_of taken)
+  without_taken lost = elim lost [
+    | inl offer ↦ lost_offer offer
+    | inr task ↦ lost_task task
+  ]
+
+pub IsKept-ended : (old new : Rows) (agents : List (Text × Agent)) (sum : List Entry) (number : ℕ) (ending : Ending) (h : Holding)
+    → IsKept old agents sum number → IsWithoutOne old new ending h
+    → IsKept new (map (changed h.agent forgotten) agents) sum number
+IsKept-ended old new agents sum number ending h kept one = record {
+  consistent = one.consistent;
+  free = known-forgotten (holdings_of old) (holdings_of new) h.agent
+      (parts_on-one_less (holdings_of old) (holdings_of new) h one.less) agents kept.free;
+  total = kept.total ∙ sym (ap (λ (r : Rows). cluster_total r.agents) one.others);
+  clients = kept.clients ∙ sym (ap (λ (r : Rows). length (clients_of r)) one.others);
+}
+
+pub ended_from : (old new : Rows) (ending : Ending) (h : Holding) (held : Held)
+    → IsConsistent old → IsWithoutOne old new ending h → held.client ≡ path_of h.client → held.bundle ≡ h.bundle
+    → HasEnded old new ending held
+ended_from old new ending h held consistent one path bundle = record {
+  holding = h;
+  path = path;
+  bundle = bundle;
+  registered = (one-one_less (holdings_of old) (holdings_of new) h one.less (IsHeld old.agents old.frameworks) consistent.holdings).client;
+  others = one.others;
+  later = one.later;
+  fewer = one.fewer;
+  out = held_where-one_less (holdings_of old) (holdings_of new) h one.less;
+}
+
+-- ---- nothing ends
+
+module _ (t : Inside) (held : Holdings) (ending : Ending) (lost : HasLostNone ending t.holdings held) where
+  pub rows-none : rows_with t held ≡ rows_in t
+  unfolding rows_of
+  rows-none = λ i. record (rows_in t) { offers = lost.offers.same i; tasks = lost.tasks.same i }
+
+  pub without-none : without_ended (rows_in t) ending ≡ rows_in t
+  unfolding rows_of
+  without-none = without_ended-none (rows_in t) ending lost.offers.none lost.tasks.none
+
+-- ---- an offer is a task
+
+-- among others that fail a test one is found
+find-one : {X : Type 0} (p : X → Bool) (before after : List X) (x : X)
+    → AllByRecursion (λ y. p y ≡ false) (before ++ after) → p x ≡ true → find p (before ++ x ∷ after) ≡ Some x
+find-one p [] after x others here = ap (λ (b : Bool). cond b (Some x) (find p after)) here
+find-one p (y ∷ before) after x others here =
+    ap (λ (b : Bool). cond b (Some y) (find p (before ++ x ∷ after))) others.0 ∙ find-one p before after x others.1 here
+
+-- an offer that is found is there
+pub found_any : {X : Type 0} (p : X → Bool) (xs : List X) (x : X) → find p xs ≡ Some x → list_any p xs ≡ true
+found_any p [] x found = cc
+found_any p (y ∷ ys) x found = by (p y) (found_any p ys x) found
+  where
+    by : (b : Bool) → (find p ys ≡ Some x → list_any p ys ≡ true) → cond b (Some y) (find p ys) ≡ Some x → (b || list_any p ys) ≡ true
+    by true later here = refl
+    by false later there = later there
+
+each_filter : (P : FilterRow → Type 0) (refused : Option FilterRow) → ((f : FilterRow) → refused ≡ Some f → P f)
+    → AllByRecursion P (option_map_or (λ f. f ∷ []) refused [])
+each_filter P None right = tt
+each_filter P (Some f) right = (right f refl, tt)
+
+module _ (t : Inside) (entries : List (Text × Agent)) (before held : Holdings) (filters : List FilterRow) (number : ℕ) (task : Text)
+    (used : List Resource) (refused : Option FilterRow) (o : OfferRow)
+    (kept : IsKept (rows_in t) t.agents.entries t.total t.clients)
+    (offers : before.offers.items ≡ t.holdings.offers.items) (tasks : before.tasks.items ≡ t.holdings.tasks.items)
+    (found : offer_at (rows_in t) number ≡ Some o)
+    (forgot : entries ≡ map (changed o.agent forgotten) t.agents.entries)
+    (started : HasStarted number (task, used) before held)
+    (added : filters ≡ t.filters ++ option_map_or (λ f. f ∷ []) refused []) where
+  -- the rows with all that changed
+  abbrev pub rows_accepted : Rows
+  rows_accepted = rows_of entries t.frameworks.entries held filters t.weights.entries t.clock t.next_offer t.accepted
+
+  pub accepted-rows : rows_accepted ≡ with_accepted (rows_in t) o (task, used) refused
+  unfolding rows_of
+  accepted-rows =
+      let x : OfferRow = started.offer in
+      let took = started.taken in
+      let stands : (rows_in t).offers ≡ took.before ++ x ∷ took.after = sym offers ∙ took.whole in
+      let numbered : x.number ≡ number = eqb-true x.number number took.passes in
+      let rising = sym (ap (λ (os : List OfferRow). are_rising (map (λ o. o.number) os) t.next_offer) stands) ∙ kept.consistent.numbered in
+      let others : AllByRecursion (λ p. (p.number == number) ≡ false) (took.before ++ took.after) =
+      subst (λ (n : ℕ). AllByRecursion (λ p. (p.number == n) ≡ false) (took.before ++ took.after)) numbered
+      (others_of_number took.before took.after x t.next_offer rising) in
+      let one : find (λ p. p.number == number) (rows_in t).offers ≡ Some x =
+      ap (find (λ (p : OfferRow). p.number == number)) stands
+      ∙ find-one (λ (p : OfferRow). p.number == number) took.before took.after x others took.passes in
+      let both : ◌≡◌ {A = Option OfferRow} (Some x) (Some o) = sym one ∙ found in
+      let same : x ≡ o = cc in
+      let left : held.offers.items ≡ filter (λ p. not (p.number == o.number)) (rows_in t).offers =
+      took.left ∙ sym (without_offer-place (rows_in t) took.before took.after x kept.consistent stands)
+      ∙ ap (λ (y : OfferRow). filter (λ p. not (p.number == y.number)) (rows_in t).offers) same in
+      let runs : held.tasks.items ≡ (rows_in t).tasks ++ task_of o (task, used) ∷ [] =
+      started.started ∙ (λ i. tasks i ++ task_of (same i) (task, used) ∷ []) in
+      let agents : map agent_row entries ≡ map agent_row t.agents.entries =
+      ap (map agent_row) forgot ∙ rows-forgotten o.agent t.agents.entries in
+      λ i. record (rows_in t) { agents = agents i; offers = left i; tasks = runs i; filters = added i }
+
+  pub accepted-kept : IsBundle used → covers o.bundle used ≡ true → has_task (rows_in t) o.framework task ≡ false
+      → ((f : FilterRow) → refused ≡ Some f → IsFilter (rows_in t).agents (rows_in t).frameworks f)
+      → IsKept rows_accepted entries t.total t.clients
+  accepted-kept right covered new each =
+      let rows : Rows = with_accepted (rows_in t) o (task, used) refused in
+      let more : List FilterRow = option_map_or (λ f. f ∷ []) refused [] in
+      let known : AllByRecursion (IsKnown (holdings_of rows)) entries =
+      subst (λ (es : List (Text × Agent)). AllByRecursion (IsKnown (holdings_of rows)) es) (sym forgot)
+      (known-forgotten (holdings_of (rows_in t)) (holdings_of rows) o.agent
+      (parts_on-accepted (rows_in t) number o task used more kept.consistent found) t.agents.entries kept.free) in
+      subst (λ (r : Rows). IsKept r entries t.total t.clients) (sym accepted-rows) (record {
+        consistent = IsConsistent-accepted (rows_in t) number o task used more kept.consistent found right covered new
+            (each_filter (IsFilter (rows_in t).agents (rows_in t).frameworks) refused each);
+        free = known;
+        total = kept.total;
+        clients = kept.clients;
+      })
+
+-- ---- as the fields stand
+
+module _ (t : Inside) (entries : List (Text × Agent)) (held : Holdings) (ending : Ending) (taken : Taken)
+    (kept : IsKept (rows_in t) t.agents.entries t.total t.clients)
+    (forgot : entries ≡ map (changed taken.agent forgotten) t.agents.entries)
+    (lost : HasLostOffer ending t.holdings held taken ⊎ HasLostTask ending t.holdings held taken) where
+  -- the rows without it
+  abbrev pub rows_ended : Rows
+  rows_ended = rows_of entries t.frameworks.entries held t.filters t.weights.entries t.clock t.next_offer t.accepted
+
+  same_rows : rows_with t held ≡ rows_ended
+  unfolding rows_of
+  same_rows =
+      let agents : map agent_row entries ≡ map agent_row t.agents.entries =
+      ap (map agent_row) forgot ∙ rows-forgotten taken.agent t.agents.entries in
+      λ i. record (rows_with t held) { agents = sym agents i }
+
+  without_it : IsWithoutOne (rows_in t) rows_ended ending (holding_of taken)
+  without_it =
+      subst (λ (r : Rows). IsWithoutOne (rows_in t) r ending (holding_of taken)) same_rows
+      (without_taken t held ending taken kept.consistent lost)
+
+  pub ended-kept : IsKept rows_ended entries t.total t.clients
+  ended-kept =
+      subst (λ (es : List (Text × Agent)). IsKept rows_ended es t.total t.clients) (sym forgot)
+      (IsKept-ended (rows_in t) rows_ended t.agents.entries t.total t.clients ending (holding_of taken) kept without_it)
+
+  pub ended-one : (told : Held) → told.client ≡ path_of (holding_of taken).client → told.bundle ≡ taken.bundle
+      → HasEnded (rows_in t) rows_ended ending told
+  ended-one told path bundle = ended_from (rows_in t) rows_ended ending (holding_of taken) told kept.consistent without_it path bundle

@@ -1,0 +1,60 @@
+-- What it means that something that is held has ended.
+use Rattle.std.specs.Prelude.{◌≡◌, ℕ, ◌+◌, Bool, true, false, [], ◌∷◌, ◌++◌, count_by, cond, Option, Some}
+use Rattle.std.specs.Option.{option_map_or}
+use Rattle.drf_role.specs.Text.{Text}
+use Rattle.drf_rows.specs.Client.{path_of}
+use Rattle.drf_rows.specs.Endings.{Ending, one_offer, one_task, offers_on, all_on, all_of, ends_offer, ends_task, without_ended}
+use Rattle.drf_rows.specs.Held.{is_registered}
+use Rattle.drf_rows.specs.Holdings.{Holding, holdings_of, held_where, amount_in}
+use Rattle.drf_bundle.specs.Bundle.{covers}
+use Rattle.drf_rows.specs.Offers.{Start, offer_at, has_task, task_of}
+use Rattle.drf_rows.specs.Consistent.{IsFilter}
+use Rattle.drf_rows.specs.declared.rows.FilterRow.{FilterRow}
+use Rattle.drf_rows.specs.declared.rows.OfferRow.{OfferRow}
+use Rattle.drf_rows.specs.declared.rows.Rows.{Rows}
+use Rattle.drf_tables.specs.declared.holdings.Ending as told
+use Rattle.drf_tables.specs.declared.holdings.Ending.TheVariants.{Offer, Task, OffersOn, AllOn, AllOf}
+use Rattle.drf_tables.specs.declared.holdings.Held.{Held}
+
+-- what ends, as the definition says it
+abbrev pub ending_of : told.Ending → Ending
+ending_of (Offer number) = one_offer number
+ending_of (Task framework name) = one_task framework.now name.now
+ending_of (OffersOn agent) = offers_on agent.now
+ending_of (AllOn agent) = all_on agent.now
+ending_of (AllOf framework) = all_of framework.now
+
+-- how many holdings an ending would end
+abbrev pub left_to_end : Rows → Ending → ℕ
+left_to_end rows ending = count_by (ends_offer ending) rows.offers + count_by (ends_task ending) rows.tasks
+
+-- one holding that ends was taken out
+pub record HasEnded (old new : Rows) (ending : Ending) (held : Held) : Type 0 where
+  pub holding : Holding
+  pub path : held.client ≡ path_of holding.client
+  pub bundle : held.bundle ≡ holding.bundle
+  pub registered : is_registered old.frameworks holding.client ≡ true
+  -- nothing else changed
+  pub others : new ≡ record old { offers = new.offers; tasks = new.tasks }
+  -- the others that end are still to end, and all that stays, stays
+  pub later : without_ended new ending ≡ without_ended old ending
+  pub fewer : left_to_end old ending ≡ left_to_end new ending + 1
+  -- whatever passes a test holds so much less
+  pub out : (test : Holding → Bool) (label : Text)
+      → held_where test (holdings_of old) label
+      ≡ held_where test (holdings_of new) label + cond (test holding) (amount_in label holding) 0
+
+-- an offer can be accepted in part
+pub record CanAccept (rows : Rows) (number : ℕ) (start : Start) (refused : Option FilterRow) : Type 0 where
+  pub offer : OfferRow
+  pub at : offer_at rows number ≡ Some offer
+  pub covered : covers offer.bundle start.1 ≡ true
+  pub new : has_task rows offer.framework start.0 ≡ false
+  pub filter : (f : FilterRow) → refused ≡ Some f → IsFilter rows.agents rows.frameworks f
+
+-- the offer is a task, and a filter stands last, if there is one
+abbrev pub with_accepted : Rows → OfferRow → Start → Option FilterRow → Rows
+with_accepted rows o start filter = record (without_ended rows (one_offer o.number)) {
+  tasks = rows.tasks ++ task_of o start ∷ [];
+  filters = rows.filters ++ option_map_or (λ f. f ∷ []) filter [];
+}

@@ -1,0 +1,93 @@
+//! What is held ends, and an offer that is accepted becomes a task.
+#![tactic(auto, unfolding(crate::specs::Inside::rows_of))]
+
+ghost use Rattle.std.specs.Prelude.{◌≡◌, ◌++◌, ◌∷◌, [], true, Some, OnOk, OnErr, IfSome, IfNone, option_copied};
+ghost use Rattle.std.specs.Option.{option_map_or};
+ghost use Rattle.drf_rows.specs.Consistent.{IsConsistent};
+ghost use Rattle.drf_rows.specs.Endings.{without_ended};
+ghost use Rattle.drf_rows.specs.Offers.{offer_at, has_task};
+ghost use Rattle.drf_rows.specs.declared.rows.OfferRow.{OfferRow};
+ghost use Rattle.drf_tables.specs.Ended.{ending_of, HasEnded, CanAccept, with_accepted};
+
+use crate::holdings::{Ending, Held};
+use crate::members::forget_free;
+use crate::settling::settle_all;
+use crate::tables::Tables;
+use drf_bundle::Bundle;
+use drf_gates::FilterTable;
+use drf_role::{ClientPath, Name};
+use drf_rows::{FilterRow, OfferRow};
+use std::alloc::AllocError;
+
+/// Adds a filter, if there is one. An `Err` changes nothing.
+fn add_if(filters: &mut FilterTable, filter: Option<FilterRow>) -> Result<(), AllocError>
+    ensures ok { OnOk result (filters.new ≡ filters.old ++ option_map_or (λ f. f ∷ []) filter []) }
+    ensures err { OnErr result (filters.new ≡ filters.old) }
+{
+    match filter {
+        Some(row) => filters.add(row),
+        None => Ok(()),
+    }
+}
+
+impl Tables {
+    /// The offer of a number.
+    pub fn offer(&self, number: u64) -> Option<&OfferRow>
+        ensures { option_copied result ≡ offer_at self.now.rows number }
+    {
+        self.holdings.offer(number)
+    }
+
+    /// Whether the framework has a task of that name.
+    pub fn has_task(&self, framework: &Name, name: &Name) -> bool
+        ensures { result ≡ has_task self.now.rows framework.now name.now }
+    {
+        self.holdings.has_task(framework, name)
+    }
+
+    /// Computes what is free where it is not known. An `Err` changes no row.
+    pub fn settle(&mut self) -> Result<(), AllocError>
+        ensures settled { OnOk result (self.new.settled ≡ true) }
+        ensures same { self.new.rows ≡ self.old.rows }
+    {
+        settle_all(&mut self.agents, &self.holdings)
+    }
+
+    /// Takes one holding out that ends, if there is one. It needs no memory.
+    pub fn end(&mut self, ending: Ending) -> Option<Held>
+        ensures some { IfSome result (HasEnded self.old.rows self.new.rows (ending_of ending.entry)) }
+        ensures none { IfNone result ((self.new.rows ≡ self.old.rows) × (without_ended self.old.rows (ending_of ending.entry) ≡ self.old.rows)) }
+        ensures consistent { IsConsistent self.new.rows }
+    {
+        let taken = self.holdings.take(ending)?;
+        forget_free(&mut self.agents, &taken.agent);
+        Some(Held {
+            client: ClientPath::from_parts(taken.role, taken.framework),
+            bundle: taken.bundle,
+        })
+    }
+
+    /// A framework starts a task with a part of an offer, and a filter stands last, if one is given. An `Err` changes no
+    /// row.
+    pub fn accept(
+        &mut self,
+        number: u64,
+        task: Name,
+        used: Bundle,
+        filter: Option<FilterRow>,
+    ) -> Result<(), AllocError>
+        requires { CanAccept self.old.rows number (task, used) filter }
+        ensures ok { OnOk result ((o : OfferRow) → offer_at self.old.rows number ≡ Some o
+            → self.new.rows ≡ with_accepted self.old.rows o (task, used) filter) }
+        ensures err { OnErr result (self.new.rows ≡ self.old.rows) }
+    {
+        // What this call ensures tells the proof that it is a bundle.
+        let _ = used.quantities();
+        self.holdings.tasks.reserve(1)?;
+        add_if(&mut self.filters, filter)?;
+        let offer = self.holdings.offer(number).unwrap();
+        forget_free(&mut self.agents, &offer.agent);
+        self.holdings.start(number, task, used);
+        Ok(())
+    }
+}

@@ -1,0 +1,86 @@
+//! Agents and frameworks that change, found by name.
+ghost use Rattle.std.specs.Prelude.{◌≡◌, ◌+◌, filter, map, not, true, if◌then◌else◌};
+ghost use Rattle.std.specs.List.{list_any};
+ghost use Rattle.drf_role.specs.Path.{same_path};
+ghost use Rattle.drf_role.specs.Text.{same_text};
+ghost use Rattle.drf_rows.specs.Consistent.{are_distinct};
+ghost use Rattle.drf_rows.specs.Members.{suppressed_in};
+ghost use Rattle.drf_rows.specs.declared.rows.ClientRow.{ClientRow};
+ghost use Rattle.drf_tables.specs.Changing.{changed, forgotten, activated};
+ghost use Rattle.drf_tables.specs.Counting.{count_clients};
+ghost use Rattle.drf_tables.specs.Inside.{agent_row, framework_rows};
+
+use crate::tables::Agent;
+use drf_role::{Name, Role};
+use drf_rows::ClientRow;
+use indexmap::IndexMap;
+
+/// Forgets what is free on an agent.
+pub(crate) fn forget_free(agents: &mut IndexMap<Name, Agent>, name: &Name)
+    requires { are_distinct (map (λ a. a.name) (map agent_row agents.old.entries)) ≡ true }
+    ensures { agents.new.entries ≡ map (changed name.now forgotten) agents.old.entries }
+{
+    if let Some(place) = agents.get_index_of(name) {
+        agents[place].free = None;
+    }
+}
+
+/// Says whether an agent is active.
+pub(crate) fn set_active(agents: &mut IndexMap<Name, Agent>, name: &Name, active: bool)
+    requires { are_distinct (map (λ a. a.name) (map agent_row agents.old.entries)) ≡ true }
+    ensures { agents.new.entries ≡ map (changed name.now (activated active)) agents.old.entries }
+{
+    if let Some(place) = agents.get_index_of(name) {
+        agents[place].active = active;
+    }
+}
+
+/// Says whether the client that has a role, of those of its framework, is suppressed.
+fn suppress_at(clients: &mut [ClientRow], role: &Role, suppressed: bool)
+    ensures { clients.new ≡ map (λ (c : ClientRow). if same_path c.role role.now then record c { suppressed = suppressed } else c) clients.old }
+{
+    for client in clients.iter_mut() {
+        if client.role == *role {
+            client.suppressed = suppressed;
+        }
+    }
+}
+
+/// Says whether a client is suppressed.
+pub(crate) fn suppress(
+    frameworks: &mut IndexMap<Name, Vec<ClientRow>>,
+    framework: &Name,
+    role: &Role,
+    suppressed: bool,
+)
+    requires { are_distinct (map (λ f. f.name) (framework_rows frameworks.old.entries)) ≡ true }
+    ensures { framework_rows frameworks.new.entries
+        ≡ map (suppressed_in (record { role = role.now; framework = framework.now }) suppressed) (framework_rows frameworks.old.entries) }
+{
+    if let Some(place) = frameworks.get_index_of(framework) {
+        suppress_at(&mut frameworks[place], role, suppressed);
+    }
+}
+
+/// Takes a framework out. How many clients it had.
+pub(crate) fn take_framework(
+    frameworks: &mut IndexMap<Name, Vec<ClientRow>>,
+    framework: &Name,
+) -> usize
+    requires { are_distinct (map (λ f. f.name) (framework_rows frameworks.old.entries)) ≡ true }
+    ensures rows { framework_rows frameworks.new.entries
+        ≡ filter (λ f. not (same_text f.name framework.now)) (framework_rows frameworks.old.entries) }
+    ensures clients { count_clients (framework_rows frameworks.old.entries) ≡ count_clients (framework_rows frameworks.new.entries) + result }
+{
+    match frameworks.shift_remove(framework) {
+        Some(clients) => clients.len(),
+        None => 0,
+    }
+}
+
+/// Whether one of the clients has the role.
+pub(crate) fn has_role(clients: &[ClientRow], role: &Role) -> bool
+    ensures { result ≡ list_any (λ c. same_path c.role role.now) clients.now }
+{
+    clients.iter().any(|client| client.role == *role)
+}

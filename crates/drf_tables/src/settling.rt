@@ -1,0 +1,51 @@
+//! What is free on agents, computed where it is not known.
+ghost use Rattle.std.specs.Prelude.{◌≡◌, ◌+◌, ◌<◌, map, length, true, OnOk};
+ghost use Rattle.std.specs.List.{AllByRecursion};
+ghost use Rattle.drf_tables.specs.Inside.{agent_row, is_settled, IsKnown};
+ghost use Rattle.drf_tables.specs.Taking.{holdings_in};
+ghost use Rattle.drf_tables.specs.Changing.{are_settled};
+
+use crate::holdings::Holdings;
+use crate::tables::Agent;
+use drf_role::Name;
+use indexmap::IndexMap;
+use std::alloc::AllocError;
+
+/// Computes what is free on the agent at a place, if it is not known.
+fn settle_at(
+    agents: &mut IndexMap<Name, Agent>,
+    place: usize,
+    holdings: &Holdings,
+) -> Result<(), AllocError>
+    requires place { place < length agents.old.entries }
+    requires known { AllByRecursion (IsKnown (holdings_in holdings.now)) agents.old.entries }
+    requires settled { are_settled place agents.old.entries ≡ true }
+    ensures rows { map agent_row agents.new.entries ≡ map agent_row agents.old.entries }
+    ensures known { AllByRecursion (IsKnown (holdings_in holdings.now)) agents.new.entries }
+    ensures settled { OnOk result (are_settled (place + 1) agents.new.entries ≡ true) }
+    ensures number { length agents.new.entries ≡ length agents.old.entries }
+{
+    let (name, agent) = agents.get_index(place).unwrap();
+    if agent.free.is_some() {
+        return Ok(());
+    }
+    let free = holdings.left_on(name, &agent.total)?;
+    agents[place].free = Some(free);
+    Ok(())
+}
+
+/// Computes what is free on each agent, where it is not known.
+pub(crate) fn settle_all(
+    agents: &mut IndexMap<Name, Agent>,
+    holdings: &Holdings,
+) -> Result<(), AllocError>
+    requires { AllByRecursion (IsKnown (holdings_in holdings.now)) agents.old.entries }
+    ensures rows { map agent_row agents.new.entries ≡ map agent_row agents.old.entries }
+    ensures known { AllByRecursion (IsKnown (holdings_in holdings.now)) agents.new.entries }
+    ensures settled { OnOk result (is_settled agents.new.entries ≡ true) }
+{
+    for place in 0..agents.len() {
+        settle_at(agents, place, holdings)?;
+    }
+    Ok(())
+}

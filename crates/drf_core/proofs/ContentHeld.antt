@@ -15,7 +15,7 @@ use Rattle.drf_rows.specs.declared.rows.FrameworkRow.{FrameworkRow}
 use Rattle.drf_rows.specs.declared.rows.Rows.{Rows}
 use Rattle.drf_sorter.specs.Content.{Ranked}
 use Rattle.drf_core.specs.Content.{ranked, content_of}
-use Rattle.drf_core.proofs.ContentOffer.{ranked_all, ranked-path}
+use Rattle.drf_core.proofs.ContentClient.{ranked_all, ranked-path}
 
 -- a sum over the sorter's clients, by the rows
 pub sum_ranked : (g : Ranked → ℕ) (hs : List Holding) (fs : List FrameworkRow)

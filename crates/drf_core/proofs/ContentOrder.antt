@@ -26,7 +26,7 @@ use Rattle.drf_rows.specs.declared.rows.FrameworkRow.{FrameworkRow}
 use Rattle.drf_rows.specs.declared.rows.Rows.{Rows}
 use Rattle.drf_sorter.specs.Content.{Ranked, IsOrderOf, active_paths, clients_under}
 use Rattle.drf_core.specs.Content.{ranked, content_of}
-use Rattle.drf_core.proofs.ContentOffer.{ranked_all}
+use Rattle.drf_core.proofs.ContentClient.{ranked_all}
 use Rattle.drf_core.proofs.ContentHeld.{sum_ranked, sum_held}
 use Rattle.drf_rows.specs.Held as rows_word
 use Rattle.drf_sorter.specs.Content as sorter_word

@@ -12,7 +12,6 @@ use Rattle.drf_role.specs.Path.{Path, same_path, client_path}
 use Rattle.drf_role.specs.PathLaws.{same_path-client_path}
 use Rattle.drf_bundle.specs.Quantities.{plus}
 use Rattle.drf_bundle.specs.Bundle.{quantities_of}
-use Rattle.drf_bundle.specs.declared.quantities.Entry.{Entry}
 use Rattle.drf_bundle.specs.declared.resource.Resource.{Resource}
 use Rattle.drf_rows.specs.Client.{Client, path_of}
 use Rattle.drf_rows.specs.Holdings.{Holding, holdings_of, held_where, amount_in, is_of}
@@ -28,7 +27,7 @@ use Rattle.drf_rows.specs.declared.rows.FrameworkRow.{FrameworkRow}
 use Rattle.drf_rows.specs.declared.rows.Rows.{Rows}
 use Rattle.drf_sorter.specs.Content.{Ranked, has_client, with_client}
 use Rattle.drf_core.specs.Content.{ranked, content_of}
-use Rattle.drf_core.proofs.ContentOffer.{ranked_all, ranked-path}
+use Rattle.drf_core.proofs.ContentClient.{ranked_all, ranked-path}
 
 -- ---- who is known
 

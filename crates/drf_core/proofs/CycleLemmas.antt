@@ -11,7 +11,8 @@ use Rattle.drf_rows.specs.Cycle.{grant, count_offer, new_offer, with_offer, trie
 use Rattle.drf_rows.specs.CycleLaws.{clients_of-with_offer}
 use Rattle.drf_rows.specs.LimitNumbers.{LimitNumbers}
 use Rattle.drf_rows.specs.Consistent.{IsConsistent}
-use Rattle.drf_rows.specs.Step.{new_offers, effect}
+use Rattle.drf_rows.specs.Step.{new_offers, refusal_of, effect}
+use Rattle.drf_rows.specs.declared.limits.TheConstants.{LATEST_MOMENT}
 use Rattle.drf_rows.specs.declared.event.Event.TheVariants.{Cycle}
 use Rattle.drf_rows.specs.declared.rows.AgentRow.{AgentRow}
 use Rattle.drf_rows.specs.declared.rows.OfferRow.{OfferRow}
@@ -21,16 +22,17 @@ use Rattle.drf_sorter.specs.Content.{Content}
 use Rattle.drf_core.specs.Content.{content_of}
 use Rattle.drf_core.specs.Kept.{IsKept}
 use Rattle.drf_core.specs.Drafting.{IsDrafting, turn_at, turns_of}
+use Rattle.drf_core.proofs.Welcome.{early_cycle}
 use Rattle.drf_core.proofs.ContentOrder.{length-turn_order}
 use Rattle.drf_tables.specs.DraftLaws.{offers-with_offers}
 
 -- what is left of a list from a place on begins with the element there
-record BeginsAt {A : Type 0} (xs : List A) (i : ℕ) : Type 0 where
+pub record BeginsAt {A : Type 0} (xs : List A) (i : ℕ) : Type 0 where
   pub first : A
   pub at : slice_get xs i ≡ Some first
   pub rest : drop i xs ≡ first ∷ drop (i + 1) xs
 
-begins_at : {A : Type 0} (xs : List A) (i : ℕ) → i < length xs → BeginsAt xs i
+pub begins_at : {A : Type 0} (xs : List A) (i : ℕ) → i < length xs → BeginsAt xs i
 begins_at [] i h = absurd (omega arith)
 begins_at (x ∷ xs) zero h = record { first = x; at = refl; rest = refl }
 begins_at (x ∷ xs) (suc i) h =
@@ -138,13 +140,23 @@ turns-next_offer rows (agent ∷ agents) =
 
 -- ---- a cycle begins, and is ended
 
+-- the clock stays within its range
+pub early_moment : (limits : LimitNumbers) (rows : Rows) (at moment : ℕ) → rows.clock ≤ LATEST_MOMENT → refusal_of limits rows (Cycle at) ≡ None
+    → moment ≡ max rows.clock at → moment ≤ LATEST_MOMENT
+early_moment limits rows at moment early none same =
+    let late : at ≤ LATEST_MOMENT = early_cycle limits rows at none in
+    omega (arith, early, late, same)
+
 -- consistent rows stay so when the clock moves
-pub consistent-clock : (rows : Rows) (clock : ℕ) → IsConsistent rows → IsConsistent (record rows { clock = clock })
-consistent-clock rows clock right = record {
+pub consistent-clock : (rows : Rows) (clock : ℕ) → IsConsistent rows → clock ≤ LATEST_MOMENT → IsConsistent (record rows { clock = clock })
+consistent-clock rows clock right early = record {
   agents = right.agents;
   frameworks = right.frameworks;
   holdings = right.holdings;
   covered = right.covered;
+  tasks = right.tasks;
+  filters = right.filters;
+  early = early;
   counted = right.counted;
   numbered = right.numbered;
 }
@@ -155,13 +167,13 @@ content_of-clock rows clock = refl
 
 -- there are no drafts yet
 pub drafting-begins : (content : Content) (limits : LimitNumbers) (rows tables : Rows) (clock : ℕ) (offers : List OfferRow) → IsKept content limits rows
-    → tables ≡ record rows { clock = clock } → offers ≡ [] → IsDrafting content tables offers
-drafting-begins content limits rows tables clock offers kept same none =
+    → clock ≤ LATEST_MOMENT → tables ≡ record rows { clock = clock } → offers ≡ [] → IsDrafting content tables offers
+drafting-begins content limits rows tables clock offers kept moment same none =
     let events : rows.accepted ≤ 4294967295 = omega (arith, kept.few.events, kept.few.ceilings.events.1) in
     let numbered : rows.next_offer ≤ 1 + rows.accepted * 2 ^ 24 = kept.numbered in
     rw (same, none) (record {
       sorted = kept.sorted ∙ sym (content_of-clock rows clock);
-      consistent = consistent-clock rows clock kept.consistent;
+      consistent = consistent-clock rows clock kept.consistent moment;
       clients = tt;
       few_agents = omega (arith, kept.few.agents, kept.few.ceilings.agents.1);
       early = omega (arith, numbered, events);

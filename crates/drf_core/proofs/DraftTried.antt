@@ -1,5 +1,5 @@
 -- A client is tried: one more draft, or none.
-use Rattle.std.proofs.Common.{◌≡◌, ℕ, ◌+◌, ◌<◌, ◌≤◌, ◌^◌, Bool, true, false, List, [], ◌∷◌, ◌++◌, Option, Some, None, length, sym, ap, subst, ◌∙◌, cond, arith}
+use Rattle.std.proofs.Common.{refl, ◌≡◌, ℕ, ◌+◌, ◌<◌, ◌≤◌, ◌^◌, Bool, true, false, List, [], ◌∷◌, ◌++◌, Option, Some, None, length, sym, ap, subst, ◌∙◌, cond, arith}
 use Rattle.std.specs.Prelude.{slice_get}
 use Rattle.std.specs.List.{AllByRecursion}
 use Rattle.std.specs.Option.{option_map_or}
@@ -14,7 +14,7 @@ use Rattle.drf_bundle.specs.declared.resource.Resource.{Resource}
 use Rattle.drf_rows.specs.ListLaws.{each_at}
 use Rattle.drf_rows.specs.Client.{Client, path_of}
 use Rattle.drf_rows.specs.Holdings.{of_offer}
-use Rattle.drf_rows.specs.Cycle.{free_of, grant, is_allocatable, new_offer, with_offer, tried}
+use Rattle.drf_rows.specs.Cycle.{free_of, grant, is_grantable, new_offer, with_offer, tried}
 use Rattle.drf_rows.specs.CycleLaws.{bundle-free_of, free_of-with_offer}
 use Rattle.drf_rows.specs.Consistent.{IsAgent, IsConsistent}
 use Rattle.drf_rows.specs.Held.{is_registered}
@@ -46,7 +46,7 @@ pub record IsPart (bundle free : List Resource) : Type 0 where
 
 pub grant-part : (rows : Rows) (agent : AgentRow) (client : Client) (bundle : List Resource) → IsBundle agent.total
     → grant rows agent client ≡ Some bundle → IsPart bundle (free_of rows agent)
-grant-part rows agent client bundle total granted = by (is_allocatable part) granted
+grant-part rows agent client bundle total granted = by (is_grantable rows agent client part) granted
   where
     free : List Resource
     free = free_of rows agent
@@ -141,6 +141,19 @@ pub tried_none : (rows : Rows) (agent : AgentRow) (client : Client) → grant ro
 tried_none rows agent client none =
     sym (ap (λ (o : Option (List Resource)). option_map_or (λ b. with_offer rows (new_offer rows agent client b)) o rows) none)
 
+-- a grant reads filters and the clock, which drafts leave alone
+filters-with_offers : (rows : Rows) (offers : List OfferRow)
+    → ((with_offers rows offers).filters ≡ rows.filters) × ((with_offers rows offers).clock ≡ rows.clock)
+unfolding with_offer
+filters-with_offers rows [] = (refl, refl)
+filters-with_offers rows (o ∷ os) = filters-with_offers (with_offer rows o) os
+
+-- that is granted of what is free on the agent of that name, in all rows with the filters and the clock of these
+abbrev pub IsGrantedBy : Rows → Text → List Resource → Path → Option (List Resource) → Type 0
+IsGrantedBy tables name free path granted = (rows : Rows) (agent : AgentRow) (client : Client)
+    → free_of rows agent ≡ free → agent.name ≡ name → rows.filters ≡ tables.filters → rows.clock ≡ tables.clock
+    → path ≡ path_of client → granted ≡ grant rows agent client
+
 -- ---- what the code makes is the next draft
 
 pub record IsNext (rows : Rows) (offers : List OfferRow) (place : ℕ) (path : Path) (free bundle : List Resource) (row : OfferRow) : Type 0 where
@@ -156,7 +169,7 @@ pub record IsNext (rows : Rows) (offers : List OfferRow) (place : ℕ) (path : P
 pub next_from : (rows : Rows) (offers : List OfferRow) (place : ℕ) (path : Path) (free bundle : List Resource) (row : OfferRow) (number : ℕ) (name : Text)
     → IsFreeAt (with_offers rows offers) place free
     → IsRegisteredPath rows path
-    → ((rows : Rows) (agent : AgentRow) (client : Client) → free_of rows agent ≡ free → path ≡ path_of client → Some bundle ≡ grant rows agent client)
+    → IsGrantedBy rows name free path (Some bundle)
     → ((a : AgentRow) → slice_get rows.agents place ≡ Some a → name ≡ a.name)
     → number ≡ rows.next_offer + length offers
     → row ≡ record { number = number; agent = name; framework = framework_part path; role = role_part path; bundle = bundle }
@@ -176,7 +189,8 @@ next_from rows offers place path free bundle row number name is_free registered 
       joined = registered.joined;
       known = registered.registered;
       is_free = is_free.free;
-      granted = sym (granted (with_offers rows offers) agent client (sym is_free.free) registered.joined);
+      granted = sym (granted (with_offers rows offers) agent client (sym is_free.free) (sym (named agent at))
+          (filters-with_offers rows offers).0 (filters-with_offers rows offers).1 registered.joined);
       made = row_is ∙ (λ i. record { number = next i; agent = named agent at i; framework = framework i; role = role i; bundle = bundle });
     }
 
@@ -218,9 +232,14 @@ module _ (content : Content) (rows : Rows) (offers : List OfferRow) (drafting : 
       }
 
 -- where nothing is granted
-pub tried_nothing : (rows : Rows) (place : ℕ) (path : Path) (free : List Resource) → IsFreeAt rows place free
-    → ((rows : Rows) (agent : AgentRow) (client : Client) → free_of rows agent ≡ free → path ≡ path_of client → None ≡ grant rows agent client)
-    → IsTried rows rows place path
-tried_nothing rows place path free is_free granted agent client at joined =
+pub tried_nothing : (rows : Rows) (offers : List OfferRow) (place : ℕ) (path : Path) (free : List Resource) (name : Text)
+    → IsFreeAt (with_offers rows offers) place free
+    → IsGrantedBy rows name free path None
+    → ((a : AgentRow) → slice_get rows.agents place ≡ Some a → name ≡ a.name)
+    → IsTried (with_offers rows offers) (with_offers rows offers) place path
+tried_nothing rows offers place path free name is_free granted named agent client at joined =
+    let now : Rows = with_offers rows offers in
     let same : is_free.agent ≡ agent = let e : Some is_free.agent ≡ Some agent = sym is_free.at ∙ at in cc in
-    tried_none rows agent client (sym (granted rows agent client (ap (free_of rows) (sym same) ∙ sym is_free.free) joined))
+    let before : slice_get rows.agents place ≡ Some agent = ap (λ (as' : List AgentRow). slice_get as' place) (sym (agents-with_offers rows offers)) ∙ at in
+    tried_none now agent client (sym (granted now agent client (ap (free_of now) (sym same) ∙ sym is_free.free) (sym (named agent before))
+    (filters-with_offers rows offers).0 (filters-with_offers rows offers).1 joined))

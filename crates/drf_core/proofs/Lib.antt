@@ -1,8 +1,12 @@
+pub mod ContentClient
 pub mod ContentHeld
 pub mod ContentOffer
 pub mod ContentOrder
 pub mod ContentRegister
 pub mod ContentSound
+pub mod ContentEnded
+pub mod ContentMembers
+pub mod ContentRemoved
 pub mod DraftLemmas
 pub mod DraftTried
 pub mod TurnLemmas
@@ -13,5 +17,11 @@ pub mod ReportSums
 pub mod ReportLines
 pub mod ReportNodes
 pub mod WeightLemmas
+pub mod Welcome
+pub mod KeptLemmas
 pub mod ApplyLemmas
+pub mod RefusalLemmas
+pub mod RemovalLemmas
+pub mod EndedLemmas
+pub mod AcceptLemmas
 pub mod StepLemmas

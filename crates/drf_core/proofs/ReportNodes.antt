@@ -31,7 +31,7 @@ use Rattle.drf_sorter.specs.Content as sorter_word
 use Rattle.drf_core.specs.Content.{ranked, content_of}
 use Rattle.drf_core.specs.Kept.{IsKept}
 use Rattle.drf_core.specs.Reporting.{Sums, HoldAll, AreNodes, line_in}
-use Rattle.drf_core.proofs.ContentOffer.{ranked_all, ranked-path}
+use Rattle.drf_core.proofs.ContentClient.{ranked_all, ranked-path}
 use Rattle.drf_core.proofs.ContentHeld.{all_held}
 use Rattle.drf_core.proofs.ContentOrder.{standing-content_of}
 use Rattle.drf_core.proofs.ContentSound.{IsSound-content_of}

@@ -1,25 +1,24 @@
 -- Steps and runs of a core.
-use Rattle.std.proofs.Common.{◌≡◌, ◌+◌, List, [], ◌∷◌, ◌++◌, Some, None, refl, sym, ap, subst, ◌∙◌, arith}
-use Rattle.std.specs.Prelude.{filter}
+use Rattle.std.proofs.Common.{◌≡◌, ◌+◌, Option, List, [], ◌∷◌, ◌++◌, Some, None, refl, sym, ap, subst, ◌∙◌, arith}
 use Rattle.drf_rows.specs.LimitNumbers.{LimitNumbers, IsWithinCeilings}
-use Rattle.drf_rows.specs.Step.{opening, live_rows, refusal_of, effect, rows_after, rows_after_all, reply_to, replies_to}
+use Rattle.drf_rows.specs.Step.{opening, live_rows, refusal_of, effect, answer, rows_after, rows_after_all, reply_to, replies_to}
 use Rattle.drf_rows.specs.Consistent.{IsConsistent, IsNumberedByEvents}
-use Rattle.drf_rows.specs.Cycle.{at_moment, cycle}
-use Rattle.drf_rows.specs.StepLaws.{rows_after-refused, rows_after-accepted}
+use Rattle.drf_rows.specs.StepLaws.{reply_to-refused, reply_to-accepted, rows_after-refused, rows_after-accepted}
 use Rattle.drf_rows.specs.RunLaws.{rows_after_all-append, replies_to-append}
 use Rattle.drf_rows.specs.LiveLaws.{reply_to-same_live, rows_after-same_live}
 use Rattle.drf_rows.specs.RegistrationLaws.{IsConsistent-opening}
 use Rattle.drf_rows.specs.declared.event.Event.{Event}
-use Rattle.drf_rows.specs.declared.event.Event.TheVariants.{AddAgent, AddFramework, SetWeight, Cycle, Report}
+use Rattle.drf_rows.specs.declared.event.Event.TheVariants.{AddAgent, RemoveAgent, ActivateAgent, DeactivateAgent, AddFramework, RemoveFramework, Accept, Decline, Rescind, Finish, Suppress, Revive, SetWeight, Cycle, Report}
 use Rattle.drf_rows.specs.declared.reply.Refusal.{Refusal}
 use Rattle.drf_rows.specs.declared.reply.Reply.{Reply}
+use Rattle.drf_rows.specs.declared.reply.Reply.TheVariants.{Refused}
 use Rattle.drf_rows.specs.declared.rows.Rows.{Rows}
 use Rattle.drf_sorter.specs.Content.{Content, empty}
 use Rattle.drf_core.specs.Machine.{Machine, IsAfter, IsAfterAll}
 use Rattle.drf_core.specs.Content.{content_of}
 use Rattle.drf_core.specs.Kept.{AreFew, IsKept}
-use Rattle.drf_core.proofs.CycleLemmas.{turns-tables}
-use Rattle.drf_core.proofs.ApplyLemmas.{few_after, numbered_after}
+use Rattle.drf_core.proofs.ContentMembers.{content_of-filters}
+use Rattle.drf_core.proofs.KeptLemmas.{IsCountable, countable_after}
 
 pub IsKept-opening : (content : Content) (limits : LimitNumbers) (rows : Rows) → rows ≡ opening → content ≡ empty → IsWithinCeilings limits → IsKept content limits rows
 unfolding content_of
@@ -32,40 +31,95 @@ IsKept-opening content limits rows opens nothing within = rw (opens, nothing) (r
 
 -- ---- a step
 
-pub IsAfter-refused : (m : Machine) (event : Event) (refusal : Refusal) → refusal_of m.limits m.rows event ≡ Some refusal → IsAfter m m event
-IsAfter-refused m event refusal case = record { limits = refl; rows = ap live_rows (sym (rows_after-refused m.limits m.rows event refusal case)) }
+-- filters are forgotten
+pub IsKept-forgot : (content : Content) (limits : LimitNumbers) (rows new : Rows) → IsKept content limits rows
+    → new ≡ record rows { filters = new.filters } → IsConsistent new → IsKept content limits new
+IsKept-forgot content limits rows new kept same right = record {
+  sorted = kept.sorted ∙ sym (ap content_of same ∙ content_of-filters rows new.filters);
+  consistent = right;
+  few = rw same (record {
+    ceilings = kept.few.ceilings;
+    agents = kept.few.agents;
+    frameworks = kept.few.frameworks;
+    clients = kept.few.clients;
+    weights = kept.few.weights;
+    events = kept.few.events;
+  });
+  numbered = rw same kept.numbered;
+}
 
--- effects do not count as events
-accepted-effect : (rows : Rows) (event : Event) → (effect rows event).accepted ≡ rows.accepted
-unfolding effect cycle
-accepted-effect rows (AddAgent agent total) = refl
-accepted-effect rows (AddFramework framework roles) = refl
-accepted-effect rows (SetWeight role weight) = refl
-accepted-effect rows (Cycle at) = (turns-tables (at_moment rows at) (filter (λ a. a.active) rows.agents)).2
-accepted-effect rows Report = refl
+-- what is answered to an event that is not refused is no refusal
+answer_told : (before after : Rows) (event : Event) (refusal : Refusal) → answer before after event ≡ Refused refusal → Some refusal ≡ None
+answer_told before after (AddAgent agent total) refusal told = cc
+answer_told before after (RemoveAgent agent) refusal told = cc
+answer_told before after (ActivateAgent agent) refusal told = cc
+answer_told before after (DeactivateAgent agent) refusal told = cc
+answer_told before after (AddFramework framework roles) refusal told = cc
+answer_told before after (RemoveFramework framework) refusal told = cc
+answer_told before after (Accept framework offer task used at refuse_ms) refusal told = cc
+answer_told before after (Decline framework offer at refuse_ms) refusal told = cc
+answer_told before after (Rescind offer) refusal told = cc
+answer_told before after (Finish framework task) refusal told = cc
+answer_told before after (Suppress framework role) refusal told = cc
+answer_told before after (Revive framework role) refusal told = cc
+answer_told before after (SetWeight role weight) refusal told = cc
+answer_told before after (Cycle at) refusal told = cc
+answer_told before after Report refusal told = cc
+
+-- from rows that have the same live rows
+module _ (limits : LimitNumbers) (rows old : Rows) (event : Event) (live : live_rows rows ≡ live_rows old) where
+  pub refused_from : (refusal : Refusal) → refusal_of limits rows event ≡ Some refusal
+      → (Refused refusal ≡ reply_to limits old event) × (live_rows rows ≡ live_rows (rows_after limits old event))
+  refused_from refusal case = (
+    sym (reply_to-refused limits rows event refusal case) ∙ reply_to-same_live limits rows old live event,
+    ap live_rows (sym (rows_after-refused limits rows event refusal case)) ∙ rows_after-same_live limits rows old live event,
+  )
+
+  pub welcome_from : refusal_of limits rows event ≡ None → refusal_of limits old event ≡ None
+  welcome_from none = by (refusal_of limits old event) refl
+    where
+      by : (found : Option Refusal) → refusal_of limits old event ≡ found → refusal_of limits old event ≡ None
+      by None case = case
+      by (Some refusal) case =
+          let told : answer rows (effect rows event) event ≡ Refused refusal
+          = sym (reply_to-accepted limits rows event none) ∙ reply_to-same_live limits rows old live event
+          ∙ reply_to-refused limits old event refusal case in
+          case ∙ answer_told rows (effect rows event) event refusal told
+
+  pub accepted_from : refusal_of limits rows event ≡ None
+      → (answer rows (effect rows event) event ≡ reply_to limits old event)
+      × (live_rows (rows_after limits rows event) ≡ live_rows (rows_after limits old event))
+  accepted_from none = (
+    sym (reply_to-accepted limits rows event none) ∙ reply_to-same_live limits rows old live event,
+    rows_after-same_live limits rows old live event,
+  )
 
 -- an event that was applied and counted
-module _ (limits : LimitNumbers) (rows tables counted : Rows) (event : Event) (none : refusal_of limits rows event ≡ None)
-    (applied : tables ≡ effect rows event) (is_counted : counted ≡ record tables { accepted = tables.accepted + 1 }) where
+module _ (limits : LimitNumbers) (rows tables counted : Rows) (event : Event) (before : Content) (kept : IsKept before limits rows)
+    (none : refusal_of limits rows event ≡ None) (applied : tables ≡ effect rows event)
+    (is_counted : counted ≡ record tables { accepted = tables.accepted + 1 }) where
+  countable : IsCountable limits rows (effect rows event)
+  countable = countable_after limits rows kept.few kept.numbered event none
+
   counted_is : counted ≡ record (effect rows event) { accepted = rows.accepted + 1 }
   counted_is =
       is_counted
       ∙ (λ i. record (applied i) { accepted = (applied i).accepted + 1 })
-      ∙ (λ i. record (effect rows event) { accepted = accepted-effect rows event i + 1 })
+      ∙ (λ i. record (effect rows event) { accepted = countable.accepted i + 1 })
 
   pub rows_after-counted : counted ≡ rows_after limits rows event
   rows_after-counted = counted_is ∙ sym (rows_after-accepted limits rows event none)
 
   pub accepted-applied : tables.accepted ≡ rows.accepted
-  accepted-applied = ap (λ (r : Rows). r.accepted) applied ∙ accepted-effect rows event
+  accepted-applied = ap (λ (r : Rows). r.accepted) applied ∙ countable.accepted
 
-  pub IsKept-counted : (before after : Content) → IsKept before limits rows → after ≡ content_of (effect rows event) → IsConsistent counted → IsKept after limits counted
+  pub IsKept-counted : (after : Content) → after ≡ content_of (effect rows event) → IsConsistent counted → IsKept after limits counted
   unfolding content_of
-  IsKept-counted before after kept sorted right = record {
+  IsKept-counted after sorted right = record {
     sorted = sorted ∙ sym (ap content_of counted_is);
     consistent = right;
-    few = subst (AreFew limits) (sym counted_is) (few_after limits rows event kept.few none);
-    numbered = subst IsNumberedByEvents (sym counted_is) (numbered_after limits rows event kept.few kept.numbered);
+    few = subst (AreFew limits) (sym counted_is) countable.few;
+    numbered = subst IsNumberedByEvents (sym counted_is) countable.numbered;
   }
 
 -- ---- a run

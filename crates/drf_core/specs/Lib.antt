@@ -4,4 +4,5 @@ pub mod Content
 pub mod Kept
 pub mod Drafting
 pub mod Registering
+pub mod Accepting
 pub mod Reporting

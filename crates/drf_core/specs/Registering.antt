@@ -1,8 +1,9 @@
--- A framework that registers: its clients are added to the sorter one by one.
-use Rattle.std.specs.Prelude.{◌≡◌, false, List, [], ◌∷◌, map, fold}
+-- A framework that registers, or leaves: its clients are added to the sorter one by one, or removed.
+use Rattle.std.specs.Prelude.{◌≡◌, true, false, List, [], ◌∷◌, map, fold}
 use Rattle.drf_role.specs.Text.{Text}
 use Rattle.drf_role.specs.Path.{Path, client_path}
-use Rattle.drf_sorter.specs.Content.{Content, has_client, with_client}
+use Rattle.drf_rows.specs.declared.rows.ClientRow.{ClientRow}
+use Rattle.drf_sorter.specs.Content.{Content, has_client, with_client, without_client}
 
 -- the paths of the clients of a framework in some roles
 abbrev pub paths_of : Text → List Path → List Path
@@ -16,3 +17,16 @@ with_all content paths = fold with_client content paths
 abbrev pub AreNew : Content → List Path → Type 0
 AreNew content [] = Unit {0}
 AreNew content (path ∷ paths) = (has_client content path ≡ false) × AreNew (with_client content path) paths
+
+-- the paths of the clients of a framework
+abbrev pub client_paths : Text → List ClientRow → List Path
+client_paths framework clients = map (λ c. client_path c.role framework) clients
+
+-- clients that were removed, in that order
+abbrev pub without_all : Content → List Path → Content
+without_all content paths = fold without_client content paths
+
+-- each is known when all before it were removed
+abbrev pub AreKnown : Content → List Path → Type 0
+AreKnown content [] = Unit {0}
+AreKnown content (path ∷ paths) = (has_client content path ≡ true) × AreKnown (without_client content path) paths

@@ -1,4 +1,4 @@
-ghost use Rattle.std.specs.Prelude.{◌≡◌, ◌≤◌, ◌^◌, ◌++◌, None, IfOk, OnOk, OnErr};
+ghost use Rattle.std.specs.Prelude.{◌≡◌, ◌≤◌, ◌<◌, ◌^◌, ◌++◌, None, IfOk, OnOk, OnErr};
 ghost use Rattle.drf_core.specs.Machine.{IsOpened, IsSame, IsAfter, IsAfterAll, HasRun};
 
 use crate::apply::apply;
@@ -61,6 +61,7 @@ impl<S: Sorter> Core<S> {
         ensures err { OnErr result (IsSame self.old self.new) }
         ensures not_refused { OnErr result (refusal_of self.old.limits self.old.rows event ≡ None) }
     {
+        self.tables.forget_spent();
         if let Some(refusal) = refusal(&self.limits, &self.tables, &event) {
             return Ok(Reply::Refused(refusal));
         }
@@ -98,11 +99,13 @@ impl<S: Sorter> Core<S> {
         report(self.alloc, &self.limits, &self.tables, &self.sorter)
     }
 
-    /// The rows as they stand. Nothing is granted twice, and no number of an offer is above 2^56.
+    /// The rows as they stand. Nothing is granted twice, no number of an offer is above 2^56, and no filter ends at 2^63
+    /// or later.
     pub fn rows(&self) -> Result<Rows, AllocError>
         ensures rows { IfOk result (λ rows. rows ≡ live_rows self.now.rows) }
         ensures conserved { IfOk result (λ rows. AllByRecursion (IsConserved rows) rows.agents) }
         ensures numbers { IfOk result (λ rows. AllByRecursion (λ o. o.number ≤ 2 ^ 56) rows.offers) }
+        ensures filters { IfOk result (λ rows. AllByRecursion (λ f. f.until < 2 ^ 63) rows.filters) }
     {
         self.tables.rows()
     }

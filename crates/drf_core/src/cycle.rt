@@ -1,6 +1,6 @@
 //! The allocation cycle. Its offers are drafts until the last agent had its turn: the sorter is charged with them, the
 //! tables stay as they are. Where memory ends, the charges are taken back, which needs none.
-ghost use Rattle.std.specs.Prelude.{◌≡◌, ◌<◌, ◌≤◌, ◌+◌, ◌*◌, None, [], length, map, slice_get, Some, IfOk, OnOk, OnErr, MatchOption};
+ghost use Rattle.std.specs.Prelude.{◌≡◌, true, ◌<◌, ◌≤◌, ◌+◌, ◌*◌, None, [], length, map, slice_get, Some, IfOk, OnOk, OnErr, MatchOption};
 ghost use Rattle.std.specs.List.{AllByRecursion};
 ghost use Rattle.drf_role.specs.Path.{role_part, framework_part};
 ghost use Rattle.drf_bundle.specs.Bundle.{IsBundle, rest};
@@ -44,16 +44,24 @@ fn is_worth_an_offer(bundle: &Bundle) -> bool
 
 /// Whether the agent at a place is active, and what is free there is worth an offer.
 fn is_open(tables: &Tables, place: usize) -> bool
-    requires { place < length tables.now.rows.agents }
+    requires place { place < length tables.now.rows.agents }
+    requires settled { tables.now.settled ≡ true }
     ensures { result ≡ is_open_at tables.now.rows place }
 {
     tables.is_active(place) && is_worth_an_offer(tables.free(place))
 }
 
-/// Takes from what is free on an agent what a client is granted: what its role may use, if that is worth an offer.
-fn grant(free: &mut Bundle, client: &ClientPath) -> Result<Option<Bundle>, AllocError>
-    ensures granted { IfOk result (λ granted. (rows : Rows) (agent : AgentRow) (of : Client)
-        → free_of rows agent ≡ free.old → client.now ≡ path_of of → granted ≡ grant rows agent of) }
+/// Takes from what is free on an agent what a client is granted: what its role may use, if that is worth an offer and no
+/// filter holds it back.
+fn grant(
+    tables: &Tables,
+    agent: &Name,
+    client: &ClientPath,
+    free: &mut Bundle,
+) -> Result<Option<Bundle>, AllocError>
+    ensures granted { IfOk result (λ granted. (rows : Rows) (a : AgentRow) (of : Client)
+        → free_of rows a ≡ free.old → a.name ≡ agent.now → rows.filters ≡ tables.now.rows.filters
+        → rows.clock ≡ tables.now.rows.clock → client.now ≡ path_of of → granted ≡ grant rows a of) }
     ensures left { IfOk result (λ granted. MatchOption granted (free.new ≡ free.old) (λ bundle. free.new ≡ rest free.old bundle)) }
 {
     if !is_worth_an_offer(free) {
@@ -61,6 +69,9 @@ fn grant(free: &mut Bundle, client: &ClientPath) -> Result<Option<Bundle>, Alloc
     }
     let bundle = free.part_for(client.role())?;
     if !is_worth_an_offer(&bundle) {
+        return Ok(None);
+    }
+    if tables.is_held_back(client.role(), client.framework(), agent, &bundle) {
         return Ok(None);
     }
     *free = free.rest(&bundle)?;
@@ -109,12 +120,13 @@ fn try_client<S: Sorter>(
         (with_offers tables.now.rows offers.new.items) place client.now) }
     ensures free { OnOk result (IsFreeAt (with_offers tables.now.rows offers.new.items) place free.new) }
 {
-    let granted = grant(free, client)?;
+    let agent = tables.agent_name(place);
+    let granted = grant(tables, agent, client, free)?;
     let Some(bundle) = granted else {
         return Ok(());
     };
     let number = tables.next_offer() + offers.len() as u64;
-    let offer = offer_row(number, tables.agent_name(place), client, bundle)?;
+    let offer = offer_row(number, agent, client, bundle)?;
     offers.reserve(1)?;
     sorter.charge(client, offer.bundle.quantities())?;
     offers.push_reserved(offer);
@@ -130,6 +142,7 @@ fn turn<S: Sorter>(
 ) -> Result<(), AllocError>
     requires drafting { IsDrafting (S.content sorter.old) tables.now.rows drafts.old.offers.items }
     requires place { place < length tables.now.rows.agents }
+    requires settled { tables.now.settled ≡ true }
     requires left { HasLeft tables.now.rows drafts.old.offers.items drafts.old.lefts.items place }
     ensures drafting { IsDrafting (S.content sorter.new) tables.now.rows drafts.new.offers.items }
     ensures turn { OnOk result (with_offers tables.now.rows drafts.new.offers.items
@@ -153,6 +166,7 @@ fn turns<S: Sorter>(tables: &Tables, sorter: &mut S, drafts: &mut Drafts) -> Res
     requires drafting { IsDrafting (S.content sorter.old) tables.now.rows drafts.old.offers.items }
     requires none { drafts.old.offers.items ≡ [] }
     requires nothing_left { drafts.old.lefts.items ≡ [] }
+    requires settled { tables.now.settled ≡ true }
     ensures drafting { IsDrafting (S.content sorter.new) tables.now.rows drafts.new.offers.items }
     ensures turns { OnOk result (with_offers tables.now.rows drafts.new.offers.items ≡ turns_of tables.now.rows) }
     ensures left { OnOk result (HasLeft tables.now.rows drafts.new.offers.items drafts.new.lefts.items (length tables.now.rows.agents)) }
@@ -213,6 +227,7 @@ fn offer_all<S: Sorter>(
     ensures err { OnErr result (tables.new.rows ≡ tables.old.rows) }
     ensures drafting { OnErr result (IsDrafting (S.content sorter.new) tables.old.rows drafts.new.offers.items) }
 {
+    tables.settle()?;
     turns(tables, sorter, drafts)?;
     let lines = offer_lines(alloc, &drafts.offers)?;
     let lefts = mem::replace(&mut drafts.lefts, Vec::new(alloc));
@@ -229,6 +244,7 @@ pub fn cycle<S: Sorter>(
     at: u64,
 ) -> Result<Vec<OfferLine>, AllocError>
     requires kept { IsKept (S.content sorter.old) limits.now tables.old.rows }
+    requires welcome { refusal_of limits.now tables.old.rows (Cycle at) ≡ None }
     ensures lines { IfOk result (λ lines. lines.items ≡ map line_of (new_offers tables.old.rows (effect tables.old.rows (Cycle at)))) }
     ensures ok { OnOk result (StandAt (effect tables.old.rows (Cycle at)) tables.new.rows (S.content sorter.new)) }
     ensures err { OnErr result (StandAt tables.old.rows tables.new.rows (S.content sorter.new)) }

@@ -1,9 +1,13 @@
 //! The allocator: events in, replies out.
 #![tactic(auto)]
 
+mod agents;
 mod allocator;
 mod apply;
 mod cycle;
+mod ending;
+mod frameworks;
+mod life;
 mod refusal;
 mod report;
 

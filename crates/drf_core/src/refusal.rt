@@ -1,13 +1,18 @@
 //! Why an event is refused. No test needs memory.
-ghost use Rattle.std.specs.Prelude.{◌≡◌, ◌<◌, ◌≤◌, length, nat_lt, not, IfNone, IfSome};
+ghost use Rattle.std.specs.Prelude.{◌≡◌, ◌∷◌, [], ◌<◌, ◌≤◌, length, nat_lt, not, IfNone, IfSome};
 ghost use Rattle.std.specs.List.{list_any};
+ghost use Rattle.drf_role.specs.Text.{Text};
 ghost use Rattle.drf_bundle.specs.Bundle.{quantities_of};
-ghost use Rattle.drf_rows.specs.Step.{first_case, is_full, too_many_agents, too_many_frameworks, refusal_of};
-ghost use Rattle.drf_rows.specs.Members.{distinct, with_agent};
-ghost use Rattle.drf_rows.specs.Offers.{is_empty};
+ghost use Rattle.drf_rows.specs.Step.{accept_is_too_much, decline_is_too_much, first_case, is_full, is_in_role, too_many_agents, too_many_frameworks, refusal_of};
+ghost use Rattle.drf_rows.specs.Members.{distinct, has_agent, has_framework, with_agent};
+ghost use Rattle.drf_rows.specs.Offers.{are_many_filters, has_offer, is_anothers, is_beyond};
 ghost use Rattle.drf_rows.specs.Weights.{is_weight, too_many_weights};
+ghost use Rattle.drf_rows.specs.declared.event.Event.TheVariants.{AddAgent, AddFramework, Accept, Decline, Rescind, Finish, SetWeight, Cycle};
+ghost use Rattle.drf_rows.specs.declared.reply.Refusal.TheVariants.{HistoryFull, UnknownAgent, UnknownFramework, NotInRole};
+ghost use Rattle.drf_core.specs.Accepting.{has_rest};
 ghost use Rattle.drf_core.specs.Kept.{AreFew};
 
+use drf_amount::Algebra;
 use drf_bundle::Bundle;
 use drf_role::{Name, Role};
 use drf_rows::{Event, LARGEST_AMOUNT, LATEST_MOMENT, Limits, Refusal, Table};
@@ -102,34 +107,278 @@ fn too_many_weights(limits: &Limits, tables: &Tables, role: &Role) -> bool
     !tables.has_weight(role) & (limits.weights() < weights)
 }
 
+/// The offer stands.
+fn has_offer(tables: &Tables, number: u64) -> bool
+    ensures { result ≡ has_offer tables.now.rows number }
+{
+    match tables.offer(number) {
+        Some(_) => true,
+        None => false,
+    }
+}
+
+/// The offer stands, and is another framework's.
+fn is_anothers(tables: &Tables, framework: &Name, number: u64) -> bool
+    ensures { result ≡ is_anothers tables.now.rows framework.now number }
+{
+    match tables.offer(number) {
+        Some(offer) => offer.framework != *framework,
+        None => false,
+    }
+}
+
+/// The offer stands, and does not cover the resources.
+fn is_beyond(tables: &Tables, number: u64, used: &Bundle) -> bool
+    ensures { result ≡ is_beyond tables.now.rows number used.now }
+{
+    match tables.offer(number) {
+        Some(offer) => !offer.bundle.covers(used),
+        None => false,
+    }
+}
+
+/// As many filters as the limit are in force at a moment, or at the clock if that is later.
+fn are_many_filters(limits: &Limits, tables: &Tables, at: u64) -> bool
+    ensures { result ≡ are_many_filters limits.now tables.now.rows at }
+{
+    limits.filters() <= tables.filters_in_force(tables.clock().max(at))
+}
+
+/// Something is left of an offer, if it stands. It needs no memory: the part covers the offer where nothing is left.
+fn has_rest(tables: &Tables, number: u64, used: &Bundle) -> bool
+    ensures { result ≡ has_rest tables.now.rows number used.now }
+{
+    match tables.offer(number) {
+        Some(offer) => !used.covers(&offer.bundle),
+        None => false,
+    }
+}
+
+/// An accept would set one filter too many.
+fn accept_is_too_much(
+    limits: &Limits,
+    tables: &Tables,
+    number: u64,
+    used: &Bundle,
+    at: u64,
+    refuse_ms: u64,
+) -> bool
+    ensures { (task : Text) → result ≡ accept_is_too_much limits.now tables.now.rows number (task, used.now) at refuse_ms }
+{
+    (0 < refuse_ms) & has_rest(tables, number, used) & are_many_filters(limits, tables, at)
+}
+
+/// A decline would set one filter too many.
+fn decline_is_too_much(limits: &Limits, tables: &Tables, at: u64, refuse_ms: u64) -> bool
+    ensures { result ≡ decline_is_too_much limits.now tables.now.rows at refuse_ms }
+{
+    (0 < refuse_ms) & are_many_filters(limits, tables, at)
+}
+
+/// Why an agent that registers is refused.
+fn refuse_agent(limits: &Limits, tables: &Tables, agent: &Name, total: &Bundle) -> Option<Refusal>
+    requires { AreFew limits.now tables.now.rows }
+    ensures { result ≡ refusal_of limits.now tables.now.rows (AddAgent agent.now total.now) }
+{
+    first_case(&[
+        (is_full(limits, tables), Refusal::HistoryFull),
+        (tables.has_agent(agent), Refusal::KnownAgent),
+        (is_too_large(total), Refusal::TooLarge),
+        (
+            too_many_agents(limits, tables, agent, total),
+            Refusal::TooMany,
+        ),
+    ])
+}
+
+/// Why an event of an agent is refused that has to be registered.
+fn refuse_unknown_agent(limits: &Limits, tables: &Tables, agent: &Name) -> Option<Refusal>
+    ensures { result ≡ first_case ((is_full limits.now tables.now.rows, HistoryFull) ∷ (not (has_agent tables.now.rows agent.now), UnknownAgent) ∷ []) }
+{
+    first_case(&[
+        (is_full(limits, tables), Refusal::HistoryFull),
+        (!tables.has_agent(agent), Refusal::UnknownAgent),
+    ])
+}
+
+/// Why a framework that registers is refused.
+fn refuse_framework(
+    limits: &Limits,
+    tables: &Tables,
+    framework: &Name,
+    roles: &Table<Role>,
+) -> Option<Refusal>
+    requires { AreFew limits.now tables.now.rows }
+    ensures { result ≡ refusal_of limits.now tables.now.rows (AddFramework framework.now roles.now) }
+{
+    first_case(&[
+        (is_full(limits, tables), Refusal::HistoryFull),
+        (tables.has_framework(framework), Refusal::KnownFramework),
+        (roles.is_empty(), Refusal::Empty),
+        (too_many_frameworks(limits, tables, roles), Refusal::TooMany),
+    ])
+}
+
+/// Why an event of a framework is refused that has to be registered.
+fn refuse_unknown_framework(limits: &Limits, tables: &Tables, framework: &Name) -> Option<Refusal>
+    ensures { result ≡ first_case ((is_full limits.now tables.now.rows, HistoryFull) ∷ (not (has_framework tables.now.rows framework.now), UnknownFramework) ∷ []) }
+{
+    first_case(&[
+        (is_full(limits, tables), Refusal::HistoryFull),
+        (!tables.has_framework(framework), Refusal::UnknownFramework),
+    ])
+}
+
+/// Why an event of a client is refused that has to be registered.
+fn refuse_unknown_client(
+    limits: &Limits,
+    tables: &Tables,
+    framework: &Name,
+    role: &Role,
+) -> Option<Refusal>
+    ensures { result ≡ first_case ((is_full limits.now tables.now.rows, HistoryFull) ∷ (not (has_framework tables.now.rows framework.now), UnknownFramework) ∷ (not (is_in_role tables.now.rows framework.now role.now), NotInRole) ∷ []) }
+{
+    first_case(&[
+        (is_full(limits, tables), Refusal::HistoryFull),
+        (!tables.has_framework(framework), Refusal::UnknownFramework),
+        (!tables.is_in_role(framework, role), Refusal::NotInRole),
+    ])
+}
+
+/// Why a framework that accepts an offer is refused.
+fn refuse_accept(
+    limits: &Limits,
+    tables: &Tables,
+    framework: &Name,
+    number: u64,
+    task: &Name,
+    used: &Bundle,
+    at: u64,
+    refuse_ms: u64,
+) -> Option<Refusal>
+    ensures { result ≡ refusal_of limits.now tables.now.rows (Accept framework.now number task.now used.now at refuse_ms) }
+{
+    first_case(&[
+        (is_full(limits, tables), Refusal::HistoryFull),
+        (LATEST_MOMENT < at, Refusal::BadMoment),
+        (!tables.has_framework(framework), Refusal::UnknownFramework),
+        (!has_offer(tables, number), Refusal::UnknownOffer),
+        (is_anothers(tables, framework, number), Refusal::NotYours),
+        (tables.has_task(framework, task), Refusal::KnownTask),
+        (used.is_empty(), Refusal::Empty),
+        (is_beyond(tables, number, used), Refusal::NotCovered),
+        (
+            accept_is_too_much(limits, tables, number, used, at, refuse_ms),
+            Refusal::TooMany,
+        ),
+    ])
+}
+
+/// Why a framework that declines an offer is refused.
+fn refuse_decline(
+    limits: &Limits,
+    tables: &Tables,
+    framework: &Name,
+    number: u64,
+    at: u64,
+    refuse_ms: u64,
+) -> Option<Refusal>
+    ensures { result ≡ refusal_of limits.now tables.now.rows (Decline framework.now number at refuse_ms) }
+{
+    first_case(&[
+        (is_full(limits, tables), Refusal::HistoryFull),
+        (LATEST_MOMENT < at, Refusal::BadMoment),
+        (!tables.has_framework(framework), Refusal::UnknownFramework),
+        (!has_offer(tables, number), Refusal::UnknownOffer),
+        (is_anothers(tables, framework, number), Refusal::NotYours),
+        (
+            decline_is_too_much(limits, tables, at, refuse_ms),
+            Refusal::TooMany,
+        ),
+    ])
+}
+
+/// Why an offer is not taken back.
+fn refuse_rescind(limits: &Limits, tables: &Tables, number: u64) -> Option<Refusal>
+    ensures { result ≡ refusal_of limits.now tables.now.rows (Rescind number) }
+{
+    first_case(&[
+        (is_full(limits, tables), Refusal::HistoryFull),
+        (!has_offer(tables, number), Refusal::UnknownOffer),
+    ])
+}
+
+/// Why a task does not end.
+fn refuse_finish(limits: &Limits, tables: &Tables, framework: &Name, task: &Name) -> Option<Refusal>
+    ensures { result ≡ refusal_of limits.now tables.now.rows (Finish framework.now task.now) }
+{
+    first_case(&[
+        (is_full(limits, tables), Refusal::HistoryFull),
+        (!tables.has_framework(framework), Refusal::UnknownFramework),
+        (!tables.has_task(framework, task), Refusal::UnknownTask),
+    ])
+}
+
+/// Why a weight is refused.
+fn refuse_weight(limits: &Limits, tables: &Tables, role: &Role, weight: u64) -> Option<Refusal>
+    requires { AreFew limits.now tables.now.rows }
+    ensures { result ≡ refusal_of limits.now tables.now.rows (SetWeight role.now weight) }
+{
+    first_case(&[
+        (is_full(limits, tables), Refusal::HistoryFull),
+        (is_bad_weight(weight), Refusal::BadWeight),
+        (too_many_weights(limits, tables, role), Refusal::TooMany),
+    ])
+}
+
+/// Why a cycle is refused.
+fn refuse_cycle(limits: &Limits, tables: &Tables, at: u64) -> Option<Refusal>
+    ensures { result ≡ refusal_of limits.now tables.now.rows (Cycle at) }
+{
+    first_case(&[
+        (is_full(limits, tables), Refusal::HistoryFull),
+        (LATEST_MOMENT < at, Refusal::BadMoment),
+    ])
+}
+
 /// Why an event is refused, if it is: of several cases the one of the least number.
 pub fn refusal(limits: &Limits, tables: &Tables, event: &Event) -> Option<Refusal>
     requires few { AreFew limits.now tables.now.rows }
     ensures { result ≡ refusal_of limits.now tables.now.rows event.now }
 {
-    let full = (is_full(limits, tables), Refusal::HistoryFull);
     match event {
-        Event::AddAgent { agent, total } => first_case(&[
-            full,
-            (tables.has_agent(agent), Refusal::KnownAgent),
-            (is_too_large(total), Refusal::TooLarge),
-            (
-                too_many_agents(limits, tables, agent, total),
-                Refusal::TooMany,
-            ),
-        ]),
-        Event::AddFramework { framework, roles } => first_case(&[
-            full,
-            (tables.has_framework(framework), Refusal::KnownFramework),
-            (roles.is_empty(), Refusal::Empty),
-            (too_many_frameworks(limits, tables, roles), Refusal::TooMany),
-        ]),
-        Event::SetWeight { role, weight } => first_case(&[
-            full,
-            (is_bad_weight(*weight), Refusal::BadWeight),
-            (too_many_weights(limits, tables, role), Refusal::TooMany),
-        ]),
-        Event::Cycle { at } => first_case(&[full, (LATEST_MOMENT < *at, Refusal::BadMoment)]),
-        Event::Report => first_case(&[full]),
+        Event::AddAgent { agent, total } => refuse_agent(limits, tables, agent, total),
+        Event::RemoveAgent { agent } => refuse_unknown_agent(limits, tables, agent),
+        Event::ActivateAgent { agent } => refuse_unknown_agent(limits, tables, agent),
+        Event::DeactivateAgent { agent } => refuse_unknown_agent(limits, tables, agent),
+        Event::AddFramework { framework, roles } => {
+            refuse_framework(limits, tables, framework, roles)
+        }
+        Event::RemoveFramework { framework } => refuse_unknown_framework(limits, tables, framework),
+        Event::Accept {
+            framework,
+            offer,
+            task,
+            used,
+            at,
+            refuse_ms,
+        } => refuse_accept(
+            limits, tables, framework, *offer, task, used, *at, *refuse_ms,
+        ),
+        Event::Decline {
+            framework,
+            offer,
+            at,
+            refuse_ms,
+        } => refuse_decline(limits, tables, framework, *offer, *at, *refuse_ms),
+        Event::Rescind { offer } => refuse_rescind(limits, tables, *offer),
+        Event::Finish { framework, task } => refuse_finish(limits, tables, framework, task),
+        Event::Suppress { framework, role } => refuse_unknown_client(
+            limits, tables, framework, role,
+        ),
+        Event::Revive { framework, role } => refuse_unknown_client(limits, tables, framework, role),
+        Event::SetWeight { role, weight } => refuse_weight(limits, tables, role, *weight),
+        Event::Cycle { at } => refuse_cycle(limits, tables, *at),
+        Event::Report => first_case(&[(is_full(limits, tables), Refusal::HistoryFull)]),
     }
 }

@@ -1,7 +1,7 @@
 use Rattle.std.proofs.Common.{◌∙◌}
 use Rattle.drf_rows.specs.Weights.{weights_with}
 use Rattle.drf_rows.specs.declared.rows.Rows.{Rows}
-use Rattle.drf_core.proofs.ApplyLemmas.{welcome_weight}
+use Rattle.drf_core.proofs.Welcome.{welcome_weight}
 use Rattle.drf_core.proofs.WeightLemmas.{weight_in_range, applied_weight}
 use Rattle.drf_core.proofs.apply.set_weight.Goals as goal
 

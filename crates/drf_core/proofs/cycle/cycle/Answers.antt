@@ -5,13 +5,18 @@ use Rattle.drf_rows.specs.declared.rows.Rows.{Rows}
 use Rattle.drf_core.specs.Content.{content_of}
 use Rattle.drf_core.specs.Kept.{StandAt}
 use Rattle.drf_core.specs.Drafting.{turns_of}
-use Rattle.drf_core.proofs.CycleLemmas.{drafting-begins, turns_of-cycle, new_offers-cycle, content_of-clock}
+use Rattle.drf_core.proofs.CycleLemmas.{early_moment, drafting-begins, turns_of-cycle, new_offers-cycle, content_of-clock}
 use Rattle.drf_core.proofs.cycle.cycle.Goals as goal
+
+pub set_clock-requires : goal.set_clock-requires
+set_clock-requires g c =
+    early_moment c.args.limits.now c.args.tables.now.rows c.args.at c.max.result c.requires.kept.consistent.early c.requires.welcome
+    (c.max.ensures ∙ ap (λ n. max n c.args.at) c.clock-before.ensures)
 
 pub offer_all-requires-clause-drafting : goal.offer_all-requires-clause-drafting
 offer_all-requires-clause-drafting g c =
     drafting-begins (g.S.Sorter.content c.args.sorter.now) c.args.limits.now c.args.tables.now.rows c.set_clock.new.self.rows c.max.result c.new.result.items
-    c.requires.kept c.set_clock.ensures c.new.ensures.items
+    c.requires.kept (early_moment c.args.limits.now c.args.tables.now.rows c.args.at c.max.result c.requires.kept.consistent.early c.requires.welcome (c.max.ensures ∙ ap (λ n. max n c.args.at) c.clock-before.ensures)) c.set_clock.ensures c.new.ensures.items
 
 pub returns-in-Ok-clause-lines : goal.returns-in-Ok-clause-lines
 returns-in-Ok-clause-lines g c =

@@ -1,16 +1,22 @@
-use Rattle.std.proofs.Common.{◌≤◌, ◌^◌, map, ap, ◌∙◌, sym, arith}
-use Rattle.drf_rows.specs.Step.{line_of}
+use Rattle.std.proofs.Common.{◌≡◌, ◌≤◌, ◌^◌, map, ap, ◌∙◌, sym, arith}
+use Rattle.drf_rows.specs.Step.{line_of, new_offers}
+use Rattle.drf_rows.specs.declared.rows.Rows.{Rows}
+use Rattle.drf_core.specs.Drafting.{turns_of}
 use Rattle.drf_tables.specs.DraftLaws.{next-with_offers}
 use Rattle.drf_core.proofs.CycleLemmas.{new_offers-drafts}
 use Rattle.drf_core.proofs.cycle.offer_all.Goals as goal
 
 pub commit-requires-clause-fits : goal.commit-requires-clause-fits
 commit-requires-clause-fits g c =
+    let rows : Rows = c.settle.new.self.rows in
     let offers = c.turns.new.drafts.offers in
     let early : c.args.tables.now.rows.next_offer ≤ 2 ^ 57 = c.requires.drafting.early in
-    omega (arith, next-with_offers c.args.tables.now.rows offers.items, offers.ok.0, offers.ok.1, offers.small)
+    let same : rows.next_offer ≡ c.args.tables.now.rows.next_offer = ap (λ (r : Rows). r.next_offer) c.settle.ensures.same in
+    omega (arith, next-with_offers rows offers.items, early, same, offers.ok.0, offers.ok.1, offers.small)
 
 pub returns-clause-lines : goal.returns-clause-lines
 returns-clause-lines g c =
     c.in_ok-lines.ensures
-    ∙ ap (map line_of) (c.deref.ensures.value ∙ sym (new_offers-drafts c.args.tables.now.rows c.turns.new.drafts.offers.items c.in_ok-turns.ensures.turns))
+    ∙ ap (map line_of) (c.deref.ensures.value
+    ∙ sym (new_offers-drafts c.settle.new.self.rows c.turns.new.drafts.offers.items c.in_ok-turns.ensures.turns)
+    ∙ (λ i. new_offers (c.settle.ensures.same i) (turns_of (c.settle.ensures.same i))))

@@ -3,7 +3,6 @@ use Rattle.std.specs.Option.{MatchOption}
 use Rattle.drf_bundle.specs.Bundle.{rest, quantities_of}
 use Rattle.drf_rows.specs.declared.rows.OfferRow.{OfferRow}
 use Rattle.drf_sorter.specs.Content.{with_change, charged}
-use Rattle.drf_tables.specs.Drafts.{with_offers}
 use Rattle.drf_core.proofs.DraftTried.{IsNext, next_from, known_next, sound_next, drafting_next, tried_next, free_next, tried_nothing}
 use Rattle.drf_core.proofs.cycle.try_client.Given as given
 use Rattle.drf_core.proofs.cycle.try_client.Goals.{After-quantities}
@@ -14,9 +13,9 @@ next_at : (g : given.Over) (c : After-quantities g)
     → IsNext c.args.tables.now.rows c.args.offers.now.items c.args.place c.args.client.now c.args.free.now c.in-Some.bundle c.in_ok-offer.offer
 next_at g c =
     next_from c.args.tables.now.rows c.args.offers.now.items c.args.place c.args.client.now c.args.free.now c.in-Some.bundle c.in_ok-offer.offer
-    (c.next_offer.result + c.len.result) c.agent_name.result.now
+    (c.next_offer.result + c.len.result) c.agent_name-agent.result.now
     c.requires.free c.requires.client
-    (λ rows agent client free path. sym c.in-Some.is ∙ c.in_ok-granted.ensures.granted rows agent client free path) c.agent_name.ensures
+    (λ rows agent client free name filters clock path. sym c.in-Some.is ∙ c.in_ok-granted.ensures.granted rows agent client free name filters clock path) c.agent_name-agent.ensures
     (omega (arith, c.next_offer.ensures, c.len.ensures, c.args.offers.now.ok.0)) c.in_ok-offer.ensures
 
 fits_at : (g : given.Over) (c : After-quantities g) → c.args.tables.now.rows.next_offer + length c.args.offers.now.items + 1 < 2 ^ 64
@@ -69,8 +68,9 @@ returns-clause-free g c =
 
 pub returns-in_default-clause-tried : goal.returns-in_default-clause-tried
 returns-in_default-clause-tried g c =
-    tried_nothing (with_offers c.args.tables.now.rows c.args.offers.now.items) c.args.place c.args.client.now c.args.free.now c.requires.free
-    (λ rows agent client free path. sym c.in_default.is ∙ c.in_ok-granted.ensures.granted rows agent client free path)
+    tried_nothing c.args.tables.now.rows c.args.offers.now.items c.args.place c.args.client.now c.args.free.now c.agent_name-agent.result.now c.requires.free
+    (λ rows agent client free name filters clock path. sym c.in_default.is ∙ c.in_ok-granted.ensures.granted rows agent client free name filters clock path)
+    c.agent_name-agent.ensures
 
 pub returns-in_default-clause-free : goal.returns-in_default-clause-free
 returns-in_default-clause-free g c =

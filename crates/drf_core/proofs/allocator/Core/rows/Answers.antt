@@ -1,4 +1,4 @@
-use Rattle.std.specs.Prelude.{◌≡◌, ◌≤◌, ◌^◌}
+use Rattle.std.specs.Prelude.{◌≡◌, ◌≤◌, ◌<◌, ◌^◌}
 use Rattle.std.specs.List.{AllByRecursion}
 use Rattle.std.proofs.Common.{subst, sym}
 use Rattle.std.proofs.lemmas.Result.{IfOk-weaker}
@@ -6,8 +6,7 @@ use Rattle.drf_rows.specs.Consistent.{IsConserved}
 use Rattle.drf_rows.specs.ConsistentLaws.{conserved-consistent, conserved-live}
 use Rattle.drf_rows.specs.Step.{live_rows}
 use Rattle.drf_rows.specs.declared.rows.Rows.{Rows}
-use Rattle.drf_core.specs.Machine.{Machine}
-use Rattle.drf_core.proofs.ApplyLemmas.{numbers_bounded}
+use Rattle.drf_core.proofs.KeptLemmas.{numbers_bounded, filters_bounded}
 use Rattle.drf_core.proofs.allocator.Core.rows.Goals as goal
 
 pub returns-clause-conserved : goal.returns-clause-conserved
@@ -22,4 +21,11 @@ returns-clause-numbers g c =
     let WithinBound : Rows → Type 0 = λ rows. AllByRecursion (λ o. o.number ≤ 2 ^ 56) rows.offers in
     IfOk-weaker _ (λ rows. rows ≡ live_rows c.self.inside.tables.rows) WithinBound
     (λ rows is. subst WithinBound (sym is) (numbers_bounded _ c.self.inside.limits c.self.inside.tables.rows c.self.invariant))
+    c.rows.ensures
+
+pub returns-clause-filters : goal.returns-clause-filters
+returns-clause-filters g c =
+    let WithinBound : Rows → Type 0 = λ rows. AllByRecursion (λ f. f.until < 2 ^ 63) rows.filters in
+    IfOk-weaker _ (λ rows. rows ≡ live_rows c.self.inside.tables.rows) WithinBound
+    (λ rows is. subst WithinBound (sym is) (filters_bounded c.self.inside.tables.rows c.self.invariant.consistent))
     c.rows.ensures

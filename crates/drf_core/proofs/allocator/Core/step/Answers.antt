@@ -1,47 +1,87 @@
-use Rattle.std.proofs.Common.{◌+◌, refl, ap, ◌∙◌, sym, arith}
+use Rattle.std.proofs.Common.{◌≡◌, ◌+◌, None, Result, Ok, Err, refl, ap, subst, ◌∙◌, sym, arith}
+use Rattle.std.specs.Result.{OnErr}
 use Rattle.drf_rows.specs.Step.{live_rows, refusal_of, reply_to, rows_after}
-use Rattle.drf_rows.specs.StepLaws.{reply_to-refused, reply_to-accepted}
 use Rattle.drf_rows.specs.declared.rows.Rows.{Rows}
 use Rattle.drf_core.specs.Machine.{Machine}
-use Rattle.drf_core.proofs.ApplyLemmas.{room_for}
-use Rattle.drf_core.proofs.StepLemmas.{IsAfter-refused, rows_after-counted, accepted-applied, IsKept-counted}
+use Rattle.drf_core.proofs.Welcome.{room_for}
+use Rattle.drf_core.proofs.StepLemmas.{IsKept-forgot, refused_from, welcome_from, accepted_from, rows_after-counted, accepted-applied, IsKept-counted}
 use Rattle.drf_core.proofs.allocator.Core.step.Goals as goal
+
+pub refusal-requires : goal.refusal-requires
+refusal-requires g c = record {
+  few = (IsKept-forgot (g.S.Sorter.content c.self.inside.sorter) c.self.inside.limits c.self.inside.tables.rows c.forget_spent.new.self.rows
+      c.self.invariant c.forget_spent.ensures.others c.forget_spent.ensures.consistent).few;
+}
 
 -- a refused event
 pub returns-in-Some-clause-reply : goal.returns-in-Some-clause-reply
 returns-in-Some-clause-reply g c =
-    sym (reply_to-refused c.self.inside.limits c.self.inside.tables.rows c.args.event c.in-Some.refusal (sym c.in-Some.ensures))
+    (refused_from c.self.inside.limits c.forget_spent.new.self.rows c.self.inside.tables.rows c.args.event c.forget_spent.ensures.live c.in-Some.refusal (sym c.in-Some.ensures)).0
     ∙ ap (λ (m : Machine). reply_to m.limits m.rows c.args.event) c.self.view_is
 
 pub returns-in-Some-clause-ok : goal.returns-in-Some-clause-ok
-returns-in-Some-clause-ok g c =
-    IsAfter-refused c.args.self.now c.args.event c.in-Some.refusal
-    (ap (λ (m : Machine). refusal_of m.limits m.rows c.args.event) (sym c.self.view_is) ∙ sym c.in-Some.ensures)
+returns-in-Some-clause-ok g c = record {
+  limits = ap (λ (m : Machine). m.limits) c.self.view_is;
+  rows = (refused_from c.self.inside.limits c.forget_spent.new.self.rows c.self.inside.tables.rows c.args.event c.forget_spent.ensures.live c.in-Some.refusal (sym c.in-Some.ensures)).1
+      ∙ ap (λ (m : Machine). live_rows (rows_after m.limits m.rows c.args.event)) c.self.view_is;
+}
+
+pub invariant_of-self : goal.invariant_of-self
+invariant_of-self g c =
+    IsKept-forgot (g.S.Sorter.content c.self.inside.sorter) c.self.inside.limits c.self.inside.tables.rows c.forget_spent.new.self.rows
+    c.self.invariant c.forget_spent.ensures.others c.forget_spent.ensures.consistent
 
 -- an accepted one
+pub apply-requires-clause-kept : goal.apply-requires-clause-kept
+apply-requires-clause-kept g c =
+    IsKept-forgot (g.S.Sorter.content c.self.inside.sorter) c.self.inside.limits c.self.inside.tables.rows c.forget_spent.new.self.rows
+    c.self.invariant c.forget_spent.ensures.others c.forget_spent.ensures.consistent
+
 pub count_event-requires : goal.count_event-requires
 count_event-requires g c =
-    let rows : Rows = c.self.inside.tables.rows in
+    let rows : Rows = c.forget_spent.new.self.rows in
+    let kept = IsKept-forgot (g.S.Sorter.content c.self.inside.sorter) c.self.inside.limits c.self.inside.tables.rows rows
+    c.self.invariant c.forget_spent.ensures.others c.forget_spent.ensures.consistent in
     let room = room_for c.self.inside.limits rows c.args.event (sym c.in_default.ensures) in
-    let same = accepted-applied c.self.inside.limits rows c.apply.new.tables.rows (record c.apply.new.tables.rows { accepted = c.apply.new.tables.rows.accepted + 1 }) c.args.event (sym c.in_default.ensures) c.in_ok-reply.ensures.ok.same refl in
+    let same = accepted-applied c.self.inside.limits rows c.apply.new.tables.rows (record c.apply.new.tables.rows { accepted = c.apply.new.tables.rows.accepted + 1 }) c.args.event
+    (g.S.Sorter.content c.self.inside.sorter) kept (sym c.in_default.ensures) c.in_ok-reply.ensures.ok.same refl in
     omega (arith, same, room, c.self.invariant.few.ceilings.events.1)
 
 pub returns-clause-reply : goal.returns-clause-reply
 returns-clause-reply g c =
     c.in_ok-reply.ensures.reply
-    ∙ sym (reply_to-accepted c.self.inside.limits c.self.inside.tables.rows c.args.event (sym c.in_default.ensures))
+    ∙ (accepted_from c.self.inside.limits c.forget_spent.new.self.rows c.self.inside.tables.rows c.args.event c.forget_spent.ensures.live (sym c.in_default.ensures)).0
     ∙ ap (λ (m : Machine). reply_to m.limits m.rows c.args.event) c.self.view_is
 
 pub returns-clause-ok : goal.returns-clause-ok
 returns-clause-ok g c =
-    let rows : Rows = c.self.inside.tables.rows in
-    let stepped = rows_after-counted c.self.inside.limits rows c.apply.new.tables.rows c.count_event.new.self.rows c.args.event (sym c.in_default.ensures) c.in_ok-reply.ensures.ok.same c.count_event.ensures.counted in
+    let rows : Rows = c.forget_spent.new.self.rows in
+    let kept = IsKept-forgot (g.S.Sorter.content c.self.inside.sorter) c.self.inside.limits c.self.inside.tables.rows rows
+    c.self.invariant c.forget_spent.ensures.others c.forget_spent.ensures.consistent in
+    let stepped = rows_after-counted c.self.inside.limits rows c.apply.new.tables.rows c.count_event.new.self.rows c.args.event
+    (g.S.Sorter.content c.self.inside.sorter) kept (sym c.in_default.ensures) c.in_ok-reply.ensures.ok.same c.count_event.ensures.counted in
     record {
       limits = ap (λ (m : Machine). m.limits) c.self.view_is;
-      rows = ap live_rows (stepped ∙ ap (λ (m : Machine). rows_after m.limits m.rows c.args.event) c.self.view_is);
+      rows = ap live_rows stepped
+          ∙ (accepted_from c.self.inside.limits rows c.self.inside.tables.rows c.args.event c.forget_spent.ensures.live (sym c.in_default.ensures)).1
+          ∙ ap (λ (m : Machine). live_rows (rows_after m.limits m.rows c.args.event)) c.self.view_is;
     }
+
+on_err : {T E P : Type 0} (r : Result T E) → P → OnErr r P
+on_err (Ok x) fact = tt
+on_err (Err fault) fact = fact
+
+pub returns-in_err-reply-clause-not_refused : goal.returns-in_err-reply-clause-not_refused
+returns-in_err-reply-clause-not_refused g c =
+    on_err c.from_residual.result
+    (subst (λ (m : Machine). refusal_of m.limits m.rows c.args.event ≡ None) c.self.view_is
+    (welcome_from c.self.inside.limits c.forget_spent.new.self.rows c.self.inside.tables.rows c.args.event c.forget_spent.ensures.live (sym c.in_default.ensures)))
 
 pub invariant_of-self-2 : goal.invariant_of-self-2
 invariant_of-self-2 g c =
-    IsKept-counted c.self.inside.limits c.self.inside.tables.rows c.apply.new.tables.rows c.count_event.new.self.rows c.args.event (sym c.in_default.ensures) c.in_ok-reply.ensures.ok.same c.count_event.ensures.counted
-    (g.S.Sorter.content c.self.inside.sorter) (g.S.Sorter.content c.apply.new.sorter) c.self.invariant c.in_ok-reply.ensures.ok.sorted c.count_event.ensures.consistent
+    let rows : Rows = c.forget_spent.new.self.rows in
+    let kept = IsKept-forgot (g.S.Sorter.content c.self.inside.sorter) c.self.inside.limits c.self.inside.tables.rows c.forget_spent.new.self.rows
+    c.self.invariant c.forget_spent.ensures.others c.forget_spent.ensures.consistent in
+    IsKept-counted c.self.inside.limits rows c.apply.new.tables.rows c.count_event.new.self.rows c.args.event (g.S.Sorter.content c.self.inside.sorter) kept
+    (sym c.in_default.ensures) c.in_ok-reply.ensures.ok.same c.count_event.ensures.counted
+    (g.S.Sorter.content c.apply.new.sorter) c.in_ok-reply.ensures.ok.sorted c.count_event.ensures.consistent

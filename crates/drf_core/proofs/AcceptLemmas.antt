@@ -1,0 +1,224 @@
+-- What the tables and the sorter stand at once an offer is accepted or declined.
+use Rattle.std.proofs.Common.{◌≡◌, ℕ, ◌≤◌, Bool, true, false, List, [], ◌∷◌, ◌++◌, Option, Some, None, map, refl, sym, ap, subst, ◌∙◌, arith, nat_lt}
+use Rattle.std.specs.Prelude.{◌&&◌, ◌==◌, is_some, max, not, if◌then◌else◌}
+use Rattle.std.specs.List.{AllByRecursion}
+use Rattle.std.specs.Option.{option_map_or}
+use Rattle.std.proofs.lemmas.List.{append-nil}
+use Rattle.drf_role.specs.Text.{Text, same_text}
+use Rattle.drf_role.specs.TextLaws.{same_from_test}
+use Rattle.drf_role.specs.Path.{Path, client_path}
+use Rattle.drf_bundle.specs.Bundle.{IsBundle, covers, rest, quantities_of}
+use Rattle.drf_bundle.specs.RestLaws.{bundle-rest}
+use Rattle.drf_bundle.specs.declared.quantities.Entry.{Entry}
+use Rattle.drf_bundle.specs.declared.resource.Resource.{Resource}
+use Rattle.drf_rows.specs.Consistent.{IsHeld, IsFilter, IsConsistent}
+use Rattle.drf_rows.specs.Cycle.{at_moment}
+use Rattle.drf_rows.specs.EndingLaws.{offer_at-place, held_where-accepted}
+use Rattle.drf_rows.specs.Endings.{without_ended, one_offer}
+use Rattle.drf_rows.specs.Holdings.{Holding, of_offer, of_task, is_of}
+use Rattle.drf_rows.specs.ListLaws.{each_find}
+use Rattle.drf_rows.specs.Offers.{Start, accepted, declined, filter_of, filters_with, has_offer, has_task, is_empty, offer_at, refused_until, refuses_all, task_of}
+use Rattle.drf_rows.specs.Step.{effect}
+use Rattle.drf_rows.specs.declared.event.Event.TheVariants.{Accept, Decline}
+use Rattle.drf_rows.specs.declared.limits.TheConstants.{LATEST_MOMENT}
+use Rattle.drf_rows.specs.declared.rows.FilterRow.{FilterRow}
+use Rattle.drf_rows.specs.declared.rows.OfferRow.{OfferRow}
+use Rattle.drf_rows.specs.declared.rows.Rows.{Rows}
+use Rattle.drf_sorter.specs.Content.{Content, has_client, with_change, refunded, HoldsAt}
+use Rattle.drf_tables.specs.Ended.{CanAccept, with_accepted}
+use Rattle.drf_core.specs.Accepting.{CanStart, filter_if}
+use Rattle.drf_core.specs.Content.{content_of}
+use Rattle.drf_core.specs.Kept.{StandAt}
+use Rattle.drf_core.proofs.ContentEnded.{GaveBack, content_of-gave_back, HoldsAt-gave_back}
+use Rattle.drf_core.proofs.EndedLemmas.{known-client}
+use Rattle.drf_core.proofs.Welcome.{not_not, IsWelcomeAccept}
+
+-- ---- an offer that stands
+
+each_offer : (P : Holding → Type 0) (os : List OfferRow) (hs : List Holding)
+    → AllByRecursion P (map of_offer os ++ hs) → AllByRecursion (λ o. P (of_offer o)) os
+each_offer P [] hs all = tt
+each_offer P (o ∷ os) hs all = (all.0, each_offer P os hs all.1)
+
+-- is held by a registered client
+pub offer_held : (rows : Rows) (number : ℕ) (o : OfferRow) → IsConsistent rows → offer_at rows number ≡ Some o
+    → IsHeld rows.agents rows.frameworks (of_offer o)
+offer_held rows number o right found =
+    let Held : Holding → Type 0 = IsHeld rows.agents rows.frameworks in
+    each_find (λ o. Held (of_offer o)) (λ o. o.number == number) rows.offers o
+    (each_offer Held rows.offers (map of_task rows.tasks) right.holdings) found
+
+-- and may have a filter
+pub offer_filter : (rows : Rows) (number : ℕ) (o : OfferRow) (bundle : List Resource) (moment refuse_ms : ℕ)
+    → IsConsistent rows → offer_at rows number ≡ Some o → IsBundle bundle → moment ≤ LATEST_MOMENT
+    → IsFilter rows.agents rows.frameworks (filter_of o bundle (refused_until moment refuse_ms))
+offer_filter rows number o bundle moment refuse_ms right found is early =
+    let held = offer_held rows number o right found in
+    record { agent = held.agent; client = held.client; bundle = is; until = omega (arith, early) }
+
+-- some offer stands
+pub record IsOffer (rows : Rows) (number : ℕ) : Type 0 where
+  pub offer : OfferRow
+  pub at : offer_at rows number ≡ Some offer
+
+pub some_offer : (rows : Rows) (number : ℕ) → has_offer rows number ≡ true → IsOffer rows number
+some_offer rows number known = by (offer_at rows number) refl known
+  where
+    by : (found : Option OfferRow) → offer_at rows number ≡ found → is_some found ≡ true → IsOffer rows number
+    by None none some = cc
+    by (Some o) at some = record { offer = o; at = at }
+
+-- the offer of a number is one
+pub same_offer : (rows : Rows) (number : ℕ) (o p : OfferRow) → offer_at rows number ≡ Some o → offer_at rows number ≡ Some p → o ≡ p
+same_offer rows number o p one other =
+    let e : Some o ≡ Some p = sym one ∙ other in
+    cc
+
+-- the clock stays within its range
+pub moment_early : (rows : Rows) (at moment : ℕ) → IsConsistent rows → at ≤ LATEST_MOMENT → moment ≡ max rows.clock at → moment ≤ LATEST_MOMENT
+moment_early rows at moment right late same =
+    let early : rows.clock ≤ LATEST_MOMENT = right.early in
+    omega (arith, early, late, same)
+
+-- ---- it is accepted
+
+-- an offer that may be accepted can be
+pub can_start : (rows : Rows) (framework : Text) (number : ℕ) (task : Text) (used : List Resource) (at : ℕ)
+    → IsWelcomeAccept rows framework number task used at → CanStart rows number (task, used)
+can_start rows framework number task used at welcome =
+    let one = some_offer rows number welcome.stands in
+    let its_own : not (same_text one.offer.framework framework) ≡ false
+    = sym (ap (λ (o : Option OfferRow). option_map_or (λ o. not (same_text o.framework framework)) o false) one.at) ∙ welcome.its_own in
+    let framework_is = same_from_test one.offer.framework framework (not_not (same_text one.offer.framework framework) its_own) in
+    record {
+      offer = one.offer;
+      at = one.at;
+      covered = not_not (covers one.offer.bundle used)
+          (sym (ap (λ (o : Option OfferRow). option_map_or (λ o. not (covers o.bundle used)) o false) one.at) ∙ welcome.covered);
+      new = ap (λ (f : Text). has_task rows f task) framework_is ∙ welcome.new;
+    }
+
+pub covered_at : (rows : Rows) (number : ℕ) (start : Start) (o : OfferRow) → CanStart rows number start → offer_at rows number ≡ Some o
+    → covers o.bundle start.1 ≡ true
+covered_at rows number start o can found =
+    subst (λ (p : OfferRow). covers p.bundle start.1 ≡ true) (same_offer rows number can.offer o can.at found) can.covered
+
+-- the filter, if there is to be one, is that
+the_filter : (b : Bool) (filter f : FilterRow) → filter_if b filter ≡ Some f → filter ≡ f
+the_filter true filter f same = cc
+the_filter false filter f same = cc
+
+pub can_accept : (rows : Rows) (number : ℕ) (start : Start) (o : OfferRow) (filter : Option FilterRow) (b : Bool) (moment refuse_ms : ℕ)
+    → IsConsistent rows → CanStart rows number start → offer_at rows number ≡ Some o → moment ≤ LATEST_MOMENT
+    → filter ≡ filter_if b (filter_of o (rest o.bundle start.1) (refused_until moment refuse_ms))
+    → CanAccept rows number start filter
+can_accept rows number start o filter b moment refuse_ms right can found early told = record {
+  offer = can.offer;
+  at = can.at;
+  covered = can.covered;
+  new = can.new;
+  filter = λ f some.
+      subst (IsFilter rows.agents rows.frameworks)
+      (the_filter b (filter_of o (rest o.bundle start.1) (refused_until moment refuse_ms)) f (sym told ∙ some))
+      (offer_filter rows number o (rest o.bundle start.1) moment refuse_ms right found
+      (bundle-rest o.bundle start.1 (offer_held rows number o right found).bundle) early);
+}
+
+push_if : (b : Bool) (filters : List FilterRow) (f : FilterRow)
+    → filters ++ option_map_or (λ f. f ∷ []) (filter_if b f) [] ≡ (if b then filters ++ f ∷ [] else filters)
+push_if true filters f = refl
+push_if false filters f = append-nil filters
+
+-- what the tables then hold
+pub rows_accepted : (rows tables : Rows) (o : OfferRow) (start : Start) (filter : Option FilterRow) (at moment refuse_ms : ℕ)
+    → moment ≡ max rows.clock at
+    → filter ≡ filter_if (nat_lt 0 refuse_ms && not (is_empty (rest o.bundle start.1))) (filter_of o (rest o.bundle start.1) (refused_until moment refuse_ms))
+    → tables ≡ record (with_accepted rows o start filter) { clock = moment }
+    → tables ≡ accepted (at_moment rows at) o (start ∷ []) refuse_ms
+rows_accepted rows tables o start filter at moment refuse_ms later told same =
+    let b : Bool = nat_lt 0 refuse_ms && not (is_empty (rest o.bundle start.1)) in
+    let f : FilterRow = filter_of o (rest o.bundle start.1) (refused_until moment refuse_ms) in
+    let filters : rows.filters ++ option_map_or (λ f. f ∷ []) filter [] ≡ (if b then rows.filters ++ f ∷ [] else rows.filters)
+    = ap (λ (o : Option FilterRow). rows.filters ++ option_map_or (λ f. f ∷ []) o []) told ∙ push_if b rows.filters f in
+    let filters_now : (if b then rows.filters ++ f ∷ [] else rows.filters) ≡ filters_with (at_moment rows at) b o (rest o.bundle start.1) refuse_ms
+    = λ i. if b then rows.filters ++ filter_of o (rest o.bundle start.1) (refused_until (later i) refuse_ms) ∷ [] else rows.filters in
+    same
+    ∙ (λ i. record (without_ended rows (one_offer o.number)) {
+      tasks = rows.tasks ++ task_of o start ∷ [];
+      filters = (filters ∙ filters_now) i;
+      clock = later i;
+    })
+
+module _ (rows : Rows) (number : ℕ) (o : OfferRow) (task : Text) (used : List Resource) (at refuse_ms : ℕ) (content : Content) (path : Path) (quantities : List Entry)
+    (right : IsConsistent rows) (sorted : content ≡ content_of rows) (found : offer_at rows number ≡ Some o)
+    (is : IsBundle used) (covered : covers o.bundle used ≡ true)
+    (joined : path ≡ client_path o.role o.framework) (told : quantities ≡ quantities_of (rest o.bundle used)) where
+  abbrev new : Rows
+  new = accepted (at_moment rows at) o ((task, used) ∷ []) refuse_ms
+
+  gave : GaveBack rows new path quantities
+  gave = rw (joined, told) (record {
+    agents = refl;
+    frameworks = refl;
+    weights = refl;
+    out = λ other label. held_where-accepted rows number o task used [] right found (is_of other) label is covered refl;
+  })
+
+  pub known-accepted : has_client content path ≡ true
+  known-accepted = known-client rows o.role o.framework content path sorted joined (offer_held rows number o right found).client
+
+  pub held-accepted : HoldsAt content path quantities
+  held-accepted = subst (λ (k : Content). HoldsAt k path quantities) (sym sorted) (HoldsAt-gave_back rows new path quantities gave)
+
+  pub applied_accept : (tables : Rows) (after : Content) → tables ≡ accepted (at_moment rows at) o ((task, used) ∷ []) refuse_ms
+      → after ≡ with_change content path (refunded quantities)
+      → StandAt (accepted (at_moment rows at) o ((task, used) ∷ []) refuse_ms) tables after
+  applied_accept tables after same changed = record {
+    same = same;
+    sorted = changed
+        ∙ ap (λ (k : Content). with_change k path (refunded quantities)) sorted
+        ∙ content_of-gave_back rows new path quantities gave;
+  }
+
+-- ---- it is declined
+
+-- the sorter knows neither filters nor the clock
+pub sorted-declined : (rows tables : Rows) (filters : List FilterRow) (moment : ℕ) (content : Content)
+    → content ≡ content_of rows → tables ≡ record rows { filters = filters; clock = moment } → content ≡ content_of tables
+unfolding content_of
+sorted-declined rows tables filters moment content sorted same = sorted ∙ sym (ap content_of same)
+
+pub applied_decline : (rows middle tables : Rows) (number : ℕ) (o : OfferRow) (at moment refuse_ms : ℕ) (content : Content)
+    → offer_at rows number ≡ Some o → moment ≡ max rows.clock at
+    → middle ≡ record rows { filters = filters_with (record rows { clock = moment }) (refuses_all refuse_ms) o o.bundle refuse_ms; clock = moment }
+    → StandAt (without_ended middle (one_offer number)) tables content
+    → StandAt (declined (at_moment rows at) o refuse_ms) tables content
+applied_decline rows middle tables number o at moment refuse_ms content found later same ended =
+    let number_is : number ≡ o.number = sym (offer_at-place rows number o found).1 in
+    let rows_is : without_ended middle (one_offer number) ≡ declined (at_moment rows at) o refuse_ms
+    = ap (λ (r : Rows). without_ended r (one_offer number)) same
+    ∙ (λ i. record (without_ended rows (one_offer (number_is i))) {
+      filters = filters_with (record rows { clock = later i }) (refuses_all refuse_ms) o o.bundle refuse_ms;
+      clock = later i;
+    }) in
+    subst (λ (r : Rows). StandAt r tables content) rows_is ended
+
+-- ---- the effects
+
+pub effect-accept : (rows tables : Rows) (framework : Text) (number : ℕ) (task : Text) (used : List Resource) (at refuse_ms : ℕ) (content : Content)
+    → has_offer rows number ≡ true
+    → ((o : OfferRow) → offer_at rows number ≡ Some o → StandAt (accepted (at_moment rows at) o ((task, used) ∷ []) refuse_ms) tables content)
+    → StandAt (effect rows (Accept framework number task used at refuse_ms)) tables content
+unfolding effect
+effect-accept rows tables framework number task used at refuse_ms content stands each =
+    let one = some_offer rows number stands in
+    rw one.at (each one.offer one.at)
+
+pub effect-decline : (rows tables : Rows) (framework : Text) (number at refuse_ms : ℕ) (content : Content)
+    → has_offer rows number ≡ true
+    → ((o : OfferRow) → offer_at rows number ≡ Some o → StandAt (declined (at_moment rows at) o refuse_ms) tables content)
+    → StandAt (effect rows (Decline framework number at refuse_ms)) tables content
+unfolding effect
+effect-decline rows tables framework number at refuse_ms content stands each =
+    let one = some_offer rows number stands in
+    rw one.at (each one.offer one.at)

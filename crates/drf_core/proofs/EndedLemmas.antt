@@ -1,0 +1,200 @@
+-- What the tables and the sorter stand at once something has ended.
+use Rattle.std.proofs.Common.{◌≡◌, Bool, true, false, List, [], ◌∷◌, Some, refl, sym, ap, subst, ◌∙◌, inl, inr}
+use Rattle.std.specs.Prelude.{not, filter, find}
+use Rattle.std.specs.List.{list_any}
+use Rattle.std.proofs.lemmas.Bool.{cases_Bool}
+use Rattle.drf_role.specs.Text.{Text, same_text}
+use Rattle.drf_role.specs.Path.{Path, client_path}
+use Rattle.drf_bundle.specs.Bundle.{quantities_of}
+use Rattle.drf_bundle.specs.declared.quantities.Entry.{Entry}
+use Rattle.drf_rows.specs.Client.{Client}
+use Rattle.drf_rows.specs.Held.{cluster_total, is_registered}
+use Rattle.drf_rows.specs.Holdings.{is_of}
+use Rattle.drf_rows.specs.Endings.{Ending, ends_offer, ends_task, without_ended, offers_on, all_on, all_of}
+use Rattle.drf_rows.specs.Members.{with_activity, with_suppression, revived, agent_removed, framework_removed}
+use Rattle.drf_rows.specs.Filters.{without_agent, without_client, without_framework}
+use Rattle.drf_rows.specs.Consistent.{AreFrameworks}
+use Rattle.drf_rows.specs.Step.{effect}
+use Rattle.drf_rows.specs.declared.event.Event.TheVariants.{RemoveAgent, ActivateAgent, DeactivateAgent, RemoveFramework, Suppress, Revive}
+use Rattle.drf_rows.specs.declared.rows.FrameworkRow.{FrameworkRow}
+use Rattle.drf_rows.specs.declared.rows.Rows.{Rows}
+use Rattle.drf_sorter.specs.Content.{Content, has_client, with_change, refunded, HoldsAt}
+use Rattle.drf_sorter.specs.Content as sorter
+use Rattle.drf_tables.specs.Ended.{HasEnded}
+use Rattle.drf_tables.specs.declared.holdings.Held.{Held}
+use Rattle.drf_core.specs.Content.{content_of}
+use Rattle.drf_core.specs.Kept.{StandAt}
+use Rattle.drf_core.specs.Registering.{AreKnown, client_paths, without_all}
+use Rattle.drf_core.proofs.ContentEnded.{GaveBack, content_of-gave_back, HoldsAt-gave_back}
+use Rattle.drf_core.proofs.ContentMembers.{content_of-filters, content_of-activity, content_of-suppression, content_of-agent_removed}
+use Rattle.drf_core.proofs.ContentRegister.{has_client-registered}
+use Rattle.drf_core.proofs.ContentRemoved.{AreKnown-removing, content_of-framework_removed}
+
+-- ---- one holding ended
+
+module _ (old new : Rows) (ending : Ending) (held : Held) (ended : HasEnded old new ending held) (content : Content) (sorted : content ≡ content_of old) where
+  gave : GaveBack old new held.client (quantities_of held.bundle)
+  gave = rw (ended.path, ended.bundle) (record {
+    agents = ap (λ (r : Rows). r.agents) ended.others;
+    frameworks = ap (λ (r : Rows). r.frameworks) ended.others;
+    weights = ap (λ (r : Rows). r.weights) ended.others;
+    out = λ other label. ended.out (is_of other) label;
+  })
+
+  pub known-ended : has_client content held.client ≡ true
+  known-ended =
+      (λ i. has_client (sorted i) (ended.path i)) ∙ has_client-registered old ended.holding.client ended.registered
+
+  pub held-ended : HoldsAt content held.client (quantities_of held.bundle)
+  held-ended =
+      subst (λ (k : Content). HoldsAt k held.client (quantities_of held.bundle)) (sym sorted)
+      (HoldsAt-gave_back old new held.client (quantities_of held.bundle) gave)
+
+  pub sorted-ended : with_change content held.client (refunded (quantities_of held.bundle)) ≡ content_of new
+  sorted-ended =
+      ap (λ (k : Content). with_change k held.client (refunded (quantities_of held.bundle))) sorted
+      ∙ content_of-gave_back old new held.client (quantities_of held.bundle) gave
+
+-- ---- all that ends has ended
+
+filter-twice : {X : Type 0} (p : X → Bool) (xs : List X) → filter p (filter p xs) ≡ filter p xs
+filter-twice p [] = refl
+filter-twice p (x ∷ xs) = elim (cases_Bool (p x)) [
+  | inl here ↦ rw here (rw here (ap (λ ys. x ∷ ys) (filter-twice p xs)))
+  | inr past ↦ rw past (filter-twice p xs)
+]
+
+ended_twice : (rows : Rows) (ending : Ending) → without_ended (without_ended rows ending) ending ≡ without_ended rows ending
+ended_twice rows ending = λ i. record rows {
+  offers = filter-twice (λ o. not (ends_offer ending o)) rows.offers i;
+  tasks = filter-twice (λ t. not (ends_task ending t)) rows.tasks i;
+}
+
+-- nothing is left that ends
+pub nothing_left : (rows middle : Rows) (ending : Ending) → middle ≡ without_ended rows ending → without_ended middle ending ≡ middle
+nothing_left rows middle ending same =
+    ap (λ (r : Rows). without_ended r ending) same ∙ ended_twice rows ending ∙ sym same
+
+-- ---- agents
+
+pub applied_activation : (rows tables : Rows) (name : Text) (content : Content)
+    → content ≡ content_of rows → tables ≡ record rows { agents = with_activity rows name true }
+    → StandAt (effect rows (ActivateAgent name)) tables content
+unfolding effect
+applied_activation rows tables name content sorted set = record {
+  same = set;
+  sorted = sorted ∙ sym (content_of-activity rows name true);
+}
+
+pub applied_deactivation : (rows middle tables : Rows) (name : Text) (content : Content)
+    → StandAt (without_ended rows (offers_on name)) middle content
+    → tables ≡ record middle { agents = with_activity middle name false }
+    → StandAt (effect rows (DeactivateAgent name)) tables content
+unfolding effect
+applied_deactivation rows middle tables name content ended set = record {
+  same = set ∙ (λ i. record (ended.same i) { agents = with_activity (ended.same i) name false });
+  sorted = ended.sorted ∙ sym (content_of-activity (without_ended rows (offers_on name)) name false);
+}
+
+pub applied_departure : (rows middle tables : Rows) (name : Text) (content after : Content) (total : List Entry)
+    → StandAt (without_ended rows (all_on name)) middle content
+    → tables ≡ agent_removed middle name
+    → after ≡ record content { total = total }
+    → total ≡ cluster_total (filter (λ a. not (same_text a.name name)) rows.agents)
+    → StandAt (effect rows (RemoveAgent name)) tables after
+unfolding effect
+applied_departure rows middle tables name content after total ended removed set sum =
+    let start : Rows = without_ended rows (all_on name) in
+    let twice = ended_twice rows (all_on name) in
+    let same : agent_removed start name ≡ agent_removed rows name
+    = λ i. record (twice i) { agents = filter (λ a. not (same_text a.name name)) rows.agents; filters = without_agent name rows.filters } in
+    record {
+      same = removed ∙ ap (λ (r : Rows). agent_removed r name) ended.same ∙ same;
+      sorted = set
+          ∙ (λ i. record (ended.sorted i) { total = sum i })
+          ∙ sym (content_of-agent_removed start name twice)
+          ∙ ap content_of same;
+    }
+
+-- ---- frameworks
+
+-- the one that is found
+pub record IsFound {X : Type 0} (p : X → Bool) (xs : List X) : Type 0 where
+  pub one : X
+  pub found : find p xs ≡ Some one
+
+pub one_found : {X : Type 0} (p : X → Bool) (xs : List X) → list_any p xs ≡ true → IsFound p xs
+one_found p [] some = cc
+one_found p (x ∷ xs) some = elim (cases_Bool (p x)) [
+  | inl here ↦ record { one = x; found = rw here refl }
+  | inr past ↦
+      let later = one_found p xs (rw past at some) in
+      record { one = later.one; found = rw past later.found }
+]
+
+-- its clients can be removed from the sorter
+pub AreKnown-ended : (rows : Rows) (name : Text) (f : FrameworkRow) (content : Content) (paths : List Path)
+    → AreFrameworks rows.frameworks → find (λ f. same_text f.name name) rows.frameworks ≡ Some f
+    → content ≡ content_of (without_ended rows (all_of name)) → paths ≡ client_paths name f.clients
+    → AreKnown content paths
+AreKnown-ended rows name f content paths right found sorted same =
+    rw (sorted, same) (AreKnown-removing (without_ended rows (all_of name)) name f right found)
+
+pub applied_leaving : (rows middle tables : Rows) (name : Text) (f : FrameworkRow) (content after : Content) (paths : List Path)
+    → AreFrameworks rows.frameworks → find (λ f. same_text f.name name) rows.frameworks ≡ Some f
+    → StandAt (without_ended rows (all_of name)) middle content
+    → tables ≡ framework_removed middle name
+    → after ≡ without_all content paths
+    → paths ≡ client_paths name f.clients
+    → StandAt (effect rows (RemoveFramework name)) tables after
+unfolding effect
+applied_leaving rows middle tables name f content after paths right found ended removed taken told =
+    let start : Rows = without_ended rows (all_of name) in
+    let twice = ended_twice rows (all_of name) in
+    let same : framework_removed start name ≡ framework_removed rows name
+    = λ i. record (twice i) { frameworks = filter (λ f. not (same_text f.name name)) rows.frameworks; filters = without_framework name rows.filters } in
+    record {
+      same = removed ∙ ap (λ (r : Rows). framework_removed r name) ended.same ∙ same;
+      sorted = taken
+          ∙ (λ i. without_all (ended.sorted i) (told i))
+          ∙ content_of-framework_removed start name f right found twice
+          ∙ ap content_of same;
+    }
+
+-- ---- clients
+
+pub known-client : (rows : Rows) (role : Path) (framework : Text) (content : Content) (path : Path)
+    → content ≡ content_of rows → path ≡ client_path role framework
+    → is_registered rows.frameworks (record { role = role; framework = framework }) ≡ true
+    → has_client content path ≡ true
+known-client rows role framework content path sorted is known =
+    (λ i. has_client (sorted i) (is i)) ∙ has_client-registered rows (record { role = role; framework = framework }) known
+
+pub applied_suppression : (rows tables : Rows) (role : Path) (framework : Text) (content after : Content) (path : Path)
+    → content ≡ content_of rows → path ≡ client_path role framework
+    → tables ≡ record rows { frameworks = with_suppression rows (record { role = role; framework = framework }) true }
+    → after ≡ with_change content path (sorter.activated false)
+    → StandAt (effect rows (Suppress framework role)) tables after
+unfolding effect
+applied_suppression rows tables role framework content after path sorted is set changed = record {
+  same = set;
+  sorted = changed
+      ∙ (λ i. with_change (sorted i) (is i) (sorter.activated false))
+      ∙ sym (content_of-suppression rows (record { role = role; framework = framework }) true);
+}
+
+pub applied_revival : (rows tables : Rows) (role : Path) (framework : Text) (content after : Content) (path : Path)
+    → content ≡ content_of rows → path ≡ client_path role framework
+    → tables ≡ revived rows (record { role = role; framework = framework })
+    → after ≡ with_change content path (sorter.activated true)
+    → StandAt (effect rows (Revive framework role)) tables after
+unfolding effect
+applied_revival rows tables role framework content after path sorted is set changed =
+    let client : Client = record { role = role; framework = framework } in
+    record {
+      same = set;
+      sorted = changed
+          ∙ (λ i. with_change (sorted i) (is i) (sorter.activated true))
+          ∙ sym (content_of-suppression rows client false)
+          ∙ sym (content_of-filters (record rows { frameworks = with_suppression rows client false }) (without_client client rows.filters));
+    }

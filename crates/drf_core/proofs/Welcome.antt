@@ -1,0 +1,156 @@
+-- Events that are not refused: no case of refusal holds.
+use Rattle.std.proofs.Common.{◌≡◌, ℕ, ◌<◌, ◌≤◌, Bool, true, false, List, [], ◌∷◌, None, refl, sym, inl, inr, arith, nat_lt}
+use Rattle.std.specs.Prelude.{◌||◌, not}
+use Rattle.std.specs.List.{list_any, AllByRecursion}
+use Rattle.std.proofs.lemmas.Bool.{cases_Bool, false≢true, ltb-false, leb-false}
+use Rattle.drf_role.specs.Text.{Text, same_text}
+use Rattle.drf_role.specs.Path.{Path}
+use Rattle.drf_bundle.specs.Quantities.{amount_of}
+use Rattle.drf_bundle.specs.Bundle.{quantities_of}
+use Rattle.drf_bundle.specs.declared.quantities.Entry.{Entry}
+use Rattle.drf_bundle.specs.declared.resource.Resource.{Resource}
+use Rattle.drf_rows.specs.LimitNumbers.{LimitNumbers}
+use Rattle.drf_rows.specs.Step.{is_full, is_in_role, too_many_agents, too_many_frameworks, first_case, cases_of, refusal_of}
+use Rattle.drf_rows.specs.Members.{has_agent, has_framework, with_agent}
+use Rattle.drf_rows.specs.Offers.{has_offer, has_task, is_anothers, is_beyond}
+use Rattle.drf_rows.specs.Weights.{is_weight, too_many_weights}
+use Rattle.drf_rows.specs.declared.limits.TheConstants.{LARGEST_AMOUNT, LATEST_MOMENT}
+use Rattle.drf_rows.specs.declared.event.Event.{Event}
+use Rattle.drf_rows.specs.declared.event.Event.TheVariants.{AddAgent, RemoveAgent, ActivateAgent, DeactivateAgent, AddFramework, RemoveFramework, Accept, Decline, Rescind, Finish, Suppress, Revive, SetWeight, Cycle, Report}
+use Rattle.drf_rows.specs.declared.reply.Refusal.{Refusal}
+use Rattle.drf_rows.specs.declared.rows.Rows.{Rows}
+
+no_case : (cases : List (Bool × Refusal)) → first_case cases ≡ None → AllByRecursion (λ c. c.0 ≡ false) cases
+no_case [] none = tt
+no_case ((true, r) ∷ cases) none = cc
+no_case ((false, r) ∷ cases) none = (refl, no_case cases none)
+
+-- no case of the event holds
+pub no_case_of : (limits : LimitNumbers) (rows : Rows) (event : Event) → refusal_of limits rows event ≡ None
+    → AllByRecursion (λ c. c.0 ≡ false) (cases_of limits rows event)
+unfolding refusal_of
+no_case_of limits rows event none = no_case (cases_of limits rows event) none
+
+not_full : (limits : LimitNumbers) (rows : Rows) (event : Event) → refusal_of limits rows event ≡ None → is_full limits rows ≡ false
+not_full limits rows (AddAgent agent total) none = (no_case_of limits rows (AddAgent agent total) none).0
+not_full limits rows (RemoveAgent agent) none = (no_case_of limits rows (RemoveAgent agent) none).0
+not_full limits rows (ActivateAgent agent) none = (no_case_of limits rows (ActivateAgent agent) none).0
+not_full limits rows (DeactivateAgent agent) none = (no_case_of limits rows (DeactivateAgent agent) none).0
+not_full limits rows (AddFramework framework roles) none = (no_case_of limits rows (AddFramework framework roles) none).0
+not_full limits rows (RemoveFramework framework) none = (no_case_of limits rows (RemoveFramework framework) none).0
+not_full limits rows (Accept framework offer task used at refuse_ms) none =
+    (no_case_of limits rows (Accept framework offer task used at refuse_ms) none).0
+not_full limits rows (Decline framework offer at refuse_ms) none = (no_case_of limits rows (Decline framework offer at refuse_ms) none).0
+not_full limits rows (Rescind offer) none = (no_case_of limits rows (Rescind offer) none).0
+not_full limits rows (Finish framework task) none = (no_case_of limits rows (Finish framework task) none).0
+not_full limits rows (Suppress framework role) none = (no_case_of limits rows (Suppress framework role) none).0
+not_full limits rows (Revive framework role) none = (no_case_of limits rows (Revive framework role) none).0
+not_full limits rows (SetWeight role weight) none = (no_case_of limits rows (SetWeight role weight) none).0
+not_full limits rows (Cycle at) none = (no_case_of limits rows (Cycle at) none).0
+not_full limits rows Report none = (no_case_of limits rows Report none).0
+
+-- there is room for the event
+pub room_for : (limits : LimitNumbers) (rows : Rows) (event : Event) → refusal_of limits rows event ≡ None → rows.accepted < limits.events
+room_for limits rows event none = leb-false limits.events rows.accepted (not_full limits rows event none)
+
+-- ---- what is not the case
+
+pub neither : (a b : Bool) → (a || b) ≡ false → (a ≡ false) × (b ≡ false)
+neither true b h = absurd (false≢true (sym h))
+neither false b h = (refl, h)
+
+pub not_not : (b : Bool) → not b ≡ false → b ≡ true
+not_not true h = refl
+not_not false h = cc
+
+-- an agent that is welcome
+pub record IsWelcomeAgent (limits : LimitNumbers) (rows : Rows) (agent : Text) (total : List Resource) : Type 0 where
+  pub new : has_agent rows agent ≡ false
+  pub small : list_any (λ e. nat_lt LARGEST_AMOUNT e.amount) (quantities_of total) ≡ false
+  pub few : too_many_agents limits (with_agent rows agent total) ≡ false
+
+pub welcome_agent : (limits : LimitNumbers) (rows : Rows) (agent : Text) (total : List Resource)
+    → refusal_of limits rows (AddAgent agent total) ≡ None → IsWelcomeAgent limits rows agent total
+welcome_agent limits rows agent total none =
+    let no = no_case_of limits rows (AddAgent agent total) none in
+    record { new = no.1.0; small = no.1.1.0; few = no.1.1.1.0 }
+
+-- a framework that is welcome
+pub record IsWelcomeFramework (limits : LimitNumbers) (rows : Rows) (framework : Text) (roles : List Path) : Type 0 where
+  pub new : has_framework rows framework ≡ false
+  pub few : too_many_frameworks limits rows roles ≡ false
+
+pub welcome_framework : (limits : LimitNumbers) (rows : Rows) (framework : Text) (roles : List Path)
+    → refusal_of limits rows (AddFramework framework roles) ≡ None → IsWelcomeFramework limits rows framework roles
+welcome_framework limits rows framework roles none =
+    let no = no_case_of limits rows (AddFramework framework roles) none in
+    record { new = no.1.0; few = no.1.1.1.0 }
+
+-- a weight that is welcome
+pub record IsWelcomeWeight (limits : LimitNumbers) (rows : Rows) (role : Path) (weight : ℕ) : Type 0 where
+  pub right : not (is_weight weight) ≡ false
+  pub few : too_many_weights limits rows role ≡ false
+
+pub welcome_weight : (limits : LimitNumbers) (rows : Rows) (role : Path) (weight : ℕ)
+    → refusal_of limits rows (SetWeight role weight) ≡ None → IsWelcomeWeight limits rows role weight
+welcome_weight limits rows role weight none =
+    let no = no_case_of limits rows (SetWeight role weight) none in
+    record { right = no.1.0; few = no.1.1.0 }
+
+-- a cycle that is welcome
+pub early_cycle : (limits : LimitNumbers) (rows : Rows) (at : ℕ) → refusal_of limits rows (Cycle at) ≡ None → at ≤ LATEST_MOMENT
+early_cycle limits rows at none = ltb-false LATEST_MOMENT at (no_case_of limits rows (Cycle at) none).1.0
+
+-- a framework that leaves is known
+pub known_framework : (limits : LimitNumbers) (rows : Rows) (framework : Text) → refusal_of limits rows (RemoveFramework framework) ≡ None
+    → has_framework rows framework ≡ true
+known_framework limits rows framework none = not_not (has_framework rows framework) (no_case_of limits rows (RemoveFramework framework) none).1.0
+
+-- a client that is suppressed, or revives, is registered
+pub known_suppressed : (limits : LimitNumbers) (rows : Rows) (framework : Text) (role : Path) → refusal_of limits rows (Suppress framework role) ≡ None
+    → is_in_role rows framework role ≡ true
+known_suppressed limits rows framework role none =
+    not_not (is_in_role rows framework role) (no_case_of limits rows (Suppress framework role) none).1.1.0
+
+pub known_reviving : (limits : LimitNumbers) (rows : Rows) (framework : Text) (role : Path) → refusal_of limits rows (Revive framework role) ≡ None
+    → is_in_role rows framework role ≡ true
+known_reviving limits rows framework role none =
+    not_not (is_in_role rows framework role) (no_case_of limits rows (Revive framework role) none).1.1.0
+
+-- an offer that is accepted stands, is the framework's and covers the part, and its task is new
+pub record IsWelcomeAccept (rows : Rows) (framework : Text) (number : ℕ) (task : Text) (used : List Resource) (at : ℕ) : Type 0 where
+  pub early : at ≤ LATEST_MOMENT
+  pub stands : has_offer rows number ≡ true
+  pub its_own : is_anothers rows framework number ≡ false
+  pub new : has_task rows framework task ≡ false
+  pub covered : is_beyond rows number used ≡ false
+
+pub welcome_accept : (limits : LimitNumbers) (rows : Rows) (framework : Text) (number : ℕ) (task : Text) (used : List Resource) (at refuse_ms : ℕ)
+    → refusal_of limits rows (Accept framework number task used at refuse_ms) ≡ None → IsWelcomeAccept rows framework number task used at
+welcome_accept limits rows framework number task used at refuse_ms none =
+    let no = no_case_of limits rows (Accept framework number task used at refuse_ms) none in
+    record {
+      early = ltb-false LATEST_MOMENT at no.1.0;
+      stands = not_not (has_offer rows number) no.1.1.1.0;
+      its_own = no.1.1.1.1.0;
+      new = no.1.1.1.1.1.0;
+      covered = no.1.1.1.1.1.1.1.0;
+    }
+
+-- an offer that is declined stands
+pub welcome_decline : (limits : LimitNumbers) (rows : Rows) (framework : Text) (number at refuse_ms : ℕ)
+    → refusal_of limits rows (Decline framework number at refuse_ms) ≡ None → (at ≤ LATEST_MOMENT) × (has_offer rows number ≡ true)
+welcome_decline limits rows framework number at refuse_ms none =
+    let no = no_case_of limits rows (Decline framework number at refuse_ms) none in
+    (ltb-false LATEST_MOMENT at no.1.0, not_not (has_offer rows number) no.1.1.1.0)
+
+-- ---- small amounts
+
+pub small_amounts : (es : List Entry) (most : ℕ) (label : Text) → list_any (λ e. nat_lt most e.amount) es ≡ false → amount_of es label ≤ most
+small_amounts [] most label small = omega arith
+small_amounts (e ∷ es) most label small =
+    let both = neither (nat_lt most e.amount) (list_any (λ e. nat_lt most e.amount) es) small in
+    elim (cases_Bool (same_text e.label label)) [
+      | inl here ↦ rw here (ltb-false most e.amount both.0)
+      | inr past ↦ rw past (small_amounts es most label both.1)
+    ]

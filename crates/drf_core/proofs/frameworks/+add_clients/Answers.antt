@@ -1,0 +1,22 @@
+use Rattle.std.proofs.Common.{◌≡◌, ap, ◌∙◌}
+use Rattle.drf_sorter.specs.Content.{Content, has_client, with_client, without_client}
+use Rattle.drf_core.proofs.RegisterLemmas.{has_client-added, without-added, first_new}
+use Rattle.drf_core.proofs.frameworks.+add_clients.Goals as goal
+
+pub remove-requires : goal.remove-requires
+remove-requires g t c =
+    let content = g.S.Sorter.content c.args.sorter.now in
+    let path = c.in-Some.first.now in
+    let added : g.S.Sorter.content c.add_clients.new.sorter ≡ with_client content path
+    = c.in-Err.ensures.err ∙ c.in_ok-add.ensures.ok ∙ ap (with_client content) c.in_ok-copy.ensures in
+    ap (λ (k : Content). has_client k path) added ∙ has_client-added content path
+
+pub returns-in-Err-clause-err : goal.returns-in-Err-clause-err
+returns-in-Err-clause-err g t c =
+    let content = g.S.Sorter.content c.args.sorter.now in
+    let path = c.in-Some.first.now in
+    let added : g.S.Sorter.content c.add_clients.new.sorter ≡ with_client content path
+    = c.in-Err.ensures.err ∙ c.in_ok-add.ensures.ok ∙ ap (with_client content) c.in_ok-copy.ensures in
+    c.remove.ensures
+    ∙ ap (λ (k : Content). without_client k path) added
+    ∙ without-added content path (first_new content c.args.paths.now path c.in-Some.rest.now c.in-Some.ensures.cases.0 c.requires)

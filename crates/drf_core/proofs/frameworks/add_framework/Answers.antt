@@ -1,0 +1,49 @@
+use Rattle.std.proofs.Common.{◌≡◌, ◌++◌, ◌∷◌, [], ap, sym, subst, ◌∙◌}
+use Rattle.std.specs.Prelude.{map}
+use Rattle.std.specs.List.{AllByRecursion}
+use Rattle.drf_rows.specs.Members.{distinct, has_framework, new_client}
+use Rattle.drf_rows.specs.Consistent.{are_distinct_roles}
+use Rattle.drf_rows.specs.declared.rows.ClientRow.{ClientRow}
+use Rattle.drf_rows.specs.declared.rows.Rows.{Rows}
+use Rattle.drf_sorter.specs.Content.{Content}
+use Rattle.drf_core.specs.Registering.{AreNew, paths_of, with_all}
+use Rattle.drf_core.proofs.RegisterLemmas.{distinct_apart, roles_of_new, uncounted_new, AreNew-registering}
+use Rattle.drf_core.proofs.Welcome.{welcome_framework}
+use Rattle.drf_core.proofs.ApplyLemmas.{applied_framework}
+use Rattle.drf_core.proofs.frameworks.add_framework.Goals as goal
+
+pub add_clients-requires : goal.add_clients-requires
+add_clients-requires g c =
+    let rows : Rows = c.args.tables.now.rows in
+    let welcome = welcome_framework c.args.limits.now rows c.args.framework c.args.roles c.requires.welcome in
+    let paths : paths_of c.args.framework (distinct c.args.roles) ≡ c.deref-2.result.now
+    = ap (paths_of c.args.framework) (sym (c.deref.ensures.value ∙ c.in_ok-roles.ensures)) ∙ sym c.in_ok-paths.ensures ∙ sym c.deref-2.ensures.value in
+    subst (AreNew (g.S.Sorter.content c.args.sorter.now)) paths
+    (subst (λ (k : Content). AreNew k (paths_of c.args.framework (distinct c.args.roles))) (sym c.requires.kept.sorted)
+    (AreNew-registering rows c.args.framework c.requires.kept.consistent welcome.new c.args.roles))
+
+pub add_framework-requires-clause-new : goal.add_framework-requires-clause-new
+add_framework-requires-clause-new g c =
+    ap (λ (r : Rows). has_framework r c.args.framework) c.reserve_framework.ensures.same
+    ∙ (welcome_framework c.args.limits.now c.args.tables.now.rows c.args.framework c.args.roles c.requires.welcome).new
+
+pub add_framework-requires-clause-roles : goal.add_framework-requires-clause-roles
+add_framework-requires-clause-roles g c =
+    ap are_distinct_roles (ap (map (λ (x : ClientRow). x.role)) (c.in_ok-clients.ensures ∙ ap (map new_client) c.in_ok-roles.ensures) ∙ roles_of_new (distinct c.args.roles))
+    ∙ distinct_apart c.args.roles
+
+pub add_framework-requires-clause-uncounted : goal.add_framework-requires-clause-uncounted
+add_framework-requires-clause-uncounted g c =
+    subst (AllByRecursion (λ (x : ClientRow). x.count ≡ 0)) (sym c.in_ok-clients.ensures) (uncounted_new c.in_ok-roles.roles.items)
+
+pub returns-clause-ok : goal.returns-clause-ok
+returns-clause-ok g c =
+    let rows : Rows = c.args.tables.now.rows in
+    let welcome = welcome_framework c.args.limits.now rows c.args.framework c.args.roles c.requires.welcome in
+    let content = g.S.Sorter.content c.args.sorter.now in
+    applied_framework rows c.add_framework.new.self.rows c.args.framework c.args.roles c.in_ok-clients.clients content (g.S.Sorter.content c.add_clients.new.sorter)
+    c.requires.kept.sorted c.requires.kept.consistent welcome.new
+    (c.in_ok-clients.ensures ∙ ap (map new_client) c.in_ok-roles.ensures)
+    (c.add_framework.ensures ∙ (λ i. record (c.reserve_framework.ensures.same i) { frameworks = (c.reserve_framework.ensures.same i).frameworks ++ record { name = c.args.framework; clients = c.in_ok-clients.clients } ∷ [] }))
+    (c.in_ok-add_clients.ensures.ok
+    ∙ ap (with_all content) (c.deref-2.ensures.value ∙ c.in_ok-paths.ensures ∙ ap (paths_of c.args.framework) (c.deref.ensures.value ∙ c.in_ok-roles.ensures)))

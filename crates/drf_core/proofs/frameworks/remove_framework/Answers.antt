@@ -1,0 +1,27 @@
+use Rattle.std.proofs.Common.{ap, ◌∙◌}
+use Rattle.drf_role.specs.Text.{same_text}
+use Rattle.drf_rows.specs.Endings.{all_of}
+use Rattle.drf_rows.specs.declared.rows.FrameworkRow.{FrameworkRow}
+use Rattle.drf_core.specs.Registering.{client_paths}
+use Rattle.drf_core.proofs.EndedLemmas.{one_found, nothing_left, AreKnown-ended, applied_leaving}
+use Rattle.drf_core.proofs.frameworks.remove_framework.Goals as goal
+
+pub remove_clients-requires : goal.remove_clients-requires
+remove_clients-requires g c =
+    let f = one_found (λ (f : FrameworkRow). same_text f.name c.args.framework.now) c.args.tables.now.rows.frameworks c.requires.known in
+    AreKnown-ended c.args.tables.now.rows c.args.framework.now f.one (g.S.Sorter.content c.end.new.sorter) c.deref.result.now
+    c.requires.kept.consistent.frameworks f.found c.end.ensures.sorted
+    (c.deref.ensures.value ∙ c.in_ok-paths.ensures ∙ ap (client_paths c.args.framework.now) (c.clients.ensures f.one f.found))
+
+pub remove_framework-requires : goal.remove_framework-requires
+remove_framework-requires g c = record {
+  nothing = nothing_left c.args.tables.now.rows c.end.new.tables.rows (all_of c.args.framework.now) c.end.ensures.same;
+}
+
+pub returns-clause-ok : goal.returns-clause-ok
+returns-clause-ok g c =
+    let f = one_found (λ (f : FrameworkRow). same_text f.name c.args.framework.now) c.args.tables.now.rows.frameworks c.requires.known in
+    applied_leaving c.args.tables.now.rows c.end.new.tables.rows c.remove_framework.new.self.rows c.args.framework.now f.one
+    (g.S.Sorter.content c.end.new.sorter) (g.S.Sorter.content c.remove_clients.new.sorter) c.deref.result.now
+    c.requires.kept.consistent.frameworks f.found c.end.ensures c.remove_framework.ensures c.remove_clients.ensures
+    (c.deref.ensures.value ∙ c.in_ok-paths.ensures ∙ ap (client_paths c.args.framework.now) (c.clients.ensures f.one f.found))

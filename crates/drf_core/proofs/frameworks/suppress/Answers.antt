@@ -1,0 +1,13 @@
+use Rattle.drf_core.proofs.EndedLemmas.{known-client, applied_suppression}
+use Rattle.drf_core.proofs.frameworks.suppress.Goals as goal
+
+pub set_active-requires : goal.set_active-requires
+set_active-requires g c =
+    known-client c.args.tables.now.rows c.args.role.now c.args.framework.now (g.S.Sorter.content c.args.sorter.now) c.in_ok-path.path
+    c.requires.sorted c.in_ok-path.ensures c.requires.known
+
+pub returns-clause-ok : goal.returns-clause-ok
+returns-clause-ok g c =
+    applied_suppression c.args.tables.now.rows c.suppress.new.self.rows c.args.role.now c.args.framework.now
+    (g.S.Sorter.content c.args.sorter.now) (g.S.Sorter.content c.set_active.new.self) c.in_ok-path.path
+    c.requires.sorted c.in_ok-path.ensures c.suppress.ensures c.set_active.ensures

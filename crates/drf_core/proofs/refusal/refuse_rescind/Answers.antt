@@ -1,0 +1,8 @@
+use Rattle.std.proofs.Common.{◌∷◌, [], ◌∙◌, not}
+use Rattle.drf_rows.specs.Step.{first_case, refusal_of}
+use Rattle.drf_rows.specs.declared.reply.Refusal.TheVariants.{HistoryFull, UnknownOffer}
+use Rattle.drf_core.proofs.refusal.refuse_rescind.Goals as goal
+
+pub returns : goal.returns
+unfolding refusal_of
+returns c = c.first_case.ensures ∙ (λ i. first_case ((c.is_full.ensures i, HistoryFull) ∷ (not (c.has_offer.ensures i), UnknownOffer) ∷ []))

@@ -1,0 +1,189 @@
+//! Frameworks register, are served or not, and leave.
+ghost use Rattle.std.specs.Prelude.{◌≡◌, None, true, map, IfOk, OnOk, OnErr};
+ghost use Rattle.drf_rows.specs.Members.{distinct, has_framework, new_client};
+ghost use Rattle.drf_rows.specs.Step.{refusal_of, effect, is_in_role};
+ghost use Rattle.drf_rows.specs.declared.event.Event.TheVariants.{AddFramework, RemoveFramework, Suppress, Revive};
+ghost use Rattle.drf_rows.specs.declared.reply.Reply.TheVariants.{Done};
+ghost use Rattle.drf_core.specs.Content.{content_of};
+ghost use Rattle.drf_core.specs.Kept.{IsKept, StandAt};
+ghost use Rattle.drf_core.specs.Registering.{AreKnown, AreNew, client_paths, paths_of, with_all, without_all};
+
+use crate::ending::end;
+use drf_role::{ClientPath, Name, Role};
+use drf_rows::{ClientRow, Limits, Reply, Table};
+use drf_sorter::Sorter;
+use drf_tables::{Ending, Tables};
+use std::alloc::{AllocError, Global};
+
+/// The roles of a list, each once, where it first stands.
+fn distinct_roles(alloc: Global, roles: Table<Role>) -> Result<Vec<Role>, AllocError>
+    ensures { IfOk result (λ kept. kept.items ≡ distinct roles) }
+{
+    let mut kept = Vec::new(alloc);
+    for role in roles.into_vec() {
+        if kept.contains(&role) {
+            continue;
+        }
+        kept.push(role)?;
+    }
+    Ok(kept)
+}
+
+/// The paths of a framework's clients in some roles.
+fn role_paths(
+    alloc: Global,
+    framework: &Name,
+    roles: &[Role],
+) -> Result<Vec<ClientPath>, AllocError>
+    ensures { IfOk result (λ paths. paths.items ≡ paths_of framework.now roles.now) }
+{
+    let mut paths = Vec::with_capacity(alloc, roles.len())?;
+    for role in roles {
+        paths.push(ClientPath::new(alloc, role, framework)?)?;
+    }
+    Ok(paths)
+}
+
+/// The clients of a framework that registers.
+fn new_clients(alloc: Global, roles: Vec<Role>) -> Result<Table<ClientRow>, AllocError>
+    ensures { IfOk result (λ clients. clients ≡ map new_client roles.items) }
+{
+    let mut clients = Vec::with_capacity(alloc, roles.len())?;
+    for role in roles {
+        clients.push(ClientRow {
+            role,
+            count: 0,
+            suppressed: false,
+        })?;
+    }
+    Ok(Table::from_vec(clients))
+}
+
+/// Adds clients to the sorter, all or none: where memory ends, those that came before are removed, which takes none.
+fn add_clients<S: Sorter>(sorter: &mut S, paths: &[ClientPath]) -> Result<(), AllocError>
+    requires { AreNew (S.content sorter.old) paths.now }
+    ensures ok { OnOk result (S.content sorter.new ≡ with_all (S.content sorter.old) paths.now) }
+    ensures err { OnErr result (S.content sorter.new ≡ S.content sorter.old) }
+{
+    let Some((first, rest)) = paths.split_first() else {
+        return Ok(());
+    };
+    sorter.add(first.copy()?)?;
+    match add_clients(sorter, rest) {
+        Ok(()) => Ok(()),
+        Err(error) => {
+            sorter.remove(first);
+            Err(error)
+        }
+    }
+}
+
+/// A framework registers.
+pub fn add_framework<S: Sorter>(
+    alloc: Global,
+    limits: &Limits,
+    tables: &mut Tables,
+    sorter: &mut S,
+    framework: Name,
+    roles: Table<Role>,
+) -> Result<Reply, AllocError>
+    requires kept { IsKept (S.content sorter.old) limits.now tables.old.rows }
+    requires welcome { refusal_of limits.now tables.old.rows (AddFramework framework roles) ≡ None }
+    ensures reply { IfOk result (λ reply. reply ≡ Done) }
+    ensures ok { OnOk result (StandAt (effect tables.old.rows (AddFramework framework roles)) tables.new.rows (S.content sorter.new)) }
+    ensures err { OnErr result (StandAt tables.old.rows tables.new.rows (S.content sorter.new)) }
+{
+    let roles = distinct_roles(alloc, roles)?;
+    let paths = role_paths(alloc, &framework, &roles)?;
+    let clients = new_clients(alloc, roles)?;
+    tables.reserve_framework()?;
+    add_clients(sorter, &paths)?;
+    tables.add_framework(framework, clients);
+    Ok(Reply::Done)
+}
+
+/// The paths of the clients of a framework.
+fn client_paths(
+    alloc: Global,
+    framework: &Name,
+    clients: &[ClientRow],
+) -> Result<Vec<ClientPath>, AllocError>
+    ensures { IfOk result (λ paths. paths.items ≡ client_paths framework.now clients.now) }
+{
+    let mut paths = Vec::with_capacity(alloc, clients.len())?;
+    for client in clients {
+        paths.push(ClientPath::new(alloc, &client.role, framework)?)?;
+    }
+    Ok(paths)
+}
+
+/// Removes clients from the sorter.
+fn remove_clients<S: Sorter>(sorter: &mut S, paths: &[ClientPath])
+    requires { AreKnown (S.content sorter.old) paths.now }
+    ensures { S.content sorter.new ≡ without_all (S.content sorter.old) paths.now }
+{
+    for path in paths {
+        sorter.remove(path);
+    }
+}
+
+/// A framework leaves, and all that it holds ends.
+pub fn remove_framework<S: Sorter>(
+    alloc: Global,
+    limits: &Limits,
+    tables: &mut Tables,
+    sorter: &mut S,
+    framework: &Name,
+) -> Result<Reply, AllocError>
+    requires kept { IsKept (S.content sorter.old) limits.now tables.old.rows }
+    requires known { has_framework tables.old.rows framework.now ≡ true }
+    ensures reply { IfOk result (λ reply. reply ≡ Done) }
+    ensures ok { OnOk result (StandAt (effect tables.old.rows (RemoveFramework framework.now)) tables.new.rows (S.content sorter.new)) }
+    ensures err { OnErr result (StandAt tables.old.rows tables.new.rows (S.content sorter.new)) }
+{
+    let paths = client_paths(alloc, framework, tables.clients(framework))?;
+    end(tables, sorter, Ending::AllOf(framework));
+    remove_clients(sorter, &paths);
+    tables.remove_framework(framework);
+    Ok(Reply::Done)
+}
+
+/// A framework is no longer served in a role.
+pub fn suppress<S: Sorter>(
+    alloc: Global,
+    tables: &mut Tables,
+    sorter: &mut S,
+    framework: &Name,
+    role: &Role,
+) -> Result<Reply, AllocError>
+    requires sorted { S.content sorter.old ≡ content_of tables.old.rows }
+    requires known { is_in_role tables.old.rows framework.now role.now ≡ true }
+    ensures reply { IfOk result (λ reply. reply ≡ Done) }
+    ensures ok { OnOk result (StandAt (effect tables.old.rows (Suppress framework.now role.now)) tables.new.rows (S.content sorter.new)) }
+    ensures err { OnErr result (StandAt tables.old.rows tables.new.rows (S.content sorter.new)) }
+{
+    let path = ClientPath::new(alloc, role, framework)?;
+    tables.suppress(framework, role);
+    sorter.set_active(&path, false);
+    Ok(Reply::Done)
+}
+
+/// A framework is served in a role again, and refuses nothing there any more.
+pub fn revive<S: Sorter>(
+    alloc: Global,
+    tables: &mut Tables,
+    sorter: &mut S,
+    framework: &Name,
+    role: &Role,
+) -> Result<Reply, AllocError>
+    requires sorted { S.content sorter.old ≡ content_of tables.old.rows }
+    requires known { is_in_role tables.old.rows framework.now role.now ≡ true }
+    ensures reply { IfOk result (λ reply. reply ≡ Done) }
+    ensures ok { OnOk result (StandAt (effect tables.old.rows (Revive framework.now role.now)) tables.new.rows (S.content sorter.new)) }
+    ensures err { OnErr result (StandAt tables.old.rows tables.new.rows (S.content sorter.new)) }
+{
+    let path = ClientPath::new(alloc, role, framework)?;
+    tables.revive(framework, role);
+    sorter.set_active(&path, true);
+    Ok(Reply::Done)
+}

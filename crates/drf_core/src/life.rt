@@ -1,0 +1,169 @@
+//! Offers and tasks: what becomes of an offer, and how a task ends.
+ghost use Rattle.std.specs.Prelude.{◌≡◌, ◌≤◌, ◌∷◌, ◌&&◌, [], true, not, nat_lt, IfOk, OnOk, OnErr, Some};
+ghost use Rattle.drf_rows.specs.Consistent.{IsConsistent};
+ghost use Rattle.drf_rows.specs.Cycle.{at_moment};
+ghost use Rattle.drf_rows.specs.Offers.{accepted, declined, filter_of, filters_with, has_offer, is_empty, offer_at, refused_until, refuses_all};
+ghost use Rattle.drf_rows.specs.Step.{effect};
+ghost use Rattle.drf_rows.specs.declared.event.Event.TheVariants.{Rescind, Finish};
+ghost use Rattle.drf_rows.specs.declared.limits.TheConstants.{LATEST_MOMENT};
+ghost use Rattle.drf_rows.specs.declared.reply.Reply.TheVariants.{Done};
+ghost use Rattle.drf_rows.specs.declared.rows.OfferRow.{OfferRow};
+ghost use Rattle.drf_core.specs.Accepting.{CanStart, filter_if};
+ghost use Rattle.drf_core.specs.Content.{content_of};
+ghost use Rattle.drf_core.specs.Kept.{StandAt};
+
+use crate::ending::end;
+use drf_amount::Algebra;
+use drf_bundle::Bundle;
+use drf_role::{ClientPath, Name};
+use drf_rows::{FilterRow, LONGEST_REFUSAL, OfferRow, Reply};
+use drf_sorter::Sorter;
+use drf_tables::{Ending, Tables};
+use std::alloc::{AllocError, Global};
+
+/// The filter that keeps a bundle on an offer's agent from its client. It ends so long after the moment, both in
+/// milliseconds, but not later than after 365 days.
+fn filter_row(
+    offer: &OfferRow,
+    bundle: &Bundle,
+    moment: u64,
+    refuse_ms: u64,
+) -> Result<FilterRow, AllocError>
+    requires { moment ≤ LATEST_MOMENT }
+    ensures { IfOk result (λ row. row ≡ filter_of offer.now bundle.now (refused_until moment refuse_ms)) }
+{
+    Ok(FilterRow {
+        framework: offer.framework.copy()?,
+        role: offer.role.copy()?,
+        agent: offer.agent.copy()?,
+        bundle: bundle.copy()?,
+        until: moment + refuse_ms.min(LONGEST_REFUSAL),
+    })
+}
+
+/// The filter of what is left of an offer, if anything is, and if it is refused for any time.
+fn filter_rest(
+    offer: &OfferRow,
+    rest: &Bundle,
+    moment: u64,
+    refuse_ms: u64,
+) -> Result<Option<FilterRow>, AllocError>
+    requires { moment ≤ LATEST_MOMENT }
+    ensures { IfOk result (λ filter. filter ≡ filter_if (nat_lt 0 refuse_ms && not (is_empty rest.now)) (filter_of offer.now rest.now (refused_until moment refuse_ms))) }
+{
+    if refuse_ms == 0 {
+        return Ok(None);
+    }
+    if rest.is_empty() {
+        return Ok(None);
+    }
+    Ok(Some(filter_row(offer, rest, moment, refuse_ms)?))
+}
+
+/// A framework starts a task with a part of an offer. The rest is free, and is refused for a time.
+pub fn accept<S: Sorter>(
+    alloc: Global,
+    tables: &mut Tables,
+    sorter: &mut S,
+    number: u64,
+    task: Name,
+    used: Bundle,
+    at: u64,
+    refuse_ms: u64,
+) -> Result<Reply, AllocError>
+    requires sorted { S.content sorter.old ≡ content_of tables.old.rows }
+    requires consistent { IsConsistent tables.old.rows }
+    requires can { CanStart tables.old.rows number (task, used) }
+    requires early { at ≤ LATEST_MOMENT }
+    ensures reply { IfOk result (λ reply. reply ≡ Done) }
+    ensures ok { OnOk result ((o : OfferRow) → offer_at tables.old.rows number ≡ Some o
+        → StandAt (accepted (at_moment tables.old.rows at) o ((task, used) ∷ []) refuse_ms) tables.new.rows (S.content sorter.new)) }
+    ensures err { OnErr result (StandAt tables.old.rows tables.new.rows (S.content sorter.new)) }
+{
+    // The proof learns that it is a bundle by this call alone.
+    let _ = used.entries();
+    let offer = tables.offer(number).unwrap();
+    let moment = tables.clock().max(at);
+    let rest = offer.bundle.rest(&used)?;
+    let client = ClientPath::new(alloc, &offer.role, &offer.framework)?;
+    let filter = filter_rest(offer, &rest, moment, refuse_ms)?;
+    tables.accept(number, task, used, filter)?;
+    tables.set_clock(moment);
+    sorter.refund(&client, rest.quantities());
+    Ok(Reply::Done)
+}
+
+/// An offer is refused whole, if for any time.
+fn refuse_offer(
+    tables: &mut Tables,
+    number: u64,
+    moment: u64,
+    refuse_ms: u64,
+) -> Result<(), AllocError>
+    requires consistent { IsConsistent tables.old.rows }
+    requires offer { has_offer tables.old.rows number ≡ true }
+    requires early { moment ≤ LATEST_MOMENT }
+    ensures ok { OnOk result ((o : OfferRow) → offer_at tables.old.rows number ≡ Some o
+        → tables.new.rows ≡ record tables.old.rows { filters = filters_with (record tables.old.rows { clock = moment }) (refuses_all refuse_ms) o o.bundle refuse_ms }) }
+    ensures err { OnErr result (tables.new.rows ≡ tables.old.rows) }
+{
+    if refuse_ms == 0 {
+        return Ok(());
+    }
+    let offer = tables.offer(number).unwrap();
+    let filter = filter_row(offer, &offer.bundle, moment, refuse_ms)?;
+    tables.add_filter(filter)
+}
+
+/// A framework gives an offer back, and refuses it for a time.
+pub fn decline<S: Sorter>(
+    tables: &mut Tables,
+    sorter: &mut S,
+    number: u64,
+    at: u64,
+    refuse_ms: u64,
+) -> Result<Reply, AllocError>
+    requires sorted { S.content sorter.old ≡ content_of tables.old.rows }
+    requires consistent { IsConsistent tables.old.rows }
+    requires offer { has_offer tables.old.rows number ≡ true }
+    requires early { at ≤ LATEST_MOMENT }
+    ensures reply { IfOk result (λ reply. reply ≡ Done) }
+    ensures ok { OnOk result ((o : OfferRow) → offer_at tables.old.rows number ≡ Some o
+        → StandAt (declined (at_moment tables.old.rows at) o refuse_ms) tables.new.rows (S.content sorter.new)) }
+    ensures err { OnErr result (StandAt tables.old.rows tables.new.rows (S.content sorter.new)) }
+{
+    let moment = tables.clock().max(at);
+    refuse_offer(tables, number, moment, refuse_ms)?;
+    tables.set_clock(moment);
+    end(tables, sorter, Ending::Offer(number));
+    Ok(Reply::Done)
+}
+
+/// An offer is taken back.
+pub fn rescind<S: Sorter>(tables: &mut Tables, sorter: &mut S, number: u64) -> Reply
+    requires { S.content sorter.old ≡ content_of tables.old.rows }
+    ensures reply { result ≡ Done }
+    ensures rows { StandAt (effect tables.old.rows (Rescind number)) tables.new.rows (S.content sorter.new) }
+{
+    end(tables, sorter, Ending::Offer(number));
+    Reply::Done
+}
+
+/// A task ends.
+pub fn finish<S: Sorter>(
+    tables: &mut Tables,
+    sorter: &mut S,
+    framework: &Name,
+    task: &Name,
+) -> Reply
+    requires { S.content sorter.old ≡ content_of tables.old.rows }
+    ensures reply { result ≡ Done }
+    ensures rows { StandAt (effect tables.old.rows (Finish framework.now task.now)) tables.new.rows (S.content sorter.new) }
+{
+    let ending = Ending::Task {
+        framework,
+        name: task,
+    };
+    end(tables, sorter, ending);
+    Reply::Done
+}

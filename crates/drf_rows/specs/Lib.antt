@@ -32,6 +32,7 @@ pub mod OrderExamples
 pub mod WeightExamples
 pub mod ReportExamples
 pub mod LifeExamples
+pub mod FilterExamples
 pub mod Laws
 pub mod LifeLaws
 pub mod EndedLaws

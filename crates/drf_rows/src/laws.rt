@@ -8,10 +8,11 @@ ghost use Rattle.drf_rows.specs.Step.{opening, replies_to};
 ghost use Rattle.drf_rows.specs.Laws.{NoneBeforeItself, AtMostOneBefore, OneServingOrder, TooLittleIsNotGranted, FirstIsGrantedAll, CasesRise, RefusedChangesNothing, AcceptedIsCounted, RunsGoOn, LiveRowsReply, LiveRowsGoOn, LiveRowsRun, HeldIsReported, NodesRise, NodesBeginPaths};
 ghost use Rattle.drf_rows.specs.LifeLaws.{DeclinedAtOnceIsUndone, FinishedIsGivenBack, FiltersGoWithTheirOwner, SuppressedIsNotOffered, NumbersAreNew};
 ghost use Rattle.drf_rows.specs.Examples.{one_cycle, two_cycles, two_cycles_replies, two_frameworks, two_frameworks_replies, replies_with, not_offered, offered_whole, refused_as_too_large, one_agent, two_agents, two_events, two_names, three_names, one_framework, one_client, two_registrations, one_role, roles_listed, reserved_for_eng, reserved_for_eng_replies, cpus, cpus_for, mem, gpus};
-ghost use Rattle.drf_rows.specs.OrderExamples.{served, offered, half_at_work, close_shares, equal_shares, weighted_shares, shares_of, first_agent, second_agent, role_tree, more_for_ops, half_weight_of_eng, nothing_held};
+ghost use Rattle.drf_rows.specs.OrderExamples.{served, offered, half_at_work, close_shares, equal_shares, weighted_shares, shares_of, first_agent, second_agent, idle_agent, role_tree, more_for_ops, half_weight_of_eng, nothing_held};
 ghost use Rattle.drf_rows.specs.Report.{report_of};
 ghost use Rattle.drf_rows.specs.ReportExamples.{tree_at_work, tree_report, one_weighted, weighted_report, nothing_there, nothing_report, reserved_held, reserved_report, two_reports, two_reports_replies};
 ghost use Rattle.drf_rows.specs.LifeExamples.{a_task, a_task_replies, a_filter, a_filter_replies, a_clock, a_clock_replies, a_year, a_year_replies, one_filter, two_filters, two_filters_replies, taking_part, taking_part_replies, refused, refused_replies};
+ghost use Rattle.drf_rows.specs.FilterExamples.{whose_filter, whose_filter_replies, a_rest, a_rest_replies, a_later_decline, a_later_decline_replies, at_the_limit, at_the_limit_replies, two_roles, two_roles_replies, one_role_revives, one_role_revives_replies, who_leaves, who_leaves_replies};
 ghost use Rattle.drf_rows.specs.WeightLaws.{RoleHasItsWeight, OthersKeepTheirWeight, EachHasOneRow};
 ghost use Rattle.drf_rows.specs.WeightExamples.{bounds, bounds_replies, replaced, weights_after, replaced_rows, one_weight, one_weight_replies, replies_by_weight, third_to};
 
@@ -112,6 +113,7 @@ pub fn order_example()
     ensures weighted { served weighted_shares ≡ codes "fa" ∷ codes "fb" ∷ [] }
     ensures one_agent { served (shares_of (first_agent ∷ [])) ≡ codes "fa" ∷ codes "fb" ∷ [] }
     ensures two_agents { served (shares_of (first_agent ∷ second_agent ∷ [])) ≡ codes "fb" ∷ codes "fa" ∷ [] }
+    ensures idle { served (shares_of (first_agent ∷ idle_agent ∷ [])) ≡ codes "fb" ∷ codes "fa" ∷ [] }
     ensures tree { served (role_tree 1 [] []) ≡ codes "f3" ∷ codes "f1" ∷ codes "f2" ∷ [] }
     ensures more_for_one { served (role_tree 2 more_for_ops []) ≡ codes "f1" ∷ codes "f2" ∷ codes "f3" ∷ [] }
     ensures light { served (role_tree 2 more_for_ops half_weight_of_eng) ≡ codes "f3" ∷ codes "f1" ∷ codes "f2" ∷ [] }
@@ -154,8 +156,25 @@ pub fn life_example()
     ensures limit { replies_to one_filter opening two_filters ≡ two_filters_replies }
 {}
 
-/// What a deactivated agent, a suppressed client and a client that revives is offered, and what is refused.
+/// A deactivated agent is not offered, a suppressed client is offered nothing, and one that revives is offered what it
+/// declined; what leaves is not reported any more; and what is refused, one case at a time.
 pub fn taking_part_example()
     ensures part { replies_to ceilings opening taking_part ≡ taking_part_replies }
     ensures refused { replies_to ceilings opening refused ≡ refused_replies }
+{}
+
+/// A filter holds back what it covers from its own client on its own agent, from the clock after its event to its end; what
+/// sets no filter is not refused for their limit. The latest moment is accepted.
+pub fn filters_example()
+    ensures whose { replies_to ceilings opening whose_filter ≡ whose_filter_replies }
+    ensures rest { replies_to ceilings opening a_rest ≡ a_rest_replies }
+    ensures later { replies_to ceilings opening a_later_decline ≡ a_later_decline_replies }
+    ensures limit { replies_to one_filter opening at_the_limit ≡ at_the_limit_replies }
+{}
+
+/// What revives, leaves or is deactivated leaves alone what is another client's or another agent's.
+pub fn others_example()
+    ensures roles { replies_to ceilings opening two_roles ≡ two_roles_replies }
+    ensures frameworks { replies_to ceilings opening one_role_revives ≡ one_role_revives_replies }
+    ensures left { replies_to ceilings opening who_leaves ≡ who_leaves_replies }
 {}

@@ -36,5 +36,6 @@ pub mod FilterExamples
 pub mod Laws
 pub mod LifeLaws
 pub mod EndedLaws
+pub mod SuppressionLaws
 pub mod OfferedLaws
 pub mod ReportLaws

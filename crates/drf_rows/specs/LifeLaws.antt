@@ -1,5 +1,5 @@
 -- What is proved of offers, tasks and filters, from their making to their end.
-use Rattle.std.specs.Prelude.{◌≡◌, ℕ, ◌+◌, max, Bool, true, false, not, ◌&&◌, ◌||◌, List, [], ◌∷◌, ◌++◌, map, flat_map, slice_get, Some}
+use Rattle.std.specs.Prelude.{◌≡◌, ℕ, ◌+◌, max, Bool, true, false, not, ◌&&◌, ◌||◌, List, [], ◌∷◌, ◌++◌, map, filter, flat_map, slice_get, Some}
 use Rattle.std.specs.List.{list_all, list_any}
 use Rattle.drf_role.specs.Text.{Text, same_text}
 use Rattle.drf_role.specs.Path.{same_path}
@@ -18,7 +18,7 @@ use Rattle.drf_rows.specs.declared.rows.OfferRow.{OfferRow}
 use Rattle.drf_rows.specs.declared.rows.TaskRow.{TaskRow}
 use Rattle.drf_rows.specs.declared.rows.Rows.{Rows}
 use Rattle.drf_rows.specs.declared.event.Event.{Event}
-use Rattle.drf_rows.specs.declared.event.Event.TheVariants.{RemoveAgent, RemoveFramework, Decline, Finish, Revive}
+use Rattle.drf_rows.specs.declared.event.Event.TheVariants.{RemoveAgent, RemoveFramework, Decline, Finish, Suppress, Revive}
 use Rattle.drf_rows.specs.declared.reply.OfferLine.{OfferLine}
 use Rattle.drf_rows.specs.declared.reply.Reply.{Reply}
 use Rattle.drf_rows.specs.declared.reply.Reply.TheVariants.{Offers}
@@ -33,7 +33,7 @@ DeclinedAtOnceIsUndone =
     effect (with_offer rows o) (Decline client.framework o.number at 0)
     ≡ record rows { frameworks = (with_offer rows o).frameworks; next_offer = rows.next_offer + 1; clock = max rows.clock at }
 
--- a task that finishes goes alone, and gives back to its agent exactly what it used
+-- a task that finishes goes, nothing else of the rows changes, and its agent gets back exactly what it used
 abbrev pub FinishedIsGivenBack : Type 0
 FinishedIsGivenBack =
     (rows : Rows) (before later : List TaskRow) (t : TaskRow) (agent : AgentRow) (place : ℕ)
@@ -41,8 +41,7 @@ FinishedIsGivenBack =
     → rows.tasks ≡ before ++ t ∷ later
     → slice_get rows.agents place ≡ Some agent
     → let after : Rows = effect rows (Finish t.framework t.name) in
-    (after.tasks ≡ before ++ later)
-    × (after.offers ≡ rows.offers)
+    (after ≡ record rows { tasks = before ++ later })
     × (same_text t.agent agent.name ≡ true → join (free_of rows agent) t.bundle ≡ Some (free_of after agent))
     × (same_text t.agent agent.name ≡ false → free_of after agent ≡ free_of rows agent)
 
@@ -54,6 +53,15 @@ FiltersGoWithTheirOwner =
     × (list_any (λ f. same_text f.framework framework) (effect rows (RemoveFramework framework)).filters ≡ false)
     × (list_any (is_of_client client) (effect rows (Revive client.framework client.role)).filters ≡ false)
 
+-- the others stay: those on other agents, of other frameworks, and of other clients
+abbrev pub OtherFiltersStay : Type 0
+OtherFiltersStay =
+    (rows : Rows) (agent framework : Text) (client : Client)
+    → ((effect rows (RemoveAgent agent)).filters ≡ filter (λ f. not (same_text f.agent agent)) rows.filters)
+    × ((effect rows (RemoveFramework framework)).filters ≡ filter (λ f. not (same_text f.framework framework)) rows.filters)
+    × ((effect rows (Revive client.framework client.role)).filters
+    ≡ filter (λ f. not (same_path f.role client.role && same_text f.framework client.framework)) rows.filters)
+
 abbrev pub is_same_client : Client → Client → Bool
 is_same_client client other = same_path other.role client.role && same_text other.framework client.framework
 
@@ -61,6 +69,19 @@ is_same_client client other = same_path other.role client.role && same_text othe
 abbrev pub is_suppressed : Rows → Client → Bool
 is_suppressed rows client =
     list_all (λ f. list_all (λ c. not (is_same_client client (client_of f c)) || c.suppressed) f.clients) rows.frameworks
+
+-- an event suppresses its client, leaves each other client suppressed or not as it was, and changes no other row; one
+-- by which a client revives leaves the other clients as they were too, and changes no rows but of frameworks and filters
+abbrev pub SuppressionIsItsClients : Type 0
+SuppressionIsItsClients =
+    (rows : Rows) (client : Client)
+    → let suppressed : Rows = effect rows (Suppress client.framework client.role) in
+    let revived : Rows = effect rows (Revive client.framework client.role) in
+    (is_suppressed suppressed client ≡ true)
+    × (suppressed ≡ record rows { frameworks = suppressed.frameworks })
+    × (revived ≡ record rows { frameworks = revived.frameworks; filters = revived.filters })
+    × ((other : Client) → is_same_client other client ≡ false
+    → (is_suppressed suppressed other ≡ is_suppressed rows other) × (is_suppressed revived other ≡ is_suppressed rows other))
 
 -- no cycle offers anything to a client that is suppressed
 abbrev pub SuppressedIsNotOffered : Type 0

@@ -5,8 +5,8 @@
 ghost use Rattle.std.specs.Prelude.{◌≡◌, [], ◌∷◌, codes};
 ghost use Rattle.drf_rows.specs.LimitNumbers.{ceilings};
 ghost use Rattle.drf_rows.specs.Step.{opening, replies_to};
-ghost use Rattle.drf_rows.specs.Laws.{NoneBeforeItself, AtMostOneBefore, OneServingOrder, TooLittleIsNotGranted, FirstIsGrantedAll, CasesRise, RefusedChangesNothing, AcceptedIsCounted, RunsGoOn, LiveRowsReply, LiveRowsGoOn, LiveRowsRun, HeldIsReported, NodesRise, NodesBeginPaths};
-ghost use Rattle.drf_rows.specs.LifeLaws.{DeclinedAtOnceIsUndone, FinishedIsGivenBack, FiltersGoWithTheirOwner, SuppressedIsNotOffered, NumbersAreNew};
+ghost use Rattle.drf_rows.specs.Laws.{NoneBeforeItself, AtMostOneBefore, OneServingOrder, TooLittleIsNotGranted, FirstIsGrantedAll, CasesRise, LeastIsTold, RefusedChangesNothing, AcceptedIsCounted, RunsGoOn, LiveRowsReply, LiveRowsGoOn, LiveRowsRun, HeldIsReported, NodesRise, NodesBeginPaths};
+ghost use Rattle.drf_rows.specs.LifeLaws.{DeclinedAtOnceIsUndone, FinishedIsGivenBack, FiltersGoWithTheirOwner, OtherFiltersStay, SuppressionIsItsClients, SuppressedIsNotOffered, NumbersAreNew};
 ghost use Rattle.drf_rows.specs.Examples.{one_cycle, two_cycles, two_cycles_replies, two_frameworks, two_frameworks_replies, replies_with, not_offered, offered_whole, refused_as_too_large, one_agent, two_agents, two_events, two_names, three_names, one_framework, one_client, two_registrations, one_role, roles_listed, reserved_for_eng, reserved_for_eng_replies, cpus, cpus_for, mem, gpus};
 ghost use Rattle.drf_rows.specs.OrderExamples.{served, offered, half_at_work, close_shares, equal_shares, weighted_shares, shares_of, first_agent, second_agent, idle_agent, role_tree, more_for_ops, half_weight_of_eng, nothing_held};
 ghost use Rattle.drf_rows.specs.Report.{report_of};
@@ -25,7 +25,8 @@ pub fn serving_order_law()
     ensures unique { OneServingOrder }
 {}
 
-/// The turn of an agent on which too little is free, or all that is free is granted to the first client.
+/// Where too little is free on an agent its turn offers nothing, and where all that is free is granted to the first client
+/// it offers that, and nothing to the others.
 pub fn turn_law()
     ensures little { TooLittleIsNotGranted }
     ensures enough { FirstIsGrantedAll }
@@ -33,7 +34,8 @@ pub fn turn_law()
 
 /// A step refuses an event, by the least number of a case that holds, or does what the event says.
 pub fn step_law()
-    ensures least { CasesRise }
+    ensures rising { CasesRise }
+    ensures least { LeastIsTold }
     ensures refused { RefusedChangesNothing }
     ensures accepted { AcceptedIsCounted }
     ensures runs { RunsGoOn }
@@ -46,12 +48,15 @@ pub fn live_rows_law()
     ensures run { LiveRowsRun }
 {}
 
-/// An offer that is declined at once leaves nothing behind, a task that finishes gives back exactly what it used, and no
-/// filter outlives its agent, its framework, or the next revival of its client.
+/// An offer that is declined at once, with nothing refused, leaves only counts, the next number and the clock behind; a task
+/// that finishes goes alone and gives back exactly what it used; a filter goes with its agent, with its framework and when its
+/// client revives, and the others stay; an event suppresses its own client, and no other.
 pub fn life_law()
     ensures declined { DeclinedAtOnceIsUndone }
     ensures finished { FinishedIsGivenBack }
     ensures filters { FiltersGoWithTheirOwner }
+    ensures others { OtherFiltersStay }
+    ensures suppression { SuppressionIsItsClients }
 {}
 
 /// A cycle offers nothing to a client that is suppressed, and no number is given to two offers.
@@ -93,7 +98,8 @@ pub fn inactive_example()
     ensures offered { offered half_at_work ≡ (codes "n2", codes "fb") ∷ [] }
 {}
 
-/// Each limit is reached before it refuses.
+/// Of a scalar on one agent the largest amount is accepted, and one thousandth more is not; a limit of one or two of agents,
+/// names of scalars, frameworks, clients, roles or events refuses one more.
 pub fn limits_example()
     ensures largest { replies_with (cpus 1099511627775 ∷ []) ≡ offered_whole (cpus 1099511627775 ∷ []) }
     ensures too_large { replies_with (cpus 1099511627776 ∷ []) ≡ refused_as_too_large }

@@ -153,7 +153,8 @@ pub fn report_example()
     ensures events { replies_to ceilings opening two_reports ≡ two_reports_replies }
 {}
 
-/// What a task used is offered again when it has finished, and what was declined when its filter has ended.
+/// What a task used is offered again when it has finished, and what was declined when its filter has ended: counted from the
+/// clock, after 365 days at most. One filter in force more than the limit is refused.
 pub fn life_example()
     ensures task { replies_to ceilings opening a_task ≡ a_task_replies }
     ensures filter { replies_to ceilings opening a_filter ≡ a_filter_replies }
@@ -163,7 +164,8 @@ pub fn life_example()
 {}
 
 /// A deactivated agent is not offered, a suppressed client is offered nothing, and one that revives is offered what it
-/// declined; what leaves is not reported any more; and what is refused, one case at a time.
+/// declined; what leaves is reported no more. Each refusal from `BadMoment` to `NotCovered` is told, but for
+/// `KnownAgent`.
 pub fn taking_part_example()
     ensures part { replies_to ceilings opening taking_part ≡ taking_part_replies }
     ensures refused { replies_to ceilings opening refused ≡ refused_replies }

@@ -14,6 +14,8 @@ use Rattle.drf_rows.specs.Consistent.{IsConsistent}
 use Rattle.drf_rows.specs.Cycle.{free_of, new_offer, with_offer, cycle}
 use Rattle.drf_rows.specs.Step.{effect, new_offers, rows_after_all, replies_to}
 use Rattle.drf_rows.specs.declared.rows.AgentRow.{AgentRow}
+use Rattle.drf_rows.specs.declared.rows.ClientRow.{ClientRow}
+use Rattle.drf_rows.specs.declared.rows.FrameworkRow.{FrameworkRow}
 use Rattle.drf_rows.specs.declared.rows.OfferRow.{OfferRow}
 use Rattle.drf_rows.specs.declared.rows.TaskRow.{TaskRow}
 use Rattle.drf_rows.specs.declared.rows.Rows.{Rows}
@@ -70,14 +72,32 @@ abbrev pub is_suppressed : Rows → Client → Bool
 is_suppressed rows client =
     list_all (λ f. list_all (λ c. not (is_same_client client (client_of f c)) || c.suppressed) f.clients) rows.frameworks
 
--- an event suppresses its client, leaves each other client suppressed or not as it was, and changes no other row; one
--- by which a client revives leaves the other clients as they were too, and changes no rows but of frameworks and filters
+-- no row of the client is
+abbrev pub is_served : Rows → Client → Bool
+is_served rows client =
+    list_all (λ f. list_all (λ c. not (is_same_client client (client_of f c)) || not c.suppressed) f.clients) rows.frameworks
+
+-- the frameworks, as they were if all clients were suppressed
+abbrev pub quiet_row : ClientRow → ClientRow
+quiet_row c = record c { suppressed = true }
+
+abbrev pub quiet_framework : FrameworkRow → FrameworkRow
+quiet_framework f = record f { clients = map quiet_row f.clients }
+
+abbrev pub all_suppressed : Rows → List FrameworkRow
+all_suppressed rows = map quiet_framework rows.frameworks
+
+-- an event suppresses its client or makes it revive, and leaves the others suppressed or not as they were; of the rows it
+-- changes nothing else, but that filters go when a client revives
 abbrev pub SuppressionIsItsClients : Type 0
 SuppressionIsItsClients =
     (rows : Rows) (client : Client)
     → let suppressed : Rows = effect rows (Suppress client.framework client.role) in
     let revived : Rows = effect rows (Revive client.framework client.role) in
     (is_suppressed suppressed client ≡ true)
+    × (is_served revived client ≡ true)
+    × (all_suppressed suppressed ≡ all_suppressed rows)
+    × (all_suppressed revived ≡ all_suppressed rows)
     × (suppressed ≡ record rows { frameworks = suppressed.frameworks })
     × (revived ≡ record rows { frameworks = revived.frameworks; filters = revived.filters })
     × ((other : Client) → is_same_client other client ≡ false

@@ -11,7 +11,7 @@ use Rattle.drf_rows.specs.Client.{Client}
 use Rattle.drf_rows.specs.Held.{client_of}
 use Rattle.drf_rows.specs.Members.{suppressed_at, suppressed_in}
 use Rattle.drf_rows.specs.Step.{effect}
-use Rattle.drf_rows.specs.LifeLaws.{is_same_client, SuppressionIsItsClients}
+use Rattle.drf_rows.specs.LifeLaws.{is_same_client, quiet_row, quiet_framework, SuppressionIsItsClients}
 use Rattle.drf_rows.specs.declared.rows.ClientRow.{ClientRow}
 use Rattle.drf_rows.specs.declared.rows.FrameworkRow.{FrameworkRow}
 
@@ -25,51 +25,76 @@ all_each : {X Y : Type 0} (p : Y → Bool) (f : X → Y) (xs : List X) → ((x :
 all_each p f [] each = refl
 all_each p f (x ∷ xs) each = and_from _ _ (each x) (all_each p f xs each)
 
--- ---- a row is another client's, or suppressed
+-- ---- the client's rows are told as they are to be
 
-abbrev is_quiet : Client → FrameworkRow → ClientRow → Bool
-is_quiet client f c = not (is_same_client client (client_of f c)) || c.suppressed
+-- a row is another client's, or is suppressed, or is not, as the test says
+abbrev passes_row : (Bool → Bool) → Client → FrameworkRow → ClientRow → Bool
+passes_row test client f c = not (is_same_client client (client_of f c)) || test c.suppressed
 
-abbrev are_quiet : Client → FrameworkRow → Bool
-are_quiet client f = list_all (is_quiet client f) f.clients
+abbrev passes : (Bool → Bool) → Client → FrameworkRow → Bool
+passes test client f = list_all (passes_row test client f) f.clients
 
-module _ (client : Client) where
-  own_row : (f : FrameworkRow) (c : ClientRow) → is_quiet client f (suppressed_at client true c) ≡ true
+module _ (client : Client) (test : Bool → Bool) (suppressed : Bool) (is : test suppressed ≡ true) where
+  own_row : (f : FrameworkRow) (c : ClientRow) → passes_row test client f (suppressed_at client suppressed c) ≡ true
   own_row f c = by (same_path c.role client.role) refl
     where
       or_true : (b : Bool) → (b || true) ≡ true
       or_true true = refl
       or_true false = refl
 
-      by : (b : Bool) → same_path c.role client.role ≡ b → is_quiet client f (if b then record c { suppressed = true } else c) ≡ true
-      by true here = or_true (not (is_same_client client (client_of f c)))
-      by false past = ap (λ (b : Bool). not (b && same_text f.name client.framework) || c.suppressed) past
+      by : (b : Bool) → same_path c.role client.role ≡ b → passes_row test client f (if b then record c { suppressed = suppressed } else c) ≡ true
+      by true here =
+          let another : Bool = not (is_same_client client (client_of f c)) in
+          ap (λ (b : Bool). another || b) is ∙ or_true another
+      by false past = ap (λ (b : Bool). not (b && same_text f.name client.framework) || test c.suppressed) past
 
-  own_framework : (f : FrameworkRow) → are_quiet client (suppressed_in client true f) ≡ true
+  own_framework : (f : FrameworkRow) → passes test client (suppressed_in client suppressed f) ≡ true
   own_framework f = by (same_text f.name client.framework) refl
     where
-      another : (b quiet : Bool) → (not (b && false) || quiet) ≡ true
-      another true quiet = refl
-      another false quiet = refl
+      another : (b c : Bool) → (not (b && false) || c) ≡ true
+      another true c = refl
+      another false c = refl
 
-      all_others : (cs : List ClientRow) → same_text f.name client.framework ≡ false → list_all (is_quiet client f) cs ≡ true
+      all_others : (cs : List ClientRow) → same_text f.name client.framework ≡ false → list_all (passes_row test client f) cs ≡ true
       all_others [] past = refl
       all_others (c ∷ cs) past = and_from _ _
-          (ap (λ (b : Bool). not (same_path c.role client.role && b) || c.suppressed) past ∙ another (same_path c.role client.role) c.suppressed)
+          (ap (λ (b : Bool). not (same_path c.role client.role && b) || test c.suppressed) past ∙ another (same_path c.role client.role) (test c.suppressed))
           (all_others cs past)
 
       by : (b : Bool) → same_text f.name client.framework ≡ b
-          → are_quiet client (if b then record f { clients = map (suppressed_at client true) f.clients } else f) ≡ true
-      by true here = all_each (is_quiet client f) (suppressed_at client true) f.clients (own_row f)
+          → passes test client (if b then record f { clients = map (suppressed_at client suppressed) f.clients } else f) ≡ true
+      by true here = all_each (passes_row test client f) (suppressed_at client suppressed) f.clients (own_row f)
       by false past = all_others f.clients past
 
-  module _ (other : Client) (differ : is_same_client other client ≡ false) (suppressed : Bool) where
+-- ---- no other row is changed
+
+abbrev is_itself : Bool → Bool
+is_itself b = b
+
+module _ (client : Client) (suppressed : Bool) where
+  rows_unnoticed : (cs : List ClientRow) → map quiet_row (map (suppressed_at client suppressed) cs) ≡ map quiet_row cs
+  rows_unnoticed [] = refl
+  rows_unnoticed (c ∷ cs) = λ i. by (same_path c.role client.role) i ∷ rows_unnoticed cs i
+    where
+      by : (b : Bool) → record (if b then record c { suppressed = suppressed } else c) { suppressed = true } ≡ record c { suppressed = true }
+      by true = refl
+      by false = refl
+
+  frameworks_unnoticed : (fs : List FrameworkRow) → map quiet_framework (map (suppressed_in client suppressed) fs) ≡ map quiet_framework fs
+  frameworks_unnoticed [] = refl
+  frameworks_unnoticed (f ∷ fs) = λ i. by (same_text f.name client.framework) i ∷ frameworks_unnoticed fs i
+    where
+      by : (b : Bool) → quiet_framework (if b then record f { clients = map (suppressed_at client suppressed) f.clients } else f) ≡ quiet_framework f
+      by true = λ i. record f { clients = rows_unnoticed f.clients i }
+      by false = refl
+
+  module _ (other : Client) (differ : is_same_client other client ≡ false) where
     other_row : (f : FrameworkRow) (c : ClientRow) → same_text f.name client.framework ≡ true
-        → is_quiet other f (suppressed_at client suppressed c) ≡ is_quiet other f c
+        → passes_row is_itself other f (suppressed_at client suppressed c) ≡ passes_row is_itself other f c
     other_row f c own = by (same_path c.role client.role) refl
       where
         by : (b : Bool) → same_path c.role client.role ≡ b
-            → is_quiet other f (if b then record c { suppressed = suppressed } else c) ≡ is_quiet other f c
+            → passes_row is_itself other f (if b then record c { suppressed = suppressed } else c) ≡ passes_row is_itself other f c
         by true here =
             let role : c.role ≡ client.role = same_path-true c.role client.role here in
             let framework : f.name ≡ client.framework = same_from_test f.name client.framework own in
@@ -78,22 +103,25 @@ module _ (client : Client) where
             ap (λ (b : Bool). not b || suppressed) past ∙ sym (ap (λ (b : Bool). not b || c.suppressed) past)
         by false past = refl
 
-    other_framework : (f : FrameworkRow) → are_quiet other (suppressed_in client suppressed f) ≡ are_quiet other f
+    other_framework : (f : FrameworkRow) → passes is_itself other (suppressed_in client suppressed f) ≡ passes is_itself other f
     other_framework f = by (same_text f.name client.framework) refl
       where
         by : (b : Bool) → same_text f.name client.framework ≡ b
-            → are_quiet other (if b then record f { clients = map (suppressed_at client suppressed) f.clients } else f) ≡ are_quiet other f
-        by true here = all_as_before (is_quiet other f) (suppressed_at client suppressed) f.clients (λ c. other_row f c here)
+            → passes is_itself other (if b then record f { clients = map (suppressed_at client suppressed) f.clients } else f) ≡ passes is_itself other f
+        by true here = all_as_before (passes_row is_itself other f) (suppressed_at client suppressed) f.clients (λ c. other_row f c here)
         by false past = refl
 
-    others_as_before : (fs : List FrameworkRow) → list_all (are_quiet other) (map (suppressed_in client suppressed) fs) ≡ list_all (are_quiet other) fs
-    others_as_before fs = all_as_before (are_quiet other) (suppressed_in client suppressed) fs other_framework
+    others_as_before : (fs : List FrameworkRow) → list_all (passes is_itself other) (map (suppressed_in client suppressed) fs) ≡ list_all (passes is_itself other) fs
+    others_as_before fs = all_as_before (passes is_itself other) (suppressed_in client suppressed) fs other_framework
 
 pub suppression_is_its_clients : SuppressionIsItsClients
 unfolding effect
 suppression_is_its_clients rows client = (
-  all_each (are_quiet client) (suppressed_in client true) rows.frameworks (own_framework client),
+  all_each (passes is_itself client) (suppressed_in client true) rows.frameworks (own_framework client is_itself true refl),
+  all_each (passes not client) (suppressed_in client false) rows.frameworks (own_framework client not false refl),
+  frameworks_unnoticed client true rows.frameworks,
+  frameworks_unnoticed client false rows.frameworks,
   refl,
   refl,
-  λ other differ. (others_as_before client other differ true rows.frameworks, others_as_before client other differ false rows.frameworks),
+  λ other differ. (others_as_before client true other differ rows.frameworks, others_as_before client false other differ rows.frameworks),
 )

@@ -50,7 +50,7 @@ pub fn live_rows_law()
 
 /// An offer that is declined at once, with nothing refused, leaves only counts, the next number and the clock behind; a task
 /// that finishes goes alone and gives back exactly what it used; a filter goes with its agent, with its framework and when its
-/// client revives, and the others stay; an event suppresses its own client, and no other.
+/// client revives, and the others stay; an event that suppresses a client or makes it revive does so to no other.
 pub fn life_law()
     ensures declined { DeclinedAtOnceIsUndone }
     ensures finished { FinishedIsGivenBack }

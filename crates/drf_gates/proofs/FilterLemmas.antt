@@ -1,12 +1,12 @@
 -- Laws of filters.
 use Rattle.std.proofs.Common.{◌≡◌, ◌+◌, ◌<◌, ◌≤◌, ◌&&◌, ℕ, suc, Bool, true, false, filter, inl, inr, refl, List, [], ◌∷◌, ◌++◌, nat_lt, length, get_or, set, ap, ◌∙◌, sym, subst, min, arith, length-append, mod-lt}
-use Rattle.std.proofs.lemmas.Bool.{cases_Bool, and_parts, and_from, lt-ltb}
+use Rattle.std.proofs.lemmas.Bool.{cases_Bool, and_parts, and_from, lt-ltb, ltb-true}
 use Rattle.std.proofs.lemmas.List.{map-append, length-map, length-set}
 use Rattle.std.proofs.lemmas.List.Elements.{All-filter, All-push}
-use Rattle.std.proofs.lemmas.List.Folds.{list_any-from_Any, list_any_none}
+use Rattle.std.proofs.lemmas.List.Folds.{Any-from_list_any, list_any-from_Any, list_any_none}
 use Rattle.drf_role.specs.TextLaws.{same_itself, same_from_test}
 use Rattle.drf_role.specs.PathLaws.{same_path_itself, same_path-true}
-use Rattle.drf_bundle.specs.Bundle.{covers}
+use Rattle.drf_bundle.specs.Bundle.{IsBundle, covers}
 use Rattle.drf_bundle.specs.UnitProofs.{covers_by_units}
 use Rattle.drf_bundle.specs.declared.resource.Resource.{Resource}
 use Rattle.drf_role.specs.Text.{Text, same_text}
@@ -14,7 +14,7 @@ use Rattle.drf_role.specs.Path.{same_path}
 use Rattle.drf_rows.specs.Client.{Client}
 use Rattle.drf_rows.specs.Filters.{is_in_force, in_force, is_of_client, is_on_agent, holds_back, is_held_back}
 use Rattle.drf_rows.specs.declared.rows.FilterRow.{FilterRow}
-use Rattle.drf_gates.specs.Laws.{LessIsHeldBack}
+use Rattle.drf_gates.specs.Laws.{LessIsHeldBack, HeldBackIsRefused}
 use Rattle.drf_gates.specs.Chains.{IsLast, IsChained}
 use Rattle.drf_gates.specs.Index.{key_hash, bucket_of, row_bucket, buckets_of, IsChainedBy, IsIndexed, IsLeft, HasRoom, IsKept, NoneEndsBefore}
 use Rattle.drf_gates.specs.declared.index.Index.{Index}
@@ -27,6 +27,24 @@ less_is_held_back filters f clock bundle is_there before is_bundle is_part below
     let own : is_of_client client f ≡ true = and_from _ _ (same_path_itself f.role) (same_itself f.framework) in
     list_any-from_Any (holds_back clock client f.agent bundle) filters
     (is_there.0, f, is_there.1, is_there.2, and_from _ _ (lt-ltb clock f.until before) (and_from _ _ own (and_from _ _ (same_itself f.agent) covered)))
+
+pub held_back_is_refused : HeldBackIsRefused
+held_back_is_refused filters clock client agent bundle held are_bundles is_part =
+    let some = Any-from_list_any (holds_back clock client agent bundle) filters held in
+    let f : FilterRow = some.1 in
+    let parts = and_parts (is_in_force clock f) (is_of_client client f && (is_on_agent agent f && covers f.bundle bundle)) some.4 in
+    let own = and_parts (is_of_client client f) (is_on_agent agent f && covers f.bundle bundle) parts.1 in
+    let names = and_parts (same_path f.role client.role) (same_text f.framework client.framework) own.0 in
+    let on = and_parts (is_on_agent agent f) (covers f.bundle bundle) own.1 in
+    let is_bundle : IsBundle f.bundle = subst (λ (g : FilterRow). IsBundle g.bundle) some.3 (are_bundles some.0 f some.2) in (
+      f,
+      (some.0, some.2, some.3),
+      ltb-true clock f.until parts.0,
+      same_path-true f.role client.role names.0,
+      same_from_test f.framework client.framework names.1,
+      same_from_test f.agent agent on.0,
+      (covers_by_units f.bundle bundle is_bundle is_part).0 on.1,
+    )
 
 -- what a filter holds back goes to its client on its agent, which are in its bucket
 pub held_in_bucket : (number clock : ℕ) (client : Client) (agent : Text) (bundle : List Resource) (f : FilterRow)

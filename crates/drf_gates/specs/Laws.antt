@@ -1,5 +1,5 @@
 -- Laws of filters, as statements.
-use Rattle.std.specs.Prelude.{◌≡◌, ℕ, ◌<◌, ◌≤◌, List, IsTrue, Contains}
+use Rattle.std.specs.Prelude.{◌≡◌, ℕ, ◌<◌, ◌≤◌, List, All, IsTrue, Contains}
 use Rattle.drf_role.specs.Text.{Text}
 use Rattle.drf_bundle.specs.Value.{Point}
 use Rattle.drf_bundle.specs.Bundle.{Key, IsBundle, units}
@@ -19,3 +19,11 @@ LessIsHeldBack = (filters : List FilterRow) (f : FilterRow) (clock : ℕ) (bundl
     → Contains filters f → clock < f.until → IsBundle f.bundle → IsBundle bundle
     → ((key : Key) (p : Point) → units bundle key p ≤ units f.bundle key p)
     → IsTrue (is_held_back filters clock (record { role = f.role; framework = f.framework }) f.agent bundle)
+
+-- and what is held back from a client on an agent has at most the units of some filter in force that is theirs
+abbrev pub HeldBackIsRefused : Type 0
+HeldBackIsRefused = (filters : List FilterRow) (clock : ℕ) (client : Client) (agent : Text) (bundle : List Resource)
+    → IsTrue (is_held_back filters clock client agent bundle) → All (λ f. IsBundle f.bundle) filters → IsBundle bundle
+    → (f : FilterRow) × Contains filters f × (clock < f.until)
+    × (f.role ≡ client.role) × (f.framework ≡ client.framework) × (f.agent ≡ agent)
+    × ((key : Key) (p : Point) → units bundle key p ≤ units f.bundle key p)

@@ -1,4 +1,4 @@
-//! The filters of declined offers.
+//! The filters of declined offers, and of what is left of accepted ones.
 ghost use Rattle.std.specs.Prelude.{◌≡◌, [], ◌∷◌, ◌++◌, length, IfOk, OnOk, OnErr};
 ghost use Rattle.drf_rows.specs.Filters.{is_held_back, in_force, number_in_force, without_client, without_agent, without_framework};
 
@@ -18,7 +18,7 @@ use std::marker::Model;
 pub struct FilterTable {
     rows: Vec<FilterRow>,
     index: Index,
-    // No filter ends before this moment.
+    // No filter ends before this moment, in milliseconds.
     soonest: u64,
 }
 
@@ -72,7 +72,8 @@ impl FilterTable {
         Ok(())
     }
 
-    /// Whether a filter in force of the client on the agent covers the bundle. Looks at their chain alone.
+    /// Whether a filter of the client on the agent that is in force at `now`, in milliseconds, covers the bundle. Looks at
+    /// their chain alone.
     pub fn holds_back(
         &self,
         role: &Role,
@@ -97,7 +98,7 @@ impl FilterTable {
         false
     }
 
-    /// How many filters are in force.
+    /// How many filters are in force at `now`, in milliseconds.
     pub fn in_force(&self, now: u64) -> u64
         ensures { result ≡ number_in_force now self.now }
     {
@@ -107,7 +108,7 @@ impl FilterTable {
         self.rows.iter().filter(|row| is_in_force(row, now)).count() as u64
     }
 
-    /// Leaves the filters in force alone.
+    /// Drops the filters that are not in force at `now`, in milliseconds.
     pub fn drop_spent(&mut self, now: u64)
         ensures { self.new ≡ in_force now self.old }
     {
@@ -143,7 +144,7 @@ impl FilterTable {
         self.index.settle(&self.rows);
     }
 
-    /// The filters in force, copied.
+    /// The filters in force at `now`, in milliseconds, copied.
     pub fn copy_in_force(&self, now: u64) -> Result<Table<FilterRow>, AllocError>
         ensures { IfOk result (λ rows. rows ≡ in_force now self.now) }
     {

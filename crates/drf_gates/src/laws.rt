@@ -1,8 +1,10 @@
 //! Laws of filters. A call does nothing: its contract is the law.
-ghost use Rattle.drf_gates.specs.Laws.{SpentHoldNothing, LessIsHeldBack};
+ghost use Rattle.drf_gates.specs.Laws.{SpentHoldNothing, LessIsHeldBack, HeldBackIsRefused};
 
-/// Filters that have run out hold nothing back, and a filter in force holds back what has at most its units.
+/// Filters that have run out hold nothing back; a filter in force holds back, from its client on its agent, what has at most
+/// its units, and nothing else is held back.
 pub fn filters_law()
     ensures spent { SpentHoldNothing }
     ensures less { LessIsHeldBack }
+    ensures refused { HeldBackIsRefused }
 {}

@@ -1,4 +1,5 @@
-//! What stands between what is free on an agent and an offer of it: the filters of declined offers.
+//! What stands between what is free on an agent and an offer of it: the filters of declined offers, and of what is
+//! left of accepted ones.
 #![tactic(auto)]
 
 mod filters;

@@ -60,7 +60,7 @@ pub(crate) fn copy_row(row: &FilterRow) -> Result<FilterRow, AllocError>
     })
 }
 
-/// A moment before which no filter ends.
+/// A moment before which no filter ends, in milliseconds.
 pub(crate) fn soonest(rows: &[FilterRow]) -> u64
     ensures { NoneEndsBefore result rows.now }
 {

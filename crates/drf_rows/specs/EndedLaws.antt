@@ -24,7 +24,7 @@ use Rattle.drf_rows.specs.Consistent.{are_distinct_tasks, IsAgent, IsCovered, Is
 use Rattle.drf_rows.specs.ConsistentLaws.{same_text-swap, numbers_within, bundles-consistent}
 use Rattle.drf_rows.specs.ListLaws.{filter_each, find_only, filter_only, each_from, each_at, each_true, each_fails, each_append, each_parts}
 use Rattle.drf_rows.specs.Step.{effect}
-use Rattle.drf_rows.specs.LifeLaws.{DeclinedAtOnceIsUndone, FinishedIsGivenBack, FiltersGoWithTheirOwner}
+use Rattle.drf_rows.specs.LifeLaws.{DeclinedAtOnceIsUndone, FinishedIsGivenBack, FiltersGoWithTheirOwner, OtherFiltersStay}
 use Rattle.drf_rows.specs.declared.event.Event.TheVariants.{Finish}
 use Rattle.drf_rows.specs.declared.rows.AgentRow.{AgentRow}
 use Rattle.drf_rows.specs.declared.rows.FilterRow.{FilterRow}
@@ -77,6 +77,10 @@ filters_go rows agent framework client = (
   none_left (λ f. same_text f.framework framework) rows.filters,
   none_left (is_of_client client) rows.filters,
 )
+
+pub other_filters_stay : OtherFiltersStay
+unfolding effect
+other_filters_stay rows agent framework client = (refl, refl, refl)
 
 -- ---- a task finishes
 
@@ -172,19 +176,17 @@ module _ (rows : Rows) (before later : List TaskRow) (t : TaskRow) (consistent :
         ∙ omega arith)
 
     finished :
-        (after.tasks ≡ before ++ later)
-        × (after.offers ≡ rows.offers)
+        (after ≡ left)
         × (same_text t.agent agent.name ≡ true → join (free_of rows agent) t.bundle ≡ Some (free_of after agent))
         × (same_text t.agent agent.name ≡ false → free_of after agent ≡ free_of rows agent)
     unfolding left
     finished =
         subst (λ (r : Rows).
-        (r.tasks ≡ before ++ later)
-        × (r.offers ≡ rows.offers)
+        (r ≡ left)
         × (same_text t.agent agent.name ≡ true → join (free_of rows agent) t.bundle ≡ Some (free_of r agent))
         × (same_text t.agent agent.name ≡ false → free_of r agent ≡ free_of rows agent)) (sym only_task)
-        (refl, refl, given_back, kept_elsewhere)
+        (refl, given_back, kept_elsewhere)
 
 pub finished_is_given_back : FinishedIsGivenBack
-unfolding after
+unfolding after left
 finished_is_given_back rows before later t agent place consistent runs at = finished rows before later t consistent runs agent place at

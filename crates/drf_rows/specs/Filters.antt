@@ -1,4 +1,5 @@
--- Filters: what a client declined on an agent is not offered to it there again for a while.
+-- Filters: what a client declined on an agent, or left of an offer that it accepted, is not offered to it there again for
+-- a while.
 use Rattle.std.specs.Prelude.{ℕ, Bool, not, ◌&&◌, List, filter, count_by, nat_lt}
 use Rattle.std.specs.List.{list_any}
 use Rattle.drf_role.specs.Text.{Text, same_text}

@@ -1,5 +1,5 @@
 -- What is proved of the definitions.
-use Rattle.std.specs.Prelude.{◌≡◌, ℕ, ◌+◌, ◌≤◌, Bool, true, false, ◌&&◌, List, [], ◌∷◌, ◌++◌, map, length, Some, None, IsTrue, nat_lt}
+use Rattle.std.specs.Prelude.{◌≡◌, ℕ, ◌+◌, ◌≤◌, Bool, true, false, not, ◌&&◌, ◌||◌, List, [], ◌∷◌, ◌++◌, map, length, Some, None, IsTrue, Contains, nat_lt, nat_le}
 use Rattle.std.specs.List.{list_all, list_any}
 use Rattle.std.specs.List.Sorted.{IsPermutation}
 use Rattle.std.specs.Ordering.{is_lt}
@@ -65,6 +65,16 @@ abbrev pub CasesRise : Type 0
 CasesRise =
     (limits : LimitNumbers) (rows : Rows) (event : Event)
     → is_rising (map (λ c. number_of c.1) (cases_of limits rows event)) ≡ true
+
+-- an event is refused with a case that holds, and none that holds has a lesser number; where no case holds it is not refused
+abbrev pub LeastIsTold : Type 0
+LeastIsTold =
+    (limits : LimitNumbers) (rows : Rows) (event : Event)
+    → let cases : List (Bool × Refusal) = cases_of limits rows event in
+    ((refusal : Refusal) → refusal_of limits rows event ≡ Some refusal
+    → Contains cases (true, refusal)
+    × (list_all (λ c. not c.0 || nat_le (number_of refusal) (number_of c.1)) cases ≡ true))
+    × (refusal_of limits rows event ≡ None → list_any (λ c. c.0) cases ≡ false)
 
 -- a refused event is told so, and changes nothing
 abbrev pub RefusedChangesNothing : Type 0

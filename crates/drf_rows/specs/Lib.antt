@@ -32,8 +32,10 @@ pub mod OrderExamples
 pub mod WeightExamples
 pub mod ReportExamples
 pub mod LifeExamples
+pub mod FilterExamples
 pub mod Laws
 pub mod LifeLaws
 pub mod EndedLaws
+pub mod SuppressionLaws
 pub mod OfferedLaws
 pub mod ReportLaws

@@ -1,31 +1,36 @@
 -- Runs in which offers are accepted and declined, tasks finish, and agents and frameworks leave.
-use Rattle.std.specs.Prelude.{ℕ, List, [], ◌∷◌, codes}
+use Rattle.std.specs.Prelude.{ℕ, List, [], ◌∷◌, ◌++◌, codes}
 use Rattle.drf_bundle.specs.declared.resource.Resource.{Resource}
 use Rattle.drf_rows.specs.LimitNumbers.{LimitNumbers, ceilings}
 use Rattle.drf_rows.specs.Examples.{cpus, mem, in_role, offer}
+use Rattle.drf_rows.specs.OrderExamples.{role_a}
+use Rattle.drf_rows.specs.ReportExamples.{line, dot, none_reported}
 use Rattle.drf_rows.specs.declared.event.Event.{Event}
+use Rattle.drf_rows.specs.declared.event.Event.TheVariants as event
 use Rattle.drf_rows.specs.declared.event.Event.TheVariants.{AddAgent, RemoveAgent, ActivateAgent, DeactivateAgent, RemoveFramework, Accept, Decline, Rescind, Finish, Suppress, Revive, Cycle}
 use Rattle.drf_rows.specs.declared.reply.Refusal.TheVariants.{BadMoment, UnknownAgent, KnownAgent, UnknownFramework, KnownFramework, UnknownOffer, NotYours, UnknownTask, KnownTask, NotInRole, Empty, NotCovered, TooMany}
 use Rattle.drf_rows.specs.declared.reply.OfferLine.{OfferLine}
+use Rattle.drf_rows.specs.declared.report.Report.{Report}
 use Rattle.drf_rows.specs.declared.reply.Reply.{Reply}
+use Rattle.drf_rows.specs.declared.reply.Reply.TheVariants as reply
 use Rattle.drf_rows.specs.declared.reply.Reply.TheVariants.{Done, Offers, Refused}
 
 -- one offer is all that a cycle makes, or none is
-abbrev one : OfferLine → Reply
+abbrev pub one : OfferLine → Reply
 one line = Offers (line ∷ [])
 
-abbrev none : Reply
+abbrev pub none : Reply
 none = Offers []
 
 -- at moment 0, and for no time
-abbrev accept : List ℕ → ℕ → List ℕ → List Resource → Event
+abbrev pub accept : List ℕ → ℕ → List ℕ → List Resource → Event
 accept framework number task used = Accept framework number task used 0 0
 
-abbrev decline : List ℕ → ℕ → Event
+abbrev pub decline : List ℕ → ℕ → Event
 decline framework number = Decline framework number 0 0
 
 -- an offer of all of an agent that has one of `cpus`
-abbrev offer_of_n1 : ℕ → OfferLine
+abbrev pub offer_of_n1 : ℕ → OfferLine
 offer_of_n1 number = offer number (codes "f1") (codes "a") (codes "n1") (cpus 1000 ∷ [])
 
 -- what a task uses is offered again when it has finished
@@ -135,8 +140,21 @@ taking_part =
     ∷ Cycle 0
     ∷ Rescind 3
     ∷ RemoveAgent (codes "n1")
+    ∷ event.Report
     ∷ RemoveFramework (codes "f1")
+    ∷ event.Report
     ∷ []
+
+-- a framework with three offers behind it, where nothing is
+abbrev all_gone : Report
+all_gone = record {
+  total = [];
+  nodes =
+      line role_a [] (0, 1) 3
+      ∷ line (role_a ++ dot) [] (0, 1) 3
+      ∷ line (role_a ++ dot ++ codes "f1" ∷ []) [] (0, 1) 3
+      ∷ [];
+}
 
 abbrev pub taking_part_replies : List Reply
 taking_part_replies =
@@ -157,7 +175,9 @@ taking_part_replies =
     ∷ one (offer_of_n1 3)
     ∷ Done
     ∷ Done
+    ∷ reply.Report all_gone
     ∷ Done
+    ∷ reply.Report none_reported
     ∷ []
 
 -- what is refused, one case at a time

@@ -1,5 +1,5 @@
 -- What is proved of offers, tasks and filters, from their making to their end.
-use Rattle.std.specs.Prelude.{◌≡◌, ℕ, ◌+◌, max, Bool, true, false, not, ◌&&◌, ◌||◌, List, [], ◌∷◌, ◌++◌, map, flat_map, slice_get, Some}
+use Rattle.std.specs.Prelude.{◌≡◌, ℕ, ◌+◌, max, Bool, true, false, not, ◌&&◌, ◌||◌, List, [], ◌∷◌, ◌++◌, map, filter, flat_map, slice_get, Some}
 use Rattle.std.specs.List.{list_all, list_any}
 use Rattle.drf_role.specs.Text.{Text, same_text}
 use Rattle.drf_role.specs.Path.{same_path}
@@ -14,11 +14,13 @@ use Rattle.drf_rows.specs.Consistent.{IsConsistent}
 use Rattle.drf_rows.specs.Cycle.{free_of, new_offer, with_offer, cycle}
 use Rattle.drf_rows.specs.Step.{effect, new_offers, rows_after_all, replies_to}
 use Rattle.drf_rows.specs.declared.rows.AgentRow.{AgentRow}
+use Rattle.drf_rows.specs.declared.rows.ClientRow.{ClientRow}
+use Rattle.drf_rows.specs.declared.rows.FrameworkRow.{FrameworkRow}
 use Rattle.drf_rows.specs.declared.rows.OfferRow.{OfferRow}
 use Rattle.drf_rows.specs.declared.rows.TaskRow.{TaskRow}
 use Rattle.drf_rows.specs.declared.rows.Rows.{Rows}
 use Rattle.drf_rows.specs.declared.event.Event.{Event}
-use Rattle.drf_rows.specs.declared.event.Event.TheVariants.{RemoveAgent, RemoveFramework, Decline, Finish, Revive}
+use Rattle.drf_rows.specs.declared.event.Event.TheVariants.{RemoveAgent, RemoveFramework, Decline, Finish, Suppress, Revive}
 use Rattle.drf_rows.specs.declared.reply.OfferLine.{OfferLine}
 use Rattle.drf_rows.specs.declared.reply.Reply.{Reply}
 use Rattle.drf_rows.specs.declared.reply.Reply.TheVariants.{Offers}
@@ -33,7 +35,7 @@ DeclinedAtOnceIsUndone =
     effect (with_offer rows o) (Decline client.framework o.number at 0)
     ≡ record rows { frameworks = (with_offer rows o).frameworks; next_offer = rows.next_offer + 1; clock = max rows.clock at }
 
--- a task that finishes goes alone, and gives back to its agent exactly what it used
+-- a task that finishes goes, nothing else of the rows changes, and its agent gets back exactly what it used
 abbrev pub FinishedIsGivenBack : Type 0
 FinishedIsGivenBack =
     (rows : Rows) (before later : List TaskRow) (t : TaskRow) (agent : AgentRow) (place : ℕ)
@@ -41,8 +43,7 @@ FinishedIsGivenBack =
     → rows.tasks ≡ before ++ t ∷ later
     → slice_get rows.agents place ≡ Some agent
     → let after : Rows = effect rows (Finish t.framework t.name) in
-    (after.tasks ≡ before ++ later)
-    × (after.offers ≡ rows.offers)
+    (after ≡ record rows { tasks = before ++ later })
     × (same_text t.agent agent.name ≡ true → join (free_of rows agent) t.bundle ≡ Some (free_of after agent))
     × (same_text t.agent agent.name ≡ false → free_of after agent ≡ free_of rows agent)
 
@@ -54,6 +55,15 @@ FiltersGoWithTheirOwner =
     × (list_any (λ f. same_text f.framework framework) (effect rows (RemoveFramework framework)).filters ≡ false)
     × (list_any (is_of_client client) (effect rows (Revive client.framework client.role)).filters ≡ false)
 
+-- the others stay: those on other agents, of other frameworks, and of other clients
+abbrev pub OtherFiltersStay : Type 0
+OtherFiltersStay =
+    (rows : Rows) (agent framework : Text) (client : Client)
+    → ((effect rows (RemoveAgent agent)).filters ≡ filter (λ f. not (same_text f.agent agent)) rows.filters)
+    × ((effect rows (RemoveFramework framework)).filters ≡ filter (λ f. not (same_text f.framework framework)) rows.filters)
+    × ((effect rows (Revive client.framework client.role)).filters
+    ≡ filter (λ f. not (same_path f.role client.role && same_text f.framework client.framework)) rows.filters)
+
 abbrev pub is_same_client : Client → Client → Bool
 is_same_client client other = same_path other.role client.role && same_text other.framework client.framework
 
@@ -61,6 +71,37 @@ is_same_client client other = same_path other.role client.role && same_text othe
 abbrev pub is_suppressed : Rows → Client → Bool
 is_suppressed rows client =
     list_all (λ f. list_all (λ c. not (is_same_client client (client_of f c)) || c.suppressed) f.clients) rows.frameworks
+
+-- no row of the client is
+abbrev pub is_served : Rows → Client → Bool
+is_served rows client =
+    list_all (λ f. list_all (λ c. not (is_same_client client (client_of f c)) || not c.suppressed) f.clients) rows.frameworks
+
+-- the frameworks, as they were if all clients were suppressed
+abbrev pub quiet_row : ClientRow → ClientRow
+quiet_row c = record c { suppressed = true }
+
+abbrev pub quiet_framework : FrameworkRow → FrameworkRow
+quiet_framework f = record f { clients = map quiet_row f.clients }
+
+abbrev pub all_suppressed : Rows → List FrameworkRow
+all_suppressed rows = map quiet_framework rows.frameworks
+
+-- an event suppresses its client or makes it revive, and leaves the others suppressed or not as they were; of the rows it
+-- changes nothing else, but that filters go when a client revives
+abbrev pub SuppressionIsItsClients : Type 0
+SuppressionIsItsClients =
+    (rows : Rows) (client : Client)
+    → let suppressed : Rows = effect rows (Suppress client.framework client.role) in
+    let revived : Rows = effect rows (Revive client.framework client.role) in
+    (is_suppressed suppressed client ≡ true)
+    × (is_served revived client ≡ true)
+    × (all_suppressed suppressed ≡ all_suppressed rows)
+    × (all_suppressed revived ≡ all_suppressed rows)
+    × (suppressed ≡ record rows { frameworks = suppressed.frameworks })
+    × (revived ≡ record rows { frameworks = revived.frameworks; filters = revived.filters })
+    × ((other : Client) → is_same_client other client ≡ false
+    → (is_suppressed suppressed other ≡ is_suppressed rows other) × (is_suppressed revived other ≡ is_suppressed rows other))
 
 -- no cycle offers anything to a client that is suppressed
 abbrev pub SuppressedIsNotOffered : Type 0

@@ -83,6 +83,10 @@ first_agent = agent_with (cpus 9000 ∷ mem 18432000 ∷ [])
 abbrev pub second_agent : AgentRow
 second_agent = record { name = codes "n2"; total = cpus 1000 ∷ mem 36864000 ∷ []; active = true }
 
+-- what it has counts in the totals though it takes no turn
+abbrev pub idle_agent : AgentRow
+idle_agent = record second_agent { active = false }
+
 abbrev pub eng : List (List ℕ)
 eng = codes "eng" ∷ []
 

@@ -5,13 +5,14 @@
 ghost use Rattle.std.specs.Prelude.{◌≡◌, [], ◌∷◌, codes};
 ghost use Rattle.drf_rows.specs.LimitNumbers.{ceilings};
 ghost use Rattle.drf_rows.specs.Step.{opening, replies_to};
-ghost use Rattle.drf_rows.specs.Laws.{NoneBeforeItself, AtMostOneBefore, OneServingOrder, TooLittleIsNotGranted, FirstIsGrantedAll, CasesRise, RefusedChangesNothing, AcceptedIsCounted, RunsGoOn, LiveRowsReply, LiveRowsGoOn, LiveRowsRun, HeldIsReported, NodesRise, NodesBeginPaths};
-ghost use Rattle.drf_rows.specs.LifeLaws.{DeclinedAtOnceIsUndone, FinishedIsGivenBack, FiltersGoWithTheirOwner, SuppressedIsNotOffered, NumbersAreNew};
+ghost use Rattle.drf_rows.specs.Laws.{NoneBeforeItself, AtMostOneBefore, OneServingOrder, TooLittleIsNotGranted, FirstIsGrantedAll, CasesRise, LeastIsTold, RefusedChangesNothing, AcceptedIsCounted, RunsGoOn, LiveRowsReply, LiveRowsGoOn, LiveRowsRun, HeldIsReported, NodesRise, NodesBeginPaths};
+ghost use Rattle.drf_rows.specs.LifeLaws.{DeclinedAtOnceIsUndone, FinishedIsGivenBack, FiltersGoWithTheirOwner, OtherFiltersStay, SuppressionIsItsClients, SuppressedIsNotOffered, NumbersAreNew};
 ghost use Rattle.drf_rows.specs.Examples.{one_cycle, two_cycles, two_cycles_replies, two_frameworks, two_frameworks_replies, replies_with, not_offered, offered_whole, refused_as_too_large, one_agent, two_agents, two_events, two_names, three_names, one_framework, one_client, two_registrations, one_role, roles_listed, reserved_for_eng, reserved_for_eng_replies, cpus, cpus_for, mem, gpus};
-ghost use Rattle.drf_rows.specs.OrderExamples.{served, offered, half_at_work, close_shares, equal_shares, weighted_shares, shares_of, first_agent, second_agent, role_tree, more_for_ops, half_weight_of_eng, nothing_held};
+ghost use Rattle.drf_rows.specs.OrderExamples.{served, offered, half_at_work, close_shares, equal_shares, weighted_shares, shares_of, first_agent, second_agent, idle_agent, role_tree, more_for_ops, half_weight_of_eng, nothing_held};
 ghost use Rattle.drf_rows.specs.Report.{report_of};
 ghost use Rattle.drf_rows.specs.ReportExamples.{tree_at_work, tree_report, one_weighted, weighted_report, nothing_there, nothing_report, reserved_held, reserved_report, two_reports, two_reports_replies};
 ghost use Rattle.drf_rows.specs.LifeExamples.{a_task, a_task_replies, a_filter, a_filter_replies, a_clock, a_clock_replies, a_year, a_year_replies, one_filter, two_filters, two_filters_replies, taking_part, taking_part_replies, refused, refused_replies};
+ghost use Rattle.drf_rows.specs.FilterExamples.{whose_filter, whose_filter_replies, a_rest, a_rest_replies, a_later_decline, a_later_decline_replies, at_the_limit, at_the_limit_replies, two_roles, two_roles_replies, one_role_revives, one_role_revives_replies, who_leaves, who_leaves_replies};
 ghost use Rattle.drf_rows.specs.WeightLaws.{RoleHasItsWeight, OthersKeepTheirWeight, EachHasOneRow};
 ghost use Rattle.drf_rows.specs.WeightExamples.{bounds, bounds_replies, replaced, weights_after, replaced_rows, one_weight, one_weight_replies, replies_by_weight, third_to};
 
@@ -24,7 +25,8 @@ pub fn serving_order_law()
     ensures unique { OneServingOrder }
 {}
 
-/// The turn of an agent on which too little is free, or all that is free is granted to the first client.
+/// Where too little is free on an agent its turn offers nothing, and where all that is free is granted to the first client
+/// it offers that, and nothing to the others.
 pub fn turn_law()
     ensures little { TooLittleIsNotGranted }
     ensures enough { FirstIsGrantedAll }
@@ -32,7 +34,8 @@ pub fn turn_law()
 
 /// A step refuses an event, by the least number of a case that holds, or does what the event says.
 pub fn step_law()
-    ensures least { CasesRise }
+    ensures rising { CasesRise }
+    ensures least { LeastIsTold }
     ensures refused { RefusedChangesNothing }
     ensures accepted { AcceptedIsCounted }
     ensures runs { RunsGoOn }
@@ -45,12 +48,15 @@ pub fn live_rows_law()
     ensures run { LiveRowsRun }
 {}
 
-/// An offer that is declined at once leaves nothing behind, a task that finishes gives back exactly what it used, and no
-/// filter outlives its agent, its framework, or the next revival of its client.
+/// An offer that is declined at once, with nothing refused, leaves only counts, the next number and the clock behind; a task
+/// that finishes goes alone and gives back exactly what it used; a filter goes with its agent, with its framework and when its
+/// client revives, and the others stay; an event that suppresses a client or makes it revive does so to no other.
 pub fn life_law()
     ensures declined { DeclinedAtOnceIsUndone }
     ensures finished { FinishedIsGivenBack }
     ensures filters { FiltersGoWithTheirOwner }
+    ensures others { OtherFiltersStay }
+    ensures suppression { SuppressionIsItsClients }
 {}
 
 /// A cycle offers nothing to a client that is suppressed, and no number is given to two offers.
@@ -92,7 +98,8 @@ pub fn inactive_example()
     ensures offered { offered half_at_work ≡ (codes "n2", codes "fb") ∷ [] }
 {}
 
-/// Each limit is reached before it refuses.
+/// Of a scalar on one agent the largest amount is accepted, and one thousandth more is not; a limit of one or two of agents,
+/// names of scalars, frameworks, clients, roles or events refuses one more.
 pub fn limits_example()
     ensures largest { replies_with (cpus 1099511627775 ∷ []) ≡ offered_whole (cpus 1099511627775 ∷ []) }
     ensures too_large { replies_with (cpus 1099511627776 ∷ []) ≡ refused_as_too_large }
@@ -112,6 +119,7 @@ pub fn order_example()
     ensures weighted { served weighted_shares ≡ codes "fa" ∷ codes "fb" ∷ [] }
     ensures one_agent { served (shares_of (first_agent ∷ [])) ≡ codes "fa" ∷ codes "fb" ∷ [] }
     ensures two_agents { served (shares_of (first_agent ∷ second_agent ∷ [])) ≡ codes "fb" ∷ codes "fa" ∷ [] }
+    ensures idle { served (shares_of (first_agent ∷ idle_agent ∷ [])) ≡ codes "fb" ∷ codes "fa" ∷ [] }
     ensures tree { served (role_tree 1 [] []) ≡ codes "f3" ∷ codes "f1" ∷ codes "f2" ∷ [] }
     ensures more_for_one { served (role_tree 2 more_for_ops []) ≡ codes "f1" ∷ codes "f2" ∷ codes "f3" ∷ [] }
     ensures light { served (role_tree 2 more_for_ops half_weight_of_eng) ≡ codes "f3" ∷ codes "f1" ∷ codes "f2" ∷ [] }
@@ -145,7 +153,8 @@ pub fn report_example()
     ensures events { replies_to ceilings opening two_reports ≡ two_reports_replies }
 {}
 
-/// What a task used is offered again when it has finished, and what was declined when its filter has ended.
+/// What a task used is offered again when it has finished, and what was declined when its filter has ended: counted from the
+/// clock, after 365 days at most. One filter in force more than the limit is refused.
 pub fn life_example()
     ensures task { replies_to ceilings opening a_task ≡ a_task_replies }
     ensures filter { replies_to ceilings opening a_filter ≡ a_filter_replies }
@@ -154,8 +163,26 @@ pub fn life_example()
     ensures limit { replies_to one_filter opening two_filters ≡ two_filters_replies }
 {}
 
-/// What a deactivated agent, a suppressed client and a client that revives is offered, and what is refused.
+/// A deactivated agent is not offered, a suppressed client is offered nothing, and one that revives is offered what it
+/// declined; what leaves is reported no more. Each refusal from `BadMoment` to `NotCovered` is told, but for
+/// `KnownAgent`.
 pub fn taking_part_example()
     ensures part { replies_to ceilings opening taking_part ≡ taking_part_replies }
     ensures refused { replies_to ceilings opening refused ≡ refused_replies }
+{}
+
+/// A filter holds back what it covers from its own client on its own agent, from the clock after its event to its end; what
+/// sets no filter is not refused for their limit. The latest moment is accepted.
+pub fn filters_example()
+    ensures whose { replies_to ceilings opening whose_filter ≡ whose_filter_replies }
+    ensures rest { replies_to ceilings opening a_rest ≡ a_rest_replies }
+    ensures later { replies_to ceilings opening a_later_decline ≡ a_later_decline_replies }
+    ensures limit { replies_to one_filter opening at_the_limit ≡ at_the_limit_replies }
+{}
+
+/// What revives, leaves or is deactivated leaves alone what is another client's or another agent's.
+pub fn others_example()
+    ensures roles { replies_to ceilings opening two_roles ≡ two_roles_replies }
+    ensures frameworks { replies_to ceilings opening one_role_revives ≡ one_role_revives_replies }
+    ensures left { replies_to ceilings opening who_leaves ≡ who_leaves_replies }
 {}

@@ -10,10 +10,11 @@ pub const LATEST_MOMENT: u64 = 1 << 62;
 /// The longest time for which an offer is refused, in milliseconds: 365 days.
 pub const LONGEST_REFUSAL: u64 = 31_536_000_000;
 
-/// The greatest amount of a scalar on one agent, in thousandths.
+/// The greatest amount of a scalar on one agent, over all its reservations, in thousandths.
 pub const LARGEST_AMOUNT: u64 = (1 << 40) - 1;
 
-/// How large each table of the allocator may grow. Each number is at least 1 and at most its ceiling.
+/// How many agents, clients, filters in force and more the allocator may have. Each number is at least 1 and at most
+/// its ceiling.
 #[derive(Clone, Copy, Debug)]
 pub struct Limits {
     agents: u64,

@@ -36,9 +36,10 @@ pub enum Refusal {
     NotCovered,
     /// The weight is not from 1 to 1,000,000 thousandths.
     BadWeight,
-    /// A scalar of the agent exceeds 2^40 - 1 thousandths.
+    /// What the agent has of one scalar, over all its reservations, exceeds 2^40 - 1 thousandths.
     TooLarge,
-    /// The event would make a table larger than its limit.
+    /// A limit would be passed: of agents, names of scalars, frameworks, roles of a framework, clients, weights, or filters
+    /// in force.
     TooMany,
 }
 

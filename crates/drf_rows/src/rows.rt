@@ -69,7 +69,8 @@ pub struct FilterRow {
     pub until: u64,
 }
 
-/// All that the allocator knows.
+/// All that the allocator knows. `clock` is in milliseconds, `next_offer` is the number of the next offer, and `accepted`
+/// counts the events that were not refused.
 #[derive(Debug, Drop)]
 pub struct Rows {
     pub agents: Table<AgentRow>,

@@ -1,4 +1,5 @@
-use Rattle.drf_rows.specs.EndedLaws.{declined_at_once, finished_is_given_back, filters_go}
+use Rattle.drf_rows.specs.EndedLaws.{declined_at_once, finished_is_given_back, filters_go, other_filters_stay}
+use Rattle.drf_rows.specs.SuppressionLaws.{suppression_is_its_clients}
 use Rattle.drf_rows.proofs.laws.life_law.Goals as goal
 
 pub returns-clause-declined : goal.returns-clause-declined
@@ -9,3 +10,9 @@ returns-clause-finished c = finished_is_given_back
 
 pub returns-clause-filters : goal.returns-clause-filters
 returns-clause-filters c = filters_go
+
+pub returns-clause-others : goal.returns-clause-others
+returns-clause-others c = other_filters_stay
+
+pub returns-clause-suppression : goal.returns-clause-suppression
+returns-clause-suppression c = suppression_is_its_clients

@@ -1,9 +1,12 @@
-use Rattle.drf_rows.specs.StepLaws.{cases_rise, reply_to-refused, rows_after-refused, reply_to-accepted, rows_after-accepted}
+use Rattle.drf_rows.specs.StepLaws.{cases_rise, least_is_told, reply_to-refused, rows_after-refused, reply_to-accepted, rows_after-accepted}
 use Rattle.drf_rows.specs.RunLaws.{replies_to-append, rows_after_all-append}
 use Rattle.drf_rows.proofs.laws.step_law.Goals as goal
 
+pub returns-clause-rising : goal.returns-clause-rising
+returns-clause-rising c = cases_rise
+
 pub returns-clause-least : goal.returns-clause-least
-returns-clause-least c = cases_rise
+returns-clause-least c = least_is_told
 
 pub returns-clause-refused : goal.returns-clause-refused
 returns-clause-refused c = λ limits rows event refusal case.

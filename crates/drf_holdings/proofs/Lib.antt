@@ -1,0 +1,5 @@
+mod Lists
+mod Places
+mod Numbered
+mod Taken
+mod Parts

@@ -1,0 +1,132 @@
+-- Things that are found by their numbers, and taken out.
+use Rattle.std.specs.Prelude.{◌≡◌, ℕ, ◌==◌, ◌-◌, ◌<◌, ◌≤◌, Bool, true, false, List, [], ◌∷◌, ◌++◌, length, map, filter, find, take, drop, slice_get, slice_index_or, remove, Option, Some, None, MatchOption, cond, IfNone}
+use Rattle.std.specs.List.{list_any, AllByRecursion}
+use Rattle.std.proofs.Common.{refl, sym, ap, subst, ◌∙◌, zero, suc, arith, inl, inr}
+use Rattle.std.proofs.lemmas.Bool.{cases_Bool, eqb-true, eq-eqb, ne_eqb, false≢true}
+use Rattle.std.proofs.lemmas.Option.{slice_get_read}
+use Rattle.drf_rows.specs.EndingLaws.{split_at}
+use Rattle.drf_rows.specs.ListLaws.{find_only, list_any_at}
+use Rattle.drf_holdings.specs.Rising.{IsRising, AreOthers, IsAt}
+use Rattle.drf_holdings.specs.Taking.{IsTaken, HasNone}
+use Rattle.drf_holdings.proofs.Places.{others_at, others_split, any_others, others_from}
+use Rattle.drf_holdings.proofs.Numbered.{listed_none, listed_passes}
+
+pub within_at : {X : Type 0} (xs : List X) (i : ℕ) (x : X) → slice_get xs i ≡ Some x → i < length xs
+within_at [] i x at = cc
+within_at (y ∷ ys) zero x at = omega arith
+within_at (y ∷ ys) (suc i) x at = omega (arith, within_at ys i x at)
+
+missing_within : {X : Type 0} (xs : List X) (i : ℕ) → i < length xs → slice_get xs i ≡ None → false ≡ true
+missing_within [] i within none = absurd (omega (arith, within))
+missing_within (y ∷ ys) zero within none = cc
+missing_within (y ∷ ys) (suc i) within none = missing_within ys i (omega (arith, within)) none
+
+last_none : (ns : List ℕ) → slice_get ns (length ns - 1) ≡ None → ns ≡ []
+last_none [] none = refl
+last_none (n ∷ ns) none = absurd (false≢true (missing_within (n ∷ ns) (length (n ∷ ns) - 1) (omega arith) none))
+
+-- what holds at all holds where nothing is found
+pub on_none : {X : Type 0} (r : Option X) (P : Type 0) → P → IfNone r P
+on_none None P p = p
+on_none (Some x) P p = tt
+
+module _ {X : Type 0} (number : X → ℕ) where
+  -- past the end stands no one, and where another one stands, it is another
+  pub past_end : (n : ℕ) (xs : List X) (i : ℕ) → length xs ≤ i → (x : X) → slice_get xs i ≡ Some x → (number x == n) ≡ false
+  past_end n xs i past x at = absurd (omega (arith, within_at xs i x at, past))
+
+  pub other_there : (n : ℕ) (xs : List X) (i : ℕ) (o : X) → slice_get xs i ≡ Some o → (number o ≡ n → ⊥)
+      → (x : X) → slice_get xs i ≡ Some x → (number x == n) ≡ false
+  other_there n xs i o at other x there =
+      let got : ◌≡◌ {A = Option X} (Some o) (Some x) = sym at ∙ there in
+      let same : o ≡ x = cc in
+      ne_eqb (number x) n (λ its. other (ap number same ∙ its))
+
+  find_none : (n : ℕ) (xs : List X) → AreOthers number n xs → find (λ x. number x == n) xs ≡ None
+  find_none n [] others = refl
+  find_none n (x ∷ xs) others = rw others.0 (find_none n xs others.1)
+
+  -- where no one has the number, none is found
+  pub found_none : (n : ℕ) (xs : List X) → AreOthers number n xs → None ≡ find (λ x. number x == n) xs
+  found_none n xs others = sym (find_none n xs others)
+
+  -- the place of a number
+  pub place_from : (xs : List X) (i : ℕ) (x : X) (n : ℕ) → IsRising (map number xs) → slice_get xs i ≡ Some x → number x ≡ n → IsAt number n xs i
+  place_from xs i x n rising at its =
+      let others = others_at number xs i x rising at in
+      record {
+        one = x;
+        at = at;
+        its = its;
+        before = subst (λ (m : ℕ). AreOthers number m (take i xs)) its others.0;
+        after = subst (λ (m : ℕ). AreOthers number m (drop (suc i) xs)) its others.1;
+      }
+
+  module _ (n : ℕ) (old : List X) (i : ℕ) (at : IsAt number n old i) where
+    pub whole_at : old ≡ take i old ++ at.one ∷ drop (suc i) old
+    whole_at = split_at old i at.one at.at
+
+    -- it is found
+    pub found_at : find (λ x. number x == n) old ≡ Some at.one
+    found_at =
+        ap (find (λ x. number x == n)) whole_at
+        ∙ find_only (λ x. number x == n) (take i old) (drop (suc i) old) at.one at.before (eq-eqb (number at.one) n at.its)
+
+    pub one_at : (x : X) → x ≡ slice_index_or old i x → at.one ≡ x
+    one_at x read =
+        let got : slice_get old i ≡ Some x = slice_get_read old (length old) i x refl (within_at old i at.one at.at) read in
+        let same : ◌≡◌ {A = Option X} (Some at.one) (Some x) = sym at.at ∙ got in
+        cc
+
+    -- it is taken out
+    pub taken_at : (new : List X) (x : X) → x ≡ slice_index_or old i x → new ≡ remove old i → IsTaken (λ x. number x == n) old new x
+    taken_at new x read removed =
+        let same = one_at x read in
+        record {
+          before = take i old;
+          after = drop (suc i) old;
+          whole = whole_at ∙ ap (λ (y : X). take i old ++ y ∷ drop (suc i) old) same;
+          left = removed;
+          passes = eq-eqb (number x) n (ap number (sym same) ∙ at.its);
+        }
+
+  any_listed : (test : X → Bool) (xs : List X) → map number (filter test xs) ≡ [] → list_any test xs ≡ false
+  any_listed test [] none = refl
+  any_listed test (x ∷ xs) none = elim (cases_Bool (test x)) [
+    | inl here ↦
+        let some : number x ∷ map number (filter test xs) ≡ [] =
+        sym (ap (λ (b : Bool). map number (cond b (x ∷ filter test xs) (filter test xs))) here) ∙ none in
+        cc
+    | inr past ↦
+        let later : map number (filter test xs) ≡ [] =
+        sym (ap (λ (b : Bool). map number (cond b (x ∷ filter test xs) (filter test xs))) past) ∙ none in
+        rw past (any_listed test xs later)
+  ]
+
+  module _ (test : X → Bool) (old : List X) (ns : List ℕ) (listed : ns ≡ map number (filter test old)) where
+    -- where nothing is listed, nothing passes
+    pub none_by : slice_get ns (length ns - 1) ≡ None → HasNone test old old
+    none_by none = record { none = any_listed test old (sym listed ∙ last_none ns none); same = refl }
+
+    -- what is taken out by a number that is listed passes
+    pub taken_by : (n : ℕ) (i : ℕ) (new : List X) → IsRising (map number old) → slice_get ns i ≡ Some n → (r : Option X)
+        → MatchOption r (HasNone (λ x. number x == n) old new) (IsTaken (λ x. number x == n) old new)
+        → MatchOption r (HasNone test old new) (IsTaken test old new)
+    taken_by n i new rising last None none =
+        let any : list_any (λ m. m == n) (map number (filter test old)) ≡ true =
+        ap (list_any (λ m. m == n)) (sym listed) ∙ list_any_at (λ m. m == n) ns i n last (eq-eqb n n refl) in
+        absurd (false≢true (listed_none number test n old (others_from number n old none.none) any))
+    taken_by n i new rising last (Some x) taken =
+        let its : number x ≡ n = eqb-true (number x) n taken.passes in
+        let any : list_any (λ m. m == n) (map number (filter test old)) ≡ true =
+        ap (list_any (λ m. m == n)) (sym listed) ∙ list_any_at (λ m. m == n) ns i n last (eq-eqb n n refl) in
+        let here : list_any (λ m. m == number x) (map number (filter test (taken.before ++ x ∷ taken.after))) ≡ true =
+        (λ j. list_any (λ m. m == its j) (map number (filter test (sym taken.whole j)))) ∙ any in
+        let others = others_split number taken.before taken.after x (subst (λ (xs : List X). IsRising (map number xs)) taken.whole rising) in
+        record {
+          before = taken.before;
+          after = taken.after;
+          whole = taken.whole;
+          left = taken.left;
+          passes = listed_passes number taken.before taken.after x others.0 others.1 test here;
+        }

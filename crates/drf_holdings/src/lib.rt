@@ -1,0 +1,8 @@
+//! What clients hold: offers, found by number, and tasks, found by framework and name; and what is held on an agent or by
+//! a framework, without a look at what others hold.
+#![tactic(auto)]
+
+mod index;
+mod names;
+mod offers;
+mod tasks;

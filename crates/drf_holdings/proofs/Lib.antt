@@ -3,3 +3,4 @@ mod Places
 mod Numbered
 mod Taken
 mod Parts
+mod Named

@@ -11,10 +11,10 @@ use Rattle.drf_holdings.specs.Listed.{IsListed}
 use Rattle.drf_holdings.specs.Rising.{AreOthers}
 
 module _ {X : Type 0} (number : X → ℕ) where
-  abbrev is_other : ℕ → X → Bool
+  abbrev pub is_other : ℕ → X → Bool
   is_other n x = not (number x == n)
 
-  filter-map : (n : ℕ) (xs : List X) → filter (λ m. not (m == n)) (map number xs) ≡ map number (filter (is_other n) xs)
+  pub filter-map : (n : ℕ) (xs : List X) → filter (λ m. not (m == n)) (map number xs) ≡ map number (filter (is_other n) xs)
   filter-map n [] = refl
   filter-map n (x ∷ xs) = by (number x == n) (filter-map n xs)
     where

@@ -1,8 +1,10 @@
 -- Things that are found by their numbers, and taken out.
-use Rattle.std.specs.Prelude.{◌≡◌, ℕ, ◌==◌, ◌-◌, ◌<◌, ◌≤◌, Bool, true, false, List, [], ◌∷◌, ◌++◌, length, map, filter, find, take, drop, slice_get, slice_index_or, remove, Option, Some, None, MatchOption, cond, IfNone}
+use Rattle.std.specs.Prelude.{◌≡◌, ℕ, ◌==◌, ◌-◌, ◌<◌, ◌≤◌, Bool, true, false, List, [], ◌∷◌, ◌++◌, length, map, filter, find, take, drop, slice_get, slice_index_or, remove, Option, Some, None, MatchOption, cond, IfNone, is_some, ◌||◌}
 use Rattle.std.specs.List.{list_any, AllByRecursion}
 use Rattle.std.proofs.Common.{refl, sym, ap, subst, ◌∙◌, zero, suc, arith, inl, inr}
-use Rattle.std.proofs.lemmas.Bool.{cases_Bool, eqb-true, eq-eqb, ne_eqb, false≢true}
+use Rattle.std.proofs.lemmas.Bool.{cases_Bool, eqb-true, eq-eqb, ne_eqb, or_parts, false≢true}
+use Rattle.std.specs.Option.{option_to_list}
+use Rattle.std.proofs.lemmas.List.{map-append}
 use Rattle.std.proofs.lemmas.Option.{slice_get_read}
 use Rattle.drf_rows.specs.EndingLaws.{split_at}
 use Rattle.drf_rows.specs.ListLaws.{find_only, list_any_at}
@@ -90,7 +92,7 @@ module _ {X : Type 0} (number : X → ℕ) where
           passes = eq-eqb (number x) n (ap number (sym same) ∙ at.its);
         }
 
-  any_listed : (test : X → Bool) (xs : List X) → map number (filter test xs) ≡ [] → list_any test xs ≡ false
+  pub any_listed : (test : X → Bool) (xs : List X) → map number (filter test xs) ≡ [] → list_any test xs ≡ false
   any_listed test [] none = refl
   any_listed test (x ∷ xs) none = elim (cases_Bool (test x)) [
     | inl here ↦
@@ -108,15 +110,16 @@ module _ {X : Type 0} (number : X → ℕ) where
     pub none_by : slice_get ns (length ns - 1) ≡ None → HasNone test old old
     none_by none = record { none = any_listed test old (sym listed ∙ last_none ns none); same = refl }
 
-    -- what is taken out by a number that is listed passes
-    pub taken_by : (n : ℕ) (i : ℕ) (new : List X) → IsRising (map number old) → slice_get ns i ≡ Some n → (r : Option X)
+    -- what is taken out by a number that is listed passes, and also any wider test
+    pub taken_by : (wide : X → Bool) → ((x : X) → test x ≡ true → wide x ≡ true)
+        → (n : ℕ) (i : ℕ) (new : List X) → IsRising (map number old) → slice_get ns i ≡ Some n → (r : Option X)
         → MatchOption r (HasNone (λ x. number x == n) old new) (IsTaken (λ x. number x == n) old new)
-        → MatchOption r (HasNone test old new) (IsTaken test old new)
-    taken_by n i new rising last None none =
+        → MatchOption r (HasNone wide old new) (IsTaken wide old new)
+    taken_by wide widens n i new rising last None none =
         let any : list_any (λ m. m == n) (map number (filter test old)) ≡ true =
         ap (list_any (λ m. m == n)) (sym listed) ∙ list_any_at (λ m. m == n) ns i n last (eq-eqb n n refl) in
         absurd (false≢true (listed_none number test n old (others_from number n old none.none) any))
-    taken_by n i new rising last (Some x) taken =
+    taken_by wide widens n i new rising last (Some x) taken =
         let its : number x ≡ n = eqb-true (number x) n taken.passes in
         let any : list_any (λ m. m == n) (map number (filter test old)) ≡ true =
         ap (list_any (λ m. m == n)) (sym listed) ∙ list_any_at (λ m. m == n) ns i n last (eq-eqb n n refl) in
@@ -128,5 +131,41 @@ module _ {X : Type 0} (number : X → ℕ) where
           after = taken.after;
           whole = taken.whole;
           left = taken.left;
-          passes = listed_passes number taken.before taken.after x others.0 others.1 test here;
+          passes = widens x (listed_passes number taken.before taken.after x others.0 others.1 test here);
         }
+
+-- ---- rows of things
+
+module _ {X Y : Type 0} (row : X → Y) (test : Y → Bool) where
+  any_rows : (xs : List X) → list_any test (map row xs) ≡ list_any (λ x. test (row x)) xs
+  any_rows [] = refl
+  any_rows (x ∷ xs) = ap (λ (b : Bool). test (row x) || b) (any_rows xs)
+
+  pub rows_none : (old new : List X) → HasNone (λ x. test (row x)) old new → HasNone test (map row old) (map row new)
+  rows_none old new none = record { none = any_rows old ∙ none.none; same = ap (map row) none.same }
+
+  pub rows_taken : (old new : List X) (x : X) → IsTaken (λ x. test (row x)) old new x → IsTaken test (map row old) (map row new) (row x)
+  rows_taken old new x taken = record {
+    before = map row taken.before;
+    after = map row taken.after;
+    whole = ap (map row) taken.whole ∙ map-append row taken.before (x ∷ taken.after);
+    left = ap (map row) taken.left ∙ map-append row taken.before taken.after;
+    passes = taken.passes;
+  }
+
+  none_passes : (xs : List X) → list_any (λ x. test (row x)) xs ≡ false → filter (λ x. test (row x)) xs ≡ []
+  none_passes [] none = refl
+  none_passes (x ∷ xs) none =
+      let parts = or_parts (test (row x)) (list_any (λ x. test (row x)) xs) none in
+      rw parts.0 (none_passes xs parts.1)
+
+  -- a list of one number or none says whether there is one
+  pub some_listed : (number : X → ℕ) (o : Option ℕ) (xs : List X)
+      → option_to_list o ≡ map number (filter (λ x. test (row x)) xs) → is_some o ≡ list_any test (map row xs)
+  some_listed number None xs listed = sym (any_rows xs ∙ any_listed number (λ x. test (row x)) xs (sym listed))
+  some_listed number (Some n) xs listed = elim (cases_Bool (list_any (λ x. test (row x)) xs)) [
+    | inl here ↦ sym (any_rows xs ∙ here)
+    | inr none ↦
+        let empty : n ∷ [] ≡ [] = listed ∙ ap (map number) (none_passes xs none) in
+        cc
+  ]

@@ -161,7 +161,8 @@ impl OfferTable {
 
     /// Takes the offer of a number out.
     pub(crate) fn take(&mut self, number: u64) -> Option<OfferRow>
-        ensures { MatchOption result
+        ensures found { result ≡ find (λ o. o.number == number) self.old }
+        ensures taken { MatchOption result
             (HasNone (λ o. o.number == number) self.old self.new)
             (IsTaken (λ o. o.number == number) self.old self.new) }
     {

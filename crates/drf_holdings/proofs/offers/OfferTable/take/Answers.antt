@@ -1,13 +1,13 @@
-use Rattle.std.proofs.Common.{◌≡◌, ◌++◌, ◌∷◌, List, map, take, drop, suc, refl, sym, ap, subst, ◌∙◌, arith}
+use Rattle.std.proofs.Common.{◌≡◌, ◌==◌, Some, List, find, map, refl, sym, ap, subst, ◌∙◌, arith}
 use Rattle.drf_rows.specs.declared.rows.OfferRow.{OfferRow}
 use Rattle.drf_holdings.specs.Listed.{offer_number, AreOffersListed}
 use Rattle.drf_holdings.specs.Rising.{IsRising, AreOthers, IsAt}
 use Rattle.drf_holdings.proofs.Places.{rising_out, others_split, any_others}
-use Rattle.drf_holdings.proofs.Taken.{within_at, taken_at}
+use Rattle.drf_holdings.proofs.Taken.{within_at, taken_at, found_none, found_at, one_at}
 use Rattle.drf_holdings.proofs.offers.OfferTable.take.Goals as goal
 
-pub returns-in_err-place : goal.returns-in_err-place
-returns-in_err-place c =
+pub returns-in_err-place-clause-taken : goal.returns-in_err-place-clause-taken
+returns-in_err-place-clause-taken c =
     let others : AreOthers offer_number c.args.number c.args.self.now =
     subst (AreOthers offer_number c.args.number) (c.deref.ensures.value ∙ c.self.view_is) c.in_err-place.ensures.none in
     rw c.from_residual.ensures (record { none = any_others offer_number c.args.number c.args.self.now others; same = refl })
@@ -34,8 +34,8 @@ invariant_of-self c =
       listed = subst (AreOffersListed c.remove.new.self) (sym out.left) (c.remove.ensures out.before out.after others.0 others.1 listed);
     }
 
-pub returns : goal.returns
-returns c =
+pub returns-clause-taken : goal.returns-clause-taken
+returns-clause-taken c =
     let rows = c.self.inside.rows.items in
     let new = c.remove-offer.new.self.items in
     let offer = c.remove-offer.result in
@@ -43,3 +43,18 @@ returns c =
     subst (λ os. IsAt offer_number c.args.number os c.in_ok-place.place) c.deref.ensures.value c.in_ok-place.ensures.some in
     let out = taken_at offer_number c.args.number rows c.in_ok-place.place at new offer c.remove-offer.ensures.value c.remove-offer.ensures.items in
     record { before = out.before; after = out.after; whole = sym c.self.view_is ∙ out.whole; left = out.left; passes = out.passes }
+
+pub returns-in_err-place-clause-found : goal.returns-in_err-place-clause-found
+returns-in_err-place-clause-found c =
+    let others : AreOthers offer_number c.args.number c.args.self.now =
+    subst (AreOthers offer_number c.args.number) (c.deref.ensures.value ∙ c.self.view_is) c.in_err-place.ensures.none in
+    c.from_residual.ensures ∙ found_none offer_number c.args.number c.args.self.now others
+
+pub returns-clause-found : goal.returns-clause-found
+returns-clause-found c =
+    let rows = c.self.inside.rows.items in
+    let at : IsAt offer_number c.args.number rows c.in_ok-place.place =
+    subst (λ os. IsAt offer_number c.args.number os c.in_ok-place.place) c.deref.ensures.value c.in_ok-place.ensures.some in
+    ap Some (sym (one_at offer_number c.args.number rows c.in_ok-place.place at c.remove-offer.result c.remove-offer.ensures.value))
+    ∙ sym (found_at offer_number c.args.number rows c.in_ok-place.place at)
+    ∙ ap (find (λ (o : OfferRow). o.number == c.args.number)) c.self.view_is

@@ -21,5 +21,5 @@ returns c =
     let listed : ns ≡ map offer_number (filter test c.args.self.now) =
     c.list.ensures ∙ c.self.invariant.listed.agents c.args.agent.now ∙ ap (λ os. map offer_number (filter test os)) c.self.view_is in
     let rising : IsRising (map offer_number c.args.self.now) = subst (λ os. IsRising (map offer_number os)) c.self.view_is c.self.invariant.rising in
-    taken_by offer_number test c.args.self.now ns listed c.in_ok-number.field-0.now (length ns - 1) c.take.new.self rising
-    (sym c.in_ok-number.ensures.value) c.take.result c.take.ensures
+    taken_by offer_number test c.args.self.now ns listed test (λ o here. here) c.in_ok-number.field-0.now (length ns - 1) c.take.new.self rising
+    (sym c.in_ok-number.ensures.value) c.take.result c.take.ensures.taken

@@ -1,6 +1,7 @@
 mod Lists
 mod Places
 mod Numbered
-mod Taken
+mod Removed
 mod Parts
 mod Named
+mod Running

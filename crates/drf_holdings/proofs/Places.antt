@@ -102,3 +102,16 @@ module _ {X : Type 0} (number : X → ℕ) where
   others_from n (x ∷ xs) none =
       let parts = or_parts (number x == n) (list_any (λ x. number x == n) xs) none in
       (parts.0, others_from n xs parts.1)
+
+  -- one more with a greater number
+  above_in : (m : ℕ) (xs : List X) (x : X) → AllByRecursion (λ k. m < k) (map number xs) → m < number x → AllByRecursion (λ k. m < k) (map number (xs ++ x ∷ []))
+  above_in m [] x above less = (less, tt)
+  above_in m (y ∷ ys) x above less = (above.0, above_in m ys x above.1 less)
+
+  pub rising_in : (xs : List X) (x : X) → IsRising (map number xs) → AllByRecursion (λ y. number y < number x) xs → IsRising (map number (xs ++ x ∷ []))
+  rising_in [] x rising below = (tt, tt)
+  rising_in (y ∷ ys) x rising below = (above_in (number y) ys x rising.0 below.0, rising_in ys x rising.1 below.1)
+
+  pub below_in : (xs : List X) (x : X) (m n : ℕ) → AllByRecursion (λ y. number y < m) xs → number x < n → m ≤ n → AllByRecursion (λ y. number y < n) (xs ++ x ∷ [])
+  below_in [] x m n below less le = (less, tt)
+  below_in (y ∷ ys) x m n below less le = (omega (arith, below.0, le), below_in ys x m n below.1 less le)

@@ -92,7 +92,8 @@ fn task_at(tasks: &[Task], serial: u64) -> Option<&Task>
     ensures { option_copied result ≡ find (λ t. t.serial == serial) tasks.now }
 {
     let place = place_of(tasks, serial)?;
-    Some(&tasks[place])
+    let task = tasks.get(place)?;
+    Some(task)
 }
 
 /// What is left of a bundle when the tasks of some serial numbers are taken from it.

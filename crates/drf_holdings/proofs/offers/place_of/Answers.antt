@@ -4,7 +4,7 @@ use Rattle.std.proofs.lemmas.List.Sorted.{IsPartitionPoint-from_clause, IsPartit
 use Rattle.std.proofs.lemmas.Option.{slice_get_read}
 use Rattle.drf_holdings.specs.Listed.{offer_number}
 use Rattle.drf_holdings.proofs.Places.{rising_by, missing_at}
-use Rattle.drf_holdings.proofs.Taken.{place_from, on_none, past_end, other_there}
+use Rattle.drf_holdings.proofs.Removed.{place_from, on_none, past_end, other_there}
 use Rattle.drf_holdings.proofs.offers.place_of.Goals as goal
 
 pub returns-in_err-offer-clause-none : goal.returns-in_err-offer-clause-none

@@ -5,5 +5,5 @@ use Rattle.drf_holdings.proofs.tasks.less_tasks.Given as goal
 
 abbrev pub invariant-loop-serial : goal.invariant-loop-serial
 invariant-loop-serial l =
-    rest_of_all l.left (flat_map (bundles_at task_serial (λ t. t.row.bundle) l.tasks) (drop l.serial-index l.serial-items))
-    ≡ rest_of_all l.fn.whole (flat_map (bundles_at task_serial (λ t. t.row.bundle) l.tasks) l.serial-items)
+    rest_of_all l.left (flat_map (bundles_at task_serial (λ t. t.row.bundle) l.tasks) (drop l.serial-index l.serials))
+    ≡ rest_of_all l.fn.whole (flat_map (bundles_at task_serial (λ t. t.row.bundle) l.tasks) l.serials)

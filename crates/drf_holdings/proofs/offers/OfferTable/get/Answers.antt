@@ -3,7 +3,7 @@ use Rattle.std.specs.Option.{option_copied}
 use Rattle.drf_rows.specs.declared.rows.OfferRow.{OfferRow}
 use Rattle.drf_holdings.specs.Listed.{offer_number}
 use Rattle.drf_holdings.specs.Rising.{AreOthers, IsAt}
-use Rattle.drf_holdings.proofs.Taken.{found_none, found_at, within_at, one_at}
+use Rattle.drf_holdings.proofs.Removed.{found_none, found_at, within_at, one_at}
 use Rattle.drf_holdings.proofs.offers.OfferTable.get.Goals as goal
 
 pub returns-in_err-place : goal.returns-in_err-place

@@ -3,7 +3,7 @@ use Rattle.drf_rows.specs.declared.rows.OfferRow.{OfferRow}
 use Rattle.drf_holdings.specs.Listed.{offer_number, AreOffersListed}
 use Rattle.drf_holdings.specs.Rising.{IsRising, AreOthers, IsAt}
 use Rattle.drf_holdings.proofs.Places.{rising_out, others_split, any_others}
-use Rattle.drf_holdings.proofs.Taken.{within_at, taken_at, found_none, found_at, one_at}
+use Rattle.drf_holdings.proofs.Removed.{within_at, taken_at, found_none, found_at, one_at}
 use Rattle.drf_holdings.proofs.offers.OfferTable.take.Goals as goal
 
 pub returns-in_err-place-clause-taken : goal.returns-in_err-place-clause-taken

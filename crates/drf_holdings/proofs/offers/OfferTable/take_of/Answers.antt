@@ -3,7 +3,7 @@ use Rattle.drf_role.specs.Text.{Text}
 use Rattle.drf_rows.specs.declared.rows.OfferRow.{OfferRow}
 use Rattle.drf_holdings.specs.Listed.{offer_number, offer_of}
 use Rattle.drf_holdings.specs.Rising.{IsRising}
-use Rattle.drf_holdings.proofs.Taken.{none_by, taken_by}
+use Rattle.drf_holdings.proofs.Removed.{none_by, taken_by}
 use Rattle.drf_holdings.proofs.offers.OfferTable.take_of.Goals as goal
 
 pub returns-in_err-number : goal.returns-in_err-number

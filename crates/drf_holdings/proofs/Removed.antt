@@ -159,6 +159,10 @@ module _ {X Y : Type 0} (row : X → Y) (test : Y → Bool) where
       let parts = or_parts (test (row x)) (list_any (λ x. test (row x)) xs) none in
       rw parts.0 (none_passes xs parts.1)
 
+  -- where no row passes, none is listed
+  pub unlisted : (number : X → ℕ) (xs : List X) → list_any test (map row xs) ≡ false → map number (filter (λ x. test (row x)) xs) ≡ []
+  unlisted number xs none = ap (map number) (none_passes xs (sym (any_rows xs) ∙ none))
+
   -- a list of one number or none says whether there is one
   pub some_listed : (number : X → ℕ) (o : Option ℕ) (xs : List X)
       → option_to_list o ≡ map number (filter (λ x. test (row x)) xs) → is_some o ≡ list_any test (map row xs)

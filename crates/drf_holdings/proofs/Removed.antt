@@ -3,7 +3,8 @@ use Rattle.std.specs.Prelude.{◌≡◌, ℕ, ◌==◌, ◌-◌, ◌<◌, ◌≤
 use Rattle.std.specs.List.{list_any, AllByRecursion}
 use Rattle.std.proofs.Common.{refl, sym, ap, subst, ◌∙◌, zero, suc, arith, inl, inr}
 use Rattle.std.proofs.lemmas.Bool.{cases_Bool, eqb-true, eq-eqb, ne_eqb, or_parts, false≢true}
-use Rattle.std.specs.Option.{option_to_list}
+use Rattle.std.specs.Borrow.{Bor}
+use Rattle.std.specs.Option.{option_to_list, option_copied}
 use Rattle.std.proofs.lemmas.List.{map-append}
 use Rattle.std.proofs.lemmas.Option.{slice_get_read}
 use Rattle.drf_rows.specs.EndingLaws.{split_at}
@@ -173,3 +174,23 @@ module _ {X Y : Type 0} (row : X → Y) (test : Y → Bool) where
         let empty : n ∷ [] ≡ [] = listed ∙ ap (map number) (none_passes xs none) in
         cc
   ]
+
+-- ---- finding
+
+-- nothing passes a test that is always false
+pub never : {X : Type 0} (xs : List X) → list_any (λ x. false) xs ≡ false
+never [] = refl
+never (x ∷ xs) = never xs
+
+pub find_any : {X : Type 0} (p : X → Bool) (xs : List X) → list_any p xs ≡ true → is_some (find p xs) ≡ true
+find_any p [] any = absurd (false≢true any)
+find_any {X} p (x ∷ xs) any = by (p x) (λ later. find_any p xs later) any
+  where
+    by : (b : Bool) → (list_any p xs ≡ true → is_some (find p xs) ≡ true) → (b || list_any p xs) ≡ true → is_some (cond b (Some x) (find p xs)) ≡ true
+    by true later any = refl
+    by false later any = later any
+
+-- what a found reference points to
+pub some_copied : {X : Type 0} (o : Option (Bor X)) → is_some o ≡ is_some (option_copied o)
+some_copied None = refl
+some_copied (Some x) = refl

@@ -1,6 +1,6 @@
 -- Lists of the numbers of those things that pass tests, after a change of the things.
 use Rattle.std.specs.Prelude.{◌≡◌, ℕ, ◌==◌, Bool, true, false, not, List, [], ◌∷◌, ◌++◌, map, filter, cond}
-use Rattle.std.specs.List.{list_any, AllByRecursion}
+use Rattle.std.specs.List.{list_any}
 use Rattle.std.proofs.Common.{refl, sym, ap, ◌∙◌, inl, inr}
 use Rattle.std.proofs.lemmas.Bool.{cases_Bool, eq-eqb, false≢true}
 use Rattle.std.proofs.lemmas.List.{map-append}
@@ -46,7 +46,7 @@ module _ {X : Type 0} (number : X → ℕ) where
           let less : list_any (λ m. m == number x) (map number (filter p (before ++ after))) ≡ true =
           ap (λ (ys : List X). list_any (λ m. m == number x) (map number ys)) (sym (filter-out p before after x other)) ∙ any in
           absurd (false≢true (listed_none p (number x) (before ++ after)
-            (each_append (λ y. (number y == number x) ≡ false) before after past later) less))
+          (each_append (λ y. (number y == number x) ≡ false) before after past later) less))
     ]
 
     -- what is taken out is listed no longer

@@ -1,11 +1,10 @@
 -- Where things with rising numbers stand.
-use Rattle.std.specs.Prelude.{◌≡◌, ℕ, ◌==◌, ◌<◌, ◌≤◌, ◌||◌, Bool, true, false, List, [], ◌∷◌, ◌++◌, length, map, take, drop, slice_get, slice_index_or, Some, nat_lt}
+use Rattle.std.specs.Prelude.{◌≡◌, ℕ, ◌==◌, ◌<◌, ◌≤◌, true, false, List, [], ◌∷◌, ◌++◌, length, map, take, drop, slice_get, slice_index_or, Some, nat_lt}
 use Rattle.std.specs.List.{list_any, AllByRecursion}
 use Rattle.std.specs.List.Sorted.{IsNonDecreasingBy, IsPartitionPoint}
-use Rattle.std.proofs.Common.{refl, sym, ap, subst, ◌∙◌, zero, suc, arith}
-use Rattle.std.proofs.lemmas.Bool.{ltb-true, ltb-false, eqb-true, eq-eqb, ne_eqb, eqb-false, or_parts, true≢false}
-use Rattle.std.proofs.lemmas.List.{map-append}
-use Rattle.drf_rows.specs.ListLaws.{any_fails, each_from, each_parts}
+use Rattle.std.proofs.Common.{refl, subst, zero, suc, arith}
+use Rattle.std.proofs.lemmas.Bool.{ltb-true, ltb-false, ne_eqb, or_parts}
+use Rattle.drf_rows.specs.ListLaws.{any_fails}
 use Rattle.drf_holdings.specs.Rising.{IsRising, AreOthers}
 
 module _ {X : Type 0} (number : X → ℕ) where
@@ -64,11 +63,9 @@ module _ {X : Type 0} (number : X → ℕ) where
       let least : n ≤ number x = ltb-false (number x) n (parted.1 0 x (omega arith) (omega arith)) in
       (here, above_others n (number x) xs least rising.0)
   missing_at n (x ∷ xs) (suc i) rising parted other =
-      let less : number x < n = ltb-true (number x) n (parted.0 0 x (omega arith) (omega arith)) in
-      (
+      let less : number x < n = ltb-true (number x) n (parted.0 0 x (omega arith) (omega arith)) in (
         less_other (number x) n less,
-        missing_at n xs i rising.1
-        (
+        missing_at n xs i rising.1 (
           λ k d low high. parted.0 (suc k) d (omega arith) (omega (arith, high)),
           λ k d low high. parted.1 (suc k) d (omega (arith, low)) (omega (arith, high)),
         ) other,

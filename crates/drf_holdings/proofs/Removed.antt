@@ -1,6 +1,6 @@
 -- Things that are found by their numbers, and taken out.
 use Rattle.std.specs.Prelude.{◌≡◌, ℕ, ◌==◌, ◌-◌, ◌<◌, ◌≤◌, Bool, true, false, List, [], ◌∷◌, ◌++◌, length, map, filter, find, take, drop, slice_get, slice_index_or, remove, Option, Some, None, MatchOption, cond, IfNone, is_some, ◌||◌}
-use Rattle.std.specs.List.{list_any, AllByRecursion}
+use Rattle.std.specs.List.{list_any}
 use Rattle.std.proofs.Common.{refl, sym, ap, subst, ◌∙◌, zero, suc, arith, inl, inr}
 use Rattle.std.proofs.lemmas.Bool.{cases_Bool, eqb-true, eq-eqb, ne_eqb, or_parts, false≢true}
 use Rattle.std.specs.Borrow.{Bor}
@@ -11,7 +11,7 @@ use Rattle.drf_rows.specs.EndingLaws.{split_at}
 use Rattle.drf_rows.specs.ListLaws.{find_only, list_any_at}
 use Rattle.drf_holdings.specs.Rising.{IsRising, AreOthers, IsAt}
 use Rattle.drf_holdings.specs.Taking.{IsTaken, HasNone}
-use Rattle.drf_holdings.proofs.Places.{others_at, others_split, any_others, others_from}
+use Rattle.drf_holdings.proofs.Places.{others_at, others_split, others_from}
 use Rattle.drf_holdings.proofs.Numbered.{listed_none, listed_passes}
 
 pub within_at : {X : Type 0} (xs : List X) (i : ℕ) (x : X) → slice_get xs i ≡ Some x → i < length xs

@@ -1,8 +1,8 @@
 -- Tasks that are found by what lists their serial numbers.
 use Rattle.std.specs.Prelude.{◌≡◌, ℕ, ◌==◌, ◌<◌, Bool, true, false, List, [], ◌∷◌, ◌++◌, map, filter, slice_get, Some, None}
-use Rattle.std.specs.List.{list_any, AllByRecursion}
+use Rattle.std.specs.List.{list_any}
 use Rattle.std.proofs.Common.{refl, sym, ap, subst, ◌∙◌, inl, inr}
-use Rattle.std.proofs.lemmas.Bool.{or_parts, and_parts, cases_Bool, and_from, false≢true}
+use Rattle.std.proofs.lemmas.Bool.{or_parts, cases_Bool, and_from, false≢true}
 use Rattle.drf_role.specs.Text.{Text, same_text}
 use Rattle.drf_role.specs.TextLaws.{same_itself}
 use Rattle.drf_rows.specs.EndingLaws.{each-out}
@@ -42,19 +42,19 @@ module _ (tasks new : List Task) (rows : List TaskRow) (view : map task_row task
   task_taken t taken =
       subst (λ (old : List TaskRow). IsTaken wide old (map task_row new) t.row) view
       (rows_taken task_row wide tasks new t
-        (taken_by task_serial test tasks ns listed (λ t. wide t.row) widens n i new rising last (Some t) taken))
+      (taken_by task_serial test tasks ns listed (λ t. wide t.row) widens n i new rising last (Some t) taken))
 
   pub task_none : HasNone (λ t. t.serial == n) tasks new → HasNone wide rows (map task_row new)
   task_none none =
       subst (λ (old : List TaskRow). HasNone wide old (map task_row new)) view
       (rows_none task_row wide tasks new
-        (taken_by task_serial test tasks ns listed (λ t. wide t.row) widens n i new rising last None none))
+      (taken_by task_serial test tasks ns listed (λ t. wide t.row) widens n i new rising last None none))
 
 -- one task is taken out of those that are kept
 pub kept_out : (index left : TaskIndex) (tasks new : List Task) (next n : ℕ) (t : Task)
     → IsTaken (λ t. t.serial == n) tasks new t
     → ((before after : List Task) → AreOthers task_serial t.serial before → AreOthers task_serial t.serial after
-      → AreTasksListed index (before ++ t ∷ after) → AreTasksListed left (before ++ after))
+    → AreTasksListed index (before ++ t ∷ after) → AreTasksListed left (before ++ after))
     → AreTasksKept index tasks next → AreTasksKept left new next
 kept_out index left tasks new next n t out removed kept =
     let whole : AreTasksKept index (out.before ++ t ∷ out.after) next = subst (λ (ts : List Task). AreTasksKept index ts next) out.whole kept in

@@ -1,4 +1,4 @@
-use Rattle.std.proofs.Common.{◌≡◌, ◌<◌, ◌==◌, Some, length, find, sym, ap, ◌∙◌, arith}
+use Rattle.std.proofs.Common.{Some, length, sym, ap, ◌∙◌, arith}
 use Rattle.std.specs.Option.{option_copied}
 use Rattle.std.proofs.lemmas.Bool.{ltb-false}
 use Rattle.drf_holdings.specs.Listed.{task_serial}

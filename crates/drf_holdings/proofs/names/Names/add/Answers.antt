@@ -1,8 +1,8 @@
-use Rattle.std.proofs.Common.{◌≡◌, ◌∷◌, [], ◌++◌, ◌&&◌, cond, Some, None, is_some, refl, sym, ap, ◌∙◌}
+use Rattle.std.proofs.Common.{◌≡◌, ◌∷◌, [], ◌++◌, ◌&&◌, cond, Some, None, is_some, sym, ap, ◌∙◌}
 use Rattle.std.specs.Map.{lookup}
 use Rattle.std.specs.Option.{option_copied_mut, option_to_list}
 use Rattle.drf_role.specs.Text.{Text, same_text}
-use Rattle.drf_holdings.specs.Listed.{TaskKey, serials_in}
+use Rattle.drf_holdings.specs.Listed.{serials_in}
 use Rattle.drf_holdings.proofs.Lists.{on_err}
 use Rattle.drf_holdings.proofs.Named.{at_task, serials_at, named_same, named_in, list_cond}
 use Rattle.drf_holdings.proofs.names.Names.add.Goals as goal
@@ -16,7 +16,7 @@ returns-in_err-insert-clause-err c =
     let wrote = (c.get_mut.follows.holds w).3 (ap is_some found) in
     let kept = c.in_err-insert.ensures.err in
     on_err _ _ (named_same (λ m. m.entries) old (c.get_mut.follows.lender w).entries framework w wrote.0
-      (λ q. ap (λ es. option_to_list (lookup (same_text q) es)) kept ∙ sym (ap (λ o. at_task (λ m. m.entries) o q) found)))
+    (λ q. ap (λ es. option_to_list (lookup (same_text q) es)) kept ∙ sym (ap (λ o. at_task (λ m. m.entries) o q) found)))
 
 pub returns-in-Some-clause-ok : goal.returns-in-Some-clause-ok
 returns-in-Some-clause-ok c =
@@ -30,7 +30,7 @@ returns-in-Some-clause-ok c =
     let updates = c.in_ok-insert.ensures.updates in
     λ key. named_in (λ m. m.entries) old (c.get_mut.follows.lender w).entries framework w wrote.0 name c.args.serial
     (λ q. ap option_to_list (updates.0 q) ∙ list_cond (same_text name q) c.args.serial (lookup (same_text q) c.in-Some.tasks.now.entries)
-      ∙ ap (λ o. cond (same_text name q) (c.args.serial ∷ []) (at_task (λ m. m.entries) o q)) (sym found))
+    ∙ ap (λ o. cond (same_text name q) (c.args.serial ∷ []) (at_task (λ m. m.entries) o q)) (sym found))
     (ap (at_task (λ m. m.entries) (lookup (same_text framework) old)) named ∙ c.requires) key
     ∙ (λ i. serials_in c.args.self.now key ++ cond (same_text framework key.0 && same_text (named i) key.1) (c.args.serial ∷ []) [])
 
@@ -50,7 +50,7 @@ returns-clause-ok c =
     let wrote = c.in_ok-insert-3.ensures.updates in
     λ key. named_in (λ m. m.entries) mid c.insert-3.new.self.entries framework w wrote.0 name c.args.serial
     (λ q. ap option_to_list (updates.0 q) ∙ list_cond (same_text name q) c.args.serial (lookup (same_text q) c.new-tasks.result.entries)
-      ∙ ap (λ es. cond (same_text name q) (c.args.serial ∷ []) (option_to_list (lookup (same_text q) es))) c.new-tasks.ensures.empty
-      ∙ ap (λ o. cond (same_text name q) (c.args.serial ∷ []) (at_task (λ m. m.entries) o q)) (sym missing))
+    ∙ ap (λ es. cond (same_text name q) (c.args.serial ∷ []) (option_to_list (lookup (same_text q) es))) c.new-tasks.ensures.empty
+    ∙ ap (λ o. cond (same_text name q) (c.args.serial ∷ []) (at_task (λ m. m.entries) o q)) (sym missing))
     (ap (λ o. at_task (λ m. m.entries) o name) missing) key
     ∙ (λ i. serials_at (λ m. m.entries) (same i).entries key ++ cond (same_text (copied i) key.0 && same_text (named i) key.1) (c.args.serial ∷ []) [])

@@ -2,7 +2,7 @@ use Rattle.std.proofs.Common.{◌≡◌, [], ◌∷◌, ◌++◌, List, map, sym
 use Rattle.std.proofs.lemmas.List.{append-nil}
 use Rattle.drf_rows.specs.declared.rows.OfferRow.{OfferRow}
 use Rattle.drf_holdings.specs.Listed.{offer_number, AreOffersListed}
-use Rattle.drf_holdings.specs.Rising.{IsRising, AreOthers}
+use Rattle.drf_holdings.specs.Rising.{IsRising}
 use Rattle.drf_holdings.proofs.Lists.{on_err}
 use Rattle.drf_holdings.proofs.Places.{others_split}
 use Rattle.drf_holdings.proofs.offers.OfferIndex.+add_all.Goals as goal
@@ -12,10 +12,10 @@ returns-in_err-add-clause-err t c =
     let first = c.in-Some.first.now in
     let rest = c.in-Some.rest.now in
     let same : (before : List OfferRow) → IsRising (map offer_number (before ++ c.args.offers.now)) → AreOffersListed c.args.self.now before
-        → AreOffersListed c.add.new.self before
+    → AreOffersListed c.add.new.self before
     = λ before rising listed.
-      let others = others_split offer_number before rest first (subst (λ (os : List OfferRow). IsRising (map offer_number (before ++ os))) c.in-Some.ensures.cases.0 rising) in
-      c.in_err-add.ensures.err before others.0 listed in
+    let others = others_split offer_number before rest first (subst (λ (os : List OfferRow). IsRising (map offer_number (before ++ os))) c.in-Some.ensures.cases.0 rising) in
+    c.in_err-add.ensures.err before others.0 listed in
     on_err _ _ same
 
 pub returns-in-Ok-clause-ok : goal.returns-in-Ok-clause-ok

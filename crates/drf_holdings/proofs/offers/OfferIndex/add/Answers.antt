@@ -10,7 +10,7 @@ use Rattle.drf_holdings.proofs.offers.OfferIndex.add.Goals as goal
 pub returns-in_err-add-clause-err : goal.returns-in_err-add-clause-err
 returns-in_err-add-clause-err c =
     let same : (offers : List OfferRow) → AreOthers offer_number c.args.offer.now.number offers → AreOffersListed c.args.self.now offers
-        → AreOffersListed (record { agents = c.add.new.self; frameworks = c.args.self.now.frameworks }) offers
+    → AreOffersListed (record { agents = c.add.new.self; frameworks = c.args.self.now.frameworks }) offers
     = λ offers others listed. record {
       agents = λ n. c.in_err-add.ensures.err n ∙ listed.agents n;
       frameworks = listed.frameworks;

@@ -1,4 +1,4 @@
-use Rattle.std.proofs.Common.{◌≡◌, ◌==◌, Some, List, find, map, refl, sym, ap, subst, ◌∙◌, arith}
+use Rattle.std.proofs.Common.{◌==◌, Some, List, find, map, refl, sym, ap, subst, ◌∙◌, arith}
 use Rattle.drf_rows.specs.declared.rows.OfferRow.{OfferRow}
 use Rattle.drf_holdings.specs.Listed.{offer_number, AreOffersListed}
 use Rattle.drf_holdings.specs.Rising.{IsRising, AreOthers, IsAt}

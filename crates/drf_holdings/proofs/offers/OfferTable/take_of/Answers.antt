@@ -1,6 +1,4 @@
 use Rattle.std.proofs.Common.{◌≡◌, ◌-◌, length, map, filter, sym, ap, subst, ◌∙◌}
-use Rattle.drf_role.specs.Text.{Text}
-use Rattle.drf_rows.specs.declared.rows.OfferRow.{OfferRow}
 use Rattle.drf_holdings.specs.Listed.{offer_number, offer_of}
 use Rattle.drf_holdings.specs.Rising.{IsRising}
 use Rattle.drf_holdings.proofs.Removed.{none_by, taken_by}

@@ -1,4 +1,3 @@
-use Rattle.std.proofs.Common.{◌∷◌, ◌++◌}
 use Rattle.drf_holdings.specs.Listed.{numbers_in, serials_in, task_serial, task_on, task_named}
 use Rattle.drf_holdings.proofs.Named.{only_out, few_at}
 use Rattle.drf_holdings.proofs.Numbered.{listed_out}
@@ -11,6 +10,6 @@ returns c before after past later listed =
     record {
       agents = listed_out task_serial before after task past later task_on (numbers_in old.agents) (numbers_in c.remove.new.self) listed.agents c.remove.ensures;
       names = listed_out task_serial before after task past later task_named (serials_in old.names) (serials_in c.remove-2.new.self) listed.names
-      (λ key. only_out task_serial before after task past later (task_named key) (serials_in old.names key) (listed.names key)
-        (few_at (λ m. m.entries) old.names.frameworks.entries key) (serials_in c.remove-2.new.self key) (c.remove-2.ensures key));
+          (λ key. only_out task_serial before after task past later (task_named key) (serials_in old.names key) (listed.names key)
+          (few_at (λ m. m.entries) old.names.frameworks.entries key) (serials_in c.remove-2.new.self key) (c.remove-2.ensures key));
     }

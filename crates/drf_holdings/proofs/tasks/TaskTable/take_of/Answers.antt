@@ -14,7 +14,7 @@ returns-in_err-serial c =
     let framework = c.args.framework.now in
     let none = rows_none task_row (λ (t : TaskRow). same_text t.framework framework) tasks tasks (record {
       none = named_none framework tasks (λ name. any_listed task_serial (task_named (framework, name)) tasks
-        (sym (c.self.invariant.listed.names (framework, name)) ∙ c.in_err-serial.ensures.none name));
+          (sym (c.self.invariant.listed.names (framework, name)) ∙ c.in_err-serial.ensures.none name));
       same = refl;
     }) in
     rw c.from_residual.ensures (subst (λ (rows : List TaskRow). HasNone (λ t. same_text t.framework framework) rows rows) c.self.view_is none)

@@ -1,0 +1,64 @@
+-- Lists of numbers by name, after a change of one of them.
+use Rattle.std.specs.Prelude.{◌≡◌, ℕ, Bool, true, false, List, [], ◌∷◌, ◌++◌, Option, None, cond, length, Result, Ok, Err, OnErr}
+use Rattle.std.specs.Global.{Vec}
+use Rattle.std.specs.Map.{lookup}
+use Rattle.std.specs.Option.{option_map_or}
+use Rattle.std.proofs.Common.{refl, sym, ap, ◌∙◌}
+use Rattle.std.proofs.lemmas.List.{append-nil}
+use Rattle.drf_role.specs.Text.{Text, same_text}
+use Rattle.drf_role.specs.TextLaws.{same_from_test}
+
+abbrev pub items_or : Option (Vec ℕ) → List ℕ
+items_or o = option_map_or (λ v. v.items) o []
+
+abbrev pub numbers_at : List (Text × Vec ℕ) → Text → List ℕ
+numbers_at es q = items_or (lookup (same_text q) es)
+
+module _ (old new : List (Text × Vec ℕ)) (name : Text) (w : Option (Vec ℕ))
+    (written : (q : Text) → lookup (same_text q) new ≡ cond (same_text name q) w (lookup (same_text q) old)) where
+  pub changed_at : (g : List ℕ → List ℕ) → items_or w ≡ g (numbers_at old name)
+      → (q : Text) → numbers_at new q ≡ cond (same_text name q) (g (numbers_at old q)) (numbers_at old q)
+  changed_at g is q = ap items_or (written q) ∙ by (same_text name q) (λ same. same_from_test name q same)
+    where
+      by : (b : Bool) → (b ≡ true → name ≡ q)
+          → items_or (cond b w (lookup (same_text q) old)) ≡ cond b (g (numbers_at old q)) (numbers_at old q)
+      by true same = is ∙ ap (λ (t : Text). g (numbers_at old t)) (same refl)
+      by false same = refl
+
+  -- one more number at the end
+  pub added_at : (number : ℕ) → items_or w ≡ numbers_at old name ++ number ∷ []
+      → (q : Text) → numbers_at new q ≡ numbers_at old q ++ cond (same_text name q) (number ∷ []) []
+  added_at number is q = changed_at (λ ns. ns ++ number ∷ []) is q ∙ by (same_text name q)
+    where
+      by : (b : Bool) → cond b (numbers_at old q ++ number ∷ []) (numbers_at old q) ≡ numbers_at old q ++ cond b (number ∷ []) []
+      by true = refl
+      by false = sym (append-nil (numbers_at old q))
+
+  -- nothing new
+  pub same_at : items_or w ≡ numbers_at old name → (q : Text) → numbers_at new q ≡ numbers_at old q
+  same_at is q = changed_at (λ ns. ns) is q ∙ by (same_text name q)
+    where
+      by : (b : Bool) → cond b (numbers_at old q) (numbers_at old q) ≡ numbers_at old q
+      by true = refl
+      by false = refl
+
+-- what is written and then taken out is taken out
+pub taken_out : (old mid new : List (Text × Vec ℕ)) (name : Text) (w : Option (Vec ℕ))
+    → ((q : Text) → lookup (same_text q) mid ≡ cond (same_text name q) w (lookup (same_text q) old))
+    → ((q : Text) → lookup (same_text q) new ≡ cond (same_text name q) None (lookup (same_text q) mid))
+    → (q : Text) → lookup (same_text q) new ≡ cond (same_text name q) None (lookup (same_text q) old)
+taken_out old mid new name w first second q =
+    second q ∙ ap (cond (same_text name q) None) (first q) ∙ by (same_text name q)
+  where
+    by : (b : Bool) → cond b None (cond b w (lookup (same_text q) old)) ≡ cond b None (lookup (same_text q) old)
+    by true = refl
+    by false = refl
+
+-- what holds at all holds on failure, and on success
+pub on_err : {T E : Type 0} (r : Result T E) (P : Type 0) → P → OnErr r P
+on_err (Ok x) P p = tt
+on_err (Err e) P p = p
+
+pub none_in : {X : Type 0} (xs : List X) → length xs ≡ 0 → xs ≡ []
+none_in [] long = refl
+none_in (x ∷ xs) long = cc

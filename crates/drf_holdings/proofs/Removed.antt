@@ -1,0 +1,196 @@
+-- Things that are found by their numbers, and taken out.
+use Rattle.std.specs.Prelude.{◌≡◌, ℕ, ◌==◌, ◌-◌, ◌<◌, ◌≤◌, Bool, true, false, List, [], ◌∷◌, ◌++◌, length, map, filter, find, take, drop, slice_get, slice_index_or, remove, Option, Some, None, MatchOption, cond, IfNone, is_some, ◌||◌}
+use Rattle.std.specs.List.{list_any}
+use Rattle.std.proofs.Common.{refl, sym, ap, subst, ◌∙◌, zero, suc, arith, inl, inr}
+use Rattle.std.proofs.lemmas.Bool.{cases_Bool, eqb-true, eq-eqb, ne_eqb, or_parts, false≢true}
+use Rattle.std.specs.Borrow.{Bor}
+use Rattle.std.specs.Option.{option_to_list, option_copied}
+use Rattle.std.proofs.lemmas.List.{map-append}
+use Rattle.std.proofs.lemmas.Option.{slice_get_read}
+use Rattle.drf_rows.specs.EndingLaws.{split_at}
+use Rattle.drf_rows.specs.ListLaws.{find_only, list_any_at}
+use Rattle.drf_holdings.specs.Rising.{IsRising, AreOthers, IsAt}
+use Rattle.drf_holdings.specs.Taking.{IsTaken, HasNone}
+use Rattle.drf_holdings.proofs.Places.{others_at, others_split, others_from}
+use Rattle.drf_holdings.proofs.Numbered.{listed_none, listed_passes}
+
+pub within_at : {X : Type 0} (xs : List X) (i : ℕ) (x : X) → slice_get xs i ≡ Some x → i < length xs
+within_at [] i x at = cc
+within_at (y ∷ ys) zero x at = omega arith
+within_at (y ∷ ys) (suc i) x at = omega (arith, within_at ys i x at)
+
+missing_within : {X : Type 0} (xs : List X) (i : ℕ) → i < length xs → slice_get xs i ≡ None → false ≡ true
+missing_within [] i within none = absurd (omega (arith, within))
+missing_within (y ∷ ys) zero within none = cc
+missing_within (y ∷ ys) (suc i) within none = missing_within ys i (omega (arith, within)) none
+
+last_none : (ns : List ℕ) → slice_get ns (length ns - 1) ≡ None → ns ≡ []
+last_none [] none = refl
+last_none (n ∷ ns) none = absurd (false≢true (missing_within (n ∷ ns) (length (n ∷ ns) - 1) (omega arith) none))
+
+-- what holds at all holds where nothing is found
+pub on_none : {X : Type 0} (r : Option X) (P : Type 0) → P → IfNone r P
+on_none None P p = p
+on_none (Some x) P p = tt
+
+module _ {X : Type 0} (number : X → ℕ) where
+  -- past the end stands no one, and where another one stands, it is another
+  pub past_end : (n : ℕ) (xs : List X) (i : ℕ) → length xs ≤ i → (x : X) → slice_get xs i ≡ Some x → (number x == n) ≡ false
+  past_end n xs i past x at = absurd (omega (arith, within_at xs i x at, past))
+
+  pub other_there : (n : ℕ) (xs : List X) (i : ℕ) (o : X) → slice_get xs i ≡ Some o → (number o ≡ n → ⊥)
+      → (x : X) → slice_get xs i ≡ Some x → (number x == n) ≡ false
+  other_there n xs i o at other x there =
+      let got : ◌≡◌ {A = Option X} (Some o) (Some x) = sym at ∙ there in
+      let same : o ≡ x = cc in
+      ne_eqb (number x) n (λ its. other (ap number same ∙ its))
+
+  find_none : (n : ℕ) (xs : List X) → AreOthers number n xs → find (λ x. number x == n) xs ≡ None
+  find_none n [] others = refl
+  find_none n (x ∷ xs) others = rw others.0 (find_none n xs others.1)
+
+  -- where no one has the number, none is found
+  pub found_none : (n : ℕ) (xs : List X) → AreOthers number n xs → None ≡ find (λ x. number x == n) xs
+  found_none n xs others = sym (find_none n xs others)
+
+  -- the place of a number
+  pub place_from : (xs : List X) (i : ℕ) (x : X) (n : ℕ) → IsRising (map number xs) → slice_get xs i ≡ Some x → number x ≡ n → IsAt number n xs i
+  place_from xs i x n rising at its =
+      let others = others_at number xs i x rising at in
+      record {
+        one = x;
+        at = at;
+        its = its;
+        before = subst (λ (m : ℕ). AreOthers number m (take i xs)) its others.0;
+        after = subst (λ (m : ℕ). AreOthers number m (drop (suc i) xs)) its others.1;
+      }
+
+  module _ (n : ℕ) (old : List X) (i : ℕ) (at : IsAt number n old i) where
+    pub whole_at : old ≡ take i old ++ at.one ∷ drop (suc i) old
+    whole_at = split_at old i at.one at.at
+
+    -- it is found
+    pub found_at : find (λ x. number x == n) old ≡ Some at.one
+    found_at =
+        ap (find (λ x. number x == n)) whole_at
+        ∙ find_only (λ x. number x == n) (take i old) (drop (suc i) old) at.one at.before (eq-eqb (number at.one) n at.its)
+
+    pub one_at : (x : X) → x ≡ slice_index_or old i x → at.one ≡ x
+    one_at x read =
+        let got : slice_get old i ≡ Some x = slice_get_read old (length old) i x refl (within_at old i at.one at.at) read in
+        let same : ◌≡◌ {A = Option X} (Some at.one) (Some x) = sym at.at ∙ got in
+        cc
+
+    -- it is taken out
+    pub taken_at : (new : List X) (x : X) → x ≡ slice_index_or old i x → new ≡ remove old i → IsTaken (λ x. number x == n) old new x
+    taken_at new x read removed =
+        let same = one_at x read in
+        record {
+          before = take i old;
+          after = drop (suc i) old;
+          whole = whole_at ∙ ap (λ (y : X). take i old ++ y ∷ drop (suc i) old) same;
+          left = removed;
+          passes = eq-eqb (number x) n (ap number (sym same) ∙ at.its);
+        }
+
+  pub any_listed : (test : X → Bool) (xs : List X) → map number (filter test xs) ≡ [] → list_any test xs ≡ false
+  any_listed test [] none = refl
+  any_listed test (x ∷ xs) none = elim (cases_Bool (test x)) [
+    | inl here ↦
+        let some : number x ∷ map number (filter test xs) ≡ [] =
+        sym (ap (λ (b : Bool). map number (cond b (x ∷ filter test xs) (filter test xs))) here) ∙ none in
+        cc
+    | inr past ↦
+        let later : map number (filter test xs) ≡ [] =
+        sym (ap (λ (b : Bool). map number (cond b (x ∷ filter test xs) (filter test xs))) past) ∙ none in
+        rw past (any_listed test xs later)
+  ]
+
+  module _ (test : X → Bool) (old : List X) (ns : List ℕ) (listed : ns ≡ map number (filter test old)) where
+    -- where nothing is listed, nothing passes
+    pub none_by : slice_get ns (length ns - 1) ≡ None → HasNone test old old
+    none_by none = record { none = any_listed test old (sym listed ∙ last_none ns none); same = refl }
+
+    -- what is taken out by a number that is listed passes, and also any wider test
+    pub taken_by : (wide : X → Bool) → ((x : X) → test x ≡ true → wide x ≡ true)
+        → (n : ℕ) (i : ℕ) (new : List X) → IsRising (map number old) → slice_get ns i ≡ Some n → (r : Option X)
+        → MatchOption r (HasNone (λ x. number x == n) old new) (IsTaken (λ x. number x == n) old new)
+        → MatchOption r (HasNone wide old new) (IsTaken wide old new)
+    taken_by wide widens n i new rising last None none =
+        let any : list_any (λ m. m == n) (map number (filter test old)) ≡ true =
+        ap (list_any (λ m. m == n)) (sym listed) ∙ list_any_at (λ m. m == n) ns i n last (eq-eqb n n refl) in
+        absurd (false≢true (listed_none number test n old (others_from number n old none.none) any))
+    taken_by wide widens n i new rising last (Some x) taken =
+        let its : number x ≡ n = eqb-true (number x) n taken.passes in
+        let any : list_any (λ m. m == n) (map number (filter test old)) ≡ true =
+        ap (list_any (λ m. m == n)) (sym listed) ∙ list_any_at (λ m. m == n) ns i n last (eq-eqb n n refl) in
+        let here : list_any (λ m. m == number x) (map number (filter test (taken.before ++ x ∷ taken.after))) ≡ true =
+        (λ j. list_any (λ m. m == its j) (map number (filter test (sym taken.whole j)))) ∙ any in
+        let others = others_split number taken.before taken.after x (subst (λ (xs : List X). IsRising (map number xs)) taken.whole rising) in
+        record {
+          before = taken.before;
+          after = taken.after;
+          whole = taken.whole;
+          left = taken.left;
+          passes = widens x (listed_passes number taken.before taken.after x others.0 others.1 test here);
+        }
+
+-- ---- rows of things
+
+module _ {X Y : Type 0} (row : X → Y) (test : Y → Bool) where
+  any_rows : (xs : List X) → list_any test (map row xs) ≡ list_any (λ x. test (row x)) xs
+  any_rows [] = refl
+  any_rows (x ∷ xs) = ap (λ (b : Bool). test (row x) || b) (any_rows xs)
+
+  pub rows_none : (old new : List X) → HasNone (λ x. test (row x)) old new → HasNone test (map row old) (map row new)
+  rows_none old new none = record { none = any_rows old ∙ none.none; same = ap (map row) none.same }
+
+  pub rows_taken : (old new : List X) (x : X) → IsTaken (λ x. test (row x)) old new x → IsTaken test (map row old) (map row new) (row x)
+  rows_taken old new x taken = record {
+    before = map row taken.before;
+    after = map row taken.after;
+    whole = ap (map row) taken.whole ∙ map-append row taken.before (x ∷ taken.after);
+    left = ap (map row) taken.left ∙ map-append row taken.before taken.after;
+    passes = taken.passes;
+  }
+
+  none_passes : (xs : List X) → list_any (λ x. test (row x)) xs ≡ false → filter (λ x. test (row x)) xs ≡ []
+  none_passes [] none = refl
+  none_passes (x ∷ xs) none =
+      let parts = or_parts (test (row x)) (list_any (λ x. test (row x)) xs) none in
+      rw parts.0 (none_passes xs parts.1)
+
+  -- where no row passes, none is listed
+  pub unlisted : (number : X → ℕ) (xs : List X) → list_any test (map row xs) ≡ false → map number (filter (λ x. test (row x)) xs) ≡ []
+  unlisted number xs none = ap (map number) (none_passes xs (sym (any_rows xs) ∙ none))
+
+  -- a list of one number or none says whether there is one
+  pub some_listed : (number : X → ℕ) (o : Option ℕ) (xs : List X)
+      → option_to_list o ≡ map number (filter (λ x. test (row x)) xs) → is_some o ≡ list_any test (map row xs)
+  some_listed number None xs listed = sym (any_rows xs ∙ any_listed number (λ x. test (row x)) xs (sym listed))
+  some_listed number (Some n) xs listed = elim (cases_Bool (list_any (λ x. test (row x)) xs)) [
+    | inl here ↦ sym (any_rows xs ∙ here)
+    | inr none ↦
+        let empty : n ∷ [] ≡ [] = listed ∙ ap (map number) (none_passes xs none) in
+        cc
+  ]
+
+-- ---- finding
+
+-- nothing passes a test that is always false
+pub never : {X : Type 0} (xs : List X) → list_any (λ x. false) xs ≡ false
+never [] = refl
+never (x ∷ xs) = never xs
+
+pub find_any : {X : Type 0} (p : X → Bool) (xs : List X) → list_any p xs ≡ true → is_some (find p xs) ≡ true
+find_any p [] any = absurd (false≢true any)
+find_any {X} p (x ∷ xs) any = by (p x) (λ later. find_any p xs later) any
+  where
+    by : (b : Bool) → (list_any p xs ≡ true → is_some (find p xs) ≡ true) → (b || list_any p xs) ≡ true → is_some (cond b (Some x) (find p xs)) ≡ true
+    by true later any = refl
+    by false later any = later any
+
+-- what a found reference points to
+pub some_copied : {X : Type 0} (o : Option (Bor X)) → is_some o ≡ is_some (option_copied o)
+some_copied None = refl
+some_copied (Some x) = refl

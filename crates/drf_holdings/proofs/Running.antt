@@ -1,0 +1,66 @@
+-- Tasks that are found by what lists their serial numbers.
+use Rattle.std.specs.Prelude.{◌≡◌, ℕ, ◌==◌, ◌<◌, Bool, true, false, List, [], ◌∷◌, ◌++◌, map, filter, slice_get, Some, None}
+use Rattle.std.specs.List.{list_any}
+use Rattle.std.proofs.Common.{refl, sym, ap, subst, ◌∙◌, inl, inr}
+use Rattle.std.proofs.lemmas.Bool.{or_parts, cases_Bool, and_from, false≢true}
+use Rattle.drf_role.specs.Text.{Text, same_text}
+use Rattle.drf_role.specs.TextLaws.{same_itself}
+use Rattle.drf_rows.specs.EndingLaws.{each-out}
+use Rattle.drf_rows.specs.Holdings.{Holding, of_task}
+use Rattle.drf_rows.specs.declared.rows.TaskRow.{TaskRow}
+use Rattle.drf_holdings.specs.Listed.{task_serial, task_row, task_of, task_named, AreTasksListed, AreTasksKept}
+use Rattle.drf_holdings.specs.declared.tasks.Task.{Task}
+use Rattle.drf_holdings.specs.declared.tasks.TaskIndex.{TaskIndex}
+use Rattle.drf_holdings.specs.Rising.{IsRising, AreOthers}
+use Rattle.drf_holdings.specs.Taking.{IsTaken, HasNone}
+use Rattle.drf_holdings.proofs.Places.{rising_out, others_split}
+use Rattle.drf_holdings.proofs.Removed.{taken_by, rows_none, rows_taken}
+
+pub row_holdings : (tasks : List Task) → map (λ t. of_task t.row) tasks ≡ map of_task (map task_row tasks)
+row_holdings [] = refl
+row_holdings (t ∷ tasks) = ap (λ (hs : List Holding). of_task t.row ∷ hs) (row_holdings tasks)
+
+-- a framework without a task of any name has no task
+pub named_none : (framework : Text) (tasks : List Task) → ((name : Text) → list_any (task_named (framework, name)) tasks ≡ false)
+    → list_any (task_of framework) tasks ≡ false
+named_none framework [] none = refl
+named_none framework (t ∷ tasks) none =
+    let parts : (name : Text) → _ = λ name. or_parts (task_named (framework, name) t) (list_any (task_named (framework, name)) tasks) (none name) in
+    rw (other (parts t.row.name).0) (named_none framework tasks (λ name. (parts name).1))
+  where
+    other : task_named (framework, t.row.name) t ≡ false → task_of framework t ≡ false
+    other not_named = elim (cases_Bool (task_of framework t)) [
+      | inl here ↦ absurd (false≢true (sym not_named ∙ and_from (task_of framework t) (same_text t.row.name t.row.name) here (same_itself t.row.name)))
+      | inr past ↦ past
+    ]
+
+module _ (tasks new : List Task) (rows : List TaskRow) (view : map task_row tasks ≡ rows) (rising : IsRising (map task_serial tasks))
+    (test : Task → Bool) (ns : List ℕ) (listed : ns ≡ map task_serial (filter test tasks))
+    (wide : TaskRow → Bool) (widens : (t : Task) → test t ≡ true → wide t.row ≡ true)
+    (n i : ℕ) (last : slice_get ns i ≡ Some n) where
+  pub task_taken : (t : Task) → IsTaken (λ t. t.serial == n) tasks new t → IsTaken wide rows (map task_row new) t.row
+  task_taken t taken =
+      subst (λ (old : List TaskRow). IsTaken wide old (map task_row new) t.row) view
+      (rows_taken task_row wide tasks new t
+      (taken_by task_serial test tasks ns listed (λ t. wide t.row) widens n i new rising last (Some t) taken))
+
+  pub task_none : HasNone (λ t. t.serial == n) tasks new → HasNone wide rows (map task_row new)
+  task_none none =
+      subst (λ (old : List TaskRow). HasNone wide old (map task_row new)) view
+      (rows_none task_row wide tasks new
+      (taken_by task_serial test tasks ns listed (λ t. wide t.row) widens n i new rising last None none))
+
+-- one task is taken out of those that are kept
+pub kept_out : (index left : TaskIndex) (tasks new : List Task) (next n : ℕ) (t : Task)
+    → IsTaken (λ t. t.serial == n) tasks new t
+    → ((before after : List Task) → AreOthers task_serial t.serial before → AreOthers task_serial t.serial after
+    → AreTasksListed index (before ++ t ∷ after) → AreTasksListed left (before ++ after))
+    → AreTasksKept index tasks next → AreTasksKept left new next
+kept_out index left tasks new next n t out removed kept =
+    let whole : AreTasksKept index (out.before ++ t ∷ out.after) next = subst (λ (ts : List Task). AreTasksKept index ts next) out.whole kept in
+    let others = others_split task_serial out.before out.after t whole.rising in
+    subst (λ (ts : List Task). AreTasksKept left ts next) (sym out.left) (record {
+      rising = rising_out task_serial out.before out.after t whole.rising;
+      below = each-out (λ (s : Task). s.serial < next) out.before out.after t whole.below;
+      listed = removed out.before out.after others.0 others.1 whole.listed;
+    })

@@ -1,0 +1,32 @@
+use Rattle.std.proofs.Common.{◌≡◌, ◌∷◌, [], ◌++◌, cond, Some, None, is_some, sym, ap, ◌∙◌}
+use Rattle.std.specs.Map.{lookup}
+use Rattle.std.specs.Option.{option_copied_mut}
+use Rattle.drf_role.specs.Text.{Text, same_text}
+use Rattle.drf_holdings.proofs.Lists.{items_or, numbers_at, same_at, added_at, on_err}
+use Rattle.drf_holdings.proofs.index.Index.add.Goals as goal
+
+pub returns-in_err-push-clause-err : goal.returns-in_err-push-clause-err
+returns-in_err-push-clause-err c =
+    let name : Text = c.args.name.now in
+    let old = c.args.self.now.lists.entries in
+    let found : lookup (same_text name) old ≡ Some c.in-Some.numbers.now = sym c.get_mut.ensures.value ∙ ap option_copied_mut c.in-Some.is in
+    let wrote = (c.get_mut.follows.holds c.push.new.self).3 (ap is_some found) in
+    let kept : items_or (Some c.push.new.self) ≡ numbers_at old name = c.in_err-push.ensures.items ∙ sym (ap items_or found) in
+    on_err _ _ (same_at old (c.get_mut.follows.lender c.push.new.self).entries name (Some c.push.new.self) wrote.0 kept)
+
+pub returns-clause-ok : goal.returns-clause-ok
+returns-clause-ok c =
+    let name : Text = c.args.name.now in
+    let old = c.args.self.now.lists.entries in
+    let none : lookup (same_text name) old ≡ None = sym c.get_mut.ensures.value ∙ ap option_copied_mut c.in_default.is in
+    let same = c.get_mut.follows.holds-at-none in
+    let mid = c.get_mut.follows.lender-at-none.entries in
+    let key : Text = c.in_ok-copy.field-0 in
+    let copied : key ≡ name = c.in_ok-copy.ensures in
+    let missing : lookup (same_text key) mid ≡ None = (λ i. lookup (same_text (copied i)) (same i).entries) ∙ none in
+    let v = c.push-2.new.self in
+    let pushed : items_or (Some v) ≡ numbers_at mid key ++ c.args.number ∷ [] =
+    c.in_ok-push-2.ensures.items ∙ ap (λ ns. ns ++ c.args.number ∷ []) (c.new-numbers.ensures.items ∙ sym (ap items_or missing)) in
+    let updates = c.in_ok-insert.ensures.updates in
+    λ q. added_at mid c.insert.new.self.entries key (Some v) updates.0 c.args.number pushed q
+    ∙ (λ i. numbers_at (same i).entries q ++ cond (same_text (copied i) q) (c.args.number ∷ []) [])

@@ -1,0 +1,20 @@
+use Rattle.std.proofs.Common.{◌≡◌, List, map, flat_map, refl, ap, subst, ◌∙◌, IfOk}
+use Rattle.drf_bundle.specs.Taken.{rest_of_all}
+use Rattle.drf_bundle.specs.declared.resource.Resource.{Resource}
+use Rattle.drf_rows.specs.Holdings.{of_task, parts_on}
+use Rattle.drf_holdings.specs.Listed.{task_serial, bundles_at}
+use Rattle.drf_holdings.proofs.Parts.{parts_listed}
+use Rattle.drf_holdings.proofs.Running.{row_holdings}
+use Rattle.drf_holdings.proofs.tasks.TaskTable.left_of.Goals as goal
+
+pub returns : goal.returns
+returns c =
+    let tasks = c.self.inside.tasks.items in
+    let agent = c.args.agent.now in
+    let serials = c.list.result.now in
+    let parts : flat_map (bundles_at task_serial (λ t. t.row.bundle) c.deref.result.now) serials ≡ parts_on agent (map of_task c.args.self.now) =
+    (λ i. flat_map (bundles_at task_serial (λ t. t.row.bundle) (c.deref.ensures.value i)) serials)
+    ∙ parts_listed task_serial (λ t. t.row.bundle) (λ t. of_task t.row) agent (λ t. refl) tasks serials c.self.invariant.rising
+    (c.list.ensures ∙ c.self.invariant.listed.agents agent)
+    ∙ ap (parts_on agent) (row_holdings tasks ∙ ap (map of_task) c.self.view_is) in
+    subst (λ (ps : List (List Resource)). IfOk c.less_tasks.result (λ left. left ≡ rest_of_all c.args.whole ps)) parts c.less_tasks.ensures

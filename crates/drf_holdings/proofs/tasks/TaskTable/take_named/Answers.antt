@@ -1,0 +1,44 @@
+use Rattle.std.proofs.Common.{◌≡◌, [], ◌∷◌, List, map, filter, refl, sym, subst, ◌∙◌}
+use Rattle.drf_rows.specs.Offers.{is_task}
+use Rattle.drf_rows.specs.declared.rows.TaskRow.{TaskRow}
+use Rattle.drf_holdings.specs.Listed.{task_serial, task_row, task_named}
+use Rattle.drf_holdings.specs.Taking.{HasNone}
+use Rattle.drf_holdings.proofs.Running.{task_taken, task_none}
+use Rattle.drf_holdings.proofs.Removed.{any_listed, rows_none}
+use Rattle.drf_holdings.proofs.tasks.TaskTable.take_named.Goals as goal
+
+pub returns-in_err-serial : goal.returns-in_err-serial
+returns-in_err-serial c =
+    let tasks = c.self.inside.tasks.items in
+    let framework = c.args.framework.now in
+    let name = c.args.name.now in
+    let listed : [] ≡ map task_serial (filter (task_named (framework, name)) tasks) =
+    c.in_err-serial.ensures ∙ c.self.invariant.listed.names (framework, name) in
+    let none = rows_none task_row (is_task framework name) tasks tasks (record { none = any_listed task_serial (task_named (framework, name)) tasks (sym listed); same = refl }) in
+    rw c.from_residual.ensures (subst (λ (rows : List TaskRow). HasNone (is_task framework name) rows rows) c.self.view_is none)
+
+pub invariant_of-self : goal.invariant_of-self
+invariant_of-self c = c.take_task.ensures.kept c.self.inside.next c.self.invariant
+
+pub returns-in_err-task : goal.returns-in_err-task
+returns-in_err-task c =
+    let tasks = c.self.inside.tasks.items in
+    let framework = c.args.framework.now in
+    let name = c.args.name.now in
+    let listed : c.in_ok-serial.serial ∷ [] ≡ map task_serial (filter (task_named (framework, name)) tasks) =
+    c.in_ok-serial.ensures ∙ c.self.invariant.listed.names (framework, name) in
+    rw c.from_residual-in_err-task.ensures (task_none tasks c.take_task.new.tasks.items c.args.self.now c.self.view_is c.self.invariant.rising
+    (task_named (framework, name)) (c.in_ok-serial.serial ∷ []) listed (is_task framework name) (λ t here. here) c.in_ok-serial.serial 0 refl c.in_err-task.ensures.taken)
+
+pub invariant_of-self-2 : goal.invariant_of-self-2
+invariant_of-self-2 c = c.take_task.ensures.kept c.self.inside.next c.self.invariant
+
+pub returns : goal.returns
+returns c =
+    let tasks = c.self.inside.tasks.items in
+    let framework = c.args.framework.now in
+    let name = c.args.name.now in
+    let listed : c.in_ok-serial.serial ∷ [] ≡ map task_serial (filter (task_named (framework, name)) tasks) =
+    c.in_ok-serial.ensures ∙ c.self.invariant.listed.names (framework, name) in
+    task_taken tasks c.take_task.new.tasks.items c.args.self.now c.self.view_is c.self.invariant.rising
+    (task_named (framework, name)) (c.in_ok-serial.serial ∷ []) listed (is_task framework name) (λ t here. here) c.in_ok-serial.serial 0 refl c.in_ok-task.task c.in_ok-task.ensures.taken

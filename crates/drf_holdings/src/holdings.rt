@@ -1,0 +1,181 @@
+//! What clients hold, and how it ends.
+ghost use Rattle.std.specs.Prelude.{◌≡◌, ◌==◌, [], ◌++◌, Some, true, false, map, find, IfOk, OnOk, OnErr, MatchOption, option_copied};
+ghost use Rattle.std.specs.List.{list_any};
+ghost use Rattle.drf_bundle.specs.Taken.{rest_of_all};
+ghost use Rattle.drf_rows.specs.Endings.{ends_offer, ends_task};
+ghost use Rattle.drf_rows.specs.Holdings.{parts_on};
+ghost use Rattle.drf_rows.specs.Offers.{is_task};
+ghost use Rattle.drf_rows.specs.declared.rows.OfferRow.{OfferRow};
+ghost use Rattle.drf_holdings.specs.Ended.{ending_of};
+ghost use Rattle.drf_holdings.specs.Listed.{offer_number, task_row};
+ghost use Rattle.drf_holdings.specs.Rising.{IsRising};
+ghost use Rattle.drf_holdings.specs.Stored.{HasTaken, HasStarted, holdings_in};
+ghost use Rattle.drf_holdings.specs.Taking.{IsTaken, HasNone};
+
+use crate::ending::Ending;
+use crate::offers::OfferTable;
+use crate::tasks::{Task, TaskTable};
+use drf_bundle::Bundle;
+use drf_role::{Name, Role};
+use drf_rows::{OfferRow, TaskRow};
+use std::alloc::{AllocError, Global};
+use std::marker::Model;
+
+/// An offer or a task that was taken out.
+#[derive(Drop)]
+pub struct Taken {
+    pub agent: Name,
+    pub role: Role,
+    pub framework: Name,
+    pub bundle: Bundle,
+}
+
+/// Takes an offer out that ends, if there is one.
+fn take_offer(offers: &mut OfferTable, ending: Ending) -> Option<OfferRow>
+    ensures { MatchOption result
+        (HasNone (ends_offer (ending_of ending.entry)) offers.old offers.new)
+        (IsTaken (ends_offer (ending_of ending.entry)) offers.old offers.new) }
+{
+    match ending {
+        Ending::Offer(number) => offers.take(number),
+        Ending::Task { .. } => None,
+        Ending::OffersOn(agent) => offers.take_on(agent),
+        Ending::AllOn(agent) => offers.take_on(agent),
+        Ending::AllOf(framework) => offers.take_of(framework),
+    }
+}
+
+/// Takes a task out that ends, if there is one.
+fn take_task(tasks: &mut TaskTable, ending: Ending) -> Option<TaskRow>
+    ensures { MatchOption result
+        (HasNone (ends_task (ending_of ending.entry)) tasks.old tasks.new)
+        (IsTaken (ends_task (ending_of ending.entry)) tasks.old tasks.new) }
+{
+    match ending {
+        Ending::Offer(_) => None,
+        Ending::Task { framework, name } => tasks.take_named(framework, name),
+        Ending::OffersOn(_) => None,
+        Ending::AllOn(agent) => tasks.take_on(agent),
+        Ending::AllOf(framework) => tasks.take_of(framework),
+    }
+}
+
+/// The offers and the tasks. Contracts see their lists. What leaves does so without memory, and no call goes over holdings
+/// other than those that it is asked for.
+#[derive(Drop)]
+pub struct Holdings {
+    offers: OfferTable,
+    tasks: TaskTable,
+}
+
+impl Model for Holdings {
+    ghost use Rattle.drf_holdings.specs.Stored.{Held, held_code};
+
+    ghost Value = { Held };
+
+    ghost coded = { held_code };
+
+    ghost view = { λ h. record { offers = h.offers; tasks = h.tasks } };
+}
+
+impl Holdings {
+    /// No offers and no tasks.
+    pub fn new(alloc: Global) -> Holdings
+        ensures offers { result.offers ≡ [] }
+        ensures tasks { result.tasks ≡ [] }
+    {
+        Holdings {
+            offers: OfferTable::new(alloc),
+            tasks: TaskTable::new(alloc),
+        }
+    }
+
+    /// The offers, in order of number.
+    pub fn offers(&self) -> &[OfferRow]
+        ensures { result.now ≡ self.now.offers }
+    {
+        self.offers.rows()
+    }
+
+    /// The tasks, as they were started.
+    pub fn tasks(&self) -> &[Task]
+        ensures { map task_row result.now ≡ self.now.tasks }
+    {
+        self.tasks.tasks()
+    }
+
+    /// The offer of a number.
+    pub fn offer(&self, number: u64) -> Option<&OfferRow>
+        ensures { option_copied result ≡ find (λ o. o.number == number) self.now.offers }
+    {
+        self.offers.get(number)
+    }
+
+    /// Whether the framework has a task of that name.
+    pub fn has_task(&self, framework: &Name, name: &Name) -> bool
+        ensures { result ≡ list_any (is_task framework.now name.now) self.now.tasks }
+    {
+        self.tasks.has(framework, name)
+    }
+
+    /// What is left of an agent's total.
+    pub fn left_on(&self, agent: &Name, total: &Bundle) -> Result<Bundle, AllocError>
+        ensures { IfOk result (λ left. left ≡ rest_of_all total.now (parts_on agent.now (holdings_in self.now))) }
+    {
+        self.tasks
+            .left_of(self.offers.left_of(total, agent)?, agent)
+    }
+
+    /// Takes out an offer or a task that ends, if there is one. It needs no memory.
+    pub fn take(&mut self, ending: Ending) -> Option<Taken>
+        ensures { HasTaken (ending_of ending.entry) self.old self.new result }
+    {
+        if let Some(offer) = take_offer(&mut self.offers, ending) {
+            return Some(Taken {
+                agent: offer.agent,
+                role: offer.role,
+                framework: offer.framework,
+                bundle: offer.bundle,
+            });
+        }
+        let task = take_task(&mut self.tasks, ending)?;
+        Some(Taken {
+            agent: task.agent,
+            role: task.role,
+            framework: task.framework,
+            bundle: task.bundle,
+        })
+    }
+
+    /// Puts offers behind those that are there. An `Err` changes nothing on either side.
+    pub fn append(&mut self, offers: &mut Vec<OfferRow>) -> Result<(), AllocError>
+        requires { IsRising (map offer_number (self.old.offers ++ offers.old.items)) }
+        ensures ok { OnOk result (self.new.offers ≡ self.old.offers ++ offers.old.items) }
+        ensures moved { OnOk result (offers.new.items ≡ []) }
+        ensures tasks { self.new.tasks ≡ self.old.tasks }
+        ensures err { OnErr result ((self.new ≡ self.old) × (offers.new.items ≡ offers.old.items)) }
+    {
+        self.offers.append(offers)
+    }
+
+    /// An offer becomes a task with a part of it. An `Err` changes nothing.
+    pub fn start(&mut self, number: u64, name: Name, used: Bundle) -> Result<(), AllocError>
+        requires there { list_any (λ o. o.number == number) self.old.offers ≡ true }
+        requires new { (o : OfferRow) → find (λ p. p.number == number) self.old.offers ≡ Some o
+            → list_any (is_task o.framework name) self.old.tasks ≡ false }
+        ensures ok { OnOk result (HasStarted number (name, used) self.old self.new) }
+        ensures err { OnErr result (self.new ≡ self.old) }
+    {
+        let offer = self.offers.get(number).unwrap();
+        let task = TaskRow {
+            name,
+            agent: offer.agent.copy()?,
+            framework: offer.framework.copy()?,
+            role: offer.role.copy()?,
+            bundle: used,
+        };
+        self.tasks.push(task)?;
+        let _offer = self.offers.take(number);
+        Ok(())
+    }
+}

@@ -1,0 +1,64 @@
+//! Which holdings are an agent's or a framework's, by their numbers.
+ghost use Rattle.std.specs.Prelude.{◌≡◌, [], ◌∷◌, ◌++◌, cond, not, filter, ◌==◌, OnOk, OnErr};
+ghost use Rattle.drf_role.specs.Text.{Text, same_text};
+ghost use Rattle.drf_holdings.specs.Listed.{numbers_in};
+
+use drf_role::Name;
+use indexmap::IndexMap;
+use std::alloc::{AllocError, Global};
+
+/// Lists of numbers, by name. A name has a list while there is a number in it.
+#[derive(Drop)]
+pub(crate) struct Index {
+    pub(crate) lists: IndexMap<Name, Vec<u64>>,
+}
+
+impl Index {
+    /// The index of nothing.
+    pub(crate) fn new(alloc: Global) -> Index
+        ensures { (name : Text) → numbers_in result name ≡ [] }
+    {
+        Index {
+            lists: IndexMap::new(alloc),
+        }
+    }
+
+    /// The numbers of a name, in the order in which they were added.
+    pub(crate) fn list(&self, name: &Name) -> &[u64]
+        ensures { result.now ≡ numbers_in self.now name.now }
+    {
+        match self.lists.get(name) {
+            Some(numbers) => numbers.as_slice(),
+            None => &[],
+        }
+    }
+
+    /// Adds a number behind those of a name. An `Err` changes no list.
+    pub(crate) fn add(&mut self, name: &Name, number: u64) -> Result<(), AllocError>
+        ensures ok { OnOk result ((n : Text) → numbers_in self.new n ≡ numbers_in self.old n ++ cond (same_text name.now n) (number ∷ []) []) }
+        ensures err { OnErr result ((n : Text) → numbers_in self.new n ≡ numbers_in self.old n) }
+    {
+        if let Some(numbers) = self.lists.get_mut(name) {
+            numbers.push(number)?;
+            return Ok(());
+        }
+        let mut numbers = Vec::new(*self.lists.allocator());
+        numbers.push(number)?;
+        self.lists.insert(name.copy()?, numbers)?;
+        Ok(())
+    }
+
+    /// Takes a number out of those of a name. It needs no memory.
+    pub(crate) fn remove(&mut self, name: &Name, number: u64)
+        ensures { (n : Text) → numbers_in self.new n
+            ≡ cond (same_text name.now n) (filter (λ m. not (m == number)) (numbers_in self.old n)) (numbers_in self.old n) }
+    {
+        let Some(numbers) = self.lists.get_mut(name) else {
+            return;
+        };
+        numbers.retain(|listed| *listed != number);
+        if numbers.is_empty() {
+            self.lists.swap_remove(name);
+        }
+    }
+}

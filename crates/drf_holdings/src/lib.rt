@@ -1,0 +1,14 @@
+//! What clients hold: offers, found by number, and tasks, found by framework and name; and what is held on an agent or by
+//! a framework, without a look at what others hold.
+#![tactic(auto)]
+
+mod ending;
+mod holdings;
+mod index;
+mod names;
+mod offers;
+mod tasks;
+
+pub use ending::Ending;
+pub use holdings::{Holdings, Taken};
+pub use tasks::Task;

@@ -1,0 +1,82 @@
+//! Which tasks are a framework's, by their names.
+ghost use Rattle.std.specs.Prelude.{◌≡◌, [], ◌∷◌, ◌++◌, ◌&&◌, cond, IfSome, IfNone, OnOk, OnErr};
+ghost use Rattle.std.specs.Option.{option_to_list};
+ghost use Rattle.drf_role.specs.Text.{Text, same_text};
+ghost use Rattle.drf_holdings.specs.Listed.{serials_in, TaskKey};
+
+use drf_role::Name;
+use indexmap::IndexMap;
+use std::alloc::{AllocError, Global};
+
+/// The serial numbers of tasks, by framework and name. A framework stands here while it has a task.
+#[derive(Drop)]
+pub(crate) struct Names {
+    pub(crate) frameworks: IndexMap<Name, IndexMap<Name, u64>>,
+}
+
+impl Names {
+    /// The names of no tasks.
+    pub(crate) fn new(alloc: Global) -> Names
+        ensures { (key : TaskKey) → serials_in result key ≡ [] }
+    {
+        Names {
+            frameworks: IndexMap::new(alloc),
+        }
+    }
+
+    /// The serial number of the framework's task of a name.
+    pub(crate) fn get(&self, framework: &Name, name: &Name) -> Option<u64>
+        ensures { option_to_list result ≡ serials_in self.now (framework.now, name.now) }
+    {
+        let tasks = self.frameworks.get(framework)?;
+        tasks.get(name).copied()
+    }
+
+    /// The serial number of a task of the framework.
+    pub(crate) fn last(&self, framework: &Name) -> Option<u64>
+        ensures some { IfSome result (λ serial. (name : Text) × (serials_in self.now (framework.now, name) ≡ serial ∷ [])) }
+        ensures none { IfNone result ((name : Text) → serials_in self.now (framework.now, name) ≡ []) }
+    {
+        let tasks = self.frameworks.get(framework)?;
+        let place = tasks.len().checked_sub(1)?;
+        let (_, serial) = tasks.get_index(place)?;
+        Some(*serial)
+    }
+
+    /// Adds a task of a framework. An `Err` changes nothing.
+    pub(crate) fn add(
+        &mut self,
+        framework: &Name,
+        name: &Name,
+        serial: u64,
+    ) -> Result<(), AllocError>
+        requires { serials_in self.old (framework.now, name.now) ≡ [] }
+        ensures ok { OnOk result ((key : TaskKey) → serials_in self.new key
+            ≡ serials_in self.old key ++ cond (same_text framework.now key.0 && same_text name.now key.1) (serial ∷ []) []) }
+        ensures err { OnErr result ((key : TaskKey) → serials_in self.new key ≡ serials_in self.old key) }
+    {
+        let name = name.copy()?;
+        if let Some(tasks) = self.frameworks.get_mut(framework) {
+            tasks.insert(name, serial)?;
+            return Ok(());
+        }
+        let mut tasks = IndexMap::new(*self.frameworks.allocator());
+        tasks.insert(name, serial)?;
+        self.frameworks.insert(framework.copy()?, tasks)?;
+        Ok(())
+    }
+
+    /// Takes the framework's task of a name out. It needs no memory.
+    pub(crate) fn remove(&mut self, framework: &Name, name: &Name)
+        ensures { (key : TaskKey) → serials_in self.new key
+            ≡ cond (same_text framework.now key.0 && same_text name.now key.1) [] (serials_in self.old key) }
+    {
+        let Some(tasks) = self.frameworks.get_mut(framework) else {
+            return;
+        };
+        tasks.swap_remove(name);
+        if tasks.is_empty() {
+            self.frameworks.swap_remove(framework);
+        }
+    }
+}

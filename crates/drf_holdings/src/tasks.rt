@@ -1,0 +1,239 @@
+//! The tasks that run, as they were started.
+ghost use Rattle.std.specs.Prelude.{◌≡◌, ◌==◌, ℕ, List, [], ◌∷◌, ◌++◌, map, find, flat_map, false, IfOk, IfSome, IfNone, OnOk, OnErr, MatchOption, option_copied};
+ghost use Rattle.std.specs.List.{list_any};
+ghost use Rattle.drf_bundle.specs.Taken.{rest_of_all};
+ghost use Rattle.drf_role.specs.Text.{same_text};
+ghost use Rattle.drf_rows.specs.Holdings.{of_task, parts_on};
+ghost use Rattle.drf_rows.specs.Offers.{is_task};
+ghost use Rattle.drf_holdings.specs.Listed.{task_serial, task_row, serials_in, bundles_at, AreTasksListed, AreTasksKept};
+ghost use Rattle.drf_holdings.specs.Rising.{IsRising, AreOthers, IsAt};
+ghost use Rattle.drf_holdings.specs.Taking.{IsTaken, HasNone};
+ghost use Rattle.drf_holdings.specs.declared.tasks.Task.{Task};
+
+use crate::index::Index;
+use crate::names::Names;
+use drf_amount::Algebra;
+use drf_bundle::Bundle;
+use drf_role::Name;
+use drf_rows::TaskRow;
+use std::alloc::{AllocError, Global};
+use std::marker::Model;
+
+/// A task, and its number among all that were started.
+#[derive(Drop)]
+pub struct Task {
+    pub row: TaskRow,
+    pub(crate) serial: u64,
+}
+
+/// The serial numbers of tasks, by agent, and by framework and name.
+#[derive(Drop)]
+pub(crate) struct TaskIndex {
+    pub(crate) agents: Index,
+    pub(crate) names: Names,
+}
+
+impl TaskIndex {
+    /// The index of no tasks.
+    fn new(alloc: Global) -> TaskIndex
+        ensures { AreTasksListed result [] }
+    {
+        TaskIndex {
+            agents: Index::new(alloc),
+            names: Names::new(alloc),
+        }
+    }
+
+    /// Adds a task behind those that are there. An `Err` changes nothing.
+    fn add(&mut self, task: &Task) -> Result<(), AllocError>
+        requires { serials_in self.old.names (task.now.row.framework, task.now.row.name) ≡ [] }
+        ensures ok { OnOk result ((tasks : List Task) → AreTasksListed self.old tasks → AreTasksListed self.new (tasks ++ task.now ∷ [])) }
+        ensures err { OnErr result ((tasks : List Task) → AreTasksListed self.old tasks → AreTasksListed self.new tasks) }
+    {
+        self.names
+            .add(&task.row.framework, &task.row.name, task.serial)?;
+        match self.agents.add(&task.row.agent, task.serial) {
+            Ok(()) => Ok(()),
+            Err(error) => {
+                self.names.remove(&task.row.framework, &task.row.name);
+                Err(error)
+            }
+        }
+    }
+
+    /// Takes a task out.
+    fn remove(&mut self, task: &Task)
+        ensures { (before after : List Task) → AreOthers task_serial task.now.serial before → AreOthers task_serial task.now.serial after
+            → AreTasksListed self.old (before ++ task.now ∷ after) → AreTasksListed self.new (before ++ after) }
+    {
+        self.agents.remove(&task.row.agent, task.serial);
+        self.names.remove(&task.row.framework, &task.row.name);
+    }
+}
+
+/// Where the task of a serial number stands.
+fn place_of(tasks: &[Task], serial: u64) -> Option<usize>
+    requires { IsRising (map task_serial tasks.now) }
+    ensures some { IfSome result (IsAt task_serial serial tasks.now) }
+    ensures none { IfNone result (AreOthers task_serial serial tasks.now) }
+{
+    let place = tasks.partition_point(|task| task.serial < serial);
+    let task = tasks.get(place)?;
+    if task.serial == serial {
+        Some(place)
+    } else {
+        None
+    }
+}
+
+/// The task of a serial number.
+fn task_at(tasks: &[Task], serial: u64) -> Option<&Task>
+    requires { IsRising (map task_serial tasks.now) }
+    ensures { option_copied result ≡ find (λ t. t.serial == serial) tasks.now }
+{
+    let place = place_of(tasks, serial)?;
+    let task = tasks.get(place)?;
+    Some(task)
+}
+
+/// What is left of a bundle when the tasks of some serial numbers are taken from it.
+fn less_tasks(whole: Bundle, tasks: &[Task], serials: &[u64]) -> Result<Bundle, AllocError>
+    requires { IsRising (map task_serial tasks.now) }
+    ensures { IfOk result (λ left. left ≡ rest_of_all whole (flat_map (bundles_at task_serial (λ t. t.row.bundle) tasks.now) serials.now)) }
+{
+    let mut left = whole;
+    for serial in serials {
+        let Some(task) = task_at(tasks, *serial) else {
+            continue;
+        };
+        left = left.rest(&task.row.bundle)?;
+    }
+    Ok(left)
+}
+
+/// Takes the task of a serial number out.
+fn take_task(tasks: &mut Vec<Task>, index: &mut TaskIndex, serial: u64) -> Option<Task>
+    requires { IsRising (map task_serial tasks.old.items) }
+    ensures taken { MatchOption result
+        (HasNone (λ t. t.serial == serial) tasks.old.items tasks.new.items)
+        (IsTaken (λ t. t.serial == serial) tasks.old.items tasks.new.items) }
+    ensures kept { (next : ℕ) → AreTasksKept index.old tasks.old.items next → AreTasksKept index.new tasks.new.items next }
+{
+    let place = place_of(tasks, serial)?;
+    let task = tasks.remove(place);
+    index.remove(&task);
+    Some(task)
+}
+
+/// Tasks with names that no two of a framework share. Contracts see the list of their rows. What leaves does so without
+/// memory.
+#[derive(Drop)]
+pub(crate) struct TaskTable {
+    tasks: Vec<Task>,
+    index: TaskIndex,
+    // The serial number of the task that is started next.
+    next: u64,
+}
+
+impl Model for TaskTable {
+    ghost use Rattle.std.specs.Prelude.{List, map};
+    ghost use Rattle.drf_rows.specs.declared.rows.TaskRow.{TaskRow};
+
+    ghost Value = { List TaskRow };
+
+    ghost use Rattle.std.specs.Coded.{coded_list};
+    ghost use Rattle.drf_rows.specs.contracts.rows.TaskRow as task_row;
+
+    ghost coded = { coded_list task_row.the_row.coded };
+
+    ghost use Rattle.drf_holdings.specs.Listed.{task_row as row_of, AreTasksKept};
+
+    ghost view = { λ t. map row_of t.tasks.items };
+
+    ghost invariant = { λ t. AreTasksKept t.index t.tasks.items t.next };
+}
+
+impl TaskTable {
+    /// A table with no tasks.
+    pub(crate) fn new(alloc: Global) -> TaskTable
+        ensures { result ≡ [] }
+    {
+        TaskTable {
+            tasks: Vec::new(alloc),
+            index: TaskIndex::new(alloc),
+            next: 0,
+        }
+    }
+
+    /// The tasks, as they were started.
+    pub(crate) fn tasks(&self) -> &[Task]
+        ensures { map task_row result.now ≡ self.now }
+    {
+        self.tasks.as_slice()
+    }
+
+    /// Whether the framework has a task of that name.
+    pub(crate) fn has(&self, framework: &Name, name: &Name) -> bool
+        ensures { result ≡ list_any (is_task framework.now name.now) self.now }
+    {
+        self.index.names.get(framework, name).is_some()
+    }
+
+    /// What is left of a bundle when the tasks on an agent are taken from it.
+    pub(crate) fn left_of(&self, whole: Bundle, agent: &Name) -> Result<Bundle, AllocError>
+        ensures { IfOk result (λ left. left ≡ rest_of_all whole (parts_on agent.now (map of_task self.now))) }
+    {
+        less_tasks(whole, &self.tasks, self.index.agents.list(agent))
+    }
+
+    /// Puts a task behind those that are there. An `Err` changes nothing.
+    pub(crate) fn push(&mut self, row: TaskRow) -> Result<(), AllocError>
+        requires { list_any (is_task row.framework row.name) self.old ≡ false }
+        ensures ok { OnOk result (self.new ≡ self.old ++ row ∷ []) }
+        ensures err { OnErr result (self.new ≡ self.old) }
+    {
+        let next = self.next.checked_add(1).ok_or(AllocError)?;
+        self.tasks.reserve(1)?;
+        let task = Task {
+            row,
+            serial: self.next,
+        };
+        self.index.add(&task)?;
+        self.tasks.push_reserved(task);
+        self.next = next;
+        Ok(())
+    }
+
+    /// Takes a task on an agent out.
+    pub(crate) fn take_on(&mut self, agent: &Name) -> Option<TaskRow>
+        ensures { MatchOption result
+            (HasNone (λ t. same_text t.agent agent.now) self.old self.new)
+            (IsTaken (λ t. same_text t.agent agent.now) self.old self.new) }
+    {
+        let serial = *self.index.agents.list(agent).last()?;
+        let task = take_task(&mut self.tasks, &mut self.index, serial)?;
+        Some(task.row)
+    }
+
+    /// Takes a task of a framework out.
+    pub(crate) fn take_of(&mut self, framework: &Name) -> Option<TaskRow>
+        ensures { MatchOption result
+            (HasNone (λ t. same_text t.framework framework.now) self.old self.new)
+            (IsTaken (λ t. same_text t.framework framework.now) self.old self.new) }
+    {
+        let serial = self.index.names.last(framework)?;
+        let task = take_task(&mut self.tasks, &mut self.index, serial)?;
+        Some(task.row)
+    }
+
+    /// Takes the framework's task of a name out.
+    pub(crate) fn take_named(&mut self, framework: &Name, name: &Name) -> Option<TaskRow>
+        ensures { MatchOption result
+            (HasNone (is_task framework.now name.now) self.old self.new)
+            (IsTaken (is_task framework.now name.now) self.old self.new) }
+    {
+        let serial = self.index.names.get(framework, name)?;
+        let task = take_task(&mut self.tasks, &mut self.index, serial)?;
+        Some(task.row)
+    }
+}

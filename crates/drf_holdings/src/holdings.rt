@@ -2,9 +2,8 @@
 ghost use Rattle.std.specs.Prelude.{◌≡◌, ◌==◌, [], ◌++◌, Some, true, false, map, find, IfOk, OnOk, OnErr, MatchOption, option_copied};
 ghost use Rattle.std.specs.List.{list_any};
 ghost use Rattle.drf_bundle.specs.Taken.{rest_of_all};
-ghost use Rattle.drf_rows.specs.Endings.{ends_offer, ends_task};
+ghost use Rattle.drf_rows.specs.Endings.{ends_offer, ends_task, is_task};
 ghost use Rattle.drf_rows.specs.Holdings.{parts_on};
-ghost use Rattle.drf_rows.specs.Offers.{is_task};
 ghost use Rattle.drf_rows.specs.declared.rows.OfferRow.{OfferRow};
 ghost use Rattle.drf_holdings.specs.Ended.{ending_of};
 ghost use Rattle.drf_holdings.specs.Listed.{offer_number, task_row};

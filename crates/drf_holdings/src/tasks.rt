@@ -4,7 +4,7 @@ ghost use Rattle.std.specs.List.{list_any};
 ghost use Rattle.drf_bundle.specs.Taken.{rest_of_all};
 ghost use Rattle.drf_role.specs.Text.{same_text};
 ghost use Rattle.drf_rows.specs.Holdings.{of_task, parts_on};
-ghost use Rattle.drf_rows.specs.Offers.{is_task};
+ghost use Rattle.drf_rows.specs.Endings.{is_task};
 ghost use Rattle.drf_holdings.specs.Listed.{task_serial, task_row, serials_in, bundles_at, AreTasksListed, AreTasksKept};
 ghost use Rattle.drf_holdings.specs.Rising.{IsRising, AreOthers, IsAt};
 ghost use Rattle.drf_holdings.specs.Taking.{IsTaken, HasNone};

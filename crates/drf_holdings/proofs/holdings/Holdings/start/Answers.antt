@@ -1,7 +1,7 @@
 use Rattle.std.proofs.Common.{◌≡◌, ◌==◌, find, sym, ap, ◌∙◌, is_some}
 use Rattle.std.specs.List.{list_any}
 use Rattle.std.specs.Option.{option_copied}
-use Rattle.drf_rows.specs.Offers.{is_task}
+use Rattle.drf_rows.specs.Endings.{is_task}
 use Rattle.drf_rows.specs.declared.rows.OfferRow.{OfferRow}
 use Rattle.drf_holdings.proofs.Removed.{find_any, some_copied}
 use Rattle.drf_holdings.proofs.holdings.Holdings.start.Goals as goal

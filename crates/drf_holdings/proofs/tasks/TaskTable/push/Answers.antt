@@ -1,6 +1,6 @@
 use Rattle.std.proofs.Common.{◌≡◌, ◌<◌, ◌++◌, ◌∷◌, [], List, sym, ap, subst, ◌∙◌, rules, arith}
 use Rattle.std.specs.List.{list_any}
-use Rattle.drf_rows.specs.Offers.{is_task}
+use Rattle.drf_rows.specs.Endings.{is_task}
 use Rattle.drf_holdings.specs.Listed.{task_serial, task_row, AreTasksKept}
 use Rattle.drf_holdings.specs.declared.tasks.Task.{Task}
 use Rattle.drf_holdings.proofs.Places.{rising_in, below_in}

@@ -1,5 +1,5 @@
 use Rattle.std.proofs.Common.{◌≡◌, [], ◌∷◌, List, map, filter, refl, sym, subst, ◌∙◌}
-use Rattle.drf_rows.specs.Offers.{is_task}
+use Rattle.drf_rows.specs.Endings.{is_task}
 use Rattle.drf_rows.specs.declared.rows.TaskRow.{TaskRow}
 use Rattle.drf_holdings.specs.Listed.{task_serial, task_row, task_named}
 use Rattle.drf_holdings.specs.Taking.{HasNone}

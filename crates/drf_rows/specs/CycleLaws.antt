@@ -182,7 +182,3 @@ all_tried_first rows agent c cs granted total each =
     ∙ rest-itself free (bundle-free_of rows agent total) in
     ap (λ g. all_tried (option_map_or (λ bundle. with_offer rows (new_offer rows agent c bundle)) g rows) agent cs) granted
     ∙ all_tried_none after agent cs (ap is_allocatable left)
-
-pub turns-append : (rows : Rows) (agents others : List AgentRow)
-    → turns rows (agents ++ others) ≡ turns (turns rows agents) others
-turns-append rows agents others = fold-append turn rows agents others

@@ -156,14 +156,6 @@ module _ (old new : List Holding) (h : Holding) (less : IsOneLess old new h) whe
   pub covered-one_less : (agent : AgentRow) → IsCovered old agent → IsCovered new agent
   covered-one_less agent covered key p = omega (arith, covered key p, units-one_less agent.name key p)
 
--- what is free on other agents stays
-pub free_of-one_less : (old new : Rows) (h : Holding) (agent : AgentRow)
-    → IsOneLess (holdings_of old) (holdings_of new) h → same_text h.agent agent.name ≡ false
-    → free_of new agent ≡ free_of old agent
-unfolding free_of
-free_of-one_less old new h agent less past =
-    ap (rest_of_all agent.total) (parts_on-one_less (holdings_of old) (holdings_of new) h less agent.name past)
-
 -- ---- one offer, and one task
 
 map-out : {X Y : Type 0} (f : X → Y) (xs ys : List X) (x : X) → map f (xs ++ x ∷ ys) ≡ map f xs ++ f x ∷ map f ys
@@ -318,15 +310,6 @@ without_ended-none rows ending offers tasks = λ i. record rows {
   tasks = filter-none (ends_task ending) rows.tasks (each_past (ends_task ending) rows.tasks tasks) i;
 }
 
--- and where none is counted
-pub without_ended-counted : (rows : Rows) (ending : Ending)
-    → count_by (ends_offer ending) rows.offers + count_by (ends_task ending) rows.tasks ≡ 0
-    → without_ended rows ending ≡ rows
-without_ended-counted rows ending none =
-    let offers : count_by (ends_offer ending) rows.offers ≡ 0 = omega arith in
-    let tasks : count_by (ends_task ending) rows.tasks ≡ 0 = omega arith in
-    without_ended-none rows ending (none-counted (ends_offer ending) rows.offers offers) (none-counted (ends_task ending) rows.tasks tasks)
-
 -- ---- a place
 
 -- an element at a place stands between those before and those behind
@@ -368,19 +351,6 @@ held-offer_at rows number o consistent found =
     let at = (offer_at-place rows number o found).0 in
     one-one_less (holdings_of rows) (holdings_of (record rows { offers = at.before ++ at.after })) (of_offer o)
     (one_less-offer rows at.before at.after o at.stands) (IsHeld rows.agents rows.frameworks) consistent.holdings
-
--- so its client may refuse a bundle there
-pub IsFilter-filter_of : (rows : Rows) (number : ℕ) (o : OfferRow) (bundle : List Resource) (refuse_ms : ℕ)
-    → IsConsistent rows → offer_at rows number ≡ Some o → IsBundle bundle
-    → IsFilter rows.agents rows.frameworks (filter_of o bundle (refused_until rows.clock refuse_ms))
-IsFilter-filter_of rows number o bundle refuse_ms consistent found right =
-    let held = held-offer_at rows number o consistent found in
-    record {
-      agent = held.agent;
-      client = held.client;
-      bundle = right;
-      until = omega (arith, consistent.early);
-    }
 
 -- numbers that rise tell offers apart
 list_all-one : {X : Type 0} (p : X → Bool) (xs ys : List X) (x : X) → list_all p (xs ++ x ∷ ys) ≡ true → p x ≡ true

@@ -149,20 +149,3 @@ module _ {X : Type 0} (to : X → Holding) (ends : X → Bool) (test : Holding �
 -- what ended
 abbrev pub ended : Rows → Ending → List Holding
 ended rows ending = map of_offer (filter (ends_offer ending) rows.offers) ++ map of_task (filter (ends_task ending) rows.tasks)
-
-pub held_where-without_ended : (test : Holding → Bool) (rows : Rows) (ending : Ending) (label : Text)
-    → held_where test (holdings_of rows) label
-    ≡ held_where test (holdings_of (without_ended rows ending)) label + held_where test (ended rows ending) label
-held_where-without_ended test rows ending label =
-    let offers = held_where-parted of_offer (ends_offer ending) test label rows.offers in
-    let tasks = held_where-parted of_task (ends_task ending) test label rows.tasks in
-    let stay : List Holding = map of_offer (filter (λ o. not (ends_offer ending o)) rows.offers) in
-    let run : List Holding = map of_task (filter (λ t. not (ends_task ending t)) rows.tasks) in
-    omega (
-      arith,
-      offers,
-      tasks,
-      held_where-append test (map of_offer rows.offers) (map of_task rows.tasks) label,
-      held_where-append test stay run label,
-      held_where-append test (map of_offer (filter (ends_offer ending) rows.offers)) (map of_task (filter (ends_task ending) rows.tasks)) label,
-    )

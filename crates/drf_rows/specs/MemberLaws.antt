@@ -40,27 +40,6 @@ use Rattle.drf_rows.specs.declared.rows.Rows.{Rows}
 
 -- ---- the clock, and filters
 
-pub IsConsistent-clock : (rows : Rows) (clock : ℕ) → IsConsistent rows → clock ≤ LATEST_MOMENT
-    → IsConsistent (record rows { clock = clock })
-IsConsistent-clock rows clock consistent early = record {
-  agents = consistent.agents;
-  frameworks = consistent.frameworks;
-  holdings = consistent.holdings;
-  covered = consistent.covered;
-  tasks = consistent.tasks;
-  filters = consistent.filters;
-  early = early;
-  counted = consistent.counted;
-  numbered = consistent.numbered;
-}
-
--- one filter more
-pub IsConsistent-filter_added : (rows : Rows) (f : FilterRow) → IsConsistent rows → IsFilter rows.agents rows.frameworks f
-    → IsConsistent (record rows { filters = rows.filters ++ f ∷ [] })
-IsConsistent-filter_added rows f consistent right =
-    IsConsistent-filters rows (rows.filters ++ f ∷ []) consistent
-    (each_append (IsFilter rows.agents rows.frameworks) rows.filters (f ∷ []) consistent.filters (right, tt))
-
 -- those that pass any test
 pub IsConsistent-filters_kept : (rows : Rows) (test : FilterRow → Bool) → IsConsistent rows
     → IsConsistent (record rows { filters = filter test rows.filters })
@@ -289,20 +268,6 @@ pub IsConsistent-revived : (rows : Rows) (client : Client) → IsConsistent rows
 IsConsistent-revived rows client consistent =
     IsConsistent-filters_kept (record rows { frameworks = with_suppression rows client false }) (λ f. not (is_of_client client f))
     (IsConsistent-with_suppression rows client false consistent)
-
-pub free_of-revived : (rows : Rows) (client : Client) (a : AgentRow) → free_of (revived rows client) a ≡ free_of rows a
-unfolding free_of
-free_of-revived rows client a = refl
-
--- what neither the clock nor filters change
-pub free_of-clock : (rows : Rows) (clock : ℕ) (a : AgentRow) → free_of (record rows { clock = clock }) a ≡ free_of rows a
-unfolding free_of
-free_of-clock rows clock a = refl
-
-pub free_of-filters : (rows : Rows) (filters : List FilterRow) (a : AgentRow)
-    → free_of (record rows { filters = filters }) a ≡ free_of rows a
-unfolding free_of
-free_of-filters rows filters a = refl
 
 -- ---- lists without what passes no test
 

@@ -19,8 +19,3 @@ replies_to-append limits rows [] second = refl
 replies_to-append limits rows (event ∷ first) second =
     ap (λ replies. reply_to limits rows event ∷ replies)
     (replies_to-append limits (rows_after limits rows event) first second)
-
-pub length-replies_to : (limits : LimitNumbers) (rows : Rows) (events : List Event)
-    → length (replies_to limits rows events) ≡ length events
-length-replies_to limits rows [] = refl
-length-replies_to limits rows (event ∷ events) = ap suc (length-replies_to limits (rows_after limits rows event) events)

@@ -118,34 +118,3 @@ pub each-with_offer : (P : Holding → Type 0) (rows : Rows) (offer : OfferRow)
     → AllByRecursion P (holdings_of rows) → P (of_offer offer) → AllByRecursion P (holdings_of (with_offer rows offer))
 each-with_offer P rows offer all here =
     rw (holdings_of-with_offer rows offer) (each-insert P (map of_offer rows.offers) (map of_task rows.tasks) (of_offer offer) all here)
-
--- ---- holdings end
-
--- those that stay and those that end have it together
-module _ {X : Type 0} (to : X → Holding) (ends : X → Bool) (test : Holding → Bool) (label : Text) where
-  split_one : (past passes : Bool) (n stays gone : ℕ)
-      → cond passes n 0 + (stays + gone) ≡ cond (not past && passes) n 0 + stays + (cond (past && passes) n 0 + gone)
-  split_one true true n stays gone = omega arith
-  split_one true false n stays gone = omega arith
-  split_one false true n stays gone = omega arith
-  split_one false false n stays gone = omega arith
-
-  kept : (b : Bool) (x : X) (xs : List X)
-      → held_where test (map to (cond b (x ∷ xs) xs)) label ≡ cond (b && test (to x)) (amount_in label (to x)) 0 + held_where test (map to xs) label
-  kept true x xs = held_where-cons test (to x) (map to xs) label
-  kept false x xs = omega arith
-
-  pub held_where-parted : (xs : List X)
-      → held_where test (map to xs) label
-      ≡ held_where test (map to (filter (λ x. not (ends x)) xs)) label + held_where test (map to (filter ends xs)) label
-  held_where-parted [] = refl
-  held_where-parted (x ∷ xs) =
-      held_where-cons test (to x) (map to xs) label
-      ∙ ap (λ (n : ℕ). cond (test (to x)) (amount_in label (to x)) 0 + n) (held_where-parted xs)
-      ∙ split_one (ends x) (test (to x)) (amount_in label (to x))
-      (held_where test (map to (filter (λ x. not (ends x)) xs)) label) (held_where test (map to (filter ends xs)) label)
-      ∙ sym (λ i. kept (not (ends x)) x (filter (λ x. not (ends x)) xs) i + kept (ends x) x (filter ends xs) i)
-
--- what ended
-abbrev pub ended : Rows → Ending → List Holding
-ended rows ending = map of_offer (filter (ends_offer ending) rows.offers) ++ map of_task (filter (ends_task ending) rows.tasks)

@@ -17,7 +17,7 @@ use Rattle.drf_rows.specs.EndingLaws.{offer_at-place, held_where-accepted}
 use Rattle.drf_rows.specs.Endings.{without_ended, one_offer}
 use Rattle.drf_rows.specs.Holdings.{Holding, of_offer, of_task, is_of}
 use Rattle.drf_rows.specs.ListLaws.{each_find}
-use Rattle.drf_rows.specs.Offers.{Start, accepted, declined, filter_of, filters_with, has_offer, has_task, is_empty, offer_at, refused_until, refuses_all, task_of}
+use Rattle.drf_rows.specs.Offers.{Start, offer_accepted, offer_declined, filter_of, filters_with, has_offer, has_task, is_empty, offer_at, refused_until, refuses_all, task_of}
 use Rattle.drf_rows.specs.Step.{effect}
 use Rattle.drf_rows.specs.declared.event.Event.TheVariants.{Accept, Decline}
 use Rattle.drf_rows.specs.declared.limits.TheConstants.{LATEST_MOMENT}
@@ -134,7 +134,7 @@ pub rows_accepted : (rows tables : Rows) (o : OfferRow) (start : Start) (filter 
     → moment ≡ max rows.clock at
     → filter ≡ filter_if (nat_lt 0 refuse_ms && not (is_empty (rest o.bundle start.1))) (filter_of o (rest o.bundle start.1) (refused_until moment refuse_ms))
     → tables ≡ record (with_accepted rows o start filter) { clock = moment }
-    → tables ≡ accepted (at_moment rows at) o (start ∷ []) refuse_ms
+    → tables ≡ offer_accepted (at_moment rows at) o (start ∷ []) refuse_ms
 rows_accepted rows tables o start filter at moment refuse_ms later told same =
     let b : Bool = nat_lt 0 refuse_ms && not (is_empty (rest o.bundle start.1)) in
     let f : FilterRow = filter_of o (rest o.bundle start.1) (refused_until moment refuse_ms) in
@@ -154,7 +154,7 @@ module _ (rows : Rows) (number : ℕ) (o : OfferRow) (task : Text) (used : List 
     (is : IsBundle used) (covered : covers o.bundle used ≡ true)
     (joined : path ≡ client_path o.role o.framework) (told : quantities ≡ quantities_of (rest o.bundle used)) where
   abbrev new : Rows
-  new = accepted (at_moment rows at) o ((task, used) ∷ []) refuse_ms
+  new = offer_accepted (at_moment rows at) o ((task, used) ∷ []) refuse_ms
 
   gave : GaveBack rows new path quantities
   gave = rw (joined, told) (record {
@@ -170,9 +170,9 @@ module _ (rows : Rows) (number : ℕ) (o : OfferRow) (task : Text) (used : List 
   pub held-accepted : HoldsAt content path quantities
   held-accepted = subst (λ (k : Content). HoldsAt k path quantities) (sym sorted) (HoldsAt-gave_back rows new path quantities gave)
 
-  pub applied_accept : (tables : Rows) (after : Content) → tables ≡ accepted (at_moment rows at) o ((task, used) ∷ []) refuse_ms
+  pub applied_accept : (tables : Rows) (after : Content) → tables ≡ offer_accepted (at_moment rows at) o ((task, used) ∷ []) refuse_ms
       → after ≡ with_change content path (refunded quantities)
-      → StandAt (accepted (at_moment rows at) o ((task, used) ∷ []) refuse_ms) tables after
+      → StandAt (offer_accepted (at_moment rows at) o ((task, used) ∷ []) refuse_ms) tables after
   applied_accept tables after same changed = record {
     same = same;
     sorted = changed
@@ -192,10 +192,10 @@ pub applied_decline : (rows middle tables : Rows) (number : ℕ) (o : OfferRow) 
     → offer_at rows number ≡ Some o → moment ≡ max rows.clock at
     → middle ≡ record rows { filters = filters_with (record rows { clock = moment }) (refuses_all refuse_ms) o o.bundle refuse_ms; clock = moment }
     → StandAt (without_ended middle (one_offer number)) tables content
-    → StandAt (declined (at_moment rows at) o refuse_ms) tables content
+    → StandAt (offer_declined (at_moment rows at) o refuse_ms) tables content
 applied_decline rows middle tables number o at moment refuse_ms content found later same ended =
     let number_is : number ≡ o.number = sym (offer_at-place rows number o found).1 in
-    let rows_is : without_ended middle (one_offer number) ≡ declined (at_moment rows at) o refuse_ms
+    let rows_is : without_ended middle (one_offer number) ≡ offer_declined (at_moment rows at) o refuse_ms
     = ap (λ (r : Rows). without_ended r (one_offer number)) same
     ∙ (λ i. record (without_ended rows (one_offer (number_is i))) {
       filters = filters_with (record rows { clock = later i }) (refuses_all refuse_ms) o o.bundle refuse_ms;
@@ -207,7 +207,7 @@ applied_decline rows middle tables number o at moment refuse_ms content found la
 
 pub effect-accept : (rows tables : Rows) (framework : Text) (number : ℕ) (task : Text) (used : List Resource) (at refuse_ms : ℕ) (content : Content)
     → has_offer rows number ≡ true
-    → ((o : OfferRow) → offer_at rows number ≡ Some o → StandAt (accepted (at_moment rows at) o ((task, used) ∷ []) refuse_ms) tables content)
+    → ((o : OfferRow) → offer_at rows number ≡ Some o → StandAt (offer_accepted (at_moment rows at) o ((task, used) ∷ []) refuse_ms) tables content)
     → StandAt (effect rows (Accept framework number task used at refuse_ms)) tables content
 unfolding effect
 effect-accept rows tables framework number task used at refuse_ms content stands each =
@@ -216,7 +216,7 @@ effect-accept rows tables framework number task used at refuse_ms content stands
 
 pub effect-decline : (rows tables : Rows) (framework : Text) (number at refuse_ms : ℕ) (content : Content)
     → has_offer rows number ≡ true
-    → ((o : OfferRow) → offer_at rows number ≡ Some o → StandAt (declined (at_moment rows at) o refuse_ms) tables content)
+    → ((o : OfferRow) → offer_at rows number ≡ Some o → StandAt (offer_declined (at_moment rows at) o refuse_ms) tables content)
     → StandAt (effect rows (Decline framework number at refuse_ms)) tables content
 unfolding effect
 effect-decline rows tables framework number at refuse_ms content stands each =

@@ -8,7 +8,7 @@ use Rattle.drf_bundle.specs.declared.quantities.Entry.{Entry}
 use Rattle.drf_rows.specs.Client.{Client, path_of}
 use Rattle.drf_rows.specs.Holdings.{Holding, holdings_of}
 use Rattle.drf_rows.specs.Held.{cluster_total}
-use Rattle.drf_rows.specs.Members.{activated, with_activity, with_suppression, agent_removed}
+use Rattle.drf_rows.specs.Members.{active_at, with_activity, with_suppression, agent_removed}
 use Rattle.drf_rows.specs.Endings.{without_ended, all_on}
 use Rattle.drf_rows.specs.declared.rows.AgentRow.{AgentRow}
 use Rattle.drf_rows.specs.declared.rows.FilterRow.{FilterRow}
@@ -26,11 +26,11 @@ content_of-filters rows filters = refl
 
 -- whether agents are active
 added-activity : (name : Text) (active : Bool) (start : List Entry) (agents : List AgentRow)
-    → fold (λ sum a. plus sum (quantities_of a.total)) start (map (activated name active) agents)
+    → fold (λ sum a. plus sum (quantities_of a.total)) start (map (active_at name active) agents)
     ≡ fold (λ sum a. plus sum (quantities_of a.total)) start agents
 added-activity name active start [] = refl
 added-activity name active start (a ∷ agents) =
-    ap (λ (t : List Entry). fold (λ sum (a : AgentRow). plus sum (quantities_of a.total)) t (map (activated name active) agents)) (same (same_text a.name name))
+    ap (λ (t : List Entry). fold (λ sum (a : AgentRow). plus sum (quantities_of a.total)) t (map (active_at name active) agents)) (same (same_text a.name name))
     ∙ added-activity name active (plus start (quantities_of a.total)) agents
   where
     same : (b : Bool)

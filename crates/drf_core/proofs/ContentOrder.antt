@@ -19,7 +19,7 @@ use Rattle.drf_rows.specs.Share.{Standing, is_serving_order}
 use Rattle.drf_rows.specs.Cycle.{first_of, without, serving_order, turn_order}
 use Rattle.drf_rows.specs.ServingOrder.{serving_order-unique}
 use Rattle.drf_rows.specs.Consistent.{IsConsistent}
-use Rattle.drf_rows.specs.ConsistentLaws.{in_role}
+use Rattle.drf_rows.specs.ConsistentLaws.{has_its_role}
 use Rattle.drf_rows.specs.ListLaws.{sum_by-filter, sum_by-as_one, each_append, each_from, each_map, each_filter, each_find, each_found}
 use Rattle.drf_rows.specs.declared.rows.ClientRow.{ClientRow}
 use Rattle.drf_rows.specs.declared.rows.FrameworkRow.{FrameworkRow}
@@ -132,7 +132,7 @@ active_registered : (fs : List FrameworkRow) → AllByRecursion (λ c. is_regist
 active_registered [] = tt
 active_registered (f ∷ fs) =
     let Known : Client → Type 0 = λ c. is_registered (f ∷ fs) c ≡ true in
-    let has_role : Client → Bool = λ c. list_any (in_role c) f.clients in
+    let has_role : Client → Bool = λ c. list_any (has_its_role c) f.clients in
     let is_here : Client → Bool = λ c. same_text f.name c.framework && has_role c in
     let In : ClientRow → Type 0 = λ c. has_role (client_of f c) ≡ true in
     let active : ClientRow → Bool = λ c. not c.suppressed in

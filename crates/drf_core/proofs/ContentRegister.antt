@@ -19,7 +19,7 @@ use Rattle.drf_rows.specs.HoldingsLaws.{held_where-cons}
 use Rattle.drf_rows.specs.Held.{cluster_total, is_registered}
 use Rattle.drf_rows.specs.Members.{has_framework, with_agent, new_client}
 use Rattle.drf_rows.specs.Consistent.{IsHeld, IsConsistent}
-use Rattle.drf_rows.specs.ConsistentLaws.{in_role, is_row_of}
+use Rattle.drf_rows.specs.ConsistentLaws.{has_its_role, is_row_of}
 use Rattle.drf_rows.specs.ListLaws.{list_any-both}
 use Rattle.drf_rows.specs.declared.rows.AgentRow.{AgentRow}
 use Rattle.drf_rows.specs.declared.rows.ClientRow.{ClientRow}
@@ -50,8 +50,8 @@ known_all : (hs : List Holding) (client : Client) (fs : List FrameworkRow)
 known_all hs client [] = refl
 known_all hs client (f ∷ fs) =
     let named : Bool = same_text f.name client.framework in
-    let first : list_any (is_at client) (ranked_all hs f) ≡ (named && list_any (in_role client) f.clients)
-    = known_each hs client f f.clients ∙ list_any-both named (in_role client) f.clients in
+    let first : list_any (is_at client) (ranked_all hs f) ≡ (named && list_any (has_its_role client) f.clients)
+    = known_each hs client f f.clients ∙ list_any-both named (has_its_role client) f.clients in
     list_any-append (is_at client) (ranked_all hs f) (flat_map (ranked_all hs) fs)
     ∙ (λ i. first i || known_all hs client fs i)
 
@@ -78,7 +78,7 @@ unregistered (f ∷ fs) client new =
     (unregistered fs client)
   where
     by : (here later known : Bool) → (here || later) ≡ false → (later ≡ false → known ≡ false)
-        → ((here && list_any (in_role client) f.clients) || known) ≡ false
+        → ((here && list_any (has_its_role client) f.clients) || known) ≡ false
     by true later known none next = cc
     by false later known none next = next none
 
@@ -113,7 +113,7 @@ pub has_client-another_role : (rows : Rows) (name : Text) (roles : List Path) (r
 has_client-another_role rows name roles role new other =
     let client : Client = record { role = role; framework = name } in
     let f : FrameworkRow = record { name = name; clients = map new_client roles } in
-    let test : FrameworkRow → Bool = λ f. is_framework client f && list_any (in_role client) f.clients in
+    let test : FrameworkRow → Bool = λ f. is_framework client f && list_any (has_its_role client) f.clients in
     has_client-content_of (with_clients rows name roles) client
     ∙ list_any-append test rows.frameworks (f ∷ [])
     ∙ (λ i. unregistered rows.frameworks client new i || ((same_text name name && (each roles ∙ other) i) || false))

@@ -12,7 +12,7 @@ use Rattle.drf_rows.specs.Held.{cluster_total, is_registered}
 use Rattle.drf_rows.specs.Holdings.{is_of}
 use Rattle.drf_rows.specs.Endings.{Ending, ends_offer, ends_task, without_ended, offers_on, all_on, all_of}
 use Rattle.drf_rows.specs.Members.{with_activity, with_suppression, revived, agent_removed, framework_removed}
-use Rattle.drf_rows.specs.Filters.{without_agent, without_client, without_framework}
+use Rattle.drf_rows.specs.Filters.{filters_without_agent, filters_without_client, filters_without_framework}
 use Rattle.drf_rows.specs.Consistent.{AreFrameworks}
 use Rattle.drf_rows.specs.Step.{effect}
 use Rattle.drf_rows.specs.declared.event.Event.TheVariants.{RemoveAgent, ActivateAgent, DeactivateAgent, RemoveFramework, Suppress, Revive}
@@ -107,7 +107,7 @@ applied_departure rows middle tables name content after total ended removed set 
     let start : Rows = without_ended rows (all_on name) in
     let twice = ended_twice rows (all_on name) in
     let same : agent_removed start name ≡ agent_removed rows name
-    = λ i. record (twice i) { agents = filter (λ a. not (same_text a.name name)) rows.agents; filters = without_agent name rows.filters } in
+    = λ i. record (twice i) { agents = filter (λ a. not (same_text a.name name)) rows.agents; filters = filters_without_agent name rows.filters } in
     record {
       same = removed ∙ ap (λ (r : Rows). agent_removed r name) ended.same ∙ same;
       sorted = set
@@ -152,7 +152,7 @@ applied_leaving rows middle tables name f content after paths right found ended 
     let start : Rows = without_ended rows (all_of name) in
     let twice = ended_twice rows (all_of name) in
     let same : framework_removed start name ≡ framework_removed rows name
-    = λ i. record (twice i) { frameworks = filter (λ f. not (same_text f.name name)) rows.frameworks; filters = without_framework name rows.filters } in
+    = λ i. record (twice i) { frameworks = filter (λ f. not (same_text f.name name)) rows.frameworks; filters = filters_without_framework name rows.filters } in
     record {
       same = removed ∙ ap (λ (r : Rows). framework_removed r name) ended.same ∙ same;
       sorted = taken
@@ -196,5 +196,5 @@ applied_revival rows tables role framework content after path sorted is set chan
       sorted = changed
           ∙ (λ i. with_change (sorted i) (is i) (sorter.activated true))
           ∙ sym (content_of-suppression rows client false)
-          ∙ sym (content_of-filters (record rows { frameworks = with_suppression rows client false }) (without_client client rows.filters));
+          ∙ sym (content_of-filters (record rows { frameworks = with_suppression rows client false }) (filters_without_client client rows.filters));
     }

@@ -14,8 +14,8 @@ use Rattle.drf_rows.specs.Client.{Client}
 use Rattle.drf_rows.specs.Held.{client_of, clients_of, cluster_total}
 use Rattle.drf_rows.specs.Cycle.{at_moment, cycle}
 use Rattle.drf_rows.specs.Step.{live_rows, refusal_of, effect}
-use Rattle.drf_rows.specs.Members.{activated, suppressed_at, suppressed_in, with_activity, with_agent, with_framework, with_suppression, new_client, distinct, deactivated, revived, agent_removed, framework_removed}
-use Rattle.drf_rows.specs.Offers.{offer_at, accepted, declined}
+use Rattle.drf_rows.specs.Members.{active_at, suppressed_at, suppressed_in, with_activity, with_agent, with_framework, with_suppression, new_client, distinct, agent_deactivated, revived, agent_removed, framework_removed}
+use Rattle.drf_rows.specs.Offers.{offer_at, offer_accepted, offer_declined}
 use Rattle.drf_rows.specs.Endings.{without_ended, one_offer, one_task}
 use Rattle.drf_rows.specs.Weights.{weights_with}
 use Rattle.drf_rows.specs.RegistrationLaws.{framework_added, length-clients_of-framework_added}
@@ -118,7 +118,7 @@ no_more-suppression rows client suppressed = record {
 
 no_more-activity : (rows : Rows) (name : Text) (active : Bool) → IsNoMore rows (record rows { agents = with_activity rows name active })
 no_more-activity rows name active = record {
-  agents = omega (arith, length-map rows.agents (activated name active));
+  agents = omega (arith, length-map rows.agents (active_at name active));
   frameworks = omega arith;
   clients = omega arith;
   weights = omega arith;
@@ -283,7 +283,7 @@ module _ (limits : LimitNumbers) (rows : Rows) (few : AreFew limits rows) (numbe
       countable (record rows { agents = with_activity rows agent true }) (ActivateAgent agent) none (no_more-activity rows agent true)
   countable_after (DeactivateAgent agent) none =
       let less = no_more-activity rows agent false in
-      countable (deactivated rows agent) (DeactivateAgent agent) none (record {
+      countable (agent_deactivated rows agent) (DeactivateAgent agent) none (record {
         agents = less.agents;
         frameworks = less.frameworks;
         clients = less.clients;
@@ -295,11 +295,11 @@ module _ (limits : LimitNumbers) (rows : Rows) (few : AreFew limits rows) (numbe
   countable_after (RemoveFramework framework) none =
       countable (framework_removed rows framework) (RemoveFramework framework) none (no_more-framework_removed rows framework)
   countable_after (Accept framework offer task used at refuse_ms) none =
-      let become : OfferRow → Rows = λ o. accepted (at_moment rows at) o ((task, used) ∷ []) refuse_ms in
+      let become : OfferRow → Rows = λ o. offer_accepted (at_moment rows at) o ((task, used) ∷ []) refuse_ms in
       countable (option_map_or become (offer_at rows offer) rows) (Accept framework offer task used at refuse_ms) none
       (no_more-at_offer rows become (offer_at rows offer) (λ o. no_more-others rows (become o) refl))
   countable_after (Decline framework offer at refuse_ms) none =
-      let become : OfferRow → Rows = λ o. declined (at_moment rows at) o refuse_ms in
+      let become : OfferRow → Rows = λ o. offer_declined (at_moment rows at) o refuse_ms in
       countable (option_map_or become (offer_at rows offer) rows) (Decline framework offer at refuse_ms) none
       (no_more-at_offer rows become (offer_at rows offer) (λ o. no_more-others rows (become o) refl))
   countable_after (Rescind offer) none =

@@ -7,7 +7,7 @@ ghost use Rattle.drf_bundle.specs.Bundle.{IsBundle, rest};
 ghost use Rattle.drf_rows.specs.Client.{Client, path_of};
 ghost use Rattle.drf_rows.specs.Held.{clients_of};
 ghost use Rattle.drf_rows.specs.Cycle.{free_of, is_allocatable, grant, at_moment};
-ghost use Rattle.drf_rows.specs.Step.{line_of, new_offers, refusal_of, effect};
+ghost use Rattle.drf_rows.specs.Step.{line_told, new_offers, refusal_of, effect};
 ghost use Rattle.drf_rows.specs.declared.event.Event.TheVariants.{Cycle};
 ghost use Rattle.drf_rows.specs.declared.rows.AgentRow.{AgentRow};
 ghost use Rattle.drf_rows.specs.declared.rows.Rows.{Rows};
@@ -179,7 +179,7 @@ fn turns<S: Sorter>(tables: &Tables, sorter: &mut S, drafts: &mut Drafts) -> Res
 
 /// An offer, as it is told.
 fn offer_line(offer: &OfferRow) -> Result<OfferLine, AllocError>
-    ensures { IfOk result (λ line. line ≡ line_of offer.now) }
+    ensures { IfOk result (λ line. line ≡ line_told offer.now) }
 {
     Ok(OfferLine {
         number: offer.number,
@@ -192,7 +192,7 @@ fn offer_line(offer: &OfferRow) -> Result<OfferLine, AllocError>
 
 /// Offers, as they are told.
 fn offer_lines(alloc: Global, offers: &[OfferRow]) -> Result<Vec<OfferLine>, AllocError>
-    ensures { IfOk result (λ lines. lines.items ≡ map line_of offers.now) }
+    ensures { IfOk result (λ lines. lines.items ≡ map line_told offers.now) }
 {
     let mut lines = Vec::with_capacity(alloc, offers.len())?;
     for offer in offers {
@@ -223,7 +223,7 @@ fn offer_all<S: Sorter>(
     requires none { drafts.old.offers.items ≡ [] }
     requires nothing_left { drafts.old.lefts.items ≡ [] }
     ensures ok { OnOk result (StandAt (turns_of tables.old.rows) tables.new.rows (S.content sorter.new)) }
-    ensures lines { IfOk result (λ lines. lines.items ≡ map line_of (new_offers tables.old.rows (turns_of tables.old.rows))) }
+    ensures lines { IfOk result (λ lines. lines.items ≡ map line_told (new_offers tables.old.rows (turns_of tables.old.rows))) }
     ensures err { OnErr result (tables.new.rows ≡ tables.old.rows) }
     ensures drafting { OnErr result (IsDrafting (S.content sorter.new) tables.old.rows drafts.new.offers.items) }
 {
@@ -245,7 +245,7 @@ pub fn cycle<S: Sorter>(
 ) -> Result<Vec<OfferLine>, AllocError>
     requires kept { IsKept (S.content sorter.old) limits.now tables.old.rows }
     requires welcome { refusal_of limits.now tables.old.rows (Cycle at) ≡ None }
-    ensures lines { IfOk result (λ lines. lines.items ≡ map line_of (new_offers tables.old.rows (effect tables.old.rows (Cycle at)))) }
+    ensures lines { IfOk result (λ lines. lines.items ≡ map line_told (new_offers tables.old.rows (effect tables.old.rows (Cycle at)))) }
     ensures ok { OnOk result (StandAt (effect tables.old.rows (Cycle at)) tables.new.rows (S.content sorter.new)) }
     ensures err { OnErr result (StandAt tables.old.rows tables.new.rows (S.content sorter.new)) }
 {

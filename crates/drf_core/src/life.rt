@@ -2,7 +2,7 @@
 ghost use Rattle.std.specs.Prelude.{◌≡◌, ◌≤◌, ◌∷◌, ◌&&◌, [], true, not, nat_lt, IfOk, OnOk, OnErr, Some};
 ghost use Rattle.drf_rows.specs.Consistent.{IsConsistent};
 ghost use Rattle.drf_rows.specs.Cycle.{at_moment};
-ghost use Rattle.drf_rows.specs.Offers.{accepted, declined, filter_of, filters_with, has_offer, is_empty, offer_at, refused_until, refuses_all};
+ghost use Rattle.drf_rows.specs.Offers.{offer_accepted, offer_declined, filter_of, filters_with, has_offer, is_empty, offer_at, refused_until, refuses_all};
 ghost use Rattle.drf_rows.specs.Step.{effect};
 ghost use Rattle.drf_rows.specs.declared.event.Event.TheVariants.{Rescind, Finish};
 ghost use Rattle.drf_rows.specs.declared.limits.TheConstants.{LATEST_MOMENT};
@@ -77,7 +77,7 @@ pub fn accept<S: Sorter>(
     requires early { at ≤ LATEST_MOMENT }
     ensures reply { IfOk result (λ reply. reply ≡ Done) }
     ensures ok { OnOk result ((o : OfferRow) → offer_at tables.old.rows number ≡ Some o
-        → StandAt (accepted (at_moment tables.old.rows at) o ((task, used) ∷ []) refuse_ms) tables.new.rows (S.content sorter.new)) }
+        → StandAt (offer_accepted (at_moment tables.old.rows at) o ((task, used) ∷ []) refuse_ms) tables.new.rows (S.content sorter.new)) }
     ensures err { OnErr result (StandAt tables.old.rows tables.new.rows (S.content sorter.new)) }
 {
     // The proof learns that it is a bundle by this call alone.
@@ -129,7 +129,7 @@ pub fn decline<S: Sorter>(
     requires early { at ≤ LATEST_MOMENT }
     ensures reply { IfOk result (λ reply. reply ≡ Done) }
     ensures ok { OnOk result ((o : OfferRow) → offer_at tables.old.rows number ≡ Some o
-        → StandAt (declined (at_moment tables.old.rows at) o refuse_ms) tables.new.rows (S.content sorter.new)) }
+        → StandAt (offer_declined (at_moment tables.old.rows at) o refuse_ms) tables.new.rows (S.content sorter.new)) }
     ensures err { OnErr result (StandAt tables.old.rows tables.new.rows (S.content sorter.new)) }
 {
     let moment = tables.clock().max(at);

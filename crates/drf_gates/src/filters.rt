@@ -1,6 +1,6 @@
 //! The filters of declined offers, and of what is left of accepted ones.
 ghost use Rattle.std.specs.Prelude.{◌≡◌, [], ◌∷◌, ◌++◌, length, IfOk, OnOk, OnErr};
-ghost use Rattle.drf_rows.specs.Filters.{is_held_back, in_force, number_in_force, without_client, without_agent, without_framework};
+ghost use Rattle.drf_rows.specs.Filters.{is_held_back, in_force, number_in_force, filters_without_client, filters_without_agent, filters_without_framework};
 
 use crate::index::Index;
 use crate::row::{
@@ -116,32 +116,32 @@ impl FilterTable {
             return;
         }
         keep_in_force(&mut self.rows, now);
-        self.index.settle(&self.rows);
+        self.index.rebuild_if_less(&self.rows);
         self.soonest = soonest(&self.rows);
     }
 
     /// Drops the filters of a client, on whatever agent.
     pub fn revive(&mut self, role: &Role, framework: &Name)
-        ensures { self.new ≡ without_client (record { role = role.now; framework = framework.now }) self.old }
+        ensures { self.new ≡ filters_without_client (record { role = role.now; framework = framework.now }) self.old }
     {
         keep_other_clients(&mut self.rows, role, framework);
-        self.index.settle(&self.rows);
+        self.index.rebuild_if_less(&self.rows);
     }
 
     /// Drops the filters on an agent.
     pub fn drop_agent(&mut self, agent: &Name)
-        ensures { self.new ≡ without_agent agent.now self.old }
+        ensures { self.new ≡ filters_without_agent agent.now self.old }
     {
         keep_other_agents(&mut self.rows, agent);
-        self.index.settle(&self.rows);
+        self.index.rebuild_if_less(&self.rows);
     }
 
     /// Drops the filters of a framework in all its roles.
     pub fn drop_framework(&mut self, framework: &Name)
-        ensures { self.new ≡ without_framework framework.now self.old }
+        ensures { self.new ≡ filters_without_framework framework.now self.old }
     {
         keep_other_frameworks(&mut self.rows, framework);
-        self.index.settle(&self.rows);
+        self.index.rebuild_if_less(&self.rows);
     }
 
     /// The filters in force at `now`, in milliseconds, copied.

@@ -115,7 +115,7 @@ impl Index {
     }
 
     /// Makes it the index of these filters, which are left of those that it has.
-    pub(crate) fn settle(&mut self, rows: &[FilterRow])
+    pub(crate) fn rebuild_if_less(&mut self, rows: &[FilterRow])
         requires { IsLeft rows.now self.old }
         ensures { IsIndexed rows.now self.new }
     {

@@ -2,7 +2,7 @@
 ghost use Rattle.std.specs.Prelude.{◌≡◌, IfOk};
 ghost use Rattle.drf_bundle.specs.Bundle.{covers};
 ghost use Rattle.drf_gates.specs.Index.{NoneEndsBefore};
-ghost use Rattle.drf_rows.specs.Filters.{is_in_force, is_of_client, holds_back, in_force, without_client, without_agent, without_framework};
+ghost use Rattle.drf_rows.specs.Filters.{is_in_force, is_of_client, holds_back, in_force, filters_without_client, filters_without_agent, filters_without_framework};
 
 use drf_amount::Algebra;
 use drf_bundle::Bundle;
@@ -80,21 +80,21 @@ pub(crate) fn keep_in_force(rows: &mut Vec<FilterRow>, now: u64)
 
 /// Keeps those of other clients.
 pub(crate) fn keep_other_clients(rows: &mut Vec<FilterRow>, role: &Role, framework: &Name)
-    ensures { rows.new.items ≡ without_client (record { role = role.now; framework = framework.now }) rows.old.items }
+    ensures { rows.new.items ≡ filters_without_client (record { role = role.now; framework = framework.now }) rows.old.items }
 {
     rows.retain(|row| !is_of_client(row, role, framework));
 }
 
 /// Keeps those on other agents.
 pub(crate) fn keep_other_agents(rows: &mut Vec<FilterRow>, agent: &Name)
-    ensures { rows.new.items ≡ without_agent agent.now rows.old.items }
+    ensures { rows.new.items ≡ filters_without_agent agent.now rows.old.items }
 {
     rows.retain(|row| row.agent != *agent);
 }
 
 /// Keeps those of other frameworks.
 pub(crate) fn keep_other_frameworks(rows: &mut Vec<FilterRow>, framework: &Name)
-    ensures { rows.new.items ≡ without_framework framework.now rows.old.items }
+    ensures { rows.new.items ≡ filters_without_framework framework.now rows.old.items }
 {
     rows.retain(|row| row.framework != *framework);
 }

@@ -16,7 +16,7 @@ use Rattle.drf_rows.specs.declared.event.Event.TheVariants.{AddAgent, RemoveAgen
 use Rattle.drf_text.specs.RoundTrip.{BundleIsRead, WeightIsRead}
 use Rattle.drf_text.specs.Written.{bundle_text}
 use Rattle.drf_lines.specs.AgentEvents.{agent_event, agent_value, agent_of, of_agent}
-use Rattle.drf_lines.specs.FrameworkEvents.{framework_event, role_value, framework_value, framework_of, of_framework, client_of, of_client}
+use Rattle.drf_lines.specs.FrameworkEvents.{framework_event, role_value, framework_value, framework_of, of_framework, its_client, of_client}
 use Rattle.drf_lines.specs.OfferEvents.{usual_refusal, refusal_member, accept_event, accept_value, decline_event, decline_value, rescind_event, rescind_value, finish_event, finish_value}
 use Rattle.drf_lines.specs.WeightEvents.{weight_event, weight_value}
 use Rattle.drf_lines.specs.EventLine.{cycle_value, report_request, event_value}
@@ -68,12 +68,12 @@ remove_framework_read framework name = rw name refl
 
 pub suppress_read : (framework : List ℕ) (role : List (List ℕ)) → name_in framework ≡ Ok framework → IsRoleRead role
     → event_in (of_client (codes "suppress") framework role) ≡ Ok (Suppress framework role)
-unfolding event_in client_of keys has_members text_at
+unfolding event_in its_client keys has_members text_at
 suppress_read framework role name is = rw (name, is) refl
 
 pub revive_read : (framework : List ℕ) (role : List (List ℕ)) → name_in framework ≡ Ok framework → IsRoleRead role
     → event_in (of_client (codes "revive") framework role) ≡ Ok (Revive framework role)
-unfolding event_in client_of keys has_members text_at
+unfolding event_in its_client keys has_members text_at
 revive_read framework role name is = rw (name, is) refl
 
 -- ---- events of offers and tasks

@@ -37,8 +37,8 @@ of_framework event framework =
     object (member (codes "event") (string event) (member (codes "framework") (string framework) no_members))
 
 -- the framework and the role of an event that has no other keys
-unfoldable pub client_of : Data → Result (List ℕ × List (List ℕ)) LineFault
-client_of value =
+unfoldable pub its_client : Data → Result (List ℕ × List (List ℕ)) LineFault
+its_client value =
     keys 3 value >>= λ _. text_at (codes "framework") value >>= λ framework. text_at (codes "role") value >>= λ role.
     name_in framework >>= λ framework. role_in role >>= λ role. Ok (framework, role)
 

@@ -14,7 +14,7 @@ use Rattle.drf_lines.specs.declared.fault.LineFault.TheVariants.{LineTooLong, No
 use Rattle.drf_lines.specs.Fault.{◌>>=◌}
 use Rattle.drf_lines.specs.Object.{keys, text_at, number_at}
 use Rattle.drf_lines.specs.AgentEvents.{agent_event, agent_of}
-use Rattle.drf_lines.specs.FrameworkEvents.{framework_event, framework_of, client_of}
+use Rattle.drf_lines.specs.FrameworkEvents.{framework_event, framework_of, its_client}
 use Rattle.drf_lines.specs.OfferEvents.{accept_event, decline_event, rescind_event, finish_event}
 use Rattle.drf_lines.specs.WeightEvents.{weight_event}
 
@@ -47,8 +47,8 @@ events =
     ∷ (codes "deactivate_agent", made DeactivateAgent agent_of)
     ∷ (codes "add_framework", framework_event)
     ∷ (codes "remove_framework", made RemoveFramework framework_of)
-    ∷ (codes "suppress", made (λ c. Suppress c.0 c.1) client_of)
-    ∷ (codes "revive", made (λ c. Revive c.0 c.1) client_of)
+    ∷ (codes "suppress", made (λ c. Suppress c.0 c.1) its_client)
+    ∷ (codes "revive", made (λ c. Revive c.0 c.1) its_client)
     ∷ (codes "accept", accept_event)
     ∷ (codes "decline", decline_event)
     ∷ (codes "rescind", rescind_event)

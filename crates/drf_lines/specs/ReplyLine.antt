@@ -4,7 +4,7 @@ use Rattle.serde_json.specs.Data.{Data, boolean, number, unsigned, string, array
 use Rattle.serde_json.specs.View.{items_of}
 use Rattle.serde_json.specs.Written.{compact_text}
 use Rattle.drf_role.specs.Parts.{text_of}
-use Rattle.drf_rows.specs.Refusal.{number_of, name_of}
+use Rattle.drf_rows.specs.Refusal.{refusal_number, refusal_name}
 use Rattle.drf_rows.specs.declared.reply.OfferLine.{OfferLine}
 use Rattle.drf_rows.specs.declared.reply.Reply.{Reply}
 use Rattle.drf_rows.specs.declared.reply.Reply.TheVariants.{Done, Offers, Report, Refused}
@@ -35,7 +35,7 @@ abbrev pub reply_value : Reply → Data
 reply_value Done = object (member (codes "ok") (boolean true) no_members)
 reply_value (Offers offers) = offers_value offers
 reply_value (Report report) = report_value report
-reply_value (Refused refusal) = refused_value (name_of refusal) (number_of refusal)
+reply_value (Refused refusal) = refused_value (refusal_name refusal) (refusal_number refusal)
 
 -- a value's line
 abbrev pub line_of : Data → List ℕ

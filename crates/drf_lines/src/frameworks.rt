@@ -4,7 +4,7 @@ ghost use Rattle.serde_json.specs.View.{view};
 ghost use Rattle.drf_role.specs.Parts.{text_of};
 ghost use Rattle.drf_rows.specs.declared.event.Event.TheVariants.{AddFramework};
 ghost use Rattle.drf_lines.specs.Fault.{IsReadOf};
-ghost use Rattle.drf_lines.specs.FrameworkEvents.{framework_event, role_value, framework_value, framework_of, of_framework, client_of, of_client};
+ghost use Rattle.drf_lines.specs.FrameworkEvents.{framework_event, role_value, framework_value, framework_of, of_framework, its_client, of_client};
 ghost use Rattle.drf_lines.specs.Meaning.{event_in};
 ghost use Rattle.drf_lines.specs.Words.{name_in, role_in, roles_in};
 
@@ -92,9 +92,9 @@ pub fn of_framework(alloc: Global, event: &str, framework: &Name) -> Result<Valu
 }
 
 /// The framework and the role of an event that has no other keys.
-#[tactic(auto, unfolding(crate::specs::FrameworkEvents::client_of))]
+#[tactic(auto, unfolding(crate::specs::FrameworkEvents::its_client))]
 pub fn read_its_client(alloc: Global, value: &Value) -> Result<(Name, Role), LineError>
-    ensures { IsReadOf result (client_of (view value.now)) }
+    ensures { IsReadOf result (its_client (view value.now)) }
 {
     keys(value, 3)?;
     let framework = text_at(value, "framework")?;

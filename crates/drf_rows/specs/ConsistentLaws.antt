@@ -72,11 +72,11 @@ count_role role (c ∷ cs) apart =
 -- ---- how often a client is registered
 
 -- the row is that of the client
-abbrev pub in_role : Client → ClientRow → Bool
-in_role client c = same_path c.role client.role
+abbrev pub has_its_role : Client → ClientRow → Bool
+has_its_role client c = same_path c.role client.role
 
 abbrev pub is_row_of : Client → FrameworkRow → ClientRow → Bool
-is_row_of client f c = same_text f.name client.framework && in_role client c
+is_row_of client f c = same_text f.name client.framework && has_its_role client c
 
 abbrev pub times_in : Client → FrameworkRow → ℕ
 times_in client f = count_by (is_row_of client f) f.clients
@@ -96,12 +96,12 @@ times_in-le client f apart =
     subst (λ (b : Bool). times_in client f ≤ cond b 1 0) (same_text-swap f.name client.framework)
     (by (same_text f.name client.framework))
   where
-    once : count_by (in_role client) f.clients ≤ 1
+    once : count_by (has_its_role client) f.clients ≤ 1
     once =
         subst (λ (n : ℕ). n ≤ 1) (λ i. count_by (λ c. same_path-swap client.role c.role i) f.clients)
         (count_role client.role f.clients apart)
 
-    by : (b : Bool) → count_by (λ c. b && in_role client c) f.clients ≤ cond b 1 0
+    by : (b : Bool) → count_by (λ c. b && has_its_role client c) f.clients ≤ cond b 1 0
     by true = once
     by false = omega (arith, sum_by_none f.clients)
 
@@ -122,10 +122,10 @@ times_at_least [] client known = absurd (false≢true known)
 times_at_least (f ∷ fs) client known =
     let here : Bool = same_text f.name client.framework in
     let first = sum_by-cons (times_in client) f fs in
-    elim (or_cases (here && list_any (in_role client) f.clients) (is_registered fs client) known) [
+    elim (or_cases (here && list_any (has_its_role client) f.clients) (is_registered fs client) known) [
       | inl now ↦
           let any : list_any (is_row_of client f) f.clients ≡ true
-          = list_any-both here (in_role client) f.clients ∙ now in
+          = list_any-both here (has_its_role client) f.clients ∙ now in
           omega (arith, first, count_by-any (is_row_of client f) f.clients any)
       | inr later ↦ omega (arith, first, times_at_least fs client later)
     ]
@@ -149,7 +149,7 @@ names_counted client [] = refl
 names_counted client (f ∷ fs) = λ i. name-count_offer client f i ∷ names_counted client fs i
 
 role-counted : (client : Client) (c : ClientRow) → (counted client c).role ≡ c.role
-role-counted client c = elim (cases_Bool (in_role client c)) [ inl here ↦ rw here | inr other ↦ rw other ]
+role-counted client c = elim (cases_Bool (has_its_role client c)) [ inl here ↦ rw here | inr other ↦ rw other ]
 
 roles_counted : (client : Client) (cs : List ClientRow)
     → map (λ c. c.role) (map (counted client) cs) ≡ map (λ c. c.role) cs
@@ -173,19 +173,19 @@ AreFrameworks-counted client frameworks right = record {
 
 -- who is registered stays
 role_known : (client : Client) (f : FrameworkRow)
-    → list_any (in_role client) f.clients ≡ list_any (λ r. same_path r client.role) (roles_of f)
+    → list_any (has_its_role client) f.clients ≡ list_any (λ r. same_path r client.role) (roles_of f)
 role_known client f = each f.clients
   where
     each : (cs : List ClientRow)
-        → list_any (in_role client) cs ≡ list_any (λ r. same_path r client.role) (map (λ c. c.role) cs)
+        → list_any (has_its_role client) cs ≡ list_any (λ r. same_path r client.role) (map (λ c. c.role) cs)
     each [] = refl
-    each (c ∷ cs) = ap (λ (b : Bool). in_role client c || b) (each cs)
+    each (c ∷ cs) = ap (λ (b : Bool). has_its_role client c || b) (each cs)
 
 pub is_registered-counted : (client other : Client) (frameworks : List FrameworkRow)
     → is_registered (map (count_offer client) frameworks) other ≡ is_registered frameworks other
 is_registered-counted client other [] = refl
 is_registered-counted client other (f ∷ fs) =
-    let roles : list_any (in_role other) (count_offer client f).clients ≡ list_any (in_role other) f.clients
+    let roles : list_any (has_its_role other) (count_offer client f).clients ≡ list_any (has_its_role other) f.clients
     = role_known other (count_offer client f)
     ∙ ap (list_any (λ r. same_path r other.role)) (roles-count_offer client f)
     ∙ sym (role_known other f) in
@@ -195,25 +195,25 @@ is_registered-counted client other (f ∷ fs) =
 abbrev counts_of : List ClientRow → ℕ
 counts_of clients = sum_by (λ c. c.count) clients
 
-count-counted : (client : Client) (c : ClientRow) → (counted client c).count ≡ c.count + cond (in_role client c) 1 0
-count-counted client c = elim (cases_Bool (in_role client c)) [
+count-counted : (client : Client) (c : ClientRow) → (counted client c).count ≡ c.count + cond (has_its_role client c) 1 0
+count-counted client c = elim (cases_Bool (has_its_role client c)) [
   | inl here ↦ rw here
   | inr other ↦ rw other (omega arith)
 ]
 
 counts-counted : (client : Client) (cs : List ClientRow)
-    → counts_of (map (counted client) cs) ≡ counts_of cs + count_by (in_role client) cs
+    → counts_of (map (counted client) cs) ≡ counts_of cs + count_by (has_its_role client) cs
 counts-counted client cs =
     sum_by-map (λ (c : ClientRow). c.count) (counted client) cs
     ∙ (λ i. sum_by (λ c. count-counted client c i) cs)
-    ∙ sum_by-plus (λ (c : ClientRow). c.count) (λ c. cond (in_role client c) 1 0) cs
+    ∙ sum_by-plus (λ (c : ClientRow). c.count) (λ c. cond (has_its_role client c) 1 0) cs
 
 counts-count_offer : (client : Client) (f : FrameworkRow)
     → counts_of (count_offer client f).clients ≡ counts_of f.clients + times_in client f
 counts-count_offer client f = by (same_text f.name client.framework)
   where
     by : (b : Bool) → counts_of (if b then record f { clients = map (counted client) f.clients } else f).clients
-        ≡ counts_of f.clients + count_by (λ c. b && in_role client c) f.clients
+        ≡ counts_of f.clients + count_by (λ c. b && has_its_role client c) f.clients
     by true = counts-counted client f.clients
     by false = omega (arith, sum_by_none f.clients)
 

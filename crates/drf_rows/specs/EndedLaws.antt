@@ -19,7 +19,7 @@ use Rattle.drf_rows.specs.HoldingsLaws.{units_on, units_on-append, units_on-cons
 use Rattle.drf_rows.specs.Cycle.{free_of, new_offer, with_offer, at_moment}
 use Rattle.drf_rows.specs.CycleLaws.{bundle-free_of, units-free_of}
 use Rattle.drf_rows.specs.Endings.{is_task}
-use Rattle.drf_rows.specs.Offers.{offer_at, declined}
+use Rattle.drf_rows.specs.Offers.{offer_at, offer_declined}
 use Rattle.drf_rows.specs.Consistent.{are_distinct_tasks, IsAgent, IsCovered, IsConsistent}
 use Rattle.drf_rows.specs.ConsistentLaws.{same_text-swap, numbers_within, bundles-consistent}
 use Rattle.drf_rows.specs.ListLaws.{filter_each, find_only, filter_only, each_from, each_at, each_true, each_fails, each_append, each_parts}
@@ -56,7 +56,7 @@ declined_at_once rows agent client bundle at consistent =
     let offers : filter (λ p. not (is_next p)) (rows.offers ++ o ∷ []) ≡ rows.offers
     = filter_only is_next rows.offers [] o none itself tt ∙ append-nil rows.offers in
     let tasks : filter (λ t. true) rows.tasks ≡ rows.tasks = filter_each (λ t. true) rows.tasks (each_true rows.tasks) in
-    ap (λ (f : Option OfferRow). option_map_or (λ o. declined (at_moment offered at) o 0) f offered) found
+    ap (λ (f : Option OfferRow). option_map_or (λ o. offer_declined (at_moment offered at) o 0) f offered) found
     ∙ (λ i. record rows {
       frameworks = offered.frameworks;
       offers = offers i;

@@ -30,8 +30,8 @@ abbrev pub gpus : ℕ → Resource
 gpus amount = scalar (codes "gpus") amount
 
 -- a framework that registers in one role of one component
-abbrev pub in_role : List ℕ → List ℕ → Event
-in_role framework role = AddFramework framework ((role ∷ []) ∷ [])
+abbrev pub framework_in : List ℕ → List ℕ → Event
+framework_in framework role = AddFramework framework ((role ∷ []) ∷ [])
 
 -- an offer to a framework in a role of one component
 abbrev pub offer : ℕ → List ℕ → List ℕ → List ℕ → List Resource → OfferLine
@@ -47,7 +47,7 @@ offer number framework role agent resources = record {
 abbrev pub one_cycle : List Event
 one_cycle =
     AddAgent (codes "n1") (cpus 4000 ∷ mem 1024000 ∷ [])
-    ∷ in_role (codes "f1") (codes "a")
+    ∷ framework_in (codes "f1") (codes "a")
     ∷ Cycle 0
     ∷ []
 
@@ -69,8 +69,8 @@ two_frameworks =
     AddAgent (codes "n1") (cpus 4000 ∷ mem 1024000 ∷ [])
     ∷ AddAgent (codes "n2") (cpus 2000 ∷ mem 512000 ∷ [])
     ∷ AddAgent (codes "n3") (cpus 2000 ∷ mem 2048000 ∷ [])
-    ∷ in_role (codes "fa") (codes "a")
-    ∷ in_role (codes "fb") (codes "b")
+    ∷ framework_in (codes "fa") (codes "a")
+    ∷ framework_in (codes "fb") (codes "b")
     ∷ Cycle 0
     ∷ AddAgent (codes "n4") (cpus 9 ∷ mem 31999 ∷ [])
     ∷ Cycle 0
@@ -96,7 +96,7 @@ two_frameworks_replies =
 abbrev pub reserved_for_eng : List Event
 reserved_for_eng =
     AddAgent (codes "n1") (cpus_for (codes "eng") 4000 ∷ mem 64000 ∷ [])
-    ∷ in_role (codes "f2") (codes "ops")
+    ∷ framework_in (codes "f2") (codes "ops")
     ∷ Cycle 0
     ∷ AddFramework (codes "f1") ((codes "eng" ∷ codes "web" ∷ []) ∷ [])
     ∷ Cycle 0
@@ -120,7 +120,7 @@ reserved_for_eng_replies =
 -- the replies to a framework, an agent and a cycle
 abbrev pub replies_with : List Resource → List Reply
 replies_with total =
-    replies_to ceilings opening (in_role (codes "f1") (codes "a") ∷ AddAgent (codes "n1") total ∷ Cycle 0 ∷ [])
+    replies_to ceilings opening (framework_in (codes "f1") (codes "a") ∷ AddAgent (codes "n1") total ∷ Cycle 0 ∷ [])
 
 -- the agent has too little for an offer
 abbrev pub not_offered : List Reply
@@ -165,7 +165,7 @@ abbrev pub one_client : LimitNumbers
 one_client = record ceilings { clients = 1 }
 
 abbrev pub two_registrations : List Event
-two_registrations = in_role (codes "f1") (codes "a") ∷ in_role (codes "f2") (codes "a") ∷ []
+two_registrations = framework_in (codes "f1") (codes "a") ∷ framework_in (codes "f2") (codes "a") ∷ []
 
 -- a role listed twice is one role; one more is over the limit of one
 abbrev pub one_role : LimitNumbers

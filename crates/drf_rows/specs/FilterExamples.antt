@@ -1,6 +1,6 @@
 -- Runs that tell whom a filter, a suppression and a removal concern, and whom not.
 use Rattle.std.specs.Prelude.{ℕ, List, [], ◌∷◌, codes}
-use Rattle.drf_rows.specs.Examples.{cpus, mem, in_role, offer}
+use Rattle.drf_rows.specs.Examples.{cpus, mem, framework_in, offer}
 use Rattle.drf_rows.specs.LifeExamples.{one, none, accept, decline}
 use Rattle.drf_rows.specs.declared.event.Event.{Event}
 use Rattle.drf_rows.specs.declared.event.Event.TheVariants.{AddAgent, RemoveAgent, ActivateAgent, DeactivateAgent, AddFramework, RemoveFramework, Accept, Decline, Rescind, Finish, Suppress, Revive, Cycle}
@@ -36,7 +36,7 @@ whose_filter =
     one_cpu (codes "n1")
     ∷ one_cpu (codes "n2")
     ∷ in_both (codes "f1")
-    ∷ in_role (codes "f2") (codes "a")
+    ∷ framework_in (codes "f2") (codes "a")
     ∷ Cycle 0
     ∷ refuse (codes "f1") 1
     ∷ decline (codes "f1") 2
@@ -75,7 +75,7 @@ whole number = offer number (codes "f1") (codes "a") (codes "n1") (cpus 1000 ∷
 abbrev pub a_rest : List Event
 a_rest =
     AddAgent (codes "n1") (cpus 1000 ∷ mem 64000 ∷ [])
-    ∷ in_role (codes "f1") (codes "a")
+    ∷ framework_in (codes "f1") (codes "a")
     ∷ Cycle 0
     ∷ Accept (codes "f1") 1 (codes "t") (cpus 1000 ∷ []) 2000 5000
     ∷ Cycle 0
@@ -110,7 +110,7 @@ a_rest_replies =
 abbrev pub a_later_decline : List Event
 a_later_decline =
     one_cpu (codes "n1")
-    ∷ in_role (codes "f1") (codes "a")
+    ∷ framework_in (codes "f1") (codes "a")
     ∷ Cycle 0
     ∷ Decline (codes "f1") 1 2000 5000
     ∷ Cycle 6999
@@ -133,7 +133,7 @@ at_the_limit =
     one_cpu (codes "n1")
     ∷ one_cpu (codes "n2")
     ∷ one_cpu (codes "n3")
-    ∷ in_role (codes "f1") (codes "a")
+    ∷ framework_in (codes "f1") (codes "a")
     ∷ Cycle 0
     ∷ Decline (codes "f1") 1 0 10
     ∷ decline (codes "f1") 2
@@ -163,7 +163,7 @@ abbrev pub two_roles : List Event
 two_roles =
     one_cpu (codes "n1")
     ∷ in_both (codes "f1")
-    ∷ in_role (codes "f2") (codes "a")
+    ∷ framework_in (codes "f2") (codes "a")
     ∷ Cycle 0
     ∷ suppress (codes "f2") (codes "a")
     ∷ suppress (codes "f1") (codes "b")
@@ -224,7 +224,7 @@ one_role_revives =
     ∷ DeactivateAgent (codes "n1")
     ∷ ActivateAgent (codes "n1")
     ∷ Cycle 0
-    ∷ in_role (codes "f2") (codes "b")
+    ∷ framework_in (codes "f2") (codes "b")
     ∷ revive (codes "f2") (codes "b")
     ∷ Cycle 0
     ∷ decline (codes "f2") 2
@@ -257,8 +257,8 @@ abbrev pub who_leaves : List Event
 who_leaves =
     one_cpu (codes "n1")
     ∷ one_cpu (codes "n2")
-    ∷ in_role (codes "f1") (codes "a")
-    ∷ in_role (codes "f2") (codes "b")
+    ∷ framework_in (codes "f1") (codes "a")
+    ∷ framework_in (codes "f2") (codes "b")
     ∷ Cycle 0
     ∷ accept (codes "f1") 1 (codes "t") (cpus 1000 ∷ [])
     ∷ accept (codes "f2") 2 (codes "t") (cpus 1000 ∷ [])
@@ -276,7 +276,7 @@ who_leaves =
     ∷ Cycle 0
     ∷ RemoveFramework (codes "f1")
     ∷ Cycle 0
-    ∷ in_role (codes "f1") (codes "a")
+    ∷ framework_in (codes "f1") (codes "a")
     ∷ Cycle 0
     ∷ []
 

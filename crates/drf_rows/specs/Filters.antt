@@ -39,13 +39,13 @@ abbrev pub is_held_back : List FilterRow → ℕ → Client → Text → List Re
 is_held_back filters clock client agent bundle = list_any (holds_back clock client agent bundle) filters
 
 -- the filters that are left when a client revives
-abbrev pub without_client : Client → List FilterRow → List FilterRow
-without_client client filters = filter (λ f. not (is_of_client client f)) filters
+abbrev pub filters_without_client : Client → List FilterRow → List FilterRow
+filters_without_client client filters = filter (λ f. not (is_of_client client f)) filters
 
 -- those that are left when an agent goes
-abbrev pub without_agent : Text → List FilterRow → List FilterRow
-without_agent agent filters = filter (λ f. not (is_on_agent agent f)) filters
+abbrev pub filters_without_agent : Text → List FilterRow → List FilterRow
+filters_without_agent agent filters = filter (λ f. not (is_on_agent agent f)) filters
 
 -- those that are left when a framework goes
-abbrev pub without_framework : Text → List FilterRow → List FilterRow
-without_framework framework filters = filter (λ f. not (same_text f.framework framework)) filters
+abbrev pub filters_without_framework : Text → List FilterRow → List FilterRow
+filters_without_framework framework filters = filter (λ f. not (same_text f.framework framework)) filters

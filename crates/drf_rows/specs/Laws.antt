@@ -14,7 +14,7 @@ use Rattle.drf_rows.specs.Held.{held_by, clients_of}
 use Rattle.drf_rows.specs.Report.{path_cmp, nodes_of, node_line}
 use Rattle.drf_rows.specs.Share.{Standing, stands_before, is_serving_order}
 use Rattle.drf_rows.specs.Cycle.{free_of, is_allocatable, grant, new_offer, with_offer, all_tried, serving_order}
-use Rattle.drf_rows.specs.Refusal.{number_of}
+use Rattle.drf_rows.specs.Refusal.{refusal_number}
 use Rattle.drf_rows.specs.Step.{live_rows, cases_of, refusal_of, effect, answer, rows_after, reply_to, rows_after_all, replies_to}
 use Rattle.drf_rows.specs.declared.rows.AgentRow.{AgentRow}
 use Rattle.drf_rows.specs.declared.rows.Rows.{Rows}
@@ -64,7 +64,7 @@ is_rising (n ∷ ns) = list_all (nat_lt n) ns && is_rising ns
 abbrev pub CasesRise : Type 0
 CasesRise =
     (limits : LimitNumbers) (rows : Rows) (event : Event)
-    → is_rising (map (λ c. number_of c.1) (cases_of limits rows event)) ≡ true
+    → is_rising (map (λ c. refusal_number c.1) (cases_of limits rows event)) ≡ true
 
 -- an event is refused with a case that holds, and none that holds has a lesser number; where no case holds it is not refused
 abbrev pub LeastIsTold : Type 0
@@ -73,7 +73,7 @@ LeastIsTold =
     → let cases : List (Bool × Refusal) = cases_of limits rows event in
     ((refusal : Refusal) → refusal_of limits rows event ≡ Some refusal
     → Contains cases (true, refusal)
-    × (list_all (λ c. not c.0 || nat_le (number_of refusal) (number_of c.1)) cases ≡ true))
+    × (list_all (λ c. not c.0 || nat_le (refusal_number refusal) (refusal_number c.1)) cases ≡ true))
     × (refusal_of limits rows event ≡ None → list_any (λ c. c.0) cases ≡ false)
 
 -- a refused event is told so, and changes nothing

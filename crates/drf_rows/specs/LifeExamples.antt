@@ -2,7 +2,7 @@
 use Rattle.std.specs.Prelude.{ℕ, List, [], ◌∷◌, ◌++◌, codes}
 use Rattle.drf_bundle.specs.declared.resource.Resource.{Resource}
 use Rattle.drf_rows.specs.LimitNumbers.{LimitNumbers, ceilings}
-use Rattle.drf_rows.specs.Examples.{cpus, mem, in_role, offer}
+use Rattle.drf_rows.specs.Examples.{cpus, mem, framework_in, offer}
 use Rattle.drf_rows.specs.OrderExamples.{role_a}
 use Rattle.drf_rows.specs.ReportExamples.{line, dot, none_reported}
 use Rattle.drf_rows.specs.declared.event.Event.{Event}
@@ -37,7 +37,7 @@ offer_of_n1 number = offer number (codes "f1") (codes "a") (codes "n1") (cpus 10
 abbrev pub a_task : List Event
 a_task =
     AddAgent (codes "n1") (cpus 1000 ∷ mem 64000 ∷ [])
-    ∷ in_role (codes "f1") (codes "a")
+    ∷ framework_in (codes "f1") (codes "a")
     ∷ Cycle 0
     ∷ accept (codes "f1") 1 (codes "t") (cpus 1000 ∷ [])
     ∷ Cycle 0
@@ -66,8 +66,8 @@ a_task_replies =
 abbrev pub a_filter : List Event
 a_filter =
     AddAgent (codes "n1") (cpus 2000 ∷ mem 512000 ∷ [])
-    ∷ in_role (codes "fa") (codes "a")
-    ∷ in_role (codes "fb") (codes "b")
+    ∷ framework_in (codes "fa") (codes "a")
+    ∷ framework_in (codes "fb") (codes "b")
     ∷ Cycle 1000
     ∷ Decline (codes "fa") 1 1000 5000
     ∷ Cycle 2000
@@ -95,7 +95,7 @@ a_filter_replies =
 abbrev pub a_clock : List Event
 a_clock =
     AddAgent (codes "n1") (cpus 1000 ∷ [])
-    ∷ in_role (codes "f1") (codes "a")
+    ∷ framework_in (codes "f1") (codes "a")
     ∷ Cycle 7000
     ∷ Decline (codes "f1") 1 2000 5000
     ∷ Cycle 11999
@@ -110,7 +110,7 @@ a_clock_replies = Done ∷ Done ∷ one (offer_of_n1 1) ∷ Done ∷ none ∷ no
 abbrev pub a_year : List Event
 a_year =
     AddAgent (codes "n1") (cpus 1000 ∷ [])
-    ∷ in_role (codes "f1") (codes "a")
+    ∷ framework_in (codes "f1") (codes "a")
     ∷ Cycle 0
     ∷ Decline (codes "f1") 1 0 18446744073709551615
     ∷ Cycle 31535999999
@@ -124,7 +124,7 @@ a_year_replies = Done ∷ Done ∷ one (offer_of_n1 1) ∷ Done ∷ none ∷ one
 abbrev pub taking_part : List Event
 taking_part =
     AddAgent (codes "n1") (cpus 1000 ∷ [])
-    ∷ in_role (codes "f1") (codes "a")
+    ∷ framework_in (codes "f1") (codes "a")
     ∷ Cycle 0
     ∷ DeactivateAgent (codes "n1")
     ∷ Cycle 0
@@ -184,12 +184,12 @@ taking_part_replies =
 abbrev pub refused : List Event
 refused =
     AddAgent (codes "n1") (cpus 2000 ∷ mem 64000 ∷ [])
-    ∷ in_role (codes "f1") (codes "a")
-    ∷ in_role (codes "f2") (codes "b")
+    ∷ framework_in (codes "f1") (codes "a")
+    ∷ framework_in (codes "f2") (codes "b")
     ∷ Cycle 0
     ∷ RemoveAgent (codes "n9")
     ∷ Finish (codes "f9") (codes "t")
-    ∷ in_role (codes "f1") (codes "c")
+    ∷ framework_in (codes "f1") (codes "c")
     ∷ decline (codes "f1") 7
     ∷ decline (codes "f2") 1
     ∷ Finish (codes "f1") (codes "t")
@@ -233,7 +233,7 @@ abbrev pub two_filters : List Event
 two_filters =
     AddAgent (codes "n1") (cpus 1000 ∷ [])
     ∷ AddAgent (codes "n2") (cpus 2000 ∷ [])
-    ∷ in_role (codes "f1") (codes "a")
+    ∷ framework_in (codes "f1") (codes "a")
     ∷ Cycle 0
     ∷ Decline (codes "f1") 1 0 10
     ∷ Decline (codes "f1") 2 9 10

@@ -116,14 +116,14 @@ CountUp first [] next = next ≡ first
 CountUp first (n ∷ ns) next = (n ≡ first) × CountUp (first + 1) ns next
 
 -- the offers that a reply tells
-abbrev pub lines_of : Reply → List OfferLine
-lines_of (Offers lines) = lines
-lines_of other = []
+abbrev pub lines_told : Reply → List OfferLine
+lines_told (Offers lines) = lines
+lines_told other = []
 
 -- no number is given to two offers: a run tells them with the next numbers, one after another
 abbrev pub NumbersAreNew : Type 0
 NumbersAreNew =
     (limits : LimitNumbers) (rows : Rows) (events : List Event)
     → CountUp rows.next_offer
-    (map (λ line. line.number) (flat_map lines_of (replies_to limits rows events)))
+    (map (λ line. line.number) (flat_map lines_told (replies_to limits rows events)))
     (rows_after_all limits rows events).next_offer

@@ -21,11 +21,11 @@ use Rattle.drf_rows.specs.Client.{Client, path_of}
 use Rattle.drf_rows.specs.Holdings.{Holding, of_offer, of_task, holdings_of, amount_in, held_where, is_of, parts_on}
 use Rattle.drf_rows.specs.HoldingsLaws.{held_where-cons}
 use Rattle.drf_rows.specs.Held.{client_of, clients_of, cluster_total, is_registered}
-use Rattle.drf_rows.specs.Filters.{is_of_client, is_on_agent, without_agent, without_framework}
+use Rattle.drf_rows.specs.Filters.{is_of_client, is_on_agent, filters_without_agent, filters_without_framework}
 use Rattle.drf_rows.specs.Cycle.{free_of}
 use Rattle.drf_rows.specs.Consistent.{are_distinct, are_distinct_roles, IsAgent, AreAgents, AreFrameworks, IsHeld, IsCovered, IsFilter, offers_counted, IsConsistent}
 use Rattle.drf_rows.specs.ConsistentLaws.{same_text-swap}
-use Rattle.drf_rows.specs.Members.{has_agent, has_framework, activated, with_activity, suppressed_at, suppressed_in, with_suppression, deactivated, revived, agent_removed, framework_removed}
+use Rattle.drf_rows.specs.Members.{has_agent, has_framework, active_at, with_activity, suppressed_at, suppressed_in, with_suppression, agent_deactivated, revived, agent_removed, framework_removed}
 use Rattle.drf_rows.specs.Endings.{without_ended, offers_on, all_on, all_of}
 use Rattle.drf_rows.specs.EndingLaws.{sum_by-out, filter-one, none-filter, find-place, IsConsistent-filters}
 use Rattle.drf_rows.specs.ListLaws.{sum_by-map, sum_by-filter-cons, cond_le, each_from, each_from_both, each_append, each_map, each_filter, none_has}
@@ -62,8 +62,8 @@ active_as is_active a = record a { active = is_active a }
 abbrev activity : Text → Bool → AgentRow → Bool
 activity name active a = if same_text a.name name then active else a.active
 
-activated-is : (name : Text) (active : Bool) (a : AgentRow) → activated name active a ≡ active_as (activity name active) a
-activated-is name active a = by (same_text a.name name)
+active_at-is : (name : Text) (active : Bool) (a : AgentRow) → active_at name active a ≡ active_as (activity name active) a
+active_at-is name active a = by (same_text a.name name)
   where
     by : (b : Bool) → (if b then record a { active = active } else a) ≡ record a { active = if b then active else a.active }
     by true = refl
@@ -71,7 +71,7 @@ activated-is name active a = by (same_text a.name name)
 
 with_activity-is : (rows : Rows) (name : Text) (active : Bool)
     → with_activity rows name active ≡ map (active_as (activity name active)) rows.agents
-with_activity-is rows name active = λ i. map (λ a. activated-is name active a i) rows.agents
+with_activity-is rows name active = λ i. map (λ a. active_at-is name active a i) rows.agents
 
 module _ (rows : Rows) (name : Text) (active : Bool) where
   abbrev told : AgentRow → AgentRow
@@ -95,10 +95,10 @@ module _ (rows : Rows) (name : Text) (active : Bool) where
 
   -- what is free stays, of the agent and of the others
   pub free_of-with_activity : (a : AgentRow)
-      → free_of (record rows { agents = with_activity rows name active }) (activated name active a) ≡ free_of rows a
+      → free_of (record rows { agents = with_activity rows name active }) (active_at name active a) ≡ free_of rows a
   unfolding free_of
   free_of-with_activity a =
-      ap (λ (b : AgentRow). rest_of_all b.total (parts_on b.name (holdings_of rows))) (activated-is name active a)
+      ap (λ (b : AgentRow). rest_of_all b.total (parts_on b.name (holdings_of rows))) (active_at-is name active a)
 
   pub IsConsistent-with_activity : IsConsistent rows → IsConsistent (record rows { agents = with_activity rows name active })
   IsConsistent-with_activity consistent =
@@ -344,8 +344,8 @@ module _ (rows : Rows) (name : Text) (nothing : without_ended rows (all_on name)
   abbrev others : List AgentRow
   others = filter stays rows.agents
 
-  removed : agent_removed rows name ≡ record rows { agents = others; filters = without_agent name rows.filters }
-  removed = λ i. record (nothing i) { agents = others; filters = without_agent name rows.filters }
+  removed : agent_removed rows name ≡ record rows { agents = others; filters = filters_without_agent name rows.filters }
+  removed = λ i. record (nothing i) { agents = others; filters = filters_without_agent name rows.filters }
 
   -- what is held stays, and what is free on the other agents
   pub holdings_of-agent_removed : holdings_of (agent_removed rows name) ≡ holdings_of rows
@@ -413,8 +413,8 @@ module _ (rows : Rows) (name : Text) (nothing : without_ended rows (all_of name)
   abbrev others_of : List FrameworkRow
   others_of = filter stays_of rows.frameworks
 
-  removed_of : framework_removed rows name ≡ record rows { frameworks = others_of; filters = without_framework name rows.filters }
-  removed_of = λ i. record (nothing i) { frameworks = others_of; filters = without_framework name rows.filters }
+  removed_of : framework_removed rows name ≡ record rows { frameworks = others_of; filters = filters_without_framework name rows.filters }
+  removed_of = λ i. record (nothing i) { frameworks = others_of; filters = filters_without_framework name rows.filters }
 
   pub holdings_of-framework_removed : holdings_of (framework_removed rows name) ≡ holdings_of rows
   holdings_of-framework_removed = λ i. holdings_of (nothing i)
@@ -570,19 +570,19 @@ amount-without_named agents name a label right found =
 -- where all that ends has ended, what is still to be done is done to the rows that are left
 module _ (old new : Rows) (name : Text) where
   pub deactivated-ended : new ≡ without_ended old (offers_on name)
-      → record new { agents = with_activity new name false } ≡ deactivated old name
+      → record new { agents = with_activity new name false } ≡ agent_deactivated old name
   deactivated-ended ended = λ i. record (ended i) { agents = with_activity (ended i) name false }
 
   pub agent_removed-ended : new ≡ without_ended old (all_on name) → without_ended new (all_on name) ≡ new
       → agent_removed new name ≡ agent_removed old name
   agent_removed-ended ended nothing =
       let left : Rows → List AgentRow = λ r. filter (λ a. not (same_text a.name name)) r.agents in
-      (λ i. record (nothing i) { agents = left new; filters = without_agent name new.filters })
-      ∙ (λ i. record (ended i) { agents = left (ended i); filters = without_agent name (ended i).filters })
+      (λ i. record (nothing i) { agents = left new; filters = filters_without_agent name new.filters })
+      ∙ (λ i. record (ended i) { agents = left (ended i); filters = filters_without_agent name (ended i).filters })
 
   pub framework_removed-ended : new ≡ without_ended old (all_of name) → without_ended new (all_of name) ≡ new
       → framework_removed new name ≡ framework_removed old name
   framework_removed-ended ended nothing =
       let left : Rows → List FrameworkRow = λ r. filter (λ f. not (same_text f.name name)) r.frameworks in
-      (λ i. record (nothing i) { frameworks = left new; filters = without_framework name new.filters })
-      ∙ (λ i. record (ended i) { frameworks = left (ended i); filters = without_framework name (ended i).filters })
+      (λ i. record (nothing i) { frameworks = left new; filters = filters_without_framework name new.filters })
+      ∙ (λ i. record (ended i) { frameworks = left (ended i); filters = filters_without_framework name (ended i).filters })

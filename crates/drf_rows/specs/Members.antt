@@ -6,7 +6,7 @@ use Rattle.drf_role.specs.Path.{Path, same_path}
 use Rattle.drf_bundle.specs.declared.resource.Resource.{Resource}
 use Rattle.drf_rows.specs.Client.{Client}
 use Rattle.drf_rows.specs.Endings.{without_ended, offers_on, all_on, all_of}
-use Rattle.drf_rows.specs.Filters.{without_client, without_agent, without_framework}
+use Rattle.drf_rows.specs.Filters.{filters_without_client, filters_without_agent, filters_without_framework}
 use Rattle.drf_rows.specs.declared.rows.AgentRow.{AgentRow}
 use Rattle.drf_rows.specs.declared.rows.ClientRow.{ClientRow}
 use Rattle.drf_rows.specs.declared.rows.FrameworkRow.{FrameworkRow}
@@ -40,11 +40,11 @@ with_framework rows name roles = rows.frameworks ++ record { name = name; client
 -- ---- taking part
 
 -- the agent of that name is active, or not
-abbrev pub activated : Text → Bool → AgentRow → AgentRow
-activated name active a = if same_text a.name name then record a { active = active } else a
+abbrev pub active_at : Text → Bool → AgentRow → AgentRow
+active_at name active a = if same_text a.name name then record a { active = active } else a
 
 abbrev pub with_activity : Rows → Text → Bool → List AgentRow
-with_activity rows name active = map (activated name active) rows.agents
+with_activity rows name active = map (active_at name active) rows.agents
 
 -- the client is suppressed, or not
 abbrev pub suppressed_at : Client → Bool → ClientRow → ClientRow
@@ -58,14 +58,14 @@ abbrev pub with_suppression : Rows → Client → Bool → List FrameworkRow
 with_suppression rows client suppressed = map (suppressed_in client suppressed) rows.frameworks
 
 -- an agent that is not active has no offers
-abbrev pub deactivated : Rows → Text → Rows
-deactivated rows name = record (without_ended rows (offers_on name)) { agents = with_activity rows name false }
+abbrev pub agent_deactivated : Rows → Text → Rows
+agent_deactivated rows name = record (without_ended rows (offers_on name)) { agents = with_activity rows name false }
 
 -- a client that revives is served again, and refuses nothing any more
 abbrev pub revived : Rows → Client → Rows
 revived rows client = record rows {
   frameworks = with_suppression rows client false;
-  filters = without_client client rows.filters;
+  filters = filters_without_client client rows.filters;
 }
 
 -- ---- leaving
@@ -74,12 +74,12 @@ revived rows client = record rows {
 abbrev pub agent_removed : Rows → Text → Rows
 agent_removed rows name = record (without_ended rows (all_on name)) {
   agents = filter (λ a. not (same_text a.name name)) rows.agents;
-  filters = without_agent name rows.filters;
+  filters = filters_without_agent name rows.filters;
 }
 
 -- a framework leaves with all that it holds, and with its filters
 abbrev pub framework_removed : Rows → Text → Rows
 framework_removed rows name = record (without_ended rows (all_of name)) {
   frameworks = filter (λ f. not (same_text f.name name)) rows.frameworks;
-  filters = without_framework name rows.filters;
+  filters = filters_without_framework name rows.filters;
 }

@@ -15,10 +15,10 @@ use Rattle.drf_rows.specs.Holdings.{of_offer}
 use Rattle.drf_rows.specs.Held.{client_of, active_clients, standing_of}
 use Rattle.drf_rows.specs.Cycle.{grant, new_offer, with_offer, tried, all_tried, first_of, without, serving_order, turn, turn_order, turns, at_moment, cycle}
 use Rattle.drf_rows.specs.CycleLaws.{active_clients-with_offer}
-use Rattle.drf_rows.specs.Offers.{Start, offer_at, accepted, declined}
+use Rattle.drf_rows.specs.Offers.{Start, offer_at, offer_accepted, offer_declined}
 use Rattle.drf_rows.specs.ListLaws.{each_append, each_map, each_filter, each_find, each_true, any_fails}
-use Rattle.drf_rows.specs.Step.{refusal_of, effect, answer, line_of, new_offers, rows_after, rows_after_all, reply_to, replies_to}
-use Rattle.drf_rows.specs.LifeLaws.{is_same_client, SuppressedIsNotOffered, CountUp, lines_of, NumbersAreNew}
+use Rattle.drf_rows.specs.Step.{refusal_of, effect, answer, line_told, new_offers, rows_after, rows_after_all, reply_to, replies_to}
+use Rattle.drf_rows.specs.LifeLaws.{is_same_client, SuppressedIsNotOffered, CountUp, lines_told, NumbersAreNew}
 use Rattle.drf_rows.specs.declared.event.Event.{Event}
 use Rattle.drf_rows.specs.declared.event.Event.TheVariants.{AddAgent, RemoveAgent, ActivateAgent, DeactivateAgent, AddFramework, RemoveFramework, Accept, Decline, Rescind, Finish, Suppress, Revive, SetWeight, Cycle, Report}
 use Rattle.drf_rows.specs.declared.reply.OfferLine.{OfferLine}
@@ -158,9 +158,9 @@ suppressed_is_not_offered rows client at silent =
 -- ---- the numbers that a run tells
 
 abbrev AreTold : Rows → Reply → Rows → Type 0
-AreTold rows reply after = CountUp rows.next_offer (map (λ line. line.number) (lines_of reply)) after.next_offer
+AreTold rows reply after = CountUp rows.next_offer (map (λ line. line.number) (lines_told reply)) after.next_offer
 
-numbers_of_lines : (os : List OfferRow) → map (λ line. line.number) (map line_of os) ≡ map (λ o. o.number) os
+numbers_of_lines : (os : List OfferRow) → map (λ line. line.number) (map line_told os) ≡ map (λ o. o.number) os
 numbers_of_lines [] = refl
 numbers_of_lines (o ∷ os) = ap (λ (ns : List ℕ). o.number ∷ ns) (numbers_of_lines os)
 
@@ -169,16 +169,16 @@ told_by_cycle rows at =
     let Any : Client → Type 0 = λ c. ◌≡◌ {A = Bool} true true in
     let all = each_true (active_clients rows) in
     subst (λ (ns : List ℕ). CountUp rows.next_offer ns (cycle rows at).next_offer)
-    (sym (ap (λ (os : List OfferRow). map (λ line. line.number) (map line_of os)) (offered_new Any rows at all) ∙ numbers_of_lines (offered Any rows at all).made))
+    (sym (ap (λ (os : List OfferRow). map (λ line. line.number) (map line_told os)) (offered_new Any rows at all) ∙ numbers_of_lines (offered Any rows at all).made))
     (offered Any rows at all).numbers
 
 told-accepted : (rows : Rows) (at : ℕ) (starts : List Start) (refuse_ms : ℕ) (found : Option OfferRow)
-    → (option_map_or (λ o. accepted (at_moment rows at) o starts refuse_ms) found rows).next_offer ≡ rows.next_offer
+    → (option_map_or (λ o. offer_accepted (at_moment rows at) o starts refuse_ms) found rows).next_offer ≡ rows.next_offer
 told-accepted rows at starts refuse_ms None = refl
 told-accepted rows at starts refuse_ms (Some o) = refl
 
 told-declined : (rows : Rows) (at refuse_ms : ℕ) (found : Option OfferRow)
-    → (option_map_or (λ o. declined (at_moment rows at) o refuse_ms) found rows).next_offer ≡ rows.next_offer
+    → (option_map_or (λ o. offer_declined (at_moment rows at) o refuse_ms) found rows).next_offer ≡ rows.next_offer
 told-declined rows at refuse_ms None = refl
 told-declined rows at refuse_ms (Some o) = refl
 
@@ -214,8 +214,8 @@ numbers_are_new limits rows [] = refl
 numbers_are_new limits rows (event ∷ events) =
     let number : OfferLine → ℕ = λ line. line.number in
     let after : Rows = rows_after limits rows event in
-    let first : List OfferLine = lines_of (reply_to limits rows event) in
-    let later : List OfferLine = flat_map lines_of (replies_to limits after events) in
+    let first : List OfferLine = lines_told (reply_to limits rows event) in
+    let later : List OfferLine = flat_map lines_told (replies_to limits after events) in
     let last : Rows = rows_after_all limits after events in
     subst (λ (ns : List ℕ). CountUp rows.next_offer ns last.next_offer) (sym (map-append number first later))
     (count_up-append rows.next_offer (map number first) (map number later) after.next_offer last.next_offer

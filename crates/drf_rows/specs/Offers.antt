@@ -85,14 +85,14 @@ are_many_filters limits rows at = nat_le limits.filters (number_in_force (max ro
 -- ---- what becomes of the offer
 
 -- its framework starts tasks, and the rest is free
-abbrev pub accepted : Rows → OfferRow → List Start → ℕ → Rows
-accepted rows o starts refuse_ms = record (without_ended rows (one_offer o.number)) {
+abbrev pub offer_accepted : Rows → OfferRow → List Start → ℕ → Rows
+offer_accepted rows o starts refuse_ms = record (without_ended rows (one_offer o.number)) {
   tasks = rows.tasks ++ map (task_of o) starts;
   filters = filters_with rows (refuses_rest o starts refuse_ms) o (left_of_offer o starts) refuse_ms;
 }
 
 -- its framework declines it, and all is free
-abbrev pub declined : Rows → OfferRow → ℕ → Rows
-declined rows o refuse_ms = record (without_ended rows (one_offer o.number)) {
+abbrev pub offer_declined : Rows → OfferRow → ℕ → Rows
+offer_declined rows o refuse_ms = record (without_ended rows (one_offer o.number)) {
   filters = filters_with rows (refuses_all refuse_ms) o o.bundle refuse_ms;
 }

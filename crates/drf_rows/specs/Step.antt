@@ -7,8 +7,8 @@ use Rattle.drf_role.specs.Path.{Path}
 use Rattle.drf_bundle.specs.Bundle.{quantities_of}
 use Rattle.drf_rows.specs.LimitNumbers.{LimitNumbers}
 use Rattle.drf_rows.specs.Held.{cluster_total, clients_of, is_registered}
-use Rattle.drf_rows.specs.Members.{has_agent, has_framework, distinct, with_agent, with_framework, with_activity, with_suppression, deactivated, revived, agent_removed, framework_removed}
-use Rattle.drf_rows.specs.Offers.{Start, offer_at, has_offer, is_anothers, is_beyond, has_task, is_empty, refuses_all, refuses_rest, are_many_filters, accepted, declined}
+use Rattle.drf_rows.specs.Members.{has_agent, has_framework, distinct, with_agent, with_framework, with_activity, with_suppression, agent_deactivated, revived, agent_removed, framework_removed}
+use Rattle.drf_rows.specs.Offers.{Start, offer_at, has_offer, is_anothers, is_beyond, has_task, is_empty, refuses_all, refuses_rest, are_many_filters, offer_accepted, offer_declined}
 use Rattle.drf_rows.specs.Endings.{without_ended, one_offer, one_task}
 use Rattle.drf_rows.specs.Cycle.{at_moment, cycle}
 use Rattle.drf_rows.specs.Filters.{in_force}
@@ -165,13 +165,13 @@ unfoldable pub effect : Rows → Event → Rows
 effect rows (AddAgent agent total) = record rows { agents = with_agent rows agent total }
 effect rows (RemoveAgent agent) = agent_removed rows agent
 effect rows (ActivateAgent agent) = record rows { agents = with_activity rows agent true }
-effect rows (DeactivateAgent agent) = deactivated rows agent
+effect rows (DeactivateAgent agent) = agent_deactivated rows agent
 effect rows (AddFramework framework roles) = record rows { frameworks = with_framework rows framework roles }
 effect rows (RemoveFramework framework) = framework_removed rows framework
 effect rows (Accept framework offer task used at refuse_ms) =
-    option_map_or (λ o. accepted (at_moment rows at) o ((task, used) ∷ []) refuse_ms) (offer_at rows offer) rows
+    option_map_or (λ o. offer_accepted (at_moment rows at) o ((task, used) ∷ []) refuse_ms) (offer_at rows offer) rows
 effect rows (Decline framework offer at refuse_ms) =
-    option_map_or (λ o. declined (at_moment rows at) o refuse_ms) (offer_at rows offer) rows
+    option_map_or (λ o. offer_declined (at_moment rows at) o refuse_ms) (offer_at rows offer) rows
 effect rows (Rescind offer) = without_ended rows (one_offer offer)
 effect rows (Finish framework task) = without_ended rows (one_task framework task)
 effect rows (Suppress framework role) =
@@ -182,8 +182,8 @@ effect rows (Cycle at) = cycle rows at
 effect rows event.Report = rows
 
 -- an offer, as it is told
-abbrev pub line_of : OfferRow → OfferLine
-line_of o = record { number = o.number; agent = o.agent; framework = o.framework; role = o.role; resources = o.bundle }
+abbrev pub line_told : OfferRow → OfferLine
+line_told o = record { number = o.number; agent = o.agent; framework = o.framework; role = o.role; resources = o.bundle }
 
 -- the offers of the second rows that the first do not have
 abbrev pub new_offers : Rows → Rows → List OfferRow
@@ -191,7 +191,7 @@ new_offers before after = drop (length before.offers) after.offers
 
 -- what an event that is not refused is answered
 abbrev pub answer : Rows → Rows → Event → Reply
-answer before after (Cycle at) = Offers (map line_of (new_offers before after))
+answer before after (Cycle at) = Offers (map line_told (new_offers before after))
 answer before after event.Report = reply.Report (report_of before)
 answer before after other = Done
 

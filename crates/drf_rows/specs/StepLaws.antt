@@ -7,7 +7,7 @@ use Rattle.std.proofs.lemmas.Bool.Decides.{nat_tests}
 use Rattle.drf_rows.specs.LimitNumbers.{LimitNumbers}
 use Rattle.drf_rows.specs.Step.{first_case, cases_of, refusal_of, effect, answer, rows_after, reply_to}
 use Rattle.drf_rows.specs.Laws.{is_rising, CasesRise, LeastIsTold}
-use Rattle.drf_rows.specs.Refusal.{number_of}
+use Rattle.drf_rows.specs.Refusal.{refusal_number}
 use Rattle.drf_rows.specs.declared.event.Event.{Event}
 use Rattle.drf_rows.specs.declared.event.Event.TheVariants.{AddAgent, RemoveAgent, ActivateAgent, DeactivateAgent, AddFramework, RemoveFramework, Accept, Decline, Rescind, Finish, Suppress, Revive, SetWeight, Cycle, Report}
 use Rattle.drf_rows.specs.declared.reply.Refusal.{Refusal}
@@ -34,14 +34,14 @@ cases_rise limits rows Report = refl
 -- ---- the first of some cases that rise is the least that holds
 
 abbrev is_not_below : Refusal → Bool × Refusal → Bool
-is_not_below refusal c = not c.0 || nat_le (number_of refusal) (number_of c.1)
+is_not_below refusal c = not c.0 || nat_le (refusal_number refusal) (refusal_number c.1)
 
 not_below_first : (q : Refusal) (cases : List (Bool × Refusal))
-    → list_all (nat_lt (number_of q)) (map (λ c. number_of c.1) cases) ≡ true → list_all (is_not_below q) cases ≡ true
+    → list_all (nat_lt (refusal_number q)) (map (λ c. refusal_number c.1) cases) ≡ true → list_all (is_not_below q) cases ≡ true
 not_below_first q [] rise = refl
 not_below_first q (c ∷ cases) rise =
-    let parts = and_parts (nat_lt (number_of q) (number_of c.1)) (list_all (nat_lt (number_of q)) (map (λ d. number_of d.1) cases)) rise in
-    let above : nat_le (number_of q) (number_of c.1) ≡ true = grind (arith, nat_tests, parts.0) in
+    let parts = and_parts (nat_lt (refusal_number q) (refusal_number c.1)) (list_all (nat_lt (refusal_number q)) (map (λ d. refusal_number d.1) cases)) rise in
+    let above : nat_le (refusal_number q) (refusal_number c.1) ≡ true = grind (arith, nat_tests, parts.0) in
     and_from _ _ (ap (λ (b : Bool). not c.0 || b) above ∙ or_true (not c.0)) (not_below_first q cases parts.1)
   where
     or_true : (b : Bool) → (b || true) ≡ true
@@ -49,18 +49,18 @@ not_below_first q (c ∷ cases) rise =
     or_true false = refl
 
 least_first : (cases : List (Bool × Refusal)) (refusal : Refusal)
-    → is_rising (map (λ c. number_of c.1) cases) ≡ true → first_case cases ≡ Some refusal
+    → is_rising (map (λ c. refusal_number c.1) cases) ≡ true → first_case cases ≡ Some refusal
     → Contains cases (true, refusal) × (list_all (is_not_below refusal) cases ≡ true)
 least_first [] refusal rise found = cc
 least_first ((true, q) ∷ cases) refusal rise found =
     let same : q ≡ refusal = cc in
-    let parts = and_parts (list_all (nat_lt (number_of q)) (map (λ c. number_of c.1) cases)) (is_rising (map (λ c. number_of c.1) cases)) rise in
-    let itself : nat_le (number_of q) (number_of q) ≡ true = grind (arith, nat_tests) in
+    let parts = and_parts (list_all (nat_lt (refusal_number q)) (map (λ c. refusal_number c.1) cases)) (is_rising (map (λ c. refusal_number c.1) cases)) rise in
+    let itself : nat_le (refusal_number q) (refusal_number q) ≡ true = grind (arith, nat_tests) in
     let all : list_all (is_not_below q) ((true, q) ∷ cases) ≡ true = and_from _ _ itself (not_below_first q cases parts.0) in
     subst (λ (r : Refusal). Contains ((true, q) ∷ cases) (true, r) × (list_all (is_not_below r) ((true, q) ∷ cases) ≡ true)) same
     ((0, omega arith, refl), all)
 least_first ((false, q) ∷ cases) refusal rise found =
-    let parts = and_parts (list_all (nat_lt (number_of q)) (map (λ c. number_of c.1) cases)) (is_rising (map (λ c. number_of c.1) cases)) rise in
+    let parts = and_parts (list_all (nat_lt (refusal_number q)) (map (λ c. refusal_number c.1) cases)) (is_rising (map (λ c. refusal_number c.1) cases)) rise in
     let later = least_first cases refusal parts.1 found in
     ((suc later.0.0, omega (arith, later.0.1), later.0.2), later.1)
 

@@ -2,7 +2,7 @@
 use Rattle.std.specs.Prelude.{ℕ, List, [], ◌∷◌, map, codes}
 use Rattle.drf_rows.specs.LimitNumbers.{LimitNumbers, ceilings}
 use Rattle.drf_rows.specs.Step.{opening, rows_after_all, replies_to}
-use Rattle.drf_rows.specs.Examples.{cpus, in_role, offer}
+use Rattle.drf_rows.specs.Examples.{cpus, framework_in, offer}
 use Rattle.drf_rows.specs.declared.event.Event.{Event}
 use Rattle.drf_rows.specs.declared.event.Event.TheVariants.{AddAgent, SetWeight, Cycle}
 use Rattle.drf_rows.specs.declared.reply.Refusal.TheVariants.{BadWeight, TooMany}
@@ -42,8 +42,8 @@ one_weight_replies = Done ∷ Refused TooMany ∷ Done ∷ []
 -- three agents of one size are shared by two frameworks, of which the second has a weight
 abbrev pub replies_by_weight : ℕ → List Reply
 replies_by_weight weight = replies_to ceilings opening (
-    in_role (codes "fa") (codes "a")
-    ∷ in_role (codes "fb") (codes "b")
+    framework_in (codes "fa") (codes "a")
+    ∷ framework_in (codes "fb") (codes "b")
     ∷ weighing (codes "b") weight
     ∷ AddAgent (codes "n1") (cpus 1000 ∷ [])
     ∷ AddAgent (codes "n2") (cpus 1000 ∷ [])

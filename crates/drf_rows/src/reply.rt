@@ -44,11 +44,11 @@ pub enum Refusal {
 }
 
 impl Refusal {
-    ghost use Rattle.drf_rows.specs.Refusal.{number_of, name_of};
+    ghost use Rattle.drf_rows.specs.Refusal.{refusal_number, refusal_name};
 
     /// The number that the refusal is told by.
     pub fn number(self) -> u64
-        ensures { result ≡ number_of self }
+        ensures { result ≡ refusal_number self }
     {
         match self {
             Refusal::HistoryFull => 1,
@@ -72,7 +72,7 @@ impl Refusal {
 
     /// The name that the refusal is told by.
     pub fn name(self) -> &'static str
-        ensures { result.now ≡ name_of self }
+        ensures { result.now ≡ refusal_name self }
     {
         match self {
             Refusal::HistoryFull => "HistoryFull",

@@ -9,7 +9,7 @@ use Rattle.drf_bundle.specs.declared.quantities.Entry.{Entry}
 use Rattle.drf_rows.specs.Client.{Client}
 use Rattle.drf_rows.specs.Consistent.{are_distinct}
 use Rattle.drf_rows.specs.Endings.{without_ended, all_on, all_of}
-use Rattle.drf_rows.specs.Filters.{without_client, without_agent, without_framework}
+use Rattle.drf_rows.specs.Filters.{filters_without_client, filters_without_agent, filters_without_framework}
 use Rattle.drf_rows.specs.Held.{clients_of, cluster_total}
 use Rattle.drf_rows.specs.Holdings.{holdings_of}
 use Rattle.drf_rows.specs.ListLaws.{each_filter}
@@ -81,7 +81,7 @@ module _ (t : Inside) (kept : IsKept (rows_in t) t.agents.entries t.total t.clie
 
   module _ (client : Client) (entries : List (Text × Vec ClientRow)) (filters : List FilterRow)
       (told : framework_rows entries ≡ map (suppressed_in client false) (framework_rows t.frameworks.entries))
-      (left : filters ≡ without_client client t.filters) where
+      (left : filters ≡ filters_without_client client t.filters) where
     rows-revived : rows_but t t.agents.entries entries filters ≡ revived (rows_in t) client
     unfolding rows_of
     rows-revived = λ i. record (rows_in t) { frameworks = told i; filters = left i }
@@ -98,7 +98,7 @@ module _ (t : Inside) (kept : IsKept (rows_in t) t.agents.entries t.total t.clie
   module _ (name : Text) (entries : List (Text × Agent)) (filters : List FilterRow) (sum : List Entry)
       (nothing : without_ended (rows_in t) (all_on name) ≡ rows_in t)
       (taken : entries ≡ remove_entry (same_text name) t.agents.entries)
-      (left : filters ≡ without_agent name t.filters)
+      (left : filters ≡ filters_without_agent name t.filters)
       (others : sum ≡ cluster_total (filter (λ a. not (same_text a.name name)) (rows_in t).agents)) where
     those : entries ≡ filter (stays name) t.agents.entries
     those =
@@ -112,7 +112,7 @@ module _ (t : Inside) (kept : IsKept (rows_in t) t.agents.entries t.total t.clie
         (λ i. record (rows_in t) { agents = read i; filters = left i })
         ∙ sym (λ i. record (nothing i) {
           agents = filter (λ a. not (same_text a.name name)) (rows_in t).agents;
-          filters = without_agent name (rows_in t).filters;
+          filters = filters_without_agent name (rows_in t).filters;
         })
 
     pub kept-left : IsKept (rows_but t entries t.frameworks.entries filters) entries sum t.clients
@@ -134,14 +134,14 @@ module _ (t : Inside) (kept : IsKept (rows_in t) t.agents.entries t.total t.clie
       (nothing : without_ended (rows_in t) (all_of name) ≡ rows_in t)
       (rows : framework_rows entries ≡ filter (λ f. not (same_text f.name name)) (framework_rows t.frameworks.entries))
       (clients : count_clients (framework_rows t.frameworks.entries) ≡ count_clients (framework_rows entries) + gone)
-      (left : filters ≡ without_framework name t.filters) where
+      (left : filters ≡ filters_without_framework name t.filters) where
     pub rows-gone : rows_but t t.agents.entries entries filters ≡ framework_removed (rows_in t) name
     unfolding rows_of
     rows-gone =
         (λ i. record (rows_in t) { frameworks = rows i; filters = left i })
         ∙ sym (λ i. record (nothing i) {
           frameworks = filter (λ f. not (same_text f.name name)) (rows_in t).frameworks;
-          filters = without_framework name (rows_in t).filters;
+          filters = filters_without_framework name (rows_in t).filters;
         })
 
     -- so many clients are there

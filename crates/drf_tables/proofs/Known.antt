@@ -15,11 +15,11 @@ use Rattle.drf_rows.specs.ConsistentLaws.{same_text-swap}
 use Rattle.drf_rows.specs.Cycle.{free_of}
 use Rattle.drf_rows.specs.Holdings.{Holding, holdings_of, parts_on}
 use Rattle.drf_rows.specs.ListLaws.{each_from, each_map}
-use Rattle.drf_rows.specs.Members.{activated}
+use Rattle.drf_rows.specs.Members.{active_at}
 use Rattle.drf_rows.specs.declared.rows.AgentRow.{AgentRow}
 use Rattle.drf_rows.specs.declared.rows.Rows.{Rows}
 use Rattle.drf_tables.specs.Changing.{changed, forgotten, are_settled}
-use Rattle.drf_tables.specs.Changing.{activated as activated_in}
+use Rattle.drf_tables.specs.Changing.{with_active}
 use Rattle.drf_tables.specs.Drafts.{frees_after}
 use Rattle.drf_tables.specs.Inside.{agent_row, frees_in, known_after, is_settled, IsKnown}
 use Rattle.drf_tables.specs.declared.tables.Agent.{Agent}
@@ -82,11 +82,11 @@ rows-forgotten name es =
     by e false = refl
 
 pub rows-activated : (name : Text) (active : Bool) (es : List (Text × Agent))
-    → map agent_row (map (changed name (activated_in active)) es) ≡ map (activated name active) (map agent_row es)
-rows-activated name active = rows-each (changed name (activated_in active)) (activated name active) (λ e. by e (same_text e.0 name))
+    → map agent_row (map (changed name (with_active active)) es) ≡ map (active_at name active) (map agent_row es)
+rows-activated name active = rows-each (changed name (with_active active)) (active_at name active) (λ e. by e (same_text e.0 name))
   where
     by : (e : Text × Agent) (b : Bool)
-        → agent_row (if b then (e.0, activated_in active e.1) else e) ≡ (if b then record (agent_row e) { active = active } else agent_row e)
+        → agent_row (if b then (e.0, with_active active e.1) else e) ≡ (if b then record (agent_row e) { active = active } else agent_row e)
     by e true = refl
     by e false = refl
 
@@ -104,12 +104,12 @@ known-forgotten old new name same es known =
     by e was false past = λ free is. was free is ∙ sym (ap (rest_of_all e.1.total) (same e.0 (same_text-swap name e.0 ∙ past)))
 
 pub known-activated : (hs : List Holding) (name : Text) (active : Bool) (es : List (Text × Agent))
-    → AllByRecursion (IsKnown hs) es → AllByRecursion (IsKnown hs) (map (changed name (activated_in active)) es)
+    → AllByRecursion (IsKnown hs) es → AllByRecursion (IsKnown hs) (map (changed name (with_active active)) es)
 known-activated hs name active es known =
-    each_map (IsKnown hs) (changed name (activated_in active)) es
-    (each_from (IsKnown hs) (λ e. IsKnown hs (changed name (activated_in active) e)) es (λ e was. by e was (same_text e.0 name)) known)
+    each_map (IsKnown hs) (changed name (with_active active)) es
+    (each_from (IsKnown hs) (λ e. IsKnown hs (changed name (with_active active) e)) es (λ e was. by e was (same_text e.0 name)) known)
   where
-    by : (e : Text × Agent) → IsKnown hs e → (b : Bool) → IsKnown hs (if b then (e.0, activated_in active e.1) else e)
+    by : (e : Text × Agent) → IsKnown hs e → (b : Bool) → IsKnown hs (if b then (e.0, with_active active e.1) else e)
     by e was true = was
     by e was false = was
 

@@ -13,8 +13,8 @@ abbrev pub forgotten : Agent → Agent
 forgotten a = record a { free = None }
 
 -- it is active, or not
-abbrev pub activated : Bool → Agent → Agent
-activated active a = record a { active = active }
+abbrev pub with_active : Bool → Agent → Agent
+with_active active a = record a { active = active }
 
 -- what is free is known of the first agents
 abbrev pub are_settled : ℕ → List (Text × Agent) → Bool

@@ -6,7 +6,7 @@ ghost use Rattle.drf_role.specs.Text.{same_text};
 ghost use Rattle.drf_rows.specs.Consistent.{are_distinct};
 ghost use Rattle.drf_rows.specs.Members.{suppressed_in};
 ghost use Rattle.drf_rows.specs.declared.rows.ClientRow.{ClientRow};
-ghost use Rattle.drf_tables.specs.Changing.{changed, forgotten, activated};
+ghost use Rattle.drf_tables.specs.Changing.{changed, forgotten, with_active};
 ghost use Rattle.drf_tables.specs.Counting.{count_clients};
 ghost use Rattle.drf_tables.specs.Inside.{agent_row, framework_rows};
 
@@ -28,7 +28,7 @@ pub(crate) fn forget_free(agents: &mut IndexMap<Name, Agent>, name: &Name)
 /// Says whether an agent is active.
 pub(crate) fn set_active(agents: &mut IndexMap<Name, Agent>, name: &Name, active: bool)
     requires { are_distinct (map (λ a. a.name) (map agent_row agents.old.entries)) ≡ true }
-    ensures { agents.new.entries ≡ map (changed name.now (activated active)) agents.old.entries }
+    ensures { agents.new.entries ≡ map (changed name.now (with_active active)) agents.old.entries }
 {
     if let Some(place) = agents.get_index_of(name) {
         agents[place].active = active;

@@ -1,6 +1,6 @@
 use Rattle.std.proofs.Common.{◌≡◌, map, ap, ◌∙◌, subst}
 use Rattle.std.specs.Prelude.{max}
-use Rattle.drf_rows.specs.Step.{line_of, new_offers}
+use Rattle.drf_rows.specs.Step.{line_told, new_offers}
 use Rattle.drf_rows.specs.declared.rows.Rows.{Rows}
 use Rattle.drf_core.specs.Content.{content_of}
 use Rattle.drf_core.specs.Kept.{StandAt}
@@ -24,7 +24,7 @@ returns-in-Ok-clause-lines g c =
     let moment = c.max.ensures ∙ ap (λ n. max n c.args.at) c.clock-before.ensures in
     let turned = turns_of-cycle rows c.set_clock.new.self.rows c.args.at c.max.result moment c.set_clock.ensures in
     c.in-Ok.ensures.lines
-    ∙ ap (map line_of) (new_offers-cycle rows c.set_clock.new.self.rows c.max.result (turns_of c.set_clock.new.self.rows) c.set_clock.ensures
+    ∙ ap (map line_told) (new_offers-cycle rows c.set_clock.new.self.rows c.max.result (turns_of c.set_clock.new.self.rows) c.set_clock.ensures
     ∙ ap (new_offers rows) turned)
 
 pub returns-in-Ok-clause-ok : goal.returns-in-Ok-clause-ok

@@ -1,5 +1,5 @@
 use Rattle.std.proofs.Common.{◌≡◌, ◌≤◌, ◌^◌, map, ap, ◌∙◌, sym, arith}
-use Rattle.drf_rows.specs.Step.{line_of, new_offers}
+use Rattle.drf_rows.specs.Step.{line_told, new_offers}
 use Rattle.drf_rows.specs.declared.rows.Rows.{Rows}
 use Rattle.drf_core.specs.Drafting.{turns_of}
 use Rattle.drf_tables.specs.DraftLaws.{next-with_offers}
@@ -17,6 +17,6 @@ commit-requires-clause-fits g c =
 pub returns-clause-lines : goal.returns-clause-lines
 returns-clause-lines g c =
     c.in_ok-lines.ensures
-    ∙ ap (map line_of) (c.deref.ensures.value
+    ∙ ap (map line_told) (c.deref.ensures.value
     ∙ sym (new_offers-drafts c.settle.new.self.rows c.turns.new.drafts.offers.items c.in_ok-turns.ensures.turns)
     ∙ (λ i. new_offers (c.settle.ensures.same i) (turns_of (c.settle.ensures.same i))))

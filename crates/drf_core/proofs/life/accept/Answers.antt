@@ -2,7 +2,7 @@ use Rattle.std.proofs.Common.{◌≡◌, ℕ, ◌∷◌, [], Some, sym, ap, subs
 use Rattle.std.specs.Prelude.{◌&&◌, max, not, option_copied}
 use Rattle.drf_bundle.specs.Bundle.{rest, quantities_of}
 use Rattle.drf_rows.specs.Cycle.{at_moment}
-use Rattle.drf_rows.specs.Offers.{accepted, filter_of, is_empty, offer_at, refused_until}
+use Rattle.drf_rows.specs.Offers.{offer_accepted, filter_of, is_empty, offer_at, refused_until}
 use Rattle.drf_rows.specs.declared.rows.OfferRow.{OfferRow}
 use Rattle.drf_rows.specs.declared.rows.Rows.{Rows}
 use Rattle.drf_core.specs.Accepting.{filter_if}
@@ -63,7 +63,7 @@ returns-clause-ok g c = λ p at.
     let tables : Rows = c.set_clock.new.self.rows in
     let same = rows_accepted rows tables o (c.args.task, c.args.used) c.in_ok-filter.filter c.args.at c.max-moment.result c.args.refuse_ms later told
     (c.set_clock.ensures ∙ (λ i. record (c.in_ok-accept.ensures.ok o found i) { clock = c.max-moment.result })) in
-    subst (λ (p : OfferRow). StandAt (accepted (at_moment rows c.args.at) p ((c.args.task, c.args.used) ∷ []) c.args.refuse_ms) tables (g.S.Sorter.content c.refund.new.self))
+    subst (λ (p : OfferRow). StandAt (offer_accepted (at_moment rows c.args.at) p ((c.args.task, c.args.used) ∷ []) c.args.refuse_ms) tables (g.S.Sorter.content c.refund.new.self))
     (same_offer rows c.args.number o p found at)
     (applied_accept rows c.args.number o c.args.task c.args.used c.args.at c.args.refuse_ms (g.S.Sorter.content c.args.sorter.now) c.in_ok-client.client c.quantities.result.now
     c.requires.consistent c.requires.sorted found c.entries.ensures.bundle covered c.in_ok-client.ensures quantities

@@ -3,12 +3,12 @@ use Rattle.drf_role.specs.Text.{same_text}
 use Rattle.drf_gates.proofs.FilterLemmas.{left-filter, kept-filter}
 use Rattle.drf_gates.proofs.filters.FilterTable.drop_framework.Goals as goal
 
-pub settle-requires : goal.settle-requires
-settle-requires c =
+pub rebuild_if_less-requires : goal.rebuild_if_less-requires
+rebuild_if_less-requires c =
     left-filter (λ f. not (same_text f.framework c.args.framework.now)) c.self.inside.rows.items c.deref.result.now c.self.inside.index
     (c.deref.ensures.value ∙ c.keep_other_frameworks.ensures) c.self.invariant.indexed
 
 pub invariant_of-self : goal.invariant_of-self
 invariant_of-self c =
     kept-filter (λ f. not (same_text f.framework c.args.framework.now)) c.self.inside.rows.items c.keep_other_frameworks.new.rows.items c.deref.result.now
-    c.self.inside.index c.settle.new.self c.self.inside.soonest c.keep_other_frameworks.ensures c.deref.ensures.value c.self.invariant c.settle.ensures
+    c.self.inside.index c.rebuild_if_less.new.self c.self.inside.soonest c.keep_other_frameworks.ensures c.deref.ensures.value c.self.invariant c.rebuild_if_less.ensures

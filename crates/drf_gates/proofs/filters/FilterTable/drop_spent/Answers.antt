@@ -10,7 +10,7 @@ returns-then-now-self c =
     subst (λ (rows : List FilterRow). rows ≡ in_force c.args.now rows) c.self.view_is
     (sym (all_in_force c.args.now t.soonest t.rows.items c.if-now-self.true c.self.invariant.none_before))
 
-pub settle-requires : goal.settle-requires
-settle-requires c =
+pub rebuild_if_less-requires : goal.rebuild_if_less-requires
+rebuild_if_less-requires c =
     left-filter (is_in_force c.args.now) c.self.inside.rows.items c.deref.result.now c.self.inside.index
     (c.deref.ensures.value ∙ c.keep_in_force.ensures) c.self.invariant.indexed

@@ -4,7 +4,7 @@ ghost use Rattle.drf_rows.specs.Filters.{is_held_back, in_force, number_in_force
 
 use crate::index::Index;
 use crate::row::{
-    copy_row, holds_back, is_in_force, keep_in_force, keep_other_agents, keep_other_clients,
+    holds_back, is_in_force, keep_in_force, keep_other_agents, keep_other_clients,
     keep_other_frameworks, soonest,
 };
 use drf_bundle::Bundle;
@@ -151,7 +151,7 @@ impl FilterTable {
         let mut rows = Vec::new(*self.rows.allocator());
         for row in &self.rows {
             if is_in_force(row, now) {
-                rows.push(copy_row(row)?)?;
+                rows.push(row.copy()?)?;
             }
         }
         Ok(Table::from_vec(rows))

@@ -48,18 +48,6 @@ pub(crate) fn holds_back(
         && covers(&row.bundle, bundle)
 }
 
-pub(crate) fn copy_row(row: &FilterRow) -> Result<FilterRow, AllocError>
-    ensures { IfOk result (λ copy. copy ≡ row.now) }
-{
-    Ok(FilterRow {
-        framework: row.framework.copy()?,
-        role: row.role.copy()?,
-        agent: row.agent.copy()?,
-        bundle: row.bundle.copy()?,
-        until: row.until,
-    })
-}
-
 /// A moment before which no filter ends, in milliseconds.
 pub(crate) fn soonest(rows: &[FilterRow]) -> u64
     ensures { NoneEndsBefore result rows.now }

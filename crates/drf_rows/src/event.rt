@@ -85,16 +85,6 @@ pub enum Event {
     Report,
 }
 
-fn copy_roles(roles: &Table<Role>) -> Result<Table<Role>, AllocError>
-    ensures { IfOk result (λ copy. copy ≡ roles.now) }
-{
-    let mut copy = Vec::new(roles.alloc());
-    for role in roles.as_slice() {
-        copy.push(role.copy()?)?;
-    }
-    Ok(Table::from_vec(copy))
-}
-
 impl Event {
     pub fn copy(&self) -> Result<Event, AllocError>
         ensures { IfOk result (λ copy. copy ≡ self.now) }
@@ -115,7 +105,7 @@ impl Event {
             }),
             Event::AddFramework { framework, roles } => Ok(Event::AddFramework {
                 framework: framework.copy()?,
-                roles: copy_roles(roles)?,
+                roles: roles.copy()?,
             }),
             Event::RemoveFramework { framework } => Ok(Event::RemoveFramework {
                 framework: framework.copy()?,

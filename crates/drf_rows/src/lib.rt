@@ -1,6 +1,7 @@
 //! Events, replies and rows of the allocator, and the definitions of what it does.
 #![tactic(auto)]
 
+mod copied;
 mod event;
 mod laws;
 mod limits;
@@ -9,6 +10,7 @@ mod report;
 mod rows;
 mod table;
 
+pub use copied::{Copied, copy_all};
 pub use event::Event;
 pub use laws::{
     cycles_example, filters_example, inactive_example, least_offer_example, life_example, life_law,

@@ -1,6 +1,7 @@
 //! The report of shares.
 ghost use Rattle.std.specs.Prelude.{◌≡◌, IfOk};
 
+use crate::copied::Copied;
 use crate::table::Table;
 use drf_bundle::Quantities;
 use drf_role::NodePath;
@@ -26,10 +27,8 @@ pub struct Report {
     pub nodes: Table<NodeLine>,
 }
 
-impl NodeLine {
-    pub fn copy(&self) -> Result<NodeLine, AllocError>
-        ensures { IfOk result (λ copy. copy ≡ self.now) }
-    {
+impl Copied for NodeLine {
+    fn copy(&self) -> Result<NodeLine, AllocError> {
         Ok(NodeLine {
             path: self.path.copy()?,
             held: self.held.copy()?,
@@ -40,23 +39,13 @@ impl NodeLine {
     }
 }
 
-fn copy_nodes(nodes: &Table<NodeLine>) -> Result<Table<NodeLine>, AllocError>
-    ensures { IfOk result (λ copy. copy ≡ nodes.now) }
-{
-    let mut copy = Vec::with_capacity(nodes.alloc(), nodes.len())?;
-    for node in nodes.as_slice() {
-        copy.push(node.copy()?)?;
-    }
-    Ok(Table::from_vec(copy))
-}
-
 impl Report {
     pub fn copy(&self) -> Result<Report, AllocError>
         ensures { IfOk result (λ copy. copy ≡ self.now) }
     {
         Ok(Report {
             total: self.total.copy()?,
-            nodes: copy_nodes(&self.nodes)?,
+            nodes: self.nodes.copy()?,
         })
     }
 }

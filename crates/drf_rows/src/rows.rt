@@ -1,6 +1,9 @@
+use crate::copied::Copied;
 use crate::table::Table;
+use drf_amount::Algebra;
 use drf_bundle::{Bundle, Quantities};
 use drf_role::{Name, Role};
+use std::alloc::AllocError;
 
 /// A registered agent with all its resources.
 #[derive(Debug, Drop)]
@@ -83,4 +86,50 @@ pub struct Rows {
     pub clock: u64,
     pub next_offer: u64,
     pub accepted: u64,
+}
+
+impl Copied for ClientRow {
+    fn copy(&self) -> Result<ClientRow, AllocError> {
+        Ok(ClientRow {
+            role: self.role.copy()?,
+            count: self.count,
+            suppressed: self.suppressed,
+        })
+    }
+}
+
+impl Copied for OfferRow {
+    fn copy(&self) -> Result<OfferRow, AllocError> {
+        Ok(OfferRow {
+            number: self.number,
+            agent: self.agent.copy()?,
+            framework: self.framework.copy()?,
+            role: self.role.copy()?,
+            bundle: self.bundle.copy()?,
+        })
+    }
+}
+
+impl Copied for TaskRow {
+    fn copy(&self) -> Result<TaskRow, AllocError> {
+        Ok(TaskRow {
+            name: self.name.copy()?,
+            agent: self.agent.copy()?,
+            framework: self.framework.copy()?,
+            role: self.role.copy()?,
+            bundle: self.bundle.copy()?,
+        })
+    }
+}
+
+impl Copied for FilterRow {
+    fn copy(&self) -> Result<FilterRow, AllocError> {
+        Ok(FilterRow {
+            framework: self.framework.copy()?,
+            role: self.role.copy()?,
+            agent: self.agent.copy()?,
+            bundle: self.bundle.copy()?,
+            until: self.until,
+        })
+    }
 }

@@ -1,14 +1,11 @@
-use Rattle.std.proofs.Common.{◌≡◌, ◌==◌, ◌++◌, ◌∷◌, [], Bool, List, Some, Option, length, take, find, sym, ap, ◌∙◌, subst, refl}
+use Rattle.std.proofs.Common.{◌≡◌, ◌==◌, Bool, Some, Option, sym, ap, ◌∙◌, subst}
 use Rattle.std.specs.List.{list_any}
-use Rattle.std.specs.Option.{option_map_or}
 use Rattle.drf_rows.specs.Endings.{is_task}
-use Rattle.drf_rows.specs.Offers.{offer_at, has_task, Start}
-use Rattle.drf_rows.specs.declared.rows.FilterRow.{FilterRow}
+use Rattle.drf_rows.specs.Offers.{offer_at}
 use Rattle.drf_rows.specs.declared.rows.OfferRow.{OfferRow}
 use Rattle.drf_tables.specs.Ended.{CanAccept, with_accepted}
 use Rattle.drf_tables.specs.Inside.{rows_of, rows_in}
 use Rattle.drf_tables.specs.Stored.{Stored}
-use Rattle.drf_tables.proofs.Changes.{rows_but}
 use Rattle.drf_tables.proofs.Ended.{found_any, accepted-rows, accepted-kept}
 use Rattle.drf_tables.proofs.tables.Tables.accept.Goals as goal
 
@@ -30,3 +27,24 @@ start-requires-clause-new c = λ o found.
     let both : ◌≡◌ {A = Option OfferRow} (Some o) (Some can.offer) = sym found ∙ can.at in
     let same : o ≡ can.offer = cc in
     (λ i. list_any (is_task (same i).framework c.args.task) t.holdings.tasks) ∙ can.new
+
+pub invariant_of-self-in-Ok : goal.invariant_of-self-in-Ok
+unfolding rows_of
+invariant_of-self-in-Ok c =
+    let t = c.self.inside in
+    let number = c.args.number in
+    let can : CanAccept (rows_in t) number (c.args.task, c.args.used) c.args.filter =
+    subst (λ (s : Stored). CanAccept s.rows number (c.args.task, c.args.used) c.args.filter) (sym c.self.view_is) c.requires in
+    accepted-kept t c.forget_free.new.agents.entries c.start.new.self c.add_if.new.filters number c.args.task c.args.used c.args.filter
+    can.offer c.in-Ok.offer c.self.invariant can.at c.in-Ok.ensures.ok c.forget_free.ensures c.in_ok-add_if.ensures.ok
+    c.quantities.ensures.bundle can.covered can.new can.filter
+
+pub returns-in-Ok-clause-ok : goal.returns-in-Ok-clause-ok
+unfolding rows_of
+returns-in-Ok-clause-ok c = λ o at.
+    let t = c.self.inside in
+    let number = c.args.number in
+    let found : offer_at (rows_in t) number ≡ Some o = ap (λ (s : Stored). offer_at s.rows number) c.self.view_is ∙ at in
+    accepted-rows t c.forget_free.new.agents.entries c.start.new.self c.add_if.new.filters number c.args.task c.args.used c.args.filter
+    o c.in-Ok.offer c.self.invariant found c.in-Ok.ensures.ok c.forget_free.ensures c.in_ok-add_if.ensures.ok
+    ∙ ap (λ (s : Stored). with_accepted s.rows o (c.args.task, c.args.used) c.args.filter) c.self.view_is

@@ -21,7 +21,7 @@ use Rattle.drf_rows.specs.declared.rows.Rows.{Rows}
 use Rattle.drf_sorter.specs.Content.{Content, has_client, with_change, refunded, HoldsAt}
 use Rattle.drf_sorter.specs.Content as sorter
 use Rattle.drf_tables.specs.Ended.{HasEnded}
-use Rattle.drf_tables.specs.declared.holdings.Held.{Held}
+use Rattle.drf_tables.specs.declared.ending.Held.{Held}
 use Rattle.drf_core.specs.Content.{content_of}
 use Rattle.drf_core.specs.Kept.{StandAt}
 use Rattle.drf_core.specs.Registering.{AreKnown, client_paths, without_all}

@@ -1,8 +1,8 @@
 -- Laws of filters.
-use Rattle.std.proofs.Common.{◌≡◌, ◌+◌, ◌<◌, ◌≤◌, ◌&&◌, ℕ, suc, Bool, true, false, filter, inl, inr, refl, List, [], ◌∷◌, ◌++◌, nat_lt, length, get_or, set, ap, ◌∙◌, sym, subst, min, arith, length-append, mod-lt}
+use Rattle.std.proofs.Common.{◌≡◌, ◌+◌, ◌<◌, ◌≤◌, ◌&&◌, ℕ, suc, Bool, true, false, filter, inl, inr, refl, List, [], ◌∷◌, ◌++◌, nat_lt, length, get_or, set, take, ap, ◌∙◌, sym, subst, min, arith, length-append, mod-lt}
 use Rattle.std.proofs.lemmas.Bool.{cases_Bool, and_parts, and_from, lt-ltb, ltb-true}
-use Rattle.std.proofs.lemmas.List.{map-append, length-map, length-set}
-use Rattle.std.proofs.lemmas.List.Elements.{All-filter, All-push}
+use Rattle.std.proofs.lemmas.List.{map-append, length-map, length-set, length-take, take_all}
+use Rattle.std.proofs.lemmas.List.Elements.{All-filter, All-push, All-take}
 use Rattle.std.proofs.lemmas.List.Folds.{Any-from_list_any, list_any-from_Any, list_any_none}
 use Rattle.drf_role.specs.TextLaws.{same_itself, same_from_test}
 use Rattle.drf_role.specs.PathLaws.{same_path_itself, same_path-true}
@@ -100,12 +100,34 @@ left-filter p rows left index is indexed = record {
   or_all = λ same. is ∙ filter_as_many p rows (sym (ap length is) ∙ same);
 }
 
+pub left-take : (n : ℕ) (rows left : List FilterRow) (index : Index) → left ≡ take n rows → IsIndexed rows index → IsLeft left index
+left-take n rows left index is indexed =
+    let long : length left ≡ min n (length rows) = ap length is ∙ length-take n rows in
+    record {
+      all = rows;
+      indexed = indexed;
+      at_most = omega (arith, long);
+      or_all = λ same. is ∙ take_all n rows (omega (arith, long, same));
+    }
+
+kept-left : (left shown : List FilterRow) (after : Index) (soonest : ℕ)
+    → shown ≡ left → NoneEndsBefore soonest left → IsIndexed shown after → IsKept left after soonest
+kept-left left shown after soonest is_shown none indexed = record {
+  indexed = subst (λ (fs : List FilterRow). IsIndexed fs after) is_shown indexed;
+  none_before = none;
+}
+
 pub kept-filter : (p : FilterRow → Bool) (rows left shown : List FilterRow) (index after : Index) (soonest : ℕ)
     → left ≡ filter p rows → shown ≡ left → IsKept rows index soonest → IsIndexed shown after → IsKept left after soonest
-kept-filter p rows left shown index after soonest is is_shown kept indexed = record {
-  indexed = subst (λ (fs : List FilterRow). IsIndexed fs after) is_shown indexed;
-  none_before = subst (λ (fs : List FilterRow). NoneEndsBefore soonest fs) (sym is) (All-filter p (λ f. soonest ≤ f.until) rows kept.none_before);
-}
+kept-filter p rows left shown index after soonest is is_shown kept =
+    kept-left left shown after soonest is_shown
+    (subst (λ (fs : List FilterRow). NoneEndsBefore soonest fs) (sym is) (All-filter p (λ f. soonest ≤ f.until) rows kept.none_before))
+
+pub kept-take : (n : ℕ) (rows left shown : List FilterRow) (index after : Index) (soonest : ℕ)
+    → left ≡ take n rows → shown ≡ left → IsKept rows index soonest → IsIndexed shown after → IsKept left after soonest
+kept-take n rows left shown index after soonest is is_shown kept =
+    kept-left left shown after soonest is_shown
+    (subst (λ (fs : List FilterRow). NoneEndsBefore soonest fs) (sym is) (All-take (λ f. soonest ≤ f.until) n rows kept.none_before))
 
 -- before the first end all are in force
 pub all_in_force : (now soonest : ℕ) (rows : List FilterRow) → now < soonest → NoneEndsBefore soonest rows → in_force now rows ≡ rows

@@ -1,5 +1,5 @@
 //! The filters of declined offers, and of what is left of accepted ones.
-ghost use Rattle.std.specs.Prelude.{◌≡◌, [], ◌∷◌, ◌++◌, length, IfOk, OnOk, OnErr};
+ghost use Rattle.std.specs.Prelude.{◌≡◌, [], ◌∷◌, ◌++◌, length, take, IfOk, OnOk, OnErr};
 ghost use Rattle.drf_rows.specs.Filters.{is_held_back, in_force, number_in_force, filters_without_client, filters_without_agent, filters_without_framework};
 
 use crate::index::Index;
@@ -70,6 +70,14 @@ impl FilterTable {
         self.soonest = self.soonest.min(row.until);
         self.rows.push_reserved(row);
         Ok(())
+    }
+
+    /// Keeps the first filters, as many as `number`.
+    pub fn truncate(&mut self, number: usize)
+        ensures { self.new ≡ take number self.old }
+    {
+        self.rows.truncate(number);
+        self.index.rebuild_if_less(&self.rows);
     }
 
     /// Whether a filter of the client on the agent that is in force at `now`, in milliseconds, covers the bundle. Looks at

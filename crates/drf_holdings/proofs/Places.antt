@@ -1,17 +1,22 @@
 -- Where things with rising numbers stand.
-use Rattle.std.specs.Prelude.{◌≡◌, ℕ, ◌==◌, ◌<◌, ◌≤◌, true, false, List, [], ◌∷◌, ◌++◌, length, map, take, drop, slice_get, slice_index_or, Some, nat_lt}
+use Rattle.std.specs.Prelude.{◌≡◌, ℕ, ◌==◌, ◌<◌, ◌≤◌, Bool, true, false, not, List, [], ◌∷◌, ◌++◌, length, map, filter, cond, take, drop, remove, slice_get, slice_index_or, Some, Ok, Err, nat_lt}
 use Rattle.std.specs.List.{list_any, AllByRecursion}
-use Rattle.std.specs.List.Sorted.{IsNonDecreasingBy, IsPartitionPoint}
-use Rattle.std.proofs.Common.{refl, subst, zero, suc, arith}
-use Rattle.std.proofs.lemmas.Bool.{ltb-true, ltb-false, ne_eqb, or_parts}
-use Rattle.drf_rows.specs.ListLaws.{any_fails}
+use Rattle.std.specs.Ordering.{nat_cmp}
+use Rattle.std.specs.List.Sorted.{IsNonDecreasingBy, IsPartitionPoint, IsBinarySearchResult}
+use Rattle.std.proofs.Common.{refl, sym, ap, ◌∙◌, subst, zero, suc, inl, inr, get_or, arith}
+use Rattle.std.proofs.lemmas.Bool.{ltb-true, ltb-false, eq-eqb, ne_eqb, or_parts, cases_lt}
+use Rattle.std.proofs.lemmas.List.{map-id, get_or_default}
+use Rattle.std.proofs.lemmas.List.Sorted.{searched}
+use Rattle.std.proofs.lemmas.Option.{slice_get_read}
+use Rattle.drf_rows.specs.EndingLaws.{filter-none, split_at}
+use Rattle.drf_rows.specs.ListLaws.{any_fails, filter_only}
 use Rattle.drf_holdings.specs.Rising.{IsRising, AreOthers}
 
 module _ {X : Type 0} (number : X → ℕ) where
   pub less_other : (m n : ℕ) → m < n → (m == n) ≡ false
   less_other m n less = ne_eqb m n (λ same. omega (arith, less, same))
 
-  more_other : (m n : ℕ) → n < m → (m == n) ≡ false
+  pub more_other : (m n : ℕ) → n < m → (m == n) ≡ false
   more_other m n more = ne_eqb m n (λ same. omega (arith, more, same))
 
   above_others : (n m : ℕ) (xs : List X) → n ≤ m → AllByRecursion (λ k. m < k) (map number xs) → AreOthers number n xs
@@ -91,6 +96,32 @@ module _ {X : Type 0} (number : X → ℕ) where
       let more = others_split xs ys x rising.1 in
       ((less_other (number z) (number x) (above_last (number z) xs ys x rising.0), more.0), more.1)
 
+  -- those of a rising list that pass a test rise, and those in front
+  above_some : (p : X → Bool) (m : ℕ) (xs : List X) → AllByRecursion (λ k. m < k) (map number xs) → AllByRecursion (λ k. m < k) (map number (filter p xs))
+  above_some p m [] above = tt
+  above_some p m (x ∷ xs) above = by (p x) (above_some p m xs above.1)
+    where
+      by : (b : Bool) → AllByRecursion (λ k. m < k) (map number (filter p xs)) → AllByRecursion (λ k. m < k) (map number (cond b (x ∷ filter p xs) (filter p xs)))
+      by true more = (above.0, more)
+      by false more = more
+
+  pub rising_some : (p : X → Bool) (xs : List X) → IsRising (map number xs) → IsRising (map number (filter p xs))
+  rising_some p [] rising = tt
+  rising_some p (x ∷ xs) rising = by (p x) (above_some p (number x) xs rising.0) (rising_some p xs rising.1)
+    where
+      by : (b : Bool) → AllByRecursion (λ k. number x < k) (map number (filter p xs)) → IsRising (map number (filter p xs))
+          → IsRising (map number (cond b (x ∷ filter p xs) (filter p xs)))
+      by true above more = (above, more)
+      by false above more = more
+
+  above_front : (m : ℕ) (xs ys : List X) → AllByRecursion (λ k. m < k) (map number (xs ++ ys)) → AllByRecursion (λ k. m < k) (map number xs)
+  above_front m [] ys above = tt
+  above_front m (x ∷ xs) ys above = (above.0, above_front m xs ys above.1)
+
+  pub rising_front : (xs ys : List X) → IsRising (map number (xs ++ ys)) → IsRising (map number xs)
+  rising_front [] ys rising = tt
+  rising_front (x ∷ xs) ys rising = (above_front (number x) xs ys rising.0, rising_front xs ys rising.1)
+
   pub any_others : (n : ℕ) (xs : List X) → AreOthers number n xs → list_any (λ x. number x == n) xs ≡ false
   any_others n xs others = any_fails (λ x. number x == n) xs others
 
@@ -112,3 +143,34 @@ module _ {X : Type 0} (number : X → ℕ) where
   pub below_in : (xs : List X) (x : X) (m n : ℕ) → AllByRecursion (λ y. number y < m) xs → number x < n → m ≤ n → AllByRecursion (λ y. number y < n) (xs ++ x ∷ [])
   below_in [] x m n below less le = (less, tt)
   below_in (y ∷ ys) x m n below less le = (omega (arith, below.0, le), below_in ys x m n below.1 less le)
+
+-- ---- a number among numbers that rise
+
+rising_each : (ns : List ℕ) → IsRising ns → IsRising (map (λ n. n) ns)
+rising_each ns rising = subst IsRising (sym (map-id ns)) rising
+
+others_each : (n : ℕ) (ns : List ℕ) → ((k : ℕ) → k < length ns → (get_or ns k 0 == n) ≡ false) → AreOthers (λ m. m) n ns
+others_each n [] each = tt
+others_each n (m ∷ ns) each = (each 0 (omega arith), others_each n ns (λ k below. each (suc k) (omega (arith, below))))
+
+-- where a search finds it, it is taken out
+pub found_out : (ns left : List ℕ) (n i : ℕ) → IsBinarySearchResult (λ m. nat_cmp m n) ns (Ok i) → left ≡ remove ns i
+    → IsRising ns → left ≡ filter (λ m. not (m == n)) ns
+found_out ns left n i search removed rising =
+    let found = searched ns n (Ok i) search (λ i j le below. rising_by (λ m. m) ns (rising_each ns rising) i j 0 le below) in
+    let at : slice_get ns i ≡ Some n = slice_get_read ns (length ns) i n refl found.0 (sym found.1 ∙ get_or_default ns i 0 n found.0) in
+    let others = others_at (λ m. m) ns i n (rising_each ns rising) at in
+    removed ∙ sym (
+    ap (filter (λ m. not (m == n))) (split_at ns i n at)
+    ∙ filter_only (λ m. m == n) (take i ns) (drop (suc i) ns) n others.0 (eq-eqb n n refl) others.1
+    )
+
+-- and where it finds none, there is none
+pub missing_out : (ns : List ℕ) (n i : ℕ) → IsBinarySearchResult (λ m. nat_cmp m n) ns (Err i)
+    → IsRising ns → ns ≡ filter (λ m. not (m == n)) ns
+missing_out ns n i search rising =
+    let none = searched ns n (Err i) search (λ i j le below. rising_by (λ m. m) ns (rising_each ns rising) i j 0 le below) in
+    sym (filter-none (λ m. m == n) ns (others_each n ns (λ k below. elim (cases_lt k i) [
+      | inl before ↦ less_other (λ (m : ℕ). m) (get_or ns k 0) n (none.1 k before)
+      | inr behind ↦ more_other (λ (m : ℕ). m) (get_or ns k 0) n (none.2 k behind below)
+    ])))

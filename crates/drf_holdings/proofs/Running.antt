@@ -11,9 +11,9 @@ use Rattle.drf_rows.specs.declared.rows.TaskRow.{TaskRow}
 use Rattle.drf_holdings.specs.Listed.{task_serial, task_row, task_of, task_named, AreTasksListed, AreTasksKept}
 use Rattle.drf_holdings.specs.declared.tasks.Task.{Task}
 use Rattle.drf_holdings.specs.declared.tasks.TaskIndex.{TaskIndex}
-use Rattle.drf_holdings.specs.Rising.{IsRising, AreOthers}
+use Rattle.drf_holdings.specs.Rising.{IsRising}
 use Rattle.drf_holdings.specs.Taking.{IsTaken, HasNone}
-use Rattle.drf_holdings.proofs.Places.{rising_out, others_split}
+use Rattle.drf_holdings.proofs.Places.{rising_out}
 use Rattle.drf_holdings.proofs.Removed.{taken_by, rows_none, rows_taken}
 
 pub row_holdings : (tasks : List Task) → map (λ t. of_task t.row) tasks ≡ map of_task (map task_row tasks)
@@ -53,14 +53,13 @@ module _ (tasks new : List Task) (rows : List TaskRow) (view : map task_row task
 -- one task is taken out of those that are kept
 pub kept_out : (index left : TaskIndex) (tasks new : List Task) (next n : ℕ) (t : Task)
     → IsTaken (λ t. t.serial == n) tasks new t
-    → ((before after : List Task) → AreOthers task_serial t.serial before → AreOthers task_serial t.serial after
+    → ((before after : List Task) → IsRising (map task_serial (before ++ t ∷ after))
     → AreTasksListed index (before ++ t ∷ after) → AreTasksListed left (before ++ after))
     → AreTasksKept index tasks next → AreTasksKept left new next
 kept_out index left tasks new next n t out removed kept =
     let whole : AreTasksKept index (out.before ++ t ∷ out.after) next = subst (λ (ts : List Task). AreTasksKept index ts next) out.whole kept in
-    let others = others_split task_serial out.before out.after t whole.rising in
     subst (λ (ts : List Task). AreTasksKept left ts next) (sym out.left) (record {
       rising = rising_out task_serial out.before out.after t whole.rising;
       below = each-out (λ (s : Task). s.serial < next) out.before out.after t whole.below;
-      listed = removed out.before out.after others.0 others.1 whole.listed;
+      listed = removed out.before out.after whole.rising whole.listed;
     })

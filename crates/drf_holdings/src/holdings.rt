@@ -68,11 +68,11 @@ pub struct Holdings {
 }
 
 impl Model for Holdings {
-    ghost use Rattle.drf_holdings.specs.Stored.{Held, held_code};
+    ghost use Rattle.drf_holdings.specs.Stored.{Standing, standing_code};
 
-    ghost Value = { Held };
+    ghost Value = { Standing };
 
-    ghost coded = { held_code };
+    ghost coded = { standing_code };
 
     ghost view = { λ h. record { offers = h.offers; tasks = h.tasks } };
 }
@@ -157,12 +157,12 @@ impl Holdings {
         self.offers.append(offers)
     }
 
-    /// An offer becomes a task with a part of it. An `Err` changes nothing.
-    pub fn start(&mut self, number: u64, name: Name, used: Bundle) -> Result<(), AllocError>
+    /// An offer becomes a task with a part of it. Gives the offer that it was. An `Err` changes nothing.
+    pub fn start(&mut self, number: u64, name: Name, used: Bundle) -> Result<OfferRow, AllocError>
         requires there { list_any (λ o. o.number == number) self.old.offers ≡ true }
         requires new { (o : OfferRow) → find (λ p. p.number == number) self.old.offers ≡ Some o
             → list_any (is_task o.framework name) self.old.tasks ≡ false }
-        ensures ok { OnOk result (HasStarted number (name, used) self.old self.new) }
+        ensures ok { IfOk result (HasStarted number (name, used) self.old self.new) }
         ensures err { OnErr result (self.new ≡ self.old) }
     {
         let offer = self.offers.get(number).unwrap();
@@ -174,7 +174,6 @@ impl Holdings {
             bundle: used,
         };
         self.tasks.push(task)?;
-        let _offer = self.offers.take(number);
-        Ok(())
+        Ok(self.offers.take(number).unwrap())
     }
 }

@@ -2,10 +2,20 @@
 ghost use Rattle.std.specs.Prelude.{◌≡◌, [], ◌∷◌, ◌++◌, cond, not, filter, ◌==◌, OnOk, OnErr};
 ghost use Rattle.drf_role.specs.Text.{Text, same_text};
 ghost use Rattle.drf_holdings.specs.Listed.{numbers_in};
+ghost use Rattle.drf_holdings.specs.Rising.{IsRising};
 
 use drf_role::Name;
 use indexmap::IndexMap;
 use std::alloc::{AllocError, Global};
+
+/// Takes a number out of numbers that rise.
+fn take_out(numbers: &mut Vec<u64>, number: u64)
+    ensures { IsRising numbers.old.items → numbers.new.items ≡ filter (λ m. not (m == number)) numbers.old.items }
+{
+    if let Ok(place) = numbers.binary_search(&number) {
+        numbers.remove(place);
+    }
+}
 
 /// Lists of numbers, by name. A name has a list while there is a number in it.
 #[derive(Drop)]
@@ -48,15 +58,15 @@ impl Index {
         Ok(())
     }
 
-    /// Takes a number out of those of a name. It needs no memory.
+    /// Takes a number out of those of a name, which rise. It needs no memory.
     pub(crate) fn remove(&mut self, name: &Name, number: u64)
-        ensures { (n : Text) → numbers_in self.new n
+        ensures { IsRising (numbers_in self.old name.now) → (n : Text) → numbers_in self.new n
             ≡ cond (same_text name.now n) (filter (λ m. not (m == number)) (numbers_in self.old n)) (numbers_in self.old n) }
     {
         let Some(numbers) = self.lists.get_mut(name) else {
             return;
         };
-        numbers.retain(|listed| *listed != number);
+        take_out(numbers, number);
         if numbers.is_empty() {
             self.lists.swap_remove(name);
         }

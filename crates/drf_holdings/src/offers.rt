@@ -36,7 +36,7 @@ impl OfferIndex {
     /// Adds an offer behind those that are there. An `Err` changes nothing.
     fn add(&mut self, offer: &OfferRow) -> Result<(), AllocError>
         ensures ok { OnOk result ((offers : List OfferRow) → AreOffersListed self.old offers → AreOffersListed self.new (offers ++ offer.now ∷ [])) }
-        ensures err { OnErr result ((offers : List OfferRow) → AreOthers offer_number offer.now.number offers
+        ensures err { OnErr result ((offers : List OfferRow) → IsRising (map offer_number (offers ++ offer.now ∷ []))
             → AreOffersListed self.old offers → AreOffersListed self.new offers) }
     {
         self.agents.add(&offer.agent, offer.number)?;
@@ -51,7 +51,7 @@ impl OfferIndex {
 
     /// Takes an offer out.
     fn remove(&mut self, offer: &OfferRow)
-        ensures { (before after : List OfferRow) → AreOthers offer_number offer.now.number before → AreOthers offer_number offer.now.number after
+        ensures { (before after : List OfferRow) → IsRising (map offer_number (before ++ offer.now ∷ after))
             → AreOffersListed self.old (before ++ offer.now ∷ after) → AreOffersListed self.new (before ++ after) }
     {
         self.agents.remove(&offer.agent, offer.number);

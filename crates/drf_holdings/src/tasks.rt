@@ -63,7 +63,7 @@ impl TaskIndex {
 
     /// Takes a task out.
     fn remove(&mut self, task: &Task)
-        ensures { (before after : List Task) → AreOthers task_serial task.now.serial before → AreOthers task_serial task.now.serial after
+        ensures { (before after : List Task) → IsRising (map task_serial (before ++ task.now ∷ after))
             → AreTasksListed self.old (before ++ task.now ∷ after) → AreTasksListed self.new (before ++ after) }
     {
         self.agents.remove(&task.row.agent, task.serial);

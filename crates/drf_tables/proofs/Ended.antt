@@ -19,13 +19,13 @@ use Rattle.drf_rows.specs.declared.rows.FilterRow.{FilterRow}
 use Rattle.drf_rows.specs.declared.rows.OfferRow.{OfferRow}
 use Rattle.drf_rows.specs.declared.rows.TaskRow.{TaskRow}
 use Rattle.drf_rows.specs.declared.rows.Rows.{Rows}
+use Rattle.drf_holdings.specs.Taking.{IsTaken}
+use Rattle.drf_holdings.specs.Stored.{Standing, HasLostOffer, HasLostTask, HasLostNone, HasStarted, holding_of}
+use Rattle.drf_holdings.specs.declared.holdings.Taken.{Taken}
 use Rattle.drf_tables.specs.Changing.{changed, forgotten}
 use Rattle.drf_tables.specs.Ended.{left_to_end, HasEnded, with_accepted}
 use Rattle.drf_tables.specs.Inside.{agent_row, rows_of, rows_in, IsKnown, IsKept}
-use Rattle.drf_tables.specs.Taking.{HasLostOffer, HasLostTask, HasLostNone, HasStarted, holding_of}
-use Rattle.drf_tables.specs.declared.holdings.Held.{Held}
-use Rattle.drf_tables.specs.declared.holdings.Holdings.{Holdings}
-use Rattle.drf_tables.specs.declared.holdings.Taken.{Taken}
+use Rattle.drf_tables.specs.declared.ending.Held.{Held}
 use Rattle.drf_tables.specs.declared.tables.Agent.{Agent}
 use Rattle.drf_tables.specs.declared.tables.Tables.TheInside.{Inside}
 use Rattle.drf_tables.proofs.Known.{known-forgotten, rows-forgotten}
@@ -40,10 +40,10 @@ pub record IsWithoutOne (old new : Rows) (ending : Ending) (h : Holding) : Type 
   pub fewer : left_to_end old ending ≡ left_to_end new ending + 1
 
 -- the rows with other holdings
-abbrev pub rows_with : Inside → Holdings → Rows
+abbrev pub rows_with : Inside → Standing → Rows
 rows_with t held = rows_of t.agents.entries t.frameworks.entries held t.filters t.weights.entries t.clock t.next_offer t.accepted
 
-module _ (t : Inside) (held : Holdings) (ending : Ending) (taken : Taken) (consistent : IsConsistent (rows_in t)) where
+module _ (t : Inside) (held : Standing) (ending : Ending) (taken : Taken) (consistent : IsConsistent (rows_in t)) where
   lost_offer : HasLostOffer ending t.holdings held taken → IsWithoutOne (rows_in t) (rows_with t held) ending (holding_of taken)
   unfolding rows_of
   lost_offer lost =
@@ -112,7 +112,7 @@ ended_from old new ending h held consistent one path bundle = record {
 
 -- ---- nothing ends
 
-module _ (t : Inside) (held : Holdings) (ending : Ending) (lost : HasLostNone ending t.holdings held) where
+module _ (t : Inside) (held : Standing) (ending : Ending) (lost : HasLostNone ending t.holdings held) where
   pub rows-none : rows_with t held ≡ rows_in t
   unfolding rows_of
   rows-none = λ i. record (rows_in t) { offers = lost.offers.same i; tasks = lost.tasks.same i }
@@ -144,41 +144,47 @@ each_filter : (P : FilterRow → Type 0) (refused : Option FilterRow) → ((f : 
 each_filter P None right = tt
 each_filter P (Some f) right = (right f refl, tt)
 
-module _ (t : Inside) (entries : List (Text × Agent)) (before held : Holdings) (filters : List FilterRow) (number : ℕ) (task : Text)
-    (used : List Resource) (refused : Option FilterRow) (o : OfferRow)
+-- the offer that was taken out is the one that was found
+pub started-found : (rows : Rows) (number : ℕ) (left : List OfferRow) (o x : OfferRow) → IsConsistent rows
+    → offer_at rows number ≡ Some o → IsTaken (λ o. o.number == number) rows.offers left x → x ≡ o
+started-found rows number left o x consistent found took =
+    let numbered : x.number ≡ number = eqb-true x.number number took.passes in
+    let rising = sym (ap (λ (os : List OfferRow). are_rising (map (λ o. o.number) os) rows.next_offer) took.whole) ∙ consistent.numbered in
+    let others : AllByRecursion (λ p. (p.number == number) ≡ false) (took.before ++ took.after) =
+    subst (λ (n : ℕ). AllByRecursion (λ p. (p.number == n) ≡ false) (took.before ++ took.after)) numbered
+    (others_of_number took.before took.after x rows.next_offer rising) in
+    let one : find (λ p. p.number == number) rows.offers ≡ Some x =
+    ap (find (λ (p : OfferRow). p.number == number)) took.whole
+    ∙ find-one (λ (p : OfferRow). p.number == number) took.before took.after x others took.passes in
+    let both : ◌≡◌ {A = Option OfferRow} (Some x) (Some o) = sym one ∙ found in
+    cc
+
+module _ (t : Inside) (entries : List (Text × Agent)) (held : Standing) (filters : List FilterRow) (number : ℕ) (task : Text)
+    (used : List Resource) (refused : Option FilterRow) (o x : OfferRow)
     (kept : IsKept (rows_in t) t.agents.entries t.total t.clients)
-    (offers : before.offers.items ≡ t.holdings.offers.items) (tasks : before.tasks.items ≡ t.holdings.tasks.items)
     (found : offer_at (rows_in t) number ≡ Some o)
-    (forgot : entries ≡ map (changed o.agent forgotten) t.agents.entries)
-    (started : HasStarted number (task, used) before held)
+    (started : HasStarted number (task, used) t.holdings held x)
+    (forgot : entries ≡ map (changed x.agent forgotten) t.agents.entries)
     (added : filters ≡ t.filters ++ option_map_or (λ f. f ∷ []) refused []) where
   -- the rows with all that changed
   abbrev pub rows_accepted : Rows
   rows_accepted = rows_of entries t.frameworks.entries held filters t.weights.entries t.clock t.next_offer t.accepted
 
+  same_offer : x ≡ o
+  unfolding rows_of
+  same_offer = started-found (rows_in t) number held.offers o x kept.consistent found started.taken
+
   pub accepted-rows : rows_accepted ≡ with_accepted (rows_in t) o (task, used) refused
   unfolding rows_of
   accepted-rows =
-      let x : OfferRow = started.offer in
       let took = started.taken in
-      let stands : (rows_in t).offers ≡ took.before ++ x ∷ took.after = sym offers ∙ took.whole in
-      let numbered : x.number ≡ number = eqb-true x.number number took.passes in
-      let rising = sym (ap (λ (os : List OfferRow). are_rising (map (λ o. o.number) os) t.next_offer) stands) ∙ kept.consistent.numbered in
-      let others : AllByRecursion (λ p. (p.number == number) ≡ false) (took.before ++ took.after) =
-      subst (λ (n : ℕ). AllByRecursion (λ p. (p.number == n) ≡ false) (took.before ++ took.after)) numbered
-      (others_of_number took.before took.after x t.next_offer rising) in
-      let one : find (λ p. p.number == number) (rows_in t).offers ≡ Some x =
-      ap (find (λ (p : OfferRow). p.number == number)) stands
-      ∙ find-one (λ (p : OfferRow). p.number == number) took.before took.after x others took.passes in
-      let both : ◌≡◌ {A = Option OfferRow} (Some x) (Some o) = sym one ∙ found in
-      let same : x ≡ o = cc in
-      let left : held.offers.items ≡ filter (λ p. not (p.number == o.number)) (rows_in t).offers =
-      took.left ∙ sym (without_offer-place (rows_in t) took.before took.after x kept.consistent stands)
-      ∙ ap (λ (y : OfferRow). filter (λ p. not (p.number == y.number)) (rows_in t).offers) same in
-      let runs : held.tasks.items ≡ (rows_in t).tasks ++ task_of o (task, used) ∷ [] =
-      started.started ∙ (λ i. tasks i ++ task_of (same i) (task, used) ∷ []) in
+      let left : held.offers ≡ filter (λ p. not (p.number == o.number)) (rows_in t).offers =
+      took.left ∙ sym (without_offer-place (rows_in t) took.before took.after x kept.consistent took.whole)
+      ∙ ap (λ (y : OfferRow). filter (λ p. not (p.number == y.number)) (rows_in t).offers) same_offer in
+      let runs : held.tasks ≡ (rows_in t).tasks ++ task_of o (task, used) ∷ [] =
+      started.started ∙ (λ i. (rows_in t).tasks ++ task_of (same_offer i) (task, used) ∷ []) in
       let agents : map agent_row entries ≡ map agent_row t.agents.entries =
-      ap (map agent_row) forgot ∙ rows-forgotten o.agent t.agents.entries in
+      ap (map agent_row) forgot ∙ rows-forgotten x.agent t.agents.entries in
       λ i. record (rows_in t) { agents = agents i; offers = left i; tasks = runs i; filters = added i }
 
   pub accepted-kept : IsBundle used → covers o.bundle used ≡ true → has_task (rows_in t) o.framework task ≡ false
@@ -188,7 +194,8 @@ module _ (t : Inside) (entries : List (Text × Agent)) (before held : Holdings) 
       let rows : Rows = with_accepted (rows_in t) o (task, used) refused in
       let more : List FilterRow = option_map_or (λ f. f ∷ []) refused [] in
       let known : AllByRecursion (IsKnown (holdings_of rows)) entries =
-      subst (λ (es : List (Text × Agent)). AllByRecursion (IsKnown (holdings_of rows)) es) (sym forgot)
+      subst (λ (es : List (Text × Agent)). AllByRecursion (IsKnown (holdings_of rows)) es)
+      (sym (forgot ∙ (λ i. map (changed (same_offer i).agent forgotten) t.agents.entries)))
       (known-forgotten (holdings_of (rows_in t)) (holdings_of rows) o.agent
       (parts_on-accepted (rows_in t) number o task used more kept.consistent found) t.agents.entries kept.free) in
       subst (λ (r : Rows). IsKept r entries t.total t.clients) (sym accepted-rows) (record {
@@ -201,7 +208,7 @@ module _ (t : Inside) (entries : List (Text × Agent)) (before held : Holdings) 
 
 -- ---- as the fields stand
 
-module _ (t : Inside) (entries : List (Text × Agent)) (held : Holdings) (ending : Ending) (taken : Taken)
+module _ (t : Inside) (entries : List (Text × Agent)) (held : Standing) (ending : Ending) (taken : Taken)
     (kept : IsKept (rows_in t) t.agents.entries t.total t.clients)
     (forgot : entries ≡ map (changed taken.agent forgotten) t.agents.entries)
     (lost : HasLostOffer ending t.holdings held taken ⊎ HasLostTask ending t.holdings held taken) where

@@ -1,6 +1,5 @@
 pub mod Entries
 pub mod Known
-pub mod Taken
 pub mod Suppressed
 pub mod Ended
 pub mod Changes

@@ -3,7 +3,7 @@ use Rattle.std.specs.Prelude.{◌≡◌, ℕ, ◌+◌, Bool, true, false, [], �
 use Rattle.std.specs.Option.{option_map_or}
 use Rattle.drf_role.specs.Text.{Text}
 use Rattle.drf_rows.specs.Client.{path_of}
-use Rattle.drf_rows.specs.Endings.{Ending, one_offer, one_task, offers_on, all_on, all_of, ends_offer, ends_task, without_ended}
+use Rattle.drf_rows.specs.Endings.{Ending, one_offer, ends_offer, ends_task, without_ended}
 use Rattle.drf_rows.specs.Held.{is_registered}
 use Rattle.drf_rows.specs.Holdings.{Holding, holdings_of, held_where, amount_in}
 use Rattle.drf_bundle.specs.Bundle.{covers}
@@ -12,17 +12,7 @@ use Rattle.drf_rows.specs.Consistent.{IsFilter}
 use Rattle.drf_rows.specs.declared.rows.FilterRow.{FilterRow}
 use Rattle.drf_rows.specs.declared.rows.OfferRow.{OfferRow}
 use Rattle.drf_rows.specs.declared.rows.Rows.{Rows}
-use Rattle.drf_tables.specs.declared.holdings.Ending as told
-use Rattle.drf_tables.specs.declared.holdings.Ending.TheVariants.{Offer, Task, OffersOn, AllOn, AllOf}
-use Rattle.drf_tables.specs.declared.holdings.Held.{Held}
-
--- what ends, as the definition says it
-abbrev pub ending_of : told.Ending → Ending
-ending_of (Offer number) = one_offer number
-ending_of (Task framework name) = one_task framework.now name.now
-ending_of (OffersOn agent) = offers_on agent.now
-ending_of (AllOn agent) = all_on agent.now
-ending_of (AllOf framework) = all_of framework.now
+use Rattle.drf_tables.specs.declared.ending.Held.{Held}
 
 -- how many holdings an ending would end
 abbrev pub left_to_end : Rows → Ending → ℕ

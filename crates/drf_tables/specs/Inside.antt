@@ -16,7 +16,7 @@ use Rattle.drf_rows.specs.declared.rows.Rows.{Rows}
 use Rattle.drf_bundle.specs.Taken.{rest_of_all}
 use Rattle.drf_rows.specs.Holdings.{Holding, holdings_of, parts_on}
 use Rattle.drf_rows.specs.declared.rows.FilterRow.{FilterRow}
-use Rattle.drf_tables.specs.declared.holdings.Holdings.{Holdings}
+use Rattle.drf_holdings.specs.Stored.{Standing}
 use Rattle.drf_tables.specs.declared.tables.Left.{Left}
 use Rattle.drf_tables.specs.declared.tables.Agent.{Agent}
 use Rattle.drf_tables.specs.declared.tables.Tables.TheInside.{Inside}
@@ -49,12 +49,12 @@ abbrev pub is_settled : List (Text × Agent) → Bool
 is_settled entries = list_all (λ e. is_some e.1.free) entries
 
 unfoldable pub rows_of :
-    List (Text × Agent) → List (Text × Vec ClientRow) → Holdings → List FilterRow → List (Path × ℕ) → ℕ → ℕ → ℕ → Rows
+    List (Text × Agent) → List (Text × Vec ClientRow) → Standing → List FilterRow → List (Path × ℕ) → ℕ → ℕ → ℕ → Rows
 rows_of agents frameworks holdings filters weights clock next_offer accepted = record {
   agents = map agent_row agents;
   frameworks = framework_rows frameworks;
-  offers = holdings.offers.items;
-  tasks = holdings.tasks.items;
+  offers = holdings.offers;
+  tasks = holdings.tasks;
   weights = weight_rows weights;
   limits = [];
   filters = filters;

@@ -1,5 +1,4 @@
 pub mod Drafts
-pub mod Taking
 pub mod Ended
 pub mod Stored
 pub mod Inside

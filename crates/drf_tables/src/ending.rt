@@ -7,17 +7,25 @@ ghost use Rattle.drf_rows.specs.Consistent.{IsConsistent};
 ghost use Rattle.drf_rows.specs.Endings.{without_ended};
 ghost use Rattle.drf_rows.specs.Offers.{offer_at, has_task};
 ghost use Rattle.drf_rows.specs.declared.rows.OfferRow.{OfferRow};
-ghost use Rattle.drf_tables.specs.Ended.{ending_of, HasEnded, CanAccept, with_accepted};
+ghost use Rattle.drf_holdings.specs.Ended.{ending_of};
+ghost use Rattle.drf_tables.specs.Ended.{HasEnded, CanAccept, with_accepted};
 
-use crate::holdings::{Ending, Held};
 use crate::members::forget_free;
 use crate::settling::settle_all;
 use crate::tables::Tables;
 use drf_bundle::Bundle;
 use drf_gates::FilterTable;
+use drf_holdings::Ending;
 use drf_role::{ClientPath, Name};
 use drf_rows::{FilterRow, OfferRow};
 use std::alloc::AllocError;
+
+/// What a client held, and holds no longer.
+#[derive(Drop)]
+pub struct Held {
+    pub client: ClientPath,
+    pub bundle: Bundle,
+}
 
 /// Adds a filter, if there is one. An `Err` changes nothing.
 fn add_if(filters: &mut FilterTable, filter: Option<FilterRow>) -> Result<(), AllocError>
@@ -83,11 +91,17 @@ impl Tables {
     {
         // What this call ensures tells the proof that it is a bundle.
         let _ = used.quantities();
-        self.holdings.tasks.reserve(1)?;
+        let filters = self.filters.len();
         add_if(&mut self.filters, filter)?;
-        let offer = self.holdings.offer(number).unwrap();
-        forget_free(&mut self.agents, &offer.agent);
-        self.holdings.start(number, task, used);
-        Ok(())
+        match self.holdings.start(number, task, used) {
+            Ok(offer) => {
+                forget_free(&mut self.agents, &offer.agent);
+                Ok(())
+            }
+            Err(error) => {
+                self.filters.truncate(filters);
+                Err(error)
+            }
+        }
     }
 }

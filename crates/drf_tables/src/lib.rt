@@ -4,7 +4,6 @@
 
 mod ending;
 mod filtering;
-mod holdings;
 mod leaving;
 mod listing;
 mod members;
@@ -12,5 +11,6 @@ mod offers;
 mod settling;
 mod tables;
 
-pub use holdings::{Ending, Held};
+pub use drf_holdings::Ending;
+pub use ending::Held;
 pub use tables::{Left, Tables};

@@ -1,9 +1,11 @@
 //! The rows, as they are handed out.
 ghost use Rattle.std.specs.Prelude.{◌≡◌, map, IfOk};
+ghost use Rattle.drf_holdings.specs.Listed.{task_row};
 ghost use Rattle.drf_tables.specs.Inside.{agent_row, framework_rows, weight_rows};
 
 use crate::tables::Agent;
 use drf_amount::Algebra;
+use drf_holdings::Task;
 use drf_role::{Name, Role};
 use drf_rows::{AgentRow, ClientRow, FrameworkRow, OfferRow, Table, TaskRow, WeightRow};
 use indexmap::IndexMap;
@@ -72,17 +74,17 @@ pub(crate) fn offer_rows(alloc: Global, offers: &[OfferRow]) -> Result<Table<Off
     Ok(Table::from_vec(rows))
 }
 
-pub(crate) fn task_rows(alloc: Global, tasks: &[TaskRow]) -> Result<Table<TaskRow>, AllocError>
-    ensures { IfOk result (λ rows. rows ≡ tasks.now) }
+pub(crate) fn task_rows(alloc: Global, tasks: &[Task]) -> Result<Table<TaskRow>, AllocError>
+    ensures { IfOk result (λ rows. rows ≡ map task_row tasks.now) }
 {
     let mut rows = Vec::with_capacity(alloc, tasks.len())?;
     for task in tasks {
         rows.push(TaskRow {
-            name: task.name.copy()?,
-            agent: task.agent.copy()?,
-            framework: task.framework.copy()?,
-            role: task.role.copy()?,
-            bundle: task.bundle.copy()?,
+            name: task.row.name.copy()?,
+            agent: task.row.agent.copy()?,
+            framework: task.row.framework.copy()?,
+            role: task.row.role.copy()?,
+            bundle: task.row.bundle.copy()?,
         })?;
     }
     Ok(Table::from_vec(rows))

@@ -1,12 +1,12 @@
 //! What is free on agents, computed where it is not known.
 ghost use Rattle.std.specs.Prelude.{◌≡◌, ◌+◌, ◌<◌, map, length, true, OnOk};
 ghost use Rattle.std.specs.List.{AllByRecursion};
+ghost use Rattle.drf_holdings.specs.Stored.{holdings_in};
 ghost use Rattle.drf_tables.specs.Inside.{agent_row, is_settled, IsKnown};
-ghost use Rattle.drf_tables.specs.Taking.{holdings_in};
 ghost use Rattle.drf_tables.specs.Changing.{are_settled};
 
-use crate::holdings::Holdings;
 use crate::tables::Agent;
+use drf_holdings::Holdings;
 use drf_role::Name;
 use indexmap::IndexMap;
 use std::alloc::AllocError;

@@ -16,12 +16,12 @@ ghost use Rattle.drf_rows.specs.declared.rows.AgentRow.{AgentRow};
 ghost use Rattle.drf_rows.specs.declared.rows.FrameworkRow.{FrameworkRow};
 ghost use Rattle.drf_tables.specs.Drafts.{with_offers, frees_of, frees_after};
 
-use crate::holdings::Holdings;
 use crate::listing::{agent_rows, framework_rows, offer_rows, task_rows, weight_rows};
 use crate::offers::{count_offers, put_lefts};
 use drf_amount::Algebra;
 use drf_bundle::{Bundle, Quantities};
 use drf_gates::FilterTable;
+use drf_holdings::Holdings;
 use drf_role::{Name, Role};
 use drf_rows::{ClientRow, OfferRow, Rows, Table};
 use indexmap::IndexMap;
@@ -87,10 +87,7 @@ impl Tables {
         Tables {
             agents: IndexMap::new(alloc),
             frameworks: IndexMap::new(alloc),
-            holdings: Holdings {
-                offers: Vec::new(alloc),
-                tasks: Vec::new(alloc),
-            },
+            holdings: Holdings::new(alloc),
             filters: FilterTable::new(alloc),
             weights: IndexMap::new(alloc),
             clock: 0,
@@ -288,10 +285,10 @@ impl Tables {
         ensures moved { OnOk result (offers.new.items ≡ []) }
         ensures err { OnErr result ((self.new.rows ≡ self.old.rows) × (offers.new.items ≡ offers.old.items)) }
     {
-        let before = self.holdings.offers.len();
+        let before = self.holdings.offers().len();
         let made = offers.len();
-        self.holdings.offers.append(offers)?;
-        count_offers(&mut self.frameworks, &self.holdings.offers[before..]);
+        self.holdings.append(offers)?;
+        count_offers(&mut self.frameworks, &self.holdings.offers()[before..]);
         put_lefts(&mut self.agents, lefts);
         self.next_offer += made as u64;
         Ok(())
@@ -301,12 +298,12 @@ impl Tables {
     pub fn rows(&self) -> Result<Rows, AllocError>
         ensures { IfOk result (λ rows. rows ≡ live_rows self.now.rows) }
     {
-        let alloc = *self.holdings.offers.allocator();
+        let alloc = *self.agents.allocator();
         Ok(Rows {
             agents: agent_rows(alloc, &self.agents)?,
             frameworks: framework_rows(alloc, &self.frameworks)?,
-            offers: offer_rows(alloc, &self.holdings.offers)?,
-            tasks: task_rows(alloc, &self.holdings.tasks)?,
+            offers: offer_rows(alloc, self.holdings.offers())?,
+            tasks: task_rows(alloc, self.holdings.tasks())?,
             weights: weight_rows(alloc, &self.weights)?,
             limits: Table::from_vec(Vec::new(alloc)),
             filters: self.filters.copy_in_force(self.clock)?,

@@ -2,7 +2,7 @@ use Rattle.std.proofs.Common.{◌≡◌, map, length, true}
 use Rattle.std.specs.List.{AllByRecursion}
 use Rattle.drf_tables.specs.Changing.{are_settled}
 use Rattle.drf_tables.specs.Inside.{agent_row, IsKnown}
-use Rattle.drf_tables.specs.Taking.{holdings_in}
+use Rattle.drf_holdings.specs.Stored.{holdings_in}
 use Rattle.drf_tables.proofs.settling.settle_all.Given as goal
 
 abbrev pub invariant-loop-place : goal.invariant-loop-place

@@ -7,7 +7,7 @@ use Rattle.indexmap.specs.IndexMap.{set_value_at}
 use Rattle.indexmap.specs.Layout.{length-set_value_at}
 use Rattle.drf_role.specs.Text.{Text}
 use Rattle.drf_tables.specs.Inside.{IsKnown}
-use Rattle.drf_tables.specs.Taking.{holdings_in}
+use Rattle.drf_holdings.specs.Stored.{holdings_in}
 use Rattle.drf_tables.specs.declared.tables.Agent.{Agent}
 use Rattle.drf_tables.proofs.Entries.{rows-set_free}
 use Rattle.drf_tables.proofs.Known.{settled-more, settled-set, known-set}

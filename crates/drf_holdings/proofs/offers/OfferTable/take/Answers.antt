@@ -2,7 +2,7 @@ use Rattle.std.proofs.Common.{◌==◌, Some, List, find, map, refl, sym, ap, su
 use Rattle.drf_rows.specs.declared.rows.OfferRow.{OfferRow}
 use Rattle.drf_holdings.specs.Listed.{offer_number, AreOffersListed}
 use Rattle.drf_holdings.specs.Rising.{IsRising, AreOthers, IsAt}
-use Rattle.drf_holdings.proofs.Places.{rising_out, others_split, any_others}
+use Rattle.drf_holdings.proofs.Places.{rising_out, any_others}
 use Rattle.drf_holdings.proofs.Removed.{within_at, taken_at, found_none, found_at, one_at}
 use Rattle.drf_holdings.proofs.offers.OfferTable.take.Goals as goal
 
@@ -28,10 +28,9 @@ invariant_of-self c =
     let out = taken_at offer_number c.args.number rows c.in_ok-place.place at new offer c.remove-offer.ensures.value c.remove-offer.ensures.items in
     let rising = subst (λ (os : List OfferRow). IsRising (map offer_number os)) out.whole c.self.invariant.rising in
     let listed = subst (AreOffersListed c.self.inside.index) out.whole c.self.invariant.listed in
-    let others = others_split offer_number out.before out.after offer rising in
     record {
       rising = subst (λ (os : List OfferRow). IsRising (map offer_number os)) (sym out.left) (rising_out offer_number out.before out.after offer rising);
-      listed = subst (AreOffersListed c.remove.new.self) (sym out.left) (c.remove.ensures out.before out.after others.0 others.1 listed);
+      listed = subst (AreOffersListed c.remove.new.self) (sym out.left) (c.remove.ensures out.before out.after rising listed);
     }
 
 pub returns-clause-taken : goal.returns-clause-taken

@@ -1,8 +1,11 @@
-use Rattle.std.proofs.Common.{◌≡◌, List, true, refl, length, sym, ap, ◌∙◌, subst, arith}
-use Rattle.drf_rows.specs.Consistent.{IsConsistent}
+use Rattle.std.proofs.Common.{◌≡◌, ◌++◌, List, true, map, length, sym, ap, ◌∙◌, subst, arith}
+use Rattle.drf_rows.specs.Consistent.{IsConsistent, are_rising}
 use Rattle.drf_rows.specs.declared.rows.OfferRow.{OfferRow}
+use Rattle.drf_rows.specs.declared.rows.Rows.{Rows}
+use Rattle.drf_holdings.specs.Listed.{offer_number}
+use Rattle.drf_holdings.specs.Rising.{rising_from}
 use Rattle.drf_tables.specs.Counting.{counting_all}
-use Rattle.drf_tables.specs.DraftLaws.{next-with_offers}
+use Rattle.drf_tables.specs.DraftLaws.{next-with_offers, offers-with_offers}
 use Rattle.drf_tables.specs.Drafts.{with_offers, frees_of, frees_after}
 use Rattle.drf_tables.specs.Inside.{rows_of, rows_in, framework_rows, is_settled}
 use Rattle.drf_tables.specs.Stored.{Stored}
@@ -12,14 +15,25 @@ use Rattle.drf_tables.proofs.Fields.{rows_of-offers, agents_in}
 use Rattle.drf_tables.proofs.Kept.{IsKept-with_offers, known-left}
 use Rattle.drf_tables.proofs.tables.Tables.commit.Goals as goal
 
+pub append-requires : goal.append-requires
+unfolding rows_of
+append-requires c =
+    let t = c.self.inside in
+    let offers : List OfferRow = c.args.offers.now.items in
+    let after : Rows = with_offers (rows_in t) offers in
+    let consistent : IsConsistent after =
+    subst (λ (s : Stored). IsConsistent (with_offers s.rows offers)) (sym c.self.view_is) c.requires.consistent in
+    rising_from (map offer_number (t.holdings.offers ++ offers)) after.next_offer
+    (ap (λ (os : List OfferRow). are_rising (map offer_number os) after.next_offer) (sym (offers-with_offers (rows_in t) offers)) ∙ consistent.numbered)
+
 pub count_offers-requires-clause-fits : goal.count_offers-requires-clause-fits
 unfolding rows_of
 count_offers-requires-clause-fits c =
     let t = c.self.inside in
     let offers : List OfferRow = c.args.offers.now.items in
-    let all = c.deref.ensures.value ∙ c.in_ok-append.ensures.items in
-    let before : c.len-before.result ≡ length t.holdings.offers.items = omega (arith, c.len-before.ensures, t.holdings.offers.ok.0) in
-    let made = appended t.holdings.offers.items offers c.deref.result.now c.len-before.result all before in
+    let all = c.offers.ensures ∙ c.in_ok-append.ensures.ok in
+    let before = ap length c.offers-before.ensures in
+    let made = appended t.holdings.offers offers c.offers.result.now (length c.offers-before.result.now) all before in
     let next = next-with_offers (rows_in t) offers in
     let view = ap (λ (s : Stored). (with_offers s.rows offers).next_offer) c.self.view_is in
     let few = c.self.invariant.consistent.counted in
@@ -40,14 +54,14 @@ invariant_of-self-2 c =
     let t = c.self.inside in
     let offers : List OfferRow = c.args.offers.now.items in
     let lefts = c.args.lefts.items in
-    let all = c.deref.ensures.value ∙ c.in_ok-append.ensures.items in
-    let before : c.len-before.result ≡ length t.holdings.offers.items = omega (arith, c.len-before.ensures, t.holdings.offers.ok.0) in
-    let made = appended t.holdings.offers.items offers c.deref.result.now c.len-before.result all before in
+    let all = c.offers.ensures ∙ c.in_ok-append.ensures.ok in
+    let before = ap length c.offers-before.ensures in
+    let made = appended t.holdings.offers offers c.offers.result.now (length c.offers-before.result.now) all before in
     let long : c.len-made.result ≡ length offers = omega (arith, c.len-made.ensures, c.args.offers.now.ok.0) in
     let counted = c.count_offers.ensures ∙ ap (counting_all (framework_rows t.frameworks.entries)) made in
     let rows =
     rows_of-offers t c.put_lefts.new.agents.entries c.count_offers.new.frameworks.entries
-    (record t.holdings { offers = c.append.new.self }) offers c.put_lefts.ensures.rows counted c.in_ok-append.ensures.items refl in
+    c.append.new.self offers c.put_lefts.ensures.rows counted c.in_ok-append.ensures.ok c.append.ensures.tasks in
     let consistent : IsConsistent (with_offers (rows_in t) offers) =
     subst (λ (s : Stored). IsConsistent (with_offers s.rows offers)) (sym c.self.view_is) c.requires.consistent in
     let left : frees_after (frees_of (rows_in t)) lefts ≡ frees_of (with_offers (rows_in t) offers) =
@@ -65,13 +79,13 @@ pub returns-clause-ok : goal.returns-clause-ok
 returns-clause-ok c =
     let t = c.self.inside in
     let offers : List OfferRow = c.args.offers.now.items in
-    let all = c.deref.ensures.value ∙ c.in_ok-append.ensures.items in
-    let before : c.len-before.result ≡ length t.holdings.offers.items = omega (arith, c.len-before.ensures, t.holdings.offers.ok.0) in
-    let made = appended t.holdings.offers.items offers c.deref.result.now c.len-before.result all before in
+    let all = c.offers.ensures ∙ c.in_ok-append.ensures.ok in
+    let before = ap length c.offers-before.ensures in
+    let made = appended t.holdings.offers offers c.offers.result.now (length c.offers-before.result.now) all before in
     let long : c.len-made.result ≡ length offers = omega (arith, c.len-made.ensures, c.args.offers.now.ok.0) in
     let counted = c.count_offers.ensures ∙ ap (counting_all (framework_rows t.frameworks.entries)) made in
     rw long (
     rows_of-offers t c.put_lefts.new.agents.entries c.count_offers.new.frameworks.entries
-    (record t.holdings { offers = c.append.new.self }) offers c.put_lefts.ensures.rows counted c.in_ok-append.ensures.items refl
+    c.append.new.self offers c.put_lefts.ensures.rows counted c.in_ok-append.ensures.ok c.append.ensures.tasks
     )
     ∙ ap (λ (s : Stored). with_offers s.rows offers) c.self.view_is

@@ -1,10 +1,11 @@
 use Rattle.std.proofs.Common.{◌≡◌, Some, None, ap, ◌∙◌, subst, refl}
 use Rattle.drf_rows.specs.Endings.{without_ended}
 use Rattle.drf_rows.specs.declared.rows.Rows.{Rows}
-use Rattle.drf_tables.specs.Ended.{ending_of, HasEnded}
+use Rattle.drf_holdings.specs.Ended.{ending_of}
+use Rattle.drf_tables.specs.Ended.{HasEnded}
 use Rattle.drf_tables.specs.Stored.{Stored}
-use Rattle.drf_tables.specs.Taking.{HasTaken}
-use Rattle.drf_tables.specs.declared.holdings.Held.{Held}
+use Rattle.drf_holdings.specs.Stored.{HasTaken}
+use Rattle.drf_tables.specs.declared.ending.Held.{Held}
 use Rattle.drf_tables.proofs.Ended.{ended-kept, ended-one, rows_ended, rows-none, without-none}
 use Rattle.drf_tables.proofs.tables.Tables.end.Goals as goal
 

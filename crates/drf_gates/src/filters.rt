@@ -9,7 +9,7 @@ use crate::row::{
 };
 use drf_bundle::Bundle;
 use drf_role::{Name, Role};
-use drf_rows::{FilterRow, Table};
+use drf_rows::{Copied, FilterRow, Table};
 use std::alloc::{AllocError, Global};
 use std::marker::Model;
 

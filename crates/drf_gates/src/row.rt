@@ -1,5 +1,5 @@
 //! What is asked of filters one by one, and which of a list are kept.
-ghost use Rattle.std.specs.Prelude.{◌≡◌, IfOk};
+ghost use Rattle.std.specs.Prelude.{◌≡◌};
 ghost use Rattle.drf_bundle.specs.Bundle.{covers};
 ghost use Rattle.drf_gates.specs.Index.{NoneEndsBefore};
 ghost use Rattle.drf_rows.specs.Filters.{is_in_force, is_of_client, holds_back, in_force, filters_without_client, filters_without_agent, filters_without_framework};
@@ -8,7 +8,6 @@ use drf_amount::Algebra;
 use drf_bundle::Bundle;
 use drf_role::{Name, Role};
 use drf_rows::FilterRow;
-use std::alloc::AllocError;
 
 /// Whether the first bundle has all that the second has.
 fn covers(whole: &Bundle, part: &Bundle) -> bool

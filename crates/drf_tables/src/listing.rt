@@ -7,7 +7,7 @@ use crate::tables::Agent;
 use drf_amount::Algebra;
 use drf_holdings::Task;
 use drf_role::{Name, Role};
-use drf_rows::{AgentRow, ClientRow, FrameworkRow, OfferRow, Table, TaskRow, WeightRow};
+use drf_rows::{AgentRow, ClientRow, Copied, FrameworkRow, Table, TaskRow, WeightRow, copy_all};
 use indexmap::IndexMap;
 use std::alloc::{AllocError, Global};
 
@@ -28,20 +28,6 @@ pub(crate) fn agent_rows(
     Ok(Table::from_vec(rows))
 }
 
-fn client_rows(alloc: Global, clients: &[ClientRow]) -> Result<Table<ClientRow>, AllocError>
-    ensures { IfOk result (λ rows. rows ≡ clients.now) }
-{
-    let mut rows = Vec::with_capacity(alloc, clients.len())?;
-    for client in clients {
-        rows.push(ClientRow {
-            role: client.role.copy()?,
-            count: client.count,
-            suppressed: client.suppressed,
-        })?;
-    }
-    Ok(Table::from_vec(rows))
-}
-
 pub(crate) fn framework_rows(
     alloc: Global,
     frameworks: &IndexMap<Name, Vec<ClientRow>>,
@@ -52,23 +38,7 @@ pub(crate) fn framework_rows(
     for (name, clients) in frameworks {
         rows.push(FrameworkRow {
             name: name.copy()?,
-            clients: client_rows(alloc, clients)?,
-        })?;
-    }
-    Ok(Table::from_vec(rows))
-}
-
-pub(crate) fn offer_rows(alloc: Global, offers: &[OfferRow]) -> Result<Table<OfferRow>, AllocError>
-    ensures { IfOk result (λ rows. rows ≡ offers.now) }
-{
-    let mut rows = Vec::with_capacity(alloc, offers.len())?;
-    for offer in offers {
-        rows.push(OfferRow {
-            number: offer.number,
-            agent: offer.agent.copy()?,
-            framework: offer.framework.copy()?,
-            role: offer.role.copy()?,
-            bundle: offer.bundle.copy()?,
+            clients: copy_all(alloc, clients)?,
         })?;
     }
     Ok(Table::from_vec(rows))
@@ -79,13 +49,7 @@ pub(crate) fn task_rows(alloc: Global, tasks: &[Task]) -> Result<Table<TaskRow>,
 {
     let mut rows = Vec::with_capacity(alloc, tasks.len())?;
     for task in tasks {
-        rows.push(TaskRow {
-            name: task.row.name.copy()?,
-            agent: task.row.agent.copy()?,
-            framework: task.row.framework.copy()?,
-            role: task.row.role.copy()?,
-            bundle: task.row.bundle.copy()?,
-        })?;
+        rows.push(task.row.copy()?)?;
     }
     Ok(Table::from_vec(rows))
 }

@@ -16,14 +16,14 @@ ghost use Rattle.drf_rows.specs.declared.rows.AgentRow.{AgentRow};
 ghost use Rattle.drf_rows.specs.declared.rows.FrameworkRow.{FrameworkRow};
 ghost use Rattle.drf_tables.specs.Drafts.{with_offers, frees_of, frees_after};
 
-use crate::listing::{agent_rows, framework_rows, offer_rows, task_rows, weight_rows};
+use crate::listing::{agent_rows, framework_rows, task_rows, weight_rows};
 use crate::offers::{count_offers, put_lefts};
 use drf_amount::Algebra;
 use drf_bundle::{Bundle, Quantities};
 use drf_gates::FilterTable;
 use drf_holdings::Holdings;
 use drf_role::{Name, Role};
-use drf_rows::{ClientRow, OfferRow, Rows, Table};
+use drf_rows::{ClientRow, OfferRow, Rows, Table, copy_all};
 use indexmap::IndexMap;
 use std::alloc::{AllocError, Global};
 use std::marker::Model;
@@ -302,7 +302,7 @@ impl Tables {
         Ok(Rows {
             agents: agent_rows(alloc, &self.agents)?,
             frameworks: framework_rows(alloc, &self.frameworks)?,
-            offers: offer_rows(alloc, self.holdings.offers())?,
+            offers: copy_all(alloc, self.holdings.offers())?,
             tasks: task_rows(alloc, self.holdings.tasks())?,
             weights: weight_rows(alloc, &self.weights)?,
             limits: Table::from_vec(Vec::new(alloc)),

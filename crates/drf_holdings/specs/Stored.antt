@@ -1,5 +1,5 @@
 -- What holdings are to their callers, and what it means that one of them was taken out or became a task.
-use Rattle.std.specs.Prelude.{◌≡◌, ℕ, ◌==◌, ◌⊎◌, List, [], ◌∷◌, ◌++◌, map, Option, Some, None, refl}
+use Rattle.std.specs.Prelude.{◌≡◌, ℕ, ◌==◌, ◌⊎◌, List, [], ◌∷◌, ◌++◌, map, find, Option, Some, None, refl}
 use Rattle.std.specs.Coded.{Coded, code_by, coded×, coded_list}
 use Rattle.drf_rows.specs.Endings.{Ending, ends_offer, ends_task}
 use Rattle.drf_rows.specs.Holdings.{Holding, of_offer, of_task}
@@ -55,5 +55,6 @@ HasTaken ending old new (Some taken) = HasLostOffer ending old new taken ⊎ Has
 
 -- the offer of a number was taken out, and a task with a part of it stands last
 pub record HasStarted (number : ℕ) (start : Start) (old new : Standing) (offer : OfferRow) : Type 0 where
+  pub found : find (λ o. o.number == number) old.offers ≡ Some offer
   pub taken : IsTaken (λ o. o.number == number) old.offers new.offers offer
   pub started : new.tasks ≡ old.tasks ++ task_of offer start ∷ []

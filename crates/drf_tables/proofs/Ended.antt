@@ -3,15 +3,14 @@ use Rattle.std.specs.Prelude.{◌≡◌, ℕ, ◌+◌, ◌==◌, ◌||◌, Bool,
 use Rattle.std.specs.List.{list_any, AllByRecursion}
 use Rattle.std.specs.Option.{option_map_or}
 use Rattle.std.proofs.Common.{refl, sym, ap, ◌∙◌, subst, inl, inr}
-use Rattle.std.proofs.lemmas.Bool.{eqb-true}
 use Rattle.drf_role.specs.Text.{Text}
 use Rattle.drf_bundle.specs.Bundle.{IsBundle, covers}
 use Rattle.drf_bundle.specs.declared.quantities.Entry.{Entry}
 use Rattle.drf_bundle.specs.declared.resource.Resource.{Resource}
 use Rattle.drf_rows.specs.Client.{path_of}
-use Rattle.drf_rows.specs.Consistent.{IsConsistent, IsHeld, IsFilter, are_rising}
+use Rattle.drf_rows.specs.Consistent.{IsConsistent, IsHeld, IsFilter}
 use Rattle.drf_rows.specs.Endings.{Ending, without_ended}
-use Rattle.drf_rows.specs.EndingLaws.{IsOneLess, held_where-one_less, parts_on-one_less, one-one_less, one_less-offer, IsConsistent-offer_out, without_ended-offer, left-offer, one_less-task, IsConsistent-task_out, without_ended-task, left-task, without_ended-none, parts_on-accepted, IsConsistent-accepted, others_of_number, without_offer-place}
+use Rattle.drf_rows.specs.EndingLaws.{IsOneLess, held_where-one_less, parts_on-one_less, one-one_less, one_less-offer, IsConsistent-offer_out, without_ended-offer, left-offer, one_less-task, IsConsistent-task_out, without_ended-task, left-task, without_ended-none, parts_on-accepted, IsConsistent-accepted, without_offer-place}
 use Rattle.drf_rows.specs.Held.{clients_of, cluster_total}
 use Rattle.drf_rows.specs.Holdings.{Holding, of_offer, of_task, holdings_of}
 use Rattle.drf_rows.specs.Offers.{offer_at, has_task, task_of}
@@ -19,7 +18,6 @@ use Rattle.drf_rows.specs.declared.rows.FilterRow.{FilterRow}
 use Rattle.drf_rows.specs.declared.rows.OfferRow.{OfferRow}
 use Rattle.drf_rows.specs.declared.rows.TaskRow.{TaskRow}
 use Rattle.drf_rows.specs.declared.rows.Rows.{Rows}
-use Rattle.drf_holdings.specs.Taking.{IsTaken}
 use Rattle.drf_holdings.specs.Stored.{Standing, HasLostOffer, HasLostTask, HasLostNone, HasStarted, holding_of}
 use Rattle.drf_holdings.specs.declared.holdings.Taken.{Taken}
 use Rattle.drf_tables.specs.Changing.{changed, forgotten}
@@ -123,13 +121,6 @@ module _ (t : Inside) (held : Standing) (ending : Ending) (lost : HasLostNone en
 
 -- ---- an offer is a task
 
--- among others that fail a test one is found
-find-one : {X : Type 0} (p : X → Bool) (before after : List X) (x : X)
-    → AllByRecursion (λ y. p y ≡ false) (before ++ after) → p x ≡ true → find p (before ++ x ∷ after) ≡ Some x
-find-one p [] after x others here = ap (λ (b : Bool). cond b (Some x) (find p after)) here
-find-one p (y ∷ before) after x others here =
-    ap (λ (b : Bool). cond b (Some y) (find p (before ++ x ∷ after))) others.0 ∙ find-one p before after x others.1 here
-
 -- an offer that is found is there
 pub found_any : {X : Type 0} (p : X → Bool) (xs : List X) (x : X) → find p xs ≡ Some x → list_any p xs ≡ true
 found_any p [] x found = cc
@@ -144,21 +135,6 @@ each_filter : (P : FilterRow → Type 0) (refused : Option FilterRow) → ((f : 
 each_filter P None right = tt
 each_filter P (Some f) right = (right f refl, tt)
 
--- the offer that was taken out is the one that was found
-pub started-found : (rows : Rows) (number : ℕ) (left : List OfferRow) (o x : OfferRow) → IsConsistent rows
-    → offer_at rows number ≡ Some o → IsTaken (λ o. o.number == number) rows.offers left x → x ≡ o
-started-found rows number left o x consistent found took =
-    let numbered : x.number ≡ number = eqb-true x.number number took.passes in
-    let rising = sym (ap (λ (os : List OfferRow). are_rising (map (λ o. o.number) os) rows.next_offer) took.whole) ∙ consistent.numbered in
-    let others : AllByRecursion (λ p. (p.number == number) ≡ false) (took.before ++ took.after) =
-    subst (λ (n : ℕ). AllByRecursion (λ p. (p.number == n) ≡ false) (took.before ++ took.after)) numbered
-    (others_of_number took.before took.after x rows.next_offer rising) in
-    let one : find (λ p. p.number == number) rows.offers ≡ Some x =
-    ap (find (λ (p : OfferRow). p.number == number)) took.whole
-    ∙ find-one (λ (p : OfferRow). p.number == number) took.before took.after x others took.passes in
-    let both : ◌≡◌ {A = Option OfferRow} (Some x) (Some o) = sym one ∙ found in
-    cc
-
 module _ (t : Inside) (entries : List (Text × Agent)) (held : Standing) (filters : List FilterRow) (number : ℕ) (task : Text)
     (used : List Resource) (refused : Option FilterRow) (o x : OfferRow)
     (kept : IsKept (rows_in t) t.agents.entries t.total t.clients)
@@ -172,7 +148,9 @@ module _ (t : Inside) (entries : List (Text × Agent)) (held : Standing) (filter
 
   same_offer : x ≡ o
   unfolding rows_of
-  same_offer = started-found (rows_in t) number held.offers o x kept.consistent found started.taken
+  same_offer =
+      let both : ◌≡◌ {A = Option OfferRow} (Some x) (Some o) = sym started.found ∙ found in
+      cc
 
   pub accepted-rows : rows_accepted ≡ with_accepted (rows_in t) o (task, used) refused
   unfolding rows_of

@@ -50,6 +50,7 @@ returns-clause-ok c =
     let its : row c.in_ok-copy.field-0 c.in_ok-copy-2.field-0 c.in_ok-copy-3.field-0 ≡ task_of offer start =
     (λ i. row (c.in_ok-copy.ensures i) (c.in_ok-copy-2.ensures i) (c.in_ok-copy-3.ensures i)) ∙ (λ i. task_of (same i) start) in
     let started : HasStarted c.args.number start old new offer = record {
+      found = sym c.take.ensures.found ∙ c.unwrap.ensures;
       taken = subst (λ (r : Option OfferRow). MatchOption r (HasNone test old.offers new.offers) (IsTaken test old.offers new.offers))
           c.unwrap.ensures c.take.ensures.taken;
       started = c.in_ok-push.ensures.ok ∙ ap (λ (t : TaskRow). old.tasks ++ t ∷ []) its;

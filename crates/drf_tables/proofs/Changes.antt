@@ -25,7 +25,7 @@ use Rattle.drf_tables.specs.declared.tables.Agent.{Agent}
 use Rattle.drf_tables.specs.declared.tables.Tables.TheInside.{Inside}
 use Rattle.drf_tables.proofs.Entries.{names-keys, removed_entry, rows-filter, stays}
 use Rattle.drf_tables.proofs.Kept.{IsKept-same}
-use Rattle.drf_tables.proofs.Known.{rows-activated, known-activated}
+use Rattle.drf_tables.proofs.Known.{rows-with_active, known-with_active}
 
 -- the rows with other agents, frameworks and filters
 abbrev pub rows_but : Inside → List (Text × Agent) → List (Text × Vec ClientRow) → List FilterRow → Rows
@@ -49,12 +49,12 @@ module _ (t : Inside) (kept : IsKept (rows_in t) t.agents.entries t.total t.clie
     pub rows-active : rows_but t entries t.frameworks.entries t.filters ≡ record (rows_in t) { agents = with_activity (rows_in t) name active }
     unfolding rows_of
     rows-active =
-        let read = ap (map agent_row) told ∙ rows-activated name active t.agents.entries in
+        let read = ap (map agent_row) told ∙ rows-with_active name active t.agents.entries in
         λ i. record (rows_in t) { agents = read i }
 
     pub kept-active : IsKept (rows_but t entries t.frameworks.entries t.filters) entries t.total t.clients
     kept-active =
-        let known = known-activated (holdings_of (rows_in t)) name active t.agents.entries kept.free in
+        let known = known-with_active (holdings_of (rows_in t)) name active t.agents.entries kept.free in
         subst (λ (r : Rows). IsKept r entries t.total t.clients) (sym rows-active) (record {
           consistent = IsConsistent-with_activity (rows_in t) name active kept.consistent;
           free = subst (λ (es : List (Text × Agent)). AllByRecursion (IsKnown (holdings_of (rows_in t))) es) (sym told) known;

@@ -21,7 +21,7 @@ use Rattle.drf_rows.specs.declared.rows.Rows.{Rows}
 use Rattle.drf_holdings.specs.Stored.{Standing, HasLostOffer, HasLostTask, HasLostNone, HasStarted, holding_of}
 use Rattle.drf_holdings.specs.declared.holdings.Taken.{Taken}
 use Rattle.drf_tables.specs.Changing.{changed, forgotten}
-use Rattle.drf_tables.specs.Ended.{left_to_end, HasEnded, with_accepted}
+use Rattle.drf_tables.specs.Ended.{left_to_end, IsOfferOut, IsTaskOut, HasEnded, with_accepted}
 use Rattle.drf_tables.specs.Inside.{agent_row, rows_of, rows_in, IsKnown, IsKept}
 use Rattle.drf_tables.specs.declared.ending.Held.{Held}
 use Rattle.drf_tables.specs.declared.tables.Agent.{Agent}
@@ -31,6 +31,7 @@ use Rattle.drf_tables.proofs.Known.{known-forgotten, rows-forgotten}
 -- ---- one holding ends
 
 pub record IsWithoutOne (old new : Rows) (ending : Ending) (h : Holding) : Type 0 where
+  pub taken : IsOfferOut ending old new h ⊎ IsTaskOut ending old new h
   pub others : new ≡ record old { offers = new.offers; tasks = new.tasks }
   pub consistent : IsConsistent new
   pub less : IsOneLess (holdings_of old) (holdings_of new) h
@@ -51,6 +52,7 @@ module _ (t : Inside) (held : Standing) (ending : Ending) (taken : Taken) (consi
       let new : Rows = record (rows_in t) { offers = before ++ after } in
       let rows : new ≡ rows_with t held = λ i. record (rows_in t) { offers = sym lost.taken.left i; tasks = sym lost.same i } in
       let one : IsWithoutOne (rows_in t) new ending (of_offer o) = record {
+        taken = inl (record { offer = o; taken = record { before = before; after = after; whole = lost.taken.whole; left = refl; passes = lost.taken.passes }; same = refl; told = refl });
         others = refl;
         consistent = IsConsistent-offer_out (rows_in t) before after o lost.taken.whole consistent;
         less = one_less-offer (rows_in t) before after o lost.taken.whole;
@@ -68,6 +70,7 @@ module _ (t : Inside) (held : Standing) (ending : Ending) (taken : Taken) (consi
       let new : Rows = record (rows_in t) { tasks = before ++ after } in
       let rows : new ≡ rows_with t held = λ i. record (rows_in t) { tasks = sym lost.taken.left i; offers = sym lost.same i } in
       let one : IsWithoutOne (rows_in t) new ending (of_task x) = record {
+        taken = inr (record { task = x; taken = record { before = before; after = after; whole = lost.taken.whole; left = refl; passes = lost.taken.passes }; same = refl; told = refl });
         others = refl;
         consistent = IsConsistent-task_out (rows_in t) before after x lost.taken.whole consistent;
         less = one_less-task (rows_in t) before after x lost.taken.whole;
@@ -102,6 +105,7 @@ ended_from old new ending h held consistent one path bundle = record {
   path = path;
   bundle = bundle;
   registered = (one-one_less (holdings_of old) (holdings_of new) h one.less (IsHeld old.agents old.frameworks) consistent.holdings).client;
+  taken = one.taken;
   others = one.others;
   later = one.later;
   fewer = one.fewer;

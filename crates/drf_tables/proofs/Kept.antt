@@ -26,7 +26,7 @@ use Rattle.drf_tables.specs.Inside.{agent_row, frees_in, known_after, is_settled
 use Rattle.drf_tables.specs.declared.tables.Agent.{Agent}
 use Rattle.drf_tables.specs.declared.tables.Left.{Left}
 use Rattle.drf_tables.proofs.Counted.{count_clients-counting_all}
-use Rattle.drf_tables.proofs.Known.{frees-settled, known-frees, known_after-some}
+use Rattle.drf_tables.proofs.Known.{frees-settled, settled-frees, known-frees, known_after-some}
 
 -- ---- what is held stays, and so do agents and clients
 
@@ -96,25 +96,29 @@ IsKept-framework_added rows agents sum number f kept new apart none = record {
 
 -- ---- offers
 
--- what a cycle left is known of all agents
-pub known-left : (rows : Rows) (old new : List (Text × Agent)) (offers : List OfferRow) (lefts : List Left)
-    → rows.agents ≡ map agent_row old → map agent_row new ≡ map agent_row old
-    → is_settled old ≡ true → AllByRecursion (IsKnown (holdings_of rows)) old
-    → frees_in new ≡ known_after (frees_in old) lefts
-    → frees_after (frees_of rows) lefts ≡ frees_of (with_offers rows offers)
-    → AllByRecursion (IsKnown (holdings_of (with_offers rows offers))) new
-known-left rows old new offers lefts agents same settled known put left =
-    let after : Rows = with_offers rows offers in
-    let before : frees_in old ≡ map (λ f. Some f) (frees_of rows) =
-    frees-settled rows old settled known ∙ ap (λ (agents : List AgentRow). map (λ f. Some f) (map (free_of rows) agents)) (sym agents) in
-    let stay : after.agents ≡ map agent_row new = agents-with_offers rows offers ∙ agents ∙ sym same in
-    known-frees after new (
-    put
-    ∙ ap (λ (fs : List (Option (List Resource))). known_after fs lefts) before
-    ∙ known_after-some (frees_of rows) lefts
-    ∙ ap (map (λ f. Some f)) left
-    ∙ ap (λ (agents : List AgentRow). map (λ f. Some f) (map (free_of after) agents)) stay
-    )
+-- what a cycle left is what is free on each agent
+module _ (rows : Rows) (old new : List (Text × Agent)) (offers : List OfferRow) (lefts : List Left)
+    (agents : rows.agents ≡ map agent_row old) (same : map agent_row new ≡ map agent_row old)
+    (settled : is_settled old ≡ true) (known : AllByRecursion (IsKnown (holdings_of rows)) old)
+    (put : frees_in new ≡ known_after (frees_in old) lefts)
+    (left : frees_after (frees_of rows) lefts ≡ frees_of (with_offers rows offers)) where
+  frees-left : frees_in new ≡ map (λ f. Some f) (map (free_of (with_offers rows offers)) (map agent_row new))
+  frees-left =
+      let after : Rows = with_offers rows offers in
+      let before : frees_in old ≡ map (λ f. Some f) (frees_of rows) =
+      frees-settled rows old settled known ∙ ap (λ (agents : List AgentRow). map (λ f. Some f) (map (free_of rows) agents)) (sym agents) in
+      let stay : after.agents ≡ map agent_row new = agents-with_offers rows offers ∙ agents ∙ sym same in
+      put
+      ∙ ap (λ (fs : List (Option (List Resource))). known_after fs lefts) before
+      ∙ known_after-some (frees_of rows) lefts
+      ∙ ap (map (λ f. Some f)) left
+      ∙ ap (λ (agents : List AgentRow). map (λ f. Some f) (map (free_of after) agents)) stay
+
+  pub known-left : AllByRecursion (IsKnown (holdings_of (with_offers rows offers))) new
+  known-left = known-frees (with_offers rows offers) new frees-left
+
+  pub settled-left : is_settled new ≡ true
+  settled-left = settled-frees new (map (free_of (with_offers rows offers)) (map agent_row new)) frees-left
 
 pub IsKept-with_offers :
     (rows : Rows) (old new : List (Text × Agent)) (sum : List Entry) (number : ℕ) (offers : List OfferRow)

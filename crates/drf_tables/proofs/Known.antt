@@ -18,8 +18,7 @@ use Rattle.drf_rows.specs.ListLaws.{each_from, each_map}
 use Rattle.drf_rows.specs.Members.{active_at}
 use Rattle.drf_rows.specs.declared.rows.AgentRow.{AgentRow}
 use Rattle.drf_rows.specs.declared.rows.Rows.{Rows}
-use Rattle.drf_tables.specs.Changing.{changed, forgotten, are_settled}
-use Rattle.drf_tables.specs.Changing.{with_active}
+use Rattle.drf_tables.specs.Changing.{changed, forgotten, with_active, are_settled}
 use Rattle.drf_tables.specs.Drafts.{frees_after}
 use Rattle.drf_tables.specs.Inside.{agent_row, frees_in, known_after, is_settled, IsKnown}
 use Rattle.drf_tables.specs.declared.tables.Agent.{Agent}
@@ -81,9 +80,9 @@ rows-forgotten name es =
     by e true = refl
     by e false = refl
 
-pub rows-activated : (name : Text) (active : Bool) (es : List (Text × Agent))
+pub rows-with_active : (name : Text) (active : Bool) (es : List (Text × Agent))
     → map agent_row (map (changed name (with_active active)) es) ≡ map (active_at name active) (map agent_row es)
-rows-activated name active = rows-each (changed name (with_active active)) (active_at name active) (λ e. by e (same_text e.0 name))
+rows-with_active name active = rows-each (changed name (with_active active)) (active_at name active) (λ e. by e (same_text e.0 name))
   where
     by : (e : Text × Agent) (b : Bool)
         → agent_row (if b then (e.0, with_active active e.1) else e) ≡ (if b then record (agent_row e) { active = active } else agent_row e)
@@ -103,9 +102,9 @@ known-forgotten old new name same es known =
     by e was true here = λ free is. cc
     by e was false past = λ free is. was free is ∙ sym (ap (rest_of_all e.1.total) (same e.0 (same_text-swap name e.0 ∙ past)))
 
-pub known-activated : (hs : List Holding) (name : Text) (active : Bool) (es : List (Text × Agent))
+pub known-with_active : (hs : List Holding) (name : Text) (active : Bool) (es : List (Text × Agent))
     → AllByRecursion (IsKnown hs) es → AllByRecursion (IsKnown hs) (map (changed name (with_active active)) es)
-known-activated hs name active es known =
+known-with_active hs name active es known =
     each_map (IsKnown hs) (changed name (with_active active)) es
     (each_from (IsKnown hs) (λ e. IsKnown hs (changed name (with_active active) e)) es (λ e was. by e was (same_text e.0 name)) known)
   where
@@ -129,6 +128,16 @@ frees-settled rows (e ∷ es) all known =
         → is_some free ≡ true → free ≡ Some (free_of rows (agent_row e))
     by (Some x) is some = λ i. Some (is x refl i)
     by None is some = cc
+
+-- where the free parts are known, all are
+pub settled-frees : (es : List (Text × Agent)) (frees : List (List Resource)) → frees_in es ≡ map (λ f. Some f) frees
+    → is_settled es ≡ true
+settled-frees [] frees same = refl
+settled-frees (e ∷ es) [] same = cc
+settled-frees (e ∷ es) (f ∷ fs) same =
+    let head : e.1.free ≡ Some f = cc in
+    let tail : frees_in es ≡ map (λ f. Some f) fs = cc in
+    and_from (is_some e.1.free) (is_settled es) (ap is_some head) (settled-frees es fs tail)
 
 -- and the other way round
 pub known-frees : (rows : Rows) (es : List (Text × Agent)) → frees_in es ≡ map (λ f. Some f) (map (free_of rows) (map agent_row es))

@@ -282,6 +282,7 @@ impl Tables {
         requires places { All (λ left. left.agent < length self.old.rows.agents) lefts.items }
         requires fits { (with_offers self.old.rows offers.old.items).next_offer < 2 ^ 64 }
         ensures ok { OnOk result (self.new.rows ≡ with_offers self.old.rows offers.old.items) }
+        ensures settled { OnOk result (self.new.settled ≡ true) }
         ensures moved { OnOk result (offers.new.items ≡ []) }
         ensures err { OnErr result ((self.new.rows ≡ self.old.rows) × (offers.new.items ≡ offers.old.items)) }
     {

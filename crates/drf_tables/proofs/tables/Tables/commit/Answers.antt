@@ -12,7 +12,7 @@ use Rattle.drf_tables.specs.Stored.{Stored}
 use Rattle.drf_tables.proofs.Counted.{CanCountAll-from}
 use Rattle.drf_tables.proofs.Entries.{appended}
 use Rattle.drf_tables.proofs.Fields.{rows_of-offers, agents_in}
-use Rattle.drf_tables.proofs.Kept.{IsKept-with_offers, known-left}
+use Rattle.drf_tables.proofs.Kept.{IsKept-with_offers, known-left, settled-left}
 use Rattle.drf_tables.proofs.tables.Tables.commit.Goals as goal
 
 pub append-requires : goal.append-requires
@@ -89,3 +89,15 @@ returns-clause-ok c =
     c.append.new.self offers c.put_lefts.ensures.rows counted c.in_ok-append.ensures.ok c.append.ensures.tasks
     )
     ∙ ap (λ (s : Stored). with_offers s.rows offers) c.self.view_is
+
+pub returns-clause-settled : goal.returns-clause-settled
+returns-clause-settled c =
+    let t = c.self.inside in
+    let offers : List OfferRow = c.args.offers.now.items in
+    let lefts = c.args.lefts.items in
+    let left : frees_after (frees_of (rows_in t)) lefts ≡ frees_of (with_offers (rows_in t) offers) =
+    subst (λ (s : Stored). frees_after (frees_of s.rows) lefts ≡ frees_of (with_offers s.rows offers))
+    (sym c.self.view_is) c.requires.left in
+    let settled : is_settled t.agents.entries ≡ true = ap (λ (s : Stored). s.settled) c.self.view_is ∙ c.requires.settled in
+    settled-left (rows_in t) t.agents.entries c.put_lefts.new.agents.entries offers lefts
+    (agents_in t) c.put_lefts.ensures.rows settled c.self.invariant.free c.put_lefts.ensures.free left

@@ -22,7 +22,7 @@ use Rattle.drf_rows.specs.Consistent.{IsHeld, IsCovered, IsConsistent, IsFilter,
 use Rattle.drf_rows.specs.ConsistentLaws.{same_text-swap}
 use Rattle.drf_rows.specs.Endings.{Ending, one_offer, ends_offer, ends_task, without_ended, is_task}
 use Rattle.drf_rows.specs.ListLaws.{each_from, each_append, count_by-any}
-use Rattle.drf_rows.specs.Offers.{Start, has_task, offer_at, task_of, filter_of, refused_until}
+use Rattle.drf_rows.specs.Offers.{Start, has_task, offer_at, task_of}
 use Rattle.drf_rows.specs.declared.rows.AgentRow.{AgentRow}
 use Rattle.drf_rows.specs.declared.rows.FilterRow.{FilterRow}
 use Rattle.drf_rows.specs.declared.rows.OfferRow.{OfferRow}

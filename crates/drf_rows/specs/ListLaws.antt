@@ -239,6 +239,11 @@ pub each_map : {X Y : Type 0} (P : Y → Type 0) (g : X → Y) (xs : List X)
 each_map P g [] all = tt
 each_map P g (x ∷ xs) all = (all.0, each_map P g xs all.1)
 
+-- what holds of all that a function makes holds of each that it made
+pub each_made : {X Y : Type 0} (P : Y → Type 0) (g : X → Y) (xs : List X) → ((x : X) → P (g x)) → AllByRecursion P (map g xs)
+each_made P g [] made = tt
+each_made P g (x ∷ xs) made = (made x, each_made P g xs made)
+
 pub each_filter : {X : Type 0} (P : X → Type 0) (p : X → Bool) (xs : List X)
     → AllByRecursion P xs → AllByRecursion P (filter p xs)
 each_filter P p [] all = tt

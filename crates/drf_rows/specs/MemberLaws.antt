@@ -29,7 +29,6 @@ use Rattle.drf_rows.specs.Members.{has_agent, has_framework, active_at, with_act
 use Rattle.drf_rows.specs.Endings.{without_ended, offers_on, all_on, all_of}
 use Rattle.drf_rows.specs.EndingLaws.{sum_by-out, filter-one, none-filter, find-place, IsConsistent-filters}
 use Rattle.drf_rows.specs.ListLaws.{sum_by-map, sum_by-filter-cons, cond_le, each_from, each_from_both, each_append, each_map, each_filter, none_has}
-use Rattle.drf_rows.specs.declared.limits.TheConstants.{LATEST_MOMENT}
 use Rattle.drf_rows.specs.declared.rows.AgentRow.{AgentRow}
 use Rattle.drf_rows.specs.declared.rows.ClientRow.{ClientRow}
 use Rattle.drf_rows.specs.declared.rows.FilterRow.{FilterRow}

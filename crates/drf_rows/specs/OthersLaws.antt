@@ -1,11 +1,11 @@
 -- Which rows of agents and frameworks an event leaves as they were: all but those of its own agent or framework.
 use Rattle.std.specs.Prelude.{◌≡◌, ℕ, ◌+◌, Bool, true, false, not, ◌||◌, List, [], ◌∷◌, ◌++◌, map, filter, Option, Some, None, if◌then◌else◌}
-use Rattle.std.specs.List.{list_all, list_any}
+use Rattle.std.specs.List.{list_all}
 use Rattle.std.specs.Option.{option_map_or}
 use Rattle.std.proofs.Common.{refl, sym, ap, ◌∙◌, inl, inr}
+use Rattle.std.proofs.Math.Bool.{or-true}
 use Rattle.std.proofs.lemmas.Bool.{cases_Bool, and_from, not-true, false≢true}
 use Rattle.std.proofs.lemmas.List.{append-nil}
-use Rattle.std.proofs.lemmas.Map.Views.{any-filter_same}
 use Rattle.drf_role.specs.Text.{Text, same_text}
 use Rattle.drf_role.specs.TextLaws.{same_itself}
 use Rattle.drf_role.specs.Path.{same_path}
@@ -16,7 +16,7 @@ use Rattle.drf_rows.specs.EndingLaws.{filter-out}
 use Rattle.drf_rows.specs.Offers.{Start, offer_at, offer_accepted, offer_declined}
 use Rattle.drf_rows.specs.OfferedLaws.{offers_stand}
 use Rattle.drf_rows.specs.Members.{distinct, new_client, active_at, suppressed_at, suppressed_in}
-use Rattle.drf_rows.specs.ListLaws.{filter_each, each_true}
+use Rattle.drf_rows.specs.ListLaws.{filter_each, each_true, none_left}
 use Rattle.drf_rows.specs.Step.{refusal_of, effect, rows_after}
 use Rattle.drf_rows.specs.LifeLaws.{is_cycle, other_agents, other_frameworks, OtherAgentsStay, OtherFrameworksStay, RemovedIsGone, active_row, ActivityIsItsAgents, uncounted_row, uncounted_framework, uncounted, CycleOnlyOffers}
 use Rattle.drf_rows.specs.declared.event.Event.{Event}
@@ -235,9 +235,6 @@ other_frameworks_stay limits rows event no_cycle = by (refusal_of limits rows ev
 
 -- ---- the one
 
-none_left : {X : Type 0} (p : X → Bool) (xs : List X) → list_any p (filter (λ x. not (p x)) xs) ≡ false
-none_left p xs = any-filter_same p (λ x. not (p x)) false (λ x here. ap not here) xs
-
 pub removed_is_gone : RemovedIsGone
 unfolding effect
 removed_is_gone rows name = (
@@ -251,13 +248,9 @@ own_active : (test : Bool → Bool) (name : Text) (active : Bool) → test activ
 own_active test name active is [] = refl
 own_active test name active is (a ∷ agents) = and_from _ _ (by (same_text a.name name) refl) (own_active test name active is agents)
   where
-    or_true : (b : Bool) → (b || true) ≡ true
-    or_true true = refl
-    or_true false = refl
-
     by : (b : Bool) → same_text a.name name ≡ b
         → (not (same_text (if b then record a { active = active } else a).name name) || test (if b then record a { active = active } else a).active) ≡ true
-    by true here = ap (λ (b : Bool). not (same_text a.name name) || b) is ∙ or_true (not (same_text a.name name))
+    by true here = ap (λ (b : Bool). not (same_text a.name name) || b) is ∙ or-true (not (same_text a.name name))
     by false past = ap (λ (b : Bool). not b || test a.active) past
 
 -- and nothing else of an agent is changed

@@ -8,6 +8,7 @@ use Rattle.std.specs.declared.cmp.Ordering.{Ordering}
 use Rattle.std.specs.declared.cmp.Ordering.TheVariants.{Less, Equal, Greater}
 use Rattle.std.proofs.Common.{refl, sym, ap, ◌∙◌, inl, inr, ⊎_elim, arith, length-append}
 use Rattle.std.proofs.Math.Seq.{take-append_seam}
+use Rattle.std.proofs.Math.Bool.{or-false}
 use Rattle.std.proofs.lemmas.Bool.{cases_Bool, cases_eq, and_from, and_parts, or_left, or_right, false_from_ne_true, false≢true}
 use Rattle.std.proofs.lemmas.List.{take-append-drop}
 use Rattle.std.proofs.lemmas.List.Folds.{list_any-append}
@@ -242,10 +243,6 @@ any-clients x (c ∷ cs) some =
     list_any-append (same_path x) (nodes_on (path_of c)) (flat_map (λ client. nodes_on (path_of client)) cs)
     ∙ (λ i. any-on_path x (path_of c) some i || any-clients x cs some i)
 
-or_none : (b : Bool) → (b || false) ≡ b
-or_none true = refl
-or_none false = refl
-
 -- no node is the path of no part
 empty_to : (path : Path) (n : ℕ) → n ≤ length path → list_any (same_path []) (nodes_to path n) ≡ false
 empty_to path zero within = refl
@@ -262,7 +259,7 @@ any-nodes : (node : Path) (rows : Rows)
     → list_any (same_path node) (nodes_of rows) ≡ list_any (same_path node) (flat_map (λ client. nodes_on (path_of client)) (clients_of rows))
 any-nodes node rows =
     any-put node [] (flat_map (λ client. nodes_on (path_of client)) (clients_of rows))
-    ∙ or_none (list_any (same_path node) (flat_map (λ client. nodes_on (path_of client)) (clients_of rows)))
+    ∙ or-false (list_any (same_path node) (flat_map (λ client. nodes_on (path_of client)) (clients_of rows)))
 
 pub nodes_begin_paths : NodesBeginPaths
 nodes_begin_paths rows [] =

@@ -18,7 +18,7 @@ use Rattle.drf_rows.specs.MemberLaws.{IsConsistent-with_activity, cluster_total-
 use Rattle.drf_rows.specs.declared.rows.ClientRow.{ClientRow}
 use Rattle.drf_rows.specs.declared.rows.FilterRow.{FilterRow}
 use Rattle.drf_rows.specs.declared.rows.Rows.{Rows}
-use Rattle.drf_tables.specs.Changing.{changed, activated}
+use Rattle.drf_tables.specs.Changing.{changed, with_active}
 use Rattle.drf_tables.specs.Counting.{count_clients}
 use Rattle.drf_tables.specs.Inside.{agent_row, framework_rows, rows_of, rows_in, IsKnown, IsKept}
 use Rattle.drf_tables.specs.declared.tables.Agent.{Agent}
@@ -45,7 +45,7 @@ module _ (t : Inside) (kept : IsKept (rows_in t) t.agents.entries t.total t.clie
   -- ---- an agent is active, or not
 
   module _ (name : Text) (active : Bool) (entries : List (Text × Agent))
-      (told : entries ≡ map (changed name (activated active)) t.agents.entries) where
+      (told : entries ≡ map (changed name (with_active active)) t.agents.entries) where
     pub rows-active : rows_but t entries t.frameworks.entries t.filters ≡ record (rows_in t) { agents = with_activity (rows_in t) name active }
     unfolding rows_of
     rows-active =

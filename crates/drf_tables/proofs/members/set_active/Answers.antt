@@ -1,7 +1,7 @@
 use Rattle.std.proofs.Common.{◌≡◌, false, is_some, sym, ap, ◌∙◌}
 use Rattle.std.specs.Map.{lookup}
 use Rattle.drf_role.specs.Text.{Text, same_text}
-use Rattle.drf_tables.specs.Changing.{activated}
+use Rattle.drf_tables.specs.Changing.{with_active}
 use Rattle.drf_tables.proofs.Entries.{key_at, key_found}
 use Rattle.drf_tables.proofs.Known.{changed_entry, changed_none, key_unknown}
 use Rattle.drf_tables.proofs.members.set_active.Goals as goal
@@ -15,7 +15,7 @@ returns-in-Some c =
     let key = key_at entries place v c.index_mut.ensures.value in
     let found = sym c.get_index_of.ensures.index ∙ c.in-Some.is in
     let named = key_found entries place key.key name found key.name in
-    changed_entry name (activated c.args.active) entries place (key.key, v) c.requires key.at named
+    changed_entry name (with_active c.args.active) entries place (key.key, v) c.requires key.at named
 
 pub returns-in_default : goal.returns-in_default
 returns-in_default c =
@@ -23,4 +23,4 @@ returns-in_default c =
     let name : Text = c.args.name.now in
     let none : is_some (lookup (same_text name) entries) ≡ false =
     sym c.get_index_of.ensures.found ∙ ap is_some c.in_default.is in
-    changed_none name (activated c.args.active) entries (key_unknown name entries none)
+    changed_none name (with_active c.args.active) entries (key_unknown name entries none)

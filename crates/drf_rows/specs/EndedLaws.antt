@@ -1,12 +1,11 @@
 -- Offers that are declined, tasks that finish, and filters that go.
-use Rattle.std.specs.Prelude.{◌≡◌, ℕ, ◌+◌, ◌-◌, ◌≤◌, ◌==◌, Bool, true, false, not, ◌&&◌, List, [], ◌∷◌, ◌++◌, map, filter, slice_get, Some, Option, max}
-use Rattle.std.specs.List.{list_any, list_all, AllByRecursion}
+use Rattle.std.specs.Prelude.{◌≡◌, ℕ, ◌+◌, ◌-◌, ◌≤◌, ◌==◌, Bool, true, false, not, List, [], ◌∷◌, ◌++◌, map, filter, slice_get, Some, Option, max}
+use Rattle.std.specs.List.{list_all, AllByRecursion}
 use Rattle.std.specs.Option.{option_map_or}
 use Rattle.std.proofs.Common.{refl, sym, ap, subst, ◌∙◌, cond, arith}
 use Rattle.std.proofs.lemmas.Bool.{and_parts, and_from}
 use Rattle.std.proofs.lemmas.Bool.Decides.{nat_tests}
 use Rattle.std.proofs.lemmas.List.{map-append, append-nil}
-use Rattle.std.proofs.lemmas.Map.Views.{any-filter_same}
 use Rattle.drf_role.specs.Text.{Text, same_text}
 use Rattle.drf_role.specs.TextLaws.{same_itself}
 use Rattle.drf_bundle.specs.Value.{Point}
@@ -19,15 +18,15 @@ use Rattle.drf_rows.specs.HoldingsLaws.{units_on, units_on-append, units_on-cons
 use Rattle.drf_rows.specs.Cycle.{free_of, new_offer, with_offer, at_moment}
 use Rattle.drf_rows.specs.CycleLaws.{bundle-free_of, units-free_of}
 use Rattle.drf_rows.specs.Endings.{is_task}
+use Rattle.drf_rows.specs.EndingLaws.{is_task-swap}
 use Rattle.drf_rows.specs.Offers.{offer_at, offer_declined}
 use Rattle.drf_rows.specs.Consistent.{are_distinct_tasks, IsAgent, IsCovered, IsConsistent}
-use Rattle.drf_rows.specs.ConsistentLaws.{same_text-swap, numbers_within, bundles-consistent}
-use Rattle.drf_rows.specs.ListLaws.{filter_each, find_only, filter_only, each_from, each_at, each_true, each_fails, each_append, each_parts}
+use Rattle.drf_rows.specs.ConsistentLaws.{numbers_within, bundles-consistent}
+use Rattle.drf_rows.specs.ListLaws.{none_left, filter_each, find_only, filter_only, each_from, each_at, each_true, each_fails, each_append, each_parts}
 use Rattle.drf_rows.specs.Step.{effect}
 use Rattle.drf_rows.specs.LifeLaws.{DeclinedAtOnceIsUndone, FinishedIsGivenBack, FiltersGoWithTheirOwner, OtherFiltersStay}
 use Rattle.drf_rows.specs.declared.event.Event.TheVariants.{Finish}
 use Rattle.drf_rows.specs.declared.rows.AgentRow.{AgentRow}
-use Rattle.drf_rows.specs.declared.rows.FilterRow.{FilterRow}
 use Rattle.drf_rows.specs.declared.rows.OfferRow.{OfferRow}
 use Rattle.drf_rows.specs.declared.rows.TaskRow.{TaskRow}
 use Rattle.drf_rows.specs.declared.rows.Rows.{Rows}
@@ -67,9 +66,6 @@ declined_at_once rows agent client bundle at consistent =
 
 -- ---- filters go
 
-none_left : (p : FilterRow → Bool) (filters : List FilterRow) → list_any p (filter (λ f. not (p f)) filters) ≡ false
-none_left p filters = any-filter_same p (λ f. not (p f)) false (λ f here. ap not here) filters
-
 pub filters_go : FiltersGoWithTheirOwner
 unfolding effect
 filters_go rows agent framework client = (
@@ -83,9 +79,6 @@ unfolding effect
 other_filters_stay rows agent framework client = (refl, refl, refl)
 
 -- ---- a task finishes
-
-is_task-swap : (t u : TaskRow) → is_task t.framework t.name u ≡ is_task u.framework u.name t
-is_task-swap t u = λ i. same_text-swap u.framework t.framework i && same_text-swap u.name t.name i
 
 -- no other task is the framework's of that name
 others_differ : (before later : List TaskRow) (t : TaskRow) → are_distinct_tasks (before ++ t ∷ later) ≡ true

@@ -13,16 +13,15 @@ use Rattle.drf_bundle.specs.Bundle.{Key, IsBundle, units, covers, rest, quantiti
 use Rattle.drf_bundle.specs.RestLaws.{bundle-rest}
 use Rattle.drf_bundle.specs.SumLaws.{amount-quantities_of}
 use Rattle.drf_bundle.specs.UnitProofs.{covers_by_units, rest_and_part, stocks_add}
-use Rattle.drf_bundle.specs.Taken.{rest_of_all, units_of_all}
+use Rattle.drf_bundle.specs.Taken.{units_of_all}
 use Rattle.drf_bundle.specs.declared.resource.Resource.{Resource}
 use Rattle.drf_rows.specs.Holdings.{Holding, of_offer, of_task, holdings_of, amount_in, held_where, is_on, parts_on}
 use Rattle.drf_rows.specs.HoldingsLaws.{held_where-append, held_where-cons, parts_on-append}
-use Rattle.drf_rows.specs.Cycle.{free_of}
 use Rattle.drf_rows.specs.Consistent.{IsHeld, IsCovered, IsConsistent, IsFilter, are_rising, are_distinct_tasks}
 use Rattle.drf_rows.specs.ConsistentLaws.{same_text-swap}
 use Rattle.drf_rows.specs.Endings.{Ending, one_offer, ends_offer, ends_task, without_ended, is_task}
-use Rattle.drf_rows.specs.ListLaws.{each_from, each_append, count_by-any}
-use Rattle.drf_rows.specs.Offers.{Start, has_task, offer_at, task_of, filter_of, refused_until}
+use Rattle.drf_rows.specs.ListLaws.{each_from, each_append}
+use Rattle.drf_rows.specs.Offers.{Start, has_task, offer_at, task_of}
 use Rattle.drf_rows.specs.declared.rows.AgentRow.{AgentRow}
 use Rattle.drf_rows.specs.declared.rows.FilterRow.{FilterRow}
 use Rattle.drf_rows.specs.declared.rows.OfferRow.{OfferRow}
@@ -296,12 +295,6 @@ none-filter {X} p (x ∷ xs) same =
           (past, none-filter p xs later)
     ]
 
-pub none-counted : {X : Type 0} (p : X → Bool) (xs : List X) → count_by p xs ≡ 0 → list_any p xs ≡ false
-none-counted p xs none = elim (cases_Bool (list_any p xs)) [
-  | inl some ↦ absurd (omega (arith, none, count_by-any p xs some))
-  | inr other ↦ other
-]
-
 pub without_ended-none : (rows : Rows) (ending : Ending)
     → list_any (ends_offer ending) rows.offers ≡ false → list_any (ends_task ending) rows.tasks ≡ false
     → without_ended rows ending ≡ rows
@@ -384,7 +377,7 @@ others_of_number (p ∷ before) after o next rising =
     (sym (ap (list_all (nat_lt p.number)) (map-out number_of before after o)) ∙ above)) in
     (ne_eqb p.number o.number (λ same. omega (arith, same)), others_of_number before after o next parts.1)
 
--- where a row does not pass a test, and all others do not fail, it alone is left out
+-- where one element passes a test, and no other, it alone is left out
 pub filter-one : {X : Type 0} (p : X → Bool) (xs ys : List X) (x : X) → p x ≡ true → AllByRecursion (λ y. p y ≡ false) (xs ++ ys)
     → filter (λ y. not (p y)) (xs ++ x ∷ ys) ≡ xs ++ ys
 filter-one p xs ys x here others =
@@ -416,10 +409,10 @@ IsConsistent-filters rows filters consistent each = record {
   numbered = consistent.numbered;
 }
 
--- a framework has no two tasks of a name, if the last is new
-is_task-swap : (s t : TaskRow) → is_task s.framework s.name t ≡ is_task t.framework t.name s
+pub is_task-swap : (s t : TaskRow) → is_task s.framework s.name t ≡ is_task t.framework t.name s
 is_task-swap s t = λ i. same_text-swap t.framework s.framework i && same_text-swap t.name s.name i
 
+-- a framework has no two tasks of a name, if the last is new
 list_all-push : {X : Type 0} (p : X → Bool) (xs : List X) (x : X)
     → list_all p xs ≡ true → p x ≡ true → list_all p (xs ++ x ∷ []) ≡ true
 list_all-push p [] x all here = and_from (p x) true here refl
@@ -531,11 +524,6 @@ module _ (rows : Rows) (number : ℕ) (o : OfferRow) (task : Text) (used : List 
   parts_on-accepted agent past =
       sym (parts_on-one_less (holdings_of after) between (of_task started) task_out agent past)
       ∙ parts_on-one_less (holdings_of rows) between (of_offer o) offer_out agent past
-
-  pub free_of-accepted : (agent : AgentRow) → same_text o.agent agent.name ≡ false
-      → free_of (accepted_in rows o (task, used) filters) agent ≡ free_of rows agent
-  unfolding free_of
-  free_of-accepted agent past = ap (rest_of_all agent.total) (parts_on-accepted agent.name past)
 
   -- and on no agent more
   pub units-accepted : IsBundle used → covers o.bundle used ≡ true → (agent : Text) (key : Key) (p : Point)

@@ -1,5 +1,6 @@
 -- Some runs, with the replies that they are to have.
 use Rattle.std.specs.Prelude.{ℕ, List, [], ◌∷◌, ◌++◌, codes}
+use Rattle.drf_role.specs.Text.{Text}
 use Rattle.drf_role.specs.Role.{default_role}
 use Rattle.drf_bundle.specs.declared.resource.Resource.{Resource}
 use Rattle.drf_bundle.specs.declared.value.Value.TheVariants.{Scalar}
@@ -13,11 +14,11 @@ use Rattle.drf_rows.specs.declared.reply.Reply.TheVariants.{Done, Offers, Refuse
 use Rattle.drf_rows.specs.Step.{opening, replies_to}
 
 -- so many thousandths, for everyone
-abbrev pub scalar : List ℕ → ℕ → Resource
+abbrev pub scalar : Text → ℕ → Resource
 scalar label amount = record { label = label; role = default_role; value = Scalar amount }
 
 -- so many thousandths, for a role of one component
-abbrev pub cpus_for : List ℕ → ℕ → Resource
+abbrev pub cpus_for : Text → ℕ → Resource
 cpus_for role amount = record { label = codes "cpus"; role = role ∷ []; value = Scalar amount }
 
 abbrev pub cpus : ℕ → Resource
@@ -30,11 +31,11 @@ abbrev pub gpus : ℕ → Resource
 gpus amount = scalar (codes "gpus") amount
 
 -- a framework that registers in one role of one component
-abbrev pub framework_in : List ℕ → List ℕ → Event
+abbrev pub framework_in : Text → Text → Event
 framework_in framework role = AddFramework framework ((role ∷ []) ∷ [])
 
 -- an offer to a framework in a role of one component
-abbrev pub offer : ℕ → List ℕ → List ℕ → List ℕ → List Resource → OfferLine
+abbrev pub offer : ℕ → Text → Text → Text → List Resource → OfferLine
 offer number framework role agent resources = record {
   number = number;
   agent = agent;

@@ -1,5 +1,6 @@
 -- Runs that tell whom a filter, a suppression and a removal concern, and whom not.
 use Rattle.std.specs.Prelude.{ℕ, List, [], ◌∷◌, codes}
+use Rattle.drf_role.specs.Text.{Text}
 use Rattle.drf_rows.specs.Examples.{cpus, mem, framework_in, offer}
 use Rattle.drf_rows.specs.LifeExamples.{one, none, accept, decline}
 use Rattle.drf_rows.specs.declared.event.Event.{Event}
@@ -10,24 +11,24 @@ use Rattle.drf_rows.specs.declared.reply.Reply.{Reply}
 use Rattle.drf_rows.specs.declared.reply.Reply.TheVariants.{Done, Offers, Refused}
 
 -- an agent that has one of `cpus`, and an offer of all of it
-abbrev one_cpu : List ℕ → Event
+abbrev one_cpu : Text → Event
 one_cpu agent = AddAgent agent (cpus 1000 ∷ [])
 
-abbrev cpu_of : List ℕ → ℕ → List ℕ → List ℕ → OfferLine
+abbrev cpu_of : Text → ℕ → Text → Text → OfferLine
 cpu_of agent number framework role = offer number framework role agent (cpus 1000 ∷ [])
 
 -- a framework that registers in two roles
-abbrev in_both : List ℕ → Event
+abbrev in_both : Text → Event
 in_both framework = AddFramework framework ((codes "a" ∷ []) ∷ (codes "b" ∷ []) ∷ [])
 
 -- declined at moment 0, for five seconds
-abbrev refuse : List ℕ → ℕ → Event
+abbrev refuse : Text → ℕ → Event
 refuse framework number = Decline framework number 0 5000
 
-abbrev suppress : List ℕ → List ℕ → Event
+abbrev suppress : Text → Text → Event
 suppress framework role = Suppress framework (role ∷ [])
 
-abbrev revive : List ℕ → List ℕ → Event
+abbrev revive : Text → Text → Event
 revive framework role = Revive framework (role ∷ [])
 
 -- a filter is one client's on one agent, and the suppression of a client that client's alone

@@ -1,5 +1,5 @@
--- What a holding that is added, and holdings that end, change in what is held.
-use Rattle.std.specs.Prelude.{◌≡◌, ℕ, ◌+◌, Bool, true, false, not, ◌&&◌, List, [], ◌∷◌, ◌++◌, map, filter, sum_by}
+-- What one more holding changes in what is held.
+use Rattle.std.specs.Prelude.{◌≡◌, ℕ, ◌+◌, Bool, false, List, [], ◌∷◌, ◌++◌, map, filter, sum_by}
 use Rattle.std.specs.List.{AllByRecursion}
 use Rattle.std.proofs.Common.{refl, sym, ap, ◌∙◌, inl, inr, cond, arith}
 use Rattle.std.proofs.lemmas.Bool.{cases_Bool}
@@ -13,7 +13,6 @@ use Rattle.drf_bundle.specs.Taken.{units_of_all}
 use Rattle.drf_bundle.specs.declared.resource.Resource.{Resource}
 use Rattle.drf_rows.specs.Holdings.{Holding, of_offer, of_task, holdings_of, amount_in, held_where, is_on, parts_on, AreBundles}
 use Rattle.drf_rows.specs.Cycle.{with_offer}
-use Rattle.drf_rows.specs.Endings.{Ending, ends_offer, ends_task, without_ended}
 use Rattle.drf_rows.specs.declared.rows.OfferRow.{OfferRow}
 use Rattle.drf_rows.specs.declared.rows.Rows.{Rows}
 

@@ -1,24 +1,28 @@
 -- What is proved of the definitions.
-use Rattle.std.specs.Prelude.{◌≡◌, ℕ, ◌+◌, ◌≤◌, Bool, true, false, not, ◌&&◌, ◌||◌, List, [], ◌∷◌, ◌++◌, map, length, Some, None, IsTrue, Contains, nat_lt, nat_le}
-use Rattle.std.specs.List.{list_all, list_any}
+use Rattle.std.specs.Prelude.{◌≡◌, ℕ, ◌+◌, ◌≤◌, Bool, true, false, not, ◌&&◌, ◌||◌, List, [], ◌∷◌, ◌++◌, map, length, sum_by, Some, None, IsTrue, Contains, nat_lt, nat_le}
+use Rattle.std.specs.List.{list_all, list_any, AllByRecursion}
 use Rattle.std.specs.List.Sorted.{IsPermutation}
 use Rattle.std.specs.Ordering.{is_lt}
 use Rattle.drf_role.specs.Text.{Text}
 use Rattle.drf_role.specs.Path.{Path, same_path, begins_with}
-use Rattle.drf_bundle.specs.Quantities.{amount_of}
-use Rattle.drf_bundle.specs.Bundle.{IsBundle}
-use Rattle.drf_rows.specs.LimitNumbers.{LimitNumbers}
+use Rattle.drf_bundle.specs.Quantities.{amount_of, HasNoZeros}
+use Rattle.drf_bundle.specs.Bundle.{IsBundle, quantities_of}
+use Rattle.drf_rows.specs.LimitNumbers.{LimitNumbers, ceilings}
 use Rattle.drf_rows.specs.Client.{Client, path_of}
 use Rattle.drf_rows.specs.Holdings.{holdings_of, AreBundles}
-use Rattle.drf_rows.specs.Held.{held_by, clients_of}
-use Rattle.drf_rows.specs.Report.{path_cmp, nodes_of, node_line}
-use Rattle.drf_rows.specs.Share.{Standing, stands_before, is_serving_order}
+use Rattle.drf_rows.specs.Held.{held_by, count_of, clients_of, standing_of}
+use Rattle.drf_rows.specs.Weights.{are_weights}
+use Rattle.drf_rows.specs.Consistent.{IsAgent}
+use Rattle.drf_rows.specs.Report.{path_cmp, report_of}
+use Rattle.drf_rows.specs.Share.{Fraction, IsLowest, Standing, share_of, weighted_share_of, stands_before, is_serving_order}
 use Rattle.drf_rows.specs.Cycle.{free_of, is_allocatable, grant, new_offer, with_offer, all_tried, serving_order}
+use Rattle.drf_rows.specs.Offers.{is_empty}
 use Rattle.drf_rows.specs.Refusal.{refusal_number}
 use Rattle.drf_rows.specs.Step.{live_rows, cases_of, refusal_of, effect, answer, rows_after, reply_to, rows_after_all, replies_to}
 use Rattle.drf_rows.specs.declared.rows.AgentRow.{AgentRow}
 use Rattle.drf_rows.specs.declared.rows.Rows.{Rows}
 use Rattle.drf_rows.specs.declared.event.Event.{Event}
+use Rattle.drf_rows.specs.declared.report.NodeLine.{NodeLine}
 use Rattle.drf_rows.specs.declared.reply.Refusal.{Refusal}
 use Rattle.drf_rows.specs.declared.reply.Reply.TheVariants.{Refused}
 
@@ -118,25 +122,64 @@ LiveRowsRun =
     → (replies_to limits (live_rows rows) events ≡ replies_to limits rows events)
     × (live_rows (rows_after_all limits (live_rows rows) events) ≡ live_rows (rows_after_all limits rows events))
 
--- of each scalar a node's line tells what its clients hold
+-- each line of a report tells of each scalar what the clients of its node hold
 abbrev pub HeldIsReported : Type 0
 HeldIsReported =
-    (rows : Rows) (node : Path) (label : Text)
+    (rows : Rows)
     → AreBundles (holdings_of rows)
-    → amount_of (node_line rows node).held label ≡ held_by rows node label
+    → AllByRecursion (λ line. (label : Text) → amount_of line.held label ≡ held_by rows line.path label) (report_of rows).nodes
+
+-- and how many offers they got
+abbrev pub CountIsReported : Type 0
+CountIsReported = (rows : Rows) → AllByRecursion (λ line. line.count ≡ count_of rows line.path) (report_of rows).nodes
+
+-- the total tells of each scalar what all agents have together
+abbrev pub TotalIsReported : Type 0
+TotalIsReported =
+    (rows : Rows) (label : Text)
+    → AllByRecursion IsAgent rows.agents
+    → amount_of (report_of rows).total label ≡ sum_by (λ agent. amount_of (quantities_of agent.total) label) rows.agents
+
+-- the amounts that a report names are above 0, each scalar once and in order; what it does not name is 0
+abbrev pub AmountsAreAboveZero : Type 0
+AmountsAreAboveZero =
+    (rows : Rows)
+    → HasNoZeros (report_of rows).total × AllByRecursion (λ line. HasNoZeros line.held) (report_of rows).nodes
+
+-- two numbers, as a fraction
+abbrev pub told_as : ℕ × ℕ → Fraction
+told_as terms = record { part = terms.0; whole = terms.1 }
+
+-- a line tells the share and the weighted share of its node in lowest terms
+pub record TellsLowest (rows : Rows) (line : NodeLine) : Type 0 where
+  pub share : IsLowest (share_of (standing_of rows) line.path) (told_as line.share)
+  pub weighted : IsLowest (weighted_share_of (standing_of rows) line.path) (told_as line.weighted)
+
+-- so does each line of a report
+abbrev pub SharesAreLowest : Type 0
+SharesAreLowest =
+    (rows : Rows)
+    → AllByRecursion IsAgent rows.agents
+    → length rows.agents ≤ ceilings.agents
+    → IsTrue (are_weights rows.weights)
+    → AllByRecursion (TellsLowest rows) (report_of rows).nodes
 
 -- each path stands before all later ones, and so but once
 abbrev pub are_in_order : List Path → Bool
 are_in_order [] = true
 are_in_order (path ∷ paths) = list_all (λ p. is_lt (path_cmp path p)) paths && are_in_order paths
 
--- the nodes are reported in order of path
-abbrev pub NodesRise : Type 0
-NodesRise = (rows : Rows) → are_in_order (nodes_of rows) ≡ true
+-- the nodes that are reported
+abbrev pub paths_told : Rows → List Path
+paths_told rows = map (λ line. line.path) (report_of rows).nodes
 
--- a path of one part at least is reported exactly where a registered client's path begins with it
+-- they are in order of path
+abbrev pub NodesRise : Type 0
+NodesRise = (rows : Rows) → are_in_order (paths_told rows) ≡ true
+
+-- a path is reported exactly where it has a part, and the path of a registered client begins with it
 abbrev pub NodesBeginPaths : Type 0
 NodesBeginPaths =
     (rows : Rows) (node : Path)
-    → 1 ≤ length node
-    → list_any (same_path node) (nodes_of rows) ≡ list_any (λ c. begins_with (path_of c) node) (clients_of rows)
+    → list_any (same_path node) (paths_told rows)
+    ≡ (not (is_empty node) && list_any (λ c. begins_with (path_of c) node) (clients_of rows))

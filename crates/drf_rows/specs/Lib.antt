@@ -38,4 +38,7 @@ pub mod LifeLaws
 pub mod EndedLaws
 pub mod SuppressionLaws
 pub mod OfferedLaws
+pub mod OthersLaws
+pub mod LowestLaws
+pub mod ReportedShares
 pub mod ReportLaws

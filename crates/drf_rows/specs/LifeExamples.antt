@@ -1,5 +1,6 @@
 -- Runs in which offers are accepted and declined, tasks finish, and agents and frameworks leave.
 use Rattle.std.specs.Prelude.{ℕ, List, [], ◌∷◌, ◌++◌, codes}
+use Rattle.drf_role.specs.Text.{Text}
 use Rattle.drf_bundle.specs.declared.resource.Resource.{Resource}
 use Rattle.drf_rows.specs.LimitNumbers.{LimitNumbers, ceilings}
 use Rattle.drf_rows.specs.Examples.{cpus, mem, framework_in, offer}
@@ -23,10 +24,10 @@ abbrev pub none : Reply
 none = Offers []
 
 -- at moment 0, and for no time
-abbrev pub accept : List ℕ → ℕ → List ℕ → List Resource → Event
+abbrev pub accept : Text → ℕ → Text → List Resource → Event
 accept framework number task used = Accept framework number task used 0 0
 
-abbrev pub decline : List ℕ → ℕ → Event
+abbrev pub decline : Text → ℕ → Event
 decline framework number = Decline framework number 0 0
 
 -- an offer of all of an agent that has one of `cpus`

@@ -1,4 +1,4 @@
--- What is proved of offers, tasks and filters, from their making to their end.
+-- What is proved of offers, tasks and filters, from their making to their end, and of what each event leaves as it was.
 use Rattle.std.specs.Prelude.{◌≡◌, ℕ, ◌+◌, max, Bool, true, false, not, ◌&&◌, ◌||◌, List, [], ◌∷◌, ◌++◌, map, filter, flat_map, slice_get, Some}
 use Rattle.std.specs.List.{list_all, list_any}
 use Rattle.drf_role.specs.Text.{Text, same_text}
@@ -12,7 +12,8 @@ use Rattle.drf_rows.specs.Held.{client_of}
 use Rattle.drf_rows.specs.Filters.{is_of_client, is_on_agent}
 use Rattle.drf_rows.specs.Consistent.{IsConsistent}
 use Rattle.drf_rows.specs.Cycle.{free_of, new_offer, with_offer, cycle}
-use Rattle.drf_rows.specs.Step.{effect, new_offers, rows_after_all, replies_to}
+use Rattle.drf_rows.specs.Members.{has_agent, has_framework}
+use Rattle.drf_rows.specs.Step.{effect, new_offers, rows_after, rows_after_all, replies_to}
 use Rattle.drf_rows.specs.declared.rows.AgentRow.{AgentRow}
 use Rattle.drf_rows.specs.declared.rows.ClientRow.{ClientRow}
 use Rattle.drf_rows.specs.declared.rows.FrameworkRow.{FrameworkRow}
@@ -20,7 +21,7 @@ use Rattle.drf_rows.specs.declared.rows.OfferRow.{OfferRow}
 use Rattle.drf_rows.specs.declared.rows.TaskRow.{TaskRow}
 use Rattle.drf_rows.specs.declared.rows.Rows.{Rows}
 use Rattle.drf_rows.specs.declared.event.Event.{Event}
-use Rattle.drf_rows.specs.declared.event.Event.TheVariants.{RemoveAgent, RemoveFramework, Decline, Finish, Suppress, Revive}
+use Rattle.drf_rows.specs.declared.event.Event.TheVariants.{AddAgent, RemoveAgent, ActivateAgent, DeactivateAgent, AddFramework, RemoveFramework, Decline, Finish, Suppress, Revive, Cycle}
 use Rattle.drf_rows.specs.declared.reply.OfferLine.{OfferLine}
 use Rattle.drf_rows.specs.declared.reply.Reply.{Reply}
 use Rattle.drf_rows.specs.declared.reply.Reply.TheVariants.{Offers}
@@ -127,3 +128,96 @@ NumbersAreNew =
     → CountUp rows.next_offer
     (map (λ line. line.number) (flat_map lines_told (replies_to limits rows events)))
     (rows_after_all limits rows events).next_offer
+
+-- the agent that an event registers, removes, activates or deactivates
+abbrev pub is_about_agent : Event → Text → Bool
+is_about_agent (AddAgent agent total) name = same_text name agent
+is_about_agent (RemoveAgent agent) name = same_text name agent
+is_about_agent (ActivateAgent agent) name = same_text name agent
+is_about_agent (DeactivateAgent agent) name = same_text name agent
+is_about_agent event name = false
+
+-- the framework that an event registers, removes, suppresses in a role or makes revive there
+abbrev pub is_about_framework : Event → Text → Bool
+is_about_framework (AddFramework framework roles) name = same_text name framework
+is_about_framework (RemoveFramework framework) name = same_text name framework
+is_about_framework (Suppress framework role) name = same_text name framework
+is_about_framework (Revive framework role) name = same_text name framework
+is_about_framework event name = false
+
+-- the rows of all others
+abbrev pub other_agents : Event → List AgentRow → List AgentRow
+other_agents event agents = filter (λ a. not (is_about_agent event a.name)) agents
+
+abbrev pub other_frameworks : Event → List FrameworkRow → List FrameworkRow
+other_frameworks event frameworks = filter (λ f. not (is_about_framework event f.name)) frameworks
+
+abbrev pub is_cycle : Event → Bool
+is_cycle (Cycle at) = true
+is_cycle event = false
+
+-- the agents that an event is not about stay as they were, and in order
+abbrev pub OtherAgentsStay : Type 0
+OtherAgentsStay =
+    (limits : LimitNumbers) (rows : Rows) (event : Event)
+    → other_agents event (rows_after limits rows event).agents ≡ other_agents event rows.agents
+
+-- so do the frameworks, but that a cycle counts its offers
+abbrev pub OtherFrameworksStay : Type 0
+OtherFrameworksStay =
+    (limits : LimitNumbers) (rows : Rows) (event : Event)
+    → is_cycle event ≡ false
+    → other_frameworks event (rows_after limits rows event).frameworks ≡ other_frameworks event rows.frameworks
+
+-- an agent or a framework that is removed is known no more
+abbrev pub RemovedIsGone : Type 0
+RemovedIsGone =
+    (rows : Rows) (name : Text)
+    → (has_agent (effect rows (RemoveAgent name)) name ≡ false)
+    × (has_framework (effect rows (RemoveFramework name)) name ≡ false)
+
+-- the agents, as they were if all were active
+abbrev pub active_row : AgentRow → AgentRow
+active_row a = record a { active = true }
+
+abbrev pub all_active : Rows → List AgentRow
+all_active rows = map active_row rows.agents
+
+-- an agent that is activated is active, and one that is deactivated is not; nothing else of the rows changes, but that offers
+-- go when an agent is deactivated
+abbrev pub ActivityIsItsAgents : Type 0
+ActivityIsItsAgents =
+    (rows : Rows) (name : Text)
+    → let activated : Rows = effect rows (ActivateAgent name) in
+    let deactivated : Rows = effect rows (DeactivateAgent name) in
+    (list_all (λ a. not (same_text a.name name) || a.active) activated.agents ≡ true)
+    × (list_all (λ a. not (same_text a.name name) || not a.active) deactivated.agents ≡ true)
+    × (all_active activated ≡ all_active rows)
+    × (all_active deactivated ≡ all_active rows)
+    × (activated ≡ record rows { agents = activated.agents })
+    × (deactivated ≡ record rows { agents = deactivated.agents; offers = deactivated.offers })
+
+-- the frameworks, as they were if no offer had been counted
+abbrev pub uncounted_row : ClientRow → ClientRow
+uncounted_row c = record c { count = 0 }
+
+abbrev pub uncounted_framework : FrameworkRow → FrameworkRow
+uncounted_framework f = record f { clients = map uncounted_row f.clients }
+
+abbrev pub uncounted : List FrameworkRow → List FrameworkRow
+uncounted frameworks = map uncounted_framework frameworks
+
+-- a cycle moves the clock, adds offers to those that stand, and counts them; it changes nothing else
+abbrev pub CycleOnlyOffers : Type 0
+CycleOnlyOffers =
+    (rows : Rows) (at : ℕ)
+    → let after : Rows = cycle rows at in
+    (after
+    ≡ record rows {
+      frameworks = after.frameworks;
+      offers = after.offers;
+      next_offer = after.next_offer;
+      clock = max rows.clock at;
+    })
+    × (after.offers ≡ rows.offers ++ new_offers rows after)
+    × (uncounted after.frameworks ≡ uncounted rows.frameworks)

@@ -1,9 +1,10 @@
 -- Sums, counts and tests over lists of any type, and what holds of each element.
-use Rattle.std.specs.Prelude.{◌≡◌, ℕ, ◌+◌, ◌*◌, ◌≤◌, Bool, true, false, ◌&&◌, List, [], ◌∷◌, ◌++◌, map, filter, find, flat_map, sum_by, slice_get, not}
+use Rattle.std.specs.Prelude.{◌≡◌, ℕ, ◌+◌, ◌*◌, ◌≤◌, Bool, true, false, not, ◌&&◌, ◌||◌, List, [], ◌∷◌, ◌++◌, map, filter, find, flat_map, sum_by, slice_get}
 use Rattle.std.specs.List.{list_any, list_all, count_by, AllByRecursion}
 use Rattle.std.proofs.Common.{refl, sym, ap, subst, ◌∙◌, inl, inr, cond, zero, suc, arith, Some}
 use Rattle.std.proofs.lemmas.Bool.{cases_Bool, or_left, or_right, or_cases, and_parts, not-true, false≢true}
 use Rattle.std.proofs.lemmas.List.Sums.{sum_by-cons, sum_by-append}
+use Rattle.std.proofs.lemmas.Map.Views.{any-filter_same}
 
 -- ---- sums
 
@@ -147,6 +148,14 @@ list_any_at p (y ∷ ys) zero x at passes =
     or_left (p y) (list_any p ys) (ap p same ∙ passes)
 list_any_at p (y ∷ ys) (suc i) x at passes = or_right (p y) (list_any p ys) (list_any_at p ys i x at passes)
 
+pub list_any-map : {X Y : Type 0} (p : Y → Bool) (g : X → Y) (xs : List X) → list_any p (map g xs) ≡ list_any (λ x. p (g x)) xs
+list_any-map p g [] = refl
+list_any-map p g (x ∷ xs) = ap (λ (b : Bool). p (g x) || b) (list_any-map p g xs)
+
+-- a filter leaves none of what it takes out
+pub none_left : {X : Type 0} (p : X → Bool) (xs : List X) → list_any p (filter (λ x. not (p x)) xs) ≡ false
+none_left p xs = any-filter_same p (λ x. not (p x)) false (λ x here. ap not here) xs
+
 -- a part of a test that reads no element
 pub list_any-both : {X : Type 0} (b : Bool) (p : X → Bool) (xs : List X)
     → list_any (λ x. b && p x) xs ≡ (b && list_any p xs)
@@ -238,6 +247,11 @@ pub each_map : {X Y : Type 0} (P : Y → Type 0) (g : X → Y) (xs : List X)
     → AllByRecursion (λ x. P (g x)) xs → AllByRecursion P (map g xs)
 each_map P g [] all = tt
 each_map P g (x ∷ xs) all = (all.0, each_map P g xs all.1)
+
+-- what holds of all that a function makes holds of each that it made
+pub each_made : {X Y : Type 0} (P : Y → Type 0) (g : X → Y) (xs : List X) → ((x : X) → P (g x)) → AllByRecursion P (map g xs)
+each_made P g [] made = tt
+each_made P g (x ∷ xs) made = (made x, each_made P g xs made)
 
 pub each_filter : {X : Type 0} (P : X → Type 0) (p : X → Bool) (xs : List X)
     → AllByRecursion P xs → AllByRecursion P (filter p xs)

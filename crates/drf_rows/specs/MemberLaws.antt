@@ -1,7 +1,7 @@
 -- The rows once agents and frameworks take part or not, and once they leave; and that they stay consistent.
 use Rattle.std.specs.Prelude.{◌≡◌, ℕ, ◌+◌, ◌≤◌, Bool, true, false, not, ◌&&◌, ◌||◌, List, [], ◌∷◌, ◌++◌, map, fold, filter, find, flat_map, sum_by, Some, if◌then◌else◌}
 use Rattle.std.specs.List.{list_any, AllByRecursion}
-use Rattle.std.proofs.Common.{refl, sym, ap, subst, ◌∙◌, inl, inr, cond, arith}
+use Rattle.std.proofs.Common.{refl, sym, ap, subst, ◌∙◌, inl, inr, arith}
 use Rattle.std.proofs.lemmas.Bool.{cases_Bool, and_parts, and_from, or_left, or_right, or_cases, not-true, false≢true}
 use Rattle.std.proofs.lemmas.List.{map-id}
 use Rattle.std.proofs.lemmas.List.Folds.{fold-map}
@@ -10,26 +10,21 @@ use Rattle.std.proofs.lemmas.Simd.{map-map}
 use Rattle.drf_role.specs.Text.{Text, same_text}
 use Rattle.drf_role.specs.TextLaws.{same_itself, same_from_test}
 use Rattle.drf_role.specs.Path.{same_path}
-use Rattle.drf_role.specs.PathLaws.{same_path-client_path}
 use Rattle.drf_bundle.specs.Quantities.{amount_of, plus}
 use Rattle.drf_bundle.specs.QuantitiesLaws.{amount-plus}
 use Rattle.drf_bundle.specs.Bundle.{quantities_of}
 use Rattle.drf_bundle.specs.UnitProofs.{quantities_no_zeros}
-use Rattle.drf_bundle.specs.Taken.{rest_of_all}
 use Rattle.drf_bundle.specs.declared.quantities.Entry.{Entry}
-use Rattle.drf_rows.specs.Client.{Client, path_of}
-use Rattle.drf_rows.specs.Holdings.{Holding, of_offer, of_task, holdings_of, amount_in, held_where, is_of, parts_on}
-use Rattle.drf_rows.specs.HoldingsLaws.{held_where-cons}
+use Rattle.drf_rows.specs.Client.{Client}
+use Rattle.drf_rows.specs.Holdings.{Holding, of_offer, of_task, holdings_of}
 use Rattle.drf_rows.specs.Held.{client_of, clients_of, cluster_total, is_registered}
 use Rattle.drf_rows.specs.Filters.{is_of_client, is_on_agent, filters_without_agent, filters_without_framework}
-use Rattle.drf_rows.specs.Cycle.{free_of}
 use Rattle.drf_rows.specs.Consistent.{are_distinct, are_distinct_roles, IsAgent, AreAgents, AreFrameworks, IsHeld, IsCovered, IsFilter, offers_counted, IsConsistent}
 use Rattle.drf_rows.specs.ConsistentLaws.{same_text-swap}
-use Rattle.drf_rows.specs.Members.{has_agent, has_framework, active_at, with_activity, suppressed_at, suppressed_in, with_suppression, agent_deactivated, revived, agent_removed, framework_removed}
-use Rattle.drf_rows.specs.Endings.{without_ended, offers_on, all_on, all_of}
+use Rattle.drf_rows.specs.Members.{has_agent, active_at, with_activity, suppressed_at, suppressed_in, with_suppression, revived, agent_removed, framework_removed}
+use Rattle.drf_rows.specs.Endings.{without_ended, all_on, all_of}
 use Rattle.drf_rows.specs.EndingLaws.{sum_by-out, filter-one, none-filter, find-place, IsConsistent-filters}
-use Rattle.drf_rows.specs.ListLaws.{sum_by-map, sum_by-filter-cons, cond_le, each_from, each_from_both, each_append, each_map, each_filter, none_has}
-use Rattle.drf_rows.specs.declared.limits.TheConstants.{LATEST_MOMENT}
+use Rattle.drf_rows.specs.ListLaws.{list_any-map, sum_by-map, sum_by-filter-cons, cond_le, each_from, each_from_both, each_append, each_map, each_filter, none_has}
 use Rattle.drf_rows.specs.declared.rows.AgentRow.{AgentRow}
 use Rattle.drf_rows.specs.declared.rows.ClientRow.{ClientRow}
 use Rattle.drf_rows.specs.declared.rows.FilterRow.{FilterRow}
@@ -46,12 +41,6 @@ pub IsConsistent-filters_kept : (rows : Rows) (test : FilterRow → Bool) → Is
 IsConsistent-filters_kept rows test consistent =
     IsConsistent-filters rows (filter test rows.filters) consistent
     (each_filter (IsFilter rows.agents rows.frameworks) test rows.filters consistent.filters)
-
--- ---- mapped lists
-
-list_any-map : {X Y : Type 0} (p : Y → Bool) (g : X → Y) (xs : List X) → list_any p (map g xs) ≡ list_any (λ x. p (g x)) xs
-list_any-map p g [] = refl
-list_any-map p g (x ∷ xs) = ap (λ (b : Bool). p (g x) || b) (list_any-map p g xs)
 
 -- ---- an agent is active, or not
 
@@ -92,13 +81,6 @@ module _ (rows : Rows) (name : Text) (active : Bool) where
   cluster_total-with_activity =
       ap cluster_total (with_activity-is rows name active)
       ∙ fold-map (λ sum (a : AgentRow). plus sum (quantities_of a.total)) told [] rows.agents
-
-  -- what is free stays, of the agent and of the others
-  pub free_of-with_activity : (a : AgentRow)
-      → free_of (record rows { agents = with_activity rows name active }) (active_at name active a) ≡ free_of rows a
-  unfolding free_of
-  free_of-with_activity a =
-      ap (λ (b : AgentRow). rest_of_all b.total (parts_on b.name (holdings_of rows))) (active_at-is name active a)
 
   pub IsConsistent-with_activity : IsConsistent rows → IsConsistent (record rows { agents = with_activity rows name active })
   IsConsistent-with_activity consistent =
@@ -203,12 +185,6 @@ module _ (rows : Rows) (client : Client) (suppressed : Bool) where
       sym (ap (map (λ (f : FrameworkRow). f.name)) same_frameworks)
       ∙ map-map (λ (f : FrameworkRow). f.name) (suppressed_as quiet) rows.frameworks
 
-  pub has_framework-with_suppression : (name : Text)
-      → list_any (λ f. same_text f.name name) (with_suppression rows client suppressed) ≡ has_framework rows name
-  has_framework-with_suppression name =
-      sym (ap (list_any (λ (f : FrameworkRow). same_text f.name name)) same_frameworks)
-      ∙ list_any-map (λ (f : FrameworkRow). same_text f.name name) (suppressed_as quiet) rows.frameworks
-
   pub is_registered-with_suppression : (other : Client)
       → is_registered (with_suppression rows client suppressed) other ≡ is_registered rows.frameworks other
   is_registered-with_suppression other =
@@ -230,11 +206,6 @@ module _ (rows : Rows) (client : Client) (suppressed : Bool) where
             (each_from HasRoles (λ f. HasRoles (suppressed_as quiet f)) rows.frameworks
             (λ f apart. ap are_distinct_roles (roles_as quiet f) ∙ apart) right.roles));
       }
-
-  pub free_of-with_suppression : (a : AgentRow)
-      → free_of (record rows { frameworks = with_suppression rows client suppressed }) a ≡ free_of rows a
-  unfolding free_of
-  free_of-with_suppression a = refl
 
   pub IsConsistent-with_suppression : IsConsistent rows
       → IsConsistent (record rows { frameworks = with_suppression rows client suppressed })
@@ -347,14 +318,6 @@ module _ (rows : Rows) (name : Text) (nothing : without_ended rows (all_on name)
   removed : agent_removed rows name ≡ record rows { agents = others; filters = filters_without_agent name rows.filters }
   removed = λ i. record (nothing i) { agents = others; filters = filters_without_agent name rows.filters }
 
-  -- what is held stays, and what is free on the other agents
-  pub holdings_of-agent_removed : holdings_of (agent_removed rows name) ≡ holdings_of rows
-  holdings_of-agent_removed = λ i. holdings_of (nothing i)
-
-  pub free_of-agent_removed : (a : AgentRow) → free_of (agent_removed rows name) a ≡ free_of rows a
-  unfolding free_of
-  free_of-agent_removed a = λ i. rest_of_all a.total (parts_on a.name (holdings_of (nothing i)))
-
   pub IsConsistent-agent_removed : IsConsistent rows → IsConsistent (agent_removed rows name)
   IsConsistent-agent_removed consistent =
       let known : (agent : Text) → same_text agent name ≡ false → has_agent rows agent ≡ true
@@ -400,12 +363,6 @@ none_of rows name nothing =
     (each_map Past of_task rows.tasks
     (none-filter (λ (t : TaskRow). same_text t.framework name) rows.tasks (ap (λ (r : Rows). r.tasks) nothing)))
 
-held_where-none : (test : Holding → Bool) (hs : List Holding) (label : Text)
-    → AllByRecursion (λ h. test h ≡ false) hs → held_where test hs label ≡ 0
-held_where-none test [] label none = refl
-held_where-none test (h ∷ hs) label none =
-    held_where-cons test h hs label ∙ (λ i. cond (none.0 i) (amount_in label h) 0 + held_where-none test hs label none.1 i)
-
 module _ (rows : Rows) (name : Text) (nothing : without_ended rows (all_of name) ≡ rows) where
   abbrev stays_of : FrameworkRow → Bool
   stays_of f = not (same_text f.name name)
@@ -415,23 +372,6 @@ module _ (rows : Rows) (name : Text) (nothing : without_ended rows (all_of name)
 
   removed_of : framework_removed rows name ≡ record rows { frameworks = others_of; filters = filters_without_framework name rows.filters }
   removed_of = λ i. record (nothing i) { frameworks = others_of; filters = filters_without_framework name rows.filters }
-
-  pub holdings_of-framework_removed : holdings_of (framework_removed rows name) ≡ holdings_of rows
-  holdings_of-framework_removed = λ i. holdings_of (nothing i)
-
-  pub free_of-framework_removed : (a : AgentRow) → free_of (framework_removed rows name) a ≡ free_of rows a
-  unfolding free_of
-  free_of-framework_removed a = λ i. rest_of_all a.total (parts_on a.name (holdings_of (nothing i)))
-
-  -- its clients hold nothing
-  pub held_by_none : (client : Client) (label : Text) → client.framework ≡ name
-      → held_where (is_of (path_of client)) (holdings_of rows) label ≡ 0
-  held_by_none client label its =
-      held_where-none (is_of (path_of client)) (holdings_of rows) label
-      (each_from (λ h. same_text h.client.framework name ≡ false) (λ h. is_of (path_of client) h ≡ false) (holdings_of rows)
-      (λ h past. same_path-client_path h.client.role client.role h.client.framework client.framework
-      ∙ ap (λ (b : Bool). b && same_path h.client.role client.role) (ap (same_text h.client.framework) its ∙ past))
-      (none_of rows name nothing))
 
   -- other frameworks' clients stay registered
   pub is_registered-framework_removed : (client : Client) → same_text client.framework name ≡ false
@@ -564,25 +504,3 @@ amount-without_named agents name a label right found =
     subst (λ (n : Text). without n + amount_of (quantities_of a.total) label ≡ amount_of (cluster_total agents) label)
     (same_from_test a.name name at.1)
     (amount-without_agent agents at.0.before at.0.after a label right at.0.stands)
-
--- ---- what ends first
-
--- where all that ends has ended, what is still to be done is done to the rows that are left
-module _ (old new : Rows) (name : Text) where
-  pub deactivated-ended : new ≡ without_ended old (offers_on name)
-      → record new { agents = with_activity new name false } ≡ agent_deactivated old name
-  deactivated-ended ended = λ i. record (ended i) { agents = with_activity (ended i) name false }
-
-  pub agent_removed-ended : new ≡ without_ended old (all_on name) → without_ended new (all_on name) ≡ new
-      → agent_removed new name ≡ agent_removed old name
-  agent_removed-ended ended nothing =
-      let left : Rows → List AgentRow = λ r. filter (λ a. not (same_text a.name name)) r.agents in
-      (λ i. record (nothing i) { agents = left new; filters = filters_without_agent name new.filters })
-      ∙ (λ i. record (ended i) { agents = left (ended i); filters = filters_without_agent name (ended i).filters })
-
-  pub framework_removed-ended : new ≡ without_ended old (all_of name) → without_ended new (all_of name) ≡ new
-      → framework_removed new name ≡ framework_removed old name
-  framework_removed-ended ended nothing =
-      let left : Rows → List FrameworkRow = λ r. filter (λ f. not (same_text f.name name)) r.frameworks in
-      (λ i. record (nothing i) { frameworks = left new; filters = filters_without_framework name new.filters })
-      ∙ (λ i. record (ended i) { frameworks = left (ended i); filters = filters_without_framework name (ended i).filters })

@@ -57,7 +57,7 @@ suppressed_in client suppressed f =
 abbrev pub with_suppression : Rows → Client → Bool → List FrameworkRow
 with_suppression rows client suppressed = map (suppressed_in client suppressed) rows.frameworks
 
--- an agent that is not active has no offers
+-- an agent that is deactivated loses its offers, and keeps its tasks
 abbrev pub agent_deactivated : Rows → Text → Rows
 agent_deactivated rows name = record (without_ended rows (offers_on name)) { agents = with_activity rows name false }
 

@@ -53,7 +53,7 @@ left_of_offer o starts = rest_of_all o.bundle (map (λ s. s.1) starts)
 
 -- ---- filters that a framework sets
 
--- a refusal ends so long after the clock; more than 365 days are 365 days
+-- a filter that is set for so long ends so long after the clock; more than 365 days are 365 days
 abbrev pub refused_until : ℕ → ℕ → ℕ
 refused_until clock refuse_ms = clock + min refuse_ms LONGEST_REFUSAL
 

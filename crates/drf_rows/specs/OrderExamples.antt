@@ -1,5 +1,7 @@
 -- Some rows, and the frameworks in the order in which they are served.
 use Rattle.std.specs.Prelude.{ℕ, true, false, List, [], ◌∷◌, map, codes}
+use Rattle.drf_role.specs.Path.{Path}
+use Rattle.drf_role.specs.Text.{Text}
 use Rattle.drf_bundle.specs.declared.resource.Resource.{Resource}
 use Rattle.drf_rows.specs.Cycle.{turn_order, cycle}
 use Rattle.drf_rows.specs.Examples.{cpus, mem}
@@ -13,12 +15,12 @@ abbrev pub agent_with : List Resource → AgentRow
 agent_with total = record { name = codes "n1"; total = total; active = true }
 
 -- a framework in one role, to which so many offers were made
-abbrev pub framework_in : List ℕ → List (List ℕ) → ℕ → FrameworkRow
-framework_in name role count =
+abbrev pub framework_row : Text → Path → ℕ → FrameworkRow
+framework_row name role count =
     record { name = name; clients = record { role = role; count = count; suppressed = false } ∷ [] }
 
 -- what it holds
-abbrev pub holding : List ℕ → List (List ℕ) → List Resource → OfferRow
+abbrev pub holding : Text → Path → List Resource → OfferRow
 holding name role bundle =
     record { number = 1; agent = codes "n1"; framework = name; role = role; bundle = bundle }
 
@@ -37,20 +39,20 @@ rows_with agents frameworks offers weights = record {
 }
 
 -- the frameworks in the order in which they are served
-abbrev pub served : Rows → List (List ℕ)
+abbrev pub served : Rows → List Text
 served rows = map (λ c. c.framework) (turn_order rows)
 
-abbrev pub role_a : List (List ℕ)
+abbrev pub role_a : Path
 role_a = codes "a" ∷ []
 
-abbrev pub role_b : List (List ℕ)
+abbrev pub role_b : Path
 role_b = codes "b" ∷ []
 
 -- 333/1000 is less than 1/3
 abbrev pub close_shares : Rows
 close_shares = rows_with
     (agent_with (cpus 3000 ∷ mem 1000000 ∷ []) ∷ [])
-    (framework_in (codes "fa") role_a 1 ∷ framework_in (codes "fb") role_b 1 ∷ [])
+    (framework_row (codes "fa") role_a 1 ∷ framework_row (codes "fb") role_b 1 ∷ [])
     (holding (codes "fa") role_a (cpus 1000 ∷ []) ∷ holding (codes "fb") role_b (mem 333000 ∷ []) ∷ [])
     []
 
@@ -58,7 +60,7 @@ close_shares = rows_with
 abbrev pub equal_shares : Rows
 equal_shares = rows_with
     (agent_with (cpus 9000 ∷ mem 18432000 ∷ []) ∷ [])
-    (framework_in (codes "fa") role_a 3 ∷ framework_in (codes "fb") role_b 2 ∷ [])
+    (framework_row (codes "fa") role_a 3 ∷ framework_row (codes "fb") role_b 2 ∷ [])
     (holding (codes "fa") role_a (cpus 3000 ∷ mem 12288000 ∷ []) ∷ holding (codes "fb") role_b (cpus 6000 ∷ mem 2048000 ∷ []) ∷ [])
     []
 
@@ -66,14 +68,14 @@ equal_shares = rows_with
 abbrev pub weighted_shares : Rows
 weighted_shares = rows_with
     (agent_with (cpus 9000 ∷ []) ∷ [])
-    (framework_in (codes "fb") role_b 1 ∷ framework_in (codes "fa") role_a 1 ∷ [])
+    (framework_row (codes "fb") role_b 1 ∷ framework_row (codes "fa") role_a 1 ∷ [])
     (holding (codes "fa") role_a (cpus 1000 ∷ []) ∷ holding (codes "fb") role_b (cpus 3000 ∷ []) ∷ [])
     (record { role = role_b; weight = 3000 } ∷ [])
 
 -- 3/9 against 8192/18432, and 3/10 against 8192/55296 once there is a second agent
 abbrev pub shares_of : List AgentRow → Rows
 shares_of agents = rows_with agents
-    (framework_in (codes "fa") role_a 1 ∷ framework_in (codes "fb") role_b 1 ∷ [])
+    (framework_row (codes "fa") role_a 1 ∷ framework_row (codes "fb") role_b 1 ∷ [])
     (holding (codes "fa") role_a (cpus 3000 ∷ []) ∷ holding (codes "fb") role_b (mem 8192000 ∷ []) ∷ [])
     []
 
@@ -87,20 +89,20 @@ second_agent = record { name = codes "n2"; total = cpus 1000 ∷ mem 36864000 �
 abbrev pub idle_agent : AgentRow
 idle_agent = record second_agent { active = false }
 
-abbrev pub eng : List (List ℕ)
+abbrev pub eng : Path
 eng = codes "eng" ∷ []
 
-abbrev pub eng_web : List (List ℕ)
+abbrev pub eng_web : Path
 eng_web = codes "eng" ∷ codes "web" ∷ []
 
-abbrev pub ops : List (List ℕ)
+abbrev pub ops : Path
 ops = codes "ops" ∷ []
 
 -- three roles, of which one stands below another
 abbrev pub role_tree : ℕ → List OfferRow → List WeightRow → Rows
 role_tree count_of_f3 more_for_f3 weights = rows_with
     (agent_with (cpus 8000 ∷ []) ∷ [])
-    (framework_in (codes "f1") eng 1 ∷ framework_in (codes "f2") eng_web 1 ∷ framework_in (codes "f3") ops count_of_f3 ∷ [])
+    (framework_row (codes "f1") eng 1 ∷ framework_row (codes "f2") eng_web 1 ∷ framework_row (codes "f3") ops count_of_f3 ∷ [])
     (holding (codes "f1") eng (cpus 1000 ∷ [])
     ∷ holding (codes "f3") ops (cpus 2000 ∷ [])
     ∷ holding (codes "f2") eng_web (cpus 2000 ∷ [])
@@ -117,7 +119,7 @@ half_weight_of_eng = record { role = eng; weight = 500 } ∷ []
 abbrev pub nothing_held : Rows
 nothing_held = rows_with
     (agent_with (cpus 8000 ∷ []) ∷ [])
-    (framework_in (codes "f1") eng 0 ∷ framework_in (codes "f2") (codes "eng" ∷ codes "!x" ∷ []) 0 ∷ [])
+    (framework_row (codes "f1") eng 0 ∷ framework_row (codes "f2") (codes "eng" ∷ codes "!x" ∷ []) 0 ∷ [])
     []
     []
 
@@ -125,10 +127,10 @@ nothing_held = rows_with
 abbrev pub half_at_work : Rows
 half_at_work = rows_with
     (record { name = codes "n1"; total = cpus 4000 ∷ []; active = false } ∷ record { name = codes "n2"; total = cpus 4000 ∷ []; active = true } ∷ [])
-    (record { name = codes "fa"; clients = record { role = role_a; count = 0; suppressed = true } ∷ [] } ∷ framework_in (codes "fb") role_b 0 ∷ [])
+    (record { name = codes "fa"; clients = record { role = role_a; count = 0; suppressed = true } ∷ [] } ∷ framework_row (codes "fb") role_b 0 ∷ [])
     []
     []
 
 -- the agents and the frameworks of what a cycle offers
-abbrev pub offered : Rows → List (List ℕ × List ℕ)
+abbrev pub offered : Rows → List (Text × Text)
 offered rows = map (λ o. (o.agent, o.framework)) (cycle rows 0).offers

@@ -1,8 +1,8 @@
 -- The rows with one more agent, or one more framework: what they say of it, and that they stay consistent.
-use Rattle.std.specs.Prelude.{◌≡◌, ◌+◌, ◌&&◌, ◌||◌, Bool, true, false, not, List, [], ◌∷◌, ◌++◌, length, map, filter, sum_by}
+use Rattle.std.specs.Prelude.{◌≡◌, ◌+◌, ◌&&◌, true, false, not, List, [], ◌∷◌, ◌++◌, length, map, filter, sum_by}
 use Rattle.std.specs.List.{list_any, AllByRecursion}
 use Rattle.std.proofs.Common.{refl, sym, ap, ◌∙◌, inl, inr, arith}
-use Rattle.std.proofs.lemmas.Bool.{cases_Bool, false≢true, and_parts, or_left}
+use Rattle.std.proofs.lemmas.Bool.{cases_Bool, false≢true, and_parts, or_left, or_parts}
 use Rattle.std.proofs.lemmas.Grind.{flat_map-append, fold-append}
 use Rattle.std.proofs.lemmas.List.{append-nil, length-append, length-map}
 use Rattle.std.proofs.lemmas.List.Folds.{list_any-append}
@@ -11,13 +11,12 @@ use Rattle.drf_role.specs.Text.{Text, same_text}
 use Rattle.drf_role.specs.TextLaws.{same_from_test}
 use Rattle.drf_bundle.specs.Quantities.{plus}
 use Rattle.drf_bundle.specs.Bundle.{quantities_of}
-use Rattle.drf_bundle.specs.Taken.{rest_of_all, units_of_all}
+use Rattle.drf_bundle.specs.Taken.{units_of_all}
 use Rattle.drf_bundle.specs.declared.resource.Resource.{Resource}
 use Rattle.drf_role.specs.Path.{same_path}
 use Rattle.drf_rows.specs.Client.{Client}
 use Rattle.drf_rows.specs.Holdings.{Holding, holdings_of, is_on, parts_on}
 use Rattle.drf_rows.specs.Held.{client_of, clients_of, cluster_total, is_registered}
-use Rattle.drf_rows.specs.Cycle.{free_of}
 use Rattle.drf_rows.specs.Step.{opening}
 use Rattle.drf_rows.specs.Members.{has_agent, has_framework, with_agent}
 use Rattle.drf_rows.specs.ListLaws.{each_from, each_append, none_has}
@@ -41,10 +40,6 @@ framework_added rows f = record rows { frameworks = rows.frameworks ++ f ∷ [] 
 
 -- ---- names
 
-or_neither : (a b : Bool) → (a || b) ≡ false → (a ≡ false) × (b ≡ false)
-or_neither true b none = cc
-or_neither false b none = (refl, none)
-
 none_has-push : {X : Type 0} (name : X → Text) (n : Text) (xs : List X) (x : X)
     → none_has same_text name n xs ≡ true → same_text n (name x) ≡ false → none_has same_text name n (xs ++ x ∷ []) ≡ true
 none_has-push name n [] x all other = rw other refl
@@ -59,16 +54,10 @@ are_distinct-push : {X : Type 0} (name : X → Text) (xs : List X) (x : X)
 are_distinct-push name [] x apart new = refl
 are_distinct-push name (y ∷ ys) x apart new =
     let parts = and_parts (none_has same_text name (name y) ys) (are_distinct (map name ys)) apart in
-    let none = or_neither (same_text (name y) (name x)) (list_any (λ y. same_text (name y) (name x)) ys) new in
+    let none = or_parts (same_text (name y) (name x)) (list_any (λ y. same_text (name y) (name x)) ys) new in
     rw (none_has-push name (name y) ys x parts.0 none.0) (are_distinct-push name ys x parts.1 none.1)
 
 -- ---- one more agent
-
--- what is free on an agent does not change
-pub free_of-agent_added : (rows : Rows) (name : Text) (total : List Resource) (agent : AgentRow)
-    → free_of (agent_added rows name total) agent ≡ free_of rows agent
-unfolding free_of
-free_of-agent_added rows name total agent = refl
 
 -- nothing is held on an agent that is not registered
 nothing_on : (rows : Rows) (name : Text) (hs : List Holding)
@@ -83,12 +72,6 @@ pub parts_on-nothing : (rows : Rows) (name : Text)
     → IsConsistent rows → has_agent rows name ≡ false → parts_on name (holdings_of rows) ≡ []
 parts_on-nothing rows name consistent new =
     ap (map (λ (h : Holding). h.bundle)) (nothing_on rows name (holdings_of rows) consistent.holdings new)
-
--- all of a new agent is free
-pub free_of-new : (rows : Rows) (name : Text) (total : List Resource)
-    → IsConsistent rows → has_agent rows name ≡ false → free_of rows (new_agent name total) ≡ total
-unfolding free_of
-free_of-new rows name total consistent new = ap (rest_of_all total) (parts_on-nothing rows name consistent new)
 
 -- its total is added
 pub cluster_total-with_agent : (rows : Rows) (name : Text) (total : List Resource)
@@ -136,11 +119,6 @@ IsConsistent-agent_added rows name total consistent new right =
     }
 
 -- ---- one more framework
-
-pub free_of-framework_added : (rows : Rows) (f : FrameworkRow) (agent : AgentRow)
-    → free_of (framework_added rows f) agent ≡ free_of rows agent
-unfolding free_of
-free_of-framework_added rows f agent = refl
 
 -- its clients come last
 pub clients_of-framework_added : (rows : Rows) (f : FrameworkRow)

@@ -1,9 +1,11 @@
 -- Some rows, and what is reported of them.
 use Rattle.std.specs.Prelude.{ℕ, true, List, [], ◌∷◌, ◌++◌, codes}
+use Rattle.drf_role.specs.Path.{Path}
+use Rattle.drf_role.specs.Text.{Text}
 use Rattle.drf_bundle.specs.declared.quantities.Entry.{Entry}
 use Rattle.drf_bundle.specs.declared.resource.Resource.{Resource}
 use Rattle.drf_rows.specs.Examples.{cpus, cpus_for, mem, offer, one_cycle}
-use Rattle.drf_rows.specs.OrderExamples.{agent_with, framework_in, holding, rows_with, role_a, role_b, eng, eng_web, ops}
+use Rattle.drf_rows.specs.OrderExamples.{agent_with, framework_row, holding, rows_with, role_a, role_b, eng, eng_web, ops}
 use Rattle.drf_rows.specs.declared.event.Event.{Event}
 use Rattle.drf_rows.specs.declared.event.Event.TheVariants as event
 use Rattle.drf_rows.specs.declared.report.NodeLine.{NodeLine}
@@ -19,16 +21,16 @@ abbrev pub told_cpus : ℕ → List Entry
 told_cpus amount = record { label = codes "cpus"; amount = amount } ∷ []
 
 -- a node of weight 1
-abbrev pub line : List (List ℕ) → List Entry → ℕ × ℕ → ℕ → NodeLine
+abbrev pub line : Path → List Entry → ℕ × ℕ → ℕ → NodeLine
 line path held share count =
     record { path = path; held = held; share = share; weighted = share; count = count }
 
 -- what a framework has in a task
-abbrev pub running : List ℕ → List (List ℕ) → List Resource → TaskRow
+abbrev pub running : Text → Path → List Resource → TaskRow
 running name role bundle =
     record { name = codes "t"; agent = codes "n1"; framework = name; role = role; bundle = bundle }
 
-abbrev pub dot : List (List ℕ)
+abbrev pub dot : Path
 dot = codes "." ∷ []
 
 -- three roles, of which one stands below another, with tasks of all and an offer to the first
@@ -36,7 +38,7 @@ abbrev pub tree_at_work : Rows
 tree_at_work =
     record
     (rows_with (agent_with (cpus 8000 ∷ []) ∷ [])
-    (framework_in (codes "f1") eng 2 ∷ framework_in (codes "f2") eng_web 1 ∷ framework_in (codes "f3") ops 2 ∷ [])
+    (framework_row (codes "f1") eng 2 ∷ framework_row (codes "f2") eng_web 1 ∷ framework_row (codes "f3") ops 2 ∷ [])
     (holding (codes "f1") eng (cpus 1000 ∷ []) ∷ [])
     []) {
       tasks =
@@ -68,7 +70,7 @@ tree_report = record {
 abbrev pub one_weighted : Rows
 one_weighted = rows_with
     (agent_with (cpus 9000 ∷ []) ∷ [])
-    (framework_in (codes "fb") role_b 1 ∷ framework_in (codes "fa") role_a 1 ∷ [])
+    (framework_row (codes "fb") role_b 1 ∷ framework_row (codes "fa") role_a 1 ∷ [])
     (holding (codes "fa") role_a (cpus 1000 ∷ []) ∷ holding (codes "fb") role_b (cpus 3000 ∷ []) ∷ [])
     (record { role = role_b; weight = 3000 } ∷ [])
 
@@ -89,7 +91,7 @@ weighted_report = record {
 abbrev pub nothing_there : Rows
 nothing_there = rows_with []
     (record { name = codes "fb"; clients = record { role = role_a; count = 2; suppressed = true } ∷ [] }
-    ∷ framework_in (codes "fa") role_a 3
+    ∷ framework_row (codes "fa") role_a 3
     ∷ [])
     []
     []
@@ -109,7 +111,7 @@ nothing_report = record {
 abbrev pub reserved_held : Rows
 reserved_held = rows_with
     (agent_with (cpus 6000 ∷ cpus_for (codes "a") 2000 ∷ mem 1000 ∷ []) ∷ [])
-    (framework_in (codes "fa") role_a 1 ∷ [])
+    (framework_row (codes "fa") role_a 1 ∷ [])
     (holding (codes "fa") role_a (cpus 1000 ∷ cpus_for (codes "a") 2000 ∷ []) ∷ [])
     []
 

@@ -1,5 +1,6 @@
--- What is reported of a node is what its clients hold, and the nodes are those of the registered clients, in order.
-use Rattle.std.specs.Prelude.{◌≡◌, ℕ, zero, suc, ◌+◌, ◌≤◌, Bool, true, false, ◌||◌, List, [], ◌∷◌, length, take, drop, fold, filter, flat_map, sum_by, IsTrue}
+-- What is reported of a node is what its clients hold, what is reported of the cluster what its agents have, and the nodes
+-- are those of the registered clients, in order.
+use Rattle.std.specs.Prelude.{◌≡◌, ℕ, zero, suc, ◌+◌, ◌≤◌, Bool, true, false, ◌||◌, List, [], ◌∷◌, length, map, take, drop, fold, filter, flat_map, sum_by, IsTrue}
 use Rattle.std.specs.List.{list_all, list_any}
 use Rattle.std.specs.Ordering.{nat_cmp, is_lt, is_eq, match_ordering, ordering_reverse}
 use Rattle.std.specs.Cmp.Lexicographic.{slice_cmp, lists_total, lists_ties, texts_ties, bytes_decides, nat_list_cmp_total}
@@ -7,6 +8,7 @@ use Rattle.std.specs.declared.cmp.Ordering.{Ordering}
 use Rattle.std.specs.declared.cmp.Ordering.TheVariants.{Less, Equal, Greater}
 use Rattle.std.proofs.Common.{refl, sym, ap, ◌∙◌, inl, inr, ⊎_elim, arith, length-append}
 use Rattle.std.proofs.Math.Seq.{take-append_seam}
+use Rattle.std.proofs.Math.Bool.{or-false}
 use Rattle.std.proofs.lemmas.Bool.{cases_Bool, cases_eq, and_from, and_parts, or_left, or_right, false_from_ne_true, false≢true}
 use Rattle.std.proofs.lemmas.List.{take-append-drop}
 use Rattle.std.proofs.lemmas.List.Folds.{list_any-append}
@@ -15,17 +17,20 @@ use Rattle.std.proofs.lemmas.Slice.Eq.{starts_is}
 use Rattle.drf_role.specs.Text.{Text}
 use Rattle.drf_role.specs.Path.{Path, same_path, begins_with}
 use Rattle.drf_role.specs.PathLaws.{same_path-true, same_path_itself}
-use Rattle.drf_bundle.specs.Quantities.{plus, amount_of, is_in_order}
-use Rattle.drf_bundle.specs.QuantitiesLaws.{amount-plus, in_order-plus, amount-without_zeros}
+use Rattle.drf_bundle.specs.Quantities.{plus, amount_of, is_in_order, HasNoZeros}
+use Rattle.drf_bundle.specs.QuantitiesLaws.{amount-plus, in_order-plus, amount-without_zeros, no_zeros-without_zeros}
 use Rattle.drf_bundle.specs.Bundle.{IsBundle, quantities_of}
 use Rattle.drf_bundle.specs.UnitProofs.{quantities_no_zeros}
 use Rattle.drf_bundle.specs.declared.quantities.Entry.{Entry}
 use Rattle.drf_rows.specs.Client.{Client, path_of}
 use Rattle.drf_rows.specs.Holdings.{Holding, holdings_of, amount_in, is_under, AreBundles}
-use Rattle.drf_rows.specs.Held.{clients_of}
-use Rattle.drf_rows.specs.Report.{path_cmp, with_node, nodes_to, nodes_on}
-use Rattle.drf_rows.specs.Laws.{HeldIsReported, NodesRise, NodesBeginPaths, are_in_order}
-use Rattle.drf_rows.specs.ListLaws.{each_filter}
+use Rattle.drf_rows.specs.Held.{clients_of, cluster_total, count_of, held_by, standing_of}
+use Rattle.drf_rows.specs.MemberLaws.{amount-cluster_total}
+use Rattle.drf_rows.specs.Report.{path_cmp, with_node, nodes_to, nodes_on, nodes_of, node_line, report_of}
+use Rattle.drf_rows.specs.ReportedShares.{in_order-cluster_total}
+use Rattle.drf_rows.specs.Laws.{HeldIsReported, CountIsReported, TotalIsReported, AmountsAreAboveZero, NodesRise, NodesBeginPaths, are_in_order, paths_told}
+use Rattle.drf_rows.specs.ListLaws.{each_filter, each_made}
+use Rattle.drf_rows.specs.declared.rows.Rows.{Rows}
 
 -- ---- what a node holds
 
@@ -48,11 +53,37 @@ in_order-added start (h ∷ hs) ordered =
     in_order-added (plus start (quantities_of h.bundle)) hs (in_order-plus start (quantities_of h.bundle) ordered)
 
 pub held_is_reported : HeldIsReported
-held_is_reported rows node label bundles =
-    let hs : List Holding = filter (is_under node) (holdings_of rows) in
-    amount-without_zeros (added [] hs) label (in_order-added [] hs refl)
-    ∙ amount-added [] hs label (each_filter (λ h. IsBundle h.bundle) (is_under node) (holdings_of rows) bundles)
-    ∙ omega arith
+unfolding report_of
+held_is_reported rows bundles =
+    each_made (λ line. (label : Text) → amount_of line.held label ≡ held_by rows line.path label) (node_line rows) (nodes_of rows) by
+  where
+    by : (node : Path) (label : Text) → amount_of (node_line rows node).held label ≡ held_by rows node label
+    by node label =
+        let hs : List Holding = filter (is_under node) (holdings_of rows) in
+        amount-without_zeros (added [] hs) label (in_order-added [] hs refl)
+        ∙ amount-added [] hs label (each_filter (λ h. IsBundle h.bundle) (is_under node) (holdings_of rows) bundles)
+        ∙ omega arith
+
+pub count_is_reported : CountIsReported
+unfolding report_of standing_of
+count_is_reported rows = each_made (λ line. line.count ≡ count_of rows line.path) (node_line rows) (nodes_of rows) (λ node. refl)
+
+-- ---- amounts
+
+pub total_is_reported : TotalIsReported
+unfolding report_of
+total_is_reported rows label agents =
+    amount-without_zeros (cluster_total rows.agents) label (in_order-cluster_total rows.agents)
+    ∙ amount-cluster_total rows.agents label agents
+
+pub amounts_are_above_zero : AmountsAreAboveZero
+unfolding report_of
+amounts_are_above_zero rows = (
+  no_zeros-without_zeros (cluster_total rows.agents) (in_order-cluster_total rows.agents),
+  each_made (λ line. HasNoZeros line.held) (node_line rows) (nodes_of rows) (λ node.
+      let hs : List Holding = filter (is_under node) (holdings_of rows) in
+      no_zeros-without_zeros (added [] hs) (in_order-added [] hs refl)),
+)
 
 -- ---- the order of nodes
 
@@ -106,8 +137,18 @@ in_order-put : (ns ms : List Path) → are_in_order ns ≡ true → are_in_order
 in_order-put ns [] ordered = ordered
 in_order-put ns (m ∷ ms) ordered = in_order-put (with_node ns m) ms (in_order-with ns m ordered)
 
+-- the nodes, as they are told
+told : (rows : Rows) → paths_told rows ≡ nodes_of rows
+unfolding report_of
+told rows = by (nodes_of rows)
+  where
+    by : (nodes : List Path) → map (λ line. line.path) (map (node_line rows) nodes) ≡ nodes
+    by [] = refl
+    by (n ∷ ns) = λ i. n ∷ by ns i
+
 pub nodes_rise : NodesRise
-nodes_rise rows = in_order-put [] (flat_map (λ client. nodes_on (path_of client)) (clients_of rows)) refl
+nodes_rise rows =
+    ap are_in_order (told rows) ∙ in_order-put [] (flat_map (λ client. nodes_on (path_of client)) (clients_of rows)) refl
 
 -- ---- which nodes there are
 
@@ -202,12 +243,26 @@ any-clients x (c ∷ cs) some =
     list_any-append (same_path x) (nodes_on (path_of c)) (flat_map (λ client. nodes_on (path_of client)) cs)
     ∙ (λ i. any-on_path x (path_of c) some i || any-clients x cs some i)
 
-or_none : (b : Bool) → (b || false) ≡ b
-or_none true = refl
-or_none false = refl
+-- no node is the path of no part
+empty_to : (path : Path) (n : ℕ) → n ≤ length path → list_any (same_path []) (nodes_to path n) ≡ false
+empty_to path zero within = refl
+empty_to [] (suc n) within = absurd (omega arith)
+empty_to (p ∷ ps) (suc n) within = any-later [] (p ∷ ps) n ∙ ap (λ (b : Bool). b || false) (empty_to (p ∷ ps) n (omega arith))
+
+empty_clients : (cs : List Client) → list_any (same_path []) (flat_map (λ client. nodes_on (path_of client)) cs) ≡ false
+empty_clients [] = refl
+empty_clients (c ∷ cs) =
+    list_any-append (same_path []) (nodes_on (path_of c)) (flat_map (λ client. nodes_on (path_of client)) cs)
+    ∙ (λ i. empty_to (path_of c) (length (path_of c)) (omega arith) i || empty_clients cs i)
+
+any-nodes : (node : Path) (rows : Rows)
+    → list_any (same_path node) (nodes_of rows) ≡ list_any (same_path node) (flat_map (λ client. nodes_on (path_of client)) (clients_of rows))
+any-nodes node rows =
+    any-put node [] (flat_map (λ client. nodes_on (path_of client)) (clients_of rows))
+    ∙ or-false (list_any (same_path node) (flat_map (λ client. nodes_on (path_of client)) (clients_of rows)))
 
 pub nodes_begin_paths : NodesBeginPaths
-nodes_begin_paths rows node some =
-    any-put node [] (flat_map (λ client. nodes_on (path_of client)) (clients_of rows))
-    ∙ or_none (list_any (same_path node) (flat_map (λ client. nodes_on (path_of client)) (clients_of rows)))
-    ∙ any-clients node (clients_of rows) some
+nodes_begin_paths rows [] =
+    ap (list_any (same_path [])) (told rows) ∙ any-nodes [] rows ∙ empty_clients (clients_of rows)
+nodes_begin_paths rows (p ∷ ps) =
+    ap (list_any (same_path (p ∷ ps))) (told rows) ∙ any-nodes (p ∷ ps) rows ∙ any-clients (p ∷ ps) (clients_of rows) (omega arith)

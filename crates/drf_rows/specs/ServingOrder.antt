@@ -9,15 +9,16 @@ use Rattle.std.proofs.lemmas.List.{length-map}
 use Rattle.std.proofs.lemmas.List.Sorted.{list_any-IsPermutation, length_permutation}
 use Rattle.std.proofs.lemmas.Bool.{true≢false, cases_Bool, cond-true, cond-false, or_left, or_right, or_cases, and_from, and_parts}
 use Rattle.std.proofs.lemmas.Bool.Decides.{nat_tests}
-use Rattle.drf_role.specs.Text.{same_text, text_below}
+use Rattle.drf_role.specs.Text.{Text, same_text, text_below}
 use Rattle.drf_role.specs.TextLaws.{same_from_test, same_itself, cmp_above}
 use Rattle.drf_role.specs.PathLaws.{same_path-true, same_path_itself}
-use Rattle.drf_role.specs.Path.{same_path}
+use Rattle.drf_role.specs.Path.{Path, same_path}
 use Rattle.drf_rows.specs.Client.{Client, path_of}
 use Rattle.drf_rows.specs.Share.{Standing, Fraction, weighted_share_of, is_ahead, stands_before_below, stands_before, is_serving_order}
+use Rattle.drf_rows.specs.ListLaws.{list_any-map}
 use Rattle.drf_rows.specs.Cycle.{first_of, without, serving_order}
 
-text_below-back : (a b : List ℕ) → text_below a b ≡ true → text_below b a ≡ false
+text_below-back : (a b : Text) → text_below a b ≡ true → text_below b a ≡ false
 text_below-back a b h = ap is_lt (cmp_above a b h)
 
 -- by shares p and q, then counts m and n, then names: where one is ahead of another, the other is not ahead of the one
@@ -27,7 +28,7 @@ rank_back : (p q m n : ℕ) (l g : Bool)
     → (ltb q p || (eqb q p && (ltb n m || (eqb n m && g)))) ≡ false
 rank_back p q m n l g back h = grind (arith, nat_tests)
 
-pub is_ahead-back : (s : Standing) (parent : List (List ℕ)) (a b : List ℕ)
+pub is_ahead-back : (s : Standing) (parent : Path) (a b : Text)
     → is_ahead s parent a b ≡ true → is_ahead s parent b a ≡ false
 unfolding is_ahead
 is_ahead-back s parent a b h =
@@ -37,15 +38,15 @@ is_ahead-back s parent a b h =
     (text_below a b) (text_below b a) (text_below-back a b) h
 
 -- no path stands before itself
-below_itself : (s : Standing) (parent path : List (List ℕ)) → stands_before_below s parent path path ≡ false
+below_itself : (s : Standing) (parent path : Path) → stands_before_below s parent path path ≡ false
 below_itself s parent [] = refl
 below_itself s parent (a ∷ path) = rw (same_itself a) (below_itself s (parent ++ a ∷ []) path)
 
-pub stands_before_itself : (s : Standing) (path : List (List ℕ)) → stands_before s path path ≡ false
+pub stands_before_itself : (s : Standing) (path : Path) → stands_before s path path ≡ false
 stands_before_itself s path = below_itself s [] path
 
 -- where one path stands before another, the other does not stand before the one
-decided_back : (s : Standing) (parent : List (List ℕ)) (x y : List ℕ) (xs ys : List (List ℕ))
+decided_back : (s : Standing) (parent : Path) (x y : Text) (xs ys : Path)
     → (stands_before_below s (parent ++ x ∷ []) xs ys ≡ true → stands_before_below s (parent ++ x ∷ []) ys xs ≡ false)
     → stands_before_below s parent (x ∷ xs) (y ∷ ys) ≡ true
     → stands_before_below s parent (y ∷ ys) (x ∷ xs) ≡ false
@@ -59,7 +60,7 @@ decided_back s parent x y xs ys deeper h =
           rw (nat_list_eq_equiv.symm y x, other) (is_ahead-back s parent x y here)
     ]
 
-below_back : (s : Standing) (parent a b : List (List ℕ))
+below_back : (s : Standing) (parent a b : Path)
     → stands_before_below s parent a b ≡ true → stands_before_below s parent b a ≡ false
 below_back s parent [] [] h = refl
 below_back s parent [] (y ∷ ys) h = refl
@@ -67,7 +68,7 @@ below_back s parent (x ∷ xs) [] h = refl
 below_back s parent (x ∷ xs) (y ∷ ys) h =
     decided_back s parent x y xs ys (below_back s (parent ++ x ∷ []) xs ys) h
 
-pub stands_before-back : (s : Standing) (a b : List (List ℕ)) → stands_before s a b ≡ true → stands_before s b a ≡ false
+pub stands_before-back : (s : Standing) (a b : Path) → stands_before s a b ≡ true → stands_before s b a ≡ false
 stands_before-back s a b h = below_back s [] a b h
 
 -- what a search finds passes the test and is one of the list
@@ -86,10 +87,6 @@ found t (y ∷ ys) h =
           )
     ]
 
-list_any-map : {X Y : Type 0} (t : Y → Bool) (f : X → Y) (xs : List X) → list_any t (map f xs) ≡ list_any (λ x. t (f x)) xs
-list_any-map t f [] = refl
-list_any-map t f (x ∷ xs) = ap (λ b. t (f x) || b) (list_any-map t f xs)
-
 list_any-filter : {X : Type 0} (t q : X → Bool) (xs : List X) → list_any t (filter q xs) ≡ list_any (λ x. q x && t x) xs
 list_any-filter t q [] = refl
 list_any-filter t q (x ∷ xs) = grind (arith, list_any-filter t q xs)
@@ -99,11 +96,11 @@ list_all-not_any t [] = refl
 list_all-not_any t (x ∷ xs) = grind (arith, list_all-not_any t xs)
 
 -- the paths are those of the clients, however often and in which order
-abbrev HasPaths : List Client → List (List (List ℕ)) → Type 0
-HasPaths cs ps = (t : List (List ℕ) → Bool) → list_any (λ c. t (path_of c)) cs ≡ list_any t ps
+abbrev HasPaths : List Client → List Path → Type 0
+HasPaths cs ps = (t : Path → Bool) → list_any (λ c. t (path_of c)) cs ≡ list_any t ps
 
 -- what holds of all of them holds of one
-all_at : (t : List (List ℕ) → Bool) (x : List (List ℕ)) (ps : List (List (List ℕ)))
+all_at : (t : Path → Bool) (x : Path) (ps : List Path)
     → list_any (same_path x) ps ≡ true → list_all t ps ≡ true → t x ≡ true
 all_at t x [] m h = absurd (true≢false (sym m))
 all_at t x (p ∷ ps) m h =
@@ -112,12 +109,12 @@ all_at t x (p ∷ ps) m h =
       | inr later ↦ all_at t x ps later (and_parts (t p) (list_all t ps) h).1
     ]
 
-all_paths : (t : List (List ℕ) → Bool) (cs : List Client) (ps : List (List (List ℕ)))
+all_paths : (t : Path → Bool) (cs : List Client) (ps : List Path)
     → HasPaths cs ps → list_all (λ c. t (path_of c)) cs ≡ list_all t ps
 all_paths t cs ps has =
     list_all-not_any (λ c. t (path_of c)) cs ∙ ap not (has (λ p. not (t p))) ∙ sym (list_all-not_any t ps)
 
-pub same_path-before : (s : Standing) (a b : List (List ℕ)) → stands_before s a b ≡ true → same_path a b ≡ false
+pub same_path-before : (s : Standing) (a b : Path) → stands_before s a b ≡ true → same_path a b ≡ false
 same_path-before s a b h =
     elim (cases_Bool (same_path a b)) [
       | inl same ↦
@@ -126,7 +123,7 @@ same_path-before s a b h =
     ]
 
 -- the first of some paths in a serving order is no later one
-none_later : (s : Standing) (p : List (List ℕ)) (t : List (List ℕ) → Bool) (ps : List (List (List ℕ)))
+none_later : (s : Standing) (p : Path) (t : Path → Bool) (ps : List Path)
     → list_all (stands_before s p) ps ≡ true
     → list_any (λ q. not (same_path p q) && t q) ps ≡ list_any t ps
 none_later s p t [] h = refl
@@ -135,10 +132,10 @@ none_later s p t (q ∷ ps) h =
     rw (same_path-before s p q here.0) (ap (λ b. t q || b) (none_later s p t ps here.1))
 
 -- the first path is the second, or stands before it
-abbrev precedes : Standing → List (List ℕ) → List (List ℕ) → Bool
+abbrev precedes : Standing → Path → Path → Bool
 precedes s a b = same_path a b || stands_before s a b
 
-precedes_all : (s : Standing) (p : List (List ℕ)) (ps : List (List (List ℕ)))
+precedes_all : (s : Standing) (p : Path) (ps : List Path)
     → list_all (stands_before s p) ps ≡ true → list_all (precedes s p) ps ≡ true
 precedes_all s p [] h = refl
 precedes_all s p (q ∷ ps) h =
@@ -147,7 +144,7 @@ precedes_all s p (q ∷ ps) h =
     (or_right (same_path p q) (stands_before s p q) here.0) (precedes_all s p ps here.1)
 
 -- a path among those of a serving order that precedes the first is the first
-precedes_first : (s : Standing) (p x : List (List ℕ)) (ps : List (List (List ℕ)))
+precedes_first : (s : Standing) (p x : Path) (ps : List Path)
     → list_all (stands_before s p) ps ≡ true
     → list_any (same_path x) (p ∷ ps) ≡ true
     → precedes s x p ≡ true
@@ -164,13 +161,13 @@ precedes_first s p x ps h m first =
     ]
 
 -- the client that a turn picks first has the first path of the serving order
-first_found : (s : Standing) (p : List (List ℕ)) (ps : List (List (List ℕ))) (cs : List Client)
+first_found : (s : Standing) (p : Path) (ps : List Path) (cs : List Client)
     → HasPaths cs (p ∷ ps)
     → list_all (stands_before s p) ps ≡ true
     → (c : Client) × (first_of s cs ≡ Some c) × (path_of c ≡ p)
 first_found s p ps cs has h =
-    let is_first : List (List ℕ) → Bool = λ x. list_all (λ d. precedes s x (path_of d)) cs in
-    let all_of : (x : List (List ℕ)) → is_first x ≡ list_all (precedes s x) (p ∷ ps) =
+    let is_first : Path → Bool = λ x. list_all (λ d. precedes s x (path_of d)) cs in
+    let all_of : (x : Path) → is_first x ≡ list_all (precedes s x) (p ∷ ps) =
     λ x. all_paths (precedes s x) cs (p ∷ ps) has in
     let p_first : is_first p ≡ true =
     all_of p ∙ and_from (precedes s p p) (list_all (precedes s p) ps)
@@ -178,7 +175,7 @@ first_found s p ps cs has h =
     let some_first : list_any (λ c. is_first (path_of c)) cs ≡ true =
     has is_first ∙ or_left (is_first p) (list_any is_first ps) p_first in
     let it = found (λ c. is_first (path_of c)) cs some_first in
-    let x : List (List ℕ) = path_of it.0 in (
+    let x : Path = path_of it.0 in (
       it.0,
       it.1,
       precedes_first s p x ps h
@@ -187,19 +184,19 @@ first_found s p ps cs has h =
     )
 
 -- the other clients have the other paths
-others_have : (s : Standing) (p : List (List ℕ)) (ps : List (List (List ℕ))) (c : Client) (cs : List Client)
+others_have : (s : Standing) (p : Path) (ps : List Path) (c : Client) (cs : List Client)
     → path_of c ≡ p
     → HasPaths cs (p ∷ ps)
     → list_all (stands_before s p) ps ≡ true
     → HasPaths (without c cs) ps
 others_have s p ps c cs e has h t =
-    let others : List (List ℕ) → Type 0 = λ x. list_any (λ q. not (same_path x q) && t q) (p ∷ ps) ≡ list_any t ps in
+    let others : Path → Type 0 = λ x. list_any (λ q. not (same_path x q) && t q) (p ∷ ps) ≡ list_any t ps in
     let later : others p = rw (same_path_itself p) (none_later s p t ps h) in
     list_any-filter (λ d. t (path_of d)) (λ d. not (same_path (path_of c) (path_of d))) cs
     ∙ has (λ q. not (same_path (path_of c) q) && t q)
     ∙ subst others (sym e) later
 
-one_order : (s : Standing) (ps : List (List (List ℕ))) (cs : List Client)
+one_order : (s : Standing) (ps : List Path) (cs : List Client)
     → HasPaths cs ps
     → is_serving_order s ps ≡ true
     → map path_of (serving_order s (length ps) cs) ≡ ps
@@ -210,7 +207,7 @@ one_order s (p ∷ ps) cs has ordered =
     rw it.1 (λ i. it.2 i ∷ one_order s ps (without it.0 cs) (others_have s p ps it.0 cs it.2 has parts.0) parts.1 i)
 
 -- the order that a turn picks one by one is the only serving order
-pub serving_order-unique : (s : Standing) (cs : List Client) (ps : List (List (List ℕ)))
+pub serving_order-unique : (s : Standing) (cs : List Client) (ps : List Path)
     → IsPermutation (map path_of cs) ps
     → IsTrue (is_serving_order s ps)
     → map path_of (serving_order s (length cs) cs) ≡ ps

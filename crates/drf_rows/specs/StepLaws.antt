@@ -2,6 +2,7 @@
 use Rattle.std.specs.Prelude.{◌≡◌, ◌+◌, suc, Bool, true, false, not, ◌||◌, List, [], ◌∷◌, map, Some, None, Contains, nat_lt, nat_le}
 use Rattle.std.specs.List.{list_all, list_any}
 use Rattle.std.proofs.Common.{refl, ap, subst, ◌∙◌, arith}
+use Rattle.std.proofs.Math.Bool.{or-true}
 use Rattle.std.proofs.lemmas.Bool.{and_parts, and_from}
 use Rattle.std.proofs.lemmas.Bool.Decides.{nat_tests}
 use Rattle.drf_rows.specs.LimitNumbers.{LimitNumbers}
@@ -42,11 +43,7 @@ not_below_first q [] rise = refl
 not_below_first q (c ∷ cases) rise =
     let parts = and_parts (nat_lt (refusal_number q) (refusal_number c.1)) (list_all (nat_lt (refusal_number q)) (map (λ d. refusal_number d.1) cases)) rise in
     let above : nat_le (refusal_number q) (refusal_number c.1) ≡ true = grind (arith, nat_tests, parts.0) in
-    and_from _ _ (ap (λ (b : Bool). not c.0 || b) above ∙ or_true (not c.0)) (not_below_first q cases parts.1)
-  where
-    or_true : (b : Bool) → (b || true) ≡ true
-    or_true true = refl
-    or_true false = refl
+    and_from _ _ (ap (λ (b : Bool). not c.0 || b) above ∙ or-true (not c.0)) (not_below_first q cases parts.1)
 
 least_first : (cases : List (Bool × Refusal)) (refusal : Refusal)
     → is_rising (map (λ c. refusal_number c.1) cases) ≡ true → first_case cases ≡ Some refusal

@@ -2,6 +2,7 @@
 use Rattle.std.specs.Prelude.{◌≡◌, Bool, true, false, not, ◌&&◌, ◌||◌, List, [], ◌∷◌, map, if◌then◌else◌}
 use Rattle.std.specs.List.{list_all}
 use Rattle.std.proofs.Common.{refl, sym, ap, ◌∙◌}
+use Rattle.std.proofs.Math.Bool.{or-true}
 use Rattle.std.proofs.lemmas.Bool.{and_from}
 use Rattle.drf_role.specs.Text.{same_text}
 use Rattle.drf_role.specs.TextLaws.{same_from_test}
@@ -38,14 +39,10 @@ module _ (client : Client) (test : Bool → Bool) (suppressed : Bool) (is : test
   own_row : (f : FrameworkRow) (c : ClientRow) → passes_row test client f (suppressed_at client suppressed c) ≡ true
   own_row f c = by (same_path c.role client.role) refl
     where
-      or_true : (b : Bool) → (b || true) ≡ true
-      or_true true = refl
-      or_true false = refl
-
       by : (b : Bool) → same_path c.role client.role ≡ b → passes_row test client f (if b then record c { suppressed = suppressed } else c) ≡ true
       by true here =
           let another : Bool = not (is_same_client client (client_of f c)) in
-          ap (λ (b : Bool). another || b) is ∙ or_true another
+          ap (λ (b : Bool). another || b) is ∙ or-true another
       by false past = ap (λ (b : Bool). not (b && same_text f.name client.framework) || test c.suppressed) past
 
   own_framework : (f : FrameworkRow) → passes test client (suppressed_in client suppressed f) ≡ true

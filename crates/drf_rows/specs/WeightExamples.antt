@@ -1,5 +1,6 @@
 -- Some runs in which roles get weights, with the replies that they are to have.
 use Rattle.std.specs.Prelude.{ℕ, List, [], ◌∷◌, map, codes}
+use Rattle.drf_role.specs.Text.{Text}
 use Rattle.drf_rows.specs.LimitNumbers.{LimitNumbers, ceilings}
 use Rattle.drf_rows.specs.Step.{opening, rows_after_all, replies_to}
 use Rattle.drf_rows.specs.Examples.{cpus, framework_in, offer}
@@ -11,7 +12,7 @@ use Rattle.drf_rows.specs.declared.reply.Reply.TheVariants.{Done, Offers, Refuse
 use Rattle.drf_rows.specs.declared.rows.WeightRow.{WeightRow}
 
 -- a role of one component gets a weight
-abbrev pub weighing : List ℕ → ℕ → Event
+abbrev pub weighing : Text → ℕ → Event
 weighing role weight = SetWeight (role ∷ []) weight
 
 -- the least weight and the greatest, and those next to them
@@ -52,7 +53,7 @@ replies_by_weight weight = replies_to ceilings opening (
     ∷ [])
 
 -- each gets one, and one of them the third
-abbrev pub third_to : List ℕ → List ℕ → List Reply
+abbrev pub third_to : Text → Text → List Reply
 third_to framework role =
     Done
     ∷ Done

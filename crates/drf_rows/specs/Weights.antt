@@ -1,6 +1,6 @@
 -- The weights of roles, in thousandths.
 use Rattle.std.specs.Prelude.{ℕ, ◌+◌, Bool, not, ◌&&◌, List, [], ◌∷◌, length, if◌then◌else◌, nat_lt, nat_le}
-use Rattle.std.specs.List.{list_any}
+use Rattle.std.specs.List.{list_all, list_any}
 use Rattle.drf_role.specs.Path.{Path, same_path}
 use Rattle.drf_rows.specs.LimitNumbers.{LimitNumbers}
 use Rattle.drf_rows.specs.declared.rows.WeightRow.{WeightRow}
@@ -9,6 +9,10 @@ use Rattle.drf_rows.specs.declared.rows.Rows.{Rows}
 -- a weight is from a thousandth to 1000
 abbrev pub is_weight : ℕ → Bool
 is_weight weight = nat_le 1 weight && nat_le weight 1000000
+
+-- each row has one
+abbrev pub are_weights : List WeightRow → Bool
+are_weights weights = list_all (λ w. is_weight w.weight) weights
 
 -- the role has a row
 abbrev pub has_weight : Rows → Path → Bool

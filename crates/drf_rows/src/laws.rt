@@ -5,8 +5,8 @@
 ghost use Rattle.std.specs.Prelude.{◌≡◌, [], ◌∷◌, codes};
 ghost use Rattle.drf_rows.specs.LimitNumbers.{ceilings};
 ghost use Rattle.drf_rows.specs.Step.{opening, replies_to};
-ghost use Rattle.drf_rows.specs.Laws.{NoneBeforeItself, AtMostOneBefore, OneServingOrder, TooLittleIsNotGranted, FirstIsGrantedAll, CasesRise, LeastIsTold, RefusedChangesNothing, AcceptedIsCounted, RunsGoOn, LiveRowsReply, LiveRowsGoOn, LiveRowsRun, HeldIsReported, NodesRise, NodesBeginPaths};
-ghost use Rattle.drf_rows.specs.LifeLaws.{DeclinedAtOnceIsUndone, FinishedIsGivenBack, FiltersGoWithTheirOwner, OtherFiltersStay, SuppressionIsItsClients, SuppressedIsNotOffered, NumbersAreNew};
+ghost use Rattle.drf_rows.specs.Laws.{NoneBeforeItself, AtMostOneBefore, OneServingOrder, TooLittleIsNotGranted, FirstIsGrantedAll, CasesRise, LeastIsTold, RefusedChangesNothing, AcceptedIsCounted, RunsGoOn, LiveRowsReply, LiveRowsGoOn, LiveRowsRun, HeldIsReported, CountIsReported, TotalIsReported, AmountsAreAboveZero, SharesAreLowest, NodesRise, NodesBeginPaths};
+ghost use Rattle.drf_rows.specs.LifeLaws.{DeclinedAtOnceIsUndone, FinishedIsGivenBack, FiltersGoWithTheirOwner, OtherFiltersStay, SuppressionIsItsClients, SuppressedIsNotOffered, NumbersAreNew, OtherAgentsStay, OtherFrameworksStay, RemovedIsGone, ActivityIsItsAgents, CycleOnlyOffers};
 ghost use Rattle.drf_rows.specs.Examples.{one_cycle, two_cycles, two_cycles_replies, two_frameworks, two_frameworks_replies, replies_with, not_offered, offered_whole, refused_as_too_large, one_agent, two_agents, two_events, two_names, three_names, one_framework, one_client, two_registrations, one_role, roles_listed, reserved_for_eng, reserved_for_eng_replies, cpus, cpus_for, mem, gpus};
 ghost use Rattle.drf_rows.specs.OrderExamples.{served, offered, half_at_work, close_shares, equal_shares, weighted_shares, shares_of, first_agent, second_agent, idle_agent, role_tree, more_for_ops, half_weight_of_eng, nothing_held};
 ghost use Rattle.drf_rows.specs.Report.{report_of};
@@ -50,13 +50,24 @@ pub fn live_rows_law()
 
 /// An offer that is declined at once, with nothing refused, leaves only counts, the next number and the clock behind; a task
 /// that finishes goes alone and gives back exactly what it used; a filter goes with its agent, with its framework and when its
-/// client revives, and the others stay; an event that suppresses a client or makes it revive does so to no other.
+/// client revives, and the others stay.
 pub fn life_law()
     ensures declined { DeclinedAtOnceIsUndone }
     ensures finished { FinishedIsGivenBack }
     ensures filters { FiltersGoWithTheirOwner }
     ensures others { OtherFiltersStay }
+{}
+
+/// An event leaves all agents and frameworks as they were but the one that it is about, and what is removed is gone. An agent
+/// that is activated or deactivated, and a client that is suppressed or revives, is so, and in its row nothing else changes. A
+/// cycle adds offers and counts them.
+pub fn others_law()
+    ensures agents { OtherAgentsStay }
+    ensures frameworks { OtherFrameworksStay }
+    ensures removed { RemovedIsGone }
+    ensures activity { ActivityIsItsAgents }
     ensures suppression { SuppressionIsItsClients }
+    ensures cycle { CycleOnlyOffers }
 {}
 
 /// A cycle offers nothing to a client that is suppressed, and no number is given to two offers.
@@ -65,9 +76,14 @@ pub fn offers_law()
     ensures numbers { NumbersAreNew }
 {}
 
-/// A report tells of each node what its clients hold: of those that begin a client's path, in order of path.
+/// A report tells what all agents have, and of each node what its clients hold, how many offers they got and its shares: the
+/// nodes being those that begin a client's path, in order of path, the amounts those above 0, and the shares in lowest terms.
 pub fn report_law()
+    ensures total { TotalIsReported }
     ensures held { HeldIsReported }
+    ensures above_zero { AmountsAreAboveZero }
+    ensures count { CountIsReported }
+    ensures lowest { SharesAreLowest }
     ensures order { NodesRise }
     ensures nodes { NodesBeginPaths }
 {}

@@ -14,8 +14,8 @@ pub use copied::{Copied, copy_all};
 pub use event::Event;
 pub use laws::{
     cycles_example, filters_example, inactive_example, least_offer_example, life_example, life_law,
-    limits_example, live_rows_law, offers_law, order_example, others_example, report_example,
-    report_law, reservations_example, serving_order_law, set_weight_law, step_law,
+    limits_example, live_rows_law, offers_law, order_example, others_example, others_law,
+    report_example, report_law, reservations_example, serving_order_law, set_weight_law, step_law,
     taking_part_example, turn_law, weights_example,
 };
 pub use limits::{LARGEST_AMOUNT, LATEST_MOMENT, LONGEST_REFUSAL, Limits};

@@ -1,5 +1,4 @@
 use Rattle.drf_rows.specs.EndedLaws.{declined_at_once, finished_is_given_back, filters_go, other_filters_stay}
-use Rattle.drf_rows.specs.SuppressionLaws.{suppression_is_its_clients}
 use Rattle.drf_rows.proofs.laws.life_law.Goals as goal
 
 pub returns-clause-declined : goal.returns-clause-declined
@@ -13,6 +12,3 @@ returns-clause-filters c = filters_go
 
 pub returns-clause-others : goal.returns-clause-others
 returns-clause-others c = other_filters_stay
-
-pub returns-clause-suppression : goal.returns-clause-suppression
-returns-clause-suppression c = suppression_is_its_clients

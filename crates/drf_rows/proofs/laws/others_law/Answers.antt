@@ -1,0 +1,21 @@
+use Rattle.drf_rows.specs.OthersLaws.{other_agents_stay, other_frameworks_stay, removed_is_gone, activity_is_its_agents, cycle_only_offers}
+use Rattle.drf_rows.specs.SuppressionLaws.{suppression_is_its_clients}
+use Rattle.drf_rows.proofs.laws.others_law.Goals as goal
+
+pub returns-clause-agents : goal.returns-clause-agents
+returns-clause-agents c = other_agents_stay
+
+pub returns-clause-frameworks : goal.returns-clause-frameworks
+returns-clause-frameworks c = other_frameworks_stay
+
+pub returns-clause-removed : goal.returns-clause-removed
+returns-clause-removed c = removed_is_gone
+
+pub returns-clause-activity : goal.returns-clause-activity
+returns-clause-activity c = activity_is_its_agents
+
+pub returns-clause-suppression : goal.returns-clause-suppression
+returns-clause-suppression c = suppression_is_its_clients
+
+pub returns-clause-cycle : goal.returns-clause-cycle
+returns-clause-cycle c = cycle_only_offers

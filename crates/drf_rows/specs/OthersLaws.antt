@@ -1,0 +1,278 @@
+-- Which rows of agents and frameworks an event leaves as they were: all but those of its own agent or framework.
+use Rattle.std.specs.Prelude.{◌≡◌, ℕ, ◌+◌, Bool, true, false, not, ◌||◌, List, [], ◌∷◌, ◌++◌, map, filter, Option, Some, None, if◌then◌else◌}
+use Rattle.std.specs.List.{list_all}
+use Rattle.std.specs.Option.{option_map_or}
+use Rattle.std.proofs.Common.{refl, sym, ap, ◌∙◌, inl, inr}
+use Rattle.std.proofs.Math.Bool.{or-true}
+use Rattle.std.proofs.lemmas.Bool.{cases_Bool, and_from, not-true, false≢true}
+use Rattle.std.proofs.lemmas.List.{append-nil}
+use Rattle.drf_role.specs.Text.{Text, same_text}
+use Rattle.drf_role.specs.TextLaws.{same_itself}
+use Rattle.drf_role.specs.Path.{same_path}
+use Rattle.drf_bundle.specs.declared.resource.Resource.{Resource}
+use Rattle.drf_rows.specs.Client.{Client}
+use Rattle.drf_rows.specs.Cycle.{grant, counted, count_offer, new_offer, with_offer, tried, all_tried, turn, turn_order, turns, at_moment, cycle}
+use Rattle.drf_rows.specs.EndingLaws.{filter-out}
+use Rattle.drf_rows.specs.Offers.{Start, offer_at, offer_accepted, offer_declined}
+use Rattle.drf_rows.specs.OfferedLaws.{offers_stand}
+use Rattle.drf_rows.specs.Members.{distinct, new_client, active_at, suppressed_at, suppressed_in}
+use Rattle.drf_rows.specs.ListLaws.{filter_each, each_true, none_left}
+use Rattle.drf_rows.specs.Step.{refusal_of, effect, rows_after}
+use Rattle.drf_rows.specs.LifeLaws.{is_cycle, other_agents, other_frameworks, OtherAgentsStay, OtherFrameworksStay, RemovedIsGone, active_row, ActivityIsItsAgents, uncounted_row, uncounted_framework, uncounted, CycleOnlyOffers}
+use Rattle.drf_rows.specs.declared.event.Event.{Event}
+use Rattle.drf_rows.specs.declared.event.Event.TheVariants.{AddAgent, RemoveAgent, ActivateAgent, DeactivateAgent, AddFramework, RemoveFramework, Accept, Decline, Rescind, Finish, Suppress, Revive, SetWeight, Cycle, Report}
+use Rattle.drf_rows.specs.declared.reply.Refusal.{Refusal}
+use Rattle.drf_rows.specs.declared.rows.AgentRow.{AgentRow}
+use Rattle.drf_rows.specs.declared.rows.ClientRow.{ClientRow}
+use Rattle.drf_rows.specs.declared.rows.FrameworkRow.{FrameworkRow}
+use Rattle.drf_rows.specs.declared.rows.OfferRow.{OfferRow}
+use Rattle.drf_rows.specs.declared.rows.Rows.{Rows}
+
+-- ---- lists
+
+-- a row that does not pass the test comes last
+filter-last : {X : Type 0} (p : X → Bool) (xs : List X) (x : X) → p x ≡ false → filter p (xs ++ x ∷ []) ≡ filter p xs
+filter-last p xs x past = filter-out p xs [] x past ∙ ap (filter p) (append-nil xs)
+
+filter-again : {X : Type 0} (p : X → Bool) (xs : List X) → filter p (filter p xs) ≡ filter p xs
+filter-again p [] = refl
+filter-again {X} p (x ∷ xs) = elim (cases_Bool (p x)) [
+  | inl here ↦ rw (here, here) (ap (λ (ys : List X). x ∷ ys) (filter-again p xs))
+  | inr past ↦ rw past (filter-again p xs)
+]
+
+-- only rows that do not pass the test are changed, and those pass it no more than before
+filter-changed : {X : Type 0} (p : X → Bool) (f : X → X) (xs : List X)
+    → ((x : X) → p x ≡ true → f x ≡ x) → ((x : X) → p x ≡ false → p (f x) ≡ false)
+    → filter p (map f xs) ≡ filter p xs
+filter-changed p f [] stays past = refl
+filter-changed {X} p f (x ∷ xs) stays past = elim (cases_Bool (p x)) [
+  | inl here ↦
+      let same : p (f x) ≡ true = ap p (stays x here) ∙ here in
+      rw (same, here) (λ i. stays x here i ∷ filter-changed p f xs stays past i)
+  | inr other ↦ rw (past x other, other) (filter-changed p f xs stays past)
+]
+
+-- ---- a cycle
+
+-- offers were made and counted, and nothing else was done
+record MadeOffers (start after : Rows) : Type 0 where
+  made : after ≡ record start { frameworks = after.frameworks; offers = after.offers; next_offer = after.next_offer }
+  counts : uncounted after.frameworks ≡ uncounted start.frameworks
+
+made_none : (rows : Rows) → MadeOffers rows rows
+made_none rows = record { made = refl; counts = refl }
+
+made_both : (start middle after : Rows) → MadeOffers start middle → MadeOffers middle after → MadeOffers start after
+made_both start middle after first second = record {
+  made = second.made
+      ∙ (λ i. record (first.made i) { frameworks = after.frameworks; offers = after.offers; next_offer = after.next_offer });
+  counts = second.counts ∙ first.counts;
+}
+
+uncounted-counted : (client : Client) (cs : List ClientRow) → map uncounted_row (map (counted client) cs) ≡ map uncounted_row cs
+uncounted-counted client [] = refl
+uncounted-counted client (c ∷ cs) = λ i. by (same_path c.role client.role) i ∷ uncounted-counted client cs i
+  where
+    by : (b : Bool) → uncounted_row (if b then record c { count = c.count + 1 } else c) ≡ uncounted_row c
+    by true = refl
+    by false = refl
+
+uncounted-offer : (client : Client) (fs : List FrameworkRow) → uncounted (map (count_offer client) fs) ≡ uncounted fs
+uncounted-offer client [] = refl
+uncounted-offer client (f ∷ fs) = λ i. by (same_text f.name client.framework) i ∷ uncounted-offer client fs i
+  where
+    by : (b : Bool) → uncounted_framework (if b then record f { clients = map (counted client) f.clients } else f) ≡ uncounted_framework f
+    by true = λ i. record f { clients = uncounted-counted client f.clients i }
+    by false = refl
+
+made_tried : (rows : Rows) (agent : AgentRow) (client : Client) → MadeOffers rows (tried rows agent client)
+unfolding with_offer
+made_tried rows agent client = by (grant rows agent client)
+  where
+    by : (granted : Option (List Resource))
+        → MadeOffers rows (option_map_or (λ bundle. with_offer rows (new_offer rows agent client bundle)) granted rows)
+    by None = made_none rows
+    by (Some bundle) = record { made = refl; counts = uncounted-offer client rows.frameworks }
+
+made_all_tried : (rows : Rows) (agent : AgentRow) (clients : List Client) → MadeOffers rows (all_tried rows agent clients)
+made_all_tried rows agent [] = made_none rows
+made_all_tried rows agent (client ∷ clients) =
+    let next : Rows = tried rows agent client in
+    made_both rows next (all_tried next agent clients) (made_tried rows agent client) (made_all_tried next agent clients)
+
+made_turns : (rows : Rows) (agents : List AgentRow) → MadeOffers rows (turns rows agents)
+unfolding turn
+made_turns rows [] = made_none rows
+made_turns rows (agent ∷ agents) =
+    let next : Rows = turn rows agent in
+    made_both rows next (turns next agents) (made_all_tried rows agent (turn_order rows)) (made_turns next agents)
+
+made_cycle : (rows : Rows) (at : ℕ) → MadeOffers (at_moment rows at) (cycle rows at)
+unfolding cycle
+made_cycle rows at = made_turns (at_moment rows at) (filter (λ a. a.active) rows.agents)
+
+pub cycle_only_offers : CycleOnlyOffers
+cycle_only_offers rows at = (
+  (made_cycle rows at).made,
+  offers_stand rows at,
+  (made_cycle rows at).counts,
+)
+
+-- ---- the others
+
+-- an offer that is accepted or declined moves no row of an agent or of a framework
+same-accepted : (rows : Rows) (at : ℕ) (starts : List Start) (refuse_ms : ℕ) (found : Option OfferRow)
+    → let after : Rows = option_map_or (λ o. offer_accepted (at_moment rows at) o starts refuse_ms) found rows in
+    (after.agents ≡ rows.agents) × (after.frameworks ≡ rows.frameworks)
+same-accepted rows at starts refuse_ms None = (refl, refl)
+same-accepted rows at starts refuse_ms (Some o) = (refl, refl)
+
+same-declined : (rows : Rows) (at refuse_ms : ℕ) (found : Option OfferRow)
+    → let after : Rows = option_map_or (λ o. offer_declined (at_moment rows at) o refuse_ms) found rows in
+    (after.agents ≡ rows.agents) × (after.frameworks ≡ rows.frameworks)
+same-declined rows at refuse_ms None = (refl, refl)
+same-declined rows at refuse_ms (Some o) = (refl, refl)
+
+agents_active : (name : Text) (active : Bool) (agents : List AgentRow)
+    → filter (λ a. not (same_text a.name name)) (map (active_at name active) agents) ≡ filter (λ a. not (same_text a.name name)) agents
+agents_active name active agents = filter-changed (λ a. not (same_text a.name name)) (active_at name active) agents stays past
+  where
+    stays : (a : AgentRow) → not (same_text a.name name) ≡ true → active_at name active a ≡ a
+    stays a is = rw (not-true (same_text a.name name) is) refl
+
+    past : (a : AgentRow) → not (same_text a.name name) ≡ false → not (same_text (active_at name active a).name name) ≡ false
+    past a own = by (same_text a.name name)
+      where
+        by : (b : Bool) → not (same_text (if b then record a { active = active } else a).name name) ≡ false
+        by true = own
+        by false = own
+
+agents_left : (rows : Rows) (event : Event) → other_agents event (effect rows event).agents ≡ other_agents event rows.agents
+unfolding effect
+agents_left rows (AddAgent agent total) =
+    filter-last (λ a. not (same_text a.name agent)) rows.agents (record { name = agent; total = total; active = true }) (ap not (same_itself agent))
+agents_left rows (RemoveAgent agent) = filter-again (λ a. not (same_text a.name agent)) rows.agents
+agents_left rows (ActivateAgent agent) = agents_active agent true rows.agents
+agents_left rows (DeactivateAgent agent) = agents_active agent false rows.agents
+agents_left rows (AddFramework framework roles) = refl
+agents_left rows (RemoveFramework framework) = refl
+agents_left rows (Accept framework offer task used at refuse_ms) =
+    ap (filter (λ (a : AgentRow). true)) (same-accepted rows at ((task, used) ∷ []) refuse_ms (offer_at rows offer)).0
+agents_left rows (Decline framework offer at refuse_ms) =
+    ap (filter (λ (a : AgentRow). true)) (same-declined rows at refuse_ms (offer_at rows offer)).0
+agents_left rows (Rescind offer) = refl
+agents_left rows (Finish framework task) = refl
+agents_left rows (Suppress framework role) = refl
+agents_left rows (Revive framework role) = refl
+agents_left rows (SetWeight role weight) = refl
+agents_left rows (Cycle at) = ap (λ (r : Rows). filter (λ a. true) r.agents) (made_cycle rows at).made
+agents_left rows Report = refl
+
+frameworks_suppressed : (client : Client) (suppressed : Bool) (frameworks : List FrameworkRow)
+    → filter (λ f. not (same_text f.name client.framework)) (map (suppressed_in client suppressed) frameworks)
+    ≡ filter (λ f. not (same_text f.name client.framework)) frameworks
+frameworks_suppressed client suppressed frameworks =
+    filter-changed (λ f. not (same_text f.name client.framework)) (suppressed_in client suppressed) frameworks stays past
+  where
+    stays : (f : FrameworkRow) → not (same_text f.name client.framework) ≡ true → suppressed_in client suppressed f ≡ f
+    stays f is = rw (not-true (same_text f.name client.framework) is) refl
+
+    past : (f : FrameworkRow) → not (same_text f.name client.framework) ≡ false
+        → not (same_text (suppressed_in client suppressed f).name client.framework) ≡ false
+    past f own = by (same_text f.name client.framework)
+      where
+        by : (b : Bool)
+            → not (same_text (if b then record f { clients = map (suppressed_at client suppressed) f.clients } else f).name client.framework)
+            ≡ false
+        by true = own
+        by false = own
+
+frameworks_left : (rows : Rows) (event : Event) → is_cycle event ≡ false
+    → other_frameworks event (effect rows event).frameworks ≡ other_frameworks event rows.frameworks
+unfolding effect
+frameworks_left rows (AddAgent agent total) no_cycle = refl
+frameworks_left rows (RemoveAgent agent) no_cycle = refl
+frameworks_left rows (ActivateAgent agent) no_cycle = refl
+frameworks_left rows (DeactivateAgent agent) no_cycle = refl
+frameworks_left rows (AddFramework framework roles) no_cycle =
+    filter-last (λ f. not (same_text f.name framework)) rows.frameworks
+    (record { name = framework; clients = map new_client (distinct roles) }) (ap not (same_itself framework))
+frameworks_left rows (RemoveFramework framework) no_cycle = filter-again (λ f. not (same_text f.name framework)) rows.frameworks
+frameworks_left rows (Accept framework offer task used at refuse_ms) no_cycle =
+    ap (filter (λ (f : FrameworkRow). true)) (same-accepted rows at ((task, used) ∷ []) refuse_ms (offer_at rows offer)).1
+frameworks_left rows (Decline framework offer at refuse_ms) no_cycle =
+    ap (filter (λ (f : FrameworkRow). true)) (same-declined rows at refuse_ms (offer_at rows offer)).1
+frameworks_left rows (Rescind offer) no_cycle = refl
+frameworks_left rows (Finish framework task) no_cycle = refl
+frameworks_left rows (Suppress framework role) no_cycle =
+    frameworks_suppressed (record { role = role; framework = framework }) true rows.frameworks
+frameworks_left rows (Revive framework role) no_cycle =
+    frameworks_suppressed (record { role = role; framework = framework }) false rows.frameworks
+frameworks_left rows (SetWeight role weight) no_cycle = refl
+frameworks_left rows (Cycle at) no_cycle = absurd (false≢true (sym no_cycle))
+frameworks_left rows Report no_cycle = refl
+
+pub other_agents_stay : OtherAgentsStay
+unfolding rows_after
+other_agents_stay limits rows event = by (refusal_of limits rows event)
+  where
+    by : (refusal : Option Refusal)
+        → other_agents event (option_map_or (λ refusal. rows) refusal (record (effect rows event) { accepted = rows.accepted + 1 })).agents
+        ≡ other_agents event rows.agents
+    by None = agents_left rows event
+    by (Some refusal) = refl
+
+pub other_frameworks_stay : OtherFrameworksStay
+unfolding rows_after
+other_frameworks_stay limits rows event no_cycle = by (refusal_of limits rows event)
+  where
+    by : (refusal : Option Refusal)
+        → other_frameworks event (option_map_or (λ refusal. rows) refusal (record (effect rows event) { accepted = rows.accepted + 1 })).frameworks
+        ≡ other_frameworks event rows.frameworks
+    by None = frameworks_left rows event no_cycle
+    by (Some refusal) = refl
+
+-- ---- the one
+
+pub removed_is_gone : RemovedIsGone
+unfolding effect
+removed_is_gone rows name = (
+  none_left (λ (a : AgentRow). same_text a.name name) rows.agents,
+  none_left (λ (f : FrameworkRow). same_text f.name name) rows.frameworks,
+)
+
+-- each agent of the name is active as told
+own_active : (test : Bool → Bool) (name : Text) (active : Bool) → test active ≡ true → (agents : List AgentRow)
+    → list_all (λ a. not (same_text a.name name) || test a.active) (map (active_at name active) agents) ≡ true
+own_active test name active is [] = refl
+own_active test name active is (a ∷ agents) = and_from _ _ (by (same_text a.name name) refl) (own_active test name active is agents)
+  where
+    by : (b : Bool) → same_text a.name name ≡ b
+        → (not (same_text (if b then record a { active = active } else a).name name) || test (if b then record a { active = active } else a).active) ≡ true
+    by true here = ap (λ (b : Bool). not (same_text a.name name) || b) is ∙ or-true (not (same_text a.name name))
+    by false past = ap (λ (b : Bool). not b || test a.active) past
+
+-- and nothing else of an agent is changed
+all_as_were : (name : Text) (active : Bool) (agents : List AgentRow) → map active_row (map (active_at name active) agents) ≡ map active_row agents
+all_as_were name active [] = refl
+all_as_were name active (a ∷ agents) = λ i. by (same_text a.name name) i ∷ all_as_were name active agents i
+  where
+    by : (b : Bool) → active_row (if b then record a { active = active } else a) ≡ active_row a
+    by true = refl
+    by false = refl
+
+pub activity_is_its_agents : ActivityIsItsAgents
+unfolding effect
+activity_is_its_agents rows name = (
+  own_active (λ b. b) name true refl rows.agents,
+  own_active not name false refl rows.agents,
+  all_as_were name true rows.agents,
+  all_as_were name false rows.agents,
+  refl,
+  (λ i. record rows {
+    agents = map (active_at name false) rows.agents;
+    offers = filter (λ o. not (same_text o.agent name)) rows.offers;
+    tasks = filter_each (λ t. true) rows.tasks (each_true rows.tasks) i;
+  }),
+)

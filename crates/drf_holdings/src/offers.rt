@@ -3,7 +3,7 @@ ghost use Rattle.std.specs.Prelude.{◌≡◌, ◌==◌, List, [], ◌∷◌, �
 ghost use Rattle.drf_bundle.specs.Taken.{rest_of_all};
 ghost use Rattle.drf_rows.specs.Holdings.{of_offer, parts_on};
 ghost use Rattle.drf_rows.specs.declared.rows.OfferRow.{OfferRow};
-ghost use Rattle.drf_holdings.specs.Listed.{offer_number, offer_on, offer_of, AreOffersListed};
+ghost use Rattle.drf_holdings.specs.Listed.{offer_number, offer_on, offer_of, AreOffersListed, AreOffersKept};
 ghost use Rattle.drf_holdings.specs.Rising.{IsRising, AreOthers, IsAt};
 ghost use Rattle.drf_holdings.specs.Taking.{IsTaken, HasNone};
 
@@ -58,6 +58,15 @@ impl OfferIndex {
         self.frameworks.remove(&offer.framework, offer.number);
     }
 
+    /// Takes offers out.
+    fn remove_all(&mut self, offers: &[OfferRow])
+        ensures { (before : List OfferRow) → AreOffersKept self.old (before ++ offers.now) → AreOffersListed self.new before }
+    {
+        for offer in offers {
+            self.remove(offer);
+        }
+    }
+
     /// Adds offers behind those that are there, all or none: where memory ends, those that came before are taken out,
     /// which takes none.
     fn add_all(&mut self, offers: &[OfferRow]) -> Result<(), AllocError>
@@ -65,17 +74,13 @@ impl OfferIndex {
         ensures err { OnErr result ((before : List OfferRow) → IsRising (map offer_number (before ++ offers.now))
             → AreOffersListed self.old before → AreOffersListed self.new before) }
     {
-        let Some((first, rest)) = offers.split_first() else {
-            return Ok(());
-        };
-        self.add(first)?;
-        match self.add_all(rest) {
-            Ok(()) => Ok(()),
-            Err(error) => {
-                self.remove(first);
-                Err(error)
+        for (place, offer) in offers.iter().enumerate() {
+            if let Err(error) = self.add(offer) {
+                self.remove_all(&offers[..place]);
+                return Err(error);
             }
         }
+        Ok(())
     }
 }
 

@@ -18,7 +18,7 @@ use Rattle.drf_rows.specs.declared.rows.Rows.{Rows}
 use Rattle.drf_sorter.specs.Content.{Content}
 use Rattle.drf_core.specs.Content.{content_of}
 use Rattle.drf_core.specs.Kept.{AreFew, IsKept, StandAt}
-use Rattle.drf_core.specs.Registering.{paths_of, with_all}
+use Rattle.drf_core.specs.Registering.{client_paths, with_all}
 use Rattle.drf_core.proofs.ContentRegister.{content_of-with_agent}
 use Rattle.drf_core.proofs.RegisterLemmas.{content_of-registered}
 use Rattle.drf_core.proofs.ContentSound.{IsSound-content_of}
@@ -64,14 +64,14 @@ pub applied_framework : (rows tables : Rows) (framework : Text) (roles : List Pa
     → has_framework rows framework ≡ false
     → clients ≡ map new_client (distinct roles)
     → tables ≡ record rows { frameworks = rows.frameworks ++ record { name = framework; clients = clients } ∷ [] }
-    → after ≡ with_all before (paths_of framework (distinct roles))
+    → after ≡ with_all before (client_paths framework (map new_client (distinct roles)))
     → StandAt (effect rows (AddFramework framework roles)) tables after
 unfolding effect
 applied_framework rows tables framework roles clients before after sorted right new made same added = record {
   same = same
       ∙ (λ i. record rows { frameworks = rows.frameworks ++ record { name = framework; clients = made i } ∷ [] });
   sorted = added
-      ∙ ap (λ (c : Content). with_all c (paths_of framework (distinct roles))) sorted
+      ∙ ap (λ (c : Content). with_all c (client_paths framework (map new_client (distinct roles)))) sorted
       ∙ content_of-registered rows framework right new (distinct roles);
 }
 

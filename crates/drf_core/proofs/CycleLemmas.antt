@@ -176,7 +176,7 @@ drafting-begins content limits rows tables clock offers kept moment same none =
       consistent = consistent-clock rows clock kept.consistent moment;
       clients = tt;
       few_agents = omega (arith, kept.few.agents, kept.few.ceilings.agents.1);
-      early = omega (arith, numbered, events);
+      low_number = omega (arith, numbered, events);
     })
 
 -- the turns are the cycle

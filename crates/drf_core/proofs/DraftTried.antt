@@ -122,7 +122,7 @@ module _ (content : Content) (rows : Rows) (offers : List OfferRow) (drafting : 
         consistent = subst IsConsistent (sym push) consistent_after;
         clients = each_push (λ o. is_registered rows.frameworks (of_offer o).client ≡ true) offers offer drafting.clients known;
         few_agents = drafting.few_agents;
-        early = drafting.early;
+        low_number = drafting.low_number;
       }
 
   pub tried_after : with_offers rows (offers ++ next_draft rows offers agent client bundle ∷ []) ≡ tried (with_offers rows offers) agent client

@@ -26,6 +26,7 @@ use Rattle.drf_rows.specs.declared.event.Event.TheVariants.{AddAgent, RemoveAgen
 use Rattle.drf_rows.specs.declared.rows.AgentRow.{AgentRow}
 use Rattle.drf_rows.specs.Filters.{is_in_force}
 use Rattle.drf_rows.specs.ListLaws.{each_from, each_filter}
+use Rattle.drf_rows.specs.MemberLaws.{IsConsistent-filters_kept}
 use Rattle.drf_rows.specs.declared.rows.FilterRow.{FilterRow}
 use Rattle.drf_rows.specs.declared.rows.FrameworkRow.{FrameworkRow}
 use Rattle.drf_rows.specs.declared.rows.OfferRow.{OfferRow}
@@ -340,3 +341,7 @@ filters_bounded rows consistent =
     let Ends : FilterRow → Type 0 = λ f. f.until < 2 ^ 63 in
     each_filter Ends (is_in_force rows.clock) rows.filters
     (each_from (IsFilter rows.agents rows.frameworks) Ends rows.filters (λ f is. is.until) consistent.filters)
+
+-- the rows with the filters in force alone are consistent
+pub consistent-live : (rows : Rows) → IsConsistent rows → IsConsistent (live_rows rows)
+consistent-live rows consistent = IsConsistent-filters_kept rows (is_in_force rows.clock) consistent

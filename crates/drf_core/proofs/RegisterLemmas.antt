@@ -15,7 +15,7 @@ use Rattle.drf_rows.specs.Consistent.{IsConsistent, are_distinct_roles}
 use Rattle.drf_rows.specs.declared.rows.Rows.{Rows}
 use Rattle.drf_sorter.specs.Content.{Content, Ranked, has_client, with_client, without_client}
 use Rattle.drf_core.specs.Content.{content_of}
-use Rattle.drf_core.specs.Registering.{AreNew, paths_of, with_all}
+use Rattle.drf_core.specs.Registering.{AreNew, client_paths, with_all}
 use Rattle.drf_core.proofs.ContentRegister.{with_clients, has_client-another_role, content_of-no_clients, content_of-one_more_client}
 
 -- ---- each role once
@@ -159,34 +159,34 @@ none_before (r ∷ before) role roles apart =
 module _ (rows : Rows) (name : Text) (right : IsConsistent rows) (new : has_framework rows name ≡ false) where
   -- some clients of a new framework were added, and the others are added
   all_new : (before roles : List Path) → are_distinct_roles (before ++ roles) ≡ true
-      → AreNew (content_of (with_clients rows name before)) (paths_of name roles)
+      → AreNew (content_of (with_clients rows name before)) (client_paths name (map new_client roles))
   all_new before [] apart = tt
   all_new before (role ∷ roles) apart =
       let next = all_new (before ++ role ∷ []) roles (ap are_distinct_roles (append_assoc before (role ∷ []) roles) ∙ apart) in (
         has_client-another_role rows name before role new (none_before before role roles apart),
-        subst (λ (k : Content). AreNew k (paths_of name roles)) (content_of-one_more_client rows name before role right new) next,
+        subst (λ (k : Content). AreNew k (client_paths name (map new_client roles))) (content_of-one_more_client rows name before role right new) next,
       )
 
   all_added : (before roles : List Path)
-      → with_all (content_of (with_clients rows name before)) (paths_of name roles)
+      → with_all (content_of (with_clients rows name before)) (client_paths name (map new_client roles))
       ≡ content_of (with_clients rows name (before ++ roles))
   all_added before [] = ap (λ (rs : List Path). content_of (with_clients rows name rs)) (sym (append-nil before))
   all_added before (role ∷ roles) =
-      ap (λ (k : Content). with_all k (paths_of name roles)) (sym (content_of-one_more_client rows name before role right new))
+      ap (λ (k : Content). with_all k (client_paths name (map new_client roles))) (sym (content_of-one_more_client rows name before role right new))
       ∙ all_added (before ++ role ∷ []) roles
       ∙ ap (λ (rs : List Path). content_of (with_clients rows name rs)) (append_assoc before (role ∷ []) roles)
 
   -- the clients of a framework that registers are new to the sorter
-  pub AreNew-registering : (roles : List Path) → AreNew (content_of rows) (paths_of name (distinct roles))
+  pub AreNew-registering : (roles : List Path) → AreNew (content_of rows) (client_paths name (map new_client (distinct roles)))
   AreNew-registering roles =
-      subst (λ (k : Content). AreNew k (paths_of name (distinct roles))) (content_of-no_clients rows name)
+      subst (λ (k : Content). AreNew k (client_paths name (map new_client (distinct roles)))) (content_of-no_clients rows name)
       (all_new [] (distinct roles) (distinct_apart roles))
 
   -- and with them it holds what the rows say
   pub content_of-registered : (roles : List Path)
-      → with_all (content_of rows) (paths_of name roles) ≡ content_of (with_clients rows name roles)
+      → with_all (content_of rows) (client_paths name (map new_client roles)) ≡ content_of (with_clients rows name roles)
   content_of-registered roles =
-      ap (λ (k : Content). with_all k (paths_of name roles)) (sym (content_of-no_clients rows name)) ∙ all_added [] roles
+      ap (λ (k : Content). with_all k (client_paths name (map new_client roles))) (sym (content_of-no_clients rows name)) ∙ all_added [] roles
 
 -- ---- a client that is taken back
 

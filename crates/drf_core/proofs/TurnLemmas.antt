@@ -241,7 +241,7 @@ module _ (content : Content) (rows : Rows) (offers : List OfferRow) (drafting : 
       subst IsSound (sym drafting.sorted)
       (IsSound-content_of (with_offers rows offers) drafting.consistent
       (rw (agents-with_offers rows offers) drafting.few_agents)
-      (let early : rows.next_offer ≤ 2 ^ 57 = drafting.early in omega (arith, next-with_offers rows offers)))
+      (let low_number : rows.next_offer ≤ 2 ^ 57 = drafting.low_number in omega (arith, next-with_offers rows offers)))
 
   pub ordered_from : (paths : List Path) → IsOrderOf content paths → IsOrdered rows offers paths
   ordered_from paths order =

@@ -23,7 +23,7 @@ pub record IsDrafting (content : Content) (rows : Rows) (offers : List OfferRow)
   pub consistent : IsConsistent (with_offers rows offers)
   pub clients : AllByRecursion (λ o. is_registered rows.frameworks (of_offer o).client ≡ true) offers
   pub few_agents : length rows.agents ≤ 4096
-  pub early : rows.next_offer ≤ 2 ^ 57
+  pub low_number : rows.next_offer ≤ 2 ^ 57
 
 -- the path is that of a registered client
 pub record IsRegisteredPath (rows : Rows) (path : Path) : Type 0 where

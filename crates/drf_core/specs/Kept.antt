@@ -7,7 +7,7 @@ use Rattle.drf_rows.specs.declared.rows.Rows.{Rows}
 use Rattle.drf_sorter.specs.Content.{Content}
 use Rattle.drf_core.specs.Content.{content_of}
 
--- no table is larger than its limit
+-- agents, frameworks, clients, weights and accepted events are within the limits, and the limits within their ceilings
 pub record AreFew (limits : LimitNumbers) (rows : Rows) : Type 0 where
   pub ceilings : IsWithinCeilings limits
   pub agents : length rows.agents ≤ limits.agents
@@ -16,7 +16,7 @@ pub record AreFew (limits : LimitNumbers) (rows : Rows) : Type 0 where
   pub weights : length rows.weights ≤ limits.weights
   pub events : rows.accepted ≤ limits.events
 
--- the sorter holds what the rows say
+-- the sorter holds what the rows say, and the rows are consistent, within the limits, and numbered by their events
 pub record IsKept (content : Content) (limits : LimitNumbers) (rows : Rows) : Type 0 where
   pub sorted : content ≡ content_of rows
   pub consistent : IsConsistent rows

@@ -5,9 +5,9 @@ use Rattle.drf_role.specs.Path.{Path, client_path}
 use Rattle.drf_rows.specs.declared.rows.ClientRow.{ClientRow}
 use Rattle.drf_sorter.specs.Content.{Content, has_client, with_client, without_client}
 
--- the paths of the clients of a framework in some roles
-abbrev pub paths_of : Text → List Path → List Path
-paths_of framework roles = map (λ role. client_path role framework) roles
+-- the paths of the clients of a framework
+abbrev pub client_paths : Text → List ClientRow → List Path
+client_paths framework clients = map (λ c. client_path c.role framework) clients
 
 -- clients that were added last, in that order
 abbrev pub with_all : Content → List Path → Content
@@ -17,10 +17,6 @@ with_all content paths = fold with_client content paths
 abbrev pub AreNew : Content → List Path → Type 0
 AreNew content [] = Unit {0}
 AreNew content (path ∷ paths) = (has_client content path ≡ false) × AreNew (with_client content path) paths
-
--- the paths of the clients of a framework
-abbrev pub client_paths : Text → List ClientRow → List Path
-client_paths framework clients = map (λ c. client_path c.role framework) clients
 
 -- clients that were removed, in that order
 abbrev pub without_all : Content → List Path → Content

@@ -36,7 +36,7 @@ impl<S: Sorter> Model for Core<S> {
 impl<S: Sorter> Core<S> {
     ghost use Rattle.std.specs.List.{AllByRecursion};
     ghost use Rattle.drf_rows.specs.Step.{live_rows, reply_to, replies_to, refusal_of};
-    ghost use Rattle.drf_rows.specs.Consistent.{IsConserved};
+    ghost use Rattle.drf_rows.specs.Consistent.{IsConserved, IsConsistent};
     ghost use Rattle.drf_rows.specs.Report.{report_of};
 
     /// An allocator with no rows.
@@ -99,10 +99,11 @@ impl<S: Sorter> Core<S> {
         report(self.alloc, &self.limits, &self.tables, &self.sorter)
     }
 
-    /// The rows as they stand. Nothing is granted twice, no number of an offer is above 2^56, and no filter ends at 2^63
-    /// or later.
+    /// The rows as they stand, which are consistent. Nothing is granted twice, no number of an offer is above 2^56, and no
+    /// filter ends at 2^63 or later.
     pub fn rows(&self) -> Result<Rows, AllocError>
         ensures rows { IfOk result (λ rows. rows ≡ live_rows self.now.rows) }
+        ensures consistent { IfOk result IsConsistent }
         ensures conserved { IfOk result (λ rows. AllByRecursion (IsConserved rows) rows.agents) }
         ensures numbers { IfOk result (λ rows. AllByRecursion (λ o. o.number ≤ 2 ^ 56) rows.offers) }
         ensures filters { IfOk result (λ rows. AllByRecursion (λ f. f.until < 2 ^ 63) rows.filters) }

@@ -1,5 +1,5 @@
-//! The allocation cycle. Its offers are drafts until the last agent had its turn: the sorter is charged with them, the
-//! tables stay as they are. Where memory ends, the charges are taken back, which needs none.
+//! The allocation cycle. Its offers are drafts until the last agent had its turn: the sorter is charged with them, while of
+//! the rows the clock alone has moved. Where memory ends, the charges are taken back and so is the clock, which needs none.
 ghost use Rattle.std.specs.Prelude.{◌≡◌, true, ◌<◌, ◌≤◌, ◌+◌, ◌*◌, None, [], length, map, slice_get, Some, IfOk, OnOk, OnErr, MatchOption};
 ghost use Rattle.std.specs.List.{AllByRecursion};
 ghost use Rattle.drf_role.specs.Path.{role_part, framework_part};

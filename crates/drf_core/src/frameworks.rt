@@ -6,7 +6,7 @@ ghost use Rattle.drf_rows.specs.declared.event.Event.TheVariants.{AddFramework, 
 ghost use Rattle.drf_rows.specs.declared.reply.Reply.TheVariants.{Done};
 ghost use Rattle.drf_core.specs.Content.{content_of};
 ghost use Rattle.drf_core.specs.Kept.{IsKept, StandAt};
-ghost use Rattle.drf_core.specs.Registering.{AreKnown, AreNew, client_paths, paths_of, with_all, without_all};
+ghost use Rattle.drf_core.specs.Registering.{AreKnown, AreNew, client_paths, with_all, without_all};
 
 use crate::ending::end;
 use drf_role::{ClientPath, Name, Role};
@@ -29,21 +29,6 @@ fn distinct_roles(alloc: Global, roles: Table<Role>) -> Result<Vec<Role>, AllocE
     Ok(kept)
 }
 
-/// The paths of a framework's clients in some roles.
-fn role_paths(
-    alloc: Global,
-    framework: &Name,
-    roles: &[Role],
-) -> Result<Vec<ClientPath>, AllocError>
-    ensures { IfOk result (λ paths. paths.items ≡ paths_of framework.now roles.now) }
-{
-    let mut paths = Vec::with_capacity(alloc, roles.len())?;
-    for role in roles {
-        paths.push(ClientPath::new(alloc, role, framework)?)?;
-    }
-    Ok(paths)
-}
-
 /// The clients of a framework that registers.
 fn new_clients(alloc: Global, roles: Vec<Role>) -> Result<Table<ClientRow>, AllocError>
     ensures { IfOk result (λ clients. clients ≡ map new_client roles.items) }
@@ -57,6 +42,21 @@ fn new_clients(alloc: Global, roles: Vec<Role>) -> Result<Table<ClientRow>, Allo
         })?;
     }
     Ok(Table::from_vec(clients))
+}
+
+/// The paths of the clients of a framework.
+fn client_paths(
+    alloc: Global,
+    framework: &Name,
+    clients: &[ClientRow],
+) -> Result<Vec<ClientPath>, AllocError>
+    ensures { IfOk result (λ paths. paths.items ≡ client_paths framework.now clients.now) }
+{
+    let mut paths = Vec::with_capacity(alloc, clients.len())?;
+    for client in clients {
+        paths.push(ClientPath::new(alloc, &client.role, framework)?)?;
+    }
+    Ok(paths)
 }
 
 /// Adds clients to the sorter, all or none: where memory ends, those that came before are removed, which takes none.
@@ -94,27 +94,12 @@ pub fn add_framework<S: Sorter>(
     ensures err { OnErr result (StandAt tables.old.rows tables.new.rows (S.content sorter.new)) }
 {
     let roles = distinct_roles(alloc, roles)?;
-    let paths = role_paths(alloc, &framework, &roles)?;
     let clients = new_clients(alloc, roles)?;
+    let paths = client_paths(alloc, &framework, clients.as_slice())?;
     tables.reserve_framework()?;
     add_clients(sorter, &paths)?;
     tables.add_framework(framework, clients);
     Ok(Reply::Done)
-}
-
-/// The paths of the clients of a framework.
-fn client_paths(
-    alloc: Global,
-    framework: &Name,
-    clients: &[ClientRow],
-) -> Result<Vec<ClientPath>, AllocError>
-    ensures { IfOk result (λ paths. paths.items ≡ client_paths framework.now clients.now) }
-{
-    let mut paths = Vec::with_capacity(alloc, clients.len())?;
-    for client in clients {
-        paths.push(ClientPath::new(alloc, &client.role, framework)?)?;
-    }
-    Ok(paths)
 }
 
 /// Removes clients from the sorter.

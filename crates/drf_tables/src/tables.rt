@@ -99,7 +99,7 @@ impl Tables {
         }
     }
 
-    /// The greatest moment of all cycles, in milliseconds.
+    /// The greatest moment of all accepted cycles, accepts and declines, in milliseconds.
     pub fn clock(&self) -> u64
         ensures { result ≡ self.now.rows.clock }
     {

@@ -10,9 +10,9 @@ pub commit-requires-clause-fits : goal.commit-requires-clause-fits
 commit-requires-clause-fits g c =
     let rows : Rows = c.settle.new.self.rows in
     let offers = c.turns.new.drafts.offers in
-    let early : c.args.tables.now.rows.next_offer ≤ 2 ^ 57 = c.requires.drafting.early in
+    let low_number : c.args.tables.now.rows.next_offer ≤ 2 ^ 57 = c.requires.drafting.low_number in
     let same : rows.next_offer ≡ c.args.tables.now.rows.next_offer = ap (λ (r : Rows). r.next_offer) c.settle.ensures.same in
-    omega (arith, next-with_offers rows offers.items, early, same, offers.ok.0, offers.ok.1, offers.small)
+    omega (arith, next-with_offers rows offers.items, low_number, same, offers.ok.0, offers.ok.1, offers.small)
 
 pub returns-clause-lines : goal.returns-clause-lines
 returns-clause-lines g c =

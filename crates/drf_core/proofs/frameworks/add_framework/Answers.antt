@@ -6,7 +6,7 @@ use Rattle.drf_rows.specs.Consistent.{are_distinct_roles}
 use Rattle.drf_rows.specs.declared.rows.ClientRow.{ClientRow}
 use Rattle.drf_rows.specs.declared.rows.Rows.{Rows}
 use Rattle.drf_sorter.specs.Content.{Content}
-use Rattle.drf_core.specs.Registering.{AreNew, paths_of, with_all}
+use Rattle.drf_core.specs.Registering.{AreNew, client_paths, with_all}
 use Rattle.drf_core.proofs.RegisterLemmas.{distinct_apart, roles_of_new, uncounted_new, AreNew-registering}
 use Rattle.drf_core.proofs.Welcome.{welcome_framework}
 use Rattle.drf_core.proofs.ApplyLemmas.{applied_framework}
@@ -16,10 +16,11 @@ pub add_clients-requires : goal.add_clients-requires
 add_clients-requires g c =
     let rows : Rows = c.args.tables.now.rows in
     let welcome = welcome_framework c.args.limits.now rows c.args.framework c.args.roles c.requires.welcome in
-    let paths : paths_of c.args.framework (distinct c.args.roles) ≡ c.deref-2.result.now
-    = ap (paths_of c.args.framework) (sym (c.deref.ensures.value ∙ c.in_ok-roles.ensures)) ∙ sym c.in_ok-paths.ensures ∙ sym c.deref-2.ensures.value in
+    let made = c.as_slice.ensures ∙ c.in_ok-clients.ensures ∙ ap (map new_client) c.in_ok-roles.ensures in
+    let paths : client_paths c.args.framework (map new_client (distinct c.args.roles)) ≡ c.deref.result.now
+    = ap (client_paths c.args.framework) (sym made) ∙ sym c.in_ok-paths.ensures ∙ sym c.deref.ensures.value in
     subst (AreNew (g.S.Sorter.content c.args.sorter.now)) paths
-    (subst (λ (k : Content). AreNew k (paths_of c.args.framework (distinct c.args.roles))) (sym c.requires.kept.sorted)
+    (subst (λ (k : Content). AreNew k (client_paths c.args.framework (map new_client (distinct c.args.roles)))) (sym c.requires.kept.sorted)
     (AreNew-registering rows c.args.framework c.requires.kept.consistent welcome.new c.args.roles))
 
 pub add_framework-requires-clause-new : goal.add_framework-requires-clause-new
@@ -46,4 +47,5 @@ returns-clause-ok g c =
     (c.in_ok-clients.ensures ∙ ap (map new_client) c.in_ok-roles.ensures)
     (c.add_framework.ensures ∙ (λ i. record (c.reserve_framework.ensures.same i) { frameworks = (c.reserve_framework.ensures.same i).frameworks ++ record { name = c.args.framework; clients = c.in_ok-clients.clients } ∷ [] }))
     (c.in_ok-add_clients.ensures.ok
-    ∙ ap (with_all content) (c.deref-2.ensures.value ∙ c.in_ok-paths.ensures ∙ ap (paths_of c.args.framework) (c.deref.ensures.value ∙ c.in_ok-roles.ensures)))
+    ∙ ap (with_all content) (c.deref.ensures.value ∙ c.in_ok-paths.ensures
+    ∙ ap (client_paths c.args.framework) (c.as_slice.ensures ∙ c.in_ok-clients.ensures ∙ ap (map new_client) c.in_ok-roles.ensures)))

@@ -2,12 +2,18 @@ use Rattle.std.specs.Prelude.{◌≡◌, ◌≤◌, ◌<◌, ◌^◌}
 use Rattle.std.specs.List.{AllByRecursion}
 use Rattle.std.proofs.Common.{subst, sym}
 use Rattle.std.proofs.lemmas.Result.{IfOk-weaker}
-use Rattle.drf_rows.specs.Consistent.{IsConserved}
+use Rattle.drf_rows.specs.Consistent.{IsConserved, IsConsistent}
 use Rattle.drf_rows.specs.ConsistentLaws.{conserved-consistent, conserved-live}
 use Rattle.drf_rows.specs.Step.{live_rows}
 use Rattle.drf_rows.specs.declared.rows.Rows.{Rows}
-use Rattle.drf_core.proofs.KeptLemmas.{numbers_bounded, filters_bounded}
+use Rattle.drf_core.proofs.KeptLemmas.{numbers_bounded, filters_bounded, consistent-live}
 use Rattle.drf_core.proofs.allocator.Core.rows.Goals as goal
+
+pub returns-clause-consistent : goal.returns-clause-consistent
+returns-clause-consistent g c =
+    IfOk-weaker _ (λ rows. rows ≡ live_rows c.self.inside.tables.rows) IsConsistent
+    (λ rows is. subst IsConsistent (sym is) (consistent-live c.self.inside.tables.rows c.self.invariant.consistent))
+    c.rows.ensures
 
 pub returns-clause-conserved : goal.returns-clause-conserved
 returns-clause-conserved g c =

@@ -1,18 +1,18 @@
 //! The report of shares. What a node holds, and how many offers its clients got, is summed from the rows along the paths of
 //! the clients; its shares are made of that.
-ghost use Rattle.std.specs.Prelude.{◌≡◌, ◌+◌, ◌<◌, ◌≤◌, ◌^◌, [], map, fold, flat_map, length, All, IfOk, IsTrue, OnOk, Some, sum_by};
-ghost use Rattle.std.specs.List.{list_all};
+ghost use Rattle.std.specs.Prelude.{◌≡◌, ◌+◌, ◌<◌, ◌≤◌, ◌^◌, [], map, fold, flat_map, length, All, IfOk, true, OnOk, Some, sum_by};
+ghost use Rattle.std.specs.List.{AllByRecursion};
 ghost use Rattle.std.specs.BTreeMap.{get, keys};
 ghost use Rattle.drf_role.specs.Text.{Text};
 ghost use Rattle.drf_role.specs.Path.{Path};
-ghost use Rattle.drf_bundle.specs.Quantities.{amount_of, is_in_order};
+ghost use Rattle.drf_bundle.specs.Quantities.{amount_of};
 ghost use Rattle.drf_bundle.specs.Bundle.{quantities_of};
-ghost use Rattle.drf_rows.specs.Held.{client_of, count_of};
+ghost use Rattle.drf_rows.specs.Held.{client_of};
 ghost use Rattle.drf_rows.specs.Holdings.{of_offer, of_task, holdings_of, amount_in, AreBundles};
-ghost use Rattle.drf_rows.specs.Weights.{is_weight};
 ghost use Rattle.drf_rows.specs.Consistent.{offers_counted};
 ghost use Rattle.drf_rows.specs.Report.{path_cmp, with_node, nodes_on, nodes_of, report_of};
-ghost use Rattle.drf_core.specs.Reporting.{with_clients, count_at, count_in, CountTo, CanCount, HoldNothing, HoldAll, AddTo, CanAdd, AddAll, CanAddAll, IsPartOf, ArePartsOf, CanReport, line_with};
+ghost use Rattle.drf_core.specs.Kept.{are_weights};
+ghost use Rattle.drf_core.specs.Reporting.{with_clients, count_at, count_in, CountTo, CanCount, HoldNothing, AddTo, CanAdd, AddAll, CanAddAll, AreSums, IsWhole, IsPart, AreParts, CanReport, line_with};
 
 use crate::weights::Weights;
 use drf_bundle::{Bundle, Quantities};
@@ -176,10 +176,9 @@ fn node_line(
     path: &NodePath,
     sum: &Sum,
 ) -> Result<NodeLine, AllocError>
-    requires ordered { IsTrue (is_in_order total.now) }
-    requires fits { (label : Text) → amount_of total.now label < 2 ^ 52 }
-    requires within { IsPartOf total.now sum.now.held }
-    requires weighs { IsTrue (list_all (λ w. is_weight w.weight) weights.now) }
+    requires whole { IsWhole total.now }
+    requires part { IsPart total.now sum.now.held }
+    requires weights { are_weights weights.now ≡ true }
     ensures { IfOk result (λ line. line ≡ line_with total.now weights.now (path.now, sum.now)) }
 {
     let mut held = sum.held.copy()?;
@@ -202,10 +201,10 @@ fn node_lines(
     weights: &Weights<'_>,
     sums: &BTreeMap<NodePath, Sum>,
 ) -> Result<Vec<NodeLine>, AllocError>
-    requires ordered { IsTrue (is_in_order total.now) }
-    requires fits { (label : Text) → amount_of total.now label < 2 ^ 52 }
-    requires within { ArePartsOf total.now sums.now }
-    requires weighs { IsTrue (list_all (λ w. is_weight w.weight) weights.now) }
+    requires whole { IsWhole total.now }
+    requires parts { AreParts total.now sums.now }
+    requires nodes { AllByRecursion (λ node. 1 ≤ length node) (keys sums.now) }
+    requires weights { are_weights weights.now ≡ true }
     ensures lines { IfOk result (λ lines. lines.items ≡ map (line_with total.now weights.now) sums.now.entries) }
     ensures found { All (λ e. get path_cmp sums.now e.0 ≡ Some e.1) sums.now.entries }
 {

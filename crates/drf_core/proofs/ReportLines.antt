@@ -1,12 +1,12 @@
 -- The line of a node: its shares, made of what it holds, are those of the rows.
-use Rattle.std.specs.Prelude.{◌≡◌, ℕ, ◌+◌, ◌^◌, ◌<◌, ◌≤◌, IsTrue, List, [], ◌∷◌, fold, filter, sum_by, nat_lt}
+use Rattle.std.specs.Prelude.{◌≡◌, ℕ, ◌+◌, ◌^◌, ◌<◌, ◌≤◌, true, IsTrue, List, [], ◌∷◌, fold, filter, sum_by, nat_lt, nat_le}
 use Rattle.std.specs.List.{AllByRecursion, list_all}
 use Rattle.std.proofs.Common.{refl, sym, ap, ◌∙◌, inl, inr, arith}
-use Rattle.std.proofs.lemmas.Bool.{cases_Bool, and_parts, ltb-true}
+use Rattle.std.proofs.lemmas.Bool.{cases_Bool, and_parts, ltb-true, leb-true}
 use Rattle.std.proofs.lemmas.List.Sums.{sum_by-cons}
 use Rattle.drf_role.specs.Text.{Text, text_below}
 use Rattle.drf_role.specs.TextLaws.{cases_same}
-use Rattle.drf_role.specs.Path.{Path}
+use Rattle.drf_role.specs.Path.{Path, same_path}
 use Rattle.drf_bundle.specs.Quantities.{plus, amount_of, is_in_order}
 use Rattle.drf_bundle.specs.QuantitiesLaws.{amount_first, amount_head, amount-plus, in_order-plus}
 use Rattle.drf_bundle.specs.UnitProofs.{quantities_no_zeros}
@@ -17,7 +17,9 @@ use Rattle.drf_rows.specs.Holdings.{Holding, holdings_of, held_where, amount_in,
 use Rattle.drf_rows.specs.ListLaws.{each_filter}
 use Rattle.drf_rows.specs.Report.{held_under, line_by, node_line}
 use Rattle.drf_rows.specs.Share.{Fraction, is_less, greater, lowest_terms}
+use Rattle.drf_rows.specs.Weights.{is_weight}
 use Rattle.drf_rows.specs.declared.rows.AgentRow.{AgentRow}
+use Rattle.drf_rows.specs.declared.rows.WeightRow.{WeightRow}
 use Rattle.drf_rows.specs.declared.rows.Rows.{Rows}
 use Rattle.drf_sorter.specs.Fractions.{weigh, dominant_of}
 use Rattle.drf_sorter.specs.FractionLaws.{same_as_weighed}
@@ -26,6 +28,7 @@ use Rattle.drf_sorter.specs.ShareLaws.{above_zero, below_128}
 use Rattle.drf_sorter.specs.LowestLaws.{lowest_terms-same}
 use Rattle.drf_sorter.specs.declared.share.Share.{Share}
 use Rattle.drf_core.specs.declared.report.Sum.{Sum}
+use Rattle.drf_core.specs.Kept.{are_weights}
 use Rattle.drf_core.specs.Reporting.{IsSum, IsWhole, line_with}
 
 -- ---- the wholes of shares
@@ -81,6 +84,23 @@ lowest-share total held share whole is =
     let part = part_of_dominant held total (small_entries total whole.ordered whole.small) in
     lowest_terms-same (fraction_of share) (dominant_of held total)
     (above_zero share) (below_128 share) part.some part.small (same_as_weighed (fraction_of share) (dominant_of held total) is)
+
+-- ---- the weight of a node
+
+pub weight_in_range : (ws : List WeightRow) (node : Path) → are_weights ws ≡ true
+    → (1 ≤ weight_of ws node) × (weight_of ws node ≤ 1000000)
+weight_in_range [] node all = (omega arith, omega arith)
+weight_in_range (w ∷ ws) node all =
+    let parts = and_parts (is_weight w.weight) (are_weights ws) all in
+    elim (cases_Bool (same_path w.role node)) [
+      | inl here ↦ rw here (in_range w.weight parts.0)
+      | inr past ↦ rw past (weight_in_range ws node parts.1)
+    ]
+  where
+    in_range : (n : ℕ) → is_weight n ≡ true → (1 ≤ n) × (n ≤ 1000000)
+    in_range n is =
+        let both = and_parts (nat_le 1 n) (nat_le n 1000000) is in
+        (leb-true 1 n both.0, leb-true n 1000000 both.1)
 
 -- ---- by the rows
 

@@ -43,7 +43,7 @@ impl<'a> Weights<'a> {
     }
 
     /// The weight of a node, in thousandths.
-    pub fn of(&self, node: &NodePath) -> u64
+    pub fn weight_of(&self, node: &NodePath) -> u64
         ensures { result ≡ weight_of self.now node.now }
     {
         match self.by_text.get(node.text()) {

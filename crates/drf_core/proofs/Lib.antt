@@ -18,6 +18,7 @@ pub mod ReportCounts
 pub mod ReportSums
 pub mod ReportLines
 pub mod ReportNodes
+pub mod WeighingLemmas
 pub mod WeightLemmas
 pub mod Welcome
 pub mod KeptLemmas

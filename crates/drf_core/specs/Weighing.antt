@@ -1,5 +1,6 @@
 -- The weights of roles, found by the texts of the roles.
-use Rattle.std.specs.Prelude.{◌≡◌, ℕ, List, Bor}
+use Rattle.std.specs.Prelude.{◌≡◌, ℕ, List}
+use Rattle.std.specs.Borrow.{Bor}
 use Rattle.std.specs.Option.{unwrap_or}
 use Rattle.std.specs.Ordering.{nat_cmp}
 use Rattle.std.specs.Cmp.Lexicographic.{slice_cmp}

@@ -54,10 +54,10 @@ fn put_nodes(
     ensures counted { OnOk result (CountTo client.now (length client.now) count sums.old sums.new) }
 {
     for i in 0..client.len() {
-        let node = client.node(i + 1)?;
-        let count = count_at(sums, &node) + count;
+        let path = client.node(i + 1)?;
+        let count = count_at(sums, &path) + count;
         let held = Quantities::empty(alloc);
-        sums.insert(node, Sum { held, count })?;
+        sums.insert(path, Sum { held, count })?;
     }
     Ok(())
 }

@@ -15,7 +15,7 @@ put_nodes-requires-clause-fits c =
     let cs = c.as_slice-client-items.result.now in
     CanCount-client f cs c.loop-client.client-index c.client-item.result c.loop-client-test.true c.client-item.is
     c.args.sums.now c.loop-client.sums c.loop-client.invariant.counted
-    (subst (λ (ds : List ClientRow). CanCount (sum_by (λ d. d.count) ds) c.args.sums.now) (sym c.as_slice-client-items.ensures.value) c.requires.fits)
+    (subst (λ (ds : List ClientRow). CanCount (sum_by (λ d. d.count) ds) c.args.sums.now) (sym c.as_slice-client-items.ensures) c.requires.fits)
 
 pub loop-client-preserved : goal.loop-client-preserved
 loop-client-preserved c =

@@ -15,7 +15,7 @@ overflow_add-count c =
       arith,
       c.count_at.ensures,
       fits_count c.args.client.now c.loop-i.i c.args.count c.args.sums.now c.loop-i.sums (omega arith) c.loop-i.invariant.counted
-      c.in_ok-node.node c.in_ok-node.ensures c.requires.fits,
+      c.in_ok-path.path c.in_ok-path.ensures c.requires.fits,
     )
 
 pub loop-i-preserved : goal.loop-i-preserved
@@ -24,13 +24,13 @@ loop-i-preserved c =
     let s : Sum = record { held = c.empty-held.result; count = c.count_at.result + c.args.count } in
     record {
       nodes = ap keys_of c.in_ok-insert.ensures.entries
-          ∙ keys-insert_entry c.loop-i.sums.entries c.in_ok-node.node s
-          ∙ (λ i. with_node (c.loop-i.invariant.nodes i) (c.in_ok-node.ensures i))
+          ∙ keys-insert_entry c.loop-i.sums.entries c.in_ok-path.path s
+          ∙ (λ i. with_node (c.loop-i.invariant.nodes i) (c.in_ok-path.ensures i))
           ∙ sym (with_nodes-more (keys c.args.sums.now) path c.loop-i.i);
-      nothing = nothing-inserted c.loop-i.sums c.insert.new.self c.in_ok-node.node s
+      nothing = nothing-inserted c.loop-i.sums c.insert.new.self c.in_ok-path.path s
           c.in_ok-insert.ensures.updates c.empty-held.ensures c.loop-i.invariant.nothing;
       counted = CountTo-more path c.loop-i.i c.args.count c.args.sums.now c.loop-i.sums (omega arith) c.loop-i.invariant.counted
-          c.in_ok-node.node c.in_ok-node.ensures c.insert.new.self s (ap (λ n. n + c.args.count) c.count_at.ensures)
+          c.in_ok-path.path c.in_ok-path.ensures c.insert.new.self s (ap (λ n. n + c.args.count) c.count_at.ensures)
           c.in_ok-insert.ensures.updates;
     }
 

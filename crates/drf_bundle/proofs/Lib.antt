@@ -1,4 +1,5 @@
 mod ChangeLemmas
+mod FirstLemmas
 mod PlaceLemmas
 pub mod MergeLemmas
 pub mod NameLemmas

@@ -101,6 +101,12 @@ with_in_gap (e ∷ es) label a (suc i) gap =
 
 -- ---- the same, in the terms that the code has at hand
 
+-- the amount there, of what was lent
+pub amount_here : (items es : List Entry) (text label : List ℕ) (i : ℕ) (had : Entry) → items ≡ es → IsTrue (is_in_order items) → text ≡ label → IsAt es text i → had ≡ get_or items i had → had.amount ≡ amount_of es label
+amount_here items es text label i had same ordered named at is =
+    ap (λ (e : Entry). e.amount) (is ∙ ap (λ (l : List Entry). get_or l i had) same)
+    ∙ sym (amount_at es text i had (subst (λ (l : List Entry). IsTrue (is_in_order l)) same ordered) at) ∙ ap (amount_of es) named
+
 pub set_here : (items es : List Entry) (text label : List ℕ) (x a i : ℕ) (had : Entry) → items ≡ es → IsTrue (is_in_order items) → text ≡ label → x ≡ a → IsAt es text i → had ≡ get_or items i had → set items i (record { label = had.label; amount = x }) ≡ with_amount es label a
 set_here items es text label x a i had view ordered same amount at read =
     let found : IsAt items text i = subst (λ (l : List Entry). IsAt l text i) (sym view) at in

@@ -73,7 +73,7 @@ no_value [] key other = refl
 no_value (s ∷ ss) key other = rw (other s (inl refl)) (no_value ss key (λ r later. other r (inr later)))
 
 -- where a resource is
-has_index : (rs : List Resource) (r : Resource) → Has rs r → (i : ℕ) × (i < length rs) × (r ≡ get_or rs i r)
+pub has_index : (rs : List Resource) (r : Resource) → Has rs r → (i : ℕ) × (i < length rs) × (r ≡ get_or rs i r)
 has_index [] r has = absurd has
 has_index (s ∷ ss) r (inl is) = (0, omega arith, sym is)
 has_index (s ∷ ss) r (inr later) = let at = has_index ss r later in (suc at.0, omega (arith, at.1), at.2)

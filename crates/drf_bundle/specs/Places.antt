@@ -1,6 +1,6 @@
 -- Where a label stands among the entries, or a key among the resources, or would stand.
 use Rattle.std.specs.Prelude.{◌≡◌, ℕ, ◌<◌, ◌≤◌, List, length, slice_index_or, IsTrue}
-use Rattle.drf_role.specs.Text.{text_below}
+use Rattle.drf_role.specs.Text.{Text, text_below}
 use Rattle.drf_bundle.specs.Bundle.{Key, key_of, key_below}
 use Rattle.drf_bundle.specs.declared.quantities.Entry.{Entry}
 use Rattle.drf_bundle.specs.declared.resource.Resource.{Resource}
@@ -26,3 +26,9 @@ pub record IsKeyGap (resources : List Resource) (key : Key) (i : ℕ) : Type 0 w
   pub in_range : i ≤ length resources
   pub below_before : (k : ℕ) (d : Resource) → k < i → IsTrue (key_below (key_of (slice_index_or resources k d)) key)
   pub above_after : (k : ℕ) (d : Resource) → i ≤ k → k < length resources → IsTrue (key_below key (key_of (slice_index_or resources k d)))
+
+-- the name has no resource, and one would go at place i: the names before it are smaller, and those from it on are greater
+pub record IsNameGap (resources : List Resource) (name : Text) (i : ℕ) : Type 0 where
+  pub in_range : i ≤ length resources
+  pub smaller_before : (k : ℕ) (d : Resource) → k < i → IsTrue (text_below (slice_index_or resources k d).label name)
+  pub greater_after : (k : ℕ) (d : Resource) → i ≤ k → k < length resources → IsTrue (text_below name (slice_index_or resources k d).label)

@@ -287,6 +287,10 @@ pub union_empty : (bundle : List Resource) (r : Resource) → union_refusal bund
     → union bundle r ≡ Some bundle
 union_empty bundle r none zero = λ i. join_or (none i) (with_empty bundle r (ap (nat_lt 0) zero) i)
 
+pub union_filled : (bundle : List Resource) (r : Resource) → union_refusal bundle r ≡ None → nat_lt 0 (amount_in r.value) ≡ true
+    → union bundle r ≡ Some (merged bundle (r ∷ []))
+union_filled bundle r none some = λ i. join_or (none i) (with_filled bundle r some i)
+
 pub some_in : (r : Resource) → (amount_in r.value ≡ 0 → ⊥) → nat_lt 0 (amount_in r.value) ≡ true
 some_in r some = lt-ltb 0 (amount_in r.value) (elim (zero_or_some (amount_in r.value)) [ inl zero ↦ absurd (some zero) | inr above ↦ above ])
 

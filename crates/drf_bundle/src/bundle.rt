@@ -52,8 +52,7 @@ pub(crate) fn add_scalar(sums: &mut Quantities, resource: &Resource) -> Result<(
     let Value::Scalar(scalar) = &resource.value else {
         return Ok(());
     };
-    let sum = sums.get(resource.label.text()) + scalar.thousandths();
-    sums.set(resource.label.copy()?, sum)
+    sums.add(&resource.label, scalar.thousandths())
 }
 
 /// The scalars of each name, summed over all reservations.

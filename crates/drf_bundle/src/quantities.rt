@@ -107,6 +107,27 @@ impl Quantities {
         }
     }
 
+    /// Adds to the amount of a label, and names it where it was not.
+    pub(crate) fn add(&mut self, label: &Label, thousandths: u64) -> Result<(), AllocError>
+        requires { amount_of self.old label.now + thousandths < 2 ^ 64 }
+        ensures ok { OnOk result (self.new ≡ with_amount self.old label.now (amount_of self.old label.now + thousandths)) }
+        ensures err { OnErr result (self.new ≡ self.old) }
+    {
+        match self.place(label.text()) {
+            Ok(at) => {
+                let entry = &mut self.entries[at];
+                let sum = entry.amount.thousandths() + thousandths;
+                entry.amount = Scalar::new(sum);
+                Ok(())
+            }
+            Err(at) => {
+                let label = label.copy()?;
+                let amount = Scalar::new(thousandths);
+                Ok(self.entries.insert(at, Entry { label, amount })?)
+            }
+        }
+    }
+
     pub fn copy(&self) -> Result<Quantities, AllocError>
         ensures { IfOk result (λ q. q ≡ self.now) }
     {

@@ -28,9 +28,10 @@ impl Resource {
     pub(crate) fn cmp_key(&self, label: &Label, role: &Role) -> Ordering
         ensures { result ≡ key_cmp (key_of self.now) (label.now, reservation role.now) }
     {
-        self.label
-            .cmp(label)
-            .then(reservation(&self.role).cmp(reservation(role)))
+        match self.label.cmp(label) {
+            Ordering::Equal => reservation(&self.role).cmp(reservation(role)),
+            apart => apart,
+        }
     }
 
     /// Whether it is for everyone.

@@ -1,10 +1,11 @@
 //! One more resource in a bundle, where sets of one name and reservation may share members.
-ghost use Rattle.std.specs.Prelude.{◌≡◌, ℕ, ◌+◌, ◌<◌, ◌^◌, ◌&&◌, not, Some, [], ◌∷◌, filter, nat_le, IsTrue, IfOk, IfErr, OnOk, OnErr};
+ghost use Rattle.std.specs.Prelude.{◌≡◌, ℕ, ◌+◌, ◌<◌, ◌^◌, ◌&&◌, not, Some, [], ◌∷◌, filter, nat_le, IsTrue, IfSome, IfOk, IfErr, OnOk, OnErr};
 ghost use Rattle.drf_amount.specs.Algebra.{IsJoinFault};
 ghost use Rattle.drf_role.specs.Text.{same_text};
 ghost use Rattle.drf_bundle.specs.Value.{Thousandths, units_in, share_members};
 ghost use Rattle.drf_bundle.specs.Bundle.{IsBundle, is_in_order, key_of, same_key, reservation, merged, add_scalar};
 ghost use Rattle.drf_bundle.specs.Quantities.{amount_of};
+ghost use Rattle.drf_bundle.specs.Places.{IsKeyGap, IsNameGap};
 ghost use Rattle.drf_bundle.specs.Union.{has_other_kind, is_reserved_elsewhere, union_refusal, union};
 
 use crate::bundle::{Bundle, add_scalar, place};
@@ -64,6 +65,35 @@ fn is_too_much(sums: &Quantities, resource: &Resource) -> bool
     sum.is_none()
 }
 
+/// Where a resource of the name would go, if the name has none.
+fn gap_of_name(resources: &[Resource], label: &Label) -> Option<usize>
+    requires { IsTrue (is_in_order resources.now) }
+    ensures { IfSome result (IsNameGap resources.now label.now) }
+{
+    resources
+        .binary_search_by(|resource| resource.label.cmp(label))
+        .err()
+}
+
+/// Puts the resource into the gap for its key, and adds its scalar to the sum of its name.
+fn put_in_gap(
+    resources: &mut Vec<Resource>,
+    sums: &mut Quantities,
+    at: usize,
+    resource: Resource,
+) -> Result<(), AllocError>
+    requires gap { IsKeyGap resources.old.items (key_of resource) at }
+    requires fits { amount_of sums.old resource.label + units_in resource.value Thousandths < 2 ^ 64 }
+    ensures ok { OnOk result ((resources.new.items ≡ merged resources.old.items (resource ∷ [])) × (sums.new ≡ add_scalar sums.old resource)) }
+    ensures err { OnErr result ((resources.new.items ≡ resources.old.items) × (sums.new ≡ sums.old)) }
+{
+    // With room the insertion takes no memory, so that nothing has to be taken back.
+    resources.reserve(1)?;
+    add_scalar(sums, &resource)?;
+    resources.insert(at, resource)?;
+    Ok(())
+}
+
 /// Puts the resource among those in order, and adds its scalar to the sum of its name.
 fn put(
     resources: &mut Vec<Resource>,
@@ -81,15 +111,10 @@ fn put(
             let value = had.value.unite(&resource.value)?;
             add_scalar(sums, &resource)?;
             had.value = value;
+            Ok(())
         }
-        Err(at) => {
-            // With room the insertion takes no memory, so that nothing has to be taken back.
-            resources.reserve(1)?;
-            add_scalar(sums, &resource)?;
-            resources.insert(at, resource)?;
-        }
+        Err(at) => put_in_gap(resources, sums, at, resource),
     }
-    Ok(())
 }
 
 impl Bundle {
@@ -113,15 +138,28 @@ impl Bundle {
         is_too_much(&self.quantities, resource).then_some(AlgebraFault::TooLarge)
     }
 
-    /// Puts one more resource in: under one name and reservation scalars add and sets unite, shared
-    /// members or not. The first of `Kind`, `Overlap` and `TooLarge` that holds is told, `Kind` of a value
-    /// with nothing in it too, which else changes nothing. An `Err` changes nothing.
-    pub fn unite(&mut self, label: Label, role: Role, value: Value) -> Result<(), AlgebraFault>
-        ensures ok { OnOk result (union self.old (record { label = label; role = role; value = value }) ≡ Some self.new) }
+    /// Unites with the first resource of a name, whose place was found.
+    fn unite_first(&mut self, at: usize, first: Resource) -> Result<(), AlgebraFault>
+        requires { IsNameGap self.old first.label at }
+        ensures ok { OnOk result (union self.old first ≡ Some self.new) }
         ensures err { OnErr result (self.new ≡ self.old) }
-        ensures fault { IfErr result (IsJoinFault (union_refusal self.old (record { label = label; role = role; value = value }))) }
+        ensures fault { IfErr result (IsJoinFault (union_refusal self.old first)) }
     {
-        let resource = Resource { label, role, value };
+        if first.value.is_empty() {
+            return Ok(());
+        }
+        // The proof learns of them that they are a label and a role by these calls alone.
+        let _ = first.label.text();
+        let _ = first.role.text();
+        Ok(put_in_gap(&mut self.resources, &mut self.quantities, at, first)?)
+    }
+
+    /// Unites with a resource, of whose name there may be others.
+    fn unite_further(&mut self, resource: Resource) -> Result<(), AlgebraFault>
+        ensures ok { OnOk result (union self.old resource ≡ Some self.new) }
+        ensures err { OnErr result (self.new ≡ self.old) }
+        ensures fault { IfErr result (IsJoinFault (union_refusal self.old resource)) }
+    {
         if let Some(fault) = self.union_refusal(&resource) {
             return Err(fault);
         }
@@ -132,5 +170,20 @@ impl Bundle {
         let _ = resource.label.text();
         let _ = resource.role.text();
         Ok(put(&mut self.resources, &mut self.quantities, resource)?)
+    }
+
+    /// Puts one more resource in: under one name and reservation scalars add and sets unite, shared
+    /// members or not. The first of `Kind`, `Overlap` and `TooLarge` that holds is told, `Kind` of a value
+    /// with nothing in it too, which else changes nothing. An `Err` changes nothing.
+    pub fn unite(&mut self, label: Label, role: Role, value: Value) -> Result<(), AlgebraFault>
+        ensures ok { OnOk result (union self.old (record { label = label; role = role; value = value }) ≡ Some self.new) }
+        ensures err { OnErr result (self.new ≡ self.old) }
+        ensures fault { IfErr result (IsJoinFault (union_refusal self.old (record { label = label; role = role; value = value }))) }
+    {
+        let resource = Resource { label, role, value };
+        match gap_of_name(&self.resources, &resource.label) {
+            Some(at) => self.unite_first(at, resource),
+            None => self.unite_further(resource),
+        }
     }
 }

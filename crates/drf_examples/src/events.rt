@@ -52,7 +52,10 @@ pub fn run_all<R: Runtime + Files + AllocGlobal>(rt: &R) -> Result<()> {
     let mut replies = Vec::new(alloc);
     core.run(&events, &mut replies)?;
     let is_exact = text_of(alloc, &replies)?.as_slice() == bytes(rt, "day", "out")?.as_slice();
-    println!(rt; "a day at once: {}", if is_exact { "exact" } else { "OTHER" })?;
+    println!(rt;
+        "a day at once: {}",
+        if is_exact { "exact" } else { "OTHER" }
+    )?;
     println!(rt; "rows: {}", tell_rows(alloc, &core)?)?;
     println!(rt; "report: {}", tell_report(alloc, &core)?)?;
     Ok(())

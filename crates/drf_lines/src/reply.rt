@@ -85,11 +85,14 @@ fn end_line(out: Writer) -> Result<Vec<u8>, AllocError>
     Ok(line)
 }
 
+/// Room for the line of each reply but offers and reports, so that it need not grow.
+const SHORT_LINE: usize = 64;
+
 /// The line that tells a reply: compact JSON, the keys in order of bytes.
 pub fn write_reply(alloc: Global, reply: &Reply) -> Result<Vec<u8>, AllocError>
     ensures { IfOk result (λ line. line.items ≡ reply_line reply.now) }
 {
-    let mut out = Writer::new(Vec::new(alloc));
+    let mut out = Writer::new(Vec::with_capacity(alloc, SHORT_LINE)?);
     put_reply(alloc, &mut out, reply)?;
     end_line(out)
 }
@@ -98,7 +101,7 @@ pub fn write_reply(alloc: Global, reply: &Reply) -> Result<Vec<u8>, AllocError>
 pub fn write_fault(alloc: Global, fault: LineFault) -> Result<Vec<u8>, AllocError>
     ensures { IfOk result (λ line. line.items ≡ fault_line fault) }
 {
-    let mut out = Writer::new(Vec::new(alloc));
+    let mut out = Writer::new(Vec::with_capacity(alloc, SHORT_LINE)?);
     put_refused(&mut out, fault.name(), fault.number())?;
     end_line(out)
 }

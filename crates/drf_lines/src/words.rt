@@ -6,7 +6,7 @@ use crate::fault::LineError;
 use drf_role::{Name, Role};
 use std::alloc::Global;
 
-/// Reads the name of an agent or a framework.
+/// Reads the name of an agent, a framework or a task.
 pub fn read_name(alloc: Global, text: &str) -> Result<Name, LineError>
     ensures { IsReadOf result (name_in text.now) }
 {

@@ -1,10 +1,11 @@
 -- Spaces and tabs at the ends of a text.
-use Rattle.std.specs.Prelude.{◌≡◌, ◌≢◌, ℕ, ◌+◌, ◌<◌, ◌≤◌, ◌&&◌, Bool, true, false, [], ◌∷◌, ◌++◌, length, IsTrue}
+use Rattle.std.specs.Prelude.{◌≡◌, ◌≢◌, ℕ, ◌+◌, ◌<◌, ◌≤◌, ◌&&◌, Bool, true, false, [], ◌∷◌, ◌++◌, length, not, IsTrue}
+use Rattle.std.specs.Bool.{OnTrue}
 use Rattle.std.specs.List.{list_all}
-use Rattle.std.proofs.Common.{refl, sym, ap, ◌∙◌, inl, inr, cond, arith}
+use Rattle.std.proofs.Common.{zero, suc, get_or, refl, sym, ap, ◌∙◌, inl, inr, cond, arith}
 use Rattle.std.proofs.lemmas.Bool.{ne_eqb}
 use Rattle.drf_role.specs.Text.{Text}
-use Rattle.drf_text.specs.Blanks.{is_blank, IsOneFirstLess, IsOneLastLess, without_first_blanks, without_last_blanks}
+use Rattle.drf_text.specs.Blanks.{is_blank, IsOneFirstLess, IsOneLastLess, without_first_blanks, without_last_blanks, trimmed}
 
 no_blank : (b : ℕ) → b ≢ 32 → b ≢ 9 → is_blank b ≡ false
 no_blank b space tab = rw (ne_eqb b 32 space, ne_eqb b 9 tab) refl
@@ -71,3 +72,36 @@ pub last_done : (text rest : Text) → length text ≤ length rest → IsOneLast
     → text ≡ without_last_blanks text
 last_done text rest long (inl less) = absurd (omega (arith, ap length less.2, length_push rest less.0))
 last_done text rest long (inr all) = sym all.1
+
+-- ---- a text that neither begins nor ends with one
+
+bare_first : (text : Text) (d : ℕ) → is_blank (get_or text 0 d) ≡ false → without_first_blanks text ≡ text
+bare_first [] d bare = refl
+bare_first (b ∷ bs) d bare = rw bare refl
+
+not_all_at : (text : Text) (i d : ℕ) → i < length text → is_blank (get_or text i d) ≡ false → list_all is_blank text ≡ false
+not_all_at [] i d in_range bare = absurd (omega arith)
+not_all_at (b ∷ bs) zero d in_range bare = rw bare refl
+not_all_at (b ∷ bs) (suc i) d in_range bare = by (is_blank b) (not_all_at bs i d (omega arith) bare)
+  where
+    by : (x : Bool) → list_all is_blank bs ≡ false → (x && list_all is_blank bs) ≡ false
+    by true none = none
+    by false none = refl
+
+bare_last : (text : Text) (i d : ℕ) → i + 1 ≡ length text → is_blank (get_or text i d) ≡ false → without_last_blanks text ≡ text
+bare_last [] i d last bare = refl
+bare_last (b ∷ []) zero d last bare = rw bare refl
+bare_last (b ∷ []) (suc i) d last bare = absurd (omega arith)
+bare_last (b ∷ c ∷ cs) zero d last bare = absurd (omega arith)
+bare_last (b ∷ c ∷ cs) (suc i) d last bare =
+    let none : list_all is_blank (b ∷ c ∷ cs) ≡ false = not_all_at (b ∷ c ∷ cs) (suc i) d (omega arith) bare in
+    ap (λ (t : Bool). cond t [] (b ∷ without_last_blanks (c ∷ cs))) none ∙ ap (λ (t : Text). b ∷ t) (bare_last (c ∷ cs) i d (omega arith) bare)
+
+pub bare_ends : (text : Text) (b : Bool) (i d e : ℕ) → i + 1 ≡ length text → is_blank (get_or text 0 d) ≡ false → b ≡ not (is_blank (get_or text i e))
+    → OnTrue b (trimmed text ≡ text)
+bare_ends text true i d e last first is = ap without_last_blanks (bare_first text d first) ∙ bare_last text i e last (bare (is_blank (get_or text i e)) is)
+  where
+    bare : (x : Bool) → true ≡ not x → x ≡ false
+    bare true same = same
+    bare false same = refl
+bare_ends text false i d e last first is = tt

@@ -1,6 +1,7 @@
 //! Spaces and tabs dropped at the ends of a text.
 ghost use Rattle.std.specs.Prelude.{◌≡◌};
-ghost use Rattle.drf_text.specs.Blanks.{IsOneFirstLess, IsOneLastLess, without_first_blanks, without_last_blanks, trimmed};
+ghost use Rattle.std.specs.Bool.{OnTrue};
+ghost use Rattle.drf_text.specs.Blanks.{is_blank, IsOneFirstLess, IsOneLastLess, without_first_blanks, without_last_blanks, trimmed};
 
 /// What follows a space or a tab at the front, or all of it.
 fn drop_first(text: &str) -> &str
@@ -52,9 +53,32 @@ fn trim_end(text: &str) -> &str
     rest
 }
 
+fn is_blank_byte(byte: u8) -> bool
+    ensures { result ≡ is_blank byte }
+{
+    byte == b' ' || byte == b'\t'
+}
+
+/// Whether neither end is a space or a tab.
+fn has_bare_ends(text: &str) -> bool
+    ensures { OnTrue result (trimmed text.now ≡ text.now) }
+{
+    let bytes = text.as_bytes();
+    if bytes.is_empty() {
+        return false;
+    }
+    if is_blank_byte(bytes[0]) {
+        return false;
+    }
+    !is_blank_byte(bytes[bytes.len() - 1])
+}
+
 /// The text without the spaces and tabs at both ends.
 pub fn trim(text: &str) -> &str
     ensures { result.now ≡ trimmed text.now }
 {
+    if has_bare_ends(text) {
+        return text;
+    }
     trim_end(trim_start(text))
 }

@@ -1,0 +1,86 @@
+-- The first resource of a name: where it goes, and that nothing refuses it.
+use Rattle.std.specs.Prelude.{◌≡◌, ℕ, ◌+◌, ◌&&◌, Bool, false, List, [], ◌∷◌, length, None, Some, IsTrue, IfSome, not}
+use Rattle.std.specs.List.{list_any}
+use Rattle.std.specs.List.Sorted.{IsSearchInRange, IsBinarySearchResult, IsNonDecreasingBy}
+use Rattle.std.specs.Ordering.{nat_cmp, is_lt, ordering_reverse, ordering_index}
+use Rattle.std.specs.Result.{result_err}
+use Rattle.std.specs.Cmp.Lexicographic.{slice_cmp, nat_list_cmp_total}
+use Rattle.std.proofs.Common.{Result, Ok, Err, get_or, refl, sym, ap, ◌∙◌, subst, inl, inr, cond, arith}
+use Rattle.std.proofs.lemmas.Bool.{cases_lt}
+use Rattle.std.proofs.lemmas.Bool.Decides.{nat_tests}
+use Rattle.std.proofs.lemmas.List.Sorted.{searchable_from_sorted}
+use Rattle.drf_amount.specs.declared.algebra.AlgebraFault.TheVariants as fault
+use Rattle.drf_role.specs.Text.{Text, same_text}
+use Rattle.drf_role.specs.TextLaws.{cmp_itself, cmp_below, below_from_cmp, above_from_cmp, below_other, above_other}
+use Rattle.drf_bundle.specs.Value.{Point, Thousandths, IsGiven, is_same_kind, share_members}
+use Rattle.drf_bundle.specs.ValueLaws.{units-most}
+use Rattle.drf_bundle.specs.Bundle.{Key, key_of, same_key, is_in_order, stock}
+use Rattle.drf_bundle.specs.KeyLaws.{cases_below, below_from_name, Has, where-cons, unit-none}
+use Rattle.drf_bundle.specs.SumLaws.{of_name}
+use Rattle.drf_bundle.specs.Places.{IsKeyGap, IsNameGap}
+use Rattle.drf_bundle.specs.Union.{has_other_kind, is_reserved_elsewhere, is_too_much, union_refusal}
+use Rattle.drf_bundle.specs.declared.resource.Resource.{Resource}
+use Rattle.drf_bundle.proofs.SearchLemmas.{in_order_at, has_index}
+
+module _ (rs : List Resource) (name : Text) (ordered : IsTrue (is_in_order rs)) where
+  comparisons_rise : IsNonDecreasingBy (λ r. ordering_index (slice_cmp nat_cmp r.label name)) rs
+  comparisons_rise = searchable_from_sorted nat_list_cmp_total (λ r. r.label) rs name
+      (λ k d low high.
+      let earlier = get_or rs k d in
+      let later = get_or rs (k + 1) d in
+      elim (cases_below (key_of earlier) (key_of later) (in_order_at rs k (k + 1) d ordered (omega arith) high)) [
+        | inl less ↦ ap is_lt (nat_list_cmp_total.antisymm later.label earlier.label ∙ ap ordering_reverse less)
+        | inr same ↦ ap is_lt (ap (λ (t : Text). slice_cmp nat_cmp later.label t) same.0 ∙ cmp_itself later.label)
+      ])
+
+  -- a search by name that finds nothing ends at the gap for it
+  pub name_searched : (r : Result ℕ ℕ) → IsSearchInRange r (length rs)
+      → IsBinarySearchResult (λ s. slice_cmp nat_cmp s.label name) rs r → IfSome (result_err r) (IsNameGap rs name)
+  name_searched (Ok at) in_range equal = tt
+  name_searched (Err at) in_range parted = record {
+    in_range = in_range;
+    smaller_before = λ k d lt. below_from_cmp (get_or rs k d).label name ((parted comparisons_rise).0 k d (omega arith) lt);
+    greater_after = λ k d le lt. above_from_cmp (get_or rs k d).label name ((parted comparisons_rise).1 k d le lt);
+  }
+
+-- it is the gap for any reservation of the name
+pub key_gap : (rs : List Resource) (key : Key) (i : ℕ) → IsNameGap rs key.0 i → IsKeyGap rs key i
+key_gap rs key i gap = record {
+  in_range = gap.in_range;
+  below_before = λ k d lt. below_from_name (key_of (get_or rs k d)) key (cmp_below (get_or rs k d).label key.0 (gap.smaller_before k d lt));
+  above_after = λ k d le lt. below_from_name key (key_of (get_or rs k d)) (cmp_below key.0 (get_or rs k d).label (gap.greater_after k d le lt));
+}
+
+-- no resource has the name
+unnamed : (rs : List Resource) (name : Text) (i : ℕ) → IsNameGap rs name i → (s : Resource) → Has rs s
+    → (same_text s.label name ≡ false) × (same_text name s.label ≡ false)
+unnamed rs name i gap s has =
+    let at = has_index rs s has in
+    subst (λ (t : Resource). (same_text t.label name ≡ false) × (same_text name t.label ≡ false)) (sym at.2) (elim (cases_lt at.0 i) [
+      | inl before ↦ let below = gap.smaller_before at.0 s before in (below_other (get_or rs at.0 s).label name below, above_other (get_or rs at.0 s).label name below)
+      | inr after ↦ let below = gap.greater_after at.0 s after at.1 in (above_other name (get_or rs at.0 s).label below, below_other name (get_or rs at.0 s).label below)
+    ])
+
+none_passes : (name : Text) (test : Resource → Bool) (rs : List Resource) → ((s : Resource) → Has rs s → same_text s.label name ≡ false)
+    → list_any (λ s. same_text s.label name && test s) rs ≡ false
+none_passes name test [] other = refl
+none_passes name test (s ∷ ss) other = rw (other s (inl refl)) (none_passes name test ss (λ t later. other t (inr later)))
+
+no_stock : (name : Text) (p : Point) (rs : List Resource) → ((s : Resource) → Has rs s → same_text name s.label ≡ false)
+    → stock rs name p ≡ 0
+no_stock name p [] other = refl
+no_stock name p (s ∷ ss) other =
+    omega (arith, where-cons (of_name name) p s ss, unit-none (of_name name) p s (other s (inl refl)), no_stock name p ss (λ t later. other t (inr later)))
+
+pub stock_first : (rs : List Resource) (name : Text) (i : ℕ) (p : Point) → IsNameGap rs name i → stock rs name p ≡ 0
+stock_first rs name i p gap = no_stock name p rs (λ s has. (unnamed rs name i gap s has).1)
+
+-- nothing refuses it
+pub first_is_free : (rs : List Resource) (r : Resource) (i : ℕ) → IsNameGap rs r.label i → IsGiven r.value → union_refusal rs r ≡ None
+first_is_free rs r i gap given =
+    let kinds : has_other_kind rs r.label r.value ≡ false = none_passes r.label (λ s. not (is_same_kind s.value r.value)) rs (λ s has. (unnamed rs r.label i gap s has).0) in
+    let members : is_reserved_elsewhere rs r ≡ false = none_passes r.label (λ s. not (same_key (key_of s) (key_of r)) && share_members s.value r.value) rs (λ s has. (unnamed rs r.label i gap s has).0) in
+    let none = stock_first rs r.label i Thousandths gap in
+    let most = units-most r.value Thousandths given in
+    let small : is_too_much rs r ≡ false = grind (arith, nat_tests, none, most) in
+    λ j. cond (kinds j) (Some fault.Kind) (cond (members j) (Some fault.Overlap) (cond (small j) (Some fault.TooLarge) None))

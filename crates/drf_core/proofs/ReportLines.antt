@@ -1,8 +1,11 @@
 -- The line of a node: its shares, made of what it holds, are those of the rows.
-use Rattle.std.specs.Prelude.{◌≡◌, ℕ, ◌+◌, ◌^◌, ◌<◌, ◌≤◌, true, IsTrue, List, [], ◌∷◌, fold, filter, sum_by, nat_lt, nat_le}
+use Rattle.std.specs.Prelude.{◌≡◌, ℕ, ◌+◌, ◌^◌, ◌<◌, ◌≤◌, true, IsTrue, List, [], ◌∷◌, length, fold, filter, sum_by, nat_lt, nat_le, Some, All}
+use Rattle.std.specs.Map.{keys_of}
+use Rattle.std.specs.BTreeMap.{get}
 use Rattle.std.specs.List.{AllByRecursion, list_all}
 use Rattle.std.proofs.Common.{refl, sym, ap, ◌∙◌, inl, inr, arith}
 use Rattle.std.proofs.lemmas.Bool.{cases_Bool, and_parts, ltb-true, leb-true}
+use Rattle.std.proofs.lemmas.List.Elements.{All-head, All-tail}
 use Rattle.std.proofs.lemmas.List.Sums.{sum_by-cons}
 use Rattle.drf_role.specs.Text.{Text, text_below}
 use Rattle.drf_role.specs.TextLaws.{cases_same}
@@ -15,7 +18,7 @@ use Rattle.drf_bundle.specs.declared.quantities.Entry.{Entry}
 use Rattle.drf_rows.specs.Held.{cluster_total, held_by, weight_of, standing_of}
 use Rattle.drf_rows.specs.Holdings.{Holding, holdings_of, held_where, amount_in, is_under, AreBundles}
 use Rattle.drf_rows.specs.ListLaws.{each_filter}
-use Rattle.drf_rows.specs.Report.{held_under, line_by, node_line}
+use Rattle.drf_rows.specs.Report.{path_cmp, held_under, line_by, node_line}
 use Rattle.drf_rows.specs.Share.{Fraction, is_less, greater, lowest_terms}
 use Rattle.drf_rows.specs.Weights.{is_weight}
 use Rattle.drf_rows.specs.declared.rows.AgentRow.{AgentRow}
@@ -29,7 +32,7 @@ use Rattle.drf_sorter.specs.LowestLaws.{lowest_terms-same}
 use Rattle.drf_sorter.specs.declared.share.Share.{Share}
 use Rattle.drf_core.specs.declared.report.Sum.{Sum}
 use Rattle.drf_core.specs.Kept.{are_weights}
-use Rattle.drf_core.specs.Reporting.{IsSum, IsWhole, line_with}
+use Rattle.drf_core.specs.Reporting.{Sums, IsSum, IsWhole, IsPart, AreParts, line_with}
 
 -- ---- the wholes of shares
 
@@ -101,6 +104,18 @@ weight_in_range (w ∷ ws) node all =
     in_range n is =
         let both = and_parts (nat_le 1 n) (nat_le n 1000000) is in
         (leb-true 1 n both.0, leb-true n 1000000 both.1)
+
+-- ---- parts
+
+-- each node that is listed holds a part of the total
+pub each_part : (total : List Entry) (sums : Sums) → AreParts total sums → (es : List (Path × Sum))
+    → All (λ e. get path_cmp sums e.0 ≡ Some e.1) es → AllByRecursion (λ node. 1 ≤ length node) (keys_of es)
+    → AllByRecursion (λ e. IsPart total e.1.held) es
+each_part total sums are [] found nodes = tt
+each_part total sums are (e ∷ es) found nodes =
+    let here = All-head (λ (e : Path × Sum). get path_cmp sums e.0 ≡ Some e.1) e es found in
+    let later = All-tail (λ (e : Path × Sum). get path_cmp sums e.0 ≡ Some e.1) e es found in
+    (are e.0 e.1 nodes.0 here, each_part total sums are es later nodes.1)
 
 -- ---- by the rows
 

@@ -21,6 +21,7 @@ use Rattle.drf_rows.specs.Holdings.{holdings_of, amount_in}
 use Rattle.drf_rows.specs.Held.{clients_of, cluster_total}
 use Rattle.drf_rows.specs.Report.{path_cmp, with_node, nodes_to, nodes_on, nodes_of, node_line, report_of}
 use Rattle.drf_rows.specs.ListLaws.{each_append}
+use Rattle.drf_rows.specs.Step.{live_rows}
 use Rattle.drf_rows.specs.declared.report.NodeLine.{NodeLine}
 use Rattle.drf_rows.specs.declared.rows.Rows.{Rows}
 use Rattle.drf_sorter.specs.Content.{Content, IsSound}
@@ -73,6 +74,10 @@ each_has_part rows =
     (clients_of rows))
 
 -- ---- what can be reported
+
+-- filters do not matter
+pub AreSums-live : (rows : Rows) (sums : Sums) → AreSums (live_rows rows) sums → AreSums rows sums
+AreSums-live rows sums are = λ n s some found. record { held = (are n s some found).held; count = (are n s some found).count }
 
 pub CanReport-kept : (content : Content) (limits : LimitNumbers) (rows : Rows) → IsKept content limits rows → CanReport rows
 CanReport-kept content limits rows kept =

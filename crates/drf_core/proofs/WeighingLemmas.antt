@@ -51,3 +51,10 @@ found-more rows i row some inside is old new text text_is parts updates found = 
         → unwrap_or (cond (same_path row.role node) (Some row.weight) (found_at old (text_of node))) 1000 ≡ weight_of (row ∷ drop i rows) node
     by node true same later = rw same refl
     by node false other later = rw other later
+
+-- what is found at the text of a node is its weight
+pub weight_found : (rows : List WeightRow) (by_text : BTreeMap (Bor Text) ℕ) (node : Path) (text : Text) (found : Option ℕ)
+    → AreFound rows by_text → text ≡ text_of node → parts_of text ≡ node → found ≡ found_at by_text text
+    → unwrap_or found 1000 ≡ weight_of rows node
+weight_found rows by_text node text found are is parts got =
+    ap (λ (o : Option ℕ). unwrap_or o 1000) got ∙ ap (weight_at by_text) is ∙ are node (ap parts_of (sym is) ∙ parts)

@@ -9,7 +9,7 @@ use Rattle.drf_core.proofs.report.nodes.Goals as goal
 pub put_framework-requires-clause-fits : goal.put_framework-requires-clause-fits
 put_framework-requires-clause-fits c =
     CanCount-framework c.args.frameworks.now c.loop-framework.framework-index c.framework-item.result c.loop-framework-test.true c.framework-item.is
-    c.loop-framework.sums c.loop-framework.invariant.counted c.requires
+    c.loop-framework.sums c.loop-framework.invariant.counted c.requires.fits
 
 pub loop-framework-preserved : goal.loop-framework-preserved
 loop-framework-preserved c =

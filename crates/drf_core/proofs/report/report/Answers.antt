@@ -12,7 +12,7 @@ use Rattle.drf_rows.specs.declared.rows.Rows.{Rows}
 use Rattle.drf_rows.specs.declared.rows.WeightRow.{WeightRow}
 use Rattle.drf_core.specs.Kept.{are_weights}
 use Rattle.drf_core.specs.Reporting.{AreSums, AreParts, IsWhole, line_with}
-use Rattle.drf_core.proofs.ReportNodes.{HasPart, each_has_part, few_held, few_counted, IsWhole-rows, AreParts-rows, lines-report, report_of-by}
+use Rattle.drf_core.proofs.ReportNodes.{HasPart, each_has_part, AreSums-live, few_held, few_counted, IsWhole-rows, AreParts-rows, lines-report, report_of-by}
 use Rattle.drf_core.proofs.report.report.Goals as goal
 
 pub sums-requires-clause-bundles : goal.sums-requires-clause-bundles
@@ -38,7 +38,7 @@ node_lines-requires-clause-parts c =
     let sums = c.in_ok-sums.sums in
     subst (λ (es : List Entry). AreParts es sums) (sym c.total.ensures)
     (AreParts-rows c.args.tables.now.rows c.requires sums
-    (subst (λ (r : Rows). AreSums r sums) c.in_ok-rows.ensures c.in_ok-sums.ensures.sums))
+    (AreSums-live c.args.tables.now.rows sums (subst (λ (r : Rows). AreSums r sums) c.in_ok-rows.ensures c.in_ok-sums.ensures.sums)))
 
 pub node_lines-requires-clause-nodes : goal.node_lines-requires-clause-nodes
 node_lines-requires-clause-nodes c =
@@ -55,7 +55,7 @@ pub returns : goal.returns
 returns c =
     let rows : Rows = c.args.tables.now.rows in
     let sums = c.in_ok-sums.sums in
-    let are : AreSums rows sums = subst (λ (r : Rows). AreSums r sums) c.in_ok-rows.ensures c.in_ok-sums.ensures.sums in
+    let are : AreSums rows sums = AreSums-live rows sums (subst (λ (r : Rows). AreSums r sums) c.in_ok-rows.ensures c.in_ok-sums.ensures.sums) in
     report_of-by rows c.remove_zeros.new.self c.from_vec.result
     (c.remove_zeros.ensures.value ∙ ap without_zeros (c.in_ok-total.ensures ∙ c.total-2.ensures))
     (c.from_vec.ensures ∙ c.in_ok-nodes.ensures.lines

@@ -13,7 +13,7 @@ use Rattle.drf_core.proofs.ReportSums.{CanAddAll-nothing, CanAddAll-first, CanAd
 use Rattle.drf_core.proofs.report.sums.Goals as goal
 
 pub nodes-requires : goal.nodes-requires
-nodes-requires c = subst (λ (fs : List FrameworkRow). offers_counted fs < 2 ^ 64) (sym c.as_slice.ensures) c.requires.few
+nodes-requires c = record { fits = subst (λ (fs : List FrameworkRow). offers_counted fs < 2 ^ 64) (sym c.as_slice.ensures) c.requires.few }
 
 pub add_offers-requires : goal.add_offers-requires
 add_offers-requires c =

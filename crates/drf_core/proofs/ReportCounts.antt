@@ -1,9 +1,9 @@
 -- The offers that are counted at the nodes on the way to clients.
-use Rattle.std.specs.Prelude.{◌≡◌, ℕ, suc, ◌+◌, ◌^◌, ◌<◌, ◌≤◌, Bool, true, false, List, length, take, filter, sum_by, Option, Some}
+use Rattle.std.specs.Prelude.{◌≡◌, ℕ, suc, ◌+◌, ◌^◌, ◌<◌, ◌≤◌, Bool, true, false, List, length, take, sum_by, Option, Some}
 use Rattle.std.specs.Ordering.{is_eq}
 use Rattle.std.specs.Option.{option_map_or}
 use Rattle.std.specs.BTreeMap.{get, Updates}
-use Rattle.std.proofs.Common.{refl, sym, ap, ◌∙◌, inl, inr, cond, arith, add-one, get_or}
+use Rattle.std.proofs.Common.{refl, ap, ◌∙◌, inl, inr, cond, arith, add-one, get_or}
 use Rattle.std.proofs.lemmas.Bool.{cases_Bool}
 use Rattle.std.proofs.lemmas.List.{length-take-le}
 use Rattle.std.proofs.lemmas.List.Sums.{sum_by_more, sum_by-le-sum_by, sum_by_more_le_part}
@@ -74,7 +74,7 @@ count_in-le node f =
       arith,
       in_parts f f.clients node,
       sum_by-le-sum_by (part_at f node) (λ (c : ClientRow). c.count) f.clients
-      (λ c. part-le (begins_with (path_of (client_of f c)) node) c.count),
+          (λ c. part-le (begins_with (path_of (client_of f c)) node) c.count),
     )
 
 module _ (f : FrameworkRow) (cs : List ClientRow) (i : ℕ) (c : ClientRow) (within : i < length cs) (is : c ≡ get_or cs i c)
@@ -87,7 +87,7 @@ module _ (f : FrameworkRow) (cs : List ClientRow) (i : ℕ) (c : ClientRow) (wit
         counted n some,
         in_parts f (take i cs) n,
         sum_by_more_le_part (part_at f n) (λ (d : ClientRow). d.count) cs i c within
-        (λ d. part-le (begins_with (path_of (client_of f d)) n) d.count),
+            (λ d. part-le (begins_with (path_of (client_of f d)) n) d.count),
         ap (λ (d : ClientRow). d.count) is,
       )
 
@@ -125,7 +125,7 @@ module _ (fs : List FrameworkRow) (i : ℕ) (f : FrameworkRow) (within : i < len
         few,
         counted n some,
         sum_by_more_le_part (λ (g : FrameworkRow). count_in g g.clients n) (λ (g : FrameworkRow). sum_by (λ c. c.count) g.clients) fs i f within
-        (count_in-le n),
+            (count_in-le n),
         ap (λ (g : FrameworkRow). sum_by (λ c. c.count) g.clients) is,
       )
 

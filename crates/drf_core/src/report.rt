@@ -83,10 +83,7 @@ fn put_framework(
 }
 
 /// The nodes of all clients, with the offers that were made and nothing held.
-fn nodes(
-    alloc: Global,
-    frameworks: &[FrameworkRow],
-) -> Result<BTreeMap<NodePath, Sum>, AllocError>
+fn nodes(alloc: Global, frameworks: &[FrameworkRow]) -> Result<BTreeMap<NodePath, Sum>, AllocError>
     requires fits { offers_counted frameworks.now < 2 ^ 64 }
     ensures nodes { IfOk result (λ sums. keys sums ≡ with_clients [] (flat_map (λ f. map (client_of f) f.clients) frameworks.now)) }
     ensures nothing { IfOk result HoldNothing }

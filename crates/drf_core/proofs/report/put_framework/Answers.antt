@@ -1,5 +1,5 @@
-use Rattle.std.proofs.Common.{ap, sym, ◌∙◌, fold, take, length, subst, arith}
-use Rattle.std.specs.Prelude.{◌≡◌, ◌≤◌, ◌+◌, map, sum_by, List}
+use Rattle.std.proofs.Common.{ap, sym, ◌∙◌, fold, take, subst}
+use Rattle.std.specs.Prelude.{map, sum_by, List}
 use Rattle.std.specs.BTreeMap.{keys}
 use Rattle.drf_rows.specs.Held.{client_of}
 use Rattle.drf_rows.specs.Report.{with_node, nodes_on}

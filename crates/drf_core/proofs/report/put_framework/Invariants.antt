@@ -1,4 +1,4 @@
-use Rattle.std.specs.Prelude.{◌≡◌, ℕ, ◌+◌, ◌≤◌, map, take, length}
+use Rattle.std.specs.Prelude.{◌≡◌, ◌+◌, ◌≤◌, map, take, length}
 use Rattle.std.specs.BTreeMap.{keys}
 use Rattle.drf_role.specs.Path.{Path}
 use Rattle.drf_rows.specs.Held.{client_of}

@@ -3,7 +3,7 @@ use Rattle.std.specs.Prelude.{◌≡◌, ◌+◌, ℕ, length}
 use Rattle.std.specs.BTreeMap.{keys}
 use Rattle.std.specs.Map.{keys_of}
 use Rattle.drf_rows.specs.Report.{with_node}
-use Rattle.drf_core.specs.Reporting.{count_at, CountTo}
+use Rattle.drf_core.specs.Reporting.{CountTo}
 use Rattle.drf_core.specs.declared.report.Sum.{Sum}
 use Rattle.drf_core.proofs.ReportLemmas.{keys-insert_entry, with_nodes-more, nothing-inserted}
 use Rattle.drf_core.proofs.ReportCounts.{fits_count, CountTo-more}
@@ -15,7 +15,7 @@ overflow_add-count c =
       arith,
       c.count_at.ensures,
       fits_count c.args.client.now c.loop-i.i c.args.count c.args.sums.now c.loop-i.sums (omega arith) c.loop-i.invariant.counted
-      c.in_ok-path.path c.in_ok-path.ensures c.requires.fits,
+          c.in_ok-path.path c.in_ok-path.ensures c.requires.fits,
     )
 
 pub loop-i-preserved : goal.loop-i-preserved

@@ -1,7 +1,5 @@
-use Rattle.std.proofs.Common.{◌≡◌, ◌-◌, length, arith}
-use Rattle.std.specs.Prelude.{drop}
+use Rattle.std.proofs.Common.{length, arith}
 use Rattle.std.proofs.lemmas.List.{drop_all}
-use Rattle.drf_rows.specs.declared.rows.WeightRow.{WeightRow}
 use Rattle.drf_core.proofs.WeighingLemmas.{found-more, found-none}
 use Rattle.drf_core.proofs.weights.Weights.new.Goals as goal
 

@@ -1,6 +1,6 @@
 #!/usr/bin/env python3
-"""Times one report of 512 frameworks with 8 clients each, while 512 offers and tasks are held: the seconds that the program
-takes for it more than for the lines before.
+"""Times a report of 512 frameworks with 8 clients each, while 512 offers and tasks are held: the processor seconds of the
+program with one report more.
 
     bench/report.py PROGRAM WORD..     in roles that all of them share, and in deep roles of their own"""
 import os
@@ -26,13 +26,14 @@ def own(framework, client):
 def held(role):
     """Frameworks in roles, the first of which holds all agents: half of them in offers, half of them in tasks."""
     named = [line("add_framework", framework=f"f{i}", roles=[role(i, k) for k in range(CLIENTS)]) for i in range(FRAMEWORKS)]
+    weights = [line("set_weight", role=f"r{k}", weight=str(k + 1)) for k in range(CLIENTS)]
     agents = [line("add_agent", agent=f"n{i}", total="cpus:4;disk:100000;gpus:1;mem:8192") for i in range(AGENTS)]
     tasks = [
         line("accept", framework="f0", offer=i, task=f"t{i}", use="cpus:3;mem:4096", at=0, refuse_ms=0)
         for i in range(1, AGENTS // 2 + 1)
     ]
     # the cycle comes while there is one framework, as it is dear with many
-    return named[:1] + agents + [line("cycle", at=0)] + tasks + named[1:]
+    return weights + named[:1] + agents + [line("cycle", at=0)] + tasks + named[1:]
 
 
 def seconds(words, lines):

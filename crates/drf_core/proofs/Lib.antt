@@ -13,12 +13,16 @@ pub mod TurnLemmas
 pub mod CycleLemmas
 pub mod RegisterLemmas
 pub mod ReportLemmas
+pub mod ReportPassed
+pub mod ReportCounts
 pub mod ReportSums
 pub mod ReportLines
 pub mod ReportNodes
+pub mod WeighingLemmas
 pub mod WeightLemmas
 pub mod Welcome
 pub mod KeptLemmas
+pub mod WeightsKept
 pub mod ApplyLemmas
 pub mod RefusalLemmas
 pub mod RemovalLemmas

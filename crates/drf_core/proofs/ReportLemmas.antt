@@ -10,11 +10,11 @@ use Rattle.std.proofs.lemmas.List.{append-nil, map_more, take_more}
 use Rattle.std.proofs.lemmas.Bool.{cases_Bool}
 use Rattle.std.proofs.lemmas.Grind.{flat_map-append, fold-append}
 use Rattle.drf_role.specs.Path.{Path}
-use Rattle.drf_bundle.specs.declared.quantities.Entry.{Entry}
 use Rattle.drf_rows.specs.Client.{Client, path_of}
 use Rattle.drf_rows.specs.Report.{path_cmp, with_node, nodes_to, nodes_on}
 use Rattle.drf_rows.specs.Held.{client_of}
 use Rattle.drf_rows.specs.declared.rows.FrameworkRow.{FrameworkRow}
+use Rattle.drf_core.specs.declared.report.Sum.{Sum}
 use Rattle.drf_core.specs.Reporting.{Sums, HoldNothing, with_clients}
 
 -- ---- nodes in order
@@ -75,12 +75,12 @@ frameworks-more nodes fs i f within is =
 -- ---- what nodes hold
 
 -- where one value was put, a node has it or what it had
-pub nothing-inserted : (old new : Sums) (node : Path) (held : List Entry)
-    → Updates path_cmp old new node (Some held) → held ≡ [] → HoldNothing old → HoldNothing new
-nothing-inserted old new node held updates none before = λ n h found. elim (cases_Bool (is_eq (path_cmp node n))) [
+pub nothing-inserted : (old new : Sums) (node : Path) (s : Sum)
+    → Updates path_cmp old new node (Some s) → s.held ≡ [] → HoldNothing old → HoldNothing new
+nothing-inserted old new node s updates none before = λ n t found. elim (cases_Bool (is_eq (path_cmp node n))) [
   | inl here ↦
-      let same : Some h ≡ Some held = sym found ∙ rw here at (updates.0 n) in
-      let e : h ≡ held = cc in
-      e ∙ none
-  | inr past ↦ before n h (sym (rw past at (updates.0 n)) ∙ found)
+      let same : Some t ≡ Some s = sym found ∙ rw here at (updates.0 n) in
+      let e : t ≡ s = cc in
+      ap (λ (u : Sum). u.held) e ∙ none
+  | inr past ↦ before n t (sym (rw past at (updates.0 n)) ∙ found)
 ]

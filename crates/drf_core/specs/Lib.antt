@@ -6,3 +6,4 @@ pub mod Drafting
 pub mod Registering
 pub mod Accepting
 pub mod Reporting
+pub mod Weighing

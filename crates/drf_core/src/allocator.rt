@@ -96,7 +96,7 @@ impl<S: Sorter> Core<S> {
     pub fn report(&self) -> Result<Report, AllocError>
         ensures { IfOk result (λ report. report ≡ report_of self.now.rows) }
     {
-        report(self.alloc, &self.limits, &self.tables, &self.sorter)
+        report(self.alloc, &self.tables)
     }
 
     /// The rows as they stand, which are consistent. Nothing is granted twice, no number of an offer is above 2^56, and no

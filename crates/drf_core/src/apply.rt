@@ -84,6 +84,6 @@ pub fn apply<S: Sorter>(
             let lines = cycle(alloc, limits, tables, sorter, at)?;
             Ok(Reply::Offers(Table::from_vec(lines)))
         }
-        Event::Report => Ok(Reply::Report(report(alloc, limits, tables, sorter)?)),
+        Event::Report => Ok(Reply::Report(report(alloc, tables)?)),
     }
 }

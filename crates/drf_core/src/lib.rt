@@ -10,5 +10,6 @@ mod frameworks;
 mod life;
 mod refusal;
 mod report;
+mod weights;
 
 pub use allocator::Core;

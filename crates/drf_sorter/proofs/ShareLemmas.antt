@@ -1,9 +1,9 @@
 -- The greatest of some fractions, found among weighted shares from the last one on.
 use Rattle.std.proofs.Common.{◌≡◌, ◌<◌, ◌≤◌, ◌+◌, ◌-◌, ◌*◌, ℕ, zero, suc, Bool, true, false, cond, IsTrue, List, [], ◌∷◌, length, drop, get_or, sym, ap, subst, ◌∙◌, arith}
-use Rattle.std.proofs.Math.Nat.{mul-mul-mul_comm, mul_right_comm, mul_assoc}
+use Rattle.std.proofs.Math.Nat.{mul-mul-mul_comm}
 use Rattle.std.specs.List.{list_all}
 use Rattle.std.specs.Ordering.{is_lt, nat_cmp, ord_max}
-use Rattle.std.proofs.lemmas.Bool.{and_parts, lt-ltb, eq-eqb}
+use Rattle.std.proofs.lemmas.Bool.{and_parts, lt-ltb}
 use Rattle.std.proofs.lemmas.List.{drop_more}
 use Rattle.std.proofs.lemmas.List.Elements.{All-get_or}
 use Rattle.std.proofs.lemmas.List.Sums.{AllPass-from_list_all}
@@ -12,7 +12,7 @@ use Rattle.drf_role.specs.TextLaws.{below_other}
 use Rattle.drf_bundle.specs.Quantities.{amount_of, is_in_order}
 use Rattle.drf_bundle.specs.QuantitiesLaws.{amount_head}
 use Rattle.drf_bundle.specs.declared.quantities.Entry.{Entry}
-use Rattle.drf_rows.specs.Share.{Fraction, is_less, is_same, greater}
+use Rattle.drf_rows.specs.Share.{Fraction, is_less, greater}
 use Rattle.drf_sorter.specs.declared.share.Share.{Share}
 use Rattle.drf_sorter.specs.Fractions.{fraction_cmp, weigh, dominant_of}
 use Rattle.drf_sorter.specs.FractionLaws.{nat_cmp-scale, product_above, is_lt-fraction_cmp}
@@ -62,13 +62,6 @@ module _ (held : List ℕ → ℕ) (total : List Entry) (i : ℕ) (e : Entry) (s
       let f : Fraction = record { part = held e.label; whole = e.amount } in
       max-weigh d new f (dominant_of held (drop i total)) weight weighs so_far more
       ∙ ap (λ g. weigh g weight) (sym (dominant-more above))
-
--- 1000 thousandths change nothing
-pub same_as_weighed : (f g : Fraction) → f ≡ weigh g 1000 → is_same f g ≡ true
-same_as_weighed f g is =
-    ap (λ h. is_same h g) is
-    ∙ eq-eqb (g.part * 1000 * g.whole) (g.part * (g.whole * 1000))
-    (mul_right_comm g.part 1000 g.whole ∙ mul_assoc g.part g.whole 1000)
 
 -- an entry's amount is that of its label
 pub amount_at : (total : List Entry) (i : ℕ) (e : Entry) → IsTrue (is_in_order total) → i < length total

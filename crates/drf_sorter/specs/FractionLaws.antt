@@ -1,12 +1,13 @@
 -- Fractions of which no whole is 0 are in a total order.
 use Rattle.std.proofs.Common.{◌≡◌, ℕ, ◌*◌, ◌<◌, ◌≤◌, Bool, true, false, cond, nat_lt, ◌==◌, refl, sym, ap, subst, ◌∙◌, arith}
-use Rattle.std.proofs.Math.Nat.{mul_right_comm, mul-le-mul_right, mul-lt-mul_of_pos_right}
+use Rattle.std.proofs.Math.Nat.{mul_right_comm, mul_assoc, mul-le-mul_right, mul-lt-mul_of_pos_right}
 use Rattle.std.specs.declared.cmp.Ordering.{Ordering}
 use Rattle.std.specs.declared.cmp.Ordering.TheVariants.{Less, Equal, Greater}
 use Rattle.std.specs.Ordering.{nat_cmp, is_lt, is_eq, ordering_reverse, MatchOrdering}
 use Rattle.std.specs.Cmp.{nat_cmp_total, ranks, nat_cmp_is, unsigned_tied}
+use Rattle.std.proofs.lemmas.Bool.{eq-eqb}
 use Rattle.drf_rows.specs.Share.{Fraction, is_less, is_same}
-use Rattle.drf_sorter.specs.Fractions.{fraction_cmp}
+use Rattle.drf_sorter.specs.Fractions.{fraction_cmp, weigh}
 
 pub product_above : (n m : ℕ) → 1 ≤ n → 1 ≤ m → 0 < n * m
 product_above n m h k = let bound : 1 * m ≤ n * m = mul-le-mul_right m h in omega arith
@@ -67,3 +68,10 @@ fraction_cmp-congr a b c p q r h =
     ∙ ap (λ n. nat_cmp n (c.part * a.whole * b.whole)) left
     ∙ ap (λ n. nat_cmp (b.part * c.whole * a.whole) n) (mul_right_comm c.part a.whole b.whole)
     ∙ sym (nat_cmp-scale (b.part * c.whole) (c.part * b.whole) a.whole p)
+
+-- 1000 thousandths change nothing
+pub same_as_weighed : (f g : Fraction) → f ≡ weigh g 1000 → is_same f g ≡ true
+same_as_weighed f g is =
+    ap (λ h. is_same h g) is
+    ∙ eq-eqb (g.part * 1000 * g.whole) (g.part * (g.whole * 1000))
+    (mul_right_comm g.part 1000 g.whole ∙ mul_assoc g.part g.whole 1000)

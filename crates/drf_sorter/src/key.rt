@@ -20,6 +20,14 @@ pub trait Holding {
         ensures { result ≡ held self.now label.now };
 }
 
+impl Holding for Quantities {
+    ghost held = { amount_of };
+
+    fn amount(&self, label: &str) -> u64 {
+        self.get(label)
+    }
+}
+
 /// The dominant share of what is held of the total, over a weight in thousandths.
 pub fn weighted_share<H: Holding>(total: &Quantities, weight: u64, holding: &H) -> Share
     requires within { (label : Text) → H.held holding.now label ≤ amount_of total.now label }
@@ -39,6 +47,19 @@ pub fn weighted_share<H: Holding>(total: &Quantities, weight: u64, holding: &H) 
         }
     }
     dominant
+}
+
+impl Share {
+    /// The dominant share of who holds so much of the total, over a weight in thousandths.
+    pub fn of(total: &Quantities, weight: u64, held: &Quantities) -> Share
+        requires within { (label : Text) → amount_of held.now label ≤ amount_of total.now label }
+        requires fits { (label : Text) → amount_of total.now label < 2 ^ 52 }
+        requires weighs { 1 ≤ weight }
+        requires light { weight ≤ 1000000 }
+        ensures { fraction_of result ≡ weigh (dominant_of (amount_of held.now) total.now) weight }
+    {
+        weighted_share(total, weight, held)
+    }
 }
 
 /// What places a node among its siblings: its weighted share, then its count, then its name.

@@ -15,6 +15,6 @@ pub use laws::{
     arrival_law, change_law, client_order_law, everyone_is_served_law, lowest_terms_law,
     share_order_law, sibling_law, weight_law,
 };
-pub use plain::PlainSorter;
+pub use plain::{DEFAULT_WEIGHT, PlainSorter};
 pub use share::Share;
 pub use sorter::Sorter;

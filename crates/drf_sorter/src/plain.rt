@@ -19,7 +19,7 @@ use drf_rows::WeightRow;
 use std::alloc::{AllocError, Global};
 
 /// The weight of a node with no weight of its own, in thousandths.
-const DEFAULT_WEIGHT: u64 = 1000;
+pub const DEFAULT_WEIGHT: u64 = 1000;
 
 /// A sorter that keeps a list of its clients, and forms each sum when it is asked for the order.
 #[derive(Debug, Drop)]

@@ -5,6 +5,7 @@ use Rattle.drf_rows.specs.declared.event.Event.{Event}
 use Rattle.drf_core.specs.Kept.{StandAt}
 use Rattle.drf_core.proofs.AcceptLemmas.{can_start, effect-accept, effect-decline}
 use Rattle.drf_core.proofs.ApplyLemmas.{applied_report}
+use Rattle.drf_core.proofs.ReportNodes.{CanReport-kept}
 use Rattle.drf_core.proofs.Welcome.{known_framework, known_suppressed, known_reviving, welcome_accept, welcome_decline}
 use Rattle.drf_core.proofs.apply.apply.Goals as goal
 
@@ -65,6 +66,9 @@ returns-in-Decline-clause-ok g c =
     (effect-decline rows c.decline.new.tables.rows c.in-Decline.framework c.in-Decline.offer c.in-Decline.at c.in-Decline.refuse_ms
     (g.S.Sorter.content c.decline.new.sorter) welcome.1 each))
     c.decline.ensures.ok
+
+pub report-requires : goal.report-requires
+report-requires g c = CanReport-kept (g.S.Sorter.content c.args.sorter.now) c.args.limits.now c.args.tables.now.rows c.requires.kept
 
 pub returns-clause-ok : goal.returns-clause-ok
 returns-clause-ok g c =

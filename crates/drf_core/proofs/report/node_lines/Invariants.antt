@@ -1,10 +1,10 @@
 use Rattle.std.specs.Prelude.{◌≡◌, ◌++◌, map}
-use Rattle.std.specs.Map.{keys_of}
-use Rattle.drf_core.specs.Reporting.{AreNodes, line_in}
+use Rattle.std.specs.List.{AllByRecursion}
+use Rattle.drf_core.specs.Reporting.{IsPart, line_with}
 use Rattle.drf_core.proofs.report.node_lines.Given as goal
 
 abbrev pub invariant-loop-path : goal.invariant-loop-path
-invariant-loop-path g l = record {
-  told : l.lines.items ++ map (line_in (g.S.Sorter.content l.sorter)) l.path-iterator ≡ map (line_in (g.S.Sorter.content l.sorter)) l.sums.entries;
-  known : AreNodes (g.S.Sorter.content l.sorter) (keys_of l.path-iterator);
+invariant-loop-path l = record {
+  told : l.lines.items ++ map (line_with l.total l.weights) l.path-iterator ≡ map (line_with l.total l.weights) l.sums.entries;
+  parts : AllByRecursion (λ e. IsPart l.total e.1.held) l.path-iterator;
 }

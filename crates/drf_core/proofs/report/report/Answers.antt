@@ -1,46 +1,64 @@
-use Rattle.std.proofs.Common.{◌∙◌, ap, sym, subst}
-use Rattle.std.specs.Prelude.{◌<◌, ◌^◌, sum_by}
+use Rattle.std.proofs.Common.{◌≡◌, ◌<◌, ◌^◌, ◌∙◌, List, true, ap, sym, subst}
+use Rattle.std.specs.Prelude.{map, sum_by}
+use Rattle.std.specs.List.{AllByRecursion}
 use Rattle.drf_role.specs.Text.{Text}
 use Rattle.drf_bundle.specs.Quantities.{without_zeros}
+use Rattle.drf_bundle.specs.declared.quantities.Entry.{Entry}
+use Rattle.drf_rows.specs.Consistent.{offers_counted}
+use Rattle.drf_rows.specs.ConsistentLaws.{bundles-consistent}
 use Rattle.drf_rows.specs.Holdings.{holdings_of, amount_in, AreBundles}
 use Rattle.drf_rows.specs.Report.{nodes_of}
-use Rattle.drf_rows.specs.ConsistentLaws.{bundles-consistent}
 use Rattle.drf_rows.specs.declared.rows.Rows.{Rows}
-use Rattle.drf_core.specs.Reporting.{HoldAll, AreNodes}
-use Rattle.drf_core.proofs.ReportNodes.{sound-kept, ordered-kept, fits-kept, AreNodes-kept, lines-report, report_of-by}
+use Rattle.drf_rows.specs.declared.rows.WeightRow.{WeightRow}
+use Rattle.drf_core.specs.Kept.{are_weights}
+use Rattle.drf_core.specs.Reporting.{AreSums, AreParts, IsWhole, line_with}
+use Rattle.drf_core.proofs.ReportNodes.{HasPart, each_has_part, AreSums-live, few_held, few_counted, IsWhole-rows, AreParts-rows, lines-report, report_of-by}
 use Rattle.drf_core.proofs.report.report.Goals as goal
 
-pub held_by_nodes-requires-clause-bundles : goal.held_by_nodes-requires-clause-bundles
-held_by_nodes-requires-clause-bundles g c =
+pub sums-requires-clause-bundles : goal.sums-requires-clause-bundles
+sums-requires-clause-bundles c =
     subst (λ (r : Rows). AreBundles (holdings_of r)) (sym c.in_ok-rows.ensures)
     (bundles-consistent c.args.tables.now.rows c.requires.consistent)
 
-pub held_by_nodes-requires-clause-fits : goal.held_by_nodes-requires-clause-fits
-held_by_nodes-requires-clause-fits g c =
+pub sums-requires-clause-fits : goal.sums-requires-clause-fits
+sums-requires-clause-fits c =
     subst (λ (r : Rows). (label : Text) → sum_by (amount_in label) (holdings_of r) < 2 ^ 64) (sym c.in_ok-rows.ensures)
-    (fits-kept (g.S.Sorter.content c.args.sorter.now) c.args.limits.now c.args.tables.now.rows c.requires)
+    (few_held c.args.tables.now.rows c.requires)
 
-pub node_lines-requires-clause-sound : goal.node_lines-requires-clause-sound
-node_lines-requires-clause-sound g c =
-    sound-kept (g.S.Sorter.content c.args.sorter.now) c.args.limits.now c.args.tables.now.rows c.requires
+pub sums-requires-clause-few : goal.sums-requires-clause-few
+sums-requires-clause-few c =
+    subst (λ (r : Rows). offers_counted r.frameworks < 2 ^ 64) (sym c.in_ok-rows.ensures)
+    (few_counted c.args.tables.now.rows c.requires)
 
-pub node_lines-requires-clause-ordered : goal.node_lines-requires-clause-ordered
-node_lines-requires-clause-ordered g c =
-    ordered-kept (g.S.Sorter.content c.args.sorter.now) c.args.limits.now c.args.tables.now.rows c.requires
+pub node_lines-requires-clause-whole : goal.node_lines-requires-clause-whole
+node_lines-requires-clause-whole c = subst IsWhole (sym c.total.ensures) (IsWhole-rows c.args.tables.now.rows c.requires)
 
-pub node_lines-requires-clause-known : goal.node_lines-requires-clause-known
-node_lines-requires-clause-known g c =
-    subst (AreNodes (g.S.Sorter.content c.args.sorter.now))
-    (sym (c.in_ok-sums.ensures.nodes ∙ ap nodes_of c.in_ok-rows.ensures))
-    (AreNodes-kept (g.S.Sorter.content c.args.sorter.now) c.args.limits.now c.args.tables.now.rows c.requires)
+pub node_lines-requires-clause-parts : goal.node_lines-requires-clause-parts
+node_lines-requires-clause-parts c =
+    let sums = c.in_ok-sums.sums in
+    subst (λ (es : List Entry). AreParts es sums) (sym c.total.ensures)
+    (AreParts-rows c.args.tables.now.rows c.requires sums
+    (AreSums-live c.args.tables.now.rows sums (subst (λ (r : Rows). AreSums r sums) c.in_ok-rows.ensures c.in_ok-sums.ensures.sums)))
+
+pub node_lines-requires-clause-nodes : goal.node_lines-requires-clause-nodes
+node_lines-requires-clause-nodes c =
+    subst (AllByRecursion HasPart) (sym (c.in_ok-sums.ensures.nodes ∙ ap nodes_of c.in_ok-rows.ensures))
+    (each_has_part c.args.tables.now.rows)
+
+pub node_lines-requires-clause-weights : goal.node_lines-requires-clause-weights
+node_lines-requires-clause-weights c =
+    subst (λ (ws : List WeightRow). are_weights ws ≡ true)
+    (sym (c.in_ok-weights.ensures ∙ c.as_slice.ensures ∙ ap (λ (r : Rows). r.weights) c.in_ok-rows.ensures))
+    c.requires.weights
 
 pub returns : goal.returns
-returns g c =
+returns c =
+    let rows : Rows = c.args.tables.now.rows in
     let sums = c.in_ok-sums.sums in
-    let held : HoldAll (holdings_of c.args.tables.now.rows) sums =
-    subst (λ (r : Rows). HoldAll (holdings_of r) sums) c.in_ok-rows.ensures c.in_ok-sums.ensures.held in
-    report_of-by c.args.tables.now.rows c.remove_zeros.new.self c.from_vec.result
-    (c.remove_zeros.ensures.value ∙ ap without_zeros (c.in_ok-total.ensures ∙ c.total.ensures))
-    (c.from_vec.ensures ∙ c.in_ok-node_lines.ensures.lines
-    ∙ lines-report (g.S.Sorter.content c.args.sorter.now) c.args.limits.now c.args.tables.now.rows c.requires sums held
-    sums.entries c.node_lines.ensures.found (c.in_ok-sums.ensures.nodes ∙ ap nodes_of c.in_ok-rows.ensures))
+    let are : AreSums rows sums = AreSums-live rows sums (subst (λ (r : Rows). AreSums r sums) c.in_ok-rows.ensures c.in_ok-sums.ensures.sums) in
+    report_of-by rows c.remove_zeros.new.self c.from_vec.result
+    (c.remove_zeros.ensures.value ∙ ap without_zeros (c.in_ok-total.ensures ∙ c.total-2.ensures))
+    (c.from_vec.ensures ∙ c.in_ok-nodes.ensures.lines
+    ∙ (λ i. map (line_with (c.total.ensures i) ((c.in_ok-weights.ensures ∙ c.as_slice.ensures ∙ ap (λ (r : Rows). r.weights) c.in_ok-rows.ensures) i)) sums.entries)
+    ∙ lines-report rows c.requires sums are sums.entries c.in_ok-nodes.ensures.found
+    (c.in_ok-sums.ensures.nodes ∙ ap nodes_of c.in_ok-rows.ensures))

@@ -36,7 +36,7 @@ use Rattle.drf_core.proofs.ContentHeld.{all_held}
 use Rattle.drf_core.proofs.ContentOrder.{standing-content_of}
 use Rattle.drf_core.proofs.ContentSound.{IsSound-content_of}
 use Rattle.drf_core.proofs.ReportSums.{begins_take}
-use Rattle.drf_core.proofs.ReportLines.{in_order-cluster_total}
+use Rattle.drf_rows.specs.ReportedShares.{in_order-cluster_total}
 
 -- ---- what holds of each node
 

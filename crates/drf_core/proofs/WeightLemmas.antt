@@ -20,14 +20,17 @@ use Rattle.drf_core.specs.Content.{content_of}
 use Rattle.drf_core.specs.Kept.{StandAt}
 
 -- a weight that is not refused is in its range
-pub weight_in_range : (weight : ℕ) → not (is_weight weight) ≡ false → (1 ≤ weight) × (weight ≤ 1000000)
-weight_in_range weight right =
-    let parts = and_parts (nat_le 1 weight) (nat_le weight 1000000) (by (is_weight weight) right) in
-    (leb-true 1 weight parts.0, leb-true weight 1000000 parts.1)
+pub weight_is : (weight : ℕ) → not (is_weight weight) ≡ false → is_weight weight ≡ true
+weight_is weight right = by (is_weight weight) right
   where
     by : (b : Bool) → not b ≡ false → b ≡ true
     by true right = refl
     by false right = cc
+
+pub weight_in_range : (weight : ℕ) → not (is_weight weight) ≡ false → (1 ≤ weight) × (weight ≤ 1000000)
+weight_in_range weight right =
+    let parts = and_parts (nat_le 1 weight) (nat_le weight 1000000) (weight_is weight right) in
+    (leb-true 1 weight parts.0, leb-true weight 1000000 parts.1)
 
 -- ---- how many rows there are
 

@@ -11,8 +11,7 @@ use Rattle.drf_rows.specs.LimitNumbers.{LimitNumbers, ceilings}
 use Rattle.drf_rows.specs.Client.{Client, path_of}
 use Rattle.drf_rows.specs.Holdings.{holdings_of, AreBundles}
 use Rattle.drf_rows.specs.Held.{held_by, count_of, clients_of, standing_of}
-use Rattle.drf_rows.specs.Weights.{are_weights}
-use Rattle.drf_rows.specs.Consistent.{IsAgent}
+use Rattle.drf_rows.specs.Consistent.{IsAgent, IsConsistent}
 use Rattle.drf_rows.specs.Report.{path_cmp, report_of}
 use Rattle.drf_rows.specs.Share.{Fraction, IsLowest, Standing, share_of, weighted_share_of, stands_before, is_serving_order}
 use Rattle.drf_rows.specs.Cycle.{free_of, is_allocatable, grant, new_offer, with_offer, all_tried, serving_order}
@@ -159,9 +158,8 @@ pub record TellsLowest (rows : Rows) (line : NodeLine) : Type 0 where
 abbrev pub SharesAreLowest : Type 0
 SharesAreLowest =
     (rows : Rows)
-    → AllByRecursion IsAgent rows.agents
+    → IsConsistent rows
     → length rows.agents ≤ ceilings.agents
-    → IsTrue (are_weights rows.weights)
     → AllByRecursion (TellsLowest rows) (report_of rows).nodes
 
 -- each path stands before all later ones, and so but once

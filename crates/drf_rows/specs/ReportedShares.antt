@@ -134,5 +134,5 @@ module _ (rows : Rows) (agents : AllByRecursion IsAgent rows.agents) (few : leng
 
 pub shares_are_lowest : SharesAreLowest
 unfolding report_of
-shares_are_lowest rows agents few weights =
-    each_made (TellsLowest rows) (node_line rows) (nodes_of rows) (lowest-line rows agents few weights)
+shares_are_lowest rows consistent few =
+    each_made (TellsLowest rows) (node_line rows) (nodes_of rows) (lowest-line rows consistent.agents.each few consistent.weights)

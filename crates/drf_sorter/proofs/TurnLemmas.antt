@@ -143,13 +143,13 @@ weight_above ws node weights =
     by None first = omega arith
     by (Some w) first = first w refl
 
-pub each_has_its_turn : (rows : Rows) → IsConsistent rows → IsTrue (are_weights rows.weights)
+pub each_has_its_turn : (rows : Rows) → IsConsistent rows
     → AllByRecursion (λ c. IsClientPath (path_of c)) (active_clients rows)
     → IsPermutation (active_clients rows) (turn_order rows)
 unfolding rows_word.standing_of
-each_has_its_turn rows consistent weights right =
+each_has_its_turn rows consistent right =
     each_is_served_once (rows_word.standing_of rows) (active_clients rows)
-    (λ node. weight_above rows.weights node weights)
+    (λ node. weight_above rows.weights node consistent.weights)
     (record {
       each = right;
       distinct = distinct_paths (active_clients rows)

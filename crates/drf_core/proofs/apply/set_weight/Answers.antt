@@ -2,7 +2,7 @@ use Rattle.std.proofs.Common.{◌∙◌}
 use Rattle.drf_rows.specs.Weights.{weights_with}
 use Rattle.drf_rows.specs.declared.rows.Rows.{Rows}
 use Rattle.drf_core.proofs.Welcome.{welcome_weight}
-use Rattle.drf_core.proofs.WeightLemmas.{weight_in_range, applied_weight}
+use Rattle.drf_core.proofs.WeightLemmas.{weight_is, weight_in_range, applied_weight}
 use Rattle.drf_core.proofs.apply.set_weight.Goals as goal
 
 pub set_weight-requires-clause-weighs : goal.set_weight-requires-clause-weighs
@@ -12,6 +12,10 @@ set_weight-requires-clause-weighs g c =
 pub set_weight-requires-clause-light : goal.set_weight-requires-clause-light
 set_weight-requires-clause-light g c =
     (weight_in_range c.args.weight (welcome_weight c.args.limits.now c.args.tables.now.rows c.args.role c.args.weight c.requires.welcome).right).1
+
+pub set_weight-requires-2-clause-right : goal.set_weight-requires-2-clause-right
+set_weight-requires-2-clause-right g c =
+    weight_is c.args.weight (welcome_weight c.args.limits.now c.args.tables.now.rows c.args.role c.args.weight c.requires.welcome).right
 
 pub returns-clause-ok : goal.returns-clause-ok
 returns-clause-ok g c =

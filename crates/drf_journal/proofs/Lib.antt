@@ -4,4 +4,5 @@ pub mod Pieces
 pub mod Fronts
 pub mod Devices
 pub mod Texts
+pub mod Parts
 pub mod Served

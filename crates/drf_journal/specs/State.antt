@@ -78,11 +78,11 @@ HasTakenAtMost old line new = (new ≡ old) ⊎ (new ≡ machine_after old (mean
 
 -- of a piece the lines up to some byte were answered, and the allocator has taken these lines, or one more
 pub record AnswersFrontOf (old : State) (piece : List ℕ) (new : State) : Type 0 where
-  pub answered : ℕ
-  pub unsent : new.unsent ≡ (after_piece old (take answered piece)).unsent
-  pub lines : new.lines ≡ (after_piece old (take answered piece)).lines
-  pub taken : ℕ
-  pub machine : new.machine ≡ (after_piece old (take taken piece)).machine
+  pub answered_bytes : ℕ
+  pub unsent : new.unsent ≡ (after_piece old (take answered_bytes piece)).unsent
+  pub lines : new.lines ≡ (after_piece old (take answered_bytes piece)).lines
+  pub taken_bytes : ℕ
+  pub machine : new.machine ≡ (after_piece old (take taken_bytes piece)).machine
   pub ahead :
-      ((after_piece old (take taken piece)).lines ≡ (after_piece old (take answered piece)).lines)
-      ⊎ ((after_piece old (take taken piece)).lines ≡ (after_piece old (take answered piece)).lines + 1)
+      ((after_piece old (take taken_bytes piece)).lines ≡ (after_piece old (take answered_bytes piece)).lines)
+      ⊎ ((after_piece old (take taken_bytes piece)).lines ≡ (after_piece old (take answered_bytes piece)).lines + 1)

@@ -6,6 +6,7 @@ abbrev pub invariant-loop-at : goal.invariant-loop-at
 invariant-loop-at g l = record {
   front : TookFront l.fn.self l.self l.fn.piece l.rest;
   few : l.self.lines + length l.rest ≤ l.fn.self.lines + length l.fn.piece;
+  short : length l.rest ≤ length l.fn.piece;
 }
 
 abbrev pub decreases-loop-at : goal.decreases-loop-at

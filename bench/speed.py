@@ -1,5 +1,5 @@
 #!/usr/bin/env python3
-"""Times the program on inputs of several kinds: seconds, lines a second and peak memory of each.
+"""Times the program on inputs of several kinds: processor seconds, lines a second and peak memory of each.
 
     bench/speed.py           inputs of full length
     bench/speed.py 100       a hundredth of it, for a try"""
@@ -74,15 +74,15 @@ INPUTS = {
 
 
 def measure(lines):
-    """The seconds that the program took for the lines, and its megabytes at most."""
+    """The processor seconds that the program took for the lines, and its megabytes at most."""
     with tempfile.TemporaryDirectory() as room:
         with open(f"{room}/input", "w") as given:
             given.write("".join(it + "\n" for it in lines))
-        words = ["/usr/bin/time", "-f", "%e %M", "-o", f"{room}/figures", PROGRAM, "run"]
+        words = ["/usr/bin/time", "-f", "%U %S %M", "-o", f"{room}/figures", PROGRAM, "run"]
         with open(f"{room}/input") as given:
             subprocess.run(words, stdin=given, stdout=subprocess.DEVNULL, check=True)
-        seconds, kilobytes = open(f"{room}/figures").read().split()
-        return max(float(seconds), 0.01), int(kilobytes) / 1024
+        user, system, kilobytes = open(f"{room}/figures").read().split()
+        return max(float(user) + float(system), 0.01), int(kilobytes) / 1024
 
 
 def show(name, lines):

@@ -1,38 +1,38 @@
-//! The events of a day in one call of the core, and what its rows and its report then tell.
-use crate::rows::bytes;
+//! Events through the core itself, and what its rows then tell.
 use anyhow::Result;
+use drf_amount::Algebra;
+use drf_bundle::Bundle;
 use drf_core::Core;
-use drf_lines::{read_event, write_reply};
-use drf_rows::{Event, Limits, Reply};
+use drf_role::{Name, Role};
+use drf_rows::{Event, Limits, Table};
 use drf_sorter::PlainSorter;
 use std::alloc::Global;
-use std::fs;
-use std::rt::{Files, Runtime};
+use std::rt::Runtime;
 
-fn events_of(alloc: Global, lines: &str) -> Result<Vec<Event>> {
-    let mut events = Vec::new(alloc);
-    for line in lines.lines() {
-        events.push(read_event(alloc, line.as_bytes())?)?;
-    }
-    Ok(events)
+fn new_agent(alloc: Global) -> Result<Event> {
+    let agent = Name::read(alloc, "n1")?;
+    let total = Bundle::empty(alloc);
+    Ok(Event::AddAgent { agent, total })
 }
 
-fn text_of(alloc: Global, replies: &[Reply]) -> Result<Vec<u8>> {
-    let mut text = Vec::new(alloc);
-    for reply in replies {
-        let line = write_reply(alloc, reply)?;
-        text.extend_from_slice(line.as_slice())?;
-    }
-    Ok(text)
+fn new_framework(alloc: Global) -> Result<Event> {
+    let framework = Name::read(alloc, "f1")?;
+    let role = Role::default_role(alloc)?;
+    let roles = Table::from_vec(vec![in alloc; role]?);
+    Ok(Event::AddFramework { framework, roles })
+}
+
+fn run_one(alloc: Global, core: &mut Core<PlainSorter>, event: Event) -> Result<()> {
+    let mut replies = Vec::new(alloc);
+    Ok(core.run(&[event], &mut replies)?)
 }
 
 fn tell_rows(alloc: Global, core: &Core<PlainSorter>) -> Result<String> {
     let rows = core.rows()?;
     let (agents, frameworks) = (rows.agents.len(), rows.frameworks.len());
-    let (offers, tasks, filters) = (rows.offers.len(), rows.tasks.len(), rows.filters.len());
     let (clock, accepted) = (rows.clock, rows.accepted);
     Ok(format!(in alloc;
-        "{agents} agents, {frameworks} frameworks, {offers} offers, {tasks} tasks, {filters} filters, clock {clock}, {accepted} accepted"
+        "{agents} agents, {frameworks} frameworks, clock {clock}, {accepted} accepted"
     )?)
 }
 
@@ -44,19 +44,18 @@ fn tell_report(alloc: Global, core: &Core<PlainSorter>) -> Result<String> {
     Ok(format!(in alloc; "{nodes} nodes, {copied} in a copy, {offers} offers to the first")?)
 }
 
-pub fn run_all<R: Runtime + Files + AllocGlobal>(rt: &R) -> Result<()> {
-    let alloc = rt.alloc();
-    let lines = fs::read_to_string(rt, "day.in")?;
-    let events = events_of(alloc, lines.as_str())?;
-    let mut core = Core::open(alloc, Limits::full())?;
-    let mut replies = Vec::new(alloc);
-    core.run(&events, &mut replies)?;
-    let is_exact = text_of(alloc, &replies)?.as_slice() == bytes(rt, "day", "out")?.as_slice();
-    println!(rt;
-        "a day at once: {}",
-        if is_exact { "exact" } else { "OTHER" }
-    )?;
-    println!(rt; "rows: {}", tell_rows(alloc, &core)?)?;
-    println!(rt; "report: {}", tell_report(alloc, &core)?)?;
+fn run_three(alloc: Global, core: &mut Core<PlainSorter>) -> Result<String> {
+    run_one(alloc, core, new_agent(alloc)?)?;
+    run_one(alloc, core, new_framework(alloc)?)?;
+    run_one(alloc, core, Event::Cycle { at: 7 })?;
+    tell_rows(alloc, core)
+}
+
+pub fn run_all<R: Runtime + AllocGlobal>(rt: &R) -> Result<()> {
+    let mut core = Core::open(rt.alloc(), Limits::full())?;
+    let told = run_three(rt.alloc(), &mut core)?;
+    println!(rt; "rows: {told}")?;
+    let told = tell_report(rt.alloc(), &core)?;
+    println!(rt; "report: {told}")?;
     Ok(())
 }

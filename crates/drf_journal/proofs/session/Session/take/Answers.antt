@@ -40,7 +40,11 @@ loop-at-preserved g c =
     let front : length (take at rest) ≡ at = length-take-le at rest (omega arith) in
     let whole = length-append (take at rest) (10 ∷ []) in
     omega arith in
-    let small : length c.self.inside.unsent.items < 65536 = let counted = c.self.inside.unsent.ok.0 in grind (arith, nat_tests) in
+    let small : length c.self.inside.unsent.items < 65536 =
+    let counted = c.self.inside.unsent.ok.0 in
+    let measured = c.len.ensures in
+    let test = c.if-len-ge-MOST_UNSENT.false in
+    omega arith in
     rw (tail_of rest at found.0) (record {
       front = took;
       few = let few = c.loop-at.invariant.few in omega arith;

@@ -1,6 +1,7 @@
 -- A run in the middle of a piece.
-use Rattle.std.proofs.Common.{◌≡◌, ℕ, ◌+◌, ◌<◌, List, [], ◌∷◌, ◌++◌, length, take, drop, get_or, ⊎_elim, inl, inr, refl, sym, ap, ◌∙◌, append_assoc}
+use Rattle.std.proofs.Common.{◌≡◌, ℕ, ◌+◌, ◌-◌, ◌<◌, List, [], ◌∷◌, ◌++◌, length, take, drop, get_or, ⊎_elim, inl, inr, refl, sym, ap, ◌∙◌, append_assoc, append-nil, arith}
 use Rattle.std.proofs.Math.Seq.{take-append_seam}
+use Rattle.std.proofs.lemmas.List.{length-append}
 use Rattle.drf_lines.specs.Meaning.{meaning_of}
 use Rattle.drf_journal.specs.State.{State, machine_after, after_piece, IsWithinLine, HasTakenAtMost, AnswersFrontOf}
 use Rattle.drf_journal.proofs.Cuts.{cut_at}
@@ -14,6 +15,16 @@ pub record TookFront (old now : State) (piece rest : List ℕ) : Type 0 where
 
 pub front-begins : (old : State) (piece : List ℕ) → TookFront old old piece piece
 front-begins old piece = record { front = []; whole = refl; state = sym (piece-nil old) }
+
+-- where it stands is told by how much is left
+pub front-count : (old now : State) (piece rest : List ℕ) → TookFront old now piece rest
+    → now ≡ after_piece old (take (length piece - length rest) piece)
+front-count old now piece rest took =
+    let counted : length piece - length rest ≡ length took.front =
+    let all = ap length took.whole in let sum = length-append took.front rest in omega arith in
+    took.state
+    ∙ ap (after_piece old)
+    (sym (ap (λ (n : ℕ). take n piece) counted ∙ ap (take (length took.front)) took.whole ∙ take-append_seam took.front rest))
 
 -- it takes what stands up to the next line feed
 pub front-line : (old now next : State) (piece rest : List ℕ) (at : ℕ) → TookFront old now piece rest → at < length rest
@@ -36,10 +47,10 @@ front-answers old now next piece rest took same counted still =
     ∙ take-append_seam took.front rest in
     let state : now ≡ after_piece old (take (length took.front) piece) = took.state ∙ ap (after_piece old) (sym cut) in
     record {
-      answered = length took.front;
+      answered_bytes = length took.front;
       unsent = same ∙ ap (λ (t : State). t.unsent) state;
       lines = counted ∙ ap (λ (t : State). t.lines) state;
-      taken = length took.front;
+      taken_bytes = length took.front;
       machine = still ∙ ap (λ (t : State). t.machine) state;
       ahead = inl refl;
     }
@@ -64,10 +75,10 @@ front-ahead old now next piece rest at took inside feed within same counted take
     let state_past : with_line now (now.pending ++ line) ≡ after_piece old (take (length past.front) piece) =
     sym whole ∙ past.state ∙ ap (after_piece old) (sym far) in
     record {
-      answered = length took.front;
+      answered_bytes = length took.front;
       unsent = same ∙ ap (λ (t : State). t.unsent) state;
       lines = counted ∙ ap (λ (t : State). t.lines) state;
-      taken = length past.front;
+      taken_bytes = length past.front;
       machine = more ∙ ap (λ (t : State). t.machine) state_past;
       ahead = inr (sym (ap (λ (t : State). t.lines) state_past) ∙ ap (λ (t : State). t.lines + 1) state);
     })
@@ -79,3 +90,10 @@ pub front-keeps : (old now : State) (piece rest : List ℕ) → TookFront old no
 front-keeps old now piece rest took =
     ap (λ (t : State). after_piece t rest) took.state ∙ sym (piece-append old took.front rest)
     ∙ ap (after_piece old) (sym took.whole)
+
+-- nothing is left
+pub front-all : (old now : State) (piece rest : List ℕ) → TookFront old now piece rest → length rest ≡ 0
+    → now ≡ after_piece old piece
+front-all old now piece [] took none =
+    took.state ∙ ap (after_piece old) (sym (append-nil took.front) ∙ sym took.whole)
+front-all old now piece (x ∷ rest) took none = absurd (omega arith)

@@ -2,6 +2,8 @@ pub mod Cuts
 pub mod Kept
 pub mod Pieces
 pub mod Fronts
+pub mod Waits
 pub mod Devices
 pub mod Texts
+pub mod Parts
 pub mod Served

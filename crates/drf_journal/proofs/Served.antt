@@ -18,7 +18,8 @@ use Rattle.drf_journal.specs.State.{State, begun, IsBegun, machine_after, machin
 use Rattle.drf_journal.specs.Ended.{HaveEnded, HasAnswered, HasTaken, HasServed, HasStopped, HasCause}
 use Rattle.drf_journal.proofs.Cuts.{within-nil, ended-within, goes_on}
 use Rattle.drf_journal.proofs.Kept.{answer-kept, meaning-kept}
-use Rattle.drf_journal.proofs.Pieces.{answers_from, after_lines, after_piece-lines, piece-append, piece-nil, piece-sent, end-none, end-line, end-sent, end-counted, end-machine}
+use Rattle.drf_journal.proofs.Pieces.{answers_from, after_lines, after_piece-lines, piece-nil, end-none, end-line, end-sent, end-counted, end-machine}
+use Rattle.drf_journal.proofs.Parts.{front_of, told-before, told-more}
 use Rattle.drf_journal.proofs.Texts.{text-lines, text-append, answers-append}
 
 -- ---- the end of the input, where these lines had ended, and this much has come of the next
@@ -103,16 +104,6 @@ module _ (front more read : List ℕ) (whole : read ≡ front ++ more) where
       let all = ap length parted in
       let sum = length-append (ended_lines_of front) others in
       omega arith
-
--- a front is written of what was written and is to be written
-front_of : (told more : List ℕ) (count : ℕ) (text : List ℕ) → told ++ more ≡ text
-    → (all : ℕ) × (told ++ take count more ≡ take all text)
-front_of told more count text e =
-    let front = told ++ take count more in
-    let whole : text ≡ front ++ drop count more =
-    sym e ∙ ap (λ l. told ++ l) (sym (take-append-drop count more))
-    ∙ sym (append_assoc told (take count more) (drop count more)) in
-    (length front, sym (ap (take (length front)) whole ∙ take-append_seam front (drop count more)))
 
 -- what was read before the last 65,536 bytes was read before the last piece
 early_count : (before piece : List ℕ) → length piece ≤ 65536
@@ -247,9 +238,7 @@ module _ (old : State) (begins : IsBegun old) where
     state_next : (piece : List ℕ) → record
         (after_piece session piece) { unsent = serving.told ++ (after_piece session piece).unsent }
         ≡ after_piece old (serving.read ++ piece)
-    state_next piece =
-        sym (piece-sent session serving.told piece) ∙ ap (λ (s : State). after_piece s piece) serving.state
-        ∙ sym (piece-append old serving.read piece)
+    state_next piece = told-before old session serving.told serving.read piece serving.state
 
     pub serving-takes : (piece : List ℕ) (next : State) → Consumes unread unread_next piece
         → Appends written written_next (after_piece session piece).unsent
@@ -260,11 +249,7 @@ module _ (old : State) (begins : IsBegun old) where
       told = serving.told ++ (after_piece session piece).unsent;
       consumed = Consumes-trans _ _ _ _ _ serving.consumed consumed;
       appended = Appends-trans _ _ _ _ _ serving.appended appended;
-      state =
-          ap (λ (s : State). record s { unsent = (serving.told ++ (after_piece session piece).unsent) ++ s.unsent }) is
-          ∙ ap (λ (l : List ℕ). record (after_piece session piece) { unsent = l })
-          (append-nil (serving.told ++ (after_piece session piece).unsent))
-          ∙ state_next piece;
+      state = told-more old session next serving.told serving.read piece serving.state is;
       sent = ap (λ (s : State). s.unsent) is;
     }
 
@@ -389,8 +374,9 @@ module _ (old : State) (begins : IsBegun old) where
 
     -- ---- in the middle of a piece
 
-    module _ (piece : List ℕ) (now : State) (short : length piece ≤ 65536) (consumed : Consumes unread unread_next piece)
-        (answers : AnswersFrontOf session piece now) where
+    module _ (piece : List ℕ) (next : State) (text_now : List ℕ) (short : length piece ≤ 65536)
+        (consumed : Consumes unread unread_next piece)
+        (answers : AnswersFrontOf session piece (record next { unsent = text_now })) where
       abbrev read_now : List ℕ
       read_now = serving.read ++ piece
 
@@ -408,73 +394,72 @@ module _ (old : State) (begins : IsBegun old) where
       few : (count : ℕ) → length (ended_lines_of (front count)) ≤ length (ended_lines_of read_now)
       few count = ended_few (front count) (drop count piece) read_now (whole count)
 
-      told_now : serving.told ++ now.unsent ≡ text (ended_lines_of (front answers.answered))
+      told_now : serving.told ++ text_now ≡ text (ended_lines_of (front answers.answered_bytes))
       told_now =
           ap (λ l. serving.told ++ l) answers.unsent
-          ∙ ap (λ (s : State). s.unsent) (state_next (take answers.answered piece))
-          ∙ text_ended (front answers.answered)
+          ∙ ap (λ (s : State). s.unsent) (state_next (take answers.answered_bytes piece))
+          ∙ text_ended (front answers.answered_bytes)
 
       prompt_now : (more : List ℕ)
           → StartsWith (serving.told ++ more) (text (ended_lines_of (take (length read_now - 65536) read_now)))
       prompt_now more = subst (λ front. StartsWith (serving.told ++ more) (text (ended_lines_of front)))
           (sym (early_count serving.read piece short)) (prompt_so_far _ more)
 
-      taken_now : (next : State) → next.machine ≡ now.machine → HasTaken old.machine next.machine
-          (length (ended_lines_of (front answers.answered))) read_now unread_next
-      taken_now next still = record {
-        taken = length (ended_lines_of (front answers.taken));
+      taken_now : HasTaken old.machine next.machine (length (ended_lines_of (front answers.answered_bytes))) read_now unread_next
+      taken_now = record {
+        taken = length (ended_lines_of (front answers.taken_bytes));
         machine =
-            still ∙ answers.machine ∙ ap (λ (s : State). s.machine) (state_next (take answers.taken piece))
-            ∙ machine_ended (front answers.taken)
+            answers.machine ∙ ap (λ (s : State). s.machine) (state_next (take answers.taken_bytes piece))
+            ∙ machine_ended (front answers.taken_bytes)
             ∙ ap (machine_after_lines old.machine)
-            (sym (lines_first (front answers.taken) (drop answers.taken piece) read_now (whole answers.taken)));
+            (sym (lines_first (front answers.taken_bytes) (drop answers.taken_bytes piece) read_now (whole answers.taken_bytes)));
         ahead =
-            let taken = number_at answers.taken in
-            let answered = number_at answers.answered in
+            let taken = number_at answers.taken_bytes in
+            let answered = number_at answers.answered_bytes in
             ⊎_elim (λ same. inl (sym taken ∙ same ∙ answered))
             (λ more. inr (sym taken ∙ more ∙ ap (λ n. n + 1) answered)) answers.ahead;
-        ended = inl (few answers.taken);
+        ended = inl (few answers.taken_bytes);
       }
 
-      run-forgets : (next : State) → next ≡ record now { unsent = [] } → Appends written written_next now.unsent
+      run-forgets : Appends written written_next text_now
           → HasServed old unread_first unread_next written_first written_next next (Err Memory)
-      run-forgets next is sent = record {
+      run-forgets sent = record {
         run = record {
           read = read_now;
-          written = serving.told ++ now.unsent;
+          written = serving.told ++ text_now;
           consumed = Consumes-trans _ _ _ _ _ serving.consumed consumed;
           appended = Appends-trans _ _ _ _ _ serving.appended sent;
-          lines = length (ended_lines_of (front answers.answered));
+          lines = length (ended_lines_of (front answers.answered_bytes));
           answered = (
             told_now
-                ∙ ap text (sym (ended_first (front answers.answered) (drop answers.answered piece) read_now
-                (whole answers.answered))),
-            few answers.answered,
+                ∙ ap text (sym (ended_first (front answers.answered_bytes) (drop answers.answered_bytes piece) read_now
+                (whole answers.answered_bytes))),
+            few answers.answered_bytes,
           );
-          ended = inl (few answers.answered);
+          ended = inl (few answers.answered_bytes);
           prompt = prompt_now _;
         };
-        counted = ap (λ (s : State). s.lines) is ∙ answers.lines ∙ number_at answers.answered;
-        taken = taken_now next (ap (λ (s : State). s.machine) is);
+        counted = answers.lines ∙ number_at answers.answered_bytes;
+        taken = taken_now;
       }
 
-      run-fails : (next : State) → next ≡ now → AppendsFrontOf written written_next now.unsent
+      run-fails : AppendsFrontOf written written_next text_now
           → HasServed old unread_first unread_next written_first written_next next (Err Write)
-      run-fails next is sent = record {
+      run-fails sent = record {
         run = record {
           read = read_now;
-          written = serving.told ++ take sent.0 now.unsent;
+          written = serving.told ++ take sent.0 text_now;
           consumed = Consumes-trans _ _ _ _ _ serving.consumed consumed;
           appended = Appends-trans _ _ _ _ _ serving.appended sent.1;
-          lines = length (ended_lines_of (front answers.answered));
-          answered = front_of serving.told now.unsent sent.0 _
-              (told_now ∙ ap text (sym (lines_first (front answers.answered) (drop answers.answered piece) read_now
-              (whole answers.answered))));
-          ended = inl (few answers.answered);
+          lines = length (ended_lines_of (front answers.answered_bytes));
+          answered = front_of serving.told text_now sent.0 _
+              (told_now ∙ ap text (sym (lines_first (front answers.answered_bytes) (drop answers.answered_bytes piece) read_now
+              (whole answers.answered_bytes))));
+          ended = inl (few answers.answered_bytes);
           prompt = prompt_now _;
         };
-        counted = ap (λ (s : State). s.lines) is ∙ answers.lines ∙ number_at answers.answered;
-        taken = taken_now next (ap (λ (s : State). s.machine) is);
+        counted = answers.lines ∙ number_at answers.answered_bytes;
+        taken = taken_now;
       }
 
   -- ---- before the first read
@@ -505,20 +490,6 @@ never-run limits echo unread written = (never-served (begun limits echo) refl un
 
 -- ---- within a piece
 
-pub stopped_write : (old now new : State) (piece : List ℕ) (written written_next : Option (List ℕ)) → AnswersFrontOf old piece now
-    → new ≡ now → AppendsFrontOf written written_next now.unsent → HasStopped Write old piece new written written_next
-unfolding HasStopped
-stopped_write old now new piece written written_next answers same sent = (
-  subst (AnswersFrontOf old piece) (sym same) answers,
-  subst (λ (s : State). AppendsFrontOf written written_next s.unsent) (sym same) sent,
-)
-
-pub stopped_memory : (old now new : State) (piece : List ℕ) (written written_next : Option (List ℕ)) → AnswersFrontOf old piece now
-    → new ≡ record now { unsent = [] } → Appends written written_next now.unsent
-    → HasStopped Memory old piece new written written_next
-unfolding HasStopped
-stopped_memory old now new piece written written_next answers is sent = (now, answers, is, sent)
-
 pub run-stops : (old : State) (begins : IsBegun old)
     (unread_first unread unread_next written_first written written_next : Option (List ℕ)) (session : State)
     (serving : IsServing old unread_first unread written_first written session) (fault : RunFault) (piece : List ℕ) (next : State)
@@ -528,9 +499,9 @@ pub run-stops : (old : State) (begins : IsBegun old)
 unfolding HasStopped
 run-stops old begins _ _ _ _ _ _ session serving Read piece next short consumed stopped = absurd stopped
 run-stops old begins _ _ _ _ _ _ session serving Write piece next short consumed stopped =
-    run-fails old begins _ _ _ _ _ _ session serving piece next short consumed stopped.0 next refl stopped.1
+    run-fails old begins _ _ _ _ _ _ session serving piece next stopped.0 short consumed stopped.1 stopped.2
 run-stops old begins _ _ _ _ _ _ session serving Memory piece next short consumed stopped =
-    run-forgets old begins _ _ _ _ _ _ session serving piece stopped.0 short consumed stopped.1 next stopped.2 stopped.3
+    run-forgets old begins _ _ _ _ _ _ session serving piece next stopped.0 short consumed stopped.1 stopped.3
 
 -- a fault within a piece is none of the reader
 pub cause-stopped : (fault : RunFault) (reader_failed : Bool) (reads : ℕ) (writer_failed : Bool) → reader_failed ≡ false

@@ -42,15 +42,15 @@ pub record HasAnswered (limits : LimitNumbers) (echo : Bool)
   pub ended : HaveEnded lines read unread_after
   pub prompt : StartsWith written (output_of limits echo (ended_lines_of (take (length read - 65536) read)))
 
--- Within a piece of the input a session has stopped. Where memory ran out, the text of all that it had answered of the
--- piece was written; after a failed write a front of that.
+-- Within a piece of the input a session has stopped, and `text` is what all that it had answered of the piece came to.
+-- Where memory ran out all of it was written; after a failed write a front of it.
 unfoldable pub HasStopped : RunFault → State → List ℕ → State → Option (List ℕ) → Option (List ℕ) → Type 0
 HasStopped Read old piece new written_before written_after = ⊥
 HasStopped Write old piece new written_before written_after =
-    AnswersFrontOf old piece new × AppendsFrontOf written_before written_after new.unsent
+    (text : List ℕ) × AnswersFrontOf old piece (record new { unsent = text }) × AppendsFrontOf written_before written_after text
 HasStopped Memory old piece new written_before written_after =
-    (answered : State) × AnswersFrontOf old piece answered × (new ≡ record answered { unsent = [] })
-    × Appends written_before written_after answered.unsent
+    (text : List ℕ) × AnswersFrontOf old piece (record new { unsent = text }) × (new.unsent ≡ [])
+    × Appends written_before written_after text
 
 -- the allocator has taken the lines that were answered, or one more
 pub record HasTaken (old new : Machine) (answered : ℕ) (read : List ℕ) (unread_after : Option (List ℕ)) : Type 0 where

@@ -1,5 +1,5 @@
 -- A run between two reads, and what a byte of the input does to it.
-use Rattle.std.specs.Prelude.{refl, ◌≡◌, ℕ, ◌+◌, Bool, false, ◌==◌, List, [], ◌∷◌, ◌++◌, length, take, fold, All, Result, Ok, Err, ◌⊎◌, if◌then◌else◌}
+use Rattle.std.specs.Prelude.{refl, ◌≡◌, ℕ, ◌+◌, ◌<◌, Bool, false, ◌==◌, List, [], ◌∷◌, ◌++◌, length, take, fold, All, Result, Ok, Err, ◌⊎◌, if◌then◌else◌}
 use Rattle.std.specs.Coded.{Coded, code_by, coded×, coded_ℕ, coded_bool, coded_list}
 use Rattle.drf_core.specs.Machine.{Machine, machine_code, opened, after}
 use Rattle.drf_rows.specs.LimitNumbers.{LimitNumbers}
@@ -76,13 +76,17 @@ IsWithinLine bytes = All (λ b. is_line_feed b ≡ false) bytes
 abbrev pub HasTakenAtMost : Machine → List ℕ → Machine → Type 0
 HasTakenAtMost old line new = (new ≡ old) ⊎ (new ≡ machine_after old (meaning_of line))
 
+-- before each of the first `count` bytes of a piece less than `most` bytes of text wait
+abbrev pub WaitsBelow : ℕ → State → List ℕ → ℕ → Type 0
+WaitsBelow most old piece count = (k : ℕ) → k < count → length (after_piece old (take k piece)).unsent < most
+
 -- of a piece the lines up to some byte were answered, and the allocator has taken these lines, or one more
 pub record AnswersFrontOf (old : State) (piece : List ℕ) (new : State) : Type 0 where
-  pub answered : ℕ
-  pub unsent : new.unsent ≡ (after_piece old (take answered piece)).unsent
-  pub lines : new.lines ≡ (after_piece old (take answered piece)).lines
-  pub taken : ℕ
-  pub machine : new.machine ≡ (after_piece old (take taken piece)).machine
+  pub answered_bytes : ℕ
+  pub unsent : new.unsent ≡ (after_piece old (take answered_bytes piece)).unsent
+  pub lines : new.lines ≡ (after_piece old (take answered_bytes piece)).lines
+  pub taken_bytes : ℕ
+  pub machine : new.machine ≡ (after_piece old (take taken_bytes piece)).machine
   pub ahead :
-      ((after_piece old (take taken piece)).lines ≡ (after_piece old (take answered piece)).lines)
-      ⊎ ((after_piece old (take taken piece)).lines ≡ (after_piece old (take answered piece)).lines + 1)
+      ((after_piece old (take taken_bytes piece)).lines ≡ (after_piece old (take answered_bytes piece)).lines)
+      ⊎ ((after_piece old (take taken_bytes piece)).lines ≡ (after_piece old (take answered_bytes piece)).lines + 1)

@@ -1,5 +1,5 @@
 //! The engine: lines in, reply lines out.
-ghost use Rattle.std.specs.Prelude.{◌≡◌, ◌+◌, ◌<◌, ◌≤◌, ◌^◌, [], length, false, OnOk, IfErr};
+ghost use Rattle.std.specs.Prelude.{◌≡◌, ◌+◌, ◌<◌, ◌≤◌, ◌^◌, [], length, take, false, OnOk, IfOk, IfErr};
 ghost use Rattle.std.specs.Io.KnownBytes.{Appends, IsAtEnd};
 ghost use Rattle.drf_journal.specs.Device.{IsNew};
 ghost use Rattle.drf_journal.specs.Ended.{HasAnswered, HasServed, HasStopped, HasCause};
@@ -19,8 +19,31 @@ const CHUNK: usize = 65_536;
 /// How often a run reads at most.
 const MAX_READS: u64 = 1_099_511_627_776;
 
-/// Answers the lines that end in the next piece of the input. What was answered before memory ran out is written too.
-#[tactic(auto, using(crate::proofs::Served::stopped_write, crate::proofs::Served::stopped_memory))]
+/// Answers lines that end in the next piece of the input, all of them or until much text waits to be written, and tells
+/// how many bytes that took. What was answered before memory ran out is written too.
+#[tactic(auto, using(crate::proofs::Parts::stopped_write, crate::proofs::Parts::stopped_memory))]
+fn answer_part<S: Sorter, W: Write>(
+    alloc: Global,
+    session: &mut Session<S>,
+    piece: &[u8],
+    writer: &mut Device<W>,
+) -> Result<usize, RunFault>
+    requires few { session.old.lines + length piece.now < 2 ^ 64 }
+    ensures part { IfOk result (λ count. (count ≤ length piece.now) × (0 < length piece.now → 0 < count)) }
+    ensures ok { IfOk result (λ count. session.new ≡ record (after_piece session.old (take count piece.now)) { unsent = [] }) }
+    ensures sent { IfOk result (λ count. Appends (W.contents writer.old.inner) (W.contents writer.new.inner)
+        (after_piece session.old (take count piece.now)).unsent) }
+    ensures err { IfErr result (λ fault. HasStopped fault session.old piece.now session.new
+        (W.contents writer.old.inner) (W.contents writer.new.inner)) }
+    ensures cause { writer.old.failed ≡ false → HasCause result false 0 writer.new.failed }
+{
+    let taken = session.take(alloc, piece);
+    session.send(writer)?;
+    let count = taken?;
+    Ok(count)
+}
+
+/// Answers the lines that end in the next piece of the input, part by part.
 fn answer_piece<S: Sorter, W: Write>(
     alloc: Global,
     session: &mut Session<S>,
@@ -28,15 +51,18 @@ fn answer_piece<S: Sorter, W: Write>(
     writer: &mut Device<W>,
 ) -> Result<(), RunFault>
     requires few { session.old.lines + length piece.now < 2 ^ 64 }
+    requires sent { session.old.unsent ≡ [] }
     ensures ok { OnOk result (session.new ≡ record (after_piece session.old piece.now) { unsent = [] }) }
     ensures sent { OnOk result (Appends (W.contents writer.old.inner) (W.contents writer.new.inner) (after_piece session.old piece.now).unsent) }
     ensures err { IfErr result (λ fault. HasStopped fault session.old piece.now session.new
         (W.contents writer.old.inner) (W.contents writer.new.inner)) }
     ensures cause { writer.old.failed ≡ false → HasCause result false 0 writer.new.failed }
 {
-    let taken = session.take(alloc, piece);
-    session.send(writer)?;
-    taken?;
+    let mut rest = piece;
+    while !rest.is_empty() {
+        let count = answer_part(alloc, session, rest, writer)?;
+        rest = &rest[count..];
+    }
     Ok(())
 }
 

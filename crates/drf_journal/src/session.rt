@@ -6,7 +6,7 @@ ghost use Rattle.drf_core.specs.Machine.{live, after};
 ghost use Rattle.drf_lines.specs.Meaning.{meaning_of};
 ghost use Rattle.drf_journal.specs.Device.{AppendsFrontOf};
 ghost use Rattle.drf_journal.specs.Output.{kept_of, reply_line_after};
-ghost use Rattle.drf_journal.specs.State.{begun, machine_after, answer_to, after_piece, at_end, IsWithinLine, HasTakenAtMost, AnswersFrontOf};
+ghost use Rattle.drf_journal.specs.State.{begun, machine_after, answer_to, after_piece, at_end, IsWithinLine, HasTakenAtMost, WaitsBelow, AnswersFrontOf};
 
 use crate::device::{Device, write_whole};
 use crate::fault::RunFault;
@@ -21,6 +21,9 @@ use std::marker::Model;
 /// How many bytes of a line are kept: one more than it may have, so that one that is too long is told from the longest.
 const KEPT: usize = 65_537;
 
+/// How much text may wait to be written while one more line is answered.
+const MOST_UNSENT: usize = 65_536;
+
 /// Takes an event, as it is seen from outside.
 fn take_event<S: Sorter>(core: &mut Core<S>, event: Event) -> Result<Reply, AllocError>
     ensures told { IfOk result (λ reply. reply ≡ reply_to (live core.old).limits (live core.old).rows event) }
@@ -31,7 +34,7 @@ fn take_event<S: Sorter>(core: &mut Core<S>, event: Event) -> Result<Reply, Allo
 }
 
 /// Takes a line's event, and tells its reply line.
-fn reply_line<S: Sorter>(
+fn take_line<S: Sorter>(
     alloc: Global,
     core: &mut Core<S>,
     line: &[u8],
@@ -70,7 +73,7 @@ fn answer<S: Sorter>(
     ensures ok { OnOk result (live core.new ≡ machine_after (live core.old) (meaning_of line.now)) }
     ensures taken { HasTakenAtMost (live core.old) line.now (live core.new) }
 {
-    let reply = reply_line(alloc, core, line)?;
+    let reply = take_line(alloc, core, line)?;
     if !echo {
         return Ok(reply);
     }
@@ -175,21 +178,28 @@ impl<S: Sorter> Session<S> {
         Ok(())
     }
 
-    /// Takes the next piece of the input, and answers each line that ends in it.
-    pub(crate) fn take(&mut self, alloc: Global, piece: &[u8]) -> Result<(), AllocError>
+    /// Takes a piece of the input and answers each line that ends in it, or stops behind the line where much text waits to
+    /// be written, and tells how many bytes it took.
+    pub(crate) fn take(&mut self, alloc: Global, piece: &[u8]) -> Result<usize, AllocError>
         requires { self.old.lines + length piece.now < 2 ^ 64 }
-        ensures ok { OnOk result (self.new ≡ after_piece self.old piece.now) }
+        ensures part { IfOk result (λ count. (count ≤ length piece.now) × (0 < length piece.now → 0 < count)) }
+        ensures ok { IfOk result (λ count. self.new ≡ after_piece self.old (take count piece.now)) }
+        ensures bound { length self.old.unsent < 65536 → IfOk result (WaitsBelow 65536 self.old piece.now) }
         ensures answers { AnswersFrontOf self.old piece.now self.new }
     {
         let mut rest = piece;
         while let Some(at) = line_feed_in(rest) {
             self.end_line(alloc, &rest[..at])?;
             rest = &rest[at + 1..];
+            if self.unsent.len() >= MOST_UNSENT {
+                return Ok(piece.len() - rest.len());
+            }
         }
         if rest.is_empty() {
-            return Ok(());
+            return Ok(piece.len());
         }
-        keep(&mut self.pending, rest)
+        keep(&mut self.pending, rest)?;
+        Ok(piece.len())
     }
 
     /// The input ended: answers what stands behind its last line feed.

@@ -1,0 +1,14 @@
+use Rattle.std.proofs.Common.{◌≡◌, ◌+◌, ◌≤◌, false, length}
+use Rattle.drf_journal.proofs.Parts.{SentFront}
+use Rattle.drf_journal.proofs.engine.answer_piece.Given as goal
+
+abbrev pub invariant-loop-rest : goal.invariant-loop-rest
+invariant-loop-rest g l = record {
+  front : SentFront l.fn.session l.session l.fn.piece l.rest (g.W.Write.contents l.fn.writer.inner)
+      (g.W.Write.contents l.writer.inner);
+  few : l.session.lines + length l.rest ≤ l.fn.session.lines + length l.fn.piece;
+  sound : l.fn.writer.failed ≡ false → l.writer.failed ≡ false;
+}
+
+abbrev pub decreases-loop-rest : goal.decreases-loop-rest
+decreases-loop-rest g l = length l.rest

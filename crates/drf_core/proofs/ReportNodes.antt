@@ -19,20 +19,20 @@ use Rattle.drf_rows.specs.Consistent.{offers_counted}
 use Rattle.drf_rows.specs.ConsistentLaws.{bundles-consistent}
 use Rattle.drf_rows.specs.Holdings.{holdings_of, amount_in}
 use Rattle.drf_rows.specs.Held.{clients_of, cluster_total}
+use Rattle.drf_rows.specs.MemberLaws.{amount-cluster_total}
 use Rattle.drf_rows.specs.Report.{path_cmp, with_node, nodes_to, nodes_on, nodes_of, node_line, report_of}
 use Rattle.drf_rows.specs.ListLaws.{each_append}
+use Rattle.drf_rows.specs.ReportedShares.{in_order-cluster_total, small_total}
 use Rattle.drf_rows.specs.Step.{live_rows}
 use Rattle.drf_rows.specs.declared.report.NodeLine.{NodeLine}
 use Rattle.drf_rows.specs.declared.rows.Rows.{Rows}
-use Rattle.drf_sorter.specs.Content.{Content, IsSound}
-use Rattle.drf_core.specs.Content.{content_of}
+use Rattle.drf_sorter.specs.Content.{Content}
 use Rattle.drf_core.specs.Kept.{IsKept}
 use Rattle.drf_core.specs.declared.report.Sum.{Sum}
 use Rattle.drf_core.specs.Reporting.{Sums, AreSums, IsWhole, AreParts, line_with, CanReport}
-use Rattle.drf_core.proofs.ContentHeld.{all_held}
-use Rattle.drf_core.proofs.ContentSound.{IsSound-content_of}
+use Rattle.drf_core.proofs.ContentSound.{held-le-total}
 use Rattle.drf_core.proofs.ReportSums.{amount-held_with}
-use Rattle.drf_core.proofs.ReportLines.{in_order-cluster_total, line-rows}
+use Rattle.drf_core.proofs.ReportLines.{line-rows}
 
 -- ---- what holds of each node
 
@@ -90,24 +90,17 @@ CanReport-kept content limits rows kept =
       few_offers = omega (arith, numbered, events);
     }
 
-total-content_of : (rows : Rows) → (content_of rows).total ≡ cluster_total rows.agents
-unfolding content_of
-total-content_of rows = refl
-
 module _ (rows : Rows) (can : CanReport rows) where
-  sound : IsSound (content_of rows)
-  sound = IsSound-content_of rows can.consistent can.few_agents can.few_offers
-
   pub IsWhole-rows : IsWhole (cluster_total rows.agents)
   IsWhole-rows = record {
     ordered = in_order-cluster_total rows.agents;
-    small = λ label. subst (λ (es : List Entry). amount_of es label < 2 ^ 52) (total-content_of rows) (sound.total label);
+    small = λ label. small_total rows.agents label can.consistent.agents.each can.few_agents;
   }
 
   -- no more is held than there is
   held-le : (label : Text) → sum_by (amount_in label) (holdings_of rows) ≤ amount_of (cluster_total rows.agents) label
   held-le label =
-      omega (arith, all_held rows label can.consistent, sound.held label, ap (λ (es : List Entry). amount_of es label) (total-content_of rows))
+      omega (arith, held-le-total rows label can.consistent, amount-cluster_total rows.agents label can.consistent.agents.each)
 
   -- so that it fits, as do the counts
   pub few_held : (label : Text) → sum_by (amount_in label) (holdings_of rows) < 2 ^ 64

@@ -47,13 +47,13 @@ sum-few [] label all = omega arith
 sum-few (a ∷ agents) label all =
     omega (arith, sum_by-cons (amount_on label) a agents, all.0.small label, sum-few agents label all.1)
 
-small_total : (agents : List AgentRow) (label : Text) → AllByRecursion IsAgent agents → length agents ≤ ceilings.agents
+pub small_total : (agents : List AgentRow) (label : Text) → AllByRecursion IsAgent agents → length agents ≤ ceilings.agents
     → amount_of (cluster_total agents) label < 2 ^ 52
 small_total agents label all few =
     omega (arith, amount-cluster_total agents label all, sum-few agents label all, few)
 
 -- of entries in order each amount is that of its label
-small_entries : (es : List Entry) → IsTrue (is_in_order es) → ((label : Text) → amount_of es label < 2 ^ 52)
+pub small_entries : (es : List Entry) → IsTrue (is_in_order es) → ((label : Text) → amount_of es label < 2 ^ 52)
     → AllByRecursion (λ e. e.amount < 2 ^ 52) es
 small_entries [] ordered small = tt
 small_entries (e ∷ es) ordered small =
@@ -80,7 +80,7 @@ part_of_greater a b first second = elim (cases_Bool (is_less a b)) [
 abbrev parts_by : (Text → ℕ) → List Entry → List Fraction
 parts_by held es = map (λ e. record { part = held e.label; whole = e.amount }) (filter (λ e. nat_lt 0 e.amount) es)
 
-part_of_greatest : (held : Text → ℕ) (es : List Entry) → AllByRecursion (λ e. e.amount < 2 ^ 52) es
+pub part_of_greatest : (held : Text → ℕ) (es : List Entry) → AllByRecursion (λ e. e.amount < 2 ^ 52) es
     → IsPart (greatest (parts_by held es))
 part_of_greatest held [] small = record { some = omega arith; small = omega arith }
 part_of_greatest held (e ∷ es) small = elim (cases_Bool (nat_lt 0 e.amount)) [

@@ -19,7 +19,8 @@ use Rattle.drf_rows.specs.declared.rows.FrameworkRow.{FrameworkRow}
 use Rattle.drf_rows.specs.declared.rows.Rows.{Rows}
 use Rattle.drf_rows.specs.declared.rows.WeightRow.{WeightRow}
 use Rattle.drf_sorter.proofs.ServedLemmas.{each_is_served_once}
-use Rattle.drf_sorter.proofs.WeightLemmas.{are_weights, weight-found}
+use Rattle.drf_rows.specs.Weights.{are_weights}
+use Rattle.drf_sorter.proofs.WeightLemmas.{weight-found}
 use Rattle.drf_rows.specs.Held as rows_word
 
 -- ---- clients with different paths

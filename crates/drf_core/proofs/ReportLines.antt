@@ -1,13 +1,12 @@
 -- The line of a node: its shares, made of what it holds, are those of the rows.
-use Rattle.std.specs.Prelude.{◌≡◌, ℕ, ◌≤◌, true, List, [], ◌∷◌, length, nat_le, Some, All}
+use Rattle.std.specs.Prelude.{◌≡◌, ℕ, ◌≤◌, List, [], ◌∷◌, length, Some, All}
 use Rattle.std.specs.Map.{keys_of}
 use Rattle.std.specs.BTreeMap.{get}
 use Rattle.std.specs.List.{AllByRecursion}
-use Rattle.std.proofs.Common.{ap, ◌∙◌, inl, inr, arith}
-use Rattle.std.proofs.lemmas.Bool.{cases_Bool, and_parts, leb-true}
+use Rattle.std.proofs.Common.{ap, ◌∙◌, arith}
 use Rattle.std.proofs.lemmas.List.Elements.{All-head, All-tail}
 use Rattle.drf_role.specs.Text.{Text}
-use Rattle.drf_role.specs.Path.{Path, same_path}
+use Rattle.drf_role.specs.Path.{Path}
 use Rattle.drf_bundle.specs.Quantities.{amount_of}
 use Rattle.drf_bundle.specs.declared.quantities.Entry.{Entry}
 use Rattle.drf_rows.specs.Held.{cluster_total, held_by, weight_of, standing_of}
@@ -17,8 +16,6 @@ use Rattle.drf_rows.specs.Report.{path_cmp, line_by, node_line}
 use Rattle.drf_rows.specs.ReportLaws.{amount-held_under}
 use Rattle.drf_rows.specs.ReportedShares.{small_entries, part_of_greatest}
 use Rattle.drf_rows.specs.Share.{lowest_terms}
-use Rattle.drf_rows.specs.Weights.{is_weight}
-use Rattle.drf_rows.specs.declared.rows.WeightRow.{WeightRow}
 use Rattle.drf_rows.specs.declared.rows.Rows.{Rows}
 use Rattle.drf_sorter.specs.Fractions.{weigh, dominant_of}
 use Rattle.drf_sorter.specs.FractionLaws.{same_as_weighed}
@@ -26,7 +23,6 @@ use Rattle.drf_sorter.specs.Share.{fraction_of}
 use Rattle.drf_sorter.specs.ShareLaws.{above_zero, below_128}
 use Rattle.drf_sorter.specs.declared.share.Share.{Share}
 use Rattle.drf_core.specs.declared.report.Sum.{Sum}
-use Rattle.drf_core.specs.Kept.{are_weights}
 use Rattle.drf_core.specs.Reporting.{Sums, IsSum, IsWhole, IsPart, AreParts, line_with}
 
 -- ---- the share of a node
@@ -40,23 +36,6 @@ lowest-share total held share whole is =
     lowest_terms-same (fraction_of share) (dominant_of held total)
     (above_zero share) (below_128 share) part.some (omega (arith, part.small))
     (same_as_weighed (fraction_of share) (dominant_of held total) is)
-
--- ---- the weight of a node
-
-pub weight_in_range : (ws : List WeightRow) (node : Path) → are_weights ws ≡ true
-    → (1 ≤ weight_of ws node) × (weight_of ws node ≤ 1000000)
-weight_in_range [] node all = (omega arith, omega arith)
-weight_in_range (w ∷ ws) node all =
-    let parts = and_parts (is_weight w.weight) (are_weights ws) all in
-    elim (cases_Bool (same_path w.role node)) [
-      | inl here ↦ rw here (in_range w.weight parts.0)
-      | inr past ↦ rw past (weight_in_range ws node parts.1)
-    ]
-  where
-    in_range : (n : ℕ) → is_weight n ≡ true → (1 ≤ n) × (n ≤ 1000000)
-    in_range n is =
-        let both = and_parts (nat_le 1 n) (nat_le n 1000000) is in
-        (leb-true 1 n both.0, leb-true n 1000000 both.1)
 
 -- ---- parts
 

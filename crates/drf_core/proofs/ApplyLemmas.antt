@@ -1,5 +1,5 @@
 -- What the tables and the sorter stand at after an event that is not refused.
-use Rattle.std.proofs.Common.{◌≡◌, ◌+◌, ◌*◌, ◌<◌, ◌≤◌, ◌^◌, true, false, List, [], ◌∷◌, ◌++◌, None, length, map, refl, sym, ap, ◌∙◌, arith, nat_lt}
+use Rattle.std.proofs.Common.{◌≡◌, ◌<◌, ◌≤◌, ◌^◌, true, false, List, [], ◌∷◌, ◌++◌, None, length, map, refl, sym, ap, ◌∙◌, arith, nat_lt}
 use Rattle.std.proofs.lemmas.Bool.{ltb-false}
 use Rattle.std.proofs.lemmas.List.{length-append}
 use Rattle.drf_role.specs.Text.{Text}
@@ -9,6 +9,7 @@ use Rattle.drf_bundle.specs.Bundle.{quantities_of}
 use Rattle.drf_bundle.specs.declared.resource.Resource.{Resource}
 use Rattle.drf_rows.specs.LimitNumbers.{LimitNumbers}
 use Rattle.drf_rows.specs.Held.{cluster_total}
+use Rattle.drf_rows.specs.ReportedShares.{small_total}
 use Rattle.drf_rows.specs.Step.{refusal_of, effect}
 use Rattle.drf_rows.specs.Members.{has_framework, with_agent, new_client, distinct}
 use Rattle.drf_rows.specs.Consistent.{IsConsistent}
@@ -21,20 +22,15 @@ use Rattle.drf_core.specs.Kept.{AreFew, IsKept, StandAt}
 use Rattle.drf_core.specs.Registering.{client_paths, with_all}
 use Rattle.drf_core.proofs.ContentRegister.{content_of-with_agent}
 use Rattle.drf_core.proofs.RegisterLemmas.{content_of-registered}
-use Rattle.drf_core.proofs.ContentSound.{IsSound-content_of}
+use Rattle.drf_core.proofs.KeptLemmas.{few_agents_kept}
 use Rattle.drf_core.proofs.Welcome.{neither, welcome_agent}
 
 -- ---- one more agent
 
 pub sound_total : (content : Content) (limits : LimitNumbers) (rows : Rows) → IsKept content limits rows → (label : Text)
     → amount_of (cluster_total rows.agents) label < 2 ^ 52
-unfolding content_of
 sound_total content limits rows kept label =
-    let events : rows.accepted ≤ 4294967295 = omega (arith, kept.few.events, kept.few.ceilings.events.1) in
-    let numbered : rows.next_offer ≤ 1 + rows.accepted * 2 ^ 24 = kept.numbered in
-    let few : length rows.agents ≤ 4096 = omega (arith, kept.few.agents, kept.few.ceilings.agents.1) in
-    let early : rows.next_offer < 2 ^ 64 = omega (arith, numbered, events) in
-    (IsSound-content_of rows kept.consistent few early).total label
+    small_total rows.agents label kept.consistent.agents.each (few_agents_kept content limits rows kept)
 
 pub few_agents : (limits : LimitNumbers) (rows : Rows) (agent : Text) (total : List Resource) → AreFew limits rows → refusal_of limits rows (AddAgent agent total) ≡ None
     → length rows.agents < 4096

@@ -1,59 +1,19 @@
 -- Consistent rows keep a sorter sound: no more is held than there is, and all numbers fit.
-use Rattle.std.specs.Prelude.{◌≡◌, ℕ, ◌+◌, ◌^◌, ◌<◌, ◌≤◌, List, [], ◌∷◌, fold, length, sum_by}
-use Rattle.std.specs.List.{count_by, list_any, AllByRecursion}
+use Rattle.std.specs.Prelude.{◌≡◌, ℕ, ◌^◌, ◌<◌, ◌≤◌, List, length, sum_by}
+use Rattle.std.specs.List.{count_by, list_any}
 use Rattle.std.proofs.Common.{◌∙◌, arith}
-use Rattle.std.proofs.lemmas.List.Sums.{sum_by-cons, sum_by-le}
-use Rattle.std.proofs.lemmas.List.Elements.{All-from_recursion}
 use Rattle.drf_role.specs.Text.{Text, same_text}
-use Rattle.drf_bundle.specs.Quantities.{amount_of, plus}
-use Rattle.drf_bundle.specs.Bundle.{quantities_of}
-use Rattle.drf_bundle.specs.QuantitiesLaws.{amount-plus}
-use Rattle.drf_bundle.specs.UnitProofs.{quantities_no_zeros}
-use Rattle.drf_bundle.specs.declared.quantities.Entry.{Entry}
 use Rattle.drf_rows.specs.Holdings.{Holding, holdings_of, held_where, amount_in, is_on}
-use Rattle.drf_rows.specs.Held.{cluster_total}
 use Rattle.drf_rows.specs.Consistent.{IsAgent, IsCovered, IsHeld, IsConsistent}
 use Rattle.drf_rows.specs.ConsistentLaws.{same_text-swap, count_named, bundles-consistent, held_on-le}
 use Rattle.drf_rows.specs.ListLaws.{sum_by_each_le, sum_by-groups, count_by-any, each_from, each_from_both}
-use Rattle.drf_rows.specs.declared.limits.TheConstants.{LARGEST_AMOUNT}
+use Rattle.drf_rows.specs.MemberLaws.{amount_on, amount-cluster_total}
+use Rattle.drf_rows.specs.ReportedShares.{small_total}
 use Rattle.drf_rows.specs.declared.rows.AgentRow.{AgentRow}
 use Rattle.drf_rows.specs.declared.rows.Rows.{Rows}
 use Rattle.drf_sorter.specs.Content.{IsSound}
 use Rattle.drf_core.specs.Content.{content_of}
 use Rattle.drf_core.proofs.ContentHeld.{counts-content_of, all_held}
-
--- ---- the total of the cluster
-
-abbrev added : List Entry → List AgentRow → List Entry
-added start agents = fold (λ sum agent. plus sum (quantities_of agent.total)) start agents
-
--- what an agent has of a scalar
-abbrev pub amount_on : Text → AgentRow → ℕ
-amount_on label agent = amount_of (quantities_of agent.total) label
-
-amount-added : (start : List Entry) (agents : List AgentRow) (label : Text) → AllByRecursion IsAgent agents
-    → amount_of (added start agents) label ≡ amount_of start label + sum_by (amount_on label) agents
-amount-added start [] label all = omega arith
-amount-added start (a ∷ agents) label all =
-    omega (
-      arith,
-      amount-added (plus start (quantities_of a.total)) agents label all.1,
-      amount-plus start (quantities_of a.total) label (quantities_no_zeros a.total all.0.total).in_order,
-      sum_by-cons (amount_on label) a agents,
-    )
-
-pub amount-cluster_total : (agents : List AgentRow) (label : Text) → AllByRecursion IsAgent agents
-    → amount_of (cluster_total agents) label ≡ sum_by (amount_on label) agents
-amount-cluster_total agents label all = amount-added [] agents label all ∙ omega arith
-
--- few agents of small amounts have little together
-small_total : (agents : List AgentRow) (label : Text) → AllByRecursion IsAgent agents → length agents ≤ 4096
-    → amount_of (cluster_total agents) label < 2 ^ 52
-small_total agents label all few =
-    let Small : AgentRow → Type 0 = λ a. amount_on label a ≤ LARGEST_AMOUNT in
-    let each : AllByRecursion Small agents = each_from IsAgent Small agents (λ a here. here.small label) all in
-    let most = sum_by-le (amount_on label) LARGEST_AMOUNT agents (All-from_recursion Small agents each) in
-    omega (arith, amount-cluster_total agents label all, most, few)
 
 -- ---- what is held
 
@@ -69,7 +29,7 @@ one_agent rows h consistent held =
     )
 
 -- no more than there is
-held-le-total : (rows : Rows) (label : Text) → IsConsistent rows
+pub held-le-total : (rows : Rows) (label : Text) → IsConsistent rows
     → sum_by (amount_in label) (holdings_of rows) ≤ sum_by (amount_on label) rows.agents
 held-le-total rows label consistent =
     let hs : List Holding = holdings_of rows in

@@ -155,6 +155,7 @@ consistent-clock rows clock right early = record {
   holdings = right.holdings;
   covered = right.covered;
   tasks = right.tasks;
+  weights = right.weights;
   filters = right.filters;
   early = early;
   counted = right.counted;

@@ -327,13 +327,21 @@ module _ (limits : LimitNumbers) (rows : Rows) (few : AreFew limits rows) (numbe
   countable_after (Cycle at) none = countable-cycle at none
   countable_after Report none = countable rows Report none (no_more-others rows rows refl)
 
--- numbers of offers are below what every run allows
-pub numbers_bounded : (content : Content) (limits : LimitNumbers) (rows : Rows) → IsKept content limits rows
-    → AllByRecursion (λ o. o.number ≤ 2 ^ 56) rows.offers
-numbers_bounded content limits rows kept =
-    let events : rows.accepted ≤ 4294967295 = omega (arith, kept.few.events, kept.few.ceilings.events.1) in
-    let numbered : rows.next_offer ≤ 1 + rows.accepted * 2 ^ 24 = kept.numbered in
-    numbers_within rows.offers rows.next_offer (2 ^ 56) kept.consistent.numbered (omega (arith, events, numbered))
+-- ---- at all times
+
+module _ (content : Content) (limits : LimitNumbers) (rows : Rows) (kept : IsKept content limits rows) where
+  pub few_agents_kept : length rows.agents ≤ 4096
+  few_agents_kept = omega (arith, kept.few.agents, kept.few.ceilings.agents.1)
+
+  pub few_offers_kept : rows.next_offer ≤ 2 ^ 56
+  few_offers_kept =
+      let events : rows.accepted ≤ 4294967295 = omega (arith, kept.few.events, kept.few.ceilings.events.1) in
+      let numbered : rows.next_offer ≤ 1 + rows.accepted * 2 ^ 24 = kept.numbered in
+      omega (arith, events, numbered)
+
+  -- numbers of offers are below what every run allows
+  pub numbers_bounded : AllByRecursion (λ o. o.number ≤ 2 ^ 56) rows.offers
+  numbers_bounded = numbers_within rows.offers rows.next_offer (2 ^ 56) kept.consistent.numbered (omega (arith, few_offers_kept))
 
 -- and filters, those in force among them, end before 2^63
 pub filters_bounded : (rows : Rows) → IsConsistent rows → AllByRecursion (λ f. f.until < 2 ^ 63) (live_rows rows).filters

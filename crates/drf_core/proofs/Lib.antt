@@ -22,7 +22,6 @@ pub mod WeighingLemmas
 pub mod WeightLemmas
 pub mod Welcome
 pub mod KeptLemmas
-pub mod WeightsKept
 pub mod ApplyLemmas
 pub mod RefusalLemmas
 pub mod RemovalLemmas

@@ -1,5 +1,5 @@
 -- Which nodes are reported, and that their lines are those of the rows.
-use Rattle.std.specs.Prelude.{◌≡◌, ℕ, zero, suc, ◌+◌, ◌*◌, ◌^◌, ◌<◌, ◌≤◌, List, [], ◌∷◌, length, take, map, fold, flat_map, sum_by, Some, All}
+use Rattle.std.specs.Prelude.{◌≡◌, ℕ, zero, suc, ◌^◌, ◌<◌, ◌≤◌, List, [], ◌∷◌, length, take, map, fold, flat_map, sum_by, Some, All}
 use Rattle.std.specs.List.{AllByRecursion}
 use Rattle.std.specs.Map.{keys_of}
 use Rattle.std.specs.BTreeMap.{get}
@@ -13,26 +13,23 @@ use Rattle.drf_role.specs.Text.{Text}
 use Rattle.drf_role.specs.Path.{Path}
 use Rattle.drf_bundle.specs.Quantities.{amount_of, without_zeros}
 use Rattle.drf_bundle.specs.declared.quantities.Entry.{Entry}
-use Rattle.drf_rows.specs.LimitNumbers.{LimitNumbers}
 use Rattle.drf_rows.specs.Client.{Client, path_of}
-use Rattle.drf_rows.specs.Consistent.{offers_counted}
+use Rattle.drf_rows.specs.Consistent.{IsConsistent}
 use Rattle.drf_rows.specs.ConsistentLaws.{bundles-consistent}
 use Rattle.drf_rows.specs.Holdings.{holdings_of, amount_in}
 use Rattle.drf_rows.specs.Held.{clients_of, cluster_total}
+use Rattle.drf_rows.specs.MemberLaws.{amount-cluster_total}
 use Rattle.drf_rows.specs.Report.{path_cmp, with_node, nodes_to, nodes_on, nodes_of, node_line, report_of}
 use Rattle.drf_rows.specs.ListLaws.{each_append}
+use Rattle.drf_rows.specs.ReportedShares.{in_order-cluster_total, small_total}
 use Rattle.drf_rows.specs.Step.{live_rows}
 use Rattle.drf_rows.specs.declared.report.NodeLine.{NodeLine}
 use Rattle.drf_rows.specs.declared.rows.Rows.{Rows}
-use Rattle.drf_sorter.specs.Content.{Content, IsSound}
-use Rattle.drf_core.specs.Content.{content_of}
-use Rattle.drf_core.specs.Kept.{IsKept}
 use Rattle.drf_core.specs.declared.report.Sum.{Sum}
-use Rattle.drf_core.specs.Reporting.{Sums, AreSums, IsWhole, AreParts, line_with, CanReport}
-use Rattle.drf_core.proofs.ContentHeld.{all_held}
-use Rattle.drf_core.proofs.ContentSound.{IsSound-content_of}
+use Rattle.drf_core.specs.Reporting.{Sums, AreSums, IsWhole, AreParts, line_with}
+use Rattle.drf_core.proofs.ContentSound.{held-le-total}
 use Rattle.drf_core.proofs.ReportSums.{amount-held_with}
-use Rattle.drf_core.proofs.ReportLines.{in_order-cluster_total, line-rows}
+use Rattle.drf_core.proofs.ReportLines.{line-rows}
 
 -- ---- what holds of each node
 
@@ -73,48 +70,27 @@ each_has_part rows =
     (λ c. each_to HasPart (path_of c) (length (path_of c)) (omega arith) (λ k within. omega (arith, length-take-le (suc k) (path_of c) (omega arith))))
     (clients_of rows))
 
--- ---- what can be reported
+-- ---- what is reported
 
 -- filters do not matter
 pub AreSums-live : (rows : Rows) (sums : Sums) → AreSums (live_rows rows) sums → AreSums rows sums
 AreSums-live rows sums are = λ n s some found. record { held = (are n s some found).held; count = (are n s some found).count }
 
-pub CanReport-kept : (content : Content) (limits : LimitNumbers) (rows : Rows) → IsKept content limits rows → CanReport rows
-CanReport-kept content limits rows kept =
-    let events : rows.accepted ≤ 4294967295 = omega (arith, kept.few.events, kept.few.ceilings.events.1) in
-    let numbered : rows.next_offer ≤ 1 + rows.accepted * 2 ^ 24 = kept.numbered in
-    record {
-      consistent = kept.consistent;
-      weights = kept.weights;
-      few_agents = omega (arith, kept.few.agents, kept.few.ceilings.agents.1);
-      few_offers = omega (arith, numbered, events);
-    }
-
-total-content_of : (rows : Rows) → (content_of rows).total ≡ cluster_total rows.agents
-unfolding content_of
-total-content_of rows = refl
-
-module _ (rows : Rows) (can : CanReport rows) where
-  sound : IsSound (content_of rows)
-  sound = IsSound-content_of rows can.consistent can.few_agents can.few_offers
-
+module _ (rows : Rows) (consistent : IsConsistent rows) (few : length rows.agents ≤ 4096) where
   pub IsWhole-rows : IsWhole (cluster_total rows.agents)
   IsWhole-rows = record {
     ordered = in_order-cluster_total rows.agents;
-    small = λ label. subst (λ (es : List Entry). amount_of es label < 2 ^ 52) (total-content_of rows) (sound.total label);
+    small = λ label. small_total rows.agents label consistent.agents.each few;
   }
 
   -- no more is held than there is
   held-le : (label : Text) → sum_by (amount_in label) (holdings_of rows) ≤ amount_of (cluster_total rows.agents) label
   held-le label =
-      omega (arith, all_held rows label can.consistent, sound.held label, ap (λ (es : List Entry). amount_of es label) (total-content_of rows))
+      omega (arith, held-le-total rows label consistent, amount-cluster_total rows.agents label consistent.agents.each)
 
-  -- so that it fits, as do the counts
+  -- so that it fits
   pub few_held : (label : Text) → sum_by (amount_in label) (holdings_of rows) < 2 ^ 64
   few_held label = omega (arith, held-le label, IsWhole-rows.small label)
-
-  pub few_counted : offers_counted rows.frameworks < 2 ^ 64
-  few_counted = omega (arith, can.consistent.counted, can.few_offers)
 
   -- ---- the nodes that were summed up
   module _ (sums : Sums) (are : AreSums rows sums) where
@@ -123,7 +99,7 @@ module _ (rows : Rows) (can : CanReport rows) where
         omega (
           arith,
           ap (λ (es : List Entry). amount_of es label) (are n s some found).held,
-          amount-held_with [] (holdings_of rows) n label (bundles-consistent rows can.consistent),
+          amount-held_with [] (holdings_of rows) n label (bundles-consistent rows consistent),
           held-le label,
         )
 
@@ -136,7 +112,7 @@ module _ (rows : Rows) (can : CanReport rows) where
     each_line (e ∷ es) found nodes =
         let here = All-head (λ (e : Path × Sum). get path_cmp sums e.0 ≡ Some e.1) e es found in
         let later = All-tail (λ (e : Path × Sum). get path_cmp sums e.0 ≡ Some e.1) e es found in
-        λ i. line-rows rows e (bundles-consistent rows can.consistent) (are e.0 e.1 nodes.0 here) i ∷ each_line es later nodes.1 i
+        λ i. line-rows rows e (bundles-consistent rows consistent) (are e.0 e.1 nodes.0 here) i ∷ each_line es later nodes.1 i
 
     pub lines-report : (es : List (Path × Sum)) → All (λ e. get path_cmp sums e.0 ≡ Some e.1) es → keys_of es ≡ nodes_of rows
         → map (line_with (cluster_total rows.agents) rows.weights) es ≡ map (node_line rows) (nodes_of rows)

@@ -16,10 +16,9 @@ use Rattle.drf_rows.specs.declared.rows.Rows.{Rows}
 use Rattle.drf_sorter.specs.Content.{Content, empty}
 use Rattle.drf_core.specs.Machine.{Machine, IsAfter, IsAfterAll}
 use Rattle.drf_core.specs.Content.{content_of}
-use Rattle.drf_core.specs.Kept.{AreFew, IsKept, are_weights}
+use Rattle.drf_core.specs.Kept.{AreFew, IsKept}
 use Rattle.drf_core.proofs.ContentMembers.{content_of-filters}
 use Rattle.drf_core.proofs.KeptLemmas.{IsCountable, countable_after}
-use Rattle.drf_core.proofs.WeightsKept.{weights_kept}
 
 pub IsKept-opening : (content : Content) (limits : LimitNumbers) (rows : Rows) → rows ≡ opening → content ≡ empty → IsWithinCeilings limits → IsKept content limits rows
 unfolding content_of
@@ -28,7 +27,6 @@ IsKept-opening content limits rows opens nothing within = rw (opens, nothing) (r
   consistent = IsConsistent-opening;
   few = record { ceilings = within; agents = omega arith; frameworks = omega arith; clients = omega arith; weights = omega arith; events = omega arith };
   numbered = omega arith;
-  weights = refl;
 })
 
 -- ---- a step
@@ -48,7 +46,6 @@ IsKept-forgot content limits rows new kept same right = record {
     events = kept.few.events;
   });
   numbered = rw same kept.numbered;
-  weights = rw same kept.weights;
 }
 
 -- what is answered to an event that is not refused is no refusal
@@ -123,7 +120,6 @@ module _ (limits : LimitNumbers) (rows tables counted : Rows) (event : Event) (b
     consistent = right;
     few = subst (AreFew limits) (sym counted_is) countable.few;
     numbered = subst IsNumberedByEvents (sym counted_is) countable.numbered;
-    weights = ap (λ (r : Rows). are_weights r.weights) counted_is ∙ weights_kept limits rows event none kept.weights;
   }
 
 -- ---- a run

@@ -1,16 +1,15 @@
 -- Weights of roles: how many rows there are, and that a cycle leaves them alone.
-use Rattle.std.proofs.Common.{◌≡◌, ℕ, ◌+◌, ◌≤◌, Bool, true, false, List, [], ◌∷◌, Option, Some, None, length, refl, ap, ◌∙◌, inl, inr, arith, nat_lt, nat_le}
-use Rattle.std.specs.Prelude.{not}
+use Rattle.std.proofs.Common.{◌≡◌, ℕ, ◌+◌, ◌≤◌, Bool, true, false, List, [], ◌∷◌, Option, Some, None, length, refl, ap, ◌∙◌, inl, inr, arith, nat_lt}
 use Rattle.std.specs.List.{list_any}
 use Rattle.std.specs.Option.{option_map_or}
-use Rattle.std.proofs.lemmas.Bool.{cases_Bool, and_parts, leb-true, ltb-false}
+use Rattle.std.proofs.lemmas.Bool.{cases_Bool, ltb-false}
 use Rattle.drf_role.specs.Path.{Path, same_path}
 use Rattle.drf_bundle.specs.declared.resource.Resource.{Resource}
 use Rattle.drf_rows.specs.LimitNumbers.{LimitNumbers}
 use Rattle.drf_rows.specs.Client.{Client}
 use Rattle.drf_rows.specs.Cycle.{grant, new_offer, with_offer, tried, all_tried, turn_order, turn, turns}
 use Rattle.drf_rows.specs.Step.{effect}
-use Rattle.drf_rows.specs.Weights.{is_weight, has_weight, too_many_weights, weights_with}
+use Rattle.drf_rows.specs.Weights.{has_weight, too_many_weights, weights_with}
 use Rattle.drf_rows.specs.declared.event.Event.TheVariants.{SetWeight}
 use Rattle.drf_rows.specs.declared.rows.AgentRow.{AgentRow}
 use Rattle.drf_rows.specs.declared.rows.WeightRow.{WeightRow}
@@ -18,16 +17,6 @@ use Rattle.drf_rows.specs.declared.rows.Rows.{Rows}
 use Rattle.drf_sorter.specs.Content.{Content, with_weight}
 use Rattle.drf_core.specs.Content.{content_of}
 use Rattle.drf_core.specs.Kept.{StandAt}
-
--- a weight that is not refused is in its range
-pub weight_in_range : (weight : ℕ) → not (is_weight weight) ≡ false → (1 ≤ weight) × (weight ≤ 1000000)
-weight_in_range weight right =
-    let parts = and_parts (nat_le 1 weight) (nat_le weight 1000000) (by (is_weight weight) right) in
-    (leb-true 1 weight parts.0, leb-true weight 1000000 parts.1)
-  where
-    by : (b : Bool) → not b ≡ false → b ≡ true
-    by true right = refl
-    by false right = cc
 
 -- ---- how many rows there are
 

@@ -88,14 +88,14 @@ welcome_framework limits rows framework roles none =
 
 -- a weight that is welcome
 pub record IsWelcomeWeight (limits : LimitNumbers) (rows : Rows) (role : Path) (weight : ℕ) : Type 0 where
-  pub right : not (is_weight weight) ≡ false
+  pub right : is_weight weight ≡ true
   pub few : too_many_weights limits rows role ≡ false
 
 pub welcome_weight : (limits : LimitNumbers) (rows : Rows) (role : Path) (weight : ℕ)
     → refusal_of limits rows (SetWeight role weight) ≡ None → IsWelcomeWeight limits rows role weight
 welcome_weight limits rows role weight none =
     let no = no_case_of limits rows (SetWeight role weight) none in
-    record { right = no.1.0; few = no.1.1.0 }
+    record { right = not_not (is_weight weight) no.1.0; few = no.1.1.0 }
 
 -- a cycle that is welcome
 pub early_cycle : (limits : LimitNumbers) (rows : Rows) (at : ℕ) → refusal_of limits rows (Cycle at) ≡ None → at ≤ LATEST_MOMENT

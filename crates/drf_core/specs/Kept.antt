@@ -1,11 +1,8 @@
 -- What holds between the parts of a core at all times.
-use Rattle.std.specs.Prelude.{◌≡◌, ◌≤◌, Bool, true, List, length}
-use Rattle.std.specs.List.{list_all}
+use Rattle.std.specs.Prelude.{◌≡◌, ◌≤◌, length}
 use Rattle.drf_rows.specs.LimitNumbers.{LimitNumbers, IsWithinCeilings}
 use Rattle.drf_rows.specs.Held.{clients_of}
-use Rattle.drf_rows.specs.Weights.{is_weight}
 use Rattle.drf_rows.specs.Consistent.{IsConsistent, IsNumberedByEvents}
-use Rattle.drf_rows.specs.declared.rows.WeightRow.{WeightRow}
 use Rattle.drf_rows.specs.declared.rows.Rows.{Rows}
 use Rattle.drf_sorter.specs.Content.{Content}
 use Rattle.drf_core.specs.Content.{content_of}
@@ -19,17 +16,12 @@ pub record AreFew (limits : LimitNumbers) (rows : Rows) : Type 0 where
   pub weights : length rows.weights ≤ limits.weights
   pub events : rows.accepted ≤ limits.events
 
--- each weight is in its range
-abbrev pub are_weights : List WeightRow → Bool
-are_weights weights = list_all (λ w. is_weight w.weight) weights
-
 -- the sorter holds what the rows say, and the rows are consistent, within the limits, and numbered by their events
 pub record IsKept (content : Content) (limits : LimitNumbers) (rows : Rows) : Type 0 where
   pub sorted : content ≡ content_of rows
   pub consistent : IsConsistent rows
   pub few : AreFew limits rows
   pub numbered : IsNumberedByEvents rows
-  pub weights : are_weights rows.weights ≡ true
 
 -- tables and sorter stand at some rows
 pub record StandAt (rows tables : Rows) (content : Content) : Type 0 where

@@ -1,5 +1,5 @@
 -- What is reported, while it is summed up: nodes, with what each holds so far and the offers that it got.
-use Rattle.std.specs.Prelude.{◌≡◌, ℕ, zero, suc, ◌+◌, ◌^◌, ◌<◌, ◌≤◌, ◌||◌, Bool, true, false, cond, IsTrue, List, [], fold, filter, flat_map, length, take, sum_by, Some}
+use Rattle.std.specs.Prelude.{◌≡◌, ℕ, zero, suc, ◌+◌, ◌^◌, ◌<◌, ◌≤◌, ◌||◌, Bool, false, cond, IsTrue, List, [], fold, filter, flat_map, length, take, sum_by, Some}
 use Rattle.std.specs.Option.{option_map, option_map_or}
 use Rattle.std.specs.Ordering.{is_eq}
 use Rattle.std.specs.BTreeMap.{BTreeMap, get}
@@ -9,7 +9,6 @@ use Rattle.drf_bundle.specs.Quantities.{plus, amount_of, is_in_order}
 use Rattle.drf_bundle.specs.Bundle.{quantities_of}
 use Rattle.drf_bundle.specs.declared.quantities.Entry.{Entry}
 use Rattle.drf_rows.specs.Client.{Client, path_of}
-use Rattle.drf_rows.specs.Consistent.{IsConsistent}
 use Rattle.drf_rows.specs.Held.{client_of, count_of, weight_of}
 use Rattle.drf_rows.specs.Holdings.{Holding, holdings_of, amount_in, is_under, AreBundles}
 use Rattle.drf_rows.specs.Report.{path_cmp, with_node, nodes_on, held_under, line_by}
@@ -18,7 +17,6 @@ use Rattle.drf_rows.specs.declared.rows.ClientRow.{ClientRow}
 use Rattle.drf_rows.specs.declared.rows.FrameworkRow.{FrameworkRow}
 use Rattle.drf_rows.specs.declared.rows.WeightRow.{WeightRow}
 use Rattle.drf_rows.specs.declared.rows.Rows.{Rows}
-use Rattle.drf_core.specs.Kept.{are_weights}
 use Rattle.drf_core.specs.declared.report.Sum.{Sum}
 
 -- ---- nodes
@@ -121,10 +119,3 @@ AreParts total sums = (node : Path) (s : Sum) → 1 ≤ length node → get path
 abbrev pub line_with : List Entry → List WeightRow → Path × Sum → NodeLine
 line_with total weights e =
     line_by (record { held = λ node. amount_of e.1.held; count = λ node. e.1.count; total = total; weight = weight_of weights }) e.0 e.1.held
-
--- what can be reported: no sum is too large, and each share can be made
-pub record CanReport (rows : Rows) : Type 0 where
-  pub consistent : IsConsistent rows
-  pub weights : are_weights rows.weights ≡ true
-  pub few_agents : length rows.agents ≤ 4096
-  pub few_offers : rows.next_offer < 2 ^ 64

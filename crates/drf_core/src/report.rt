@@ -9,10 +9,10 @@ ghost use Rattle.drf_bundle.specs.Quantities.{amount_of};
 ghost use Rattle.drf_bundle.specs.Bundle.{quantities_of};
 ghost use Rattle.drf_rows.specs.Held.{client_of};
 ghost use Rattle.drf_rows.specs.Holdings.{of_offer, of_task, holdings_of, amount_in, AreBundles};
-ghost use Rattle.drf_rows.specs.Consistent.{offers_counted};
+ghost use Rattle.drf_rows.specs.Consistent.{IsConsistent, offers_counted};
 ghost use Rattle.drf_rows.specs.Report.{path_cmp, with_node, nodes_on, nodes_of, report_of};
-ghost use Rattle.drf_core.specs.Kept.{are_weights};
-ghost use Rattle.drf_core.specs.Reporting.{with_clients, count_at, count_in, CountTo, CanCount, HoldNothing, AddTo, CanAdd, AddAll, CanAddAll, AreSums, IsWhole, IsPart, AreParts, CanReport, line_with};
+ghost use Rattle.drf_rows.specs.Weights.{are_weights};
+ghost use Rattle.drf_core.specs.Reporting.{with_clients, count_at, count_in, CountTo, CanCount, HoldNothing, AddTo, CanAdd, AddAll, CanAddAll, AreSums, IsWhole, IsPart, AreParts, line_with};
 
 use crate::weights::Weights;
 use drf_bundle::{Bundle, Quantities};
@@ -214,7 +214,9 @@ fn node_lines(
 
 /// What there is, and who holds what of it.
 pub fn report(alloc: Global, tables: &Tables) -> Result<Report, AllocError>
-    requires { CanReport tables.now.rows }
+    requires consistent { IsConsistent tables.now.rows }
+    requires few_agents { length tables.now.rows.agents ≤ 4096 }
+    requires few_offers { tables.now.rows.next_offer < 2 ^ 64 }
     ensures { IfOk result (λ report. report ≡ report_of tables.now.rows) }
 {
     let rows = tables.rows()?;

@@ -11,6 +11,7 @@ use Rattle.drf_rows.specs.Holdings.{Holding, holdings_of, parts_on}
 use Rattle.drf_rows.specs.Held.{is_registered}
 use Rattle.drf_rows.specs.Endings.{is_task}
 use Rattle.drf_rows.specs.Cycle.{free_of}
+use Rattle.drf_rows.specs.Weights.{are_weights}
 use Rattle.drf_rows.specs.declared.limits.TheConstants.{LARGEST_AMOUNT, LATEST_MOMENT}
 use Rattle.drf_rows.specs.declared.rows.FilterRow.{FilterRow}
 use Rattle.drf_rows.specs.declared.rows.TaskRow.{TaskRow}
@@ -80,6 +81,7 @@ pub record IsConsistent (rows : Rows) : Type 0 where
   pub holdings : AllByRecursion (IsHeld rows.agents rows.frameworks) (holdings_of rows)
   pub covered : AllByRecursion (IsCovered (holdings_of rows)) rows.agents
   pub tasks : are_distinct_tasks rows.tasks ≡ true
+  pub weights : are_weights rows.weights ≡ true
   pub filters : AllByRecursion (IsFilter rows.agents rows.frameworks) rows.filters
   pub early : rows.clock ≤ LATEST_MOMENT
   pub counted : offers_counted rows.frameworks < rows.next_offer

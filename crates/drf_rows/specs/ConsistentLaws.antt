@@ -373,6 +373,7 @@ IsConsistent-with_offer rows agent place client bundle consistent at known right
       covered = each_from_both (IsCovered before) IsOnly (IsCovered after) rows.agents covers consistent.covered
           (only_named (λ a. a.name) rows.agents place agent consistent.agents.names at);
       tasks = consistent.tasks;
+      weights = consistent.weights;
       filters = each_from (IsFilter rows.agents rows.frameworks) (IsFilter rows.agents frameworks) rows.filters
           (λ f right. record {
             agent = right.agent;

@@ -100,6 +100,7 @@ module _ (rows : Rows) (name : Text) (active : Bool) where
         covered = subst (AllByRecursion (IsCovered (holdings_of rows))) same
             (each_map (IsCovered (holdings_of rows)) told rows.agents consistent.covered);
         tasks = consistent.tasks;
+        weights = consistent.weights;
         filters = each_from (IsFilter rows.agents rows.frameworks) (IsFilter agents rows.frameworks) rows.filters
             (λ f right. record {
               agent = has_agent-with_activity f.agent ∙ right.agent;
@@ -222,6 +223,7 @@ module _ (rows : Rows) (client : Client) (suppressed : Bool) where
             }) consistent.holdings;
         covered = consistent.covered;
         tasks = consistent.tasks;
+        weights = consistent.weights;
         filters = each_from (IsFilter rows.agents rows.frameworks) (IsFilter rows.agents frameworks) rows.filters
             (λ f right. record {
               agent = right.agent;
@@ -336,6 +338,7 @@ module _ (rows : Rows) (name : Text) (nothing : without_ended rows (all_on name)
             consistent.holdings (none_on rows name nothing);
         covered = each_filter (IsCovered (holdings_of rows)) stays rows.agents consistent.covered;
         tasks = consistent.tasks;
+        weights = consistent.weights;
         filters = each_kept (IsFilter others rows.frameworks) (λ f. not (is_on_agent name f)) rows.filters
             (each_from (IsFilter rows.agents rows.frameworks)
             (λ f. not (is_on_agent name f) ≡ true → IsFilter others rows.frameworks f) rows.filters
@@ -401,6 +404,7 @@ module _ (rows : Rows) (name : Text) (nothing : without_ended rows (all_of name)
             consistent.holdings (none_of rows name nothing);
         covered = consistent.covered;
         tasks = consistent.tasks;
+        weights = consistent.weights;
         filters = each_kept (IsFilter rows.agents others_of) (λ f. not (same_text f.framework name)) rows.filters
             (each_from (IsFilter rows.agents rows.frameworks)
             (λ f. not (same_text f.framework name) ≡ true → IsFilter rows.agents others_of f) rows.filters

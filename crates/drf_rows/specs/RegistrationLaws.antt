@@ -105,6 +105,7 @@ IsConsistent-agent_added rows name total consistent new right =
           (holdings_of rows) stays consistent.holdings;
       covered = each_append (IsCovered (holdings_of rows)) rows.agents (agent ∷ []) consistent.covered (covers, tt);
       tasks = consistent.tasks;
+      weights = consistent.weights;
       filters = each_from (IsFilter rows.agents rows.frameworks) (IsFilter (with_agent rows name total) rows.frameworks) rows.filters
           (λ f here. record {
             agent = list_any-append (λ (a : AgentRow). same_text a.name f.agent) rows.agents (agent ∷ [])
@@ -176,6 +177,7 @@ IsConsistent-framework_added rows f consistent new apart none =
           (holdings_of rows) stays consistent.holdings;
       covered = consistent.covered;
       tasks = consistent.tasks;
+      weights = consistent.weights;
       filters = each_from (IsFilter rows.agents rows.frameworks) (IsFilter rows.agents frameworks) rows.filters
           (λ g here. record {
             agent = here.agent;
@@ -197,6 +199,7 @@ IsConsistent-opening = record {
   holdings = tt;
   covered = tt;
   tasks = refl;
+  weights = refl;
   filters = tt;
   early = omega arith;
   counted = omega arith;

@@ -23,10 +23,10 @@ use Rattle.drf_bundle.specs.Bundle.{IsBundle, quantities_of}
 use Rattle.drf_bundle.specs.UnitProofs.{quantities_no_zeros}
 use Rattle.drf_bundle.specs.declared.quantities.Entry.{Entry}
 use Rattle.drf_rows.specs.Client.{Client, path_of}
-use Rattle.drf_rows.specs.Holdings.{Holding, holdings_of, amount_in, is_under, AreBundles}
+use Rattle.drf_rows.specs.Holdings.{Holding, holdings_of, held_where, amount_in, is_under, AreBundles}
 use Rattle.drf_rows.specs.Held.{clients_of, cluster_total, count_of, held_by, standing_of}
 use Rattle.drf_rows.specs.MemberLaws.{amount-cluster_total}
-use Rattle.drf_rows.specs.Report.{path_cmp, with_node, nodes_to, nodes_on, nodes_of, node_line, report_of}
+use Rattle.drf_rows.specs.Report.{path_cmp, with_node, nodes_to, nodes_on, nodes_of, held_under, node_line, report_of}
 use Rattle.drf_rows.specs.ReportedShares.{in_order-cluster_total}
 use Rattle.drf_rows.specs.Laws.{HeldIsReported, CountIsReported, TotalIsReported, AmountsAreAboveZero, NodesRise, NodesBeginPaths, are_in_order, paths_told}
 use Rattle.drf_rows.specs.ListLaws.{each_filter, each_made}
@@ -52,6 +52,11 @@ in_order-added start [] ordered = ordered
 in_order-added start (h ∷ hs) ordered =
     in_order-added (plus start (quantities_of h.bundle)) hs (in_order-plus start (quantities_of h.bundle) ordered)
 
+pub amount-held_under : (hs : List Holding) (node : Path) (label : Text) → AreBundles hs
+    → amount_of (held_under hs node) label ≡ held_where (is_under node) hs label
+amount-held_under hs node label all =
+    omega (arith, amount-added [] (filter (is_under node) hs) label (each_filter (λ (h : Holding). IsBundle h.bundle) (is_under node) hs all))
+
 pub held_is_reported : HeldIsReported
 unfolding report_of
 held_is_reported rows bundles =
@@ -59,10 +64,9 @@ held_is_reported rows bundles =
   where
     by : (node : Path) (label : Text) → amount_of (node_line rows node).held label ≡ held_by rows node label
     by node label =
-        let hs : List Holding = filter (is_under node) (holdings_of rows) in
-        amount-without_zeros (added [] hs) label (in_order-added [] hs refl)
-        ∙ amount-added [] hs label (each_filter (λ h. IsBundle h.bundle) (is_under node) (holdings_of rows) bundles)
-        ∙ omega arith
+        let hs : List Holding = holdings_of rows in
+        amount-without_zeros (held_under hs node) label (in_order-added [] (filter (is_under node) hs) refl)
+        ∙ amount-held_under hs node label bundles
 
 pub count_is_reported : CountIsReported
 unfolding report_of standing_of

@@ -1,21 +1,21 @@
 -- Reported shares are in lowest terms: what they are fractions of is neither nothing nor too large.
-use Rattle.std.specs.Prelude.{ℕ, ◌*◌, ◌^◌, ◌<◌, ◌≤◌, Bool, true, false, IsTrue, List, [], ◌∷◌, length, map, fold, filter, find, sum_by, Option, Some, cond, nat_le, nat_lt}
+use Rattle.std.specs.Prelude.{ℕ, ◌*◌, ◌^◌, ◌<◌, ◌≤◌, IsTrue, List, [], ◌∷◌, length, map, fold, filter, sum_by, nat_lt}
 use Rattle.std.specs.List.{AllByRecursion, list_all}
-use Rattle.std.specs.Option.{option_map_or}
 use Rattle.std.proofs.Common.{refl, sym, ap, ◌∙◌, inl, inr, arith}
 use Rattle.std.proofs.Math.Nat.{mul-le-mul_left}
-use Rattle.std.proofs.lemmas.Bool.{cases_Bool, and_parts, leb-true, ltb-true}
+use Rattle.std.proofs.lemmas.Bool.{cases_Bool, and_parts, ltb-true}
 use Rattle.std.proofs.lemmas.List.Sums.{sum_by-cons}
 use Rattle.drf_role.specs.Text.{Text, text_below}
 use Rattle.drf_role.specs.TextLaws.{cases_same}
-use Rattle.drf_role.specs.Path.{Path, same_path}
+use Rattle.drf_role.specs.Path.{Path}
 use Rattle.drf_bundle.specs.Quantities.{plus, amount_of, is_in_order}
 use Rattle.drf_bundle.specs.QuantitiesLaws.{amount_first, amount_head, in_order-plus}
 use Rattle.drf_bundle.specs.Bundle.{quantities_of}
 use Rattle.drf_bundle.specs.declared.quantities.Entry.{Entry}
 use Rattle.drf_rows.specs.LimitNumbers.{ceilings}
 use Rattle.drf_rows.specs.Held.{cluster_total, standing_of, weight_of}
-use Rattle.drf_rows.specs.Weights.{is_weight, are_weights}
+use Rattle.drf_rows.specs.Weights.{are_weights}
+use Rattle.drf_rows.specs.WeightLaws.{weight_of-in_range}
 use Rattle.drf_rows.specs.Share.{Fraction, is_less, greater, greatest, share_of, weighted_share_of}
 use Rattle.drf_rows.specs.LowestLaws.{lowest_terms-is}
 use Rattle.drf_rows.specs.Report.{report_of, node_line, nodes_of}
@@ -25,7 +25,6 @@ use Rattle.drf_rows.specs.ListLaws.{each_made}
 use Rattle.drf_rows.specs.Laws.{TellsLowest, SharesAreLowest}
 use Rattle.drf_rows.specs.declared.limits.TheConstants.{LARGEST_AMOUNT}
 use Rattle.drf_rows.specs.declared.rows.AgentRow.{AgentRow}
-use Rattle.drf_rows.specs.declared.rows.WeightRow.{WeightRow}
 use Rattle.drf_rows.specs.declared.rows.Rows.{Rows}
 
 -- ---- the total
@@ -47,13 +46,13 @@ sum-few [] label all = omega arith
 sum-few (a ∷ agents) label all =
     omega (arith, sum_by-cons (amount_on label) a agents, all.0.small label, sum-few agents label all.1)
 
-small_total : (agents : List AgentRow) (label : Text) → AllByRecursion IsAgent agents → length agents ≤ ceilings.agents
+pub small_total : (agents : List AgentRow) (label : Text) → AllByRecursion IsAgent agents → length agents ≤ ceilings.agents
     → amount_of (cluster_total agents) label < 2 ^ 52
 small_total agents label all few =
     omega (arith, amount-cluster_total agents label all, sum-few agents label all, few)
 
 -- of entries in order each amount is that of its label
-small_entries : (es : List Entry) → IsTrue (is_in_order es) → ((label : Text) → amount_of es label < 2 ^ 52)
+pub small_entries : (es : List Entry) → IsTrue (is_in_order es) → ((label : Text) → amount_of es label < 2 ^ 52)
     → AllByRecursion (λ e. e.amount < 2 ^ 52) es
 small_entries [] ordered small = tt
 small_entries (e ∷ es) ordered small =
@@ -80,7 +79,7 @@ part_of_greater a b first second = elim (cases_Bool (is_less a b)) [
 abbrev parts_by : (Text → ℕ) → List Entry → List Fraction
 parts_by held es = map (λ e. record { part = held e.label; whole = e.amount }) (filter (λ e. nat_lt 0 e.amount) es)
 
-part_of_greatest : (held : Text → ℕ) (es : List Entry) → AllByRecursion (λ e. e.amount < 2 ^ 52) es
+pub part_of_greatest : (held : Text → ℕ) (es : List Entry) → AllByRecursion (λ e. e.amount < 2 ^ 52) es
     → IsPart (greatest (parts_by held es))
 part_of_greatest held [] small = record { some = omega arith; small = omega arith }
 part_of_greatest held (e ∷ es) small = elim (cases_Bool (nat_lt 0 e.amount)) [
@@ -90,22 +89,6 @@ part_of_greatest held (e ∷ es) small = elim (cases_Bool (nat_lt 0 e.amount)) [
       (part_of_greatest held es small.1))
   | inr none ↦ rw none (part_of_greatest held es small.1)
 ]
-
--- a node's weight is a row's or 1, and so in the range of weights
-weight-in_range : (weights : List WeightRow) (node : Path) → IsTrue (are_weights weights)
-    → (1 ≤ weight_of weights node) × (weight_of weights node ≤ 1000000)
-weight-in_range [] node all = (omega arith, omega arith)
-weight-in_range (w ∷ ws) node all =
-    let parts = and_parts (is_weight w.weight) (are_weights ws) all in
-    let range = and_parts (nat_le 1 w.weight) (nat_le w.weight 1000000) parts.0 in
-    by (weight-in_range ws node parts.1) (leb-true 1 w.weight range.0) (leb-true w.weight 1000000 range.1) (same_path w.role node)
-  where
-    by : (1 ≤ weight_of ws node) × (weight_of ws node ≤ 1000000) → 1 ≤ w.weight → w.weight ≤ 1000000
-        → (b : Bool)
-        → let row : Option WeightRow = cond b (Some w) (find (λ w. same_path w.role node) ws) in
-        (1 ≤ option_map_or (λ w. w.weight) row 1000) × (option_map_or (λ w. w.weight) row 1000 ≤ 1000000)
-    by later some most true = (some, most)
-    by later some most false = later
 
 -- ---- the lines
 
@@ -124,7 +107,7 @@ module _ (rows : Rows) (agents : AllByRecursion IsAgent rows.agents) (few : leng
       let weighted : Fraction = weighted_share_of (standing_of rows) node in
       let weight : ℕ = weight_of rows.weights node in
       let part = part_of_share node in
-      let range = weight-in_range rows.weights node weights in
+      let range = weight_of-in_range rows.weights node weights in
       let some = mul-le-mul_left share.whole range.0 in
       let most = mul-le-mul_left share.whole range.1 in
       record {

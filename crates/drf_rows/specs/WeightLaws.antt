@@ -1,13 +1,13 @@
--- What an event that sets a weight changes: the weight of its role, and no other.
-use Rattle.std.specs.Prelude.{◌≡◌, ℕ, true, false, not, List, [], ◌∷◌, map}
-use Rattle.std.proofs.Common.{refl, ap, ◌∙◌, inl, inr}
-use Rattle.std.proofs.lemmas.Bool.{cases_Bool, and_parts, and_from}
+-- What an event that sets a weight changes: the weight of its role, and no other. Weights stay in their range.
+use Rattle.std.specs.Prelude.{◌≡◌, ℕ, ◌≤◌, true, false, not, nat_le, IsTrue, List, [], ◌∷◌, map}
+use Rattle.std.proofs.Common.{refl, ap, ◌∙◌, inl, inr, arith}
+use Rattle.std.proofs.lemmas.Bool.{cases_Bool, and_parts, and_from, leb-true}
 use Rattle.drf_role.specs.Path.{Path, same_path}
 use Rattle.drf_role.specs.PathLaws.{same_path_itself, same_path-true}
 use Rattle.drf_rows.specs.Held.{weight_of}
-use Rattle.drf_rows.specs.Weights.{weights_with}
+use Rattle.drf_rows.specs.Weights.{is_weight, are_weights, weights_with}
 use Rattle.drf_rows.specs.Step.{effect}
-use Rattle.drf_rows.specs.Consistent.{are_distinct_roles}
+use Rattle.drf_rows.specs.Consistent.{are_distinct_roles, IsConsistent}
 use Rattle.drf_rows.specs.ListLaws.{none_has}
 use Rattle.drf_rows.specs.declared.event.Event.TheVariants.{SetWeight}
 use Rattle.drf_rows.specs.declared.rows.WeightRow.{WeightRow}
@@ -38,6 +38,26 @@ EachHasOneRow =
     (rows : Rows) (role : Path) (weight : ℕ)
     → are_distinct_roles (weighed_roles rows) ≡ true
     → are_distinct_roles (weighed_roles (after rows role weight)) ≡ true
+
+-- ---- the range of weights
+
+pub in_range : (n : ℕ) → IsTrue (is_weight n) → (1 ≤ n) × (n ≤ 1000000)
+in_range n is =
+    let parts = and_parts (nat_le 1 n) (nat_le n 1000000) is in
+    (leb-true 1 n parts.0, leb-true n 1000000 parts.1)
+
+-- a node's weight is a row's or 1, and so in the range of weights
+pub weight_of-in_range : (ws : List WeightRow) (node : Path) → IsTrue (are_weights ws)
+    → (1 ≤ weight_of ws node) × (weight_of ws node ≤ 1000000)
+weight_of-in_range [] node all = (omega arith, omega arith)
+weight_of-in_range (w ∷ ws) node all =
+    let parts = and_parts (is_weight w.weight) (are_weights ws) all in
+    elim (cases_Bool (same_path w.role node)) [
+      | inl here ↦ rw here (in_range w.weight parts.0)
+      | inr past ↦ rw past (weight_of-in_range ws node parts.1)
+    ]
+
+-- ---- a weight that is set
 
 abbrev role_in : WeightRow → Path
 role_in w = w.role
@@ -90,6 +110,34 @@ module _ (role : Path) (weight : ℕ) where
             (and_from (none_has same_path role_in w.role more) (are_distinct_roles (map role_in more))
             (none_has-with w.role ws past parts.0) (distinct-with ws parts.1))
       ]
+
+  -- a weight in its range joins those that are
+  are_weights-with : (ws : List WeightRow) → is_weight weight ≡ true → are_weights ws ≡ true
+      → are_weights (weights_with ws role weight) ≡ true
+  are_weights-with [] right all = and_from (is_weight weight) true right refl
+  are_weights-with (w ∷ ws) right all =
+      let parts = and_parts (is_weight w.weight) (are_weights ws) all in
+      elim (cases_Bool (same_path w.role role)) [
+        | inl here ↦ rw here (and_from (is_weight weight) (are_weights ws) right parts.1)
+        | inr past ↦
+            rw past
+            (and_from (is_weight w.weight) (are_weights (weights_with ws role weight)) parts.0 (are_weights-with ws right parts.1))
+      ]
+
+pub IsConsistent-weight_set : (rows : Rows) (role : Path) (weight : ℕ) → is_weight weight ≡ true → IsConsistent rows
+    → IsConsistent (record rows { weights = weights_with rows.weights role weight })
+IsConsistent-weight_set rows role weight right consistent = record {
+  agents = consistent.agents;
+  frameworks = consistent.frameworks;
+  holdings = consistent.holdings;
+  covered = consistent.covered;
+  tasks = consistent.tasks;
+  weights = are_weights-with role weight rows.weights right consistent.weights;
+  filters = consistent.filters;
+  early = consistent.early;
+  counted = consistent.counted;
+  numbered = consistent.numbered;
+}
 
 pub role_has_its_weight : RoleHasItsWeight
 unfolding effect

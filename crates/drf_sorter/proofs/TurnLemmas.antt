@@ -1,25 +1,23 @@
 -- The active clients of consistent rows have different paths, and so a turn serves each of them.
-use Rattle.std.specs.Prelude.{◌≡◌, ◌≤◌, Bool, true, false, not, ◌&&◌, IsTrue, List, [], ◌∷◌, ◌++◌, map, filter, flat_map, find, Option, Some, None}
+use Rattle.std.specs.Prelude.{◌≡◌, Bool, true, false, not, ◌&&◌, List, [], ◌∷◌, ◌++◌, map, filter, flat_map}
 use Rattle.std.specs.List.{AllByRecursion, IsDistinct}
 use Rattle.std.specs.List.Sorted.{IsPermutation}
-use Rattle.std.specs.Option.{option_map_or}
-use Rattle.std.proofs.Common.{refl, sym, ap, ◌∙◌, inl, inr, arith}
+use Rattle.std.proofs.Common.{refl, ap, ◌∙◌, inl, inr}
 use Rattle.std.proofs.lemmas.Bool.{cases_Bool, and_parts, not-true}
 use Rattle.std.proofs.lemmas.Map.Keys.{IsDistinct-cons}
 use Rattle.drf_role.specs.Text.{Text, same_text}
 use Rattle.drf_role.specs.Path.{Path, IsClientPath, same_path}
 use Rattle.drf_role.specs.PathLaws.{same_path-client_path}
 use Rattle.drf_rows.specs.Client.{Client, path_of}
-use Rattle.drf_rows.specs.Held.{client_of, active_clients, weight_of}
+use Rattle.drf_rows.specs.Held.{client_of, active_clients}
 use Rattle.drf_rows.specs.Cycle.{turn_order}
 use Rattle.drf_rows.specs.Consistent.{are_distinct, are_distinct_roles, IsConsistent}
 use Rattle.drf_rows.specs.ListLaws.{each_append, each_filter, each_from, each_map, none_has}
 use Rattle.drf_rows.specs.declared.rows.ClientRow.{ClientRow}
 use Rattle.drf_rows.specs.declared.rows.FrameworkRow.{FrameworkRow}
 use Rattle.drf_rows.specs.declared.rows.Rows.{Rows}
-use Rattle.drf_rows.specs.declared.rows.WeightRow.{WeightRow}
 use Rattle.drf_sorter.proofs.ServedLemmas.{each_is_served_once}
-use Rattle.drf_sorter.proofs.WeightLemmas.{are_weights, weight-found}
+use Rattle.drf_rows.specs.WeightLaws.{weight_of-in_range}
 use Rattle.drf_rows.specs.Held as rows_word
 
 -- ---- clients with different paths
@@ -132,23 +130,13 @@ all_frameworks (f ∷ fs) names roles =
 
 -- ---- the turn
 
-weight_above : (ws : List WeightRow) (node : Path) → IsTrue (are_weights ws) → 1 ≤ weight_of ws node
-weight_above ws node weights =
-    by (find (λ w. same_path w.role node) ws)
-    (λ w found. (weight-found (λ w. same_path w.role node) ws w weights (sym found)).0)
-  where
-    by : (o : Option WeightRow) → ((w : WeightRow) → o ≡ Some w → 1 ≤ w.weight)
-        → 1 ≤ option_map_or (λ w. w.weight) o 1000
-    by None first = omega arith
-    by (Some w) first = first w refl
-
-pub each_has_its_turn : (rows : Rows) → IsConsistent rows → IsTrue (are_weights rows.weights)
+pub each_has_its_turn : (rows : Rows) → IsConsistent rows
     → AllByRecursion (λ c. IsClientPath (path_of c)) (active_clients rows)
     → IsPermutation (active_clients rows) (turn_order rows)
 unfolding rows_word.standing_of
-each_has_its_turn rows consistent weights right =
+each_has_its_turn rows consistent right =
     each_is_served_once (rows_word.standing_of rows) (active_clients rows)
-    (λ node. weight_above rows.weights node weights)
+    (λ node. (weight_of-in_range rows.weights node consistent.weights).0)
     (record {
       each = right;
       distinct = distinct_paths (active_clients rows)

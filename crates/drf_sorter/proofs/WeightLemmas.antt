@@ -1,23 +1,15 @@
 -- The weights of roles: each in its range, and one put in its place.
 use Rattle.std.proofs.Common.{◌≡◌, ◌<◌, ◌≤◌, ℕ, zero, suc, Bool, false, IsTrue, List, [], ◌∷◌, ◌++◌, Some, length, get_or, set, refl, sym, ap, subst, inl, inr, arith, nat_le, nat_lt}
-use Rattle.std.specs.List.{find, list_all, list_any, position, position_or_len}
-use Rattle.std.proofs.lemmas.Bool.{true≢false, cases_Bool, and_parts, and_from, leb-true, le-leb}
+use Rattle.std.specs.List.{find, list_any, position, position_or_len}
+use Rattle.std.proofs.lemmas.Bool.{true≢false, cases_Bool, and_parts, and_from, le-leb}
 use Rattle.std.proofs.lemmas.List.Quantifiers.{position-Some}
 use Rattle.drf_role.specs.Path.{same_path}
 use Rattle.drf_rows.specs.declared.rows.WeightRow.{WeightRow}
-use Rattle.drf_rows.specs.Weights.{is_weight, weights_with}
+use Rattle.drf_rows.specs.Weights.{is_weight, are_weights, weights_with}
+use Rattle.drf_rows.specs.WeightLaws.{in_range}
 use Rattle.drf_sorter.specs.Content.{Content}
 use Rattle.drf_sorter.specs.Plain.{plain_content}
 use Rattle.drf_sorter.specs.declared.plain.PlainSorter.{PlainSorter}
-
--- each weight is in its range
-abbrev pub are_weights : List WeightRow → Bool
-are_weights ws = list_all (λ w. is_weight w.weight) ws
-
-in_range : (n : ℕ) → IsTrue (is_weight n) → (1 ≤ n) × (n ≤ 1000000)
-in_range n is =
-    let parts = and_parts (nat_le 1 n) (nat_le n 1000000) is in
-    (leb-true 1 n parts.0, leb-true n 1000000 parts.1)
 
 pub weight-found : (p : WeightRow → Bool) (ws : List WeightRow) (w : WeightRow) → IsTrue (are_weights ws)
     → Some w ≡ find p ws → (1 ≤ w.weight) × (w.weight ≤ 1000000)

@@ -1,7 +1,6 @@
 pub mod Content
 pub mod Fractions
 pub mod FractionLaws
-pub mod LowestLaws
 pub mod Share
 pub mod ShareLaws
 pub mod Keys

@@ -1,13 +1,12 @@
 -- That everybody is served: an order in which clients are tried one by one has each of them.
 use Rattle.std.specs.Prelude.{◌≤◌, List, length, map, IsTrue}
-use Rattle.std.specs.List.{AllByRecursion, IsDistinct, list_all}
+use Rattle.std.specs.List.{AllByRecursion, IsDistinct}
 use Rattle.std.specs.List.Sorted.{IsPermutation}
 use Rattle.drf_role.specs.Path.{Path, IsClientPath, same_path}
 use Rattle.drf_rows.specs.Client.{Client, path_of}
 use Rattle.drf_rows.specs.Share.{Standing, is_serving_order}
 use Rattle.drf_rows.specs.Cycle.{serving_order, turn_order}
 use Rattle.drf_rows.specs.Held.{active_clients}
-use Rattle.drf_rows.specs.Weights.{is_weight}
 use Rattle.drf_rows.specs.Consistent.{IsConsistent}
 use Rattle.drf_rows.specs.declared.rows.Rows.{Rows}
 
@@ -41,6 +40,5 @@ abbrev pub EachHasItsTurn : Type 0
 EachHasItsTurn =
     (rows : Rows)
     → IsConsistent rows
-    → IsTrue (list_all (λ w. is_weight w.weight) rows.weights)
     → AllByRecursion (λ c. IsClientPath (path_of c)) (active_clients rows)
     → IsPermutation (active_clients rows) (turn_order rows)

@@ -1,10 +1,10 @@
 //! A sorter over a list of clients.
 ghost use Rattle.std.specs.Prelude.{◌≡◌, ◌≤◌, ◌<◌, ◌+◌, [], ◌∷◌, ◌++◌, All, IfOk, IsTrue, length, map, take};
 ghost use Rattle.std.specs.Option.{option_copied};
-ghost use Rattle.std.specs.List.{IsDistinct, IsDistinct-prop, find, list_all, position};
+ghost use Rattle.std.specs.List.{IsDistinct, IsDistinct-prop, find, position};
 ghost use Rattle.drf_role.specs.Path.{same_path};
 ghost use Rattle.drf_rows.specs.Held.{weight_of};
-ghost use Rattle.drf_rows.specs.Weights.{is_weight};
+ghost use Rattle.drf_rows.specs.Weights.{are_weights};
 ghost use Rattle.drf_sorter.specs.Content.{IsSound, active_paths};
 ghost use Rattle.drf_sorter.specs.Keys.{keys_of, key_by};
 
@@ -28,7 +28,7 @@ pub struct PlainSorter {
     total: Quantities,
     weights: Vec<WeightRow>,
     ghost distinct: { IsDistinct same_path (map (λ c. c.path) clients.items) } by { IsDistinct-prop same_path (map (λ c. c.path) clients.items) },
-    ghost weighs: { IsTrue (list_all (λ w. is_weight w.weight) weights.items) },
+    ghost weighs: { IsTrue (are_weights weights.items) },
 }
 
 /// Where the client of that path is.

@@ -54,6 +54,7 @@ IsKept-clocked rows agents sum number clock accepted early kept =
       holdings = kept.consistent.holdings;
       covered = kept.consistent.covered;
       tasks = kept.consistent.tasks;
+      weights = kept.consistent.weights;
       filters = kept.consistent.filters;
       early = early;
       counted = kept.consistent.counted;

@@ -1,5 +1,5 @@
 -- The table of weights, as rows.
-use Rattle.std.specs.Prelude.{◌≡◌, ℕ, List, [], ◌∷◌, is_some}
+use Rattle.std.specs.Prelude.{◌≡◌, ℕ, List, [], ◌∷◌, is_some, true}
 use Rattle.std.specs.List.{list_any}
 use Rattle.std.specs.Map.{lookup}
 use Rattle.std.proofs.Common.{refl, ap, ◌∙◌, inl, inr}
@@ -8,7 +8,8 @@ use Rattle.indexmap.specs.IndexMap.{insert_entry}
 use Rattle.drf_role.specs.Path.{Path, same_path}
 use Rattle.drf_role.specs.PathLaws.{same_path-swap}
 use Rattle.drf_bundle.specs.declared.quantities.Entry.{Entry}
-use Rattle.drf_rows.specs.Weights.{has_weight, weights_with}
+use Rattle.drf_rows.specs.Weights.{has_weight, is_weight, weights_with}
+use Rattle.drf_rows.specs.WeightLaws.{IsConsistent-weight_set}
 use Rattle.drf_rows.specs.declared.rows.Rows.{Rows}
 use Rattle.drf_tables.specs.Inside.{weight_row, weight_rows, rows_of, rows_in, IsKept}
 use Rattle.drf_tables.specs.declared.tables.Agent.{Agent}
@@ -60,18 +61,7 @@ rows_of-weight t entries role weight inserted =
 
 -- nothing else depends on weights
 pub IsKept-weight_set : (rows : Rows) (agents : List (Text × Agent)) (sum : List Entry) (number : ℕ) (role : Path) (weight : ℕ)
-    → IsKept rows agents sum number → IsKept (weight_set rows role weight) agents sum number
-IsKept-weight_set rows agents sum number role weight kept =
+    → is_weight weight ≡ true → IsKept rows agents sum number → IsKept (weight_set rows role weight) agents sum number
+IsKept-weight_set rows agents sum number role weight right kept =
     IsKept-same rows (weight_set rows role weight) agents sum number kept
-    (record {
-      agents = kept.consistent.agents;
-      frameworks = kept.consistent.frameworks;
-      holdings = kept.consistent.holdings;
-      covered = kept.consistent.covered;
-      tasks = kept.consistent.tasks;
-      filters = kept.consistent.filters;
-      early = kept.consistent.early;
-      counted = kept.consistent.counted;
-      numbered = kept.consistent.numbered;
-    })
-    refl refl refl
+    (IsConsistent-weight_set rows role weight right kept.consistent) refl refl refl

@@ -9,7 +9,7 @@ ghost use Rattle.drf_rows.specs.Held.{clients_of, cluster_total};
 ghost use Rattle.drf_rows.specs.Cycle.{free_of};
 ghost use Rattle.drf_rows.specs.Step.{opening, live_rows};
 ghost use Rattle.drf_rows.specs.Members.{has_agent, has_framework, with_agent};
-ghost use Rattle.drf_rows.specs.Weights.{has_weight, weights_with};
+ghost use Rattle.drf_rows.specs.Weights.{has_weight, is_weight, weights_with};
 ghost use Rattle.drf_rows.specs.Consistent.{IsConsistent, are_distinct_roles};
 ghost use Rattle.drf_rows.specs.declared.limits.TheConstants.{LARGEST_AMOUNT, LATEST_MOMENT};
 ghost use Rattle.drf_rows.specs.declared.rows.AgentRow.{AgentRow};
@@ -267,7 +267,8 @@ impl Tables {
 
     /// Gives a role a weight, in thousandths. It needs no memory.
     pub fn set_weight(&mut self, role: Role, weight: u64)
-        requires { 1 ≤ self.old.weight_room }
+        requires room { 1 ≤ self.old.weight_room }
+        requires right { is_weight weight ≡ true }
         ensures { self.new.rows ≡ record self.old.rows { weights = weights_with self.old.rows.weights role weight } }
     {
         let _ = self.weights.insert(role, weight).unwrap();

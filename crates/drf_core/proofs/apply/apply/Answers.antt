@@ -1,11 +1,11 @@
-use Rattle.std.proofs.Common.{◌≡◌, None, subst, sym}
+use Rattle.std.proofs.Common.{◌≡◌, None, subst, sym, arith}
 use Rattle.std.proofs.lemmas.Result.{on_ok_weaker}
 use Rattle.drf_rows.specs.Step.{refusal_of, effect}
 use Rattle.drf_rows.specs.declared.event.Event.{Event}
 use Rattle.drf_core.specs.Kept.{StandAt}
 use Rattle.drf_core.proofs.AcceptLemmas.{can_start, effect-accept, effect-decline}
 use Rattle.drf_core.proofs.ApplyLemmas.{applied_report}
-use Rattle.drf_core.proofs.ReportNodes.{CanReport-kept}
+use Rattle.drf_core.proofs.KeptLemmas.{few_agents_kept, few_offers_kept}
 use Rattle.drf_core.proofs.Welcome.{known_framework, known_suppressed, known_reviving, welcome_accept, welcome_decline}
 use Rattle.drf_core.proofs.apply.apply.Goals as goal
 
@@ -67,8 +67,16 @@ returns-in-Decline-clause-ok g c =
     (g.S.Sorter.content c.decline.new.sorter) welcome.1 each))
     c.decline.ensures.ok
 
-pub report-requires : goal.report-requires
-report-requires g c = CanReport-kept (g.S.Sorter.content c.args.sorter.now) c.args.limits.now c.args.tables.now.rows c.requires.kept
+pub report-requires-clause-consistent : goal.report-requires-clause-consistent
+report-requires-clause-consistent g c = c.requires.kept.consistent
+
+pub report-requires-clause-few_agents : goal.report-requires-clause-few_agents
+report-requires-clause-few_agents g c =
+    few_agents_kept (g.S.Sorter.content c.args.sorter.now) c.args.limits.now c.args.tables.now.rows c.requires.kept
+
+pub report-requires-clause-few_offers : goal.report-requires-clause-few_offers
+report-requires-clause-few_offers g c =
+    omega (arith, few_offers_kept (g.S.Sorter.content c.args.sorter.now) c.args.limits.now c.args.tables.now.rows c.requires.kept)
 
 pub returns-clause-ok : goal.returns-clause-ok
 returns-clause-ok g c =

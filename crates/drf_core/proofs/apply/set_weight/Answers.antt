@@ -1,17 +1,22 @@
 use Rattle.std.proofs.Common.{◌∙◌}
 use Rattle.drf_rows.specs.Weights.{weights_with}
+use Rattle.drf_rows.specs.WeightLaws.{in_range}
 use Rattle.drf_rows.specs.declared.rows.Rows.{Rows}
 use Rattle.drf_core.proofs.Welcome.{welcome_weight}
-use Rattle.drf_core.proofs.WeightLemmas.{weight_in_range, applied_weight}
+use Rattle.drf_core.proofs.WeightLemmas.{applied_weight}
 use Rattle.drf_core.proofs.apply.set_weight.Goals as goal
 
 pub set_weight-requires-clause-weighs : goal.set_weight-requires-clause-weighs
 set_weight-requires-clause-weighs g c =
-    (weight_in_range c.args.weight (welcome_weight c.args.limits.now c.args.tables.now.rows c.args.role c.args.weight c.requires.welcome).right).0
+    (in_range c.args.weight (welcome_weight c.args.limits.now c.args.tables.now.rows c.args.role c.args.weight c.requires.welcome).right).0
 
 pub set_weight-requires-clause-light : goal.set_weight-requires-clause-light
 set_weight-requires-clause-light g c =
-    (weight_in_range c.args.weight (welcome_weight c.args.limits.now c.args.tables.now.rows c.args.role c.args.weight c.requires.welcome).right).1
+    (in_range c.args.weight (welcome_weight c.args.limits.now c.args.tables.now.rows c.args.role c.args.weight c.requires.welcome).right).1
+
+pub set_weight-requires-2-clause-right : goal.set_weight-requires-2-clause-right
+set_weight-requires-2-clause-right g c =
+    (welcome_weight c.args.limits.now c.args.tables.now.rows c.args.role c.args.weight c.requires.welcome).right
 
 pub returns-clause-ok : goal.returns-clause-ok
 returns-clause-ok g c =

@@ -2,18 +2,19 @@ use Rattle.std.proofs.Common.{◌≡◌, ◌∙◌, ap}
 use Rattle.drf_bundle.specs.Quantities.{amount_of, without_zeros}
 use Rattle.drf_rows.specs.Held.{weight_of}
 use Rattle.drf_rows.specs.Share.{lowest_terms}
+use Rattle.drf_rows.specs.WeightLaws.{weight_of-in_range}
 use Rattle.drf_sorter.specs.Fractions.{dominant_of, weigh}
 use Rattle.drf_sorter.specs.Share.{terms}
-use Rattle.drf_core.proofs.ReportLines.{lowest-share, weight_in_range}
+use Rattle.drf_core.proofs.ReportLines.{lowest-share}
 use Rattle.drf_core.proofs.report.node_line.Goals as goal
 
 pub of-weighted-requires-clause-weighs : goal.of-weighted-requires-clause-weighs
 of-weighted-requires-clause-weighs c =
-    rw c.weight_of.ensures (weight_in_range c.args.weights.now c.args.path.now c.requires.weights).0
+    rw c.weight_of.ensures (weight_of-in_range c.args.weights.now c.args.path.now c.requires.weights).0
 
 pub of-weighted-requires-clause-light : goal.of-weighted-requires-clause-light
 of-weighted-requires-clause-light c =
-    rw c.weight_of.ensures (weight_in_range c.args.weights.now c.args.path.now c.requires.weights).1
+    rw c.weight_of.ensures (weight_of-in_range c.args.weights.now c.args.path.now c.requires.weights).1
 
 pub returns : goal.returns
 returns c =

@@ -14,7 +14,7 @@ invariant_of-self c =
     let inserted : c.insert.new.self.entries ≡ insert_entry same_path t.weights.entries role c.args.weight =
     from_ok c.insert.result c.unwrap.result _ c.unwrap.ensures c.insert.ensures.entries in
     rw (rows_of-weight t c.insert.new.self.entries role c.args.weight inserted) (
-    IsKept-weight_set (rows_in t) t.agents.entries t.total t.clients role c.args.weight c.self.invariant
+    IsKept-weight_set (rows_in t) t.agents.entries t.total t.clients role c.args.weight c.requires.right c.self.invariant
     )
 
 pub returns : goal.returns

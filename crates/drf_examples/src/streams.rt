@@ -213,7 +213,8 @@ fn answers_at_once(alloc: Global, input: &[u8]) -> Result<bool> {
     Ok(!reader.into_inner().is_late)
 }
 
-fn tell(rt: &impl Print, what: &str, is_exact: bool) -> Result<()> {
+/// Tells whether something is exact.
+pub fn tell(rt: &impl Print, what: &str, is_exact: bool) -> Result<()> {
     println!(rt; "{what}: {}", if is_exact { "exact" } else { "OTHER" })?;
     Ok(())
 }

@@ -13,7 +13,7 @@ use Rattle.drf_rows.specs.Endings.{without_ended, all_on}
 use Rattle.drf_rows.specs.declared.rows.AgentRow.{AgentRow}
 use Rattle.drf_rows.specs.declared.rows.FilterRow.{FilterRow}
 use Rattle.drf_rows.specs.declared.rows.Rows.{Rows}
-use Rattle.drf_sorter.specs.Content.{Content, Ranked, with_change, without_client, has_client}
+use Rattle.drf_sorter.specs.Content.{with_change}
 use Rattle.drf_sorter.specs.Content as sorter
 use Rattle.drf_core.specs.Content.{ranked, content_of}
 use Rattle.drf_core.proofs.ContentClient.{ranked_all, ranked-changed}

@@ -215,7 +215,8 @@ fn answers_at_once(alloc: Global, input: &[u8]) -> Result<bool> {
 
 /// Tells whether something is exact.
 pub fn tell(rt: &impl Print, what: &str, is_exact: bool) -> Result<()> {
-    println!(rt; "{what}: {}", if is_exact { "exact" } else { "OTHER" })?;
+    let verdict = if is_exact { "exact" } else { "OTHER" };
+    println!(rt; "{what}: {verdict}")?;
     Ok(())
 }
 

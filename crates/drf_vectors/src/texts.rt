@@ -59,18 +59,21 @@ pub fn moved(alloc: Global, text: &str) -> Result<String> {
     show(alloc, &bundle.relabel(&role)?)
 }
 
+/// What a bundle has under a name and a role, as a bundle of its own.
+fn value_at(alloc: Global, bundle: &Bundle, label: &str, role: &str) -> Result<Bundle> {
+    let label = Label::read(alloc, label)?;
+    let role = Role::read(alloc, role)?;
+    let value = bundle.get(&label, &role).context("nothing there")?;
+    Ok(Bundle::one(alloc, &label, &role, value.copy()?)?)
+}
+
 /// What a bundle has under a name and a role, and the sums of its scalars.
 pub fn found(alloc: Global, text: &str) -> Result<String> {
     let (label, text) = halves(text, ' ')?;
     let (role, text) = halves(text, ' ')?;
-    let label = Label::read(alloc, label)?;
-    let role = Role::read(alloc, role)?;
     let bundle = read_bundle(alloc, text)?;
-    let value = bundle.get(&label, &role).context("nothing there")?;
-    let one = Bundle::one(alloc, &label, &role, value.copy()?)?;
-    let (shown, sums) = (
-        show(alloc, &one)?,
-        write_quantities(alloc, bundle.quantities())?,
-    );
-    Ok(format!(in alloc; "{shown}; sums {sums}")?)
+    let mut told = show(alloc, &value_at(alloc, &bundle, label, role)?)?;
+    told.push_str("; sums ")?;
+    told.push_str(&write_quantities(alloc, bundle.quantities())?)?;
+    Ok(told)
 }

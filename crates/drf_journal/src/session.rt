@@ -21,7 +21,7 @@ use std::marker::Model;
 /// How many bytes of a line are kept: one more than it may have, so that one that is too long is told from the longest.
 const KEPT: usize = 65_537;
 
-/// How much text may wait to be written while one more line is answered.
+/// One more line is answered only while less text than this waits to be written.
 const MOST_UNSENT: usize = 65_536;
 
 /// Takes an event, as it is seen from outside.

@@ -1,5 +1,5 @@
 #!/usr/bin/env python3
-"""Times a report of 512 frameworks with 8 clients each, while 512 offers and tasks are held: the processor seconds of the
+"""Times a report of 512 frameworks with 8 clients each, while 512 offers and tasks are held: the user seconds of the
 program with one report more.
 
     bench/report.py PROGRAM WORD..     in roles that all of them share, and in deep roles of their own"""
@@ -37,7 +37,7 @@ def held(role):
 
 
 def seconds(words, lines):
-    """The least processor seconds of some runs."""
+    """The least user seconds of some runs."""
     given, taken = "".join(f"{it}\n" for it in lines), []
     for _ in range(RUNS):
         before = os.times().children_user

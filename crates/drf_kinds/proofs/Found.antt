@@ -1,6 +1,7 @@
 -- The intervals of the numbers that are kept of two sets.
 use Rattle.std.proofs.Common.{◌≡◌, ℕ, ◌+◌, ◌-◌, ◌<◌, ◌≤◌, ◌^◌, Bool, true, false, ◌&&◌, ◌||◌, List, [], ◌∷◌, ◌++◌, nat_le, inl, inr, refl, sym, ◌∙◌, arith}
 use Rattle.std.specs.Bool.{beq}
+use Rattle.std.proofs.Math.Bool.{or_assoc, or-false}
 use Rattle.std.proofs.lemmas.Bool.{le-leb, lt-leb, cases_lt, true≢false}
 use Rattle.drf_kinds.specs.declared.interval.Interval.{Interval}
 use Rattle.drf_kinds.specs.Intervals.{AreMaximal, AreMaximalFrom, is_in, is_within}
@@ -21,17 +22,9 @@ AreMaximal-append low [] i maximal apart ordered small = (apart, ordered, small,
 AreMaximal-append low (j ∷ is) i maximal apart ordered small =
     (maximal.0, maximal.1, maximal.2, AreMaximal-append (j.last + 2) is i maximal.3 apart ordered small)
 
-or_assoc : (a b c : Bool) → (a || (b || c)) ≡ ((a || b) || c)
-or_assoc true b c = refl
-or_assoc false b c = refl
-
-or-false : (a : Bool) → (a || false) ≡ a
-or-false true = refl
-or-false false = refl
-
 pub is_in-append : (is : List Interval) (i : Interval) (n : ℕ) → is_in (is ++ i ∷ []) n ≡ (is_in is n || is_within i n)
 is_in-append [] i n = or-false (is_within i n)
-is_in-append (j ∷ is) i n = rw (is_in-append is i n) (or_assoc (is_within j n) (is_in is n) (is_within i n))
+is_in-append (j ∷ is) i n = rw (is_in-append is i n) (sym (or_assoc (is_within j n) (is_in is n) (is_within i n)))
 
 -- where the next place can be: the intervals so far end, or one has begun
 abbrev pub low_of : List Interval → ℕ → Bool → ℕ

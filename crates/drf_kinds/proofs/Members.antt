@@ -6,6 +6,7 @@ use Rattle.std.specs.List.Sorted.{IsNonDecreasingBy, IsPartitionPoint}
 use Rattle.std.specs.Ordering.{nat_cmp}
 use Rattle.std.specs.Cmp.{nat_cmp_total}
 use Rattle.std.specs.FinSet as set
+use Rattle.std.proofs.Math.Bool.{and-false}
 use Rattle.std.proofs.lemmas.Bool.{true≢false, le-leb, lt-leb, eq-eqb, ne_eqb, ltb-true, ltb-false, both_ways, cases_lt, or_from}
 use Rattle.std.proofs.lemmas.List.Folds.{list_any-append}
 use Rattle.std.proofs.lemmas.List.Sums.{sum_by-cons, sum_by_more, sum_by-take-le}
@@ -21,16 +22,12 @@ and_true_or : (x : Bool) → ((x && true) || false) ≡ x
 and_true_or true = refl
 and_true_or false = refl
 
-and_false : (x : Bool) → (x && false) ≡ false
-and_false true = refl
-and_false false = refl
-
 -- maximal intervals have numbers below 2^32
 below : (low : ℕ) (is : List Interval) (n : ℕ) → AreMaximalFrom low is → is_in is n ≡ true → n < 2 ^ 32
 below low [] n maximal e = absurd (true≢false (sym e))
 below low (i ∷ is) n maximal e =
     elim (cases_lt i.last n) [
-      | inl above ↦ below (i.last + 2) is n maximal.3 (sym (rw (lt-leb n i.last above, and_false (leb i.first n))) ∙ e)
+      | inl above ↦ below (i.last + 2) is n maximal.3 (sym (rw (lt-leb n i.last above, and-false (leb i.first n))) ∙ e)
       | inr within ↦ omega (arith, maximal.2)
     ]
 
@@ -96,7 +93,7 @@ found_at low (i ∷ is) n zero d maximal point h =
     rw (le-leb n i.last within, none_below (i.last + 2) is n maximal.3 (omega arith)) (and_true_or (leb i.first n))
 found_at low (i ∷ is) n (suc k) d maximal point h =
     let above : i.last < n = ltb-true i.last n (point.0 0 d (omega arith) (omega arith)) in
-    rw (lt-leb n i.last above, and_false (leb i.first n))
+    rw (lt-leb n i.last above, and-false (leb i.first n))
     (found_at (i.last + 2) is n k d maximal.3 ((λ j e _ below. point.0 (suc j) e (omega arith) (omega arith)), (λ j e from below. point.1 (suc j) e (omega arith) (omega arith))) (omega arith))
 
 pub not_found : (low : ℕ) (is : List Interval) (n k : ℕ) → AreMaximalFrom low is → IsPartitionPoint (λ i. ltb i.last n ≡ true) (λ i. ltb i.last n ≡ false) is k → length is ≤ k → is_in is n ≡ false
@@ -104,7 +101,7 @@ not_found low [] n k maximal point h = refl
 not_found low (i ∷ is) n zero maximal point h = absurd (omega arith)
 not_found low (i ∷ is) n (suc k) maximal point h =
     let above : i.last < n = ltb-true i.last n (point.0 0 i (omega arith) (omega arith)) in
-    rw (lt-leb n i.last above, and_false (leb i.first n))
+    rw (lt-leb n i.last above, and-false (leb i.first n))
     (not_found (i.last + 2) is n k maximal.3 ((λ j e _ below. point.0 (suc j) e (omega arith) (omega arith)), (λ j e from below. point.1 (suc j) e (omega arith) (omega arith))) (omega arith))
 
 pub ordered_at : (low : ℕ) (is : List Interval) (k : ℕ) (d : Interval) → AreMaximalFrom low is → k < length is → (get_or is k d).first ≤ (get_or is k d).last

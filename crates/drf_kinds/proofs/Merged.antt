@@ -1,8 +1,9 @@
 -- Intervals in order of their first ends, put together.
-use Rattle.std.proofs.Common.{◌≡◌, ◌≢◌, ℕ, suc, ◌+◌, ◌-◌, ◌<◌, ◌≤◌, ◌^◌, Bool, true, false, ◌&&◌, ◌||◌, List, [], ◌∷◌, ◌++◌, length, get_or, take, drop, take_all, max, leb, inl, inr, refl, sym, ap, ◌∙◌, arith}
+use Rattle.std.proofs.Common.{◌≡◌, ◌≢◌, ℕ, suc, ◌+◌, ◌-◌, ◌<◌, ◌≤◌, ◌^◌, ◌&&◌, ◌||◌, List, [], ◌∷◌, ◌++◌, length, get_or, take, drop, take_all, max, leb, inl, inr, refl, sym, ap, ◌∙◌, arith}
 use Rattle.std.specs.Prelude.{map}
 use Rattle.std.specs.List.{All}
 use Rattle.std.specs.List.Sorted.{IsNonDecreasingBy, IsPermutation}
+use Rattle.std.proofs.Math.Bool.{or_assoc, or-false}
 use Rattle.std.proofs.lemmas.Bool.{le-leb, lt-leb, cases_lt}
 use Rattle.std.proofs.lemmas.List.{get_or_default}
 use Rattle.std.proofs.lemmas.List.Elements.{All-map}
@@ -20,14 +21,6 @@ pub record Merging (first : Interval) (rest : List Interval) (i : ℕ) (merged :
   pub small : open_one.last < 2 ^ 32
   pub ahead : (k : ℕ) (d : Interval) → i ≤ k → k < length rest → open_one.first ≤ (get_or rest k d).first
   pub same : (n : ℕ) → (is_in merged n || is_within open_one n) ≡ is_in (first ∷ take i rest) n
-
-or_assoc : (a b c : Bool) → ((a || b) || c) ≡ (a || (b || c))
-or_assoc true b c = refl
-or_assoc false b c = refl
-
-or_false : (a : Bool) → (a || false) ≡ a
-or_false true = refl
-or_false false = refl
 
 -- one interval more
 pub is_in_more : (first : Interval) (rest : List Interval) (i n : ℕ) (d : Interval) → i < length rest → is_in (first ∷ take (i + 1) rest) n ≡ (is_in (first ∷ take i rest) n || is_within (get_or rest i d) n)
@@ -81,7 +74,7 @@ merging_start first rest ordered small ahead = record {
   ordered = ordered;
   small = small;
   ahead = λ k d _ within. ahead k d within;
-  same = λ n. sym (or_false (is_within first n));
+  same = λ n. sym (or-false (is_within first n));
 }
 
 -- the next interval touches the open one

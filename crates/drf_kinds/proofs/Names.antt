@@ -10,6 +10,7 @@ use Rattle.std.specs.List.Retain.{IsFiltered, DiffersFromLast}
 use Rattle.std.specs.List.Sorted.{IsStrictlySortedBy, IsNonDecreasingBy, IsSorted, IsPermutation, IsSearchInRange, IsBinarySearchResult}
 use Rattle.std.specs.Ordering.{eq_by_cmp, is_eq, is_lt, ordering_reverse, ordering_index}
 use Rattle.std.specs.FinSet as set
+use Rattle.std.proofs.Math.Bool.{or_assoc, or-false}
 use Rattle.std.proofs.lemmas.Bool.{true≢false, eqb-true, eq-eqb, cases_lt}
 use Rattle.std.proofs.lemmas.List.Filters.{dedup_is}
 use Rattle.std.proofs.lemmas.List.Folds.{list_any_at, list_any_none, Any-from_list_any}
@@ -25,17 +26,9 @@ use Rattle.drf_kinds.specs.declared.merge.Side.TheVariants.{Left, Right, Both}
 pub texts_same : set.IsAntisymmetric text_cmp
 texts_same = set.slice_cmp-IsAntisymmetric set.nat_cmp-IsAntisymmetric
 
-or_false : (a : Bool) → (a || false) ≡ a
-or_false true = refl
-or_false false = refl
-
 or_twice : (a b : Bool) → (a || b) ≡ (a || (a || b))
 or_twice true b = refl
 or_twice false b = refl
-
-or_assoc : (a b c : Bool) → ((a || b) || c) ≡ (a || (b || c))
-or_assoc true b c = refl
-or_assoc false b c = refl
 
 -- a name is before each of the names
 abbrev pub IsBefore : List ℕ → List (List ℕ) → Type 0
@@ -233,7 +226,7 @@ AreAscending-append [] x xs up before = (tt, tt)
 AreAscending-append (f ∷ fs) x xs up before = (IsBefore-append f fs x up.0 before.0.0, AreAscending-append fs x xs up.1 before.1)
 
 is_named-append : (found : List (List ℕ)) (x t : List ℕ) → is_named (found ++ x ∷ []) t ≡ (is_named found t || eq_by_cmp text_cmp t x)
-is_named-append [] x t = or_false (eq_by_cmp text_cmp t x)
+is_named-append [] x t = or-false (eq_by_cmp text_cmp t x)
 is_named-append (f ∷ fs) x t = ap (λ b. eq_by_cmp text_cmp t f || b) (is_named-append fs x t) ∙ sym (or_assoc (eq_by_cmp text_cmp t f) (is_named fs t) (eq_by_cmp text_cmp t x))
 
 kept_left : (shared f e a b : Bool) → (e ≡ true → b ≡ false) → ((f || e) || is_kept shared a b) ≡ (f || is_kept shared (e || a) b)

@@ -6,6 +6,7 @@ use Rattle.std.specs.Cmp.{IsTotalOrder, tied_itself, Equal-is}
 use Rattle.std.specs.List.{list_any}
 use Rattle.std.specs.Ordering.{eq_by_cmp, is_eq}
 use Rattle.std.specs.FinSet as set
+use Rattle.std.proofs.Math.Bool.{and_comm, or_comm, or_assoc, or-false, and-true, and-false, or-true}
 use Rattle.std.proofs.lemmas.Bool.{true≢false, eqb-true, eqb-false, eq-eqb, and_parts, and_from, or_cases}
 use Rattle.drf_amount.specs.Algebra.{AlgebraLaws, Covers, IsRest, IsRefusal}
 use Rattle.drf_amount.specs.declared.algebra.AlgebraFault.TheVariants.{Overlap}
@@ -17,38 +18,6 @@ both_imply false false f g = refl
 both_imply true false f g = sym (f refl)
 both_imply false true f g = g refl
 
-and_comm : (x y : Bool) → (x && y) ≡ (y && x)
-and_comm true true = refl
-and_comm true false = refl
-and_comm false true = refl
-and_comm false false = refl
-
-or_comm : (x y : Bool) → (x || y) ≡ (y || x)
-or_comm true true = refl
-or_comm true false = refl
-or_comm false true = refl
-or_comm false false = refl
-
-or_assoc : (x y z : Bool) → ((x || y) || z) ≡ (x || (y || z))
-or_assoc true y z = refl
-or_assoc false y z = refl
-
-or_false : (x : Bool) → (x || false) ≡ x
-or_false true = refl
-or_false false = refl
-
-and_true : (x : Bool) → (x && true) ≡ x
-and_true true = refl
-and_true false = refl
-
-and_false : (x : Bool) → (x && false) ≡ false
-and_false true = refl
-and_false false = refl
-
-or_true : (x : Bool) → (x || true) ≡ true
-or_true true = refl
-or_true false = refl
-
 not_first : (x y : Bool) → (x && y) ≡ false → y ≡ true → x ≡ false
 not_first true y e f = sym f ∙ e
 not_first false y e f = refl
@@ -59,7 +28,7 @@ still_out true y false e = refl
 still_out false y z e = refl
 
 one_more_of : (tie x y : Bool) → (tie ≡ true → y ≡ true) → (x || y) ≡ (tie || (x || (not tie && y)))
-one_more_of true x y f = ap (λ b. x || b) (f refl) ∙ or_true x
+one_more_of true x y f = ap (λ b. x || b) (f refl) ∙ or-true x
 one_more_of false x y f = refl
 
 -- what is in a union and out of a third set
@@ -128,7 +97,7 @@ module _ {K : Type 0} {R : K → K → Ordering} (o : IsTotalOrder R) (same : se
       ∙ sym (set.contains-union o a (set.union b c) k ∙ ap (λ x. has a k || x) (set.contains-union o b c k)))
 
   union-empty : (a : set.FinSet R) → set.union a set.empty ≡ a
-  union-empty a = same_set _ _ (λ k. set.contains-union o a set.empty k ∙ ap (λ x. has a k || x) (set.contains-empty R k) ∙ or_false (has a k))
+  union-empty a = same_set _ _ (λ k. set.contains-union o a set.empty k ∙ ap (λ x. has a k || x) (set.contains-empty R k) ∙ or-false (has a k))
 
   are_disjoint-comm : (a b : set.FinSet R) → are_disjoint a b ≡ are_disjoint b a
   are_disjoint-comm a b = ap (λ s. eqb (set.len s) 0) (intersection-comm a b)
@@ -165,11 +134,11 @@ module _ {K : Type 0} {R : K → K → Ordering} (o : IsTotalOrder R) (same : se
   two_joins : (a b c : set.FinSet R) (ab bc ac : Bool) → are_disjoint a b ≡ ab → are_disjoint b c ≡ bc → are_disjoint a c ≡ ac →
       option_and_then (λ x. set_join x c) (cond ab (Some (set.union a b)) None) ≡ option_and_then (set_join a) (cond bc (Some (set.union b c)) None)
   two_joins a b c true true ac ab_is bc_is ac_is =
-      let left : are_disjoint (set.union a b) c ≡ ac = are_disjoint-union a b c ∙ rw (ac_is, bc_is) (and_true ac) in
+      let left : are_disjoint (set.union a b) c ≡ ac = are_disjoint-union a b c ∙ rw (ac_is, bc_is) (and-true ac) in
       let right : are_disjoint a (set.union b c) ≡ ac = are_disjoint-comm a (set.union b c) ∙ are_disjoint-union b c a ∙ rw (are_disjoint-comm b a, are_disjoint-comm c a, ac_is, ab_is) in
       rw (left, right, union-assoc a b c)
   two_joins a b c true false ac ab_is bc_is ac_is =
-      let left : are_disjoint (set.union a b) c ≡ false = are_disjoint-union a b c ∙ rw (ac_is, bc_is) (and_false ac) in
+      let left : are_disjoint (set.union a b) c ≡ false = are_disjoint-union a b c ∙ rw (ac_is, bc_is) (and-false ac) in
       rw left
   two_joins a b c false true ac ab_is bc_is ac_is =
       let right : are_disjoint a (set.union b c) ≡ false = are_disjoint-comm a (set.union b c) ∙ are_disjoint-union b c a ∙ rw (are_disjoint-comm b a, are_disjoint-comm c a, ac_is, ab_is) in
@@ -189,7 +158,7 @@ module _ {K : Type 0} {R : K → K → Ordering} (o : IsTotalOrder R) (same : se
 
   neutral : (a : set.FinSet R) → set_join a set.empty ≡ Some a
   neutral a =
-      join_of a set.empty (disjoint_from a set.empty (λ k. ap (λ x. has a k && x) (set.contains-empty R k) ∙ and_false (has a k)))
+      join_of a set.empty (disjoint_from a set.empty (λ k. ap (λ x. has a k && x) (set.contains-empty R k) ∙ and-false (has a k)))
       ∙ ap Some (union-empty a)
 
   itself : (k : K) → eq_by_cmp R k k ≡ true
@@ -224,7 +193,7 @@ module _ {K : Type 0} {R : K → K → Ordering} (o : IsTotalOrder R) (same : se
       let rest = len-union-from n a (set.remove b k) fewer (λ q. without a b k q (out q)) in
       let new : has (set.union a (set.remove b k)) k ≡ false =
       set.contains-union o a (set.remove b k) k ∙ ap (λ x. has a k || x) (set.contains-remove o b k k ∙ ap (λ x. not x && has b k) (itself k))
-      ∙ or_false (has a k) ∙ not_first (has a k) (has b k) (out k) member.1 in
+      ∙ or-false (has a k) ∙ not_first (has a k) (has b k) (out k) member.1 in
       ap set.len (one_more a b k member.1)
       ∙ set.len-insert o (set.union a (set.remove b k)) k
       ∙ ap (λ x. cond x (set.len (set.union a (set.remove b k))) (set.len (set.union a (set.remove b k)) + 1)) new
@@ -285,7 +254,7 @@ module _ {K : Type 0} {R : K → K → Ordering} (o : IsTotalOrder R) (same : se
     subset_of_rest whole part covers =
         let is = join_some covers.rest part whole covers.is_rest.joined in
         set.contains-is_subset o part whole (λ k in_part.
-        ap (λ s. has s k) (sym is.1) ∙ set.contains-union o covers.rest part k ∙ ap (λ x. has covers.rest k || x) in_part ∙ or_true (has covers.rest k))
+        ap (λ s. has s k) (sym is.1) ∙ set.contains-union o covers.rest part k ∙ ap (λ x. has covers.rest k || x) in_part ∙ or-true (has covers.rest k))
 
     pub covers_subset : (whole part : set.FinSet R) → IsSetOf P whole → set.is_subset part whole ≡ true → Covers (IsSetOf P) set_join whole part
     covers_subset whole part given within = record { rest = set.difference whole part; is_rest = is_rest_difference whole part given within }

@@ -4,7 +4,7 @@ use Rattle.std.specs.List.{list_all}
 use Rattle.std.proofs.Common.{Ordering, Less, Equal, Greater, refl, sym, ap, ◌∙◌, subst, inl, inr, arith, get_or, append_assoc, take_all, add-one}
 use Rattle.std.proofs.lemmas.List.{append-nil}
 use Rattle.std.proofs.Math.Seq.{drop-cons}
-use Rattle.std.proofs.lemmas.Bool.{false≢true, true≢false, and_parts, and_from, cases_Bool}
+use Rattle.std.proofs.lemmas.Bool.{false≢true, true≢false, not-true, and_parts, and_from, cases_Bool}
 use Rattle.drf_role.specs.Text.{Text, same_text, text_below}
 use Rattle.drf_role.specs.TextLaws.{cases_cmp, same_from_test, same_from_cmp, below_from_cmp, above_from_cmp, below_other, above_other, below_trans, cmp_itself, test_from_same}
 use Rattle.drf_bundle.specs.Value.{clash_in}
@@ -82,6 +82,9 @@ at_end (r ∷ rs) (s ∷ ss) found whole side known = cc
 abbrev test_of : Clash → Resource → Resource → Bool
 test_of clash r s = same_text r.label s.label && clash_in clash r.value s.value
 
+below_itself : (t : Text) → text_below t t ≡ false
+below_itself t = rw (cmp_itself t) refl
+
 -- in order, no name stands before that of the first
 names_after : (r : Resource) (rs : List Resource) → IsTrue (stands_first (key_of r) rs)
     → IsTrue (none_before r.label rs)
@@ -98,18 +101,12 @@ names_after r (s ∷ ss) first =
       ])
       | inr after ↦ ap not after
     ]
-      where
-        below_itself : (t : Text) → text_below t t ≡ false
-        below_itself t = rw (cmp_itself t) refl
 
 pub none_before_first : (r s : Resource) (ss : List Resource) → IsTrue (is_in_order (s ∷ ss)) → r.label ≡ s.label
     → IsTrue (none_before r.label (s ∷ ss))
 none_before_first r s ss ordered same =
     let parts = and_parts (stands_first (key_of s) ss) (is_in_order ss) ordered in
     subst (λ (t : Text). IsTrue (none_before t (s ∷ ss))) (sym same) (and_from _ _ (ap not (below_itself s.label)) (names_after s ss parts.0))
-  where
-    below_itself : (t : Text) → text_below t t ≡ false
-    below_itself t = rw (cmp_itself t) refl
 
 -- no name after a greater one is this one
 pub none_from : (clash : Clash) (r s : Resource) (ss : List Resource) → IsTrue (is_in_order (s ∷ ss))
@@ -144,14 +141,6 @@ pub record SoFar (clash : Clash) (r : Resource) (others left : List Resource) : 
   pub in_order : IsTrue (is_in_order left)
   pub not_before : IsTrue (none_before r.label left)
 
-pub not_false : (x : Bool) → not x ≡ false → x ≡ true
-not_false true e = refl
-not_false false e = absurd (true≢false e)
-
-pub not_true : (x : Bool) → not x ≡ true → x ≡ false
-not_true false e = refl
-not_true true e = absurd (false≢true e)
-
 module _ (clash : Clash) (r : Resource) (others : List Resource) (i : ℕ) (s : Resource) (in_range : i < length others) (read : s ≡ get_or others i s)
     (same : clashes_with_some clash r (drop i others) ≡ clashes_with_some clash r others) (ordered : IsTrue (is_in_order (drop i others)))
     (not_before : IsTrue (none_before r.label (drop i others))) where
@@ -171,7 +160,7 @@ module _ (clash : Clash) (r : Resource) (others : List Resource) (i : ℕ) (s : 
       let below : IsTrue (text_below r.label s.label) = elim (cases_cmp r.label s.label) [
         | inl less ↦ below_from_cmp r.label s.label less
         | inr (inl equal) ↦ absurd (false≢true (sym other ∙ test_from_same s.label r.label (sym (same_from_cmp r.label s.label equal))))
-        | inr (inr greater) ↦ absurd (true≢false (sym (above_from_cmp r.label s.label greater) ∙ not_true (text_below s.label r.label) after.0))
+        | inr (inr greater) ↦ absurd (true≢false (sym (above_from_cmp r.label s.label greater) ∙ not-true (text_below s.label r.label) after.0))
       ] in
       sym (sym here ∙ none_from clash r s (drop (i + 1) others) order_here below)
 

@@ -1,15 +1,15 @@
 -- What a search by key finds, and what an edit at that place does.
 use Rattle.std.specs.Prelude.{◌≡◌, ℕ, ◌+◌, ◌<◌, true, false, not, List, [], ◌∷◌, length, Some, None, IsTrue}
-use Rattle.std.proofs.Common.{zero, suc, Ordering, Less, Equal, Greater, Result, Ok, Err, IfOk, IfErr, get_or, set, refl, sym, ap, ◌∙◌, subst, inl, inr, arith}
+use Rattle.std.proofs.Common.{zero, suc, Less, Equal, Greater, Result, Ok, Err, IfOk, IfErr, get_or, set, refl, sym, ap, ◌∙◌, subst, inl, inr, arith}
 use Rattle.std.specs.Cmp.{IsTotalOrder, then_flip}
 use Rattle.std.specs.Cmp.Lexicographic.{slice_cmp, nat_list_cmp_total}
 use Rattle.std.specs.Ordering.{nat_cmp, is_lt, is_ne, ordering_then, ordering_reverse, ordering_index}
 use Rattle.std.specs.List.{insert}
 use Rattle.std.specs.List.Sorted.{IsSearchInRange, IsBinarySearchResult, IsNonDecreasingBy}
-use Rattle.std.proofs.lemmas.Bool.{false≢true, and_parts, cases_lt}
+use Rattle.std.proofs.lemmas.Bool.{and_parts, cases_lt}
 use Rattle.std.proofs.lemmas.List.Recursion.{and_at}
 use Rattle.std.proofs.lemmas.List.Sorted.{searchable_from_sorted}
-use Rattle.drf_role.specs.TextLaws.{cmp_itself}
+use Rattle.drf_role.specs.TextLaws.{less_from_test, cmp_itself}
 use Rattle.drf_bundle.specs.Bundle.{Key, key_of, key_cmp, key_below, same_key, is_in_order, value_at, merged}
 use Rattle.drf_bundle.specs.KeyLaws.{cases_key, key_trans, key_less, key_greater, key_equal, same_key_itself, below_other, above_other, Has, stands_first}
 use Rattle.drf_bundle.specs.JoinLaws.{both_of, merged-empty}
@@ -17,12 +17,7 @@ use Rattle.drf_bundle.specs.Places.{IsKeyAt, IsKeyGap}
 use Rattle.drf_bundle.specs.declared.resource.Resource.{Resource}
 
 less_from_below : (k l : Key) → IsTrue (key_below k l) → key_cmp k l ≡ Less
-less_from_below k l below = of (key_cmp k l) below
-  where
-    of : (o : Ordering) → IsTrue (is_lt o) → o ≡ Less
-    of Less h = refl
-    of Equal h = absurd (false≢true h)
-    of Greater h = absurd (false≢true h)
+less_from_below k l below = less_from_test (key_cmp k l) below
 
 key_cmp_total : IsTotalOrder key_cmp
 key_cmp_total = record {

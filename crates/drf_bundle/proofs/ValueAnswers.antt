@@ -1,25 +1,15 @@
 -- Answers of the kinds of values, in the words of a value.
-use Rattle.std.specs.Prelude.{◌≡◌, ◌↔◌, ℕ, ◌+◌, ◌-◌, ◌<◌, ◌≤◌, ◌^◌, Bool, true, false, IsTrue, Some, nat_le}
-use Rattle.std.proofs.Common.{refl, sym, arith}
+use Rattle.std.specs.Prelude.{◌≡◌, ◌↔◌, ℕ, ◌+◌, ◌-◌, ◌<◌, ◌≤◌, ◌^◌, Bool, IsTrue, Some, nat_le}
+use Rattle.std.proofs.Common.{arith}
 use Rattle.std.specs.declared.cmp.Ordering.{Ordering}
-use Rattle.std.specs.Cmp.{IsTotalOrder}
+use Rattle.std.specs.Cmp.{IsTotalOrder, both_ways}
 use Rattle.std.specs.FinSet as set
 use Rattle.std.proofs.lemmas.Grind.{common_steps}
 use Rattle.std.proofs.lemmas.Bool.{leb-true, le-leb}
 use Rattle.drf_amount.specs.Algebra.{Covers}
 use Rattle.drf_amount.specs.Scalar.{IsScalar, scalar_join}
-use Rattle.drf_kinds.specs.Names.{text_cmp}
 use Rattle.drf_kinds.specs.Sets.{IsSetOf, set_join}
 use Rattle.drf_kinds.specs.SetLaws as sets
-
-pub texts_apart : set.IsAntisymmetric text_cmp
-texts_apart = set.slice_cmp-IsAntisymmetric set.nat_cmp-IsAntisymmetric
-
-pub both_imply : (x y : Bool) → (x ≡ true → y ≡ true) → (y ≡ true → x ≡ true) → x ≡ y
-both_imply true true f g = refl
-both_imply false false f g = refl
-both_imply true false f g = sym (f refl)
-both_imply false true f g = g refl
 
 sum_of_join : (a b c : ℕ) → scalar_join a b ≡ Some c → a + b ≡ c
 sum_of_join a b c joined = grind (arith, common_steps)
@@ -29,14 +19,14 @@ join_of_sum a b below small = grind (arith, common_steps)
 
 pub scalar_covers : (a b : ℕ) (t : Bool) → IsScalar a → (IsTrue t ↔ Covers IsScalar scalar_join a b) → t ≡ nat_le b a
 scalar_covers a b t given is =
-    both_imply t (nat_le b a)
+    both_ways t (nat_le b a)
     (λ yes. let some = is.0 yes in le-leb b a (omega (arith, sum_of_join some.rest b a some.is_rest.joined)))
     (λ below. is.1 (record { rest = a - b; is_rest = record { given = omega (arith, given); joined = join_of_sum a b (leb-true b a below) given } }))
 
 pub set_covers : {K : Type 0} {R : K → K → Ordering} (o : IsTotalOrder R) (same : set.IsAntisymmetric R) (P : K → Type 0) (a b : set.FinSet R) (t : Bool)
     → IsSetOf P a → (IsTrue t ↔ Covers (IsSetOf P) set_join a b) → t ≡ set.is_subset b a
 set_covers o same P a b t given is =
-    both_imply t (set.is_subset b a) (λ yes. sets.subset_of_rest o same P a b (is.0 yes)) (λ within. is.1 (sets.covers_subset o same P a b given within))
+    both_ways t (set.is_subset b a) (λ yes. sets.subset_of_rest o same P a b (is.0 yes)) (λ within. is.1 (sets.covers_subset o same P a b given within))
 
 pub empty_answer : {A B C : Type 0} → (A ↔ B) → (C ↔ B) → C ↔ A
 empty_answer amount is = (λ yes. amount.1 (is.0 yes), λ zero. is.1 (amount.0 zero))

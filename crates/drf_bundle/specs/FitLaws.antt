@@ -2,7 +2,7 @@
 use Rattle.std.specs.Prelude.{◌≡◌, ◌⊎◌, ℕ, ◌+◌, ◌^◌, ◌<◌, ◌≤◌, ◌&&◌, Bool, true, false, not, List, [], ◌∷◌, IsTrue, Option, Some, None, nat_le}
 use Rattle.std.specs.List.{list_any}
 use Rattle.std.proofs.Common.{refl, sym, ap, ◌∙◌, subst, inl, inr, cond, arith, zero, suc}
-use Rattle.std.proofs.lemmas.Bool.{false≢true, true≢false, and_parts, and_from, cases_Bool, false_from_ne_true, leb-true, or_cases}
+use Rattle.std.proofs.lemmas.Bool.{false≢true, true≢false, not-false, and_parts, and_from, cases_Bool, false_from_ne_true, leb-true, or_cases}
 use Rattle.std.proofs.lemmas.Bool.Decides.{nat_tests}
 use Rattle.drf_role.specs.Text.{Text, same_text}
 use Rattle.drf_role.specs.TextLaws.{same_itself, same_from_test, test_from_same}
@@ -13,6 +13,7 @@ use Rattle.drf_bundle.specs.ValueLaws.{amount-united, given-united, filled_point
 use Rattle.drf_bundle.specs.Bundle.{Key, key_of, same_key, units, stock, IsResource, Fits, IsBundle, merged, have_clash, is_too_large, refusal, join_or, join}
 use Rattle.drf_bundle.specs.KeyLaws.{Has, at_each, unit_of, where-cons, unit-here, unit-none}
 use Rattle.drf_bundle.specs.JoinLaws.{KeysJoin, both_of, where-merged, in_order-merged, each-merged}
+use Rattle.drf_bundle.specs.SumLaws.{of_name}
 use Rattle.drf_bundle.specs.declared.resource.Resource.{Resource}
 use Rattle.drf_bundle.specs.declared.value.Clash.{Clash}
 use Rattle.drf_bundle.specs.declared.value.Clash.TheVariants.{Kinds, Members}
@@ -21,15 +22,7 @@ pub zero_or_some : (n : ℕ) → (n ≡ 0) ⊎ (0 < n)
 zero_or_some zero = inl refl
 zero_or_some (suc n) = inr (omega arith)
 
-not_false : (x : Bool) → not x ≡ false → x ≡ true
-not_false true e = refl
-not_false false e = absurd (true≢false e)
-
 -- ---- stocks and the resources that they come from
-
--- the keys of a name
-abbrev of_name : Text → Key → Bool
-of_name name key = same_text name key.0
 
 -- what each resource with such units passes, some resource passes
 found_any : (test : Resource → Bool) (name : Text) (p : Point) (rs : List Resource) → 0 < stock rs name p
@@ -231,7 +224,7 @@ module _ (a b : List Resource) (first : IsBundle a) (second : IsBundle b) where
   keys_join : IsFree a b → KeysJoin a b
   keys_join free r s in_a in_b keys =
       let same : r.label ≡ s.label = λ i. (keys i).0 in
-      record { same_kind = not_false _ (no_clash Kinds a b r s free.kinds in_a in_b same); apart = no_clash Members a b r s free.members in_a in_b same }
+      record { same_kind = not-false _ (no_clash Kinds a b r s free.kinds in_a in_b same); apart = no_clash Members a b r s free.members in_a in_b same }
 
   -- where the stocks fit, the merged list is a bundle
   bundle-merged : KeysJoin a b → Fits (stock_of_both a b) → IsBundle (merged a b)

@@ -13,6 +13,7 @@ use Rattle.drf_bundle.specs.declared.resource.Resource.{Resource}
 use Rattle.drf_bundle.specs.declared.value.Value.{Value}
 use Rattle.drf_bundle.specs.declared.value.Value.TheVariants.{Scalar, Ranges, Items}
 
+-- the keys of a name
 abbrev pub of_name : Text → Key → Bool
 of_name name key = same_text name key.0
 

@@ -2,7 +2,7 @@
 use Rattle.std.specs.Prelude.{◌≡◌, ℕ, ◌+◌, ◌^◌, ◌<◌, ◌≤◌, ◌&&◌, ◌||◌, Bool, true, false, not, List, [], ◌∷◌, IsTrue, Option, Some, None, nat_lt}
 use Rattle.std.specs.Bool.{then_some}
 use Rattle.std.proofs.Common.{refl, sym, ap, ◌∙◌, subst, inl, inr, cond, arith}
-use Rattle.std.proofs.lemmas.Bool.{false≢true, true≢false, and_parts, and_from, cases_Bool, false_from_ne_true, ltb-true, lt-ltb}
+use Rattle.std.proofs.lemmas.Bool.{false≢true, and_parts, and_from, or_parts, cases_Bool, false_from_ne_true, ltb-true, lt-ltb}
 use Rattle.std.proofs.lemmas.Bool.Decides.{nat_tests}
 use Rattle.std.proofs.lemmas.List.Elements.{All-nil, All-cons}
 use Rattle.drf_role.specs.Text.{Text, same_text}
@@ -104,10 +104,6 @@ refusal_is bundle r large kinds members is =
     last : (b : Bool) → then_some b fault.TooLarge ≡ cond b (Some fault.TooLarge) None
     last true = refl
     last false = refl
-
-or_parts : (x y : Bool) → (x || y) ≡ false → (x ≡ false) × (y ≡ false)
-or_parts true y none = absurd (true≢false none)
-or_parts false y none = (refl, none)
 
 -- a clash of kinds with the resource alone
 kinds_same : (r : Resource) (rs : List Resource) → have_clash Kinds rs (r ∷ []) ≡ has_other_kind rs r.label r.value

@@ -5,7 +5,7 @@ use Rattle.std.specs.declared.cmp.Ordering.{Ordering}
 use Rattle.std.specs.Cmp.{IsTotalOrder, nat_cmp_total}
 use Rattle.std.specs.Cmp.Lexicographic.{nat_list_cmp_total}
 use Rattle.std.specs.FinSet as set
-use Rattle.std.proofs.lemmas.Bool.{true≢false, false≢true, leb-true, le-leb, false_from_ne_true}
+use Rattle.std.proofs.lemmas.Bool.{true≢false, false≢true, not-true, not-false, leb-true, le-leb, false_from_ne_true}
 use Rattle.drf_kinds.specs.Names.{text_cmp}
 use Rattle.drf_kinds.specs.Sets.{are_disjoint}
 use Rattle.drf_kinds.specs.SetLaws as sets
@@ -18,16 +18,8 @@ pub record AreJoinable (v w : Value) : Type 0 where
   pub same_kind : is_same_kind v w ≡ true
   pub apart : share_members v w ≡ false
 
-texts_apart : set.IsAntisymmetric text_cmp
+pub texts_apart : set.IsAntisymmetric text_cmp
 texts_apart = set.slice_cmp-IsAntisymmetric set.nat_cmp-IsAntisymmetric
-
-not_false : (x : Bool) → not x ≡ false → x ≡ true
-not_false true e = refl
-not_false false e = absurd (true≢false e)
-
-not_true : (x : Bool) → not x ≡ true → x ≡ false
-not_true false e = refl
-not_true true e = absurd (false≢true e)
 
 -- ---- units of finite sets: 1 where there is a member
 
@@ -112,11 +104,11 @@ units-united (Scalar a) (Scalar b) Thousandths is = refl
 units-united (Scalar a) (Scalar b) (Number n) is = omega arith
 units-united (Scalar a) (Scalar b) (Member m) is = omega arith
 units-united (Ranges a) (Ranges b) Thousandths is = omega arith
-units-united (Ranges a) (Ranges b) (Number n) is = set-united nat_cmp_total set.nat_cmp-IsAntisymmetric a b n (not_false _ is.apart)
+units-united (Ranges a) (Ranges b) (Number n) is = set-united nat_cmp_total set.nat_cmp-IsAntisymmetric a b n (not-false _ is.apart)
 units-united (Ranges a) (Ranges b) (Member m) is = omega arith
 units-united (Items a) (Items b) Thousandths is = omega arith
 units-united (Items a) (Items b) (Number n) is = omega arith
-units-united (Items a) (Items b) (Member m) is = set-united nat_list_cmp_total texts_apart a b m (not_false _ is.apart)
+units-united (Items a) (Items b) (Member m) is = set-united nat_list_cmp_total texts_apart a b m (not-false _ is.apart)
 units-united (Scalar a) (Ranges b) p is = absurd (false≢true is.same_kind)
 units-united (Scalar a) (Items b) p is = absurd (false≢true is.same_kind)
 units-united (Ranges a) (Scalar b) p is = absurd (false≢true is.same_kind)
@@ -126,8 +118,8 @@ units-united (Items a) (Ranges b) p is = absurd (false≢true is.same_kind)
 
 pub amount-united : (v w : Value) → AreJoinable v w → amount_in (united v w) ≡ amount_in v + amount_in w
 amount-united (Scalar a) (Scalar b) is = refl
-amount-united (Ranges a) (Ranges b) is = sets.len-union nat_cmp_total set.nat_cmp-IsAntisymmetric a b (not_false _ is.apart)
-amount-united (Items a) (Items b) is = sets.len-union nat_list_cmp_total texts_apart a b (not_false _ is.apart)
+amount-united (Ranges a) (Ranges b) is = sets.len-union nat_cmp_total set.nat_cmp-IsAntisymmetric a b (not-false _ is.apart)
+amount-united (Items a) (Items b) is = sets.len-union nat_list_cmp_total texts_apart a b (not-false _ is.apart)
 amount-united (Scalar a) (Ranges b) is = absurd (false≢true is.same_kind)
 amount-united (Scalar a) (Items b) is = absurd (false≢true is.same_kind)
 amount-united (Ranges a) (Scalar b) is = absurd (false≢true is.same_kind)
@@ -293,10 +285,10 @@ pub record IsShared (v w : Value) : Type 0 where
 
 pub shared_point : (v w : Value) → share_members v w ≡ true → IsShared v w
 shared_point (Ranges a) (Ranges b) share =
-    let in_both = sets.shared_member nat_cmp_total set.nat_cmp-IsAntisymmetric a b (not_true _ share) in
+    let in_both = sets.shared_member nat_cmp_total set.nat_cmp-IsAntisymmetric a b (not-true _ share) in
     record { point = Number in_both.0; in_first = rw in_both.1 (omega arith); in_second = rw in_both.2 (omega arith); single = refl }
 shared_point (Items a) (Items b) share =
-    let in_both = sets.shared_member nat_list_cmp_total texts_apart a b (not_true _ share) in
+    let in_both = sets.shared_member nat_list_cmp_total texts_apart a b (not-true _ share) in
     record { point = Member in_both.0; in_first = rw in_both.1 (omega arith); in_second = rw in_both.2 (omega arith); single = refl }
 shared_point (Scalar a) (Scalar b) share = absurd (false≢true share)
 shared_point (Scalar a) (Ranges b) share = absurd (false≢true share)

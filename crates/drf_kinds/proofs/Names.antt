@@ -10,7 +10,7 @@ use Rattle.std.specs.List.Retain.{IsFiltered, DiffersFromLast}
 use Rattle.std.specs.List.Sorted.{IsStrictlySortedBy, IsNonDecreasingBy, IsSorted, IsPermutation, IsSearchInRange, IsBinarySearchResult}
 use Rattle.std.specs.Ordering.{eq_by_cmp, is_eq, is_lt, ordering_reverse, ordering_index}
 use Rattle.std.specs.FinSet as set
-use Rattle.std.proofs.Math.Bool.{or_assoc, or-false}
+use Rattle.std.proofs.Math.Bool.{or_assoc, or_self, or-false}
 use Rattle.std.proofs.lemmas.Bool.{true≢false, eqb-true, eq-eqb, cases_lt}
 use Rattle.std.proofs.lemmas.List.Filters.{dedup_is}
 use Rattle.std.proofs.lemmas.List.Folds.{list_any_at, list_any_none, Any-from_list_any}
@@ -25,10 +25,6 @@ use Rattle.drf_kinds.specs.declared.merge.Side.TheVariants.{Left, Right, Both}
 
 pub texts_same : set.IsAntisymmetric text_cmp
 texts_same = set.slice_cmp-IsAntisymmetric set.nat_cmp-IsAntisymmetric
-
-or_twice : (a b : Bool) → (a || b) ≡ (a || (a || b))
-or_twice true b = refl
-or_twice false b = refl
 
 -- a name is before each of the names
 abbrev pub IsBefore : List ℕ → List (List ℕ) → Type 0
@@ -389,7 +385,8 @@ deduped k (x ∷ xs) t =
     elim (pointwise nat_eq x k) as (λ b. pointwise nat_eq x k ≡ b → is_named (cond b (dedup_from (pointwise nat_eq) k xs) (k ∷ dedup_from (pointwise nat_eq) x xs)) t ≡ (eq_by_cmp text_cmp t k || (eq_by_cmp text_cmp t x || is_named xs t))) [
       | true ↦ λ same.
           let is : x ≡ k = texts_same x k ((Equal-is (text_cmp x k)).0 (sym (texts_ties x k) ∙ same)) in
-          deduped k xs t ∙ rw is (or_twice (eq_by_cmp text_cmp t k) (is_named xs t))
+          let first = eq_by_cmp text_cmp t k in
+          deduped k xs t ∙ rw is (ap (λ b. b || is_named xs t) (sym (or_self first)) ∙ or_assoc first first (is_named xs t))
       | false ↦ λ other. ap (λ b. eq_by_cmp text_cmp t k || b) (deduped x xs t)
     ] refl
 

@@ -3,7 +3,7 @@ use Rattle.std.specs.Prelude.{◌≡◌, ℕ, ◌+◌, ◌-◌, ◌<◌, ◌≤�
 use Rattle.std.specs.List.{flat_map, range_with_len, list_any, AllByRecursion}
 use Rattle.std.specs.List.Sorted.{IsStrictlySortedBy}
 use Rattle.std.specs.declared.cmp.Ordering.{Ordering}
-use Rattle.std.specs.declared.cmp.Ordering.TheVariants.{Less, Equal, Greater}
+use Rattle.std.specs.declared.cmp.Ordering.TheVariants.{Less}
 use Rattle.std.specs.Cmp.{IsTotalOrder, tied_itself, ranked, nat_cmp_total}
 use Rattle.std.specs.Ordering.{nat_cmp, eq_by_cmp, is_lt, is_eq}
 use Rattle.std.specs.FinSet as set
@@ -12,6 +12,7 @@ use Rattle.std.specs.FinMap.{IsAntisymmetric, nat_cmp-IsAntisymmetric}
 use Rattle.std.specs.FinMap.Entries.{find, below_all, is_sorted}
 use Rattle.std.proofs.Common.{refl, sym, ap, subst, ◌∙◌, zero, suc, inl, inr, arith}
 use Rattle.std.proofs.lemmas.Bool.{or_left, or_right, and_from, and_parts, cases_eq, lt-ltb, eq-eqb, ne_eqb}
+use Rattle.drf_role.specs.TextLaws.{less_from_test}
 use Rattle.drf_kinds.specs.declared.interval.Interval.{Interval}
 use Rattle.drf_kinds.specs.Intervals.{numbers, members, IsNumberSet, AreMaximalFrom, AreMaximal}
 
@@ -35,11 +36,6 @@ unfoldable pub intervals_of : set.FinSet nat_cmp → List Interval
 intervals_of numbers = runs_of (listed numbers)
 
 -- ---- the set of an ascending list
-
-less_of : (o : Ordering) → is_lt o ≡ true → o ≡ Less
-less_of Less is = refl
-less_of Equal is = cc
-less_of Greater is = cc
 
 true_of : (b : Bool) → T b → b ≡ true
 true_of true is = refl
@@ -100,7 +96,7 @@ module _ {K : Type 0} (R : K → K → Ordering) (total : IsTotalOrder R) (same 
   above-keys x [] all = tt
   above-keys x (e ∷ es) all =
       let parts = and_parts (is_lt (R x e.0)) (below_all R x es) all in
-      (less_of (R x e.0) parts.0, above-keys x es parts.1)
+      (less_from_test (R x e.0) parts.0, above-keys x es parts.1)
 
   ascending-keys : (es : List (K × Unit {0})) → is_sorted R es ≡ true → IsStrictlySortedBy R (map (λ e. e.0) es)
   unfolding IsStrictlySortedBy

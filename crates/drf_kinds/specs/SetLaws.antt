@@ -2,7 +2,7 @@
 use Rattle.std.proofs.Common.{◌≡◌, ◌↔◌, ℕ, suc, zero, ◌+◌, ◌-◌, inl, inr, Bool, true, false, not, cond, ◌&&◌, ◌||◌, List, [], ◌∷◌, Some, None, IsSome, IfSome, eqb, refl, sym, ap, ◌∙◌, subst, arith}
 use Rattle.std.specs.Prelude.{option_and_then}
 use Rattle.std.specs.declared.cmp.Ordering.{Ordering}
-use Rattle.std.specs.Cmp.{IsTotalOrder, tied_itself, Equal-is}
+use Rattle.std.specs.Cmp.{IsTotalOrder, tied_itself, Equal-is, both_ways}
 use Rattle.std.specs.List.{list_any}
 use Rattle.std.specs.Ordering.{eq_by_cmp, is_eq}
 use Rattle.std.specs.FinSet as set
@@ -11,12 +11,6 @@ use Rattle.std.proofs.lemmas.Bool.{true≢false, eqb-true, eqb-false, eq-eqb, an
 use Rattle.drf_amount.specs.Algebra.{AlgebraLaws, Covers, IsRest, IsRefusal}
 use Rattle.drf_amount.specs.declared.algebra.AlgebraFault.TheVariants.{Overlap}
 use Rattle.drf_kinds.specs.Sets.{IsSetOf, are_disjoint, set_join, set_refusal}
-
-both_imply : (x y : Bool) → (x ≡ true → y ≡ true) → (y ≡ true → x ≡ true) → x ≡ y
-both_imply true true f g = refl
-both_imply false false f g = refl
-both_imply true false f g = sym (f refl)
-both_imply false true f g = g refl
 
 not_first : (x y : Bool) → (x && y) ≡ false → y ≡ true → x ≡ false
 not_first true y e f = sym f ∙ e
@@ -113,7 +107,7 @@ module _ {K : Type 0} {R : K → K → Ordering} (o : IsTotalOrder R) (same : se
 
   are_disjoint-union : (a b c : set.FinSet R) → are_disjoint (set.union a b) c ≡ (are_disjoint a c && are_disjoint b c)
   are_disjoint-union a b c =
-      both_imply _ (are_disjoint a c && are_disjoint b c)
+      both_ways _ (are_disjoint a c && are_disjoint b c)
       (λ disjoint. and_from (are_disjoint a c) (are_disjoint b c) (disjoint_from a c (λ k. (union_parts a b c disjoint k).0)) (disjoint_from b c (λ k. (union_parts a b c disjoint k).1)))
       (λ both. union_joined a b c (and_parts (are_disjoint a c) (are_disjoint b c) both))
 

@@ -26,7 +26,7 @@ cases_same a b = elim (cases_Bool (same_text a b)) [
   | inr other ↦ inr (other, λ e. false≢true (rw (test_from_same a b e) at (sym other)))
 ]
 
-less_from_test : (o : Ordering) → IsTrue (is_lt o) → o ≡ Less
+pub less_from_test : (o : Ordering) → IsTrue (is_lt o) → o ≡ Less
 less_from_test Less h = refl
 less_from_test Equal h = absurd (false≢true h)
 less_from_test Greater h = absurd (false≢true h)

@@ -1,12 +1,12 @@
 use Rattle.std.proofs.Common.{◌≡◌, ◌++◌, ◌↔◌, Bool, false, [], ◌∷◌, length, drop, IsTrue, inl, inr, refl, sym, ap, ◌∙◌}
 use Rattle.std.specs.Prelude.{◌||◌}
+use Rattle.std.specs.Cmp.{both_ways}
 use Rattle.std.specs.Cmp.Lexicographic.{bytes_decides}
 use Rattle.std.proofs.lemmas.List.{append-nil}
 use Rattle.std.proofs.lemmas.Slice.Eq.{starts_is}
 use Rattle.drf_role.specs.Path.{Path, begins_with}
 use Rattle.drf_role.specs.Role.{IsWithin}
 use Rattle.drf_bundle.specs.Bundle.{is_default}
-use Rattle.drf_bundle.proofs.ValueAnswers.{both_imply}
 use Rattle.drf_bundle.proofs.resource.Resource.is_for.Goals as goal
 
 -- what a role has beyond the outer one
@@ -22,7 +22,7 @@ within_from_whole role outer (p ∷ ps) whole = inr (p ∷ ps, (λ e. cc), sym w
 within_begins : (role outer : Path) (t : Bool) → (IsTrue t ↔ IsWithin role outer) → t ≡ begins_with role outer
 within_begins role outer t is =
     let begins = starts_is bytes_decides role outer (begins_with role outer) refl in
-    both_imply t (begins_with role outer) (λ yes. let rest = rest_from_within role outer (is.0 yes) in begins.1 rest.0 rest.1) (λ yes. is.1 (within_from_whole role outer (drop (length outer) role) (begins.0 yes)))
+    both_ways t (begins_with role outer) (λ yes. let rest = rest_from_within role outer (is.0 yes) in begins.1 rest.0 rest.1) (λ yes. is.1 (within_from_whole role outer (drop (length outer) role) (begins.0 yes)))
 
 pub returns-else-is_unreserved : goal.returns-else-is_unreserved
 returns-else-is_unreserved c =

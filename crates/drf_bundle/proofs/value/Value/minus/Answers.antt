@@ -4,7 +4,7 @@ use Rattle.std.specs.Cmp.Lexicographic.{nat_list_cmp_total}
 use Rattle.std.specs.FinSet as set
 use Rattle.drf_kinds.specs.SetLaws as sets
 use Rattle.drf_bundle.specs.declared.value.Value.TheVariants.{Ranges, Items}
-use Rattle.drf_bundle.proofs.ValueAnswers.{texts_apart}
+use Rattle.drf_bundle.specs.ValueLaws.{texts_apart}
 use Rattle.drf_bundle.proofs.value.Value.minus.Goals as goal
 
 pub returns-in-Ok-try_minus : goal.returns-in-Ok-try_minus

@@ -139,7 +139,7 @@ registered_once frameworks client right known =
 -- ---- an offer is counted
 
 -- names and roles stay
-name-count_offer : (client : Client) (f : FrameworkRow) → (count_offer client f).name ≡ f.name
+pub name-count_offer : (client : Client) (f : FrameworkRow) → (count_offer client f).name ≡ f.name
 name-count_offer client f =
     elim (cases_Bool (same_text f.name client.framework)) [ inl here ↦ rw here | inr other ↦ rw other ]
 

@@ -1,9 +1,9 @@
 -- Sums, counts and tests over lists of any type, and what holds of each element.
-use Rattle.std.specs.Prelude.{◌≡◌, ℕ, ◌+◌, ◌*◌, ◌≤◌, Bool, true, false, not, ◌&&◌, ◌||◌, List, [], ◌∷◌, ◌++◌, map, filter, find, flat_map, sum_by, slice_get}
+use Rattle.std.specs.Prelude.{◌≡◌, ℕ, ◌+◌, ◌*◌, ◌≤◌, Bool, true, false, not, ◌&&◌, ◌||◌, List, [], ◌∷◌, ◌++◌, length, map, filter, find, flat_map, sum_by, slice_get}
 use Rattle.std.specs.List.{list_any, list_all, count_by, AllByRecursion}
 use Rattle.std.proofs.Common.{refl, sym, ap, subst, ◌∙◌, inl, inr, cond, zero, suc, arith, Some}
 use Rattle.std.proofs.lemmas.Bool.{cases_Bool, or_left, or_right, or_cases, and_parts, not-true, false≢true}
-use Rattle.std.proofs.lemmas.List.Sums.{sum_by-cons, sum_by-append}
+use Rattle.std.proofs.lemmas.List.Sums.{sum_by-cons, sum_by-append, length-filter, count_by-le-length}
 use Rattle.std.proofs.lemmas.Map.Views.{any-filter_same}
 
 -- ---- sums
@@ -298,6 +298,17 @@ each_fails p (x ∷ xs) all =
 pub filter_each : {X : Type 0} (p : X → Bool) (xs : List X) → AllByRecursion (λ x. p x ≡ true) xs → filter p xs ≡ xs
 filter_each p [] each = refl
 filter_each {X} p (x ∷ xs) each = rw each.0 (ap (λ (ys : List X). x ∷ ys) (filter_each p xs each.1))
+
+-- no more pass a test than there are
+pub length-filter_le : {X : Type 0} (p : X → Bool) (xs : List X) → length (filter p xs) ≤ length xs
+length-filter_le p xs = omega (arith, length-filter p xs, count_by-le-length p xs)
+
+pub filter-again : {X : Type 0} (p : X → Bool) (xs : List X) → filter p (filter p xs) ≡ filter p xs
+filter-again p [] = refl
+filter-again {X} p (x ∷ xs) = elim (cases_Bool (p x)) [
+  | inl here ↦ rw (here, here) (ap (λ (ys : List X). x ∷ ys) (filter-again p xs))
+  | inr past ↦ rw past (filter-again p xs)
+]
 
 pub any_fails : {X : Type 0} (p : X → Bool) (xs : List X) → AllByRecursion (λ x. p x ≡ false) xs → list_any p xs ≡ false
 any_fails p [] each = refl

@@ -16,7 +16,7 @@ use Rattle.drf_rows.specs.EndingLaws.{filter-out}
 use Rattle.drf_rows.specs.Offers.{Start, offer_at, offer_accepted, offer_declined}
 use Rattle.drf_rows.specs.OfferedLaws.{offers_stand}
 use Rattle.drf_rows.specs.Members.{distinct, new_client, active_at, suppressed_at, suppressed_in}
-use Rattle.drf_rows.specs.ListLaws.{filter_each, each_true, none_left}
+use Rattle.drf_rows.specs.ListLaws.{filter_each, filter-again, each_true, none_left}
 use Rattle.drf_rows.specs.Step.{refusal_of, effect, rows_after}
 use Rattle.drf_rows.specs.LifeLaws.{is_cycle, other_agents, other_frameworks, OtherAgentsStay, OtherFrameworksStay, RemovedIsGone, active_row, ActivityIsItsAgents, uncounted_row, uncounted_framework, uncounted, CycleOnlyOffers}
 use Rattle.drf_rows.specs.declared.event.Event.{Event}
@@ -33,13 +33,6 @@ use Rattle.drf_rows.specs.declared.rows.Rows.{Rows}
 -- a row that does not pass the test comes last
 filter-last : {X : Type 0} (p : X → Bool) (xs : List X) (x : X) → p x ≡ false → filter p (xs ++ x ∷ []) ≡ filter p xs
 filter-last p xs x past = filter-out p xs [] x past ∙ ap (filter p) (append-nil xs)
-
-filter-again : {X : Type 0} (p : X → Bool) (xs : List X) → filter p (filter p xs) ≡ filter p xs
-filter-again p [] = refl
-filter-again {X} p (x ∷ xs) = elim (cases_Bool (p x)) [
-  | inl here ↦ rw (here, here) (ap (λ (ys : List X). x ∷ ys) (filter-again p xs))
-  | inr past ↦ rw past (filter-again p xs)
-]
 
 -- only rows that do not pass the test are changed, and those pass it no more than before
 filter-changed : {X : Type 0} (p : X → Bool) (f : X → X) (xs : List X)

@@ -8,13 +8,14 @@ use Rattle.std.specs.declared.cmp.Ordering.{Ordering}
 use Rattle.std.specs.declared.cmp.Ordering.TheVariants.{Less, Equal, Greater}
 use Rattle.std.proofs.Common.{refl, sym, ap, ◌∙◌, inl, inr, ⊎_elim, arith, length-append}
 use Rattle.std.proofs.Math.Seq.{take-append_seam}
-use Rattle.std.proofs.Math.Bool.{or-false}
+use Rattle.std.proofs.Math.Bool.{or-false, or_assoc, or_self}
 use Rattle.std.proofs.lemmas.Bool.{cases_Bool, cases_eq, and_from, and_parts, or_left, or_right, false_from_ne_true, false≢true}
 use Rattle.std.proofs.lemmas.List.{take-append-drop}
 use Rattle.std.proofs.lemmas.List.Folds.{list_any-append}
 use Rattle.std.proofs.lemmas.List.Sums.{sum_by-cons}
 use Rattle.std.proofs.lemmas.Slice.Eq.{starts_is}
 use Rattle.drf_role.specs.Text.{Text}
+use Rattle.drf_role.specs.TextLaws.{less_from_test}
 use Rattle.drf_role.specs.Path.{Path, same_path, begins_with}
 use Rattle.drf_role.specs.PathLaws.{same_path-true, same_path_itself}
 use Rattle.drf_bundle.specs.Quantities.{plus, amount_of, is_in_order, HasNoZeros}
@@ -94,14 +95,9 @@ amounts_are_above_zero rows = (
 abbrev is_below : Path → Path → Bool
 is_below a b = is_lt (path_cmp a b)
 
-by_test : (o : Ordering) → is_lt o ≡ true → o ≡ Less
-by_test Less less = refl
-by_test Equal less = cc
-by_test Greater less = cc
-
 below_through : (a b c : Path) → is_below a b ≡ true → is_below b c ≡ true → is_below a c ≡ true
 below_through a b c first second =
-    ap is_lt ((lists_total nat_list_cmp_total).trans a b c (by_test (path_cmp a b) first) (by_test (path_cmp b c) second))
+    ap is_lt ((lists_total nat_list_cmp_total).trans a b c (less_from_test (path_cmp a b) first) (less_from_test (path_cmp b c) second))
 
 below_all : (a b : Path) (ns : List Path) → is_below a b ≡ true → list_all (is_below b) ns ≡ true → list_all (is_below a) ns ≡ true
 below_all a b [] first all = refl
@@ -156,10 +152,6 @@ nodes_rise rows =
 
 -- ---- which nodes there are
 
-or_twice : (a b : Bool) → (a || b) ≡ (a || (a || b))
-or_twice true b = refl
-or_twice false b = refl
-
 or_moved : (a b d : Bool) → (a || (b || d)) ≡ ((b || a) || d)
 or_moved true true d = refl
 or_moved true false d = refl
@@ -185,7 +177,8 @@ any-with x (m ∷ ms) n = by (any-with x ms n) (path_cmp n m) refl
         ≡ (same_path x n || (same_path x m || list_any (same_path x) ms))
     by later Less is = refl
     by later Equal is =
-        or_twice (same_path x m) (list_any (same_path x) ms)
+        ap (λ (b : Bool). b || list_any (same_path x) ms) (sym (or_self (same_path x m)))
+        ∙ or_assoc (same_path x m) (same_path x m) (list_any (same_path x) ms)
         ∙ ap (λ (p : Path). same_path x p || (same_path x m || list_any (same_path x) ms)) (sym (tied n m is))
     by later Greater is =
         ap (λ (b : Bool). same_path x m || b) later ∙ or_swapped (same_path x m) (same_path x n) (list_any (same_path x) ms)
@@ -198,7 +191,7 @@ any-put x ns (m ∷ ms) =
     ∙ ap (λ (b : Bool). list_any (same_path x) ms || b) (any-with x ns m)
     ∙ or_moved (list_any (same_path x) ms) (same_path x m) (list_any (same_path x) ns)
 
-begins_take : (path : Path) (n : ℕ) → begins_with path (take n path) ≡ true
+pub begins_take : (path : Path) (n : ℕ) → begins_with path (take n path) ≡ true
 begins_take path n =
     (starts_is bytes_decides path (take n path) (begins_with path (take n path)) refl).1 (drop n path) (sym (take-append-drop n path))
 

@@ -1,6 +1,6 @@
 -- What is written of a bundle means that bundle.
 use Rattle.std.proofs.Common.{map, ◌≡◌, ◌+◌, ◌^◌, ◌≤◌, Bool, true, false, cond, List, [], ◌∷◌, ◌++◌, ◌&&◌, All, Ok, Some, None, inl, inr, refl, sym, ap, subst, ◌∙◌, append_assoc, append-nil, arith}
-use Rattle.std.proofs.lemmas.Bool.{true≢false, and_parts, lt-ltb, lt-leb}
+use Rattle.std.proofs.lemmas.Bool.{true≢false, and_parts, or_parts, lt-ltb, lt-leb}
 use Rattle.std.proofs.lemmas.List.Elements.{All-head, All-tail, All-nil, All-cons}
 use Rattle.std.proofs.lemmas.List.Folds.{list_all-append}
 use Rattle.std.proofs.lemmas.List.Sums.{sum_by-append}
@@ -22,7 +22,7 @@ use Rattle.drf_text.specs.Meaning.{after, text_fault_of, put_or, put, meaning_fr
 use Rattle.drf_text.specs.Pieces.{resource_of}
 use Rattle.drf_text.specs.RoundTrip.{BundleIsRead}
 use Rattle.drf_text.specs.Written.{resource_text, bundle_text}
-use Rattle.drf_text.proofs.CutLemmas.{neither, IsPart, pieces_found}
+use Rattle.drf_text.proofs.CutLemmas.{IsPart, pieces_found}
 use Rattle.drf_text.proofs.ResourceText.{resource_found}
 
 -- ---- a resource that stands behind all others
@@ -46,7 +46,7 @@ none_weaker f g [] weaker none = refl
 none_weaker f g (r ∷ rs) weaker none = rw (weaker r (parts none).0, none_weaker f g rs weaker (parts none).1) refl
   where
     parts : (f r || list_any f rs) ≡ false → (f r ≡ false) × (list_any f rs ≡ false)
-    parts none = neither (f r) (list_any f rs) none
+    parts none = or_parts (f r) (list_any f rs) none
 
 module _ (earlier : List Resource) (r : Resource) (bundle : IsBundle earlier) (one : IsBundle (r ∷ [])) (fits : Fits (stock_of_both earlier (r ∷ []))) where
   none_refused : refusal earlier (r ∷ []) ≡ None
@@ -62,13 +62,13 @@ module _ (earlier : List Resource) (r : Resource) (bundle : IsBundle earlier) (o
   one_kind : has_other_kind earlier r.label r.value ≡ false
   one_kind =
       none_weaker (λ s. (same_text s.label r.label && not (is_same_kind s.value r.value)) || false) (λ s. same_text s.label r.label && not (is_same_kind s.value r.value)) earlier
-      (λ s none. (neither _ false none).0) free.kinds
+      (λ s none. (or_parts _ false none).0) free.kinds
 
   no_member_twice : is_reserved_elsewhere earlier r ≡ false
   no_member_twice =
       none_weaker (λ s. (same_text s.label r.label && share_members s.value r.value) || false)
       (λ s. same_text s.label r.label && (not (same_key (key_of s) (key_of r)) && share_members s.value r.value)) earlier
-      (λ s none. still_none (same_text s.label r.label) (not (same_key (key_of s) (key_of r))) (share_members s.value r.value) (neither _ false none).0) free.members
+      (λ s none. still_none (same_text s.label r.label) (not (same_key (key_of s) (key_of r))) (share_members s.value r.value) (or_parts _ false none).0) free.members
     where
       still_none : (x y z : Bool) → (x && z) ≡ false → (x && (y && z)) ≡ false
       still_none true true z none = none

@@ -1,7 +1,7 @@
 -- Texts of bytes of one class, and texts cut where they were joined.
 use Rattle.std.proofs.Common.{◌≡◌, ℕ, ◌+◌, ◌-◌, ◌<◌, Bool, true, false, cond, eqb, List, [], ◌∷◌, ◌++◌, length, map, take, drop, All, refl, sym, ap, ◌∙◌, arith, length-append}
 use Rattle.std.proofs.Math.Seq.{take-append_seam, drop-append-add}
-use Rattle.std.proofs.lemmas.Bool.{true≢false, and_from, eq-eqb, ne_eqb, lt-ltb}
+use Rattle.std.proofs.lemmas.Bool.{true≢false, and_from, or_parts, eq-eqb, ne_eqb, lt-ltb}
 use Rattle.std.proofs.lemmas.List.{get_or_push}
 use Rattle.std.proofs.lemmas.List.Elements.{All-head, All-tail, All-weaker, All-nil, All-cons, All-append}
 use Rattle.std.proofs.lemmas.List.Folds.{list_any_none, list_any-append}
@@ -90,15 +90,11 @@ pub record IsPart (mark : ℕ) (text : Text) : Type 0 where
   pub some : 0 < length text
   pub whole : HasNone (is_between mark) text
 
-pub neither : (x y : Bool) → (x || y) ≡ false → (x ≡ false) × (y ≡ false)
-neither true y none = absurd (true≢false none)
-neither false y none = (refl, none)
-
 pub no_blanks : (mark : ℕ) (text : Text) → HasNone (is_between mark) text → HasNone is_blank text
-no_blanks mark text none = All-weaker (λ b. is_between mark b ≡ false) (λ b. is_blank b ≡ false) (λ b out. (neither (is_blank b) (eqb b mark) out).0) text none
+no_blanks mark text none = All-weaker (λ b. is_between mark b ≡ false) (λ b. is_blank b ≡ false) (λ b out. (or_parts (is_blank b) (eqb b mark) out).0) text none
 
 no_marks : (mark : ℕ) (text : Text) → HasNone (is_between mark) text → HasNone (λ b. eqb b mark) text
-no_marks mark text none = All-weaker (λ b. is_between mark b ≡ false) (λ b. eqb b mark ≡ false) (λ b out. (neither (is_blank b) (eqb b mark) out).1) text none
+no_marks mark text none = All-weaker (λ b. is_between mark b ≡ false) (λ b. eqb b mark ≡ false) (λ b out. (or_parts (is_blank b) (eqb b mark) out).1) text none
 
 parts_stay : (mark : ℕ) (x : Text) (xs : List Text) → All (IsPart mark) (x ∷ xs)
     → map trimmed (slice_split (λ b. eqb b mark) (join_with_byte mark (x ∷ xs))) ≡ x ∷ xs

@@ -1,5 +1,5 @@
 -- Candidates that are sorted by their keys stand in the order in which their clients are served.
-use Rattle.std.proofs.Common.{◌≡◌, ◌≢◌, ◌<◌, ℕ, suc, Bool, true, false, not, IsTrue, List, [], ◌∷◌, All, map, length, get_or, refl, sym, ap, ◌∙◌, inl, inr, arith}
+use Rattle.std.proofs.Common.{◌≡◌, ◌≢◌, ◌<◌, ℕ, suc, Bool, true, false, IsTrue, List, [], ◌∷◌, All, map, length, get_or, refl, sym, ap, ◌∙◌, inl, inr, arith}
 use Rattle.std.specs.declared.cmp.Ordering.{Ordering}
 use Rattle.std.specs.Cmp.{IsTotalOrder, nat_cmp_total}
 use Rattle.std.specs.Cmp.Lexicographic.{slice_cmp, nat_list_cmp_total, lists_equiv, nat_list_eq_equiv, pointwise_decides, bytes_decides}
@@ -7,7 +7,7 @@ use Rattle.std.specs.List.{AllByRecursion, IsDistinct, filter, list_all}
 use Rattle.std.specs.List.Sorted.{IsPermutation, IsSortedBy}
 use Rattle.std.specs.Ordering.{is_lt, ordering_then}
 use Rattle.std.specs.String.{string_bytes}
-use Rattle.std.proofs.lemmas.Bool.{false≢true, cases_Bool, and_from}
+use Rattle.std.proofs.lemmas.Bool.{false≢true, not-false, cases_Bool, and_from}
 use Rattle.std.proofs.lemmas.Cmp.{then_total, on_total, lists_total}
 use Rattle.std.proofs.lemmas.List.{get_or-map, length-map}
 use Rattle.std.proofs.lemmas.List.Elements.{All-get_or}
@@ -43,10 +43,6 @@ slice_cmp-map [] (y ∷ ys) = refl
 slice_cmp-map (x ∷ xs) [] = refl
 slice_cmp-map (x ∷ xs) (y ∷ ys) = ap (λ o. ordering_then (made_cmp x y) o) (slice_cmp-map xs ys)
 
-not_false : (b : Bool) → not b ≡ false → b ≡ true
-not_false true h = refl
-not_false false h = absurd (false≢true (sym h))
-
 module _ (s : Standing) where
   -- the ranks of two clients decide as their paths do
   candidate_lt-is : (a b : Candidate) → HasKeys s a → HasKeys s b → a.path ≢ b.path
@@ -63,7 +59,7 @@ module _ (s : Standing) where
   sorted_before a b p q other sorted =
       let apart = client_paths-apart a.path b.path p.right q.right other in
       let apart_back = client_paths-apart b.path a.path q.right p.right (λ e. other (sym e)) in
-      not_false (stands_before s a.path b.path)
+      not-false (stands_before s a.path b.path)
       (sym (stands_before-total s a.path b.path apart apart_back) ∙ sym (candidate_lt-is b a q p (λ e. other (sym e)))
       ∙ sorted)
 

@@ -8,7 +8,7 @@ use Rattle.std.specs.Cmp.Lexicographic.{slice_cmp, nat_list_cmp_total, nat_list_
 use Rattle.std.proofs.lemmas.Bool.{false≢true, cases_Bool, ltb-true}
 use Rattle.std.proofs.lemmas.Cmp.{then_total, on_total, tied_itself}
 use Rattle.drf_role.specs.Text.{Text, same_text}
-use Rattle.drf_role.specs.TextLaws.{cases_same, same_from_cmp, same_itself}
+use Rattle.drf_role.specs.TextLaws.{less_from_test, cases_same, same_from_cmp, same_itself}
 use Rattle.drf_bundle.specs.declared.quantities.Entry.{Entry}
 use Rattle.drf_role.specs.Path.{Path, begins_with}
 use Rattle.drf_rows.specs.Share.{Fraction, is_less, greatest, Standing, share_of, weighted_share_of, is_ahead, stands_before_below, stands_before}
@@ -56,11 +56,6 @@ one_of_both : (o : Ordering) → o ≢ Equal → is_lt (ordering_reverse o) ≡ 
 one_of_both Less h = refl
 one_of_both Equal h = absurd (h refl)
 one_of_both Greater h = refl
-
-less_from_test : (o : Ordering) → is_lt o ≡ true → o ≡ Less
-less_from_test Less h = refl
-less_from_test Equal h = absurd (false≢true h)
-less_from_test Greater h = absurd (false≢true h)
 
 both_tied : (o p : Ordering) → ordering_then o p ≡ Equal → (o ≡ Equal) × (p ≡ Equal)
 both_tied Less p h = absurd (false≢true (ap is_eq h))

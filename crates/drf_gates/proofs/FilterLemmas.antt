@@ -13,6 +13,7 @@ use Rattle.drf_role.specs.Text.{Text, same_text}
 use Rattle.drf_role.specs.Path.{same_path}
 use Rattle.drf_rows.specs.Client.{Client}
 use Rattle.drf_rows.specs.Filters.{is_in_force, in_force, is_of_client, is_on_agent, holds_back, is_held_back}
+use Rattle.drf_rows.specs.ListLaws.{length-filter_le}
 use Rattle.drf_rows.specs.declared.rows.FilterRow.{FilterRow}
 use Rattle.drf_gates.specs.Laws.{LessIsHeldBack, HeldBackIsRefused}
 use Rattle.drf_gates.specs.Chains.{IsLast, IsChained}
@@ -76,13 +77,6 @@ chained-push rows row heads links more bucket head next is is_bucket below is_ne
     (chained-more (buckets_of (length heads) rows) heads links bucket next below (is_next ∙ ap (λ (n : ℕ). n + 1) is.number) is)
 
 -- ---- what is left
-
-length-filter_le : {X : Type 0} (p : X → Bool) (xs : List X) → length (filter p xs) ≤ length xs
-length-filter_le p [] = omega arith
-length-filter_le p (x ∷ xs) = elim (cases_Bool (p x)) [
-  | inl kept ↦ rw kept (omega (arith, length-filter_le p xs))
-  | inr gone ↦ rw gone (omega (arith, length-filter_le p xs))
-]
 
 -- a filter that leaves as many leaves all
 filter_as_many : {X : Type 0} (p : X → Bool) (xs : List X) → length (filter p xs) ≡ length xs → filter p xs ≡ xs

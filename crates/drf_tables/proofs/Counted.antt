@@ -17,7 +17,7 @@ use Rattle.drf_rows.specs.declared.rows.ClientRow.{ClientRow}
 use Rattle.drf_rows.specs.declared.rows.FrameworkRow.{FrameworkRow}
 use Rattle.drf_rows.specs.declared.rows.OfferRow.{OfferRow}
 use Rattle.drf_tables.specs.Counting.{counting, counting_all, count_clients, CanCount, CanCountAll}
-use Rattle.drf_rows.specs.ConsistentLaws.{same_text-swap}
+use Rattle.drf_rows.specs.ConsistentLaws.{same_text-swap, name-count_offer}
 
 -- ---- one client after another
 
@@ -96,12 +96,6 @@ CanCountAll-from n (f ∷ fs) few =
     (CanCount-from n f.clients (omega (arith, first, few)), CanCountAll-from n fs (omega (arith, first, few)))
 
 -- ---- what counting leaves
-
-name-count_offer : (client : Client) (f : FrameworkRow) → (count_offer client f).name ≡ f.name
-name-count_offer client f = elim (cases_Bool (same_text f.name client.framework)) [
-  | inl same ↦ rw same refl
-  | inr other ↦ rw other refl
-]
 
 pub names-counting : (fs : List FrameworkRow) (offer : OfferRow)
     → map (λ f. f.name) (counting fs offer) ≡ map (λ f. f.name) fs

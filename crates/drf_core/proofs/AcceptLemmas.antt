@@ -1,8 +1,8 @@
 -- What the tables and the sorter stand at once an offer is accepted or declined.
-use Rattle.std.proofs.Common.{◌≡◌, ℕ, ◌≤◌, Bool, true, false, List, [], ◌∷◌, ◌++◌, Option, Some, None, map, refl, sym, ap, subst, ◌∙◌, arith, nat_lt}
-use Rattle.std.specs.Prelude.{◌&&◌, ◌==◌, is_some, max, not, if◌then◌else◌}
-use Rattle.std.specs.List.{AllByRecursion}
+use Rattle.std.proofs.Common.{◌≡◌, ℕ, ◌≤◌, Bool, true, false, List, [], ◌∷◌, ◌++◌, Option, Some, None, refl, sym, ap, subst, ◌∙◌, arith, nat_lt}
+use Rattle.std.specs.Prelude.{◌&&◌, is_some, max, not, if◌then◌else◌}
 use Rattle.std.specs.Option.{option_map_or}
+use Rattle.std.proofs.lemmas.Bool.{not-false}
 use Rattle.std.proofs.lemmas.List.{append-nil}
 use Rattle.drf_role.specs.Text.{Text, same_text}
 use Rattle.drf_role.specs.TextLaws.{same_from_test}
@@ -11,12 +11,11 @@ use Rattle.drf_bundle.specs.Bundle.{IsBundle, covers, rest, quantities_of}
 use Rattle.drf_bundle.specs.RestLaws.{bundle-rest}
 use Rattle.drf_bundle.specs.declared.quantities.Entry.{Entry}
 use Rattle.drf_bundle.specs.declared.resource.Resource.{Resource}
-use Rattle.drf_rows.specs.Consistent.{IsHeld, IsFilter, IsConsistent}
+use Rattle.drf_rows.specs.Consistent.{IsFilter, IsConsistent}
 use Rattle.drf_rows.specs.Cycle.{at_moment}
-use Rattle.drf_rows.specs.EndingLaws.{offer_at-place, held_where-accepted}
+use Rattle.drf_rows.specs.EndingLaws.{offer_at-place, held-offer_at, held_where-accepted}
 use Rattle.drf_rows.specs.Endings.{without_ended, one_offer}
-use Rattle.drf_rows.specs.Holdings.{Holding, of_offer, of_task, is_of}
-use Rattle.drf_rows.specs.ListLaws.{each_find}
+use Rattle.drf_rows.specs.Holdings.{is_of}
 use Rattle.drf_rows.specs.Offers.{Start, offer_accepted, offer_declined, filter_of, filters_with, has_offer, has_task, is_empty, offer_at, refused_until, refuses_all, task_of}
 use Rattle.drf_rows.specs.Step.{effect}
 use Rattle.drf_rows.specs.declared.event.Event.TheVariants.{Accept, Decline}
@@ -31,29 +30,16 @@ use Rattle.drf_core.specs.Content.{content_of}
 use Rattle.drf_core.specs.Kept.{StandAt}
 use Rattle.drf_core.proofs.ContentEnded.{GaveBack, content_of-gave_back, HoldsAt-gave_back}
 use Rattle.drf_core.proofs.EndedLemmas.{known-client}
-use Rattle.drf_core.proofs.Welcome.{not_not, IsWelcomeAccept}
+use Rattle.drf_core.proofs.Welcome.{IsWelcomeAccept}
 
 -- ---- an offer that stands
 
-each_offer : (P : Holding → Type 0) (os : List OfferRow) (hs : List Holding)
-    → AllByRecursion P (map of_offer os ++ hs) → AllByRecursion (λ o. P (of_offer o)) os
-each_offer P [] hs all = tt
-each_offer P (o ∷ os) hs all = (all.0, each_offer P os hs all.1)
-
--- is held by a registered client
-pub offer_held : (rows : Rows) (number : ℕ) (o : OfferRow) → IsConsistent rows → offer_at rows number ≡ Some o
-    → IsHeld rows.agents rows.frameworks (of_offer o)
-offer_held rows number o right found =
-    let Held : Holding → Type 0 = IsHeld rows.agents rows.frameworks in
-    each_find (λ o. Held (of_offer o)) (λ o. o.number == number) rows.offers o
-    (each_offer Held rows.offers (map of_task rows.tasks) right.holdings) found
-
--- and may have a filter
+-- it may have a filter
 pub offer_filter : (rows : Rows) (number : ℕ) (o : OfferRow) (bundle : List Resource) (moment refuse_ms : ℕ)
     → IsConsistent rows → offer_at rows number ≡ Some o → IsBundle bundle → moment ≤ LATEST_MOMENT
     → IsFilter rows.agents rows.frameworks (filter_of o bundle (refused_until moment refuse_ms))
 offer_filter rows number o bundle moment refuse_ms right found is early =
-    let held = offer_held rows number o right found in
+    let held = held-offer_at rows number o right found in
     record { agent = held.agent; client = held.client; bundle = is; until = omega (arith, early) }
 
 -- some offer stands
@@ -89,11 +75,11 @@ can_start rows framework number task used at welcome =
     let one = some_offer rows number welcome.stands in
     let its_own : not (same_text one.offer.framework framework) ≡ false
     = sym (ap (λ (o : Option OfferRow). option_map_or (λ o. not (same_text o.framework framework)) o false) one.at) ∙ welcome.its_own in
-    let framework_is = same_from_test one.offer.framework framework (not_not (same_text one.offer.framework framework) its_own) in
+    let framework_is = same_from_test one.offer.framework framework (not-false (same_text one.offer.framework framework) its_own) in
     record {
       offer = one.offer;
       at = one.at;
-      covered = not_not (covers one.offer.bundle used)
+      covered = not-false (covers one.offer.bundle used)
           (sym (ap (λ (o : Option OfferRow). option_map_or (λ o. not (covers o.bundle used)) o false) one.at) ∙ welcome.covered);
       new = ap (λ (f : Text). has_task rows f task) framework_is ∙ welcome.new;
     }
@@ -121,7 +107,7 @@ can_accept rows number start o filter b moment refuse_ms right can found early t
       subst (IsFilter rows.agents rows.frameworks)
       (the_filter b (filter_of o (rest o.bundle start.1) (refused_until moment refuse_ms)) f (sym told ∙ some))
       (offer_filter rows number o (rest o.bundle start.1) moment refuse_ms right found
-      (bundle-rest o.bundle start.1 (offer_held rows number o right found).bundle) early);
+      (bundle-rest o.bundle start.1 (held-offer_at rows number o right found).bundle) early);
 }
 
 push_if : (b : Bool) (filters : List FilterRow) (f : FilterRow)
@@ -165,7 +151,7 @@ module _ (rows : Rows) (number : ℕ) (o : OfferRow) (task : Text) (used : List 
   })
 
   pub known-accepted : has_client content path ≡ true
-  known-accepted = known-client rows o.role o.framework content path sorted joined (offer_held rows number o right found).client
+  known-accepted = known-client rows o.role o.framework content path sorted joined (held-offer_at rows number o right found).client
 
   pub held-accepted : HoldsAt content path quantities
   held-accepted = subst (λ (k : Content). HoldsAt k path quantities) (sym sorted) (HoldsAt-gave_back rows new path quantities gave)

@@ -1,6 +1,6 @@
 -- What the tables and the sorter stand at after an event that is not refused.
 use Rattle.std.proofs.Common.{◌≡◌, ◌<◌, ◌≤◌, ◌^◌, true, false, List, [], ◌∷◌, ◌++◌, None, length, map, refl, sym, ap, ◌∙◌, arith, nat_lt}
-use Rattle.std.proofs.lemmas.Bool.{ltb-false}
+use Rattle.std.proofs.lemmas.Bool.{or_parts, ltb-false}
 use Rattle.std.proofs.lemmas.List.{length-append}
 use Rattle.drf_role.specs.Text.{Text}
 use Rattle.drf_role.specs.Path.{Path}
@@ -23,7 +23,7 @@ use Rattle.drf_core.specs.Registering.{client_paths, with_all}
 use Rattle.drf_core.proofs.ContentRegister.{content_of-with_agent}
 use Rattle.drf_core.proofs.RegisterLemmas.{content_of-registered}
 use Rattle.drf_core.proofs.KeptLemmas.{few_agents_kept}
-use Rattle.drf_core.proofs.Welcome.{neither, welcome_agent}
+use Rattle.drf_core.proofs.Welcome.{welcome_agent}
 
 -- ---- one more agent
 
@@ -35,7 +35,7 @@ sound_total content limits rows kept label =
 pub few_agents : (limits : LimitNumbers) (rows : Rows) (agent : Text) (total : List Resource) → AreFew limits rows → refusal_of limits rows (AddAgent agent total) ≡ None
     → length rows.agents < 4096
 few_agents limits rows agent total few none =
-    let many = neither (nat_lt limits.agents (length (with_agent rows agent total))) (nat_lt limits.scalar_names (length (cluster_total (with_agent rows agent total)))) (welcome_agent limits rows agent total none).few in
+    let many = or_parts (nat_lt limits.agents (length (with_agent rows agent total))) (nat_lt limits.scalar_names (length (cluster_total (with_agent rows agent total)))) (welcome_agent limits rows agent total none).few in
     let long : length (with_agent rows agent total) ≤ limits.agents = ltb-false limits.agents (length (with_agent rows agent total)) many.0 in
     omega (arith, long, few.ceilings.agents.1, length-append rows.agents (record { name = agent; total = total; active = true } ∷ []))
 

@@ -11,6 +11,7 @@ use Rattle.drf_rows.specs.Client.{Client}
 use Rattle.drf_rows.specs.Held.{cluster_total, is_registered}
 use Rattle.drf_rows.specs.Holdings.{is_of}
 use Rattle.drf_rows.specs.Endings.{Ending, ends_offer, ends_task, without_ended, offers_on, all_on, all_of}
+use Rattle.drf_rows.specs.ListLaws.{filter-again}
 use Rattle.drf_rows.specs.Members.{with_activity, with_suppression, revived, agent_removed, framework_removed}
 use Rattle.drf_rows.specs.Filters.{filters_without_agent, filters_without_client, filters_without_framework}
 use Rattle.drf_rows.specs.Consistent.{AreFrameworks}
@@ -57,17 +58,10 @@ module _ (old new : Rows) (ending : Ending) (held : Held) (ended : HasEnded old 
 
 -- ---- all that ends has ended
 
-filter-twice : {X : Type 0} (p : X → Bool) (xs : List X) → filter p (filter p xs) ≡ filter p xs
-filter-twice p [] = refl
-filter-twice p (x ∷ xs) = elim (cases_Bool (p x)) [
-  | inl here ↦ rw here (rw here (ap (λ ys. x ∷ ys) (filter-twice p xs)))
-  | inr past ↦ rw past (filter-twice p xs)
-]
-
 ended_twice : (rows : Rows) (ending : Ending) → without_ended (without_ended rows ending) ending ≡ without_ended rows ending
 ended_twice rows ending = λ i. record rows {
-  offers = filter-twice (λ o. not (ends_offer ending o)) rows.offers i;
-  tasks = filter-twice (λ t. not (ends_task ending t)) rows.tasks i;
+  offers = filter-again (λ o. not (ends_offer ending o)) rows.offers i;
+  tasks = filter-again (λ t. not (ends_task ending t)) rows.tasks i;
 }
 
 -- nothing is left that ends

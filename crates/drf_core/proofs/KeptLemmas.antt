@@ -1,10 +1,10 @@
 -- What is kept after an event that is not refused: no table grows past its limit, and numbers of offers stay below what the events allow.
 use Rattle.std.proofs.Common.{◌≡◌, ℕ, ◌+◌, ◌*◌, ◌<◌, ◌≤◌, ◌^◌, Bool, true, false, List, [], ◌∷◌, Option, None, Some, length, map, refl, sym, ◌∙◌, inl, inr, arith, nat_lt}
-use Rattle.std.specs.Prelude.{◌||◌, filter, flat_map, not}
+use Rattle.std.specs.Prelude.{◌||◌, filter, not}
 use Rattle.std.specs.List.{AllByRecursion}
 use Rattle.std.specs.Option.{option_map_or}
 use Rattle.std.proofs.Math.Nat.{mul-le-mul_right}
-use Rattle.std.proofs.lemmas.Bool.{cases_Bool, ltb-false}
+use Rattle.std.proofs.lemmas.Bool.{cases_Bool, or_parts, ltb-false}
 use Rattle.std.proofs.lemmas.List.{length-append, length-map}
 use Rattle.drf_role.specs.Text.{Text, same_text}
 use Rattle.drf_role.specs.Path.{Path}
@@ -25,7 +25,7 @@ use Rattle.drf_rows.specs.declared.event.Event.{Event}
 use Rattle.drf_rows.specs.declared.event.Event.TheVariants.{AddAgent, RemoveAgent, ActivateAgent, DeactivateAgent, AddFramework, RemoveFramework, Accept, Decline, Rescind, Finish, Suppress, Revive, SetWeight, Cycle, Report}
 use Rattle.drf_rows.specs.declared.rows.AgentRow.{AgentRow}
 use Rattle.drf_rows.specs.Filters.{is_in_force}
-use Rattle.drf_rows.specs.ListLaws.{each_from, each_filter}
+use Rattle.drf_rows.specs.ListLaws.{each_from, each_filter, length-filter_le}
 use Rattle.drf_rows.specs.MemberLaws.{IsConsistent-filters_kept}
 use Rattle.drf_rows.specs.declared.rows.FilterRow.{FilterRow}
 use Rattle.drf_rows.specs.declared.rows.FrameworkRow.{FrameworkRow}
@@ -34,22 +34,11 @@ use Rattle.drf_rows.specs.declared.rows.Rows.{Rows}
 use Rattle.drf_sorter.specs.Content.{Content}
 use Rattle.drf_core.specs.Kept.{AreFew, IsKept}
 use Rattle.drf_core.proofs.CycleLemmas.{turns-clients, turns-tables, turns-next_offer}
+use Rattle.drf_core.proofs.ReportLemmas.{clients_in}
 use Rattle.drf_core.proofs.WeightLemmas.{few_weights, weights-turns}
-use Rattle.drf_core.proofs.Welcome.{neither, room_for, welcome_agent, welcome_framework, welcome_weight}
+use Rattle.drf_core.proofs.Welcome.{room_for, welcome_agent, welcome_framework, welcome_weight}
 
 -- ---- tables that do not grow
-
--- no more pass a test than there are
-length-filter-le : {X : Type 0} (p : X → Bool) (xs : List X) → length (filter p xs) ≤ length xs
-length-filter-le p [] = omega arith
-length-filter-le p (x ∷ xs) = elim (cases_Bool (p x)) [
-  | inl here ↦ rw here (omega (arith, length-filter-le p xs))
-  | inr past ↦ rw past (omega (arith, length-filter-le p xs))
-]
-
--- the clients of some frameworks
-abbrev clients_in : List FrameworkRow → List Client
-clients_in fs = flat_map (λ f. map (client_of f) f.clients) fs
 
 length-clients-filter : (p : FrameworkRow → Bool) (fs : List FrameworkRow) → length (clients_in (filter p fs)) ≤ length (clients_in fs)
 length-clients-filter p [] = omega arith
@@ -129,7 +118,7 @@ no_more-activity rows name active = record {
 
 no_more-agent_removed : (rows : Rows) (name : Text) → IsNoMore rows (agent_removed rows name)
 no_more-agent_removed rows name = record {
-  agents = length-filter-le (λ a. not (same_text a.name name)) rows.agents;
+  agents = length-filter_le (λ a. not (same_text a.name name)) rows.agents;
   frameworks = omega arith;
   clients = omega arith;
   weights = omega arith;
@@ -140,7 +129,7 @@ no_more-agent_removed rows name = record {
 no_more-framework_removed : (rows : Rows) (name : Text) → IsNoMore rows (framework_removed rows name)
 no_more-framework_removed rows name = record {
   agents = omega arith;
-  frameworks = length-filter-le (λ f. not (same_text f.name name)) rows.frameworks;
+  frameworks = length-filter_le (λ f. not (same_text f.name name)) rows.frameworks;
   clients = length-clients-filter (λ f. not (same_text f.name name)) rows.frameworks;
   weights = omega arith;
   next_offer = refl;
@@ -186,7 +175,7 @@ module _ (limits : LimitNumbers) (rows : Rows) (few : AreFew limits rows) (numbe
   countable-agent agent total none =
       let length_after = length (with_agent rows agent total) in
       let names = length (cluster_total (with_agent rows agent total)) in
-      let many = neither (nat_lt limits.agents length_after) (nat_lt limits.scalar_names names) (welcome_agent limits rows agent total none).few in
+      let many = or_parts (nat_lt limits.agents length_after) (nat_lt limits.scalar_names names) (welcome_agent limits rows agent total none).few in
       let long : length (with_agent rows agent total) ≤ limits.agents = ltb-false limits.agents (length (with_agent rows agent total)) many.0 in
       let room = room_for limits rows (AddAgent agent total) none in
       let so_far = before in
@@ -208,8 +197,8 @@ module _ (limits : LimitNumbers) (rows : Rows) (few : AreFew limits rows) (numbe
   countable-framework framework roles none =
       let many_roles = nat_lt limits.roles (length (distinct roles)) in
       let over_clients = nat_lt limits.clients (length (clients_of rows) + length (distinct roles)) in
-      let many = neither (nat_lt limits.frameworks (length rows.frameworks + 1)) (many_roles || over_clients) (welcome_framework limits rows framework roles none).few in
-      let rest = neither many_roles over_clients many.1 in
+      let many = or_parts (nat_lt limits.frameworks (length rows.frameworks + 1)) (many_roles || over_clients) (welcome_framework limits rows framework roles none).few in
+      let rest = or_parts many_roles over_clients many.1 in
       let room = room_for limits rows (AddFramework framework roles) none in
       let f : FrameworkRow = record { name = framework; clients = map new_client (distinct roles) } in
       let one_more : length rows.frameworks + 1 ≤ limits.frameworks = ltb-false limits.frameworks (length rows.frameworks + 1) many.0 in
@@ -259,7 +248,7 @@ module _ (limits : LimitNumbers) (rows : Rows) (few : AreFew limits rows) (numbe
       let kept = turns-tables start agents in
       let made = turns-next_offer start agents in
       let so_far = before in
-      let few_agents : length agents ≤ 4096 = omega (arith, length-filter-le (λ (a : AgentRow). a.active) rows.agents, few.agents, few.ceilings.agents.1) in
+      let few_agents : length agents ≤ 4096 = omega (arith, length-filter_le (λ (a : AgentRow). a.active) rows.agents, few.agents, few.ceilings.agents.1) in
       let few_clients : length (clients_of rows) ≤ 4096 = omega (arith, few.clients, few.ceilings.clients.1) in
       let first : length agents * length (clients_of rows) ≤ 4096 * length (clients_of rows) = mul-le-mul_right (length (clients_of rows)) few_agents in
       record {

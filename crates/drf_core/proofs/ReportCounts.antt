@@ -11,7 +11,7 @@ use Rattle.drf_role.specs.Path.{Path, begins_with}
 use Rattle.drf_rows.specs.Client.{path_of}
 use Rattle.drf_rows.specs.Consistent.{offers_counted}
 use Rattle.drf_rows.specs.Held.{client_of}
-use Rattle.drf_rows.specs.ListLaws.{sum_by-filter}
+use Rattle.drf_rows.specs.ListLaws.{sum_by-filter, cond_le}
 use Rattle.drf_rows.specs.Report.{path_cmp}
 use Rattle.drf_rows.specs.declared.rows.ClientRow.{ClientRow}
 use Rattle.drf_rows.specs.declared.rows.FrameworkRow.{FrameworkRow}
@@ -57,10 +57,6 @@ module _ (path : Path) (i count : ℕ) (old now : Sums) (within : i < length pat
 abbrev part_at : FrameworkRow → Path → ClientRow → ℕ
 part_at f node c = cond (begins_with (path_of (client_of f c)) node) c.count 0
 
-part-le : (b : Bool) (n : ℕ) → cond b n 0 ≤ n
-part-le true n = omega arith
-part-le false n = omega arith
-
 cond-plus : (b : Bool) (n m : ℕ) → cond b (n + m) n ≡ n + cond b m 0
 cond-plus true n m = refl
 cond-plus false n m = omega arith
@@ -74,7 +70,7 @@ count_in-le node f =
       arith,
       in_parts f f.clients node,
       sum_by-le-sum_by (part_at f node) (λ (c : ClientRow). c.count) f.clients
-          (λ c. part-le (begins_with (path_of (client_of f c)) node) c.count),
+          (λ c. cond_le (begins_with (path_of (client_of f c)) node) c.count),
     )
 
 module _ (f : FrameworkRow) (cs : List ClientRow) (i : ℕ) (c : ClientRow) (within : i < length cs) (is : c ≡ get_or cs i c)
@@ -87,7 +83,7 @@ module _ (f : FrameworkRow) (cs : List ClientRow) (i : ℕ) (c : ClientRow) (wit
         counted n some,
         in_parts f (take i cs) n,
         sum_by_more_le_part (part_at f n) (λ (d : ClientRow). d.count) cs i c within
-            (λ d. part-le (begins_with (path_of (client_of f d)) n) d.count),
+            (λ d. cond_le (begins_with (path_of (client_of f d)) n) d.count),
         ap (λ (d : ClientRow). d.count) is,
       )
 

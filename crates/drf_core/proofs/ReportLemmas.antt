@@ -57,7 +57,8 @@ pub map_next : {X Y : Type 0} (f : X → Y) (xs : List X) (i : ℕ) (x : X) → 
     → map f (take (i + 1) xs) ≡ map f (take i xs) ++ f x ∷ []
 map_next {X} f xs i x within is = map_more f xs i x within ∙ ap (λ (y : X). map f (take i xs) ++ f y ∷ []) (sym is)
 
-abbrev clients_in : List FrameworkRow → List Client
+-- the clients of some frameworks
+abbrev pub clients_in : List FrameworkRow → List Client
 clients_in fs = flat_map (λ f. map (client_of f) f.clients) fs
 
 pub frameworks-more : (nodes : List Path) (fs : List FrameworkRow) (i : ℕ) (f : FrameworkRow) → i < length fs → f ≡ get_or fs i f

@@ -5,11 +5,12 @@ use Rattle.std.specs.Cmp.Lexicographic.{slice_cmp, bytes_decides, lists_ties, te
 use Rattle.std.proofs.Common.{refl, sym, ap, ◌∙◌, inl, inr, arith, length-append}
 use Rattle.std.proofs.Math.Seq.{take-append_seam}
 use Rattle.std.proofs.lemmas.Bool.{cases_Bool, false_from_ne_true, false≢true, or_left, or_right}
-use Rattle.std.proofs.lemmas.List.{length-take-le, take-append-drop}
+use Rattle.std.proofs.lemmas.List.{length-take-le}
 use Rattle.std.proofs.lemmas.Slice.Eq.{starts_is}
 use Rattle.drf_role.specs.Path.{Path, same_path, begins_with}
 use Rattle.drf_role.specs.PathLaws.{same_path-true, same_path_itself}
 use Rattle.drf_rows.specs.Report.{path_cmp}
+use Rattle.drf_rows.specs.ReportLaws.{begins_take}
 use Rattle.drf_core.specs.Reporting.{is_passed}
 
 path_ties : (a b : Path) → same_path a b ≡ is_eq (path_cmp a b)
@@ -44,10 +45,6 @@ passed-at path (suc n) m some within = elim (cases_Bool (is_eq (path_cmp (take (
       let other : m ≢ suc n = λ e. false≢true (sym past ∙ ap (λ (k : ℕ). is_eq (path_cmp (take (suc n) path) (take k path))) e ∙ ties_itself (take (suc n) path)) in
       or_right (is_eq (path_cmp (take (suc n) path) (take m path))) (is_passed path n (take m path)) (passed-at path n m some (omega arith))
 ]
-
-begins_take : (path : Path) (n : ℕ) → begins_with path (take n path) ≡ true
-begins_take path n =
-    (starts_is bytes_decides path (take n path) (begins_with path (take n path)) refl).1 (drop n path) (sym (take-append-drop n path))
 
 passed-none : (path : Path) (n : ℕ) (node : Path) → begins_with path node ≡ false → is_passed path n node ≡ false
 passed-none path zero node other = refl

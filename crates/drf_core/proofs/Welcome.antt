@@ -1,8 +1,7 @@
 -- Events that are not refused: no case of refusal holds.
-use Rattle.std.proofs.Common.{◌≡◌, ℕ, ◌<◌, ◌≤◌, Bool, true, false, List, [], ◌∷◌, None, refl, sym, inl, inr, arith, nat_lt}
-use Rattle.std.specs.Prelude.{◌||◌, not}
+use Rattle.std.proofs.Common.{◌≡◌, ℕ, ◌<◌, ◌≤◌, Bool, true, false, List, [], ◌∷◌, None, refl, inl, inr, arith, nat_lt}
 use Rattle.std.specs.List.{list_any, AllByRecursion}
-use Rattle.std.proofs.lemmas.Bool.{cases_Bool, false≢true, ltb-false, leb-false}
+use Rattle.std.proofs.lemmas.Bool.{cases_Bool, or_parts, not-false, ltb-false, leb-false}
 use Rattle.drf_role.specs.Text.{Text, same_text}
 use Rattle.drf_role.specs.Path.{Path}
 use Rattle.drf_bundle.specs.Quantities.{amount_of}
@@ -55,14 +54,6 @@ room_for limits rows event none = leb-false limits.events rows.accepted (not_ful
 
 -- ---- what is not the case
 
-pub neither : (a b : Bool) → (a || b) ≡ false → (a ≡ false) × (b ≡ false)
-neither true b h = absurd (false≢true (sym h))
-neither false b h = (refl, h)
-
-pub not_not : (b : Bool) → not b ≡ false → b ≡ true
-not_not true h = refl
-not_not false h = cc
-
 -- an agent that is welcome
 pub record IsWelcomeAgent (limits : LimitNumbers) (rows : Rows) (agent : Text) (total : List Resource) : Type 0 where
   pub new : has_agent rows agent ≡ false
@@ -95,7 +86,7 @@ pub welcome_weight : (limits : LimitNumbers) (rows : Rows) (role : Path) (weight
     → refusal_of limits rows (SetWeight role weight) ≡ None → IsWelcomeWeight limits rows role weight
 welcome_weight limits rows role weight none =
     let no = no_case_of limits rows (SetWeight role weight) none in
-    record { right = not_not (is_weight weight) no.1.0; few = no.1.1.0 }
+    record { right = not-false (is_weight weight) no.1.0; few = no.1.1.0 }
 
 -- a cycle that is welcome
 pub early_cycle : (limits : LimitNumbers) (rows : Rows) (at : ℕ) → refusal_of limits rows (Cycle at) ≡ None → at ≤ LATEST_MOMENT
@@ -104,18 +95,18 @@ early_cycle limits rows at none = ltb-false LATEST_MOMENT at (no_case_of limits 
 -- a framework that leaves is known
 pub known_framework : (limits : LimitNumbers) (rows : Rows) (framework : Text) → refusal_of limits rows (RemoveFramework framework) ≡ None
     → has_framework rows framework ≡ true
-known_framework limits rows framework none = not_not (has_framework rows framework) (no_case_of limits rows (RemoveFramework framework) none).1.0
+known_framework limits rows framework none = not-false (has_framework rows framework) (no_case_of limits rows (RemoveFramework framework) none).1.0
 
 -- a client that is suppressed, or revives, is registered
 pub known_suppressed : (limits : LimitNumbers) (rows : Rows) (framework : Text) (role : Path) → refusal_of limits rows (Suppress framework role) ≡ None
     → is_in_role rows framework role ≡ true
 known_suppressed limits rows framework role none =
-    not_not (is_in_role rows framework role) (no_case_of limits rows (Suppress framework role) none).1.1.0
+    not-false (is_in_role rows framework role) (no_case_of limits rows (Suppress framework role) none).1.1.0
 
 pub known_reviving : (limits : LimitNumbers) (rows : Rows) (framework : Text) (role : Path) → refusal_of limits rows (Revive framework role) ≡ None
     → is_in_role rows framework role ≡ true
 known_reviving limits rows framework role none =
-    not_not (is_in_role rows framework role) (no_case_of limits rows (Revive framework role) none).1.1.0
+    not-false (is_in_role rows framework role) (no_case_of limits rows (Revive framework role) none).1.1.0
 
 -- an offer that is accepted stands, is the framework's and covers the part, and its task is new
 pub record IsWelcomeAccept (rows : Rows) (framework : Text) (number : ℕ) (task : Text) (used : List Resource) (at : ℕ) : Type 0 where
@@ -131,7 +122,7 @@ welcome_accept limits rows framework number task used at refuse_ms none =
     let no = no_case_of limits rows (Accept framework number task used at refuse_ms) none in
     record {
       early = ltb-false LATEST_MOMENT at no.1.0;
-      stands = not_not (has_offer rows number) no.1.1.1.0;
+      stands = not-false (has_offer rows number) no.1.1.1.0;
       its_own = no.1.1.1.1.0;
       new = no.1.1.1.1.1.0;
       covered = no.1.1.1.1.1.1.1.0;
@@ -142,14 +133,14 @@ pub welcome_decline : (limits : LimitNumbers) (rows : Rows) (framework : Text) (
     → refusal_of limits rows (Decline framework number at refuse_ms) ≡ None → (at ≤ LATEST_MOMENT) × (has_offer rows number ≡ true)
 welcome_decline limits rows framework number at refuse_ms none =
     let no = no_case_of limits rows (Decline framework number at refuse_ms) none in
-    (ltb-false LATEST_MOMENT at no.1.0, not_not (has_offer rows number) no.1.1.1.0)
+    (ltb-false LATEST_MOMENT at no.1.0, not-false (has_offer rows number) no.1.1.1.0)
 
 -- ---- small amounts
 
 pub small_amounts : (es : List Entry) (most : ℕ) (label : Text) → list_any (λ e. nat_lt most e.amount) es ≡ false → amount_of es label ≤ most
 small_amounts [] most label small = omega arith
 small_amounts (e ∷ es) most label small =
-    let both = neither (nat_lt most e.amount) (list_any (λ e. nat_lt most e.amount) es) small in
+    let both = or_parts (nat_lt most e.amount) (list_any (λ e. nat_lt most e.amount) es) small in
     elim (cases_Bool (same_text e.label label)) [
       | inl here ↦ rw here (ltb-false most e.amount both.0)
       | inr past ↦ rw past (small_amounts es most label both.1)

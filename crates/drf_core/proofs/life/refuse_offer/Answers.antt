@@ -1,9 +1,10 @@
 use Rattle.std.proofs.Common.{◌≡◌, Some, sym, ap, ◌∙◌}
 use Rattle.std.specs.Prelude.{option_copied}
+use Rattle.drf_rows.specs.EndingLaws.{held-offer_at}
 use Rattle.drf_rows.specs.Offers.{offer_at}
 use Rattle.drf_rows.specs.declared.rows.OfferRow.{OfferRow}
 use Rattle.drf_rows.specs.declared.rows.Rows.{Rows}
-use Rattle.drf_core.proofs.AcceptLemmas.{offer_held, offer_filter}
+use Rattle.drf_core.proofs.AcceptLemmas.{offer_filter}
 use Rattle.drf_core.proofs.life.refuse_offer.Goals as goal
 
 pub add_filter-requires : goal.add_filter-requires
@@ -13,4 +14,4 @@ add_filter-requires c =
     let found : offer_at rows c.args.number ≡ Some o = sym c.offer.ensures ∙ ap option_copied c.unwrap-offer.ensures in
     rw c.in_ok-filter.ensures
     (offer_filter rows c.args.number o o.bundle c.args.moment c.args.refuse_ms c.requires.consistent found
-    (offer_held rows c.args.number o c.requires.consistent found).bundle c.requires.early)
+    (held-offer_at rows c.args.number o c.requires.consistent found).bundle c.requires.early)

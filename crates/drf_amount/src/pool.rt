@@ -12,7 +12,8 @@ use std::collections::BTreeMap;
 use std::marker::Model;
 use thiserror::Error;
 
-/// Why a pool refused a call, which changed nothing. Where several hold, the first is answered.
+/// Why a pool refused a call, which changed nothing. Where several hold, the first is answered; a call says where want of
+/// memory may come sooner.
 #[derive(Clone, Copy, Debug, PartialEq, Eq, Error)]
 pub enum PoolFault {
     /// No part that is out has the number.

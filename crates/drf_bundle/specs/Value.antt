@@ -79,7 +79,7 @@ less (Ranges a) (Ranges b) = Ranges (set.difference a b)
 less (Items a) (Items b) = Items (set.difference a b)
 less v w = v
 
--- the other value has no unit that this one lacks
+-- the other value is of this one's kind, and has no unit that this one lacks
 abbrev pub has_all_of : Value → Value → Bool
 has_all_of (Scalar a) (Scalar b) = nat_le b a
 has_all_of (Ranges a) (Ranges b) = set.is_subset b a

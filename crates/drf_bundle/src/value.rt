@@ -93,7 +93,7 @@ impl Value {
         }
     }
 
-    /// Whether the other has no unit that this one lacks.
+    /// Whether the other is of this one's kind, and has no unit that this one lacks.
     pub(crate) fn covers(&self, part: &Value) -> bool
         ensures { result ≡ has_all_of self.now part.now }
     {

@@ -12,7 +12,8 @@ use std::rt::Runtime;
 /// The example that is run: each of its lines has one reply.
 const EXAMPLE: &str = "three_agents";
 
-/// Gives at most some bytes a call and never more than a line, and fails once its calls are used up.
+/// Gives at most some bytes a call and never more than a line. Once its calls are used up it is interrupted, and would go on
+/// if it were asked again.
 #[derive(Drop)]
 struct Slow<'a> {
     rest: &'a [u8],
@@ -23,7 +24,8 @@ struct Slow<'a> {
 impl Read for Slow<'_> {
     fn read(&mut self, buf: &mut [u8]) -> io::Result<usize> {
         if self.calls == 0 {
-            return Err(io::Error::from(ErrorKind::BrokenPipe));
+            self.calls = usize::MAX;
+            return Err(io::Error::from(ErrorKind::Interrupted));
         }
         self.calls -= 1;
         let line = self.rest.iter().position(|byte| *byte == b'\n');
@@ -35,7 +37,8 @@ impl Read for Slow<'_> {
     }
 }
 
-/// Keeps what is written, and fails once its calls are used up, be they writes or flushes.
+/// Keeps what is written. Once its calls are used up, be they writes or flushes, it is interrupted, and would go on if it were
+/// asked again.
 #[derive(Drop)]
 struct Full {
     taken: Vec<u8>,
@@ -45,7 +48,8 @@ struct Full {
 impl Full {
     fn call(&mut self) -> io::Result<()> {
         if self.calls == 0 {
-            return Err(io::Error::from(ErrorKind::StorageFull));
+            self.calls = usize::MAX;
+            return Err(io::Error::from(ErrorKind::Interrupted));
         }
         self.calls -= 1;
         Ok(())

@@ -12,7 +12,7 @@ abbrev pub member_count : Members → ℕ
 member_count no_members = 0
 member_count (member key value members) = suc (member_count members)
 
--- the value is an object of that many members; it has each key once
+-- the value is an object of that many members; one that was read has each key once
 unfoldable pub has_members : ℕ → Data → Bool
 has_members count value = option_map_or (λ members. member_count members == count) (as_object value) false
 

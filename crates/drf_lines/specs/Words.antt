@@ -6,7 +6,7 @@ use Rattle.drf_lines.specs.declared.fault.LineFault.{LineFault}
 use Rattle.drf_lines.specs.declared.fault.LineFault.TheVariants.{BadText}
 use Rattle.drf_lines.specs.Fault.{◌>>=◌}
 
--- the name of an agent or a framework
+-- the name of an agent, a framework or a task
 unfoldable pub name_in : List ℕ → Result (List ℕ) LineFault
 name_in text = if is_name text then Ok text else Err BadText
 

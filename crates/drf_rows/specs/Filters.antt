@@ -1,5 +1,5 @@
--- Filters: what a client declined on an agent, or left of an offer that it accepted, is not offered to it there again for
--- a while.
+-- Filters: for a while a client is offered nothing on an agent that is covered by what it declined there, or left of an
+-- offer that it accepted.
 use Rattle.std.specs.Prelude.{ℕ, Bool, not, ◌&&◌, List, filter, count_by, nat_lt}
 use Rattle.std.specs.List.{list_any}
 use Rattle.drf_role.specs.Text.{Text, same_text}

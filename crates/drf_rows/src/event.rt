@@ -36,8 +36,8 @@ pub enum Event {
     RemoveFramework {
         framework: Name,
     },
-    /// A framework starts a task with a part of an offer. The rest is free, and is not offered to its client there again
-    /// for a time.
+    /// A framework starts a task with a part of an offer. The rest is free; for a time its client is offered there nothing
+    /// that this rest covers.
     Accept {
         framework: Name,
         offer: u64,
@@ -46,7 +46,7 @@ pub enum Event {
         at: u64,
         refuse_ms: u64,
     },
-    /// A framework gives an offer back, and its client is not offered that there again for a time.
+    /// A framework gives an offer back; for a time its client is offered there nothing that the offer covers.
     Decline {
         framework: Name,
         offer: u64,

@@ -25,8 +25,8 @@ pub fn lowest_terms_law()
     ensures nothing { NothingIsZero }
 {}
 
-/// Of two clients at most one stands before the other, and exactly one where neither path begins with the other. Who
-/// stands before a client stands before all that it stands before.
+/// Of two clients at most one stands before the other, and exactly one where neither path begins with the other. Where
+/// every node has a weight, who stands before a client stands before all that it stands before.
 pub fn client_order_law()
     ensures asymmetric { (s : Standing) (a b : Path) →
         stands_before s a b ≡ true → stands_before s b a ≡ false }
@@ -49,7 +49,7 @@ pub fn sibling_law()
     ensures { LesserNameFirst }
 {}
 
-/// A greater weight gives a less weighted share. It is a role's alone.
+/// A greater weight gives a role that holds something of the total a less weighted share. Only roles have weights.
 pub fn weight_law()
     ensures heavier { HeavierHasLess }
     ensures roles_alone { ClientsHaveDefaultWeight }

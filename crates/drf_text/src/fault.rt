@@ -7,7 +7,8 @@ use drf_role::{NameFault, RoleFault};
 use std::alloc::{AllocError, AllocFailed};
 use thiserror::Error;
 
-/// Why a text says no resources. Where a piece has several faults, the one listed first here is told.
+/// Why a text says no resources. Where a piece has several faults, the one listed first here is told; want of memory may
+/// come before any of them.
 #[derive(Clone, Copy, Debug, PartialEq, Eq, Error)]
 pub enum TextFault {
     /// A `:`, a bracket or a `-` is missing, or stands where none may.
@@ -87,7 +88,7 @@ impl From<RangesFault> for TextFault {
     }
 }
 
-/// No union is refused for the last two.
+/// No union is refused because something is not covered.
 impl From<AlgebraFault> for TextFault {
     ghost use Rattle.drf_text.specs.Meaning.{text_fault_of};
 

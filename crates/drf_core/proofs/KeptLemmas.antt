@@ -20,7 +20,7 @@ use Rattle.drf_rows.specs.Endings.{without_ended, one_offer, one_task}
 use Rattle.drf_rows.specs.Weights.{weights_with}
 use Rattle.drf_rows.specs.RegistrationLaws.{framework_added, length-clients_of-framework_added}
 use Rattle.drf_rows.specs.Consistent.{IsConsistent, IsFilter, IsNumberedByEvents}
-use Rattle.drf_rows.specs.ConsistentLaws.{numbers_within}
+use Rattle.drf_rows.specs.ConsistentLaws.{conserved-consistent, conserved-live, numbers_within}
 use Rattle.drf_rows.specs.declared.event.Event.{Event}
 use Rattle.drf_rows.specs.declared.event.Event.TheVariants.{AddAgent, RemoveAgent, ActivateAgent, DeactivateAgent, AddFramework, RemoveFramework, Accept, Decline, Rescind, Finish, Suppress, Revive, SetWeight, Cycle, Report}
 use Rattle.drf_rows.specs.declared.rows.AgentRow.{AgentRow}
@@ -33,6 +33,7 @@ use Rattle.drf_rows.specs.declared.rows.OfferRow.{OfferRow}
 use Rattle.drf_rows.specs.declared.rows.Rows.{Rows}
 use Rattle.drf_sorter.specs.Content.{Content}
 use Rattle.drf_core.specs.Kept.{AreFew, IsKept}
+use Rattle.drf_core.specs.Machine.{IsSafe}
 use Rattle.drf_core.proofs.CycleLemmas.{turns-clients, turns-tables, turns-next_offer}
 use Rattle.drf_core.proofs.ReportLemmas.{clients_in}
 use Rattle.drf_core.proofs.WeightLemmas.{few_weights, weights-turns}
@@ -329,16 +330,26 @@ module _ (content : Content) (limits : LimitNumbers) (rows : Rows) (kept : IsKep
       omega (arith, events, numbered)
 
   -- numbers of offers are below what every run allows
-  pub numbers_bounded : AllByRecursion (λ o. o.number ≤ 2 ^ 56) rows.offers
+  numbers_bounded : AllByRecursion (λ o. o.number ≤ 2 ^ 56) rows.offers
   numbers_bounded = numbers_within rows.offers rows.next_offer (2 ^ 56) kept.consistent.numbered (omega (arith, few_offers_kept))
 
 -- and filters, those in force among them, end before 2^63
-pub filters_bounded : (rows : Rows) → IsConsistent rows → AllByRecursion (λ f. f.until < 2 ^ 63) (live_rows rows).filters
+filters_bounded : (rows : Rows) → IsConsistent rows → AllByRecursion (λ f. f.until < 2 ^ 63) (live_rows rows).filters
 filters_bounded rows consistent =
     let Ends : FilterRow → Type 0 = λ f. f.until < 2 ^ 63 in
     each_filter Ends (is_in_force rows.clock) rows.filters
     (each_from (IsFilter rows.agents rows.frameworks) Ends rows.filters (λ f is. is.until) consistent.filters)
 
 -- the rows with the filters in force alone are consistent
-pub consistent-live : (rows : Rows) → IsConsistent rows → IsConsistent (live_rows rows)
+consistent-live : (rows : Rows) → IsConsistent rows → IsConsistent (live_rows rows)
 consistent-live rows consistent = IsConsistent-filters_kept rows (is_in_force rows.clock) consistent
+
+-- what callers see of a core that is kept
+pub safe_kept : (content : Content) (limits : LimitNumbers) (rows : Rows) → IsKept content limits rows → IsSafe (live_rows rows)
+safe_kept content limits rows kept = record {
+  consistent = consistent-live rows kept.consistent;
+  conserved = conserved-live rows (conserved-consistent rows kept.consistent);
+  numbers = numbers_bounded content limits rows kept;
+  next_offer = few_offers_kept content limits rows kept;
+  filters = filters_bounded rows kept.consistent;
+}

@@ -1,9 +1,11 @@
--- What an allocator is to its callers: its limits and its live rows.
-use Rattle.std.specs.Prelude.{◌≡◌, ℕ, ◌≤◌, List, ◌++◌, length, take, refl}
+-- What an allocator is to its callers: its limits and rows, of which clauses name the live ones.
+use Rattle.std.specs.Prelude.{◌≡◌, ℕ, ◌≤◌, ◌<◌, ◌^◌, List, ◌++◌, length, take, refl}
+use Rattle.std.specs.List.{AllByRecursion}
 use Rattle.std.specs.Coded.{Coded, code_by, coded×}
 use Rattle.drf_rows.specs.contracts.limits.Limits as limits
 use Rattle.drf_rows.specs.contracts.rows.Rows as rows
 use Rattle.drf_rows.specs.LimitNumbers.{LimitNumbers}
+use Rattle.drf_rows.specs.Consistent.{IsConsistent, IsConserved}
 use Rattle.drf_rows.specs.Step.{opening, live_rows, rows_after, rows_after_all, replies_to}
 use Rattle.drf_rows.specs.declared.reply.Reply.{Reply}
 use Rattle.drf_rows.specs.declared.rows.Rows.{Rows}
@@ -32,6 +34,15 @@ after machine event = record { limits = machine.limits; rows = live_rows (rows_a
 pub record IsOpened (given : LimitNumbers) (new : Machine) : Type 0 where
   pub limits : new.limits ≡ given
   pub rows : live_rows new.rows ≡ opening
+
+-- What holds of the live rows at all times: they are consistent, nothing is granted twice, no number of an offer, not the
+-- next one either, is above 2^56, and no filter ends at 2^63 or later.
+pub record IsSafe (rows : Rows) : Type 0 where
+  pub consistent : IsConsistent rows
+  pub conserved : AllByRecursion (IsConserved rows) rows.agents
+  pub numbers : AllByRecursion (λ o. o.number ≤ 2 ^ 56) rows.offers
+  pub next_offer : rows.next_offer ≤ 2 ^ 56
+  pub filters : AllByRecursion (λ f. f.until < 2 ^ 63) rows.filters
 
 -- nothing that callers see has changed
 pub record IsSame (old new : Machine) : Type 0 where

@@ -1,5 +1,5 @@
-ghost use Rattle.std.specs.Prelude.{◌≡◌, ◌≤◌, ◌<◌, ◌^◌, ◌++◌, None, IfOk, OnOk, OnErr};
-ghost use Rattle.drf_core.specs.Machine.{IsOpened, IsSame, IsAfter, IsAfterAll, HasRun};
+ghost use Rattle.std.specs.Prelude.{◌≡◌, ◌++◌, None, IfOk, OnOk, OnErr};
+ghost use Rattle.drf_core.specs.Machine.{IsOpened, IsSafe, IsSame, IsAfter, IsAfterAll, HasRun};
 
 use crate::apply::apply;
 use crate::refusal::refusal;
@@ -34,9 +34,7 @@ impl<S: Sorter> Model for Core<S> {
 }
 
 impl<S: Sorter> Core<S> {
-    ghost use Rattle.std.specs.List.{AllByRecursion};
     ghost use Rattle.drf_rows.specs.Step.{live_rows, reply_to, replies_to, refusal_of};
-    ghost use Rattle.drf_rows.specs.Consistent.{IsConserved, IsConsistent};
     ghost use Rattle.drf_rows.specs.Report.{report_of};
 
     /// An allocator with no rows.
@@ -54,12 +52,13 @@ impl<S: Sorter> Core<S> {
     }
 
     /// Takes one event, whole or not at all. A refusal is a reply; a refused event changes nothing, nor does want of
-    /// memory, which no refused event meets.
+    /// memory, which no refused event meets. However it ends, nothing is granted twice.
     pub fn step(&mut self, event: Event) -> Result<Reply, AllocError>
         ensures reply { IfOk result (λ reply. reply ≡ reply_to self.old.limits self.old.rows event) }
         ensures ok { OnOk result (IsAfter self.old self.new event) }
         ensures err { OnErr result (IsSame self.old self.new) }
         ensures not_refused { OnErr result (refusal_of self.old.limits self.old.rows event ≡ None) }
+        ensures safe { IsSafe (live_rows self.new.rows) }
     {
         self.tables.forget_spent();
         if let Some(refusal) = refusal(&self.limits, &self.tables, &event) {
@@ -99,14 +98,10 @@ impl<S: Sorter> Core<S> {
         report(self.alloc, &self.tables)
     }
 
-    /// The rows as they stand, which are consistent. Nothing is granted twice, no number of an offer is above 2^56, and no
-    /// filter ends at 2^63 or later.
+    /// The live rows, which are consistent: nothing is granted twice.
     pub fn rows(&self) -> Result<Rows, AllocError>
         ensures rows { IfOk result (λ rows. rows ≡ live_rows self.now.rows) }
-        ensures consistent { IfOk result IsConsistent }
-        ensures conserved { IfOk result (λ rows. AllByRecursion (IsConserved rows) rows.agents) }
-        ensures numbers { IfOk result (λ rows. AllByRecursion (λ o. o.number ≤ 2 ^ 56) rows.offers) }
-        ensures filters { IfOk result (λ rows. AllByRecursion (λ f. f.until < 2 ^ 63) rows.filters) }
+        ensures safe { IfOk result IsSafe }
     {
         self.tables.rows()
     }

@@ -2,7 +2,8 @@ use Rattle.std.proofs.Common.{◌≡◌, ◌+◌, None, Result, Ok, Err, refl, a
 use Rattle.std.specs.Result.{OnErr}
 use Rattle.drf_rows.specs.Step.{live_rows, refusal_of, reply_to, rows_after}
 use Rattle.drf_rows.specs.declared.rows.Rows.{Rows}
-use Rattle.drf_core.specs.Machine.{Machine}
+use Rattle.drf_core.specs.Machine.{Machine, IsSafe}
+use Rattle.drf_core.proofs.KeptLemmas.{safe_kept}
 use Rattle.drf_core.proofs.Welcome.{room_for}
 use Rattle.drf_core.proofs.StepLemmas.{IsKept-forgot, refused_from, welcome_from, accepted_from, rows_after-counted, accepted-applied, IsKept-counted}
 use Rattle.drf_core.proofs.allocator.Core.step.Goals as goal
@@ -85,3 +86,27 @@ invariant_of-self-2 g c =
     IsKept-counted c.self.inside.limits rows c.apply.new.tables.rows c.count_event.new.self.rows c.args.event (g.S.Sorter.content c.self.inside.sorter) kept
     (sym c.in_default.ensures) c.in_ok-reply.ensures.ok.same c.count_event.ensures.counted
     (g.S.Sorter.content c.apply.new.sorter) c.in_ok-reply.ensures.ok.sorted c.count_event.ensures.consistent
+
+-- however it ends
+pub returns-in-Some-clause-safe : goal.returns-in-Some-clause-safe
+returns-in-Some-clause-safe g c =
+    safe_kept (g.S.Sorter.content c.self.inside.sorter) c.self.inside.limits c.forget_spent.new.self.rows
+    (IsKept-forgot (g.S.Sorter.content c.self.inside.sorter) c.self.inside.limits c.self.inside.tables.rows c.forget_spent.new.self.rows
+    c.self.invariant c.forget_spent.ensures.others c.forget_spent.ensures.consistent)
+
+pub returns-in_err-reply-clause-safe : goal.returns-in_err-reply-clause-safe
+returns-in_err-reply-clause-safe g c =
+    subst (λ (rows : Rows). IsSafe (live_rows rows)) (sym c.in_err-reply.ensures.err.same)
+    (safe_kept (g.S.Sorter.content c.self.inside.sorter) c.self.inside.limits c.forget_spent.new.self.rows
+    (IsKept-forgot (g.S.Sorter.content c.self.inside.sorter) c.self.inside.limits c.self.inside.tables.rows c.forget_spent.new.self.rows
+    c.self.invariant c.forget_spent.ensures.others c.forget_spent.ensures.consistent))
+
+pub returns-clause-safe : goal.returns-clause-safe
+returns-clause-safe g c =
+    let rows : Rows = c.forget_spent.new.self.rows in
+    let kept = IsKept-forgot (g.S.Sorter.content c.self.inside.sorter) c.self.inside.limits c.self.inside.tables.rows c.forget_spent.new.self.rows
+    c.self.invariant c.forget_spent.ensures.others c.forget_spent.ensures.consistent in
+    safe_kept (g.S.Sorter.content c.apply.new.sorter) c.self.inside.limits c.count_event.new.self.rows
+    (IsKept-counted c.self.inside.limits rows c.apply.new.tables.rows c.count_event.new.self.rows c.args.event (g.S.Sorter.content c.self.inside.sorter) kept
+    (sym c.in_default.ensures) c.in_ok-reply.ensures.ok.same c.count_event.ensures.counted
+    (g.S.Sorter.content c.apply.new.sorter) c.in_ok-reply.ensures.ok.sorted c.count_event.ensures.consistent)

@@ -1,10 +1,16 @@
-use Rattle.std.proofs.Common.{◌≡◌, ℕ, List, ◌++◌, ◌∙◌, ap, ⊎_elim, inl, inr}
-use Rattle.std.proofs.lemmas.Result.{IfOk-weaker, on_ok_weaker}
+use Rattle.std.proofs.Common.{◌≡◌, ℕ, List, ◌++◌, ◌∙◌, ap, ⊎_elim, inl, inr, Result, Ok, Err}
+use Rattle.std.specs.Prelude.{OnOk}
+use Rattle.std.proofs.lemmas.Result.{IfOk-weaker}
 use Rattle.drf_core.specs.Machine.{Machine, live}
 use Rattle.drf_lines.specs.Meaning.{meaning_of}
 use Rattle.drf_journal.specs.State.{answer_to, machine_after}
 use Rattle.drf_journal.proofs.Kept.{answer-kept, meaning-kept}
 use Rattle.drf_journal.proofs.session.answer_end.Goals as goal
+
+-- what follows from what holds at Ok
+at_ok : {T E A B : Type 0} (r : Result T E) → (A → B) → OnOk r A → OnOk r B
+at_ok (Ok x) f h = f h
+at_ok (Err e) f h = h
 
 pub returns-clause-told : goal.returns-clause-told
 returns-clause-told g c =
@@ -20,7 +26,7 @@ returns-clause-ok g c =
     let machine : Machine = live c.args.core.now in
     let line = c.args.pending.now.items ++ c.args.end.now in
     let kept = ap (λ (l : List ℕ). machine_after machine (meaning_of l)) (c.deref.ensures.value ∙ c.in_ok-keep.ensures) ∙ ap (machine_after machine) (meaning-kept line) in
-    on_ok_weaker c.answer-2.result (λ is. is ∙ kept) c.answer-2.ensures.ok
+    at_ok c.answer-2.result (λ is. is ∙ kept) c.answer-2.ensures.ok
 
 pub returns-clause-taken : goal.returns-clause-taken
 returns-clause-taken g c =

@@ -1,9 +1,15 @@
-use Rattle.std.proofs.Common.{◌≡◌, ◌∙◌}
-use Rattle.std.proofs.lemmas.Result.{IfOk-weaker, on_ok_weaker, on_err_weaker}
+use Rattle.std.proofs.Common.{◌≡◌, Result, Ok, Err, ◌∙◌}
+use Rattle.std.specs.Prelude.{OnOk, OnErr}
+use Rattle.std.proofs.lemmas.Result.{IfOk-weaker}
 use Rattle.drf_rows.specs.Step.{reply_to}
 use Rattle.drf_core.specs.Machine.{Machine, live, IsSame}
 use Rattle.drf_core.specs.MachineLaws.{live-after, reply_to-seen}
 use Rattle.drf_journal.proofs.session.take_event.Goals as goal
+
+-- what follows from what holds at Ok
+at_ok : {T E A B : Type 0} (r : Result T E) → (A → B) → OnOk r A → OnOk r B
+at_ok (Ok x) f h = f h
+at_ok (Err e) f h = h
 
 pub returns-clause-told : goal.returns-clause-told
 returns-clause-told g c =
@@ -12,11 +18,16 @@ returns-clause-told g c =
     (λ reply told. told ∙ reply_to-seen c.args.core.now c.args.event) c.step.ensures.reply
 
 pub returns-clause-ok : goal.returns-clause-ok
-returns-clause-ok g c = on_ok_weaker c.step.result (live-after c.args.core.now c.step.new.self c.args.event) c.step.ensures.ok
+returns-clause-ok g c = at_ok c.step.result (live-after c.args.core.now c.step.new.self c.args.event) c.step.ensures.ok
+
+-- what follows from what holds at Err
+at_err : {T E A B : Type 0} (r : Result T E) → (A → B) → OnErr r A → OnErr r B
+at_err (Ok x) f h = h
+at_err (Err e) f h = f h
 
 same_seen : (old new : Machine) → IsSame old new → live new ≡ live old
 unfolding live
 same_seen old new is = λ i. record { limits = is.limits i; rows = is.rows i }
 
 pub returns-clause-err : goal.returns-clause-err
-returns-clause-err g c = on_err_weaker c.step.result (same_seen c.args.core.now c.step.new.self) c.step.ensures.err
+returns-clause-err g c = at_err c.step.result (same_seen c.args.core.now c.step.new.self) c.step.ensures.err

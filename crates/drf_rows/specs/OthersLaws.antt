@@ -1,10 +1,10 @@
--- Which rows of agents and frameworks an event leaves as they were: all but those of its own agent or framework.
-use Rattle.std.specs.Prelude.{◌≡◌, ℕ, ◌+◌, Bool, true, false, not, ◌||◌, List, [], ◌∷◌, ◌++◌, map, filter, Option, Some, None, if◌then◌else◌}
+-- Which rows an event leaves as they were: all but those of its own agent or framework, and what it ends.
+use Rattle.std.specs.Prelude.{◌≡◌, ℕ, ◌+◌, ◌==◌, Bool, true, false, not, ◌||◌, List, [], ◌∷◌, ◌++◌, map, filter, Option, Some, None, if◌then◌else◌}
 use Rattle.std.specs.List.{list_all}
 use Rattle.std.specs.Option.{option_map_or}
 use Rattle.std.proofs.Common.{refl, sym, ap, ◌∙◌, inl, inr}
 use Rattle.std.proofs.Math.Bool.{or-true}
-use Rattle.std.proofs.lemmas.Bool.{cases_Bool, and_from, not-true, false≢true}
+use Rattle.std.proofs.lemmas.Bool.{cases_Bool, and_from, not-true, false≢true, eqb-true}
 use Rattle.std.proofs.lemmas.List.{append-nil}
 use Rattle.drf_role.specs.Text.{Text, same_text}
 use Rattle.drf_role.specs.TextLaws.{same_itself}
@@ -12,13 +12,14 @@ use Rattle.drf_role.specs.Path.{same_path}
 use Rattle.drf_bundle.specs.declared.resource.Resource.{Resource}
 use Rattle.drf_rows.specs.Client.{Client}
 use Rattle.drf_rows.specs.Cycle.{grant, counted, count_offer, new_offer, with_offer, tried, all_tried, turn, turn_order, turns, at_moment, cycle}
-use Rattle.drf_rows.specs.EndingLaws.{filter-out}
+use Rattle.drf_rows.specs.Endings.{is_task}
+use Rattle.drf_rows.specs.EndingLaws.{filter-out, find-place}
 use Rattle.drf_rows.specs.Offers.{Start, offer_at, offer_accepted, offer_declined}
 use Rattle.drf_rows.specs.OfferedLaws.{offers_stand}
 use Rattle.drf_rows.specs.Members.{distinct, new_client, active_at, suppressed_at, suppressed_in}
 use Rattle.drf_rows.specs.ListLaws.{filter_each, each_true, none_left}
 use Rattle.drf_rows.specs.Step.{refusal_of, effect, rows_after}
-use Rattle.drf_rows.specs.LifeLaws.{is_cycle, other_agents, other_frameworks, OtherAgentsStay, OtherFrameworksStay, RemovedIsGone, active_row, ActivityIsItsAgents, uncounted_row, uncounted_framework, uncounted, CycleOnlyOffers}
+use Rattle.drf_rows.specs.LifeLaws.{is_cycle, other_agents, other_frameworks, OtherAgentsStay, OtherFrameworksStay, is_accept, other_offers, other_tasks, OtherHoldingsStay, RemovedIsGone, active_row, ActivityIsItsAgents, uncounted_row, uncounted_framework, uncounted, CycleOnlyOffers}
 use Rattle.drf_rows.specs.declared.event.Event.{Event}
 use Rattle.drf_rows.specs.declared.event.Event.TheVariants.{AddAgent, RemoveAgent, ActivateAgent, DeactivateAgent, AddFramework, RemoveFramework, Accept, Decline, Rescind, Finish, Suppress, Revive, SetWeight, Cycle, Report}
 use Rattle.drf_rows.specs.declared.reply.Refusal.{Refusal}
@@ -26,6 +27,7 @@ use Rattle.drf_rows.specs.declared.rows.AgentRow.{AgentRow}
 use Rattle.drf_rows.specs.declared.rows.ClientRow.{ClientRow}
 use Rattle.drf_rows.specs.declared.rows.FrameworkRow.{FrameworkRow}
 use Rattle.drf_rows.specs.declared.rows.OfferRow.{OfferRow}
+use Rattle.drf_rows.specs.declared.rows.TaskRow.{TaskRow}
 use Rattle.drf_rows.specs.declared.rows.Rows.{Rows}
 
 -- ---- lists
@@ -232,6 +234,87 @@ other_frameworks_stay limits rows event no_cycle = by (refusal_of limits rows ev
         ≡ other_frameworks event rows.frameworks
     by None = frameworks_left rows event no_cycle
     by (Some refusal) = refl
+
+-- ---- what is held
+
+-- the offer that is accepted or declined has the event's number, and no other goes
+others_of_number : (rows : Rows) (number : ℕ) (o : OfferRow) → offer_at rows number ≡ Some o
+    → filter (λ p. not (p.number == number)) (filter (λ p. not (p.number == o.number)) rows.offers)
+    ≡ filter (λ p. not (p.number == number)) rows.offers
+others_of_number rows number o found =
+    let same : o.number ≡ number = eqb-true o.number number (find-place (λ (p : OfferRow). p.number == number) rows.offers o found).1 in
+    ap (λ (n : ℕ). filter (λ (p : OfferRow). not (p.number == number)) (filter (λ (p : OfferRow). not (p.number == n)) rows.offers)) same
+    ∙ filter-again (λ (p : OfferRow). not (p.number == number)) rows.offers
+
+offers-accepted : (rows : Rows) (at : ℕ) (starts : List Start) (refuse_ms number : ℕ) (found : Option OfferRow) → offer_at rows number ≡ found
+    → filter (λ p. not (p.number == number)) (option_map_or (λ o. offer_accepted (at_moment rows at) o starts refuse_ms) found rows).offers
+    ≡ filter (λ p. not (p.number == number)) rows.offers
+offers-accepted rows at starts refuse_ms number None there = refl
+offers-accepted rows at starts refuse_ms number (Some o) there = others_of_number rows number o there
+
+offers-declined : (rows : Rows) (at refuse_ms number : ℕ) (found : Option OfferRow) → offer_at rows number ≡ found
+    → filter (λ p. not (p.number == number)) (option_map_or (λ o. offer_declined (at_moment rows at) o refuse_ms) found rows).offers
+    ≡ filter (λ p. not (p.number == number)) rows.offers
+offers-declined rows at refuse_ms number None there = refl
+offers-declined rows at refuse_ms number (Some o) there = others_of_number rows number o there
+
+offers_left : (rows : Rows) (event : Event) → is_cycle event ≡ false
+    → other_offers event (effect rows event).offers ≡ other_offers event rows.offers
+unfolding effect
+offers_left rows (AddAgent agent total) no_cycle = refl
+offers_left rows (RemoveAgent agent) no_cycle = filter-again (λ o. not (same_text o.agent agent)) rows.offers
+offers_left rows (ActivateAgent agent) no_cycle = refl
+offers_left rows (DeactivateAgent agent) no_cycle = filter-again (λ o. not (same_text o.agent agent)) rows.offers
+offers_left rows (AddFramework framework roles) no_cycle = refl
+offers_left rows (RemoveFramework framework) no_cycle = filter-again (λ o. not (same_text o.framework framework)) rows.offers
+offers_left rows (Accept framework offer task used at refuse_ms) no_cycle =
+    offers-accepted rows at ((task, used) ∷ []) refuse_ms offer (offer_at rows offer) refl
+offers_left rows (Decline framework offer at refuse_ms) no_cycle = offers-declined rows at refuse_ms offer (offer_at rows offer) refl
+offers_left rows (Rescind offer) no_cycle = filter-again (λ o. not (o.number == offer)) rows.offers
+offers_left rows (Finish framework task) no_cycle = filter_each (λ o. true) rows.offers (each_true rows.offers)
+offers_left rows (Suppress framework role) no_cycle = refl
+offers_left rows (Revive framework role) no_cycle = refl
+offers_left rows (SetWeight role weight) no_cycle = refl
+offers_left rows (Cycle at) no_cycle = absurd (false≢true (sym no_cycle))
+offers_left rows Report no_cycle = refl
+
+all_tasks : (tasks : List TaskRow) → filter (λ t. true) tasks ≡ tasks
+all_tasks tasks = filter_each (λ t. true) tasks (each_true tasks)
+
+tasks-declined : (rows : Rows) (at refuse_ms : ℕ) (found : Option OfferRow)
+    → (option_map_or (λ o. offer_declined (at_moment rows at) o refuse_ms) found rows).tasks ≡ rows.tasks
+tasks-declined rows at refuse_ms None = refl
+tasks-declined rows at refuse_ms (Some o) = all_tasks rows.tasks
+
+tasks_left : (rows : Rows) (event : Event) → is_accept event ≡ false
+    → other_tasks event (effect rows event).tasks ≡ other_tasks event rows.tasks
+unfolding effect
+tasks_left rows (AddAgent agent total) no_accept = refl
+tasks_left rows (RemoveAgent agent) no_accept = filter-again (λ t. not (same_text t.agent agent)) rows.tasks
+tasks_left rows (ActivateAgent agent) no_accept = refl
+tasks_left rows (DeactivateAgent agent) no_accept = all_tasks rows.tasks
+tasks_left rows (AddFramework framework roles) no_accept = refl
+tasks_left rows (RemoveFramework framework) no_accept = filter-again (λ t. not (same_text t.framework framework)) rows.tasks
+tasks_left rows (Accept framework offer task used at refuse_ms) no_accept = absurd (false≢true (sym no_accept))
+tasks_left rows (Decline framework offer at refuse_ms) no_accept = tasks-declined rows at refuse_ms (offer_at rows offer)
+tasks_left rows (Rescind offer) no_accept = all_tasks rows.tasks
+tasks_left rows (Finish framework task) no_accept = filter-again (λ t. not (is_task framework task t)) rows.tasks
+tasks_left rows (Suppress framework role) no_accept = refl
+tasks_left rows (Revive framework role) no_accept = refl
+tasks_left rows (SetWeight role weight) no_accept = refl
+tasks_left rows (Cycle at) no_accept = ap (λ (r : Rows). r.tasks) (made_cycle rows at).made
+tasks_left rows Report no_accept = refl
+
+pub other_holdings_stay : OtherHoldingsStay
+unfolding rows_after
+other_holdings_stay limits rows event = by (refusal_of limits rows event)
+  where
+    by : (refusal : Option Refusal)
+        → let after : Rows = option_map_or (λ refusal. rows) refusal (record (effect rows event) { accepted = rows.accepted + 1 }) in
+        (is_cycle event ≡ false → other_offers event after.offers ≡ other_offers event rows.offers)
+        × (is_accept event ≡ false → other_tasks event after.tasks ≡ other_tasks event rows.tasks)
+    by None = (offers_left rows event, tasks_left rows event)
+    by (Some refusal) = (λ no_cycle. refl, λ no_accept. refl)
 
 -- ---- the one
 

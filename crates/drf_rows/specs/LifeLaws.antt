@@ -1,8 +1,8 @@
 -- What is proved of offers, tasks and filters, from their making to their end, and of what each event leaves as it was.
-use Rattle.std.specs.Prelude.{◌≡◌, ℕ, ◌+◌, ◌≤◌, ◌==◌, max, Bool, true, false, not, ◌&&◌, ◌||◌, List, [], ◌∷◌, ◌++◌, length, map, filter, drop, flat_map, slice_get, Some}
+use Rattle.std.specs.Prelude.{◌≡◌, ℕ, ◌+◌, ◌≤◌, ◌==◌, max, Bool, true, false, not, ◌&&◌, ◌||◌, List, [], ◌∷◌, ◌++◌, length, map, filter, count_by, drop, flat_map, slice_get, Some}
 use Rattle.std.specs.List.{list_all, list_any}
 use Rattle.drf_role.specs.Text.{Text, same_text}
-use Rattle.drf_role.specs.Path.{same_path}
+use Rattle.drf_role.specs.Path.{Path, same_path}
 use Rattle.drf_bundle.specs.Bundle.{join}
 use Rattle.drf_bundle.specs.declared.resource.Resource.{Resource}
 use Rattle.drf_rows.specs.LimitNumbers.{LimitNumbers}
@@ -248,17 +248,18 @@ ActivityIsItsAgents =
     × (activated ≡ record rows { agents = activated.agents })
     × (deactivated ≡ record rows { agents = deactivated.agents; offers = deactivated.offers })
 
--- the frameworks, as they were if no offer had been counted
-abbrev pub uncounted_row : ClientRow → ClientRow
-uncounted_row c = record c { count = 0 }
+-- the offer is made to the framework, in that role
+abbrev pub is_made_to : Text → Path → OfferRow → Bool
+is_made_to framework role o = same_text framework o.framework && same_path role o.role
 
-abbrev pub uncounted_framework : FrameworkRow → FrameworkRow
-uncounted_framework f = record f { clients = map uncounted_row f.clients }
+-- the frameworks, with each client's count raised by the number of offers that are made to it
+abbrev pub raised_row : List OfferRow → Text → ClientRow → ClientRow
+raised_row made framework c = record c { count = c.count + count_by (is_made_to framework c.role) made }
 
-abbrev pub uncounted : List FrameworkRow → List FrameworkRow
-uncounted frameworks = map uncounted_framework frameworks
+abbrev pub with_counts : List OfferRow → FrameworkRow → FrameworkRow
+with_counts made f = record f { clients = map (raised_row made f.name) f.clients }
 
--- a cycle moves the clock, adds offers to those that stand, and counts them; it changes nothing else
+-- a cycle moves the clock, adds offers to those that stand, and counts each at its client; it changes nothing else
 abbrev pub CycleOnlyOffers : Type 0
 CycleOnlyOffers =
     (rows : Rows) (at : ℕ)
@@ -271,4 +272,4 @@ CycleOnlyOffers =
       clock = max rows.clock at;
     })
     × (after.offers ≡ rows.offers ++ new_offers rows after)
-    × (uncounted after.frameworks ≡ uncounted rows.frameworks)
+    × (after.frameworks ≡ map (with_counts (new_offers rows after)) rows.frameworks)

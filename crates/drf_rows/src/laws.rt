@@ -62,8 +62,8 @@ pub fn life_law()
 
 /// An event leaves all agents and frameworks as they were but the one that it is about, and what is removed is gone. The offers
 /// and tasks that it does not end stay as they were; what an accept adds to the tasks, `life_law` says. An agent that is activated
-/// or deactivated, and a client that is suppressed or revives, is so, and in its row nothing else changes. A cycle adds offers
-/// and counts them.
+/// or deactivated, and a client that is suppressed or revives, is so, and in its row nothing else changes. A cycle adds offers and
+/// raises each client's count by the number of those that are made to it; clock and next number move, and nothing else changes.
 pub fn others_law()
     ensures agents { OtherAgentsStay }
     ensures frameworks { OtherFrameworksStay }

@@ -220,6 +220,13 @@ OtherHoldingsStay =
     (is_cycle event ≡ false → other_offers event after.offers ≡ other_offers event rows.offers)
     × (is_accept event ≡ false → other_tasks event after.tasks ≡ other_tasks event rows.tasks)
 
+-- what an event ends is gone, and is all that goes: the others are what is left
+abbrev pub EndedIsGone : Type 0
+EndedIsGone =
+    (rows : Rows) (event : Event)
+    → (is_cycle event ≡ false → (effect rows event).offers ≡ other_offers event rows.offers)
+    × (is_accept event ≡ false → (effect rows event).tasks ≡ other_tasks event rows.tasks)
+
 -- an agent or a framework that is removed is known no more
 abbrev pub RemovedIsGone : Type 0
 RemovedIsGone =

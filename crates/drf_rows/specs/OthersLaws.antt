@@ -1,5 +1,5 @@
 -- Which rows an event leaves as they were: all but those of its own agent or framework, and what it ends.
-use Rattle.std.specs.Prelude.{◌≡◌, ℕ, ◌+◌, ◌==◌, Bool, true, false, not, ◌&&◌, ◌||◌, List, [], ◌∷◌, ◌++◌, length, map, filter, count_by, drop, Option, Some, None, if◌then◌else◌}
+use Rattle.std.specs.Prelude.{◌≡◌, ℕ, ◌+◌, ◌==◌, Bool, true, false, not, ◌&&◌, ◌||◌, List, [], ◌∷◌, ◌++◌, length, map, filter, find, count_by, drop, Option, Some, None, if◌then◌else◌}
 use Rattle.std.specs.List.{list_all}
 use Rattle.std.specs.Option.{option_map_or}
 use Rattle.std.proofs.Common.{refl, sym, ap, ◌∙◌, inl, inr, cond, arith}
@@ -21,7 +21,7 @@ use Rattle.drf_rows.specs.Offers.{Start, offer_at, offer_accepted, offer_decline
 use Rattle.drf_rows.specs.Members.{distinct, new_client, active_at, suppressed_at, suppressed_in}
 use Rattle.drf_rows.specs.ListLaws.{filter_each, each_true, none_left}
 use Rattle.drf_rows.specs.Step.{refusal_of, effect, new_offers, rows_after}
-use Rattle.drf_rows.specs.LifeLaws.{is_cycle, other_agents, other_frameworks, OtherAgentsStay, OtherFrameworksStay, is_accept, other_offers, other_tasks, OtherHoldingsStay, RemovedIsGone, active_row, ActivityIsItsAgents, is_made_to, raised_row, with_counts, CycleOnlyOffers}
+use Rattle.drf_rows.specs.LifeLaws.{is_cycle, other_agents, other_frameworks, OtherAgentsStay, OtherFrameworksStay, is_accept, other_offers, other_tasks, OtherHoldingsStay, EndedIsGone, RemovedIsGone, active_row, ActivityIsItsAgents, is_made_to, raised_row, with_counts, CycleOnlyOffers}
 use Rattle.drf_rows.specs.declared.event.Event.{Event}
 use Rattle.drf_rows.specs.declared.event.Event.TheVariants.{AddAgent, RemoveAgent, ActivateAgent, DeactivateAgent, AddFramework, RemoveFramework, Accept, Decline, Rescind, Finish, Suppress, Revive, SetWeight, Cycle, Report}
 use Rattle.drf_rows.specs.declared.reply.Refusal.{Refusal}
@@ -374,6 +374,77 @@ other_holdings_stay limits rows event = by (refusal_of limits rows event)
         × (is_accept event ≡ false → other_tasks event after.tasks ≡ other_tasks event rows.tasks)
     by None = (offers_left rows event, tasks_left rows event)
     by (Some refusal) = (λ no_cycle. refl, λ no_accept. refl)
+
+-- ---- what goes
+
+none-found : {X : Type 0} (p : X → Bool) (xs : List X) → find p xs ≡ None → xs ≡ filter (λ x. not (p x)) xs
+none-found p [] none = refl
+none-found {X} p (x ∷ xs) none = elim (cases_Bool (p x)) [
+  | inl here ↦
+      let found : ◌≡◌ {A = Option X} (Some x) None = sym (ap (λ (b : Bool). cond b (Some x) (find p xs)) here) ∙ none in
+      cc
+  | inr past ↦
+      let later : find p xs ≡ None = sym (ap (λ (b : Bool). cond b (Some x) (find p xs)) past) ∙ none in
+      rw past (ap (λ (ys : List X). x ∷ ys) (none-found p xs later))
+]
+
+number_gone : (rows : Rows) (number : ℕ) (o : OfferRow) → offer_at rows number ≡ Some o
+    → filter (λ p. not (p.number == o.number)) rows.offers ≡ filter (λ p. not (p.number == number)) rows.offers
+number_gone rows number o found =
+    ap (λ (n : ℕ). filter (λ (p : OfferRow). not (p.number == n)) rows.offers)
+    (eqb-true o.number number (find-place (λ (p : OfferRow). p.number == number) rows.offers o found).1)
+
+gone-accepted : (rows : Rows) (at : ℕ) (starts : List Start) (refuse_ms number : ℕ) (found : Option OfferRow) → offer_at rows number ≡ found
+    → (option_map_or (λ o. offer_accepted (at_moment rows at) o starts refuse_ms) found rows).offers
+    ≡ filter (λ p. not (p.number == number)) rows.offers
+gone-accepted rows at starts refuse_ms number None there = none-found (λ (p : OfferRow). p.number == number) rows.offers there
+gone-accepted rows at starts refuse_ms number (Some o) there = number_gone rows number o there
+
+gone-declined : (rows : Rows) (at refuse_ms number : ℕ) (found : Option OfferRow) → offer_at rows number ≡ found
+    → (option_map_or (λ o. offer_declined (at_moment rows at) o refuse_ms) found rows).offers
+    ≡ filter (λ p. not (p.number == number)) rows.offers
+gone-declined rows at refuse_ms number None there = none-found (λ (p : OfferRow). p.number == number) rows.offers there
+gone-declined rows at refuse_ms number (Some o) there = number_gone rows number o there
+
+offers_gone : (rows : Rows) (event : Event) → is_cycle event ≡ false → (effect rows event).offers ≡ other_offers event rows.offers
+unfolding effect
+offers_gone rows (AddAgent agent total) no_cycle = refl
+offers_gone rows (RemoveAgent agent) no_cycle = refl
+offers_gone rows (ActivateAgent agent) no_cycle = refl
+offers_gone rows (DeactivateAgent agent) no_cycle = refl
+offers_gone rows (AddFramework framework roles) no_cycle = refl
+offers_gone rows (RemoveFramework framework) no_cycle = refl
+offers_gone rows (Accept framework offer task used at refuse_ms) no_cycle =
+    gone-accepted rows at ((task, used) ∷ []) refuse_ms offer (offer_at rows offer) refl
+offers_gone rows (Decline framework offer at refuse_ms) no_cycle = gone-declined rows at refuse_ms offer (offer_at rows offer) refl
+offers_gone rows (Rescind offer) no_cycle = refl
+offers_gone rows (Finish framework task) no_cycle = filter_each (λ o. true) rows.offers (each_true rows.offers)
+offers_gone rows (Suppress framework role) no_cycle = refl
+offers_gone rows (Revive framework role) no_cycle = refl
+offers_gone rows (SetWeight role weight) no_cycle = refl
+offers_gone rows (Cycle at) no_cycle = absurd (false≢true (sym no_cycle))
+offers_gone rows Report no_cycle = refl
+
+tasks_gone : (rows : Rows) (event : Event) → is_accept event ≡ false → (effect rows event).tasks ≡ other_tasks event rows.tasks
+unfolding effect
+tasks_gone rows (AddAgent agent total) no_accept = refl
+tasks_gone rows (RemoveAgent agent) no_accept = refl
+tasks_gone rows (ActivateAgent agent) no_accept = refl
+tasks_gone rows (DeactivateAgent agent) no_accept = all_tasks rows.tasks
+tasks_gone rows (AddFramework framework roles) no_accept = refl
+tasks_gone rows (RemoveFramework framework) no_accept = refl
+tasks_gone rows (Accept framework offer task used at refuse_ms) no_accept = absurd (false≢true (sym no_accept))
+tasks_gone rows (Decline framework offer at refuse_ms) no_accept = tasks-declined rows at refuse_ms (offer_at rows offer)
+tasks_gone rows (Rescind offer) no_accept = all_tasks rows.tasks
+tasks_gone rows (Finish framework task) no_accept = refl
+tasks_gone rows (Suppress framework role) no_accept = refl
+tasks_gone rows (Revive framework role) no_accept = refl
+tasks_gone rows (SetWeight role weight) no_accept = refl
+tasks_gone rows (Cycle at) no_accept = ap (λ (r : Rows). r.tasks) (made_cycle rows at).rest
+tasks_gone rows Report no_accept = refl
+
+pub ended_is_gone : EndedIsGone
+ended_is_gone rows event = (offers_gone rows event, tasks_gone rows event)
 
 -- ---- the one
 

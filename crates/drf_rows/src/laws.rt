@@ -6,7 +6,7 @@ ghost use Rattle.std.specs.Prelude.{◌≡◌, [], ◌∷◌, codes};
 ghost use Rattle.drf_rows.specs.LimitNumbers.{ceilings};
 ghost use Rattle.drf_rows.specs.Step.{opening, replies_to};
 ghost use Rattle.drf_rows.specs.Laws.{NoneBeforeItself, AtMostOneBefore, OneServingOrder, TooLittleIsNotGranted, FirstIsGrantedAll, CasesRise, LeastIsTold, RefusedChangesNothing, AcceptedIsCounted, RunsGoOn, LiveRowsReply, LiveRowsGoOn, LiveRowsRun, HeldIsReported, CountIsReported, TotalIsReported, AmountsAreAboveZero, SharesAreLowest, NodesRise, NodesBeginPaths};
-ghost use Rattle.drf_rows.specs.LifeLaws.{AcceptedIsATask, DeclinedAtOnceIsUndone, FinishedIsGivenBack, FiltersGoWithTheirOwner, OtherFiltersStay, SuppressionIsItsClients, SuppressedIsNotOffered, NumbersAreNew, OtherAgentsStay, OtherFrameworksStay, OtherHoldingsStay, RemovedIsGone, ActivityIsItsAgents, CycleOnlyOffers};
+ghost use Rattle.drf_rows.specs.LifeLaws.{AcceptedIsATask, DeclinedAtOnceIsUndone, FinishedIsGivenBack, FiltersGoWithTheirOwner, OtherFiltersStay, SuppressionIsItsClients, SuppressedIsNotOffered, NumbersAreNew, OtherAgentsStay, OtherFrameworksStay, OtherHoldingsStay, EndedIsGone, RemovedIsGone, ActivityIsItsAgents, CycleOnlyOffers};
 ghost use Rattle.drf_rows.specs.Examples.{one_cycle, two_cycles, two_cycles_replies, two_frameworks, two_frameworks_replies, replies_with, not_offered, offered_whole, refused_as_too_large, one_agent, two_agents, two_events, two_names, three_names, one_framework, one_client, two_registrations, one_role, roles_listed, reserved_for_eng, reserved_for_eng_replies, cpus, cpus_for, mem, gpus};
 ghost use Rattle.drf_rows.specs.OrderExamples.{served, offered, half_at_work, close_shares, equal_shares, weighted_shares, shares_of, first_agent, second_agent, idle_agent, role_tree, more_for_ops, half_weight_of_eng, nothing_held};
 ghost use Rattle.drf_rows.specs.Report.{report_of};
@@ -61,13 +61,15 @@ pub fn life_law()
 {}
 
 /// An event leaves all agents and frameworks as they were but the one that it is about, and what is removed is gone. The offers
-/// and tasks that it does not end stay as they were; what an accept adds to the tasks, `life_law` says. An agent that is activated
-/// or deactivated, and a client that is suppressed or revives, is so, and in its row nothing else changes. A cycle adds offers and
-/// raises each client's count by the number of those that are made to it; clock and next number move, and nothing else changes.
+/// and tasks that it does not end stay as they were, and where it is not refused those that it ends are gone; what an accept adds
+/// to the tasks, `life_law` says. An agent that is activated or deactivated, and a client that is suppressed or revives, is so, and
+/// in its row nothing else changes. A cycle adds offers and raises each client's count by the number of those that are made to it;
+/// clock and next number move, and nothing else changes.
 pub fn others_law()
     ensures agents { OtherAgentsStay }
     ensures frameworks { OtherFrameworksStay }
     ensures holdings { OtherHoldingsStay }
+    ensures ended { EndedIsGone }
     ensures removed { RemovedIsGone }
     ensures activity { ActivityIsItsAgents }
     ensures suppression { SuppressionIsItsClients }

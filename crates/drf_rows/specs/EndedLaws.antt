@@ -1,13 +1,16 @@
--- Offers that are declined, tasks that finish, and filters that go.
-use Rattle.std.specs.Prelude.{◌≡◌, ℕ, ◌+◌, ◌-◌, ◌≤◌, ◌==◌, Bool, true, false, not, List, [], ◌∷◌, ◌++◌, map, filter, slice_get, Some, Option, max}
+-- Offers that are accepted or declined, tasks that finish, and filters that go.
+use Rattle.std.specs.Prelude.{◌≡◌, ℕ, ◌+◌, ◌-◌, ◌≤◌, ◌==◌, Bool, true, false, not, ◌&&◌, List, [], ◌∷◌, ◌++◌, length, map, filter, drop, slice_get, Some, Option, max}
 use Rattle.std.specs.List.{list_all, AllByRecursion}
 use Rattle.std.specs.Option.{option_map_or}
 use Rattle.std.proofs.Common.{refl, sym, ap, subst, ◌∙◌, cond, arith}
-use Rattle.std.proofs.lemmas.Bool.{and_parts, and_from}
+use Rattle.std.proofs.lemmas.Bool.{and_parts, and_from, eqb-true}
 use Rattle.std.proofs.lemmas.Bool.Decides.{nat_tests}
 use Rattle.std.proofs.lemmas.List.{map-append, append-nil}
+use Rattle.std.proofs.Math.Seq.{drop-append_seam}
 use Rattle.drf_role.specs.Text.{Text, same_text}
 use Rattle.drf_role.specs.TextLaws.{same_itself}
+use Rattle.drf_role.specs.PathLaws.{same_path_itself}
+use Rattle.drf_bundle.specs.declared.resource.Resource.{Resource}
 use Rattle.drf_bundle.specs.Value.{Point}
 use Rattle.drf_bundle.specs.Bundle.{Key, IsBundle, units, join}
 use Rattle.drf_bundle.specs.BundleLaws.{known_by_units}
@@ -18,15 +21,16 @@ use Rattle.drf_rows.specs.HoldingsLaws.{units_on, units_on-append, units_on-cons
 use Rattle.drf_rows.specs.Cycle.{free_of, new_offer, with_offer, at_moment}
 use Rattle.drf_rows.specs.CycleLaws.{bundle-free_of, units-free_of}
 use Rattle.drf_rows.specs.Endings.{is_task}
-use Rattle.drf_rows.specs.EndingLaws.{is_task-swap}
-use Rattle.drf_rows.specs.Offers.{offer_at, offer_declined}
+use Rattle.drf_rows.specs.EndingLaws.{is_task-swap, find-place}
+use Rattle.drf_rows.specs.Offers.{Start, task_of, offer_at, left_of_offer, refused_until, filter_of, refuses_rest, filters_with, offer_accepted, offer_declined}
 use Rattle.drf_rows.specs.Consistent.{are_distinct_tasks, IsAgent, IsCovered, IsConsistent}
 use Rattle.drf_rows.specs.ConsistentLaws.{numbers_within, bundles-consistent}
 use Rattle.drf_rows.specs.ListLaws.{none_left, filter_each, find_only, filter_only, each_from, each_at, each_true, each_fails, each_append, each_parts}
 use Rattle.drf_rows.specs.Step.{effect}
-use Rattle.drf_rows.specs.LifeLaws.{DeclinedAtOnceIsUndone, FinishedIsGivenBack, FiltersGoWithTheirOwner, OtherFiltersStay}
+use Rattle.drf_rows.specs.LifeLaws.{DeclinedAtOnceIsUndone, FinishedIsGivenBack, AcceptedIsATask, FiltersGoWithTheirOwner, OtherFiltersStay}
 use Rattle.drf_rows.specs.declared.event.Event.TheVariants.{Finish}
 use Rattle.drf_rows.specs.declared.rows.AgentRow.{AgentRow}
+use Rattle.drf_rows.specs.declared.rows.FilterRow.{FilterRow}
 use Rattle.drf_rows.specs.declared.rows.OfferRow.{OfferRow}
 use Rattle.drf_rows.specs.declared.rows.TaskRow.{TaskRow}
 use Rattle.drf_rows.specs.declared.rows.Rows.{Rows}
@@ -63,6 +67,67 @@ declined_at_once rows agent client bundle at consistent =
       next_offer = rows.next_offer + 1;
       clock = max rows.clock at;
     })
+
+-- ---- an offer is accepted
+
+-- the filters that stood, and one more or none
+IsAtMostOneMore : OfferRow → List FilterRow → List FilterRow → Type 0
+IsAtMostOneMore o old new =
+    (new ≡ old ++ drop (length old) new)
+    × (length (drop (length old) new) ≤ 1)
+    × (list_all (λ f. is_of_client (of_offer o).client f && is_on_agent o.agent f) (drop (length old) new) ≡ true)
+
+more_filters : (o : OfferRow) (old added : List FilterRow) → length added ≤ 1
+    → list_all (λ f. is_of_client (of_offer o).client f && is_on_agent o.agent f) added ≡ true
+    → IsAtMostOneMore o old (old ++ added)
+unfolding IsAtMostOneMore
+more_filters o old added few own =
+    let seam = drop-append_seam old added in (
+      ap (λ (fs : List FilterRow). old ++ fs) (sym seam),
+      subst (λ (fs : List FilterRow). length fs ≤ 1) (sym seam) few,
+      ap (list_all (λ f. is_of_client (of_offer o).client f && is_on_agent o.agent f)) seam ∙ own,
+    )
+
+filters_then : (rows : Rows) (o : OfferRow) (bundle : List Resource) (refuse_ms : ℕ) (refused : Bool)
+    → IsAtMostOneMore o rows.filters (filters_with rows refused o bundle refuse_ms)
+filters_then rows o bundle refuse_ms true =
+    more_filters o rows.filters (filter_of o bundle (refused_until rows.clock refuse_ms) ∷ []) (omega arith)
+    (and_from _ _ (and_from _ _ (and_from _ _ (same_path_itself o.role) (same_itself o.framework)) (same_itself o.agent)) refl)
+filters_then rows o bundle refuse_ms false =
+    subst (IsAtMostOneMore o rows.filters) (append-nil rows.filters) (more_filters o rows.filters [] (omega arith) refl)
+
+pub accepted_is_a_task : AcceptedIsATask
+unfolding effect IsAtMostOneMore
+accepted_is_a_task rows framework task number at refuse_ms used o found =
+    subst (λ (r : Rows).
+    (r
+    ≡ record rows {
+      offers = filter (λ p. not (p.number == number)) rows.offers;
+      tasks = rows.tasks ++ task_of o (task, used) ∷ [];
+      filters = rows.filters ++ drop (length rows.filters) r.filters;
+      clock = max rows.clock at;
+    })
+    × (length (drop (length rows.filters) r.filters) ≤ 1)
+    × (list_all (λ f. is_of_client (of_offer o).client f && is_on_agent o.agent f) (drop (length rows.filters) r.filters) ≡ true))
+    (sym (ap (λ (f : Option OfferRow). option_map_or (λ o. offer_accepted (at_moment rows at) o ((task, used) ∷ []) refuse_ms) f rows) found)) (
+      (λ i. record rows {
+        offers = filter (λ p. not (p.number == same i)) rows.offers;
+        tasks = rows.tasks ++ task_of o (task, used) ∷ [];
+        filters = added.0 i;
+        clock = max rows.clock at;
+      }),
+      added.1,
+      added.2,
+    )
+  where
+    starts : List Start
+    starts = (task, used) ∷ []
+
+    same : o.number ≡ number
+    same = eqb-true o.number number (find-place (λ (p : OfferRow). p.number == number) rows.offers o found).1
+
+    added : IsAtMostOneMore o rows.filters (filters_with (at_moment rows at) (refuses_rest o starts refuse_ms) o (left_of_offer o starts) refuse_ms)
+    added = filters_then (at_moment rows at) o (left_of_offer o starts) refuse_ms (refuses_rest o starts refuse_ms)
 
 -- ---- filters go
 

@@ -1,8 +1,8 @@
 -- What is proved of offers, tasks and filters, from their making to their end, and of what each event leaves as it was.
-use Rattle.std.specs.Prelude.{◌≡◌, ℕ, ◌+◌, max, Bool, true, false, not, ◌&&◌, ◌||◌, List, [], ◌∷◌, ◌++◌, map, filter, flat_map, slice_get, Some}
+use Rattle.std.specs.Prelude.{◌≡◌, ℕ, ◌+◌, ◌≤◌, ◌==◌, max, Bool, true, false, not, ◌&&◌, ◌||◌, List, [], ◌∷◌, ◌++◌, length, map, filter, count_by, drop, flat_map, slice_get, Some}
 use Rattle.std.specs.List.{list_all, list_any}
 use Rattle.drf_role.specs.Text.{Text, same_text}
-use Rattle.drf_role.specs.Path.{same_path}
+use Rattle.drf_role.specs.Path.{Path, same_path}
 use Rattle.drf_bundle.specs.Bundle.{join}
 use Rattle.drf_bundle.specs.declared.resource.Resource.{Resource}
 use Rattle.drf_rows.specs.LimitNumbers.{LimitNumbers}
@@ -12,16 +12,19 @@ use Rattle.drf_rows.specs.Held.{client_of}
 use Rattle.drf_rows.specs.Filters.{is_of_client, is_on_agent}
 use Rattle.drf_rows.specs.Consistent.{IsConsistent}
 use Rattle.drf_rows.specs.Cycle.{free_of, new_offer, with_offer, cycle}
+use Rattle.drf_rows.specs.Endings.{is_task}
 use Rattle.drf_rows.specs.Members.{has_agent, has_framework}
+use Rattle.drf_rows.specs.Offers.{offer_at}
 use Rattle.drf_rows.specs.Step.{effect, new_offers, rows_after, rows_after_all, replies_to}
 use Rattle.drf_rows.specs.declared.rows.AgentRow.{AgentRow}
 use Rattle.drf_rows.specs.declared.rows.ClientRow.{ClientRow}
 use Rattle.drf_rows.specs.declared.rows.FrameworkRow.{FrameworkRow}
+use Rattle.drf_rows.specs.declared.rows.FilterRow.{FilterRow}
 use Rattle.drf_rows.specs.declared.rows.OfferRow.{OfferRow}
 use Rattle.drf_rows.specs.declared.rows.TaskRow.{TaskRow}
 use Rattle.drf_rows.specs.declared.rows.Rows.{Rows}
 use Rattle.drf_rows.specs.declared.event.Event.{Event}
-use Rattle.drf_rows.specs.declared.event.Event.TheVariants.{AddAgent, RemoveAgent, ActivateAgent, DeactivateAgent, AddFramework, RemoveFramework, Decline, Finish, Suppress, Revive, Cycle}
+use Rattle.drf_rows.specs.declared.event.Event.TheVariants.{AddAgent, RemoveAgent, ActivateAgent, DeactivateAgent, AddFramework, RemoveFramework, Accept, Decline, Rescind, Finish, Suppress, Revive, Cycle}
 use Rattle.drf_rows.specs.declared.reply.OfferLine.{OfferLine}
 use Rattle.drf_rows.specs.declared.reply.Reply.{Reply}
 use Rattle.drf_rows.specs.declared.reply.Reply.TheVariants.{Offers}
@@ -47,6 +50,25 @@ FinishedIsGivenBack =
     (after ≡ record rows { tasks = before ++ later })
     × (same_text t.agent agent.name ≡ true → join (free_of rows agent) t.bundle ≡ Some (free_of after agent))
     × (same_text t.agent agent.name ≡ false → free_of after agent ≡ free_of rows agent)
+
+-- an offer that is accepted goes, and leaves one task behind those that run: its client's, on its agent, with the part that is
+-- used. The clock moves, one filter of the client there may be added, and nothing else of the rows changes
+abbrev pub AcceptedIsATask : Type 0
+AcceptedIsATask =
+    (rows : Rows) (framework task : Text) (number at refuse_ms : ℕ) (used : List Resource) (o : OfferRow)
+    → offer_at rows number ≡ Some o
+    → let started : TaskRow = record { name = task; agent = o.agent; framework = o.framework; role = o.role; bundle = used } in
+    let after : Rows = effect rows (Accept framework number task used at refuse_ms) in
+    let added : List FilterRow = drop (length rows.filters) after.filters in
+    (after
+    ≡ record rows {
+      offers = filter (λ p. not (p.number == number)) rows.offers;
+      tasks = rows.tasks ++ started ∷ [];
+      filters = rows.filters ++ added;
+      clock = max rows.clock at;
+    })
+    × (length added ≤ 1)
+    × (list_all (λ f. is_of_client (of_offer o).client f && is_on_agent o.agent f) added ≡ true)
 
 -- no filter outlives its agent, its framework, or the next revival of its client
 abbrev pub FiltersGoWithTheirOwner : Type 0
@@ -169,6 +191,42 @@ OtherFrameworksStay =
     → is_cycle event ≡ false
     → other_frameworks event (rows_after limits rows event).frameworks ≡ other_frameworks event rows.frameworks
 
+-- the offers that an event does not end
+abbrev pub other_offers : Event → List OfferRow → List OfferRow
+other_offers (RemoveAgent agent) offers = filter (λ o. not (same_text o.agent agent)) offers
+other_offers (DeactivateAgent agent) offers = filter (λ o. not (same_text o.agent agent)) offers
+other_offers (RemoveFramework framework) offers = filter (λ o. not (same_text o.framework framework)) offers
+other_offers (Accept framework offer task used at refuse_ms) offers = filter (λ o. not (o.number == offer)) offers
+other_offers (Decline framework offer at refuse_ms) offers = filter (λ o. not (o.number == offer)) offers
+other_offers (Rescind offer) offers = filter (λ o. not (o.number == offer)) offers
+other_offers event offers = offers
+
+-- the tasks that it does not end
+abbrev pub other_tasks : Event → List TaskRow → List TaskRow
+other_tasks (RemoveAgent agent) tasks = filter (λ t. not (same_text t.agent agent)) tasks
+other_tasks (RemoveFramework framework) tasks = filter (λ t. not (same_text t.framework framework)) tasks
+other_tasks (Finish framework task) tasks = filter (λ t. not (is_task framework task t)) tasks
+other_tasks event tasks = tasks
+
+abbrev pub is_accept : Event → Bool
+is_accept (Accept framework offer task used at refuse_ms) = true
+is_accept event = false
+
+-- what an event does not end stays as it was, and in order; a cycle adds offers, and an accept a task
+abbrev pub OtherHoldingsStay : Type 0
+OtherHoldingsStay =
+    (limits : LimitNumbers) (rows : Rows) (event : Event)
+    → let after : Rows = rows_after limits rows event in
+    (is_cycle event ≡ false → other_offers event after.offers ≡ other_offers event rows.offers)
+    × (is_accept event ≡ false → other_tasks event after.tasks ≡ other_tasks event rows.tasks)
+
+-- what an event ends is gone, and is all that goes: the others are what is left
+abbrev pub EndedIsGone : Type 0
+EndedIsGone =
+    (rows : Rows) (event : Event)
+    → (is_cycle event ≡ false → (effect rows event).offers ≡ other_offers event rows.offers)
+    × (is_accept event ≡ false → (effect rows event).tasks ≡ other_tasks event rows.tasks)
+
 -- an agent or a framework that is removed is known no more
 abbrev pub RemovedIsGone : Type 0
 RemovedIsGone =
@@ -197,17 +255,18 @@ ActivityIsItsAgents =
     × (activated ≡ record rows { agents = activated.agents })
     × (deactivated ≡ record rows { agents = deactivated.agents; offers = deactivated.offers })
 
--- the frameworks, as they were if no offer had been counted
-abbrev pub uncounted_row : ClientRow → ClientRow
-uncounted_row c = record c { count = 0 }
+-- the offer is made to the framework, in that role
+abbrev pub is_made_to : Text → Path → OfferRow → Bool
+is_made_to framework role o = same_text framework o.framework && same_path role o.role
 
-abbrev pub uncounted_framework : FrameworkRow → FrameworkRow
-uncounted_framework f = record f { clients = map uncounted_row f.clients }
+-- the frameworks, with each client's count raised by the number of offers that are made to it
+abbrev pub raised_row : List OfferRow → Text → ClientRow → ClientRow
+raised_row made framework c = record c { count = c.count + count_by (is_made_to framework c.role) made }
 
-abbrev pub uncounted : List FrameworkRow → List FrameworkRow
-uncounted frameworks = map uncounted_framework frameworks
+abbrev pub with_counts : List OfferRow → FrameworkRow → FrameworkRow
+with_counts made f = record f { clients = map (raised_row made f.name) f.clients }
 
--- a cycle moves the clock, adds offers to those that stand, and counts them; it changes nothing else
+-- a cycle moves the clock, adds offers to those that stand, and counts each at its client; it changes nothing else
 abbrev pub CycleOnlyOffers : Type 0
 CycleOnlyOffers =
     (rows : Rows) (at : ℕ)
@@ -220,4 +279,4 @@ CycleOnlyOffers =
       clock = max rows.clock at;
     })
     × (after.offers ≡ rows.offers ++ new_offers rows after)
-    × (uncounted after.frameworks ≡ uncounted rows.frameworks)
+    × (after.frameworks ≡ map (with_counts (new_offers rows after)) rows.frameworks)

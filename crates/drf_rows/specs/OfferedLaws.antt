@@ -115,13 +115,6 @@ module _ (P : Client → Type 0) (rows : Rows) (at : ℕ) (all : AllByRecursion 
   offered_new : new_offers rows (cycle rows at) ≡ offered.made
   offered_new = ap (drop (length rows.offers)) offered.offers ∙ drop-append_seam rows.offers offered.made
 
--- the offers that stood stand before the new ones
-pub offers_stand : (rows : Rows) (at : ℕ) → (cycle rows at).offers ≡ rows.offers ++ new_offers rows (cycle rows at)
-offers_stand rows at =
-    let Any : Client → Type 0 = λ c. ◌≡◌ {A = Bool} true true in
-    let all = each_true (active_clients rows) in
-    (offered Any rows at all).offers ∙ ap (λ (os : List OfferRow). rows.offers ++ os) (sym (offered_new Any rows at all))
-
 -- ---- clients that are suppressed
 
 module _ (client : Client) where

@@ -6,7 +6,7 @@ ghost use Rattle.std.specs.Prelude.{◌≡◌, [], ◌∷◌, codes};
 ghost use Rattle.drf_rows.specs.LimitNumbers.{ceilings};
 ghost use Rattle.drf_rows.specs.Step.{opening, replies_to};
 ghost use Rattle.drf_rows.specs.Laws.{NoneBeforeItself, AtMostOneBefore, OneServingOrder, TooLittleIsNotGranted, FirstIsGrantedAll, CasesRise, LeastIsTold, RefusedChangesNothing, AcceptedIsCounted, RunsGoOn, LiveRowsReply, LiveRowsGoOn, LiveRowsRun, HeldIsReported, CountIsReported, TotalIsReported, AmountsAreAboveZero, SharesAreLowest, NodesRise, NodesBeginPaths};
-ghost use Rattle.drf_rows.specs.LifeLaws.{DeclinedAtOnceIsUndone, FinishedIsGivenBack, FiltersGoWithTheirOwner, OtherFiltersStay, SuppressionIsItsClients, SuppressedIsNotOffered, NumbersAreNew, OtherAgentsStay, OtherFrameworksStay, RemovedIsGone, ActivityIsItsAgents, CycleOnlyOffers};
+ghost use Rattle.drf_rows.specs.LifeLaws.{AcceptedIsATask, DeclinedAtOnceIsUndone, FinishedIsGivenBack, FiltersGoWithTheirOwner, OtherFiltersStay, SuppressionIsItsClients, SuppressedIsNotOffered, NumbersAreNew, OtherAgentsStay, OtherFrameworksStay, OtherHoldingsStay, EndedIsGone, RemovedIsGone, ActivityIsItsAgents, CycleOnlyOffers};
 ghost use Rattle.drf_rows.specs.Examples.{one_cycle, two_cycles, two_cycles_replies, two_frameworks, two_frameworks_replies, replies_with, not_offered, offered_whole, refused_as_too_large, one_agent, two_agents, two_events, two_names, three_names, one_framework, one_client, two_registrations, one_role, roles_listed, reserved_for_eng, reserved_for_eng_replies, cpus, cpus_for, mem, gpus};
 ghost use Rattle.drf_rows.specs.OrderExamples.{served, offered, half_at_work, close_shares, equal_shares, weighted_shares, shares_of, first_agent, second_agent, idle_agent, role_tree, more_for_ops, half_weight_of_eng, nothing_held};
 ghost use Rattle.drf_rows.specs.Report.{report_of};
@@ -48,22 +48,28 @@ pub fn live_rows_law()
     ensures run { LiveRowsRun }
 {}
 
-/// An offer that is declined at once, with nothing refused, leaves only counts, the next number and the clock behind; a task
-/// that finishes goes alone and gives back exactly what it used; a filter goes with its agent, with its framework and when its
-/// client revives, and the others stay.
+/// An offer that is declined at once, with nothing refused, leaves only counts, the next number and the clock behind. One that
+/// is accepted leaves one task behind, with the part that is used: the clock moves, one filter of its client may be added, and
+/// nothing else changes. A task that finishes goes alone and gives back exactly what it used; a filter goes with its agent, with
+/// its framework and when its client revives, and the others stay.
 pub fn life_law()
+    ensures accepted { AcceptedIsATask }
     ensures declined { DeclinedAtOnceIsUndone }
     ensures finished { FinishedIsGivenBack }
     ensures filters { FiltersGoWithTheirOwner }
     ensures others { OtherFiltersStay }
 {}
 
-/// An event leaves all agents and frameworks as they were but the one that it is about, and what is removed is gone. An agent
-/// that is activated or deactivated, and a client that is suppressed or revives, is so, and in its row nothing else changes. A
-/// cycle adds offers and counts them.
+/// An event leaves all agents and frameworks as they were but the one that it is about, and what is removed is gone. The offers
+/// and tasks that it does not end stay as they were, and where it is not refused those that it ends are gone; what an accept adds
+/// to the tasks, `life_law` says. An agent that is activated or deactivated, and a client that is suppressed or revives, is so, and
+/// in its row nothing else changes. A cycle adds offers and raises each client's count by the number of those that are made to it;
+/// clock and next number move, and nothing else changes.
 pub fn others_law()
     ensures agents { OtherAgentsStay }
     ensures frameworks { OtherFrameworksStay }
+    ensures holdings { OtherHoldingsStay }
+    ensures ended { EndedIsGone }
     ensures removed { RemovedIsGone }
     ensures activity { ActivityIsItsAgents }
     ensures suppression { SuppressionIsItsClients }

@@ -1,4 +1,4 @@
-use Rattle.drf_rows.specs.OthersLaws.{other_agents_stay, other_frameworks_stay, removed_is_gone, activity_is_its_agents, cycle_only_offers}
+use Rattle.drf_rows.specs.OthersLaws.{other_agents_stay, other_frameworks_stay, other_holdings_stay, ended_is_gone, removed_is_gone, activity_is_its_agents, cycle_only_offers}
 use Rattle.drf_rows.specs.SuppressionLaws.{suppression_is_its_clients}
 use Rattle.drf_rows.proofs.laws.others_law.Goals as goal
 
@@ -7,6 +7,12 @@ returns-clause-agents c = other_agents_stay
 
 pub returns-clause-frameworks : goal.returns-clause-frameworks
 returns-clause-frameworks c = other_frameworks_stay
+
+pub returns-clause-holdings : goal.returns-clause-holdings
+returns-clause-holdings c = other_holdings_stay
+
+pub returns-clause-ended : goal.returns-clause-ended
+returns-clause-ended c = ended_is_gone
 
 pub returns-clause-removed : goal.returns-clause-removed
 returns-clause-removed c = removed_is_gone

@@ -59,8 +59,8 @@ fn take_task(tasks: &mut TaskTable, ending: Ending) -> Option<TaskRow>
     }
 }
 
-/// The offers and the tasks. Contracts see their lists. What leaves does so without memory, and no call goes over holdings
-/// other than those that it is asked for.
+/// The offers and the tasks. Contracts see their lists. What leaves does so without memory, and no call looks at holdings
+/// other than those that it is asked for, though rows behind those that leave move up.
 #[derive(Drop)]
 pub struct Holdings {
     offers: OfferTable,

@@ -62,7 +62,7 @@ pub struct LimitRow {
     pub limit: Quantities,
 }
 
-/// A filter of a client on an agent: what its bundle covers is not offered before a moment in milliseconds.
+/// A filter of a client on an agent: nothing that its bundle covers is offered before a moment in milliseconds.
 #[derive(Debug, Drop)]
 pub struct FilterRow {
     pub framework: Name,

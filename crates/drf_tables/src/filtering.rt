@@ -1,4 +1,4 @@
-//! The filters of declined offers.
+//! The filters of declined offers, and of what is left of accepted ones.
 #![tactic(auto, unfolding(crate::specs::Inside::rows_of))]
 
 ghost use Rattle.std.specs.Prelude.{◌≡◌, ◌++◌, ◌∷◌, [], OnOk, OnErr};

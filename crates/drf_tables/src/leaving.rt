@@ -35,7 +35,7 @@ impl Tables {
         has_role(clients, role)
     }
 
-    /// Says whether an agent is active.
+    /// Makes an agent active or inactive.
     pub fn set_active(&mut self, agent: &Name, active: bool)
         ensures { self.new.rows ≡ record self.old.rows { agents = with_activity self.old.rows agent.now active } }
     {

@@ -1,5 +1,5 @@
 //! The rows of the allocator as tables, with what is derived of them: an index of names, the free part of each agent,
-//! and the total of the cluster. Contracts see the rows alone.
+//! and the total of the cluster. Contracts see the rows, what room is reserved, and whether what is free is known.
 #![tactic(auto)]
 
 mod ending;

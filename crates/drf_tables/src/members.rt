@@ -25,7 +25,7 @@ pub(crate) fn forget_free(agents: &mut IndexMap<Name, Agent>, name: &Name)
     }
 }
 
-/// Says whether an agent is active.
+/// Makes an agent active or inactive.
 pub(crate) fn set_active(agents: &mut IndexMap<Name, Agent>, name: &Name, active: bool)
     requires { are_distinct (map (λ a. a.name) (map agent_row agents.old.entries)) ≡ true }
     ensures { agents.new.entries ≡ map (changed name.now (with_active active)) agents.old.entries }
@@ -35,7 +35,7 @@ pub(crate) fn set_active(agents: &mut IndexMap<Name, Agent>, name: &Name, active
     }
 }
 
-/// Says whether the client that has a role, of those of its framework, is suppressed.
+/// Suppresses the client that has a role, of those of its framework, or ends that.
 fn suppress_at(clients: &mut [ClientRow], role: &Role, suppressed: bool)
     ensures { clients.new ≡ map (λ (c : ClientRow). if same_path c.role role.now then record c { suppressed = suppressed } else c) clients.old }
 {
@@ -46,7 +46,7 @@ fn suppress_at(clients: &mut [ClientRow], role: &Role, suppressed: bool)
     }
 }
 
-/// Says whether a client is suppressed.
+/// Suppresses a client, or ends that.
 pub(crate) fn suppress(
     frameworks: &mut IndexMap<Name, Vec<ClientRow>>,
     framework: &Name,

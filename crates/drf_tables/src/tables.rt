@@ -296,7 +296,7 @@ impl Tables {
         Ok(())
     }
 
-    /// The rows as they stand.
+    /// The rows, with the filters in force alone.
     pub fn rows(&self) -> Result<Rows, AllocError>
         ensures { IfOk result (λ rows. rows ≡ live_rows self.now.rows) }
     {

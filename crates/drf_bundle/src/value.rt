@@ -122,23 +122,19 @@ impl Value {
         }
     }
 
-    /// What is left without `part`, of one that covers it.
+    /// What is left without `part`, of which it need not have all.
     pub(crate) fn minus(&self, part: &Value) -> Result<Value, AllocError>
         ensures { IfOk result (λ value. value ≡ less self.now part.now) }
     {
         match (self, part) {
-            (Value::Scalar(scalar), Value::Scalar(part)) => match scalar.try_minus(part) {
-                Ok(rest) => Ok(Value::Scalar(rest)),
-                Err(_) => Err(AllocError),
-            },
-            (Value::Ranges(ranges), Value::Ranges(part)) => match ranges.try_minus(part) {
-                Ok(rest) => Ok(Value::Ranges(rest)),
-                Err(_) => Err(AllocError),
-            },
-            (Value::Items(items), Value::Items(part)) => match items.try_minus(part) {
-                Ok(rest) => Ok(Value::Items(rest)),
-                Err(_) => Err(AllocError),
-            },
+            (Value::Scalar(scalar), Value::Scalar(part)) => {
+                let left = scalar.thousandths().saturating_sub(part.thousandths());
+                Ok(Value::Scalar(Scalar::new(left)))
+            }
+            (Value::Ranges(ranges), Value::Ranges(part)) => ranges
+                .difference(part)
+                .map(Value::Ranges),
+            (Value::Items(items), Value::Items(part)) => items.difference(part).map(Value::Items),
             _ => self.copy(),
         }
     }

@@ -165,14 +165,14 @@ fn accept_is_too_much(
 ) -> bool
     ensures { (task : Text) → result ≡ accept_is_too_much limits.now tables.now.rows number (task, used.now) at refuse_ms }
 {
-    (0 < refuse_ms) & has_rest(tables, number, used) & are_many_filters(limits, tables, at)
+    0 < refuse_ms && has_rest(tables, number, used) && are_many_filters(limits, tables, at)
 }
 
 /// A decline would set one filter too many.
 fn decline_is_too_much(limits: &Limits, tables: &Tables, at: u64, refuse_ms: u64) -> bool
     ensures { result ≡ decline_is_too_much limits.now tables.now.rows at refuse_ms }
 {
-    (0 < refuse_ms) & are_many_filters(limits, tables, at)
+    0 < refuse_ms && are_many_filters(limits, tables, at)
 }
 
 /// Why an agent that registers is refused.

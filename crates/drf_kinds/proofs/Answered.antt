@@ -6,7 +6,7 @@ use Rattle.std.specs.Cmp.{IsTotalOrder}
 use Rattle.std.specs.FinSet as set
 use Rattle.std.proofs.lemmas.Bool.{true≢false, both_ways}
 use Rattle.drf_amount.specs.Algebra.{Covers, IsRest}
-use Rattle.drf_kinds.specs.Places.{is_met, differ, is_kept}
+use Rattle.drf_kinds.specs.Places.{is_met, is_kept}
 use Rattle.drf_kinds.specs.Sets.{IsSetOf, are_disjoint, set_join}
 use Rattle.drf_kinds.specs.SetLaws.{out_of_both, disjoint_from, join_of, is_rest_difference, subset_of_rest, covers_subset}
 
@@ -25,12 +25,6 @@ unmet_outside : (x y : Bool) → (x && beq y false) ≡ false → x ≡ true →
 unmet_outside true true e f = refl
 unmet_outside true false e f = absurd (true≢false e)
 unmet_outside false y e f = absurd (true≢false (sym f))
-
-differ_within : (x y : Bool) → (y ≡ true → x ≡ true) → differ x y ≡ (x && not y)
-differ_within true true f = refl
-differ_within true false f = refl
-differ_within false true f = absurd (true≢false (sym (f refl)))
-differ_within false false f = refl
 
 module _ {K : Type 0} {R : K → K → Ordering} (o : IsTotalOrder R) (same : set.IsAntisymmetric R) (P : K → Type 0) where
   IsSome-join : (s t : set.FinSet R) → IsSome (set_join s t) ↔ (are_disjoint s t ≡ true)
@@ -75,18 +69,18 @@ module _ {K : Type 0} {R : K → K → Ordering} (o : IsTotalOrder R) (same : se
   pub united_answer : (s t found : set.FinSet R) → ((k : K) → set.contains found k ≡ is_kept true (set.contains s k) (set.contains t k)) → found ≡ set.union s t
   united_answer s t found each = set.same_set o same _ _ (λ k. each k ∙ sym (set.contains-union o s t k))
 
+  -- what is in the left of two sets alone
+  pub difference_answer : (s t found : set.FinSet R) → ((k : K) → set.contains found k ≡ is_kept false (set.contains s k) (set.contains t k)) → found ≡ set.difference s t
+  difference_answer s t found each = set.same_set o same _ _ (λ k. each k ∙ sym (set.contains-difference o s t k))
+
   -- of disjoint sets the union is the join
   pub joined_answer : (s t found : set.FinSet R) → IsSome (set_join s t) → found ≡ set.union s t → set_join s t ≡ Some found
   joined_answer s t found some is = join_of o same s t ((IsSome-join s t).0 some) ∙ ap Some (sym is)
 
   -- of a set and a part of it that is the rest
-  pub rest_answer : (whole part found : set.FinSet R) → IsSetOf P whole → Covers (IsSetOf P) set_join whole part → ((k : K) → set.contains found k ≡ differ (set.contains whole k) (set.contains part k)) → IsRest (IsSetOf P) set_join whole part found
-  rest_answer whole part found given covers each =
-      let within = subset_of_rest o same P whole part covers in
-      let is : found ≡ set.difference whole part =
-      set.same_set o same _ _ (λ k.
-      each k ∙ differ_within (set.contains whole k) (set.contains part k) (set.is_subset-contains o part whole within k) ∙ sym (set.contains-difference o whole part k)) in
-      subst (IsRest (IsSetOf P) set_join whole part) (sym is) (is_rest_difference o same P whole part given within)
+  pub rest_answer : (whole part found : set.FinSet R) → IsSetOf P whole → Covers (IsSetOf P) set_join whole part → found ≡ set.difference whole part → IsRest (IsSetOf P) set_join whole part found
+  rest_answer whole part found given covers is =
+      subst (IsRest (IsSetOf P) set_join whole part) (sym is) (is_rest_difference o same P whole part given (subset_of_rest o same P whole part covers))
 
   -- what is kept of two sets
   pub kept_answer : (kept : Bool → Bool → Bool) (in_s in_t in_found : K → Bool) (s t found : set.FinSet R) → ((k : K) → set.contains s k ≡ in_s k) → ((k : K) → set.contains t k ≡ in_t k) → ((k : K) → set.contains found k ≡ in_found k) →

@@ -36,7 +36,7 @@ abbrev pub IsBegun : List Interval → ℕ → Bool → Type 0
 IsBegun found start true = end_of 0 found ≤ start
 IsBegun found start false = start ≤ end_of 0 found
 
-pub none_kept : (shared : Bool) → is_kept shared false false ≡ false
+pub none_kept : (united : Bool) → is_kept united false false ≡ false
 none_kept true = refl
 none_kept false = refl
 

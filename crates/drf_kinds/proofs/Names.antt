@@ -20,7 +20,7 @@ use Rattle.std.proofs.lemmas.List.Sorted.{searchable_from_sorted, list_any-IsPer
 use Rattle.std.proofs.lemmas.Map.Keys.{sorted_head, sorted_tail, Less-from_sorted}
 use Rattle.drf_role.specs.Name.{IsLabel}
 use Rattle.drf_kinds.specs.Names.{text_cmp, AreAscending, AreNamesOfSet, IsLabelSet, is_named, next_side, side_of}
-use Rattle.drf_kinds.specs.Places.{is_met, differ, is_kept}
+use Rattle.drf_kinds.specs.Places.{is_met, is_kept}
 use Rattle.drf_kinds.specs.declared.merge.Side.TheVariants.{Left, Right, Both}
 
 pub texts_same : set.IsAntisymmetric text_cmp
@@ -196,13 +196,13 @@ AreBefore [] xs = Unit {0}
 AreBefore (f ∷ fs) xs = IsBefore f xs × AreBefore fs xs
 
 -- the names found so far are kept, and in order; the others are left
-pub record FoundNames (shared : Bool) (left right : List ℕ → Bool) (a b found : List (List ℕ)) : Type 0 where
+pub record FoundNames (united : Bool) (left right : List ℕ → Bool) (a b found : List (List ℕ)) : Type 0 where
   pub left_up : AreAscending a
   pub right_up : AreAscending b
   pub found_up : AreAscending found
   pub before_left : AreBefore found a
   pub before_right : AreBefore found b
-  pub same : (t : List ℕ) → (is_named found t || is_kept shared (is_named a t) (is_named b t)) ≡ is_kept shared (left t) (right t)
+  pub same : (t : List ℕ) → (is_named found t || is_kept united (is_named a t) (is_named b t)) ≡ is_kept united (left t) (right t)
 
 AreBefore-tail : (found : List (List ℕ)) (x : List ℕ) (xs : List (List ℕ)) → AreBefore found (x ∷ xs) → AreBefore found xs
 AreBefore-tail [] x xs before = tt
@@ -225,34 +225,38 @@ is_named-append : (found : List (List ℕ)) (x t : List ℕ) → is_named (found
 is_named-append [] x t = or-false (eq_by_cmp text_cmp t x)
 is_named-append (f ∷ fs) x t = ap (λ b. eq_by_cmp text_cmp t f || b) (is_named-append fs x t) ∙ sym (or_assoc (eq_by_cmp text_cmp t f) (is_named fs t) (eq_by_cmp text_cmp t x))
 
-kept_left : (shared f e a b : Bool) → (e ≡ true → b ≡ false) → ((f || e) || is_kept shared a b) ≡ (f || is_kept shared (e || a) b)
-kept_left shared true e a b b_is = refl
+kept_left : (united f e a b : Bool) → (e ≡ true → b ≡ false) → ((f || e) || is_kept united a b) ≡ (f || is_kept united (e || a) b)
+kept_left united true e a b b_is = refl
 kept_left true false true a b b_is = refl
 kept_left false false true a b b_is = rw (b_is refl) refl
-kept_left shared false false a b b_is = refl
+kept_left united false false a b b_is = refl
 
-kept_comm : (shared a b : Bool) → is_kept shared a b ≡ is_kept shared b a
-kept_comm shared true true = refl
-kept_comm shared true false = refl
-kept_comm shared false true = refl
-kept_comm shared false false = refl
+kept_comm : (a b : Bool) → is_kept true a b ≡ is_kept true b a
+kept_comm true true = refl
+kept_comm true false = refl
+kept_comm false true = refl
+kept_comm false false = refl
+
+kept_past : (e a b : Bool) → (e ≡ true → a ≡ false) → is_kept false a b ≡ is_kept false a (e || b)
+kept_past true a b a_is = rw (a_is refl) refl
+kept_past false a b a_is = refl
 
 kept_right : (e a b : Bool) → is_kept true (e || a) b ≡ is_kept true (e || a) (e || b)
 kept_right true a b = refl
 kept_right false a b = refl
 
-differ_both : (e a b : Bool) → (e ≡ true → a ≡ false) → (e ≡ true → b ≡ false) → differ a b ≡ differ (e || a) (e || b)
-differ_both true a b a_is b_is = rw (a_is refl, b_is refl) refl
-differ_both false a b a_is b_is = refl
+kept_both : (e a b : Bool) → (e ≡ true → a ≡ false) → is_kept false a b ≡ is_kept false (e || a) (e || b)
+kept_both true a b a_is = rw (a_is refl) refl
+kept_both false a b a_is = refl
 
-in_either : (shared a b : Bool) → is_kept shared a b ≡ true → (a ≡ true) ⊎ (b ≡ true)
-in_either shared true b e = inl refl
-in_either shared false true e = inr refl
+in_either : (united a b : Bool) → is_kept united a b ≡ true → (a ≡ true) ⊎ (b ≡ true)
+in_either united true b e = inl refl
+in_either united false true e = inr refl
 in_either true false false e = absurd (true≢false (sym e))
 in_either false false false e = absurd (true≢false (sym e))
 
-found_left_of : (shared : Bool) (left right : List ℕ → Bool) (a b found : List (List ℕ)) → FoundNames shared left right a b found → (f : LeftFirst a b) → FoundNames shared left right (tail a) b (found ++ f.x ∷ [])
-found_left_of shared left right a b found known f =
+found_left_of : (united : Bool) (left right : List ℕ → Bool) (a b found : List (List ℕ)) → FoundNames united left right a b found → (f : LeftFirst a b) → FoundNames united left right (tail a) b (found ++ f.x ∷ [])
+found_left_of united left right a b found known f =
     let before : AreBefore found (f.x ∷ f.rest) = subst (AreBefore found) f.first.is known.before_left in
     record {
       left_up = subst AreAscending (sym f.first.tail) f.first.ascending;
@@ -262,36 +266,58 @@ found_left_of shared left right a b found known f =
       before_right = AreBefore-append found f.x b known.before_right f.before;
       same = λ t.
           rw (is_named-append found f.x t, f.first.tail)
-          (kept_left shared (is_named found t) (eq_by_cmp text_cmp t f.x) (is_named f.rest t) (is_named b t) (not_named f.x b t f.before)
-          ∙ ap (λ xs. is_named found t || is_kept shared (is_named xs t) (is_named b t)) (sym f.first.is)
+          (kept_left united (is_named found t) (eq_by_cmp text_cmp t f.x) (is_named f.rest t) (is_named b t) (not_named f.x b t f.before)
+          ∙ ap (λ xs. is_named found t || is_kept united (is_named xs t) (is_named b t)) (sym f.first.is)
           ∙ known.same t);
     }
 
 -- the lists change places
-swapped : (shared : Bool) (left right : List ℕ → Bool) (a b found : List (List ℕ)) → FoundNames shared left right a b found → FoundNames shared right left b a found
-swapped shared left right a b found known = record {
+swapped : (left right : List ℕ → Bool) (a b found : List (List ℕ)) → FoundNames true left right a b found → FoundNames true right left b a found
+swapped left right a b found known = record {
   left_up = known.right_up;
   right_up = known.left_up;
   found_up = known.found_up;
   before_left = known.before_right;
   before_right = known.before_left;
-  same = λ t. ap (λ d. is_named found t || d) (kept_comm shared (is_named b t) (is_named a t)) ∙ known.same t ∙ kept_comm shared (left t) (right t);
+  same = λ t. ap (λ d. is_named found t || d) (kept_comm (is_named b t) (is_named a t)) ∙ known.same t ∙ kept_comm (left t) (right t);
 }
 
-pub found_start : (shared : Bool) (a b : List (List ℕ)) → AreAscending a → AreAscending b → FoundNames shared (is_named a) (is_named b) a b []
-found_start shared a b a_up b_up = record { left_up = a_up; right_up = b_up; found_up = ascending_nil; before_left = tt; before_right = tt; same = λ t. refl }
+pub found_start : (united : Bool) (a b : List (List ℕ)) → AreAscending a → AreAscending b → FoundNames united (is_named a) (is_named b) a b []
+found_start united a b a_up b_up = record { left_up = a_up; right_up = b_up; found_up = ascending_nil; before_left = tt; before_right = tt; same = λ t. refl }
 
-pub found_left : (shared : Bool) (left right : List ℕ → Bool) (a b found : List (List ℕ)) (x y : List ℕ) → FoundNames shared left right a b found → next_side a b ≡ Some Left → x ≡ y → y ≡ get_or a 0 y → FoundNames shared left right (tail a) b (found ++ x ∷ [])
-found_left shared left right a b found x y known e x_is y_is =
+pub found_left : (united : Bool) (left right : List ℕ → Bool) (a b found : List (List ℕ)) (x y : List ℕ) → FoundNames united left right a b found → next_side a b ≡ Some Left → x ≡ y → y ≡ get_or a 0 y → FoundNames united left right (tail a) b (found ++ x ∷ [])
+found_left united left right a b found x y known e x_is y_is =
     let f = left_first a b known.left_up known.right_up e in
     let is : f.x ≡ x = sym (x_is ∙ y_is ∙ ap (λ xs. get_or xs 0 y) f.first.is) in
-    subst (λ z. FoundNames shared left right (tail a) b (found ++ z ∷ [])) is (found_left_of shared left right a b found known f)
+    subst (λ z. FoundNames united left right (tail a) b (found ++ z ∷ [])) is (found_left_of united left right a b found known f)
 
-pub found_right : (shared : Bool) (left right : List ℕ → Bool) (a b found : List (List ℕ)) (x y : List ℕ) → FoundNames shared left right a b found → next_side a b ≡ Some Right → x ≡ y → y ≡ get_or b 0 y → FoundNames shared left right a (tail b) (found ++ x ∷ [])
-found_right shared left right a b found x y known e x_is y_is =
+found_right_of : (left right : List ℕ → Bool) (a b found : List (List ℕ)) (x y : List ℕ) → FoundNames true left right a b found → next_side a b ≡ Some Right → x ≡ y → y ≡ get_or b 0 y → FoundNames true left right a (tail b) (found ++ x ∷ [])
+found_right_of left right a b found x y known e x_is y_is =
     let f = right_first a b known.left_up known.right_up e in
     let is : f.x ≡ x = sym (x_is ∙ y_is ∙ ap (λ xs. get_or xs 0 y) f.first.is) in
-    subst (λ z. FoundNames shared left right a (tail b) (found ++ z ∷ [])) is (swapped shared right left (tail b) a (found ++ f.x ∷ []) (found_left_of shared right left b a found (swapped shared left right a b found known) f))
+    subst (λ z. FoundNames true left right a (tail b) (found ++ z ∷ [])) is (swapped right left (tail b) a (found ++ f.x ∷ []) (found_left_of true right left b a found (swapped left right a b found known) f))
+
+found_past_of : (left right : List ℕ → Bool) (a b found : List (List ℕ)) → FoundNames false left right a b found → LeftFirst b a → FoundNames false left right a (tail b) found
+found_past_of left right a b found known f = record {
+  left_up = known.left_up;
+  right_up = subst AreAscending (sym f.first.tail) f.first.ascending;
+  found_up = known.found_up;
+  before_left = known.before_left;
+  before_right = subst (AreBefore found) (sym f.first.tail) (AreBefore-tail found f.x f.rest (subst (AreBefore found) f.first.is known.before_right));
+  same = λ t.
+      ap (λ d. is_named found t || d)
+      (rw (f.first.tail, f.first.is) (kept_past (eq_by_cmp text_cmp t f.x) (is_named a t) (is_named f.rest t) (not_named f.x a t f.before)))
+      ∙ known.same t;
+}
+
+-- a name of the right list alone is kept where the lists are united, and else passed
+pub found_right : (united : Bool) (left right : List ℕ → Bool) (a b found : List (List ℕ)) (x y : List ℕ) → FoundNames united left right a b found → united ≡ true → next_side a b ≡ Some Right → x ≡ y → y ≡ get_or b 0 y → FoundNames united left right a (tail b) (found ++ x ∷ [])
+found_right true left right a b found x y known in_both e x_is y_is = found_right_of left right a b found x y known e x_is y_is
+found_right false left right a b found x y known in_both e x_is y_is = absurd (true≢false (sym in_both))
+
+pub found_past : (united : Bool) (left right : List ℕ → Bool) (a b found : List (List ℕ)) → FoundNames united left right a b found → united ≡ false → next_side a b ≡ Some Right → FoundNames united left right a (tail b) found
+found_past true left right a b found known out e = absurd (true≢false out)
+found_past false left right a b found known out e = found_past_of left right a b found known (right_first a b known.left_up known.right_up e)
 
 found_both_of : (left right : List ℕ → Bool) (a b found : List (List ℕ)) → FoundNames false left right a b found → BothFirst a b → FoundNames false left right (tail a) (tail b) found
 found_both_of left right a b found known f = record {
@@ -302,9 +328,9 @@ found_both_of left right a b found known f = record {
   before_right = subst (AreBefore found) (sym f.first_right.tail) (AreBefore-tail found f.x f.right (subst (AreBefore found) f.first_right.is known.before_right));
   same = λ t.
       rw (f.first_left.tail, f.first_right.tail)
-      (ap (λ d. is_named found t || d) (differ_both (eq_by_cmp text_cmp t f.x) (is_named f.left t) (is_named f.right t) (not_named f.x f.left t f.first_left.before) (not_named f.x f.right t f.first_right.before))
-      ∙ ap (λ xs. is_named found t || differ (is_named xs t) (eq_by_cmp text_cmp t f.x || is_named f.right t)) (sym f.first_left.is)
-      ∙ ap (λ xs. is_named found t || differ (is_named a t) (is_named xs t)) (sym f.first_right.is)
+      (ap (λ d. is_named found t || d) (kept_both (eq_by_cmp text_cmp t f.x) (is_named f.left t) (is_named f.right t) (not_named f.x f.left t f.first_left.before))
+      ∙ ap (λ xs. is_named found t || is_kept false (is_named xs t) (eq_by_cmp text_cmp t f.x || is_named f.right t)) (sym f.first_left.is)
+      ∙ ap (λ xs. is_named found t || is_kept false (is_named a t) (is_named xs t)) (sym f.first_right.is)
       ∙ known.same t);
 }
 
@@ -322,11 +348,11 @@ found_shared_of left right a b found known f = record {
 }
 
 -- a name of both lists is passed in both, or is kept in the left one
-pub found_both : (shared : Bool) (left right : List ℕ → Bool) (a b found : List (List ℕ)) → FoundNames shared left right a b found → shared ≡ false → next_side a b ≡ Some Both → FoundNames shared left right (tail a) (tail b) found
+pub found_both : (united : Bool) (left right : List ℕ → Bool) (a b found : List (List ℕ)) → FoundNames united left right a b found → united ≡ false → next_side a b ≡ Some Both → FoundNames united left right (tail a) (tail b) found
 found_both true left right a b found known out e = absurd (true≢false out)
 found_both false left right a b found known out e = found_both_of left right a b found known (both_first a b known.left_up known.right_up e)
 
-pub found_shared : (shared : Bool) (left right : List ℕ → Bool) (a b found : List (List ℕ)) → FoundNames shared left right a b found → shared ≡ true → next_side a b ≡ Some Both → FoundNames shared left right a (tail b) found
+pub found_shared : (united : Bool) (left right : List ℕ → Bool) (a b found : List (List ℕ)) → FoundNames united left right a b found → united ≡ true → next_side a b ≡ Some Both → FoundNames united left right a (tail b) found
 found_shared true left right a b found known in_both e = found_shared_of left right a b found known (both_first a b known.left_up known.right_up e)
 found_shared false left right a b found known in_both e = absurd (true≢false (sym in_both))
 
@@ -372,10 +398,10 @@ labels_of names given =
     given.each (get_or names k []) (contains-names names (get_or names k []) ∙ list_any_at (eq_by_cmp text_cmp (get_or names k [])) names k [] below (ap is_eq (tied_itself nat_list_cmp_total (get_or names k [])))))
 
 -- a set whose members are each in one of two sets of labels
-pub IsLabelSet-kept : (shared : Bool) (a b found : set.FinSet text_cmp) → IsLabelSet a → IsLabelSet b → ((t : List ℕ) → set.contains found t ≡ is_kept shared (set.contains a t) (set.contains b t)) → IsLabelSet found
-IsLabelSet-kept shared a b found a_given b_given is = record {
+pub IsLabelSet-kept : (united : Bool) (a b found : set.FinSet text_cmp) → IsLabelSet a → IsLabelSet b → ((t : List ℕ) → set.contains found t ≡ is_kept united (set.contains a t) (set.contains b t)) → IsLabelSet found
+IsLabelSet-kept united a b found a_given b_given is = record {
   each = λ t in_found.
-      elim (in_either shared (set.contains a t) (set.contains b t) (sym (is t) ∙ in_found)) [ inl in_a ↦ a_given.each t in_a | inr in_b ↦ b_given.each t in_b ];
+      elim (in_either united (set.contains a t) (set.contains b t) (sym (is t) ∙ in_found)) [ inl in_a ↦ a_given.each t in_a | inr in_b ↦ b_given.each t in_b ];
 }
 
 -- the set of names that were sorted, each kept once

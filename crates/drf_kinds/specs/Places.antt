@@ -41,13 +41,9 @@ next_place (p ∷ ps) = p
 abbrev pub passed : ℕ → Steps → Steps
 passed place s = if next_place s.places == place then record { inside = not s.inside; places = rest s.places } else s
 
--- in one set alone
-abbrev pub differ : Bool → Bool → Bool
-differ left right = not (beq left right)
-
--- in one set alone, or in both if what they share is kept
+-- in either set if they are united, and else in the left one alone
 abbrev pub is_kept : Bool → Bool → Bool → Bool
-is_kept shared left right = if shared then left || right else differ left right
+is_kept united left right = if united then left || right else left && not right
 
 -- in the left set, and in the right one or out of it
 abbrev pub is_met : Bool → Bool → Bool → Bool

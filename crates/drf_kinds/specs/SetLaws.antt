@@ -253,14 +253,6 @@ module _ {K : Type 0} {R : K → K → Ordering} (o : IsTotalOrder R) (same : se
     pub covers_subset : (whole part : set.FinSet R) → IsSetOf P whole → set.is_subset part whole ≡ true → Covers (IsSetOf P) set_join whole part
     covers_subset whole part given within = record { rest = set.difference whole part; is_rest = is_rest_difference whole part given within }
 
-  -- a rest is the difference
-  pub rest_is_difference : (whole part rest : set.FinSet R) → set_join rest part ≡ Some whole → rest ≡ set.difference whole part
-  rest_is_difference whole part rest joined =
-      let is = join_some rest part whole joined in
-      same_set rest (set.difference whole part)
-      (λ k. only_rest (has rest k) (has part k) (has whole k) (out_of_both rest part is.0 k) (ap (λ s. has s k) (sym is.1) ∙ set.contains-union o rest part k)
-      ∙ sym (set.contains-difference o whole part k))
-
   -- sets that share no member of one of them are disjoint
   pub shared_member : (a b : set.FinSet R) → are_disjoint a b ≡ false → (k : K) × (has a k ≡ true) × (has b k ≡ true)
   shared_member a b meet =

@@ -74,13 +74,13 @@ impl Items {
             .is_ok()
     }
 
-    /// The labels that are in one of the two sets alone, and if `shared` those that are in both.
-    fn combined(&self, other: &Items, shared: bool) -> Result<Items, AllocError>
-        ensures { IfOk result (λ found. (text : List ℕ) → set.contains found text ≡ is_kept shared (set.contains self.now text) (set.contains other.now text)) }
+    /// The labels of both sets if `united`, and else those that are in this one alone.
+    fn combined(&self, other: &Items, united: bool) -> Result<Items, AllocError>
+        ensures { IfOk result (λ found. (text : List ℕ) → set.contains found text ≡ is_kept united (set.contains self.now text) (set.contains other.now text)) }
     {
         let alloc = *self.names.allocator();
         Ok(Items {
-            names: combined(alloc, &self.names, &other.names, shared)?,
+            names: combined(alloc, &self.names, &other.names, united)?,
         })
     }
 
@@ -89,6 +89,13 @@ impl Items {
         ensures { IfOk result (λ found. found ≡ set.union self.now other.now) }
     {
         self.combined(other, true)
+    }
+
+    /// The labels of this set that are not in the other, which need not be part of it.
+    pub fn difference(&self, other: &Items) -> Result<Items, AllocError>
+        ensures { IfOk result (λ found. found ≡ set.difference self.now other.now) }
+    {
+        self.combined(other, false)
     }
 }
 
@@ -134,7 +141,7 @@ impl Algebra for Items {
         if !self.covers(part) {
             return Err(AlgebraFault::NotCovered);
         }
-        Ok(self.combined(part, false)?)
+        Ok(self.difference(part)?)
     }
 
     fn amount(&self) -> u128

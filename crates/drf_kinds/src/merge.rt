@@ -65,18 +65,17 @@ pub fn meets(left: &[Label], right: &[Label], inside: bool) -> bool
     false
 }
 
-/// The labels that are in one of the two lists alone, and if `shared` those that are in both, in
-/// order.
+/// The labels of both lists if `united`, and else those that are in the left one alone, in order.
 pub fn combined(
     alloc: Global,
     left: &[Label],
     right: &[Label],
-    shared: bool,
+    united: bool,
 ) -> Result<Vec<Label>, AllocError>
     requires left { AreAscending left.now }
     requires right { AreAscending right.now }
     ensures ascending { IfOk result (λ found. AreAscending found.items) }
-    ensures members { IfOk result (λ found. (text : List ℕ) → is_named found.items text ≡ is_kept shared (is_named left.now text) (is_named right.now text)) }
+    ensures members { IfOk result (λ found. (text : List ℕ) → is_named found.items text ≡ is_kept united (is_named left.now text) (is_named right.now text)) }
 {
     let mut left = left;
     let mut right = right;
@@ -88,12 +87,14 @@ pub fn combined(
                 left = &left[1..];
             }
             Side::Right => {
-                found.push(right[0].copy()?)?;
+                if united {
+                    found.push(right[0].copy()?)?;
+                }
                 right = &right[1..];
             }
             Side::Both => {
                 // One that is kept is found later, in the left list.
-                if !shared {
+                if !united {
                     left = &left[1..];
                 }
                 right = &right[1..];

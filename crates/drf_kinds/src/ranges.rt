@@ -114,12 +114,12 @@ impl Ranges {
         Ranges { intervals }
     }
 
-    /// The numbers that are in one of the two sets alone, and if `shared` those that are in both.
-    fn combined(&self, other: &Ranges, shared: bool) -> Result<Ranges, AllocError>
-        ensures { IfOk result (λ found. (n : ℕ) → set.contains found n ≡ is_kept shared (set.contains self.now n) (set.contains other.now n)) }
+    /// The numbers of both sets if `united`, and else those that are in this one alone.
+    fn combined(&self, other: &Ranges, united: bool) -> Result<Ranges, AllocError>
+        ensures { IfOk result (λ found. (n : ℕ) → set.contains found n ≡ is_kept united (set.contains self.now n) (set.contains other.now n)) }
     {
         let alloc = *self.intervals.allocator();
-        Ok(Ranges::new(combined(alloc, &self.intervals, &other.intervals, shared)?))
+        Ok(Ranges::new(combined(alloc, &self.intervals, &other.intervals, united)?))
     }
 
     /// The numbers of all the pairs, each from its first end to its second. A pair whose first end
@@ -141,6 +141,13 @@ impl Ranges {
         ensures { IfOk result (λ found. found ≡ set.union self.now other.now) }
     {
         self.combined(other, true)
+    }
+
+    /// The numbers of this set that are not in the other, which need not be part of it.
+    pub fn difference(&self, other: &Ranges) -> Result<Ranges, AllocError>
+        ensures { IfOk result (λ found. found ≡ set.difference self.now other.now) }
+    {
+        self.combined(other, false)
     }
 
     /// The maximal intervals, in ascending order: a number stands between any two that is in none.
@@ -206,7 +213,7 @@ impl Algebra for Ranges {
         if !self.covers(part) {
             return Err(AlgebraFault::NotCovered);
         }
-        Ok(self.combined(part, false)?)
+        Ok(self.difference(part)?)
     }
 
     fn amount(&self) -> u128

@@ -108,23 +108,27 @@ pub fn meets(left: &[Interval], right: &[Interval], inside: bool) -> bool
 }
 
 /// Whether a number is kept, by whether it is in each of two sets.
-fn is_kept(shared: bool, left: bool, right: bool) -> bool
-    ensures { result ≡ is_kept shared left right }
+fn is_kept(united: bool, left: bool, right: bool) -> bool
+    ensures { result ≡ is_kept united left right }
 {
-    if shared { left || right } else { left != right }
+    if united {
+        left || right
+    } else {
+        left && !right
+    }
 }
 
-/// The numbers that are in one of the two sets alone, and if `shared` those that are in both.
+/// The numbers of both sets if `united`, and else those that are in the left one alone.
 pub fn combined(
     alloc: Global,
     left: &[Interval],
     right: &[Interval],
-    shared: bool,
+    united: bool,
 ) -> Result<Vec<Interval>, AllocError>
     requires left { AreMaximal left.now }
     requires right { AreMaximal right.now }
     ensures maximal { IfOk result (λ found. AreMaximal found.items) }
-    ensures members { IfOk result (λ found. (n : ℕ) → is_in found.items n ≡ is_kept shared (is_in left.now n) (is_in right.now n)) }
+    ensures members { IfOk result (λ found. (n : ℕ) → is_in found.items n ≡ is_kept united (is_in left.now n) (is_in right.now n)) }
 {
     let mut left = Edges::new(left);
     let mut right = Edges::new(right);
@@ -133,7 +137,7 @@ pub fn combined(
     let mut inside = false;
     while let Some(place) = pass_both(&mut left, &mut right) {
         let was_inside = inside;
-        inside = is_kept(shared, left.is_inside(), right.is_inside());
+        inside = is_kept(united, left.is_inside(), right.is_inside());
         if inside == was_inside {
             continue;
         }

@@ -57,6 +57,7 @@ fn answer_of_texts(alloc: Global, kind: &str, text: &str) -> Result<String> {
         "weight" => texts::weight(alloc, text),
         "part_for" => texts::part(alloc, text),
         "clip" => texts::clipped(alloc, text),
+        "rest" => texts::left(alloc, text),
         "relabel" => texts::moved(alloc, text),
         "get" => texts::found(alloc, text),
         _ => answer_of_paths(alloc, kind, text),

@@ -48,6 +48,13 @@ pub fn clipped(alloc: Global, text: &str) -> Result<String> {
     show(alloc, &read_bundle(alloc, bundle)?.clip(&limits)?)
 }
 
+/// What is left of a bundle without another.
+pub fn left(alloc: Global, text: &str) -> Result<String> {
+    let (whole, part) = halves(text, ' ')?;
+    let whole = read_bundle(alloc, whole)?;
+    show(alloc, &whole.rest(&read_bundle(alloc, part)?)?)
+}
+
 /// A bundle moved to a role.
 pub fn moved(alloc: Global, text: &str) -> Result<String> {
     let (role, bundle) = halves(text, ' ')?;

@@ -5,7 +5,7 @@ use Rattle.drf_kinds.proofs.Found.{Found}
 use Rattle.drf_kinds.proofs.sweep.combined.Given as goal
 
 abbrev pub invariant-loop-place : goal.invariant-loop-place
-invariant-loop-place l = Found (is_kept l.shared) (is_in l.fn.left) (is_in l.fn.right) l.left l.right l.found.items l.start l.inside
+invariant-loop-place l = Found (is_kept l.united) (is_in l.fn.left) (is_in l.fn.right) l.left l.right l.found.items l.start l.inside
 
 abbrev pub decreases-loop-place : goal.decreases-loop-place
 decreases-loop-place l = length l.left.places + length l.right.places

@@ -11,12 +11,12 @@ pub invariant_of-result : goal.invariant_of-result
 invariant_of-result c = record {
   ascending = c.in_ok-combined.ensures.ascending;
   given =
-      IsLabelSet-kept c.args.shared _ _ _ (subst IsLabelSet c.self.view_is c.self.invariant.given) (subst IsLabelSet c.other.view_is c.other.invariant.given)
-      (kept_answer nat_list_cmp_total texts_same IsLabel (is_kept c.args.shared) _ _ _ _ _ _
+      IsLabelSet-kept c.args.united _ _ _ (subst IsLabelSet c.self.view_is c.self.invariant.given) (subst IsLabelSet c.other.view_is c.other.invariant.given)
+      (kept_answer nat_list_cmp_total texts_same IsLabel (is_kept c.args.united) _ _ _ _ _ _
       (contains-view _ _ _ c.deref.ensures.value c.self.view_is) (contains-view _ _ _ c.deref-2.ensures.value c.other.view_is) (contains-names c.in_ok-combined.field-0.items) c.in_ok-combined.ensures.members);
 }
 
 pub returns : goal.returns
 returns c =
-    kept_answer nat_list_cmp_total texts_same IsLabel (is_kept c.args.shared) _ _ _ _ _ _
+    kept_answer nat_list_cmp_total texts_same IsLabel (is_kept c.args.united) _ _ _ _ _ _
     (contains-view _ _ _ c.deref.ensures.value c.self.view_is) (contains-view _ _ _ c.deref-2.ensures.value c.other.view_is) (contains-view c.in_ok-combined.field-0.items c.in_ok-combined.field-0.items _ refl refl) c.in_ok-combined.ensures.members

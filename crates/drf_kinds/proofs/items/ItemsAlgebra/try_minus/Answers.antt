@@ -6,4 +6,4 @@ use Rattle.drf_kinds.proofs.items.ItemsAlgebra.try_minus.Goals as goal
 
 pub returns-clause-rest : goal.returns-clause-rest
 returns-clause-rest c =
-    rest_answer nat_list_cmp_total texts_same IsLabel _ _ _ c.covers.ensures.given.0 (c.covers.ensures.covers.0 c.if-not-covers.false) c.in_ok-combined.ensures
+    rest_answer nat_list_cmp_total texts_same IsLabel _ _ _ c.covers.ensures.given.0 (c.covers.ensures.covers.0 c.if-not-covers.false) c.in_ok-difference.ensures

@@ -6,4 +6,4 @@ use Rattle.drf_kinds.proofs.ranges.RangesAlgebra.try_minus.Goals as goal
 
 pub returns-clause-rest : goal.returns-clause-rest
 returns-clause-rest c =
-    rest_answer nat_cmp_total set.nat_cmp-IsAntisymmetric (λ n. n < 2 ^ 32) _ _ _ c.covers.ensures.given.0 (c.covers.ensures.covers.0 c.if-not-covers.false) c.in_ok-combined.ensures
+    rest_answer nat_cmp_total set.nat_cmp-IsAntisymmetric (λ n. n < 2 ^ 32) _ _ _ c.covers.ensures.given.0 (c.covers.ensures.covers.0 c.if-not-covers.false) c.in_ok-difference.ensures

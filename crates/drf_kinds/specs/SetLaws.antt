@@ -54,12 +54,6 @@ put_back true false f = refl
 put_back false true f = sym (f refl)
 put_back false false f = refl
 
-only_rest : (x y z : Bool) → (x && y) ≡ false → z ≡ (x || y) → x ≡ (z && not y)
-only_rest true true z apart is = absurd (true≢false apart)
-only_rest true false z apart is = rw is refl
-only_rest false true z apart is = rw is refl
-only_rest false false z apart is = rw is refl
-
 module _ {K : Type 0} {R : K → K → Ordering} (o : IsTotalOrder R) (same : set.IsAntisymmetric R) where
   abbrev has : set.FinSet R → K → Bool
   has a k = set.contains a k

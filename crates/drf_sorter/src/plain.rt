@@ -62,6 +62,31 @@ fn row_of_node<'a>(weights: &'a [WeightRow], node: &NodePath) -> Option<&'a Weig
     weights.iter().find(|row| is_node_of(&row.role, node))
 }
 
+/// Copies of clients, in their order.
+fn copies_of(alloc: Global, clients: &[Client]) -> Result<Vec<Client>, AllocError>
+    ensures { IfOk result (λ copies. copies.items ≡ clients.now) }
+{
+    let mut copies = Vec::with_capacity(alloc, clients.len())?;
+    for client in clients {
+        copies.push(client.copy()?)?;
+    }
+    Ok(copies)
+}
+
+/// Copies of the weights of roles, in their order.
+fn weights_of(alloc: Global, rows: &[WeightRow]) -> Result<Vec<WeightRow>, AllocError>
+    ensures { IfOk result (λ copies. copies.items ≡ rows.now) }
+{
+    let mut copies = Vec::with_capacity(alloc, rows.len())?;
+    for row in rows {
+        copies.push(WeightRow {
+            role: row.role.copy()?,
+            weight: row.weight,
+        })?;
+    }
+    Ok(copies)
+}
+
 /// How many keys the candidates have together.
 fn keys_in(candidates: &[Candidate]) -> u64 {
     let mut keys: u64 = 0;
@@ -84,10 +109,6 @@ fn paths(alloc: Global, candidates: Vec<Candidate>) -> Result<Vec<ClientPath>, A
 impl PlainSorter {
     ghost use Rattle.drf_sorter.specs.Plain.{plain_content, plain_standing};
     ghost use Rattle.drf_sorter.specs.Candidates.{HasKeys};
-
-    fn alloc(&self) -> Global {
-        *self.clients.allocator()
-    }
 
     /// The weight of a node, in thousandths.
     fn weight_of(&self, node: &NodePath) -> u64
@@ -154,7 +175,6 @@ impl PlainSorter {
 
 impl Sorter for PlainSorter {
     ghost use Rattle.drf_sorter.specs.Plain.{plain_content};
-
     ghost use Rattle.std.specs.Prelude.{drop, false};
 
     ghost content = { plain_content };
@@ -176,6 +196,10 @@ impl Sorter for PlainSorter {
             next: 0,
             made: 0,
         })
+    }
+
+    fn alloc(&self) -> Global {
+        *self.clients.allocator()
     }
 
     fn add(&mut self, path: ClientPath) -> Result<(), AllocError> {
@@ -250,7 +274,7 @@ impl Sorter for PlainSorter {
         }
     }
 
-    fn order(&mut self) -> Result<(), AllocError> {
+    fn fix_order(&mut self) -> Result<(), AllocError> {
         let mut candidates = self.candidates()?;
         candidates.sort_unstable();
         let made = keys_in(&candidates);
@@ -285,5 +309,17 @@ impl Sorter for PlainSorter {
         let share = weighted_share(&self.total, DEFAULT_WEIGHT, &clients);
         let weighted = weighted_share(&self.total, self.weight_of(node), &clients);
         Some((share, weighted, clients.count()))
+    }
+
+    fn copy(&self) -> Result<PlainSorter, AllocError> {
+        let alloc = self.alloc();
+        Ok(PlainSorter {
+            clients: copies_of(alloc, &self.clients)?,
+            total: self.total.copy()?,
+            weights: weights_of(alloc, &self.weights)?,
+            queue: Vec::new(alloc),
+            next: 0,
+            made: self.made,
+        })
     }
 }

@@ -32,6 +32,9 @@ pub trait Sorter: Sized + Drop {
         ensures empty { IfOk result (λ sorter. content sorter ≡ empty) }
         ensures work { IfOk result (λ sorter. work sorter ≡ record { made = 0; marked = 0 }) };
 
+    /// The allocator that it was opened with.
+    fn alloc(&self) -> Global;
+
     /// Adds an active client that holds nothing.
     fn add(&mut self, path: ClientPath) -> Result<(), AllocError>
         requires { has_client (content self.old) path ≡ false }
@@ -113,7 +116,16 @@ pub trait Sorter: Sized + Drop {
         ensures order { IfOk result (λ paths. IsOrderOf (content self.old) paths.items) }
         ensures same { content self.new ≡ content self.old }
         ensures work { Adds COUNTED (work self.old) (work self.new) 0 }
-        ensures repaired { OnOk result (IsRepaired COUNTED (work self.new)) };
+        ensures repaired { OnOk result (IsRepaired COUNTED (work self.new)) }
+    {
+        self.fix_order()?;
+        let mut paths = Vec::new(self.alloc());
+        while let Some(client) = self.first() {
+            paths.push(client.copy()?)?;
+            self.pass();
+        }
+        Ok(paths)
+    }
 
     /// How many keys were computed so far. It stays at 2^64 - 1 once there.
     fn keys_made(&self) -> u64

@@ -7,7 +7,7 @@ use Rattle.drf_sorter.specs.Content.{IsOrderOf, active_paths}
 use Rattle.drf_sorter.specs.Plain.{plain_content, plain_standing}
 use Rattle.drf_sorter.proofs.OrderLemmas.{sorted_serving, distinct_moved}
 use Rattle.drf_sorter.proofs.PlainLemmas.{distinct_active}
-use Rattle.drf_sorter.proofs.plain.PlainSorterSorter.order.Goals as goal
+use Rattle.drf_sorter.proofs.plain.PlainSorterSorter.fix_order.Goals as goal
 
 pub returns-clause-order : goal.returns-clause-order
 returns-clause-order c =

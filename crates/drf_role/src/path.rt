@@ -50,10 +50,10 @@ impl Model for ClientPath {
 }
 
 impl ClientPath {
-    pub fn new(alloc: Global, role: &Role, framework: &Name) -> Result<ClientPath, AllocError>
+    pub fn new(_alloc: Global, role: &Role, framework: &Name) -> Result<ClientPath, AllocError>
         ensures { IfOk result (λ path. path ≡ client_path role.now framework.now) }
     {
-        Ok(ClientPath::from_parts(role.copy_in(alloc)?, framework.copy_in(alloc)?))
+        Ok(ClientPath::from_parts(role.copy()?, framework.copy()?))
     }
 
     /// The path of a framework in a role, which it keeps; no memory is asked for.

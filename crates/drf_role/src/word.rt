@@ -41,24 +41,13 @@ impl Word {
         self.text.as_str()
     }
 
-    /// The allocator that its text came from.
-    pub fn alloc(&self) -> Global {
-        *self.text.allocator()
-    }
-
     /// A second owner of the same text. It asks for no memory, and fails where 2^63 owners were counted.
-    pub fn copy_in(&self, _alloc: Global) -> Result<Word, AllocError>
+    pub fn copy(&self) -> Result<Word, AllocError>
         ensures { IfOk result (λ word. word ≡ self.now) }
     {
         Ok(Word {
             text: Arc::try_clone(&self.text)?,
         })
-    }
-
-    pub fn copy(&self) -> Result<Word, AllocError>
-        ensures { IfOk result (λ word. word ≡ self.now) }
-    {
-        self.copy_in(self.alloc())
     }
 }
 

@@ -6,9 +6,11 @@ ghost use Rattle.std.specs.Cmp.Lexicographic.{pointwise, lists_equiv, nat_list_e
 ghost use Rattle.drf_role.specs.Name.{IsName};
 ghost use Rattle.drf_role.specs.Role.{IsRole};
 ghost use Rattle.drf_role.specs.Parts.{parts_of, text_of};
+ghost use Rattle.drf_role.specs.Mark.{IsKept, path_mark};
 ghost use Rattle.drf_role.specs.Path.{client_path, role_part, framework_part, IsClientPath, IsNodePath};
 
 use crate::joined::Joined;
+use crate::mark::mark_of;
 use crate::name::Name;
 use crate::role::Role;
 use std::alloc::{AllocError, Global};
@@ -39,6 +41,8 @@ fn client_text(alloc: Global, role: &str, framework: &str) -> Result<String, All
 pub struct ClientPath {
     role: Role,
     framework: Name,
+    // The hash of both, by which others find the client.
+    mark: u64,
 }
 
 impl Model for ClientPath {
@@ -46,7 +50,7 @@ impl Model for ClientPath {
 
     ghost view = { λ p. client_path p.role p.framework };
 
-    ghost invariant = { λ p. IsRole p.role × IsName p.framework };
+    ghost invariant = { λ p. IsKept p.role p.framework p.mark };
 }
 
 impl ClientPath {
@@ -63,7 +67,12 @@ impl ClientPath {
         // What these calls ensure tells the proof that the two are right.
         let _ = role.text();
         let _ = framework.text();
-        ClientPath { role, framework }
+        let mark = mark_of(&role, &framework);
+        ClientPath {
+            role,
+            framework,
+            mark,
+        }
     }
 
     /// The role that the client is in.
@@ -103,10 +112,21 @@ impl ClientPath {
         }
     }
 
+    /// The hash of the client, which is that of every equal path.
+    pub fn mark(&self) -> u64
+        ensures { result ≡ path_mark self.now }
+    {
+        self.mark
+    }
+
     pub fn copy(&self) -> Result<ClientPath, AllocError>
         ensures { IfOk result (λ path. path ≡ self.now) }
     {
-        ClientPath::new(self.role.alloc(), &self.role, &self.framework)
+        Ok(ClientPath {
+            role: self.role.copy()?,
+            framework: self.framework.copy()?,
+            mark: self.mark,
+        })
     }
 
     // The parts in one text, of which a node is a front.

@@ -2,7 +2,9 @@
 ghost use Rattle.std.specs.String.{string_bytes};
 ghost use Rattle.std.specs.Prelude.{◌≡◌, ◌==◌, ◌<◌, ◌≤◌, ◌+◌, ◌++◌, codes, List, ℕ, IfOk, Some, length, slice_get, take};
 ghost use Rattle.std.specs.Cmp;
-ghost use Rattle.std.specs.Cmp.Lexicographic.{pointwise, lists_equiv, nat_list_eq_equiv};
+ghost use Rattle.std.specs.Cmp.Lexicographic.{pointwise, lists_equiv, nat_list_eq_equiv, bytes_decides, pointwise_decides};
+ghost use Rattle.std.specs.Hash as fed;
+ghost use Rattle.std.specs.Hash.{same_Alike};
 ghost use Rattle.drf_role.specs.Name.{IsName};
 ghost use Rattle.drf_role.specs.Role.{IsRole};
 ghost use Rattle.drf_role.specs.Parts.{parts_of, text_of};
@@ -14,6 +16,7 @@ use crate::mark::mark_of;
 use crate::name::Name;
 use crate::role::Role;
 use std::alloc::{AllocError, Global};
+use std::hash::{Hash, Hasher};
 use std::marker::Model;
 
 // The part under which the clients of a role itself stand.
@@ -164,6 +167,16 @@ impl PartialEq for ClientPath {
 
 impl Eq for ClientPath {
     ghost laws = { lists_equiv nat_list_eq_equiv };
+}
+
+impl Hash for ClientPath {
+    ghost hash_input = { λ path. fed.u64 (path_mark path) };
+
+    ghost respects_eq = { (same_Alike (λ path. fed.u64 (path_mark path)) (pointwise_decides bytes_decides)).fed };
+
+    fn hash<H: Hasher>(&self, state: &mut H) {
+        self.mark().hash(state);
+    }
 }
 
 /// The path of a node: a non-empty prefix of a client's path. Contracts see the list of its

@@ -11,7 +11,7 @@ use Rattle.drf_role.specs.Path.{Path}
 use Rattle.drf_bundle.specs.declared.resource.Resource.{Resource}
 use Rattle.drf_rows.specs.LimitNumbers.{LimitNumbers}
 use Rattle.drf_rows.specs.Client.{Client}
-use Rattle.drf_rows.specs.Held.{client_of, clients_of, cluster_total}
+use Rattle.drf_rows.specs.Held.{client_of, clients_in, clients_of, cluster_total}
 use Rattle.drf_rows.specs.Cycle.{at_moment, cycle}
 use Rattle.drf_rows.specs.Step.{live_rows, refusal_of, effect}
 use Rattle.drf_rows.specs.Members.{active_at, suppressed_at, suppressed_in, with_activity, with_agent, with_framework, with_suppression, new_client, distinct, agent_deactivated, revived, agent_removed, framework_removed}
@@ -35,7 +35,6 @@ use Rattle.drf_sorter.specs.Content.{Content}
 use Rattle.drf_core.specs.Kept.{AreFew, IsKept}
 use Rattle.drf_core.specs.Machine.{IsSafe}
 use Rattle.drf_core.proofs.CycleLemmas.{turns-clients, turns-tables, turns-next_offer}
-use Rattle.drf_core.proofs.ReportLemmas.{clients_in}
 use Rattle.drf_core.proofs.WeightLemmas.{few_weights, weights-turns}
 use Rattle.drf_core.proofs.Welcome.{room_for, welcome_agent, welcome_framework, welcome_weight}
 

@@ -12,13 +12,6 @@ pub mod DraftTried
 pub mod TurnLemmas
 pub mod CycleLemmas
 pub mod RegisterLemmas
-pub mod ReportLemmas
-pub mod ReportPassed
-pub mod ReportCounts
-pub mod ReportSums
-pub mod ReportLines
-pub mod ReportNodes
-pub mod WeighingLemmas
 pub mod WeightLemmas
 pub mod Welcome
 pub mod KeptLemmas

@@ -5,5 +5,3 @@ pub mod Kept
 pub mod Drafting
 pub mod Registering
 pub mod Accepting
-pub mod Reporting
-pub mod Weighing

@@ -26,6 +26,7 @@ pub mod ConsistentLaws
 pub mod RegistrationLaws
 pub mod EndingLaws
 pub mod MemberLaws
+pub mod TotalLaws
 pub mod WeightLaws
 pub mod Examples
 pub mod OrderExamples

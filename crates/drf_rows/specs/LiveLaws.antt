@@ -220,6 +220,10 @@ module _ (rows : Rows) (n : ℕ) where
   effect-live (Cycle at) = live-cycle at
   effect-live Report = live-stay rows (omega arith) refl
 
+pub report_of-live : (rows : Rows) → report_of (live_rows rows) ≡ report_of rows
+unfolding report_of standing_of
+report_of-live rows = refl
+
 answer-live : (rows : Rows) (event : Event) → answer (live_rows rows) (effect (live_rows rows) event) event ≡ answer rows (effect rows event) event
 unfolding effect report_of standing_of
 answer-live rows (AddAgent agent total) = refl

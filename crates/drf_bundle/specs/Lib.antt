@@ -1,4 +1,5 @@
 pub mod Bundle
+pub mod Held
 pub mod Laws
 pub mod Places
 pub mod Quantities

@@ -5,6 +5,7 @@ mod bundle;
 mod laws;
 mod merge;
 mod names;
+mod parts;
 mod quantities;
 mod resource;
 mod union;

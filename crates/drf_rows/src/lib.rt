@@ -2,6 +2,7 @@
 #![tactic(auto)]
 
 mod copied;
+mod copies;
 mod event;
 mod laws;
 mod limits;

@@ -1,0 +1,19 @@
+use Rattle.std.proofs.Common.{◌≡◌, ◌≤◌, ap, subst, arith, length, List}
+use mathlib.Core.List.{IsPrefix}
+use Rattle.drf_board.specs.declared.entry.Entry.{Entry}
+use Rattle.drf_board.proofs.Prefixes.{prefixes-compare}
+use Rattle.drf_board.proofs.prefix.Prefix.begins.Goals as goal
+
+pub returns-then-other-self : goal.returns-then-other-self
+returns-then-other-self g c =
+    let both = c.learn.new.self.log in
+    let this : IsPrefix c.self.inside.seen.log both = subst (λ (l : List Entry). IsPrefix l both) (ap (λ s. s.log) c.again-both.ensures) c.learn.ensures.2 in
+    let few : length c.other.inside.seen.log ≤ length c.self.inside.seen.log = omega (arith, c.self.invariant.0, c.other.invariant.0) in
+    rw (← c.self.view_is, ← c.other.view_is) (prefixes-compare c.other.inside.seen.log c.self.inside.seen.log both c.learn.ensures.3 this few)
+
+pub returns : goal.returns
+returns g c =
+    let both = c.learn.new.self.log in
+    let this : IsPrefix c.self.inside.seen.log both = subst (λ (l : List Entry). IsPrefix l both) (ap (λ s. s.log) c.again-both.ensures) c.learn.ensures.2 in
+    let few : length c.self.inside.seen.log ≤ length c.other.inside.seen.log = omega (arith, c.self.invariant.0, c.other.invariant.0) in
+    rw (← c.self.view_is, ← c.other.view_is) (prefixes-compare c.self.inside.seen.log c.other.inside.seen.log both this c.learn.ensures.3 few)

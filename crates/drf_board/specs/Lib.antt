@@ -1,0 +1,5 @@
+pub mod History
+pub mod Sheets
+pub mod Slates
+pub mod Boards
+pub mod Counting

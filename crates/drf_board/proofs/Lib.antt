@@ -1,3 +1,3 @@
 pub mod Prefixes
-pub mod Adding
+pub mod Chaining
 pub mod Blank

@@ -3,8 +3,8 @@ ghost use Rattle.drf_board.specs.Boards.{HasPublished};
 ghost use Rattle.drf_board.specs.History.{IsLegal, entry};
 ghost use Rattle.drf_board.specs.Sheets.{IsSheet};
 
-use crate::entry::Entry;
-use crate::history::{Counted, Naming};
+use crate::author::Author;
+use crate::history::Naming;
 use crate::prefix::{Prefix, Told};
 use crate::sheet::Sheet;
 use crate::shown::{Pane, Shown, Shows};
@@ -12,7 +12,6 @@ use crate::slate::Slate;
 use crate::viewer::Viewer;
 use drf_rows::{Event, Reply};
 use left_right::WriteHandle;
-use logbook::Word;
 use std::alloc::{AllocError, Global};
 use std::marker::Model;
 use std::sync::Wait;
@@ -26,8 +25,7 @@ where
 {
     alloc: Global,
     viewers: u64,
-    head: Word<Entry, u64, Counted>,
-    prefix: Prefix<K>,
+    author: Author<K>,
     writer: WriteHandle<Pane<K>, Pane<K>, R>,
 }
 
@@ -35,17 +33,13 @@ impl<K: Naming, R: Wait + Drop> Model for Board<K, R>
 where
     Pane<K>: Shows,
 {
-    ghost use Rattle.std.specs.Prelude.{◌≡◌};
     ghost use Rattle.drf_board.specs.Boards.{Published, published_code};
-    ghost use Rattle.drf_board.specs.Counting.{head_of};
 
     ghost Value = { Published };
 
     ghost coded = { published_code };
 
-    ghost view = { λ b. record { entries = b.prefix; viewers = b.viewers } };
-
-    ghost invariant = { λ b. b.head ≡ head_of K.slate.book };
+    ghost view = { λ b. record { entries = b.author; viewers = b.viewers } };
 }
 
 impl<K: Naming, R: Wait + Drop> Board<K, R>
@@ -65,8 +59,8 @@ where
         ensures viewers { IfOk result (λ r. All (λ viewer. viewer ≡ []) r.1.items) }
     {
         let viewers = slate.viewers();
-        let Slate { head, seen, .. } = slate;
-        let prefix = Prefix::empty(seen);
+        let author = slate.into_author();
+        let prefix = author.known();
         let (first, second) = Pane::pair(alloc)?;
         first.fill(Shown::new(Sheet::blank(alloc), prefix.again()));
         let writer = WriteHandle::new(alloc, rt, first, second, viewers.max(1) as usize)?;
@@ -74,8 +68,7 @@ where
         let board = Board {
             alloc,
             viewers,
-            head,
-            prefix,
+            author,
             writer,
         };
         Ok((board, readers))
@@ -106,35 +99,24 @@ where
         if self.writer.append(operation).is_err() {
             return Err(AllocError);
         }
-        let mut prefix = self.prefix.again();
-        if !prefix.add(&self.head, event, reply) {
-            return Err(AllocError);
-        }
-        pane.fill(Shown::new(sheet, prefix.again()));
+        self.author.add(event, reply);
+        pane.fill(Shown::new(sheet, self.author.known()));
         // It takes no memory, so it succeeds.
         let _ = self.writer.publish();
-        let told = Told::of(prefix.again());
-        self.prefix = prefix;
-        Ok(told)
+        Ok(Told::of(self.author.known()))
     }
 
-    /// The same for a board that nobody looks at: it is told no sheet, shows none, and waits for nobody, so its caller need not make a
-    /// report that nobody would read.
-    pub fn publish_unseen(&mut self, event: &Event, reply: &Reply) -> Result<Told<K>, AllocError>
+    /// The same for a board that nobody looks at: it is told no sheet, shows none, waits for nobody and takes no memory, so its caller
+    /// need not make a report that nobody would read.
+    pub fn publish_unseen(&mut self, event: &Event, reply: &Reply) -> Told<K>
         requires unseen { self.old.viewers ≡ 0 }
         requires room { length self.old.entries + 1 < 2 ^ 64 }
         requires legal { IsLegal K.slate.limits (self.old.entries ++ entry event.now reply.now ∷ []) }
-        ensures ok { OnOk result (HasPublished self.old self.new (entry event.now reply.now)) }
-        ensures told { IfOk result (λ told. told ≡ self.new.entries) }
-        ensures err { OnErr result (self.new ≡ self.old) }
+        ensures added { HasPublished self.old self.new (entry event.now reply.now) }
+        ensures told { result ≡ self.new.entries }
     {
-        let mut prefix = self.prefix.again();
-        if !prefix.add(&self.head, event, reply) {
-            return Err(AllocError);
-        }
-        let told = Told::of(prefix.again());
-        self.prefix = prefix;
-        Ok(told)
+        self.author.add(event, reply);
+        Told::of(self.author.known())
     }
 }
 

@@ -1,6 +1,7 @@
 //! The board: reports of shares that are read without the master's lock, and never go back.
 #![tactic(auto)]
 
+mod author;
 mod board;
 mod entry;
 mod history;

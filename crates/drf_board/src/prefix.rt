@@ -1,47 +1,47 @@
 //! How much of the history is known.
-ghost use Rattle.std.specs.Prelude.{◌≡◌, ◌+◌, ◌<◌, ◌^◌, ◌++◌, ◌∷◌, [], length, MatchBool};
+ghost use Rattle.std.specs.Prelude.{◌≡◌, length, MatchBool};
 ghost use mathlib.Core.List.{IsPrefix};
-ghost use Rattle.drf_board.specs.Counting.{head_of};
-ghost use Rattle.drf_board.specs.History.{IsLegal, entry};
+ghost use Rattle.drf_board.specs.Chains.{entries_of};
+ghost use Rattle.drf_board.specs.History.{IsLegal};
 
-use crate::entry::Entry;
-use crate::history::{Add, Counted, Lent, Naming, NoGain};
-use drf_rows::{Event, Reply};
-use logbook::{Offer, Seen, Word};
+use crate::history::{Chained, Link, Naming};
+use logbook::Seen;
 use std::marker::{Model, PhantomData};
 
 /// A legal list with which the history of the board begins. Contracts see it as that list; at run time it is its length alone.
 #[derive(Drop)]
 pub struct Prefix<K: Naming> {
     count: u64,
-    seen: Seen<Entry, u64, Counted>,
+    seen: Seen<Link, u64, Chained>,
     of: PhantomData<K>,
 }
 
 impl<K: Naming> Model for Prefix<K> {
     ghost use Rattle.std.specs.Prelude.{◌≡◌, List, length};
-    ghost use Rattle.drf_board.specs.History.{IsLegal};
     ghost use Rattle.drf_board.specs.Boards.{entries_code};
+    ghost use Rattle.drf_board.specs.Chains.{entries_of};
+    ghost use Rattle.drf_board.specs.History.{IsLegal};
     ghost use Rattle.drf_board.specs.declared.entry.Entry.{Entry};
 
     ghost Value = { List Entry };
 
     ghost coded = { entries_code };
 
-    ghost view = { λ p. p.seen.log };
+    ghost view = { λ p. entries_of K.slate.chain p.seen.log };
 
-    ghost invariant = { λ p. (p.count ≡ length p.seen.log) × (p.seen.book ≡ K.slate.book) × IsLegal K.slate.limits p.seen.log };
+    ghost invariant = { λ p. (p.count ≡ length (entries_of K.slate.chain p.seen.log)) × (p.seen.book ≡ K.slate.book) × IsLegal K.slate.limits (entries_of K.slate.chain p.seen.log) };
 }
 
 impl<K: Naming> Prefix<K> {
-    /// What is known before anything was published.
-    pub fn empty(seen: Seen<Entry, u64, Counted>) -> Prefix<K>
+    /// What was seen of the history, which has so many entries.
+    pub fn of(count: u64, seen: Seen<Link, u64, Chained>) -> Prefix<K>
+        requires count { count ≡ length (entries_of K.slate.chain seen.log) }
         requires book { seen.book ≡ K.slate.book }
-        requires empty { seen.log ≡ [] }
-        ensures { result ≡ [] }
+        requires legal { IsLegal K.slate.limits (entries_of K.slate.chain seen.log) }
+        ensures { result ≡ entries_of K.slate.chain seen.log }
     {
         Prefix {
-            count: 0,
+            count,
             seen,
             of: PhantomData,
         }
@@ -74,33 +74,6 @@ impl<K: Naming> Prefix<K> {
         if other.count < self.count {
             return false;
         }
-        true
-    }
-
-    /// Adds an entry to the history where that has no more than this list, and says whether it did.
-    pub fn add(&mut self, head: &Word<Entry, u64, Counted>, event: &Event, reply: &Reply) -> bool
-        requires head { head.now ≡ head_of K.slate.book }
-        requires room { length self.old + 1 < 2 ^ 64 }
-        requires legal { IsLegal K.slate.limits (self.old ++ entry event.now reply.now ∷ []) }
-        ensures { MatchBool result (self.new ≡ self.old ++ entry event.now reply.now ∷ []) (self.new ≡ self.old) }
-    {
-        let mut seen = self.seen.again();
-        let lent = Lent { event, reply };
-        let mut offer: Offer<Entry, u64, Counted, NoGain> = seen.plain::<NoGain, Lent<'_>, Add>(&lent);
-        let mut pen = seen.no_pen();
-        let count = self.count;
-        let found = head.compare_exchange::<Add, NoGain>(
-            count,
-            count + 1,
-            &mut seen,
-            &mut offer,
-            &mut pen,
-        );
-        if found != count {
-            return false;
-        }
-        self.seen = seen;
-        self.count = count + 1;
         true
     }
 }

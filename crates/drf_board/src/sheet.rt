@@ -1,12 +1,10 @@
-ghost use Rattle.std.specs.Prelude.{◌≡◌, IfOk};
+ghost use Rattle.std.specs.Prelude.{◌≡◌, [], IfOk};
+ghost use Rattle.drf_rows.specs.LimitNumbers.{LimitNumbers};
+ghost use Rattle.drf_board.specs.Sheets.{IsSheet};
 
 use drf_bundle::Quantities;
 use drf_rows::{Report, Table};
 use std::alloc::{AllocError, Global};
-
-ghost use Rattle.std.specs.Prelude.{[]};
-ghost use Rattle.drf_rows.specs.LimitNumbers.{LimitNumbers};
-ghost use Rattle.drf_board.specs.Sheets.{IsSheet};
 
 /// What viewers are shown: how many events were published, refused ones among them, and the report of shares after the last.
 #[derive(Debug, Drop)]

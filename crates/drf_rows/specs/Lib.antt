@@ -6,9 +6,12 @@ pub mod Holdings
 pub mod Held
 pub mod Weights
 pub mod Filters
+pub mod Tasks
 pub mod Cycle
 pub mod Endings
+pub mod Ended
 pub mod Offers
+pub mod TaskLaws
 pub mod Members
 pub mod Report
 pub mod Consistent

@@ -1,7 +1,7 @@
 -- What ends, as the definitions say it.
 use Rattle.drf_rows.specs.Endings.{Ending, one_offer, one_task, offers_on, all_on, all_of}
-use Rattle.drf_holdings.specs.declared.ending.Ending as told
-use Rattle.drf_holdings.specs.declared.ending.Ending.TheVariants.{Offer, Task, OffersOn, AllOn, AllOf}
+use Rattle.drf_rows.specs.declared.ending.Ending as told
+use Rattle.drf_rows.specs.declared.ending.Ending.TheVariants.{Offer, Task, OffersOn, AllOn, AllOf}
 
 abbrev pub ending_of : told.Ending → Ending
 ending_of (Offer number) = one_offer number

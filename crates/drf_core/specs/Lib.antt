@@ -3,6 +3,7 @@ pub mod MachineLaws
 pub mod Content
 pub mod Kept
 pub mod Drafting
+pub mod Entitling
 pub mod Registering
 pub mod Accepting
 pub mod Reporting

@@ -11,6 +11,7 @@ ghost use Rattle.drf_rows.specs.Held.{client_of};
 ghost use Rattle.drf_rows.specs.Holdings.{of_offer, of_task, holdings_of, amount_in, AreBundles};
 ghost use Rattle.drf_rows.specs.Consistent.{IsConsistent, offers_counted};
 ghost use Rattle.drf_rows.specs.Report.{path_cmp, with_node, nodes_on, nodes_of, report_of};
+ghost use Rattle.drf_rows.specs.Step.{live_rows};
 ghost use Rattle.drf_rows.specs.Weights.{are_weights};
 ghost use Rattle.drf_core.specs.Reporting.{with_clients, count_at, count_in, CountTo, CanCount, HoldNothing, AddTo, CanAdd, AddAll, CanAddAll, AreSums, IsWhole, IsPart, AreParts, line_with};
 
@@ -212,15 +213,15 @@ fn node_lines(
     Ok(lines)
 }
 
-/// What there is, and who holds what of it.
-pub fn report(alloc: Global, tables: &Tables) -> Result<Report, AllocError>
+/// The report of the live rows of tables.
+fn report_on(alloc: Global, tables: &Tables, rows: &Rows) -> Result<Report, AllocError>
+    requires live { rows.now ≡ live_rows tables.now.rows }
     requires consistent { IsConsistent tables.now.rows }
     requires few_agents { length tables.now.rows.agents ≤ 4096 }
     requires few_offers { tables.now.rows.next_offer < 2 ^ 64 }
     ensures { IfOk result (λ report. report ≡ report_of tables.now.rows) }
 {
-    let rows = tables.rows()?;
-    let sums = sums(alloc, &rows)?;
+    let sums = sums(alloc, rows)?;
     let weights = Weights::new(alloc, rows.weights.as_slice())?;
     let nodes = node_lines(alloc, tables.total(), &weights, &sums)?;
     let mut total = tables.total().copy()?;
@@ -229,4 +230,15 @@ pub fn report(alloc: Global, tables: &Tables) -> Result<Report, AllocError>
         total,
         nodes: Table::from_vec(nodes),
     })
+}
+
+/// What there is, and who holds what of it.
+pub fn report(alloc: Global, tables: &Tables) -> Result<Report, AllocError>
+    requires consistent { IsConsistent tables.now.rows }
+    requires few_agents { length tables.now.rows.agents ≤ 4096 }
+    requires few_offers { tables.now.rows.next_offer < 2 ^ 64 }
+    ensures { IfOk result (λ report. report ≡ report_of tables.now.rows) }
+{
+    let rows = tables.rows()?;
+    report_on(alloc, tables, &rows)
 }

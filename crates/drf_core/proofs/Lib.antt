@@ -9,6 +9,7 @@ pub mod ContentMembers
 pub mod ContentRemoved
 pub mod DraftLemmas
 pub mod DraftTried
+pub mod GrantLemmas
 pub mod TurnLemmas
 pub mod CycleLemmas
 pub mod RegisterLemmas

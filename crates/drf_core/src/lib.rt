@@ -6,6 +6,7 @@ mod allocator;
 mod apply;
 mod cycle;
 mod ending;
+mod free;
 mod frameworks;
 mod life;
 mod refusal;

@@ -19,7 +19,7 @@ pub loop-held-preserved : goal.loop-held-preserved
 loop-held-preserved g c =
     let content = g.S.Sorter.content c.loop-held.sorter in
     record {
-      sorted = c.refund.ensures
+      sorted = c.refund.ensures.content
           ∙ ap (λ q. with_change content c.in-Some.held.client (refunded q)) c.quantities.ensures.value
           ∙ sorted-ended c.loop-held.tables.rows c.end.new.self.rows (ending_of c.args.ending) c.in-Some.held c.in-Some.ensures.some
           content c.loop-held.invariant.sorted;

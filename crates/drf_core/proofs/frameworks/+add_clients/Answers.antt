@@ -17,6 +17,6 @@ returns-in-Err-clause-err g t c =
     let path = c.in-Some.first.now in
     let added : g.S.Sorter.content c.add_clients.new.sorter ≡ with_client content path
     = c.in-Err.ensures.err ∙ c.in_ok-add.ensures.ok ∙ ap (with_client content) c.in_ok-copy.ensures in
-    c.remove.ensures
+    c.remove.ensures.content
     ∙ ap (λ (k : Content). without_client k path) added
     ∙ without-added content path (first_new content c.args.paths.now path c.in-Some.rest.now c.in-Some.ensures.cases.0 c.requires)

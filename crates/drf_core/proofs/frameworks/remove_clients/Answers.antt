@@ -19,6 +19,6 @@ loop-path-preserved g c =
     let at = slice_get_read paths (length paths) i c.path-item.result refl c.loop-path-test.true c.path-item.is in
     let first = first_known (g.S.Sorter.content c.loop-path.sorter) paths i c.path-item.result c.loop-path-test.true at c.loop-path.invariant.known in
     record {
-      known = subst (λ (k : Content). AreKnown k (drop (i + 1) paths)) (sym c.remove.ensures) first.later;
-      removed = ap (λ (k : Content). without_all k (drop (i + 1) paths)) c.remove.ensures ∙ sym first.same ∙ c.loop-path.invariant.removed;
+      known = subst (λ (k : Content). AreKnown k (drop (i + 1) paths)) (sym c.remove.ensures.content) first.later;
+      removed = ap (λ (k : Content). without_all k (drop (i + 1) paths)) c.remove.ensures.content ∙ sym first.same ∙ c.loop-path.invariant.removed;
     }

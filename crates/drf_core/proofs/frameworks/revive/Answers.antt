@@ -10,4 +10,4 @@ pub returns-clause-ok : goal.returns-clause-ok
 returns-clause-ok g c =
     applied_revival c.args.tables.now.rows c.revive.new.self.rows c.args.role.now c.args.framework.now
     (g.S.Sorter.content c.args.sorter.now) (g.S.Sorter.content c.set_active.new.self) c.in_ok-path.path
-    c.requires.sorted c.in_ok-path.ensures c.revive.ensures c.set_active.ensures
+    c.requires.sorted c.in_ok-path.ensures c.revive.ensures c.set_active.ensures.content

@@ -67,4 +67,4 @@ returns-clause-ok g c = λ p at.
     (same_offer rows c.args.number o p found at)
     (applied_accept rows c.args.number o c.args.task c.args.used c.args.at c.args.refuse_ms (g.S.Sorter.content c.args.sorter.now) c.in_ok-client.client c.quantities.result.now
     c.requires.consistent c.requires.sorted found c.entries.ensures.bundle covered c.in_ok-client.ensures quantities
-    tables (g.S.Sorter.content c.refund.new.self) same c.refund.ensures)
+    tables (g.S.Sorter.content c.refund.new.self) same c.refund.ensures.content)

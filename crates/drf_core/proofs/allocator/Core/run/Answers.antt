@@ -3,8 +3,7 @@ use Rattle.std.proofs.lemmas.Option.{slice_get_read}
 use Rattle.drf_rows.specs.Step.{replies_to}
 use Rattle.drf_rows.specs.declared.event.Event.{Event}
 use Rattle.drf_rows.specs.declared.reply.Reply.{Reply}
-use Rattle.drf_core.proofs.TurnLemmas.{take_one_more}
-use Rattle.drf_core.proofs.StepLemmas.{IsAfterAll-more, reply-more}
+use Rattle.drf_core.proofs.StepLemmas.{IsAfterAll-more, reply-more, take_one_more}
 use Rattle.drf_core.proofs.allocator.Core.run.Goals as goal
 
 pub loop-event-preserved : goal.loop-event-preserved

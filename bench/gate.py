@@ -1,6 +1,6 @@
 #!/usr/bin/env python3
-"""Runs the gate (`rt ci`) on a clone of the last commit, and prints for each crate the seconds of its proof, its tests,
-its must-fail edits and its runs, then the whole time and the processor time. The gate's own lines go to standard error.
+"""Runs the gate (`rt ci`) on a clone of the last commit, and prints a table of the seconds that each crate's proof, its
+must-fail edits, its tests and its runs took, as docs/PROVING.md has it, then the whole time and the processor time. The gate's own lines go to standard error.
 
     bench/gate.py              the whole repository
     bench/gate.py CRATE..      these crates and those below them
@@ -19,7 +19,7 @@ import tempfile
 import time
 
 ROOT = os.path.dirname(os.path.dirname(os.path.realpath(__file__)))
-PARTS = ["proof", "tests", "edits", "runs"]
+PARTS = ["proof", "edits", "tests", "runs"]
 
 
 def load_rt():
@@ -75,12 +75,12 @@ def main(names):
         os.dup2(table, 1)
         os.chdir("/")
     wall, used = time.time() - start, resource.getrusage(resource.RUSAGE_CHILDREN)
-    print(f"{'crate':16}" + "".join(f"{it:>8}" for it in PARTS) + "     all  edits")
-    for name in sorted({name for name, _ in seconds}, key=lambda name: -sum(seconds[name, it] for it in PARTS)):
-        row = [seconds[name, it] for it in PARTS]
-        print(f"{name:16}" + "".join(f"{it:8.0f}" for it in [*row, sum(row)]) + f"{edits[name]:7}")
-    row = [sum(seconds[name, it] for name, part in seconds if part == it) for it in PARTS]
-    print(f"{'all':16}" + "".join(f"{it:8.0f}" for it in [*row, sum(row)]) + f"{sum(edits.values()):7}")
+    print("| Crate | Proof | Edits | Tests | Runs | All | Number of edits |\n|---|---|---|---|---|---|---|")
+    order = sorted({name for name, _ in seconds}, key=lambda name: -sum(seconds[name, it] for it in PARTS))
+    rows = [(f"`{name}`", [seconds[name, it] for it in PARTS], edits[name]) for name in order]
+    rows.append(("all", [sum(part) for part in zip(*(parts for _, parts, _ in rows))], sum(edits.values())))
+    for name, parts, number in rows:
+        print(f"| {name} | " + " | ".join(f"{it:.0f}" for it in [*parts, sum(parts)]) + f" | {number or '-'} |")
     print(f"seconds: {wall:.0f} in all, {used.ru_utime + used.ru_stime:.0f} of a processor; status {status}")
     return status
 

@@ -6,7 +6,7 @@ mod engine;
 mod fault;
 mod session;
 
-pub use device::Device;
+pub use device::{Device, write_whole};
 pub use engine::{run, serve};
 pub use fault::RunFault;
 pub use session::Session;

@@ -11,6 +11,5 @@ mod frameworks;
 mod life;
 mod refusal;
 mod report;
-mod weights;
 
 pub use allocator::Core;

@@ -6,10 +6,9 @@ use anyhow::{Context, Result};
 use drf_app::command;
 use drf_journal::Device;
 use std::alloc::Global;
-use std::fs;
-use std::io;
 use std::io::{ErrorKind, Read, Write};
 use std::rt::Runtime;
+use std::{fs, io};
 
 /// The example that is given as input.
 const EXAMPLE: &str = "first";
@@ -88,7 +87,7 @@ struct Wanted<'a> {
     told: &'a str,
 }
 
-fn wanted(line: &str) -> Option<Wanted<'_>> {
+fn read_row(line: &str) -> Option<Wanted<'_>> {
     let (failing, rest) = line.split_once('|')?;
     let (status, rest) = rest.split_once('|')?;
     let (words, rest) = rest.split_once('|')?;
@@ -102,7 +101,7 @@ fn wanted(line: &str) -> Option<Wanted<'_>> {
     })
 }
 
-fn done(alloc: Global, wanted: &Wanted, input: &[u8]) -> Result<Done> {
+fn outcome(alloc: Global, wanted: &Wanted, input: &[u8]) -> Result<Done> {
     let mut words = Vec::new(alloc);
     words.push("drf")?;
     for word in wanted.words.split_whitespace() {
@@ -120,11 +119,13 @@ fn begins(text: &[u8], front: &str) -> bool {
 }
 
 fn is_exact(alloc: Global, line: &str, input: &[u8]) -> Result<bool> {
-    let wanted = wanted(line).context("no row")?;
-    let done = done(alloc, &wanted, input)?;
-    Ok(wanted.status.parse::<u8>().ok() == Some(done.status)
-        && begins(&done.written, wanted.written)
-        && begins(&done.told, wanted.told))
+    let wanted = read_row(line).context("no row")?;
+    let done = outcome(alloc, &wanted, input)?;
+    Ok(
+        wanted.status.parse::<u8>().ok() == Some(done.status)
+            && begins(&done.written, wanted.written)
+            && begins(&done.told, wanted.told),
+    )
 }
 
 pub fn run_all<R: Runtime + AllocGlobal>(rt: &R) -> Result<()> {

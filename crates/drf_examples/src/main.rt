@@ -1,7 +1,9 @@
 //! Runs the worked examples of `data/`, and one of them over streams that are slow or fail, and tells of each whether
-//! what was written is, byte for byte, what it must be. So does it of events that are read and written again.
+//! what was written is, byte for byte, what it must be. So does it of events that are read and written again,
+//! and of commands.
 #![tactic(auto)]
 
+mod commands;
 mod events;
 mod lines;
 mod rows;
@@ -13,5 +15,6 @@ fn main(rt: HostRuntime) -> Result<()> {
     rows::run_all(&rt)?;
     streams::run_all(&rt)?;
     events::run_all(&rt)?;
-    lines::run_all(&rt)
+    lines::run_all(&rt)?;
+    commands::run_all(&rt)
 }

@@ -11,6 +11,7 @@ pub mod Endings
 pub mod Offers
 pub mod Members
 pub mod Report
+pub mod Quota
 pub mod Consistent
 pub mod Refusal
 pub mod Step
@@ -33,6 +34,7 @@ pub mod WeightExamples
 pub mod ReportExamples
 pub mod LifeExamples
 pub mod FilterExamples
+pub mod QuotaLaws
 pub mod Laws
 pub mod LifeLaws
 pub mod EndedLaws

@@ -14,6 +14,7 @@ pub mod Offers
 pub mod TaskLaws
 pub mod Members
 pub mod Report
+pub mod Quota
 pub mod Consistent
 pub mod Refusal
 pub mod Step
@@ -37,6 +38,7 @@ pub mod WeightExamples
 pub mod ReportExamples
 pub mod LifeExamples
 pub mod FilterExamples
+pub mod QuotaLaws
 pub mod Laws
 pub mod LifeLaws
 pub mod EndedLaws

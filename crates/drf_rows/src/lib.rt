@@ -7,6 +7,7 @@ mod ending;
 mod event;
 mod laws;
 mod limits;
+mod quota_laws;
 mod reply;
 mod report;
 mod rows;
@@ -23,6 +24,7 @@ pub use laws::{
     taking_part_example, turn_law, weights_example,
 };
 pub use limits::{LARGEST_AMOUNT, LATEST_MOMENT, LONGEST_FILTER, Limits};
+pub use quota_laws::limits_law;
 pub use reply::{OfferLine, Refusal, Reply};
 pub use report::{NodeLine, Report};
 pub use rows::{

@@ -169,7 +169,10 @@ impl Joined {
     pub fn begins_with(&self, front: &Joined) -> bool
         ensures { IsTrue result ↔ BeginsWith self.now front.now }
     {
-        goes_on(self.shared().text.as_bytes(), front.shared().text.as_bytes())
+        goes_on(
+            self.shared().text.as_bytes(),
+            front.shared().text.as_bytes(),
+        )
     }
 }
 

@@ -1,5 +1,5 @@
-use Rattle.std.proofs.Common.{ap, ◌∙◌, subst, take_all, List}
-use Rattle.drf_bundle.specs.Bundle.{IsBundle, clip}
+use Rattle.std.proofs.Common.{ap, ◌∙◌, take_all, List}
+use Rattle.drf_bundle.specs.Bundle.{clip}
 use Rattle.drf_bundle.specs.PartLaws.{bundle-clip}
 use Rattle.drf_bundle.specs.declared.resource.Resource.{Resource}
 use Rattle.drf_bundle.proofs.bundle.Bundle.clip.Goals as goal

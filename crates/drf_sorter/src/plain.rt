@@ -27,9 +27,6 @@ pub struct PlainSorter {
     clients: Vec<Client>,
     total: Quantities,
     weights: Vec<WeightRow>,
-    queue: Vec<ClientPath>,
-    next: usize,
-    made: u64,
     ghost distinct: { IsDistinct same_path (map (λ c. c.path) clients.items) } by { IsDistinct-prop same_path (map (λ c. c.path) clients.items) },
     ghost weighs: { IsTrue (are_weights weights.items) },
 }
@@ -60,15 +57,6 @@ fn row_of_node<'a>(weights: &'a [WeightRow], node: &NodePath) -> Option<&'a Weig
     ensures { option_copied result ≡ find (λ w. same_path w.role node.now) weights.now }
 {
     weights.iter().find(|row| is_node_of(&row.role, node))
-}
-
-/// How many keys the candidates have together.
-fn keys_in(candidates: &[Candidate]) -> u64 {
-    let mut keys: u64 = 0;
-    for candidate in candidates {
-        keys = keys.saturating_add(candidate.keys.len() as u64);
-    }
-    keys
 }
 
 /// The paths of the candidates, in their order.
@@ -155,26 +143,13 @@ impl PlainSorter {
 impl Sorter for PlainSorter {
     ghost use Rattle.drf_sorter.specs.Plain.{plain_content};
 
-    ghost use Rattle.std.specs.Prelude.{drop, false};
-
     ghost content = { plain_content };
-
-    ghost queue = { λ s. drop s.next s.queue.items };
-
-    ghost work = { λ s. record { made = s.made; marked = 0 } };
-
-    ghost COUNTED = { false };
-
-    const COUNTED: bool = false;
 
     fn open(alloc: Global) -> Result<Self, AllocError> {
         Ok(PlainSorter {
             clients: Vec::new(alloc),
             total: Quantities::empty(alloc),
             weights: Vec::new(alloc),
-            queue: Vec::new(alloc),
-            next: 0,
-            made: 0,
         })
     }
 
@@ -250,28 +225,10 @@ impl Sorter for PlainSorter {
         }
     }
 
-    fn order(&mut self) -> Result<(), AllocError> {
+    fn order(&mut self) -> Result<Vec<ClientPath>, AllocError> {
         let mut candidates = self.candidates()?;
         candidates.sort_unstable();
-        let made = keys_in(&candidates);
-        self.queue = paths(self.alloc(), candidates)?;
-        self.next = 0;
-        self.made = self.made.saturating_add(made);
-        Ok(())
-    }
-
-    fn first(&self) -> Option<&ClientPath> {
-        self.queue.get(self.next)
-    }
-
-    fn pass(&mut self) {
-        if self.next < self.queue.len() {
-            self.next += 1;
-        }
-    }
-
-    fn keys_made(&self) -> u64 {
-        self.made
+        paths(self.alloc(), candidates)
     }
 
     fn share(&self, node: &NodePath) -> Option<(Share, Share, u64)> {

@@ -1,5 +1,4 @@
 pub mod Content
-pub mod Work
 pub mod Fractions
 pub mod FractionLaws
 pub mod Share

@@ -2,7 +2,6 @@
 use Rattle.std.proofs.Common.{◌≡◌, List, []}
 use Rattle.drf_rows.specs.LimitNumbers.{LimitNumbers}
 use Rattle.drf_rows.specs.Report.{report_of}
-use Rattle.drf_rows.specs.declared.report.Report.{Report}
 use Rattle.drf_rows.specs.declared.report.NodeLine.{NodeLine}
 use Rattle.drf_bundle.specs.declared.quantities.Entry.{Entry}
 use Rattle.drf_board.specs.History.{rows_of}

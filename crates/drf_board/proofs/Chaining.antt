@@ -1,5 +1,5 @@
 -- The steps of the history keep its rule, and a pen that may write adds to all that its chain has.
-use Rattle.std.proofs.Common.{◌≡◌, ℕ, zero, suc, ◌<◌, ◌==◌, Bool, true, false, List, [], ◌∷◌, ◌++◌, length, map, filter, refl, ap, sym, ◌∙◌, subst, arith, inl, None, length-append}
+use Rattle.std.proofs.Common.{◌≡◌, ℕ, zero, suc, ◌<◌, ◌==◌, Bool, true, false, List, [], ◌∷◌, ◌++◌, length, map, refl, ap, sym, ◌∙◌, subst, arith, inl, None, length-append}
 use Rattle.std.specs.Prelude.{slice_set}
 use Rattle.std.specs.List.{AllByRecursion}
 use Rattle.std.proofs.lemmas.List.{append-nil, map-append}
@@ -7,8 +7,7 @@ use Rattle.std.proofs.lemmas.List.Elements.{filter-append}
 use Rattle.std.proofs.lemmas.Bool.Decides.{nat_tests}
 use mathlib.Core.List.{IsPrefix}
 use prog.Atomic.{either}
-use Rattle.logbook.specs.Pages.{Cell, cell, Nib, nib, gives, adds, may_write, may_make, no_nib, step, Moves, Goes, Away}
-use Rattle.drf_board.specs.declared.entry.Entry.{Entry}
+use Rattle.logbook.specs.Pages.{Cell, cell, Nib, nib, gives, adds, may_write, no_nib, step, Moves}
 use Rattle.drf_board.specs.declared.history.Link.{Link}
 use Rattle.drf_board.specs.Chains.{IsHome, IsChained, links_of, entries_of, spent_by, end_from, end_of, HasLinked, HasNewPen}
 
@@ -66,7 +65,7 @@ pub entries-prefix : (chain : ℕ) (seen whole : List Link) → IsPrefix seen wh
 entries-prefix chain seen whole begins = (
   entries_of chain begins.0,
   sym (map-append (λ l. l.entry) (links_of chain seen) (links_of chain begins.0))
-  ∙ (ap (λ links. map (λ l. l.entry) links) (sym (filter-append (λ l. l.chain == chain) seen begins.0)) ∙ ap (entries_of chain) begins.1),
+      ∙ (ap (λ links. map (λ l. l.entry) links) (sym (filter-append (λ l. l.chain == chain) seen begins.0)) ∙ ap (entries_of chain) begins.1),
 )
 
 -- ---- one link more
@@ -88,9 +87,9 @@ links-seen : (cells : List Cell) (log seen : List Link) (chain : ℕ) → IsChai
     → (cell cells (end_of chain seen)).1 ≡ false → links_of chain log ≡ links_of chain seen
 links-seen cells log seen chain chained begins away =
     let parts : links_of chain log ≡ links_of chain seen ++ links_of chain begins.0 =
-        ap (links_of chain) (sym begins.1) ∙ filter-append (λ l. l.chain == chain) seen begins.0 in
+    ap (links_of chain) (sym begins.1) ∙ filter-append (λ l. l.chain == chain) seen begins.0 in
     let home : AllByRecursion (IsHome cells) (spent_by chain (links_of chain seen ++ links_of chain begins.0)) =
-        subst (λ (links : List Link). AllByRecursion (IsHome cells) (spent_by chain links)) parts (chained.spent chain) in
+    subst (λ (links : List Link). AllByRecursion (IsHome cells) (spent_by chain links)) parts (chained.spent chain) in
     let none : links_of chain begins.0 ≡ [] = chain-whole cells chain (links_of chain seen) (links_of chain begins.0) home away in
     parts ∙ (ap (λ links. links_of chain seen ++ links) none ∙ append-nil (links_of chain seen))
 
@@ -101,9 +100,9 @@ spent-after : (cells : List Cell) (log : List Link) (link : Link) (chain : ℕ) 
 spent-after cells log link chain true is all last =
     let same : link.chain ≡ chain = grind (arith, nat_tests) in
     let mine : AllByRecursion (IsHome cells) (spent_by link.chain (links_of link.chain log)) =
-        subst (λ (c : ℕ). AllByRecursion (IsHome cells) (spent_by c (links_of c log))) (sym same) all in
+    subst (λ (c : ℕ). AllByRecursion (IsHome cells) (spent_by c (links_of c log))) (sym same) all in
     let more : AllByRecursion (IsHome cells) (spent_by link.chain (links_of link.chain log ++ link ∷ [])) =
-        spent-push (IsHome cells) link.chain (links_of link.chain log) link mine last in
+    spent-push (IsHome cells) link.chain (links_of link.chain log) link mine last in
     subst (λ (c : ℕ). AllByRecursion (IsHome cells) (spent_by c (links_of c (log ++ link ∷ [])))) same
     (subst (λ (links : List Link). AllByRecursion (IsHome cells) (spent_by link.chain links)) (sym (links-push log link)) more)
 spent-after cells log link chain false is all last =
@@ -136,15 +135,15 @@ chained-then : (cells : List Cell) (log : List Link) (link : Link) (key value : 
     → end_of link.chain log ≡ key → IsChained (cells_then cells key value) (log ++ link ∷ [])
 chained-then cells log link key value chained inside last =
     let placed : key < length (slice_set cells 0 (same_word (cell cells 0).0, true)) =
-        omega (arith, length-set cells 0 (same_word (cell cells 0).0, true), inside) in
+    omega (arith, length-set cells 0 (same_word (cell cells 0).0, true), inside) in
     let home : IsHome (cells_then cells key value) key =
-        set-home (slice_set cells 0 (same_word (cell cells 0).0, true)) key value placed in
+    set-home (slice_set cells 0 (same_word (cell cells 0).0, true)) key value placed in
     let home_last : IsHome (cells_then cells key value) (end_of link.chain log) =
-        subst (λ (k : ℕ). IsHome (cells_then cells key value) k) (sym last) home in
+    subst (λ (k : ℕ). IsHome (cells_then cells key value) k) (sym last) home in
     record {
       first = (omega (arith, length-then cells key value, chained.first.0), home-then cells key value 0 chained.first.1);
       spent = λ chain. spent-after (cells_then cells key value) log link chain (link.chain == chain) refl
-        (all-more (IsHome cells) (IsHome (cells_then cells key value)) (spent_by chain (links_of chain log)) (home-then cells key value) (chained.spent chain)) home_last;
+          (all-more (IsHome cells) (IsHome (cells_then cells key value)) (spent_by chain (links_of chain log)) (home-then cells key value) (chained.spent chain)) home_last;
     }
 
 -- whatever the book is, who has the pen of the end of what was seen of a chain adds a link to all that the chain has
@@ -157,7 +156,7 @@ links_moves seen link key value last cells log chained begins away =
     let whole : links_of link.chain log ≡ links_of link.chain seen = links-seen cells log seen link.chain chained begins far_end in
     let last_of : end_of link.chain log ≡ key = ap (end_from link.chain) whole ∙ last in
     let longer : links_of link.chain (log ++ link ∷ []) ≡ links_of link.chain seen ++ link ∷ [] =
-        links-push log link ∙ ap (λ links. links ++ link ∷ []) whole in
+    links-push log link ∙ ap (λ links. links ++ link ∷ []) whole in
     let linked : HasLinked (step 0 0 0 link) (seen, (nib may_write key value, None)) (cell cells 0).0 (log ++ link ∷ [], (no_nib, None)) = record {
       entries = ap (map (λ l. l.entry)) longer ∙ map-append (λ l. l.entry) (links_of link.chain seen) (link ∷ []);
       end = ap (end_from link.chain) longer ∙ end-push link.chain (links_of link.chain seen) link;
@@ -172,7 +171,7 @@ pub pen_moves : (seen : List Link) (ask : Link)
     → Moves IsChained shows moves 0 (seen, (no_nib, None)) same_word (HasNewPen (step 0 0 0 ask) (seen, (no_nib, None)))
 pen_moves seen ask cells log chained begins away =
     let home : (k : ℕ) → IsHome cells k → IsHome (slice_set cells 0 (same_word (cell cells 0).0, true) ++ (0, false) ∷ []) k =
-        λ k is. home-added (slice_set cells 0 (same_word (cell cells 0).0, true)) k (home-set cells 0 k (same_word (cell cells 0).0) is) in
+    λ k is. home-added (slice_set cells 0 (same_word (cell cells 0).0, true)) k (home-set cells 0 k (same_word (cell cells 0).0) is) in
     let kept : IsChained (slice_set cells 0 (same_word (cell cells 0).0, true) ++ (0, false) ∷ []) log = record {
       first = (omega (arith, length-append (slice_set cells 0 (same_word (cell cells 0).0, true)) ((0, false) ∷ []), length-set cells 0 (same_word (cell cells 0).0, true), chained.first.0), home 0 chained.first.1);
       spent = λ chain. all-more (IsHome cells) (IsHome (slice_set cells 0 (same_word (cell cells 0).0, true) ++ (0, false) ∷ [])) (spent_by chain (links_of chain log)) home (chained.spent chain);

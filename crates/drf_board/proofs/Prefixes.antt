@@ -1,6 +1,5 @@
 -- Lists with which one list begins.
 use Rattle.std.proofs.Common.{◌≡◌, ◌≤◌, List, [], ◌∷◌, ◌++◌, length, refl, sym, ◌∙◌, arith}
-use Rattle.std.proofs.lemmas.List.{append-nil}
 use mathlib.Core.List.{IsPrefix}
 
 -- where two lists go on to the same list, the shorter begins the longer

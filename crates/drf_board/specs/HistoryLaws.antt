@@ -24,7 +24,7 @@ unfolding IsLegal rows_of
 legal-push limits entries e legal told =
     map-append (λ x. x.reply) entries (e ∷ [])
     ∙ ((λ i. legal i ++ told i ∷ [])
-      ∙ sym (ap (replies_to limits opening) (map-append (λ x. x.event) entries (e ∷ [])) ∙ replies_to-append limits opening (events_of entries) (e.event ∷ [])))
+    ∙ sym (ap (replies_to limits opening) (map-append (λ x. x.event) entries (e ∷ [])) ∙ replies_to-append limits opening (events_of entries) (e.event ∷ [])))
 
 pub rows_of-push : (limits : LimitNumbers) (entries : List Entry) (e : Entry)
     → rows_of limits (entries ++ e ∷ []) ≡ rows_after limits (rows_of limits entries) e.event

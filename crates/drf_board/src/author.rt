@@ -101,13 +101,8 @@ impl<K: Naming> Author<K> {
         let mut offer: Offer<Link, u64, Chained, NoGain> = self
             .seen
             .plain::<NoGain, Lent<'_>, AddLink>(&lent);
-        self.head.compare_exchange::<AddLink, NoGain>(
-            0,
-            0,
-            &mut self.seen,
-            &mut offer,
-            &mut self.pen,
-        );
+        self.head
+            .compare_exchange::<AddLink, NoGain>(0, 0, &mut self.seen, &mut offer, &mut self.pen);
         self.pen = next;
         self.count += 1;
     }

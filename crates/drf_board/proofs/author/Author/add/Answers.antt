@@ -10,7 +10,7 @@ compare_exchange-requires g c =
     let offer = c.plain-offer.ensures in
     let chain = ap (λ l. l.chain) offer.1 ∙ ap (λ w. w.key) c.self.invariant.4 in
     let last : c.self.inside.pen.nib.key ≡ end_of c.plain-offer.result.ask.chain c.self.inside.seen.log =
-        pen.key ∙ ap (λ k. end_of k c.self.inside.seen.log) (sym chain) in (
+    pen.key ∙ ap (λ k. end_of k c.self.inside.seen.log) (sym chain) in (
       ap (λ w. w.tracked) head,
       c.self.invariant.1 ∙ sym (ap (λ w. w.book) head),
       pen.book ∙ sym (ap (λ w. w.book) head),

@@ -15,10 +15,20 @@ const EXAMPLE: &str = "three_agents";
 /// Gives at most some bytes a call and never more than a line. Once its calls are used up it is interrupted, and would go on
 /// if it were asked again.
 #[derive(Drop)]
-struct Slow<'a> {
+pub struct Slow<'a> {
     rest: &'a [u8],
     most: usize,
     calls: usize,
+}
+
+impl<'a> Slow<'a> {
+    pub fn new(input: &'a [u8], bounds: Bounds) -> Slow<'a> {
+        Slow {
+            rest: input,
+            most: bounds.bytes,
+            calls: bounds.reads,
+        }
+    }
 }
 
 impl Read for Slow<'_> {
@@ -70,13 +80,13 @@ impl Write for Full {
 
 /// How many bytes a read gives at most, and how many reads and how many writes and flushes come before one fails.
 #[derive(Clone, Copy, Drop)]
-struct Bounds {
-    bytes: usize,
-    reads: usize,
-    writes: usize,
+pub struct Bounds {
+    pub bytes: usize,
+    pub reads: usize,
+    pub writes: usize,
 }
 
-const NO_BOUNDS: Bounds = Bounds {
+pub const NO_BOUNDS: Bounds = Bounds {
     bytes: usize::MAX,
     reads: usize::MAX,
     writes: usize::MAX,
@@ -90,11 +100,7 @@ struct Ended {
 }
 
 fn run_within(alloc: Global, input: &[u8], bounds: Bounds) -> Ended {
-    let mut reader = Device::new(Slow {
-        rest: input,
-        most: bounds.bytes,
-        calls: bounds.reads,
-    });
+    let mut reader = Device::new(Slow::new(input, bounds));
     let mut writer = Device::new(Full {
         taken: Vec::new(alloc),
         calls: bounds.writes,
@@ -200,11 +206,7 @@ impl Write for Counting<'_> {
 fn answers_at_once(alloc: Global, input: &[u8]) -> Result<bool> {
     let flushed = Cell::new(0);
     let mut reader = Device::new(Asking {
-        slow: Slow {
-            rest: input,
-            most: usize::MAX,
-            calls: usize::MAX,
-        },
+        slow: Slow::new(input, NO_BOUNDS),
         given: 0,
         flushed: &flushed,
         is_late: false,

@@ -4,7 +4,7 @@ use Rattle.std.proofs.lemmas.Result.{IfOk-weaker}
 use Rattle.drf_rows.specs.Step.{reply_to}
 use Rattle.drf_core.specs.Machine.{Machine, live, IsSame}
 use Rattle.drf_core.specs.MachineLaws.{live-after, reply_to-seen}
-use Rattle.drf_journal.proofs.session.take_event.Goals as goal
+use Rattle.drf_journal.proofs.answer.take_event.Goals as goal
 
 -- what follows from what holds at Ok
 at_ok : {T E A B : Type 0} (r : Result T E) → (A → B) → OnOk r A → OnOk r B

@@ -1,6 +1,6 @@
 //! Runs the worked examples of `data/`, and one of them over streams that are slow or fail, and tells of each whether
-//! what was written is, byte for byte, what it must be. So does it of events that are read and written again, of commands, and
-//! of journals whether the verdict on them is right.
+//! what was written is, byte for byte, what it must be. So does it of events that are read and written again, of journals
+//! whether the verdict on them is right, and of commands.
 #![tactic(auto)]
 
 mod commands;

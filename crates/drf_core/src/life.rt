@@ -11,6 +11,9 @@ ghost use Rattle.drf_rows.specs.declared.rows.OfferRow.{OfferRow};
 ghost use Rattle.drf_core.specs.Accepting.{CanStart, filter_if};
 ghost use Rattle.drf_core.specs.Content.{content_of};
 ghost use Rattle.drf_core.specs.Kept.{StandAt};
+ghost use Rattle.drf_rows.specs.Endings.{one_offer, one_task};
+ghost use Rattle.drf_sorter.specs.Work.{Adds};
+ghost use Rattle.drf_core.specs.Working.{losers, nodes_of};
 
 use crate::ending::end;
 use drf_amount::Algebra;
@@ -79,6 +82,7 @@ pub fn accept<S: Sorter>(
     ensures ok { OnOk result ((o : OfferRow) → offer_at tables.old.rows number ≡ Some o
         → StandAt (offer_accepted (at_moment tables.old.rows at) o ((task, used) ∷ []) refuse_ms) tables.new.rows (S.content sorter.new)) }
     ensures err { OnErr result (StandAt tables.old.rows tables.new.rows (S.content sorter.new)) }
+    ensures work { OnOk result (Adds S.COUNTED (S.work sorter.old) (S.work sorter.new) (nodes_of (losers tables.old.rows (one_offer number)))) }
 {
     // The proof learns that it is a bundle by this call alone.
     let _ = used.entries();
@@ -131,6 +135,7 @@ pub fn decline<S: Sorter>(
     ensures ok { OnOk result ((o : OfferRow) → offer_at tables.old.rows number ≡ Some o
         → StandAt (offer_declined (at_moment tables.old.rows at) o refuse_ms) tables.new.rows (S.content sorter.new)) }
     ensures err { OnErr result (StandAt tables.old.rows tables.new.rows (S.content sorter.new)) }
+    ensures work { OnOk result (Adds S.COUNTED (S.work sorter.old) (S.work sorter.new) (nodes_of (losers tables.old.rows (one_offer number)))) }
 {
     let moment = tables.clock().max(at);
     refuse_offer(tables, number, moment, refuse_ms)?;
@@ -144,6 +149,7 @@ pub fn rescind<S: Sorter>(tables: &mut Tables, sorter: &mut S, number: u64) -> R
     requires { S.content sorter.old ≡ content_of tables.old.rows }
     ensures reply { result ≡ Done }
     ensures rows { StandAt (effect tables.old.rows (Rescind number)) tables.new.rows (S.content sorter.new) }
+    ensures work { Adds S.COUNTED (S.work sorter.old) (S.work sorter.new) (nodes_of (losers tables.old.rows (one_offer number))) }
 {
     end(tables, sorter, Ending::Offer(number));
     Reply::Done
@@ -159,6 +165,7 @@ pub fn finish<S: Sorter>(
     requires { S.content sorter.old ≡ content_of tables.old.rows }
     ensures reply { result ≡ Done }
     ensures rows { StandAt (effect tables.old.rows (Finish framework.now task.now)) tables.new.rows (S.content sorter.new) }
+    ensures work { Adds S.COUNTED (S.work sorter.old) (S.work sorter.new) (nodes_of (losers tables.old.rows (one_task framework.now task.now))) }
 {
     let ending = Ending::Task {
         framework,

@@ -24,7 +24,7 @@ module _ (tables : Rows) (name : Text) (path : Path) (free : List Resource) (gra
       let framework : framework_part path ≡ client.framework = ap framework_part joined ∙ framework_part-client_path client.role client.framework in
       let part : part_for (role_part path) free ≡ part_for client.role (free_of rows agent) = λ i. part_for (role i) (sym is_free i) in
       let held : is_held_back tables.filters tables.clock (record { role = role_part path; framework = framework_part path }) name (part_for (role_part path) free)
-          ≡ is_held_back rows.filters rows.clock client agent.name (part_for client.role (free_of rows agent))
+      ≡ is_held_back rows.filters rows.clock client agent.name (part_for client.role (free_of rows agent))
       = λ i. is_held_back (sym filters i) (sym clock i) (record { role = role i; framework = framework i }) (sym named i) (part i) in
       chosen ∙ (λ i. cond (decided i) (Some (part_for (role_part path) free)) None)
       ∙ (λ i. cond (is_allocatable (part i) && not (held i)) (Some (part i)) None)

@@ -20,5 +20,7 @@ pub mod ApplyLemmas
 pub mod RefusalLemmas
 pub mod RemovalLemmas
 pub mod EndedLemmas
+pub mod WorkLemmas
 pub mod AcceptLemmas
 pub mod StepLemmas
+pub mod AllowanceLemmas

@@ -15,7 +15,7 @@ use Rattle.drf_rows.specs.declared.reply.Reply.{Reply}
 use Rattle.drf_rows.specs.declared.reply.Reply.TheVariants.{Refused}
 use Rattle.drf_rows.specs.declared.rows.Rows.{Rows}
 use Rattle.drf_sorter.specs.Content.{Content, empty}
-use Rattle.drf_core.specs.Machine.{Machine, IsAfter, IsAfterAll}
+use Rattle.drf_core.specs.Machine.{Engine, IsAfter, IsAfterAll}
 use Rattle.drf_core.specs.Content.{content_of}
 use Rattle.drf_core.specs.Kept.{AreFew, IsKept}
 use Rattle.drf_core.proofs.ContentMembers.{content_of-filters}
@@ -132,7 +132,7 @@ module _ (limits : LimitNumbers) (rows tables counted : Rows) (event : Event) (b
 -- ---- a run
 
 -- one more event was taken
-pub IsAfterAll-more : (old middle new : Machine) (events : List Event) (event : Event) → IsAfterAll old middle events → IsAfter middle new event → IsAfterAll old new (events ++ event ∷ [])
+pub IsAfterAll-more : (old middle new : Engine) (events : List Event) (event : Event) → IsAfterAll old middle events → IsAfter middle new event → IsAfterAll old new (events ++ event ∷ [])
 IsAfterAll-more old middle new events event before next = record {
   limits = next.limits ∙ before.limits;
   rows = next.rows
@@ -142,7 +142,7 @@ IsAfterAll-more old middle new events event before next = record {
 }
 
 -- and replied to
-pub reply-more : (old middle : Machine) (events : List Event) (event : Event) (reply : Reply) → IsAfterAll old middle events → reply ≡ reply_to middle.limits middle.rows event
+pub reply-more : (old middle : Engine) (events : List Event) (event : Event) (reply : Reply) → IsAfterAll old middle events → reply ≡ reply_to middle.limits middle.rows event
     → replies_to old.limits old.rows events ++ reply ∷ [] ≡ replies_to old.limits old.rows (events ++ event ∷ [])
 reply-more old middle events event reply before told =
     let same : reply ≡ reply_to old.limits (rows_after_all old.limits old.rows events) event =

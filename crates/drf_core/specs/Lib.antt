@@ -2,6 +2,7 @@ pub mod Machine
 pub mod MachineLaws
 pub mod Content
 pub mod Kept
+pub mod Working
 pub mod Drafting
 pub mod Entitling
 pub mod Registering

@@ -12,6 +12,8 @@ ghost use Rattle.drf_core.specs.Kept.{AreFew, IsKept};
 ghost use Rattle.drf_core.specs.Entitling.{IsEntitled};
 ghost use Rattle.drf_core.specs.Drafting.{IsDrafting, IsRegisteredPath, IsFreeAt, IsTried, HasLeft, is_open_at, turn_at, turns_of};
 ghost use Rattle.drf_core.specs.Kept.{StandAt};
+ghost use Rattle.drf_sorter.specs.Work.{Adds};
+ghost use Rattle.drf_core.specs.Working.{AddsDrafts, nodes_of, offered_to, touched};
 
 use crate::free::{Free, grant, is_worth_an_offer};
 use drf_amount::Algebra;
@@ -82,6 +84,7 @@ fn try_first<S: Sorter>(
         → IsTried (with_offers tables.now.rows offers.old.items) (with_offers tables.now.rows offers.new.items) place path) }
     ensures free { OnOk result (IsFreeAt (with_offers tables.now.rows offers.new.items) place free.new.bundle) }
     ensures entitled { OnOk result (IsEntitled free.new.bundle free.new.entitled) }
+    ensures work { OnOk result (AddsDrafts S.COUNTED (S.work sorter.old) (S.work sorter.new) offers.old.items offers.new.items) }
 {
     let Some(client) = sorter.first() else {
         return Ok(());
@@ -122,6 +125,7 @@ fn turn<S: Sorter>(
     ensures turn { OnOk result (with_offers tables.now.rows drafts.new.offers.items
         ≡ turn_at (with_offers tables.now.rows drafts.old.offers.items) place) }
     ensures left { OnOk result (HasLeft tables.now.rows drafts.new.offers.items drafts.new.lefts.items (place + 1)) }
+    ensures work { OnOk result (AddsDrafts S.COUNTED (S.work sorter.old) (S.work sorter.new) drafts.old.offers.items drafts.new.offers.items) }
 {
     if !is_open(tables, place) {
         return Ok(());
@@ -135,8 +139,14 @@ fn turn<S: Sorter>(
         try_first(tables, sorter, place, &mut free, &mut drafts.offers)?;
         sorter.pass();
     }
-    let Free { bundle, entitled: _ } = free;
-    drafts.lefts.push(Left { agent: place, free: bundle })?;
+    let Free {
+        bundle,
+        entitled: _,
+    } = free;
+    drafts.lefts.push(Left {
+        agent: place,
+        free: bundle,
+    })?;
     Ok(())
 }
 
@@ -149,6 +159,7 @@ fn turns<S: Sorter>(tables: &Tables, sorter: &mut S, drafts: &mut Drafts) -> Res
     ensures drafting { IsDrafting (S.content sorter.new) tables.now.rows drafts.new.offers.items }
     ensures turns { OnOk result (with_offers tables.now.rows drafts.new.offers.items ≡ turns_of tables.now.rows) }
     ensures left { OnOk result (HasLeft tables.now.rows drafts.new.offers.items drafts.new.lefts.items (length tables.now.rows.agents)) }
+    ensures work { OnOk result (AddsDrafts S.COUNTED (S.work sorter.old) (S.work sorter.new) drafts.old.offers.items drafts.new.offers.items) }
 {
     for place in 0..tables.agent_count() {
         turn(tables, sorter, place, drafts)?;
@@ -205,6 +216,7 @@ fn offer_all<S: Sorter>(
     ensures lines { IfOk result (λ lines. lines.items ≡ map line_told (new_offers tables.old.rows (turns_of tables.old.rows))) }
     ensures err { OnErr result (tables.new.rows ≡ tables.old.rows) }
     ensures drafting { OnErr result (IsDrafting (S.content sorter.new) tables.old.rows drafts.new.offers.items) }
+    ensures work { OnOk result (Adds S.COUNTED (S.work sorter.old) (S.work sorter.new) (nodes_of (offered_to (new_offers tables.old.rows (turns_of tables.old.rows))))) }
 {
     tables.settle()?;
     turns(tables, sorter, drafts)?;
@@ -227,6 +239,7 @@ pub fn cycle<S: Sorter>(
     ensures lines { IfOk result (λ lines. lines.items ≡ map line_told (new_offers tables.old.rows (effect tables.old.rows (Cycle at)))) }
     ensures ok { OnOk result (StandAt (effect tables.old.rows (Cycle at)) tables.new.rows (S.content sorter.new)) }
     ensures err { OnErr result (StandAt tables.old.rows tables.new.rows (S.content sorter.new)) }
+    ensures work { OnOk result (Adds S.COUNTED (S.work sorter.old) (S.work sorter.new) (nodes_of (touched tables.old.rows (Cycle at)))) }
 {
     // The moment is put back if memory ends.
     let before = tables.clock();

@@ -11,6 +11,9 @@ ghost use Rattle.drf_rows.specs.declared.rows.OfferRow.{OfferRow};
 ghost use Rattle.drf_core.specs.Accepting.{IsEnough, filter_if};
 ghost use Rattle.drf_core.specs.Content.{content_of};
 ghost use Rattle.drf_core.specs.Kept.{StandAt};
+ghost use Rattle.drf_rows.specs.Endings.{one_offer, one_task};
+ghost use Rattle.drf_sorter.specs.Work.{Adds};
+ghost use Rattle.drf_core.specs.Working.{losers, nodes_of};
 
 use crate::ending::end;
 use drf_amount::Algebra;
@@ -75,6 +78,7 @@ pub fn accept<S: Sorter>(
     ensures ok { OnOk result ((o : OfferRow) → offer_at tables.old.rows accept.offer ≡ Some o
         → StandAt (offer_accepted (at_moment tables.old.rows accept.at) o accept.tasks accept.refuse_ms) tables.new.rows (S.content sorter.new)) }
     ensures err { OnErr result (StandAt tables.old.rows tables.new.rows (S.content sorter.new)) }
+    ensures work { OnOk result (Adds S.COUNTED (S.work sorter.old) (S.work sorter.new) (nodes_of (losers tables.old.rows (one_offer accept.offer)))) }
 {
     // The proof learns that the tasks use bundles by this call alone.
     let _ = accept.tasks.as_slice();
@@ -125,6 +129,7 @@ pub fn decline<S: Sorter>(
     ensures ok { OnOk result ((o : OfferRow) → offer_at tables.old.rows decline.now.offer ≡ Some o
         → StandAt (offer_declined (at_moment tables.old.rows decline.now.at) o decline.now.refuse_ms) tables.new.rows (S.content sorter.new)) }
     ensures err { OnErr result (StandAt tables.old.rows tables.new.rows (S.content sorter.new)) }
+    ensures work { OnOk result (Adds S.COUNTED (S.work sorter.old) (S.work sorter.new) (nodes_of (losers tables.old.rows (one_offer decline.now.offer)))) }
 {
     let moment = tables.clock().max(decline.at);
     refuse_offer(tables, decline.offer, moment, decline.refuse_ms)?;
@@ -138,6 +143,7 @@ pub fn rescind<S: Sorter>(tables: &mut Tables, sorter: &mut S, number: u64) -> R
     requires { S.content sorter.old ≡ content_of tables.old.rows }
     ensures reply { result ≡ Done }
     ensures rows { StandAt (effect tables.old.rows (Rescind number)) tables.new.rows (S.content sorter.new) }
+    ensures work { Adds S.COUNTED (S.work sorter.old) (S.work sorter.new) (nodes_of (losers tables.old.rows (one_offer number))) }
 {
     end(tables, sorter, Ending::Offer(number));
     Reply::Done
@@ -153,6 +159,7 @@ pub fn finish<S: Sorter>(
     requires { S.content sorter.old ≡ content_of tables.old.rows }
     ensures reply { result ≡ Done }
     ensures rows { StandAt (effect tables.old.rows (Finish framework.now task.now)) tables.new.rows (S.content sorter.new) }
+    ensures work { Adds S.COUNTED (S.work sorter.old) (S.work sorter.new) (nodes_of (losers tables.old.rows (one_task framework.now task.now))) }
 {
     let ending = Ending::Task {
         framework,

@@ -1,13 +1,17 @@
-use Rattle.std.proofs.Common.{Some, None, sym, subst, ◌≡◌, ◌+◌, ◌<◌, ◌^◌, ◌∷◌, ◌++◌, [], length, ap, ◌∙◌, arith}
+use Rattle.std.proofs.Common.{Some, None, sym, subst, ◌≡◌, ◌+◌, ◌<◌, ◌^◌, ◌∷◌, ◌++◌, [], List, length, ap, ◌∙◌, arith}
 use Rattle.std.specs.Prelude.{slice_get}
 use Rattle.std.specs.Option.{MatchOption}
 use Rattle.drf_role.specs.Path.{Path}
 use Rattle.drf_bundle.specs.Bundle.{rest, quantities_of}
+use Rattle.drf_rows.specs.Client.{path_of}
+use Rattle.drf_rows.specs.Holdings.{of_offer}
 use Rattle.drf_rows.specs.declared.rows.OfferRow.{OfferRow}
 use Rattle.drf_rows.specs.declared.rows.Rows.{Rows}
 use Rattle.drf_sorter.specs.Content.{with_change, charged}
 use Rattle.drf_tables.specs.Drafts.{with_offers}
 use Rattle.drf_core.specs.Drafting.{IsTried}
+use Rattle.drf_core.specs.Working.{nodes_of, offered_to}
+use Rattle.drf_core.proofs.WorkLemmas.{nodes_of-drafted}
 use Rattle.drf_core.proofs.DraftTried.{IsNext, next_from, known_next, sound_next, drafting_next, tried_next, free_next, tried_nothing}
 use Rattle.drf_core.proofs.cycle.try_first.Given as given
 use Rattle.drf_core.proofs.cycle.try_first.Goals.{After-quantities}
@@ -99,3 +103,20 @@ pub returns-in_default-clause-tried : goal.returns-in_default-clause-tried
 returns-in_default-clause-tried g c = λ path first.
     let nothing : None ≡ Some path = (rw c.in_default.is at c.first.ensures) ∙ first in
     absurd cc
+
+pub returns-clause-work : goal.returns-clause-work
+returns-clause-work g c = λ counted.
+    let b = (goal.at.returns-clause-work g c).After-quantities in
+    let offer : OfferRow = c.in_ok-offer.offer in
+    let items : c.push_reserved.new.self.items ≡ c.args.offers.now.items ++ offer ∷ [] =
+    c.push_reserved.ensures.items ∙ ap (λ os. os ++ offer ∷ []) c.reserve.ensures.items in
+    let next = next_at g b in
+    let path : length c.in_ok-client.client ≡ length (path_of (of_offer offer).client) =
+    ap length next.joined ∙ sym (ap (λ (o : OfferRow). length (path_of (of_offer o).client)) next.made) in
+    omega (
+      arith,
+      c.in_ok-charge.ensures.work counted,
+      path,
+      nodes_of-drafted c.args.offers.now.items offer,
+      ap (λ (os : List OfferRow). nodes_of (offered_to os)) items,
+    )

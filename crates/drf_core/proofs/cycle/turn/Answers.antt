@@ -5,6 +5,7 @@ use Rattle.drf_rows.specs.Consistent.{are_distinct}
 use Rattle.drf_rows.specs.declared.rows.AgentRow.{AgentRow}
 use Rattle.drf_rows.specs.declared.rows.Rows.{Rows}
 use Rattle.drf_sorter.specs.Content.{Content}
+use Rattle.drf_sorter.specs.Work.{debt}
 use Rattle.drf_tables.specs.Drafts.{with_offers}
 use Rattle.drf_tables.specs.DraftLaws.{agents-with_offers}
 use Rattle.drf_core.specs.Drafting.{IsDrafting}
@@ -45,6 +46,7 @@ loop-sorter-init g c =
             ∙ sym (free-before rows offers c.args.drafts.now.lefts.items c.args.place agent.0 c.requires.left agent.1);
       };
       entitled = tt;
+      work = λ counted. omega (arith, c.fix_order.ensures.work counted);
       lefts = refl;
     }
 
@@ -67,6 +69,7 @@ loop-sorter-preserved g c =
           (c.pass.ensures.queue ∙ ap (λ ps. drop 1 ps) c.try_first.ensures.queue);
       free = c.in_ok-try_first.ensures.free;
       entitled = c.in_ok-try_first.ensures.entitled;
+      work = λ counted. omega (arith, c.loop-sorter.invariant.work counted, c.in_ok-try_first.ensures.work counted, ap debt c.pass.ensures.work);
       lefts = c.loop-sorter.invariant.lefts;
     }
 

@@ -1,4 +1,4 @@
-use Rattle.std.proofs.Common.{◌≡◌, ℕ, Some, sym, ap, subst, ◌∙◌, nat_lt}
+use Rattle.std.proofs.Common.{◌≡◌, ℕ, Some, sym, ap, subst, ◌∙◌, nat_lt, length, arith}
 use Rattle.std.specs.Prelude.{◌&&◌, max, not, option_copied}
 use Rattle.drf_bundle.specs.Bundle.{quantities_of}
 use Rattle.drf_rows.specs.Cycle.{at_moment}
@@ -8,6 +8,7 @@ use Rattle.drf_rows.specs.declared.rows.Rows.{Rows}
 use Rattle.drf_core.specs.Accepting.{filter_if}
 use Rattle.drf_core.specs.Kept.{StandAt}
 use Rattle.drf_core.proofs.AcceptLemmas.{moment_early, can_start, same_offer, can_accept, rows_accepted, known-accepted, held-accepted, applied_accept}
+use Rattle.drf_core.proofs.WorkLemmas.{nodes_of-offer}
 use Rattle.drf_core.proofs.life.accept.Goals as goal
 
 pub accept-requires : goal.accept-requires
@@ -71,3 +72,9 @@ returns-clause-ok g c = λ p at.
     (applied_accept rows a.offer o a.tasks a.at a.refuse_ms (g.S.Sorter.content c.args.sorter.now) c.in_ok-client.client c.quantities.result.now
     c.requires.consistent c.requires.sorted found can c.in_ok-client.ensures quantities
     tables (g.S.Sorter.content c.refund.new.self) same c.refund.ensures.content)
+
+pub returns-clause-work : goal.returns-clause-work
+returns-clause-work g c = λ counted.
+    let o : OfferRow = c.unwrap-offer.result.now in
+    let found : offer_at c.args.tables.now.rows c.args.accept.offer ≡ Some o = sym c.offer.ensures ∙ ap option_copied c.unwrap-offer.ensures in
+    omega (arith, c.refund.ensures.work counted, ap length c.in_ok-client.ensures, nodes_of-offer c.args.tables.now.rows c.args.accept.offer o found)

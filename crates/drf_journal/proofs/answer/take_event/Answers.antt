@@ -2,7 +2,7 @@ use Rattle.std.proofs.Common.{◌≡◌, Result, Ok, Err, ◌∙◌}
 use Rattle.std.specs.Prelude.{OnOk, OnErr}
 use Rattle.std.proofs.lemmas.Result.{IfOk-weaker}
 use Rattle.drf_rows.specs.Step.{reply_to}
-use Rattle.drf_core.specs.Machine.{Machine, live, IsSame}
+use Rattle.drf_core.specs.Machine.{Engine, live, IsSame}
 use Rattle.drf_core.specs.MachineLaws.{live-after, reply_to-seen}
 use Rattle.drf_journal.proofs.answer.take_event.Goals as goal
 
@@ -25,7 +25,7 @@ at_err : {T E A B : Type 0} (r : Result T E) → (A → B) → OnErr r A → OnE
 at_err (Ok x) f h = h
 at_err (Err e) f h = f h
 
-same_seen : (old new : Machine) → IsSame old new → live new ≡ live old
+same_seen : (old new : Engine) → IsSame old new → live new ≡ live old
 unfolding live
 same_seen old new is = λ i. record { limits = is.limits i; rows = is.rows i }
 

@@ -18,6 +18,7 @@ loop-event-preserved g c =
     c.push_reserved.ensures.items ∙ ap (λ (rs : List Reply). rs ++ c.in_ok-reply.reply ∷ []) (c.reserve.ensures.items ∙ c.loop-event.invariant.told) in
     rw more (record {
       after = IsAfterAll-more c.args.self.now c.loop-event.self c.step.new.self before c.in_ok-event.event c.loop-event.invariant.after c.in_ok-reply.ensures.ok;
+      safe = c.step.ensures.safe;
       told = told
           ∙ append_assoc c.args.replies.now.items (replies_to c.args.self.now.limits c.args.self.now.rows before) (c.in_ok-reply.reply ∷ [])
           ∙ ap (λ (rs : List Reply). c.args.replies.now.items ++ rs)

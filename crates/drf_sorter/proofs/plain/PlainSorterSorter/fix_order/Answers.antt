@@ -1,7 +1,6 @@
 use Rattle.std.proofs.Common.{◌≡◌, map}
 use Rattle.std.specs.List.Sorted.{IsPermutation}
 use Rattle.std.proofs.lemmas.List.Sorted.{IsPermutation-map, All-permutation}
-use Rattle.std.proofs.lemmas.Result.{IfOk-weaker}
 use Rattle.drf_sorter.specs.declared.candidate.Candidate.{Candidate}
 use Rattle.drf_sorter.specs.Candidates.{HasKeys}
 use Rattle.drf_sorter.specs.Content.{IsOrderOf, active_paths}
@@ -30,5 +29,4 @@ returns-clause-order c =
       in_order = sorted_serving (plain_standing sorter) after keys distinct
           c.sort_unstable.ensures.sorted;
     } in
-    IfOk-weaker c.paths.result (λ paths. paths.items ≡ map (λ (d : Candidate). d.path) after)
-    (λ paths. IsOrderOf (plain_content sorter) paths.items) (λ paths is. rw is order) c.paths.ensures
+    rw c.in_ok-self.ensures order

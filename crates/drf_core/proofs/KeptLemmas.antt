@@ -285,14 +285,14 @@ module _ (limits : LimitNumbers) (rows : Rows) (few : AreFew limits rows) (numbe
   countable_after (AddFramework framework roles) none = countable-framework framework roles none
   countable_after (RemoveFramework framework) none =
       countable (framework_removed rows framework) (RemoveFramework framework) none (no_more-framework_removed rows framework)
-  countable_after (Accept framework offer task used at refuse_ms) none =
-      let become : OfferRow → Rows = λ o. offer_accepted (at_moment rows at) o ((task, used) ∷ []) refuse_ms in
-      countable (option_map_or become (offer_at rows offer) rows) (Accept framework offer task used at refuse_ms) none
-      (no_more-at_offer rows become (offer_at rows offer) (λ o. no_more-others rows (become o) refl))
-  countable_after (Decline framework offer at refuse_ms) none =
-      let become : OfferRow → Rows = λ o. offer_declined (at_moment rows at) o refuse_ms in
-      countable (option_map_or become (offer_at rows offer) rows) (Decline framework offer at refuse_ms) none
-      (no_more-at_offer rows become (offer_at rows offer) (λ o. no_more-others rows (become o) refl))
+  countable_after (Accept a) none =
+      let become : OfferRow → Rows = λ o. offer_accepted (at_moment rows a.at) o a.tasks a.refuse_ms in
+      countable (option_map_or become (offer_at rows a.offer) rows) (Accept a) none
+      (no_more-at_offer rows become (offer_at rows a.offer) (λ o. no_more-others rows (become o) refl))
+  countable_after (Decline d) none =
+      let become : OfferRow → Rows = λ o. offer_declined (at_moment rows d.at) o d.refuse_ms in
+      countable (option_map_or become (offer_at rows d.offer) rows) (Decline d) none
+      (no_more-at_offer rows become (offer_at rows d.offer) (λ o. no_more-others rows (become o) refl))
   countable_after (Rescind offer) none =
       let new : Rows = without_ended rows (one_offer offer) in
       countable new (Rescind offer) none (no_more-others rows new refl)

@@ -61,20 +61,8 @@ pub fn apply<S: Sorter>(
         Event::RemoveFramework { framework } => {
             remove_framework(alloc, limits, tables, sorter, &framework)
         }
-        Event::Accept {
-            offer,
-            task,
-            used,
-            at,
-            refuse_ms,
-            ..
-        } => { accept(alloc, tables, sorter, offer, task, used, at, refuse_ms) }
-        Event::Decline {
-            offer,
-            at,
-            refuse_ms,
-            ..
-        } => { decline(tables, sorter, offer, at, refuse_ms) }
+        Event::Accept(event) => accept(alloc, tables, sorter, event),
+        Event::Decline(event) => decline(tables, sorter, &event),
         Event::Rescind { offer } => Ok(rescind(tables, sorter, offer)),
         Event::Finish { framework, task } => Ok(finish(tables, sorter, &framework, &task)),
         Event::Suppress { framework, role } => suppress(alloc, tables, sorter, &framework, &role),

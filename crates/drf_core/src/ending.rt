@@ -1,7 +1,7 @@
 //! What is held ends.
 ghost use Rattle.std.specs.Prelude.{◌≡◌};
 ghost use Rattle.drf_rows.specs.Endings.{without_ended};
-ghost use Rattle.drf_holdings.specs.Ended.{ending_of};
+ghost use Rattle.drf_rows.specs.Ended.{ending_of};
 ghost use Rattle.drf_core.specs.Content.{content_of};
 ghost use Rattle.drf_core.specs.Kept.{StandAt};
 

@@ -1,6 +1,6 @@
 use Rattle.std.proofs.Common.{ap, ◌∙◌}
 use Rattle.drf_sorter.specs.Content.{with_change, refunded}
-use Rattle.drf_holdings.specs.Ended.{ending_of}
+use Rattle.drf_rows.specs.Ended.{ending_of}
 use Rattle.drf_core.proofs.EndedLemmas.{known-ended, held-ended, sorted-ended}
 use Rattle.drf_core.proofs.ending.end.Goals as goal
 

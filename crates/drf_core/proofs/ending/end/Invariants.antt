@@ -1,6 +1,6 @@
 use Rattle.std.proofs.Common.{◌≡◌}
 use Rattle.drf_rows.specs.Endings.{without_ended}
-use Rattle.drf_holdings.specs.Ended.{ending_of}
+use Rattle.drf_rows.specs.Ended.{ending_of}
 use Rattle.drf_tables.specs.Ended.{left_to_end}
 use Rattle.drf_core.specs.Content.{content_of}
 use Rattle.drf_core.proofs.ending.end.Given as goal

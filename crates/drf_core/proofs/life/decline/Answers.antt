@@ -9,8 +9,8 @@ pub end-requires : goal.end-requires
 end-requires g c =
     let rows : Rows = c.args.tables.now.rows in
     let moment = c.max-moment.result in
-    let one = some_offer rows c.args.number c.requires.offer in
-    sorted-declined rows c.set_clock.new.self.rows (filters_with (record rows { clock = moment }) (refuses_all c.args.refuse_ms) one.offer one.offer.bundle c.args.refuse_ms)
+    let one = some_offer rows c.args.decline.now.offer c.requires.offer in
+    sorted-declined rows c.set_clock.new.self.rows (filters_with (record rows { clock = moment }) (refuses_all c.args.decline.now.refuse_ms) one.offer one.offer.bundle c.args.decline.now.refuse_ms)
     moment (g.S.Sorter.content c.args.sorter.now) c.requires.sorted
     (c.set_clock.ensures ∙ (λ i. record (c.in_ok-refuse_offer.ensures.ok one.offer one.at i) { clock = moment }))
 
@@ -18,7 +18,7 @@ pub returns-clause-ok : goal.returns-clause-ok
 returns-clause-ok g c = λ o at.
     let rows : Rows = c.args.tables.now.rows in
     let moment = c.max-moment.result in
-    applied_decline rows c.set_clock.new.self.rows c.end.new.tables.rows c.args.number o c.args.at moment c.args.refuse_ms (g.S.Sorter.content c.end.new.sorter)
-    at (c.max-moment.ensures ∙ ap (λ (n : ℕ). max n c.args.at) c.clock.ensures)
+    applied_decline rows c.set_clock.new.self.rows c.end.new.tables.rows c.args.decline.now.offer o c.args.decline.now.at moment c.args.decline.now.refuse_ms (g.S.Sorter.content c.end.new.sorter)
+    at (c.max-moment.ensures ∙ ap (λ (n : ℕ). max n c.args.decline.now.at) c.clock.ensures)
     (c.set_clock.ensures ∙ (λ i. record (c.in_ok-refuse_offer.ensures.ok o at i) { clock = moment }))
     c.end.ensures

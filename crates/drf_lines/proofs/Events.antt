@@ -113,6 +113,12 @@ values_few starts = ap is_few (count starts)
 few_read : {X : Type 0} (xs : List X) → 1 ≤ length xs → length xs ≤ 16 → is_few (length xs) ≡ true
 few_read xs some few = and_from _ _ (le-leb 1 (length xs) some) (le-leb (length xs) 16 few)
 
+-- a list of one is its first
+pub only_one : (tasks : List Start) (task : Start) → 1 ≤ length tasks → length tasks < 2 → task ≡ get_or tasks 0 task → tasks ≡ task ∷ []
+only_one [] task some few is = absurd (omega (arith, some))
+only_one (s ∷ []) task some few is = ap (λ (t : Start). t ∷ []) (sym is)
+only_one (s ∷ next ∷ tasks) task some few is = absurd (omega (arith, few))
+
 -- one more task as JSON
 pub task_values_more : (values : List Value) (tasks : List Start) (i : ℕ) (task : Start) (value : Value) (now : List Value)
     → i < length tasks → task ≡ get_or tasks i task → map view values ≡ map task_value (take i tasks)

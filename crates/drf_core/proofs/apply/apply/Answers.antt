@@ -78,8 +78,8 @@ pub report-requires-clause-few_offers : goal.report-requires-clause-few_offers
 report-requires-clause-few_offers g c =
     omega (arith, few_offers_kept (g.S.Sorter.content c.args.sorter.now) c.args.limits.now c.args.tables.now.rows c.requires.kept)
 
-pub returns-clause-ok : goal.returns-clause-ok
-returns-clause-ok g c =
+pub returns-in_ok-report-in-Report-clause-ok : goal.returns-in_ok-report-in-Report-clause-ok
+returns-in_ok-report-in-Report-clause-ok g c =
     subst (λ (e : Event). StandAt (effect c.args.tables.now.rows e) c.args.tables.now.rows (g.S.Sorter.content c.args.sorter.now))
     (sym c.in-Report.is)
     (applied_report c.args.tables.now.rows (g.S.Sorter.content c.args.sorter.now) c.requires.kept.sorted)

@@ -289,10 +289,7 @@ fn refuse_rest(limits: &Limits, tables: &Tables, accept: &Accept) -> Option<Refu
     requires { is_beyond tables.now.rows accept.now.offer accept.now.tasks ≡ false }
     ensures { result ≡ first_case ((accept_is_too_much limits.now tables.now.rows accept.now, TooMany) ∷ []) }
 {
-    first_case(&[(
-        accept_is_too_much(limits, tables, accept),
-        Refusal::TooMany,
-    )])
+    first_case(&[(accept_is_too_much(limits, tables, accept), Refusal::TooMany)])
 }
 
 /// Why a framework that accepts an offer is refused. What is left of the offer is asked for only where it covers the tasks.

@@ -131,10 +131,10 @@ module _ (consumed : Consumed) (role : Path) (label : Text) where
       )
   headroom_le (x ∷ xs) (suc place) l at here = elim (cases_Bool (binds role label x)) [
     | inl binding ↦ (
-        fold min (room_under consumed label x) (rooms xs),
-        ap (reduce min) (rooms-here x xs binding),
-        least_among (room_under consumed label x) xs place l at here,
-      )
+      fold min (room_under consumed label x) (rooms xs),
+      ap (reduce min) (rooms-here x xs binding),
+      least_among (room_under consumed label x) xs place l at here,
+    )
     | inr past ↦
         let more = headroom_le xs place l at here in
         (more.0, ap (reduce min) (rooms-past x xs past) ∙ more.1, more.2)
@@ -166,9 +166,9 @@ module _ (v : Text → ℕ) (label : Text) where
   put_more room n is = elim (cases_Bool (same_text n label)) [
     | inl same ↦ put_here room n same
     | inr other ↦ (
-        named-with room n (v n) label ∙ ap (λ b. b || is_named room label) other ∙ is.0,
-        amount-with room n (v n) label ∙ ap (λ b. cond b (v n) (amount_of room label)) other ∙ is.1,
-      )
+      named-with room n (v n) label ∙ ap (λ b. b || is_named room label) other ∙ is.0,
+      amount-with room n (v n) label ∙ ap (λ b. cond b (v n) (amount_of room label)) other ∙ is.1,
+    )
   ]
 
   all_put : (room : List Entry) (ns : List Text) → IsPut room → IsPut (fold put room ns)

@@ -207,8 +207,11 @@ scalars_within : (whole : List Resource) (parts : List (List Resource)) → IsBu
     → list_all (covers whole) parts ≡ true → list_all (is_enough whole parts) whole ≡ true
     → (key : Key) → units_of_all parts key Thousandths ≤ units whole key Thousandths
 scalars_within whole parts is each all enough key = elim (zero_or_some (units whole key Thousandths)) [
-  | inl zero ↦ omega (arith, none_of_all parts key Thousandths
-      (each_none parts key Thousandths (units whole key Thousandths) zero (each_covered whole parts is each all key Thousandths)))
+  | inl zero ↦ omega (
+    arith,
+    none_of_all parts key Thousandths
+        (each_none parts key Thousandths (units whole key Thousandths) zero (each_covered whole parts is each all key Thousandths)),
+  )
   | inr some ↦ enough_at whole parts whole key enough some
 ]
 

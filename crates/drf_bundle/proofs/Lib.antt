@@ -2,7 +2,6 @@ mod ChangeLemmas
 mod FirstLemmas
 mod PlaceLemmas
 pub mod MergeLemmas
-pub mod CoverLemmas
 pub mod NameLemmas
 pub mod SearchLemmas
 pub mod SumLemmas

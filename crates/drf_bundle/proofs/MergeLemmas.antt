@@ -25,17 +25,17 @@ tail_is r rs = take_all _ _ (omega arith)
 
 -- ---- the steps of a merge
 
-pub side_less : (o : Ordering) → Some (side_of o) ≡ Some Left → o ≡ Less
+side_less : (o : Ordering) → Some (side_of o) ≡ Some Left → o ≡ Less
 side_less Less e = refl
 side_less Equal e = cc
 side_less Greater e = cc
 
-pub side_equal : (o : Ordering) → Some (side_of o) ≡ Some Both → o ≡ Equal
+side_equal : (o : Ordering) → Some (side_of o) ≡ Some Both → o ≡ Equal
 side_equal Less e = cc
 side_equal Equal e = refl
 side_equal Greater e = cc
 
-pub side_greater : (o : Ordering) → Some (side_of o) ≡ Some Right → o ≡ Greater
+side_greater : (o : Ordering) → Some (side_of o) ≡ Some Right → o ≡ Greater
 side_greater Less e = cc
 side_greater Equal e = cc
 side_greater Greater e = refl

@@ -1,5 +1,4 @@
 pub mod Bundle
-pub mod Held
 pub mod Laws
 pub mod Places
 pub mod Quantities

@@ -1,15 +1,13 @@
 //! Bundles of resources.
-ghost use Rattle.std.specs.Prelude.{◌≡◌, IsTrue, Some, [], ◌∷◌, ◌++◌, OnOk, OnErr, IfOk, IfErr};
-ghost use Rattle.std.specs.List.{list_all};
+ghost use Rattle.std.specs.Prelude.{◌≡◌, ◌+◌, ◌<◌, ◌^◌, IsTrue, [], ◌∷◌, ◌++◌, OnOk, OnErr, IfOk, IfErr};
 ghost use Rattle.std.specs.Option.{option_copied};
-ghost use Rattle.drf_amount.specs.Algebra.{IsJoinFault};
-ghost use Rattle.drf_bundle.specs.Union.{has_other_kind, union_refusal, union};
-ghost use Rattle.drf_bundle.specs.Bundle.{IsBundle, amount, join, refusal, is_too_large, is_in_order, exceeds, rest, filled_of, left_of, reservation, value_at, quantities_of, one_of, is_unreserved, is_for, part_for, clip, clipped, relabel};
-ghost use Rattle.drf_bundle.specs.Value.{IsGiven};
+ghost use Rattle.drf_bundle.specs.Bundle.{IsBundle, IsKept, amount, join, refusal, is_too_large, is_in_order, exceeds, rest, filled_of, left_of, covers_one, reservation, add_scalar, value_at, quantities_of, one_of, is_unreserved, part_for, clip, clipped, relabel};
+ghost use Rattle.drf_bundle.specs.Value.{Thousandths, units_in, IsGiven};
+ghost use Rattle.drf_bundle.specs.Quantities.{amount_of};
+ghost use Rattle.drf_bundle.specs.Places.{IsKeyAt, IsKeyGap};
 ghost use Rattle.drf_bundle.specs.BundleLaws.{bundle_laws};
 
-use crate::merge::{have_clash, is_covered, merged};
-use crate::parts::{Held, Parts, place};
+use crate::merge::{have_clash, merged};
 use crate::quantities::Quantities;
 use crate::resource::Resource;
 use crate::value::{Clash, Value};
@@ -17,13 +15,14 @@ use drf_amount::{Algebra, AlgebraFault, Scalar};
 use drf_role::{Label, Role};
 use std::alloc::{AllocError, Global};
 use std::marker::Model;
-use std::sync::Arc;
 
 /// What there is of each resource, for everyone or for a role. One name has one kind, no member
-/// stands under two reservations of a name, and the scalars of a name sum to less than 2^64. Copies share what they hold.
+/// stands under two reservations of a name, and the scalars of a name sum to less than 2^64.
 #[derive(Debug, Drop)]
 pub struct Bundle {
-    held: Held,
+    pub(crate) resources: Vec<Resource>,
+    // The scalars of each name over all reservations, kept to be lent.
+    pub(crate) quantities: Quantities,
 }
 
 impl Model for Bundle {
@@ -37,9 +36,44 @@ impl Model for Bundle {
 
     ghost coded = { coded_list resource.the_row.coded };
 
-    ghost use Rattle.drf_bundle.specs.Held.{parts_of};
+    ghost use Rattle.drf_bundle.specs.Bundle.{IsKept};
 
-    ghost view = { λ b. parts_of b.held };
+    ghost view = { λ b. b.resources.items };
+
+    ghost invariant = { λ b. IsKept b.resources.items b.quantities };
+}
+
+/// Adds the resource's scalar to the sum of its name.
+pub(crate) fn add_scalar(sums: &mut Quantities, resource: &Resource) -> Result<(), AllocError>
+    requires { amount_of sums.old resource.now.label + units_in resource.now.value Thousandths < 2 ^ 64 }
+    ensures ok { OnOk result (sums.new ≡ add_scalar sums.old resource.now) }
+    ensures err { OnErr result (sums.new ≡ sums.old) }
+{
+    let Value::Scalar(scalar) = &resource.value else {
+        return Ok(());
+    };
+    sums.add(&resource.label, scalar.thousandths())
+}
+
+/// The scalars of each name, summed over all reservations.
+fn sums(alloc: Global, resources: &[Resource]) -> Result<Quantities, AllocError>
+    requires { IsBundle resources.now }
+    ensures { IfOk result (λ q. q ≡ quantities_of resources.now) }
+{
+    let mut sums = Quantities::empty(alloc);
+    for resource in resources {
+        add_scalar(&mut sums, resource)?;
+    }
+    Ok(sums)
+}
+
+/// Where the resource of a name and a reservation stands, or where it would go.
+pub(crate) fn place(resources: &[Resource], label: &Label, role: &Role) -> Result<usize, usize>
+    requires { IsTrue (is_in_order resources.now) }
+    ensures found { IfOk result (IsKeyAt resources.now (label.now, reservation role.now)) }
+    ensures absent { IfErr result (IsKeyGap resources.now (label.now, reservation role.now)) }
+{
+    resources.binary_search_by(|resource| resource.cmp_key(label, role))
 }
 
 /// The value of a name under a reservation.
@@ -56,16 +90,15 @@ fn value_at<'a>(resources: &'a [Resource], label: &Label, role: &Role) -> Option
     }
 }
 
-/// Whether a role may use all of the resources.
-fn are_for(resources: &[Resource], role: &Role) -> bool
-    ensures { result ≡ list_all (is_for role.now) resources.now }
+/// Whether the value under the resource's key covers it.
+fn covers_one(whole: &[Resource], resource: &Resource) -> bool
+    requires { IsTrue (is_in_order whole.now) }
+    ensures { result ≡ covers_one whole.now resource.now }
 {
-    for resource in resources {
-        if !resource.is_for(role) {
-            return false;
-        }
+    match value_at(whole, &resource.label, &resource.role) {
+        Some(value) => value.covers(&resource.value),
+        None => false,
     }
-    true
 }
 
 /// The resource without what the part has under its key.
@@ -110,59 +143,19 @@ fn push_filled(resources: &mut Vec<Resource>, resource: Resource) -> Result<(), 
     Ok(())
 }
 
-/// A copy with one more resource.
-fn with_united(shared: &Parts, resource: Resource) -> Result<Parts, AlgebraFault>
-    ensures ok { IfOk result (λ parts. union shared.now resource ≡ Some parts) }
-    ensures fault { IfErr result (IsJoinFault (union_refusal shared.now resource)) }
-{
-    if let Some(fault) = shared.union_refusal(&resource) {
-        return Err(fault);
-    }
-    let mut parts = shared.copy()?;
-    parts.unite(resource)?;
-    Ok(parts)
-}
-
 impl Bundle {
-    /// A bundle whose copies share it. What is empty takes no memory.
     fn new(alloc: Global, resources: Vec<Resource>) -> Result<Bundle, AllocError>
         requires { IsBundle resources.items }
         ensures { IfOk result (λ bundle. bundle ≡ resources.items) }
     {
-        if resources.is_empty() {
-            return Ok(Bundle::empty(alloc));
-        }
-        let parts = Parts::new(alloc, resources)?;
         Ok(Bundle {
-            held: Held::Shared(Arc::new(alloc, parts)?),
+            quantities: sums(alloc, &resources)?,
+            resources,
         })
     }
 
-    fn parts(&self) -> &Parts
-        ensures { result.now ≡ self.now }
-    {
-        self.held.parts()
-    }
-
     fn alloc(&self) -> Global {
-        self.parts().alloc()
-    }
-
-    /// The same bundle, of which a copy then takes no memory.
-    pub fn share(self) -> Result<Bundle, AllocError>
-        ensures { IfOk result (λ bundle. bundle ≡ self) }
-    {
-        match self.held {
-            Held::Own(parts) => {
-                let alloc = parts.alloc();
-                Ok(Bundle {
-                    held: Held::Shared(Arc::new(alloc, parts)?),
-                })
-            }
-            Held::Shared(parts) => Ok(Bundle {
-                held: Held::Shared(parts),
-            }),
-        }
+        *self.resources.allocator()
     }
 
     /// The bundle of one resource, reserved for the role if that is not `*`. A value with nothing in it makes no resource.
@@ -191,7 +184,7 @@ impl Bundle {
     pub fn get(&self, label: &Label, role: &Role) -> Option<&Value>
         ensures { option_copied result ≡ value_at self.now (label.now, reservation role.now) }
     {
-        value_at(self.entries(), label, role)
+        value_at(&self.resources, label, role)
     }
 
     /// The resources in the order in which they are written.
@@ -199,7 +192,7 @@ impl Bundle {
         ensures value { result.now ≡ self.now }
         ensures bundle { IsBundle self.now }
     {
-        self.parts().entries()
+        self.resources.as_slice()
     }
 
     /// The scalars of each name, summed over all reservations.
@@ -207,14 +200,14 @@ impl Bundle {
         ensures value { result.now ≡ quantities_of self.now }
         ensures bundle { IsBundle self.now }
     {
-        self.parts().quantities()
+        &self.quantities
     }
 
     /// Whether nothing is reserved.
     pub fn is_unreserved(&self) -> bool
         ensures { result ≡ is_unreserved self.now }
     {
-        for resource in self.entries() {
+        for resource in &self.resources {
             if !resource.is_unreserved() {
                 return false;
             }
@@ -226,12 +219,8 @@ impl Bundle {
     pub fn part_for(&self, role: &Role) -> Result<Bundle, AllocError>
         ensures { IfOk result (λ part. part ≡ part_for role.now self.now) }
     {
-        let resources = self.entries();
-        if are_for(resources, role) {
-            return self.copy();
-        }
         let mut part = Vec::new(self.alloc());
-        for resource in resources {
+        for resource in &self.resources {
             if resource.is_for(role) {
                 part.push(resource.copy()?)?;
             }
@@ -244,7 +233,7 @@ impl Bundle {
         ensures { IfOk result (λ part. part ≡ clip limits.now self.now) }
     {
         let mut part = Vec::new(self.alloc());
-        for resource in self.entries() {
+        for resource in &self.resources {
             push_filled(&mut part, clipped(limits, resource)?)?;
         }
         Bundle::new(self.alloc(), part)
@@ -257,8 +246,8 @@ impl Bundle {
     {
         // The proof learns that it is a role by this call alone.
         let _ = role.text();
-        let mut moved = Vec::with_capacity(self.alloc(), self.entries().len())?;
-        for resource in self.entries() {
+        let mut moved = Vec::with_capacity(self.alloc(), self.resources.len())?;
+        for resource in &self.resources {
             moved.push(resource.moved_to(role)?)?;
         }
         Bundle::new(self.alloc(), moved)
@@ -269,10 +258,10 @@ impl Bundle {
         ensures given { IsBundle self.now × IsBundle other.now }
         ensures refusal { result ≡ refusal self.now other.now }
     {
-        if have_clash(self.entries(), other.entries(), Clash::Kinds) {
+        if have_clash(&self.resources, &other.resources, Clash::Kinds) {
             return Some(AlgebraFault::Kind);
         }
-        if have_clash(self.entries(), other.entries(), Clash::Members) {
+        if have_clash(&self.resources, &other.resources, Clash::Members) {
             return Some(AlgebraFault::Overlap);
         }
         if self.is_too_large_with(other) {
@@ -285,7 +274,7 @@ impl Bundle {
     fn is_too_large_with(&self, other: &Bundle) -> bool
         ensures { result ≡ is_too_large self.now other.now }
     {
-        self.entries()
+        self.resources
             .iter()
             .any(|resource| self.exceeds_with(other, resource.label.text()))
     }
@@ -295,9 +284,9 @@ impl Bundle {
         ensures { result ≡ exceeds self.now other.now name.now }
     {
         let sum = self
-            .quantities()
+            .quantities
             .get(name)
-            .checked_add(other.quantities().get(name));
+            .checked_add(other.quantities.get(name));
         sum.is_none()
     }
 
@@ -305,46 +294,11 @@ impl Bundle {
     pub fn rest(&self, part: &Bundle) -> Result<Bundle, AllocError>
         ensures { IfOk result (λ left. left ≡ rest self.now part.now) }
     {
-        let whole = self.entries();
-        let taken = part.entries();
-        if taken.is_empty() {
-            return self.copy();
-        }
-        if is_covered(taken, whole) {
-            return Ok(Bundle::empty(self.alloc()));
-        }
         let mut left = Vec::new(self.alloc());
-        for resource in whole {
-            push_filled(&mut left, left_of(taken, resource)?)?;
+        for resource in &self.resources {
+            push_filled(&mut left, left_of(&part.resources, resource)?)?;
         }
         Bundle::new(self.alloc(), left)
-    }
-}
-
-impl Bundle {
-    /// Whether the name has a value of another kind.
-    pub fn has_other_kind(&self, label: &Label, value: &Value) -> bool
-        ensures { result ≡ has_other_kind self.now label.now value.now }
-    {
-        self.parts().has_other_kind(label, value)
-    }
-
-    /// Puts one more resource in: under one name and reservation scalars add and sets unite, shared
-    /// members or not. The first of `Kind`, `Overlap` and `TooLarge` that holds is told, `Kind` of a value
-    /// with nothing in it too, which else changes nothing. An `Err` changes nothing.
-    pub fn unite(&mut self, label: Label, role: Role, value: Value) -> Result<(), AlgebraFault>
-        ensures ok { OnOk result (union self.old (record { label = label; role = role; value = value }) ≡ Some self.new) }
-        ensures err { OnErr result (self.new ≡ self.old) }
-        ensures fault { IfErr result (IsJoinFault (union_refusal self.old (record { label = label; role = role; value = value }))) }
-    {
-        let resource = Resource { label, role, value };
-        match &mut self.held {
-            Held::Own(parts) => parts.unite(resource),
-            Held::Shared(shared) => {
-                self.held = Held::Own(with_united(shared, resource)?);
-                Ok(())
-            }
-        }
     }
 }
 
@@ -363,12 +317,13 @@ impl Algebra for Bundle {
 
     fn empty(alloc: Global) -> Bundle {
         Bundle {
-            held: Held::Own(Parts::empty(alloc)),
+            resources: Vec::new(alloc),
+            quantities: Quantities::empty(alloc),
         }
     }
 
     fn is_empty(&self) -> bool {
-        self.entries().is_empty()
+        self.resources.is_empty()
     }
 
     fn disjoint(&self, other: &Bundle) -> bool {
@@ -379,12 +334,18 @@ impl Algebra for Bundle {
         if let Some(fault) = self.refusal(other) {
             return Err(fault);
         }
-        let resources = merged(self.alloc(), self.entries(), other.entries())?;
+        let resources = merged(self.alloc(), &self.resources, &other.resources)?;
         Ok(Bundle::new(self.alloc(), resources)?)
     }
 
     fn covers(&self, part: &Bundle) -> bool {
-        is_covered(self.entries(), part.entries())
+        let whole = self.entries();
+        for resource in &part.resources {
+            if !covers_one(whole, resource) {
+                return false;
+            }
+        }
+        true
     }
 
     fn try_minus(&self, part: &Bundle) -> Result<Bundle, AlgebraFault> {
@@ -396,19 +357,20 @@ impl Algebra for Bundle {
 
     fn amount(&self) -> u128 {
         let mut amount = 0;
-        for resource in self.entries() {
+        for resource in &self.resources {
             amount += resource.value.amount();
         }
         amount
     }
 
     fn copy(&self) -> Result<Bundle, AllocError> {
-        // The proof learns that it is a bundle by this call alone.
-        let _ = self.entries();
-        let held = match &self.held {
-            Held::Own(parts) => Held::Own(parts.copy()?),
-            Held::Shared(parts) => Held::Shared(Arc::try_clone(parts)?),
-        };
-        Ok(Bundle { held })
+        let mut resources = Vec::with_capacity(self.alloc(), self.resources.len())?;
+        for resource in &self.resources {
+            resources.push(resource.copy()?)?;
+        }
+        Ok(Bundle {
+            resources,
+            quantities: self.quantities.copy()?,
+        })
     }
 }

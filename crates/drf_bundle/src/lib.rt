@@ -5,7 +5,6 @@ mod bundle;
 mod laws;
 mod merge;
 mod names;
-mod parts;
 mod quantities;
 mod resource;
 mod union;

@@ -1,6 +1,6 @@
 //! Two lists of resources in order, gone through side by side.
 ghost use Rattle.std.specs.Prelude.{◌≡◌, IsTrue, IfOk};
-ghost use Rattle.drf_bundle.specs.Bundle.{is_in_order, merged, covers, have_clash, clashes_with_some};
+ghost use Rattle.drf_bundle.specs.Bundle.{is_in_order, merged, have_clash, clashes_with_some};
 ghost use Rattle.drf_bundle.specs.Sides.{next_side, names_cmp, none_before};
 
 use crate::resource::Resource;
@@ -64,33 +64,6 @@ pub fn merged(
         }
     }
     Ok(found)
-}
-
-/// Whether each resource of the part has its value covered by that under its key in the whole.
-pub fn is_covered(whole: &[Resource], part: &[Resource]) -> bool
-    requires whole { IsTrue (is_in_order whole.now) }
-    requires part { IsTrue (is_in_order part.now) }
-    ensures { result ≡ covers whole.now part.now }
-{
-    let mut left = whole;
-    let mut right = part;
-    while let Some(side) = next_side(left, right) {
-        if right.is_empty() {
-            return true;
-        }
-        match side {
-            Side::Left => left = &left[1..],
-            Side::Right => return false,
-            Side::Both => {
-                if !left[0].value.covers(&right[0].value) {
-                    return false;
-                }
-                left = &left[1..];
-                right = &right[1..];
-            }
-        }
-    }
-    true
 }
 
 /// Whether the resource clashes with one of its name, of others that do not stand before it.

@@ -8,7 +8,7 @@ ghost use Rattle.drf_bundle.specs.Quantities.{amount_of};
 ghost use Rattle.drf_bundle.specs.Places.{IsKeyGap, IsNameGap};
 ghost use Rattle.drf_bundle.specs.Union.{has_other_kind, is_reserved_elsewhere, union_refusal, union};
 
-use crate::parts::{Parts, add_scalar, place};
+use crate::bundle::{Bundle, add_scalar, place};
 use crate::quantities::Quantities;
 use crate::resource::Resource;
 use crate::value::{Clash, Value};
@@ -117,7 +117,7 @@ fn put(
     }
 }
 
-impl Parts {
+impl Bundle {
     /// Whether the name has a value of another kind.
     pub fn has_other_kind(&self, label: &Label, value: &Value) -> bool
         ensures { result ≡ has_other_kind self.now label.now value.now }
@@ -126,7 +126,7 @@ impl Parts {
     }
 
     /// Why the resource cannot be united with the bundle.
-    pub fn union_refusal(&self, resource: &Resource) -> Option<AlgebraFault>
+    fn union_refusal(&self, resource: &Resource) -> Option<AlgebraFault>
         ensures { result ≡ union_refusal self.now resource.now }
     {
         if has_other_kind(&self.resources, &resource.label, &resource.value) {
@@ -172,12 +172,15 @@ impl Parts {
         Ok(put(&mut self.resources, &mut self.quantities, resource)?)
     }
 
-    /// Puts one more resource in.
-    pub fn unite(&mut self, resource: Resource) -> Result<(), AlgebraFault>
-        ensures ok { OnOk result (union self.old resource ≡ Some self.new) }
+    /// Puts one more resource in: under one name and reservation scalars add and sets unite, shared
+    /// members or not. The first of `Kind`, `Overlap` and `TooLarge` that holds is told, `Kind` of a value
+    /// with nothing in it too, which else changes nothing. An `Err` changes nothing.
+    pub fn unite(&mut self, label: Label, role: Role, value: Value) -> Result<(), AlgebraFault>
+        ensures ok { OnOk result (union self.old (record { label = label; role = role; value = value }) ≡ Some self.new) }
         ensures err { OnErr result (self.new ≡ self.old) }
-        ensures fault { IfErr result (IsJoinFault (union_refusal self.old resource)) }
+        ensures fault { IfErr result (IsJoinFault (union_refusal self.old (record { label = label; role = role; value = value }))) }
     {
+        let resource = Resource { label, role, value };
         match gap_of_name(&self.resources, &resource.label) {
             Some(at) => self.unite_first(at, resource),
             None => self.unite_further(resource),

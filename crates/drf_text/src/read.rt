@@ -63,7 +63,7 @@ pub fn read_bundle(alloc: Global, text: &str) -> Result<Bundle, TextFault>
     for piece in text.split(';') {
         add_piece(alloc, &mut bundle, piece)?;
     }
-    Ok(bundle.share()?)
+    Ok(bundle)
 }
 
 /// Adds an amount to that of its name.

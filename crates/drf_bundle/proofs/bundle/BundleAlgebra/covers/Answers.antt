@@ -1,12 +1,29 @@
-use Rattle.std.proofs.Common.{◌≡◌, sym, ◌∙◌}
-use Rattle.drf_bundle.specs.Bundle.{covers}
+use Rattle.std.proofs.Common.{◌≡◌, true, false, refl, sym, ap, ◌∙◌, subst, take_all, List}
+use Rattle.std.proofs.lemmas.Bool.{false≢true}
+use Rattle.std.proofs.lemmas.List.Recursion.{and_at}
+use Rattle.drf_bundle.specs.Bundle.{IsBundle, covers, covers_one}
 use Rattle.drf_bundle.specs.BundleLaws.{covers_exact}
+use Rattle.drf_bundle.specs.declared.resource.Resource.{Resource}
 use Rattle.drf_bundle.proofs.bundle.BundleAlgebra.covers.Goals as goal
+
+pub returns-then-not-covers_one-clause-covers : goal.returns-then-not-covers_one-clause-covers
+returns-then-not-covers_one-clause-covers c =
+    let whole = c.args.self.now in
+    let items = c.deref-resource-items.result.now in
+    let same = c.deref-resource-items.ensures.value ∙ c.part.view_is in
+    let is_part = subst IsBundle c.part.view_is c.part.invariant.bundle in
+    let none : covers_one whole c.resource-item.result ≡ false = ap (λ (rs : List Resource). covers_one rs c.resource-item.result) (sym c.entries-whole.ensures.value) ∙ sym c.covers_one.ensures ∙ c.if-not-covers_one.true in (
+      λ e. absurd (false≢true e),
+      λ some.
+          let all = (covers_exact whole c.args.part.now c.entries-whole.ensures.bundle is_part).1 some in
+          let one = and_at (covers whole) (covers_one whole) refl (λ _ _. refl) items c.loop-resource.resource-index c.resource-item.result c.loop-resource-test.true (ap (covers whole) same ∙ all) in
+          absurd (false≢true (sym none ∙ ap (covers_one whole) c.resource-item.is ∙ one)),
+    )
 
 pub returns-clause-covers : goal.returns-clause-covers
 returns-clause-covers c =
     let whole = c.args.self.now in
-    let part = c.args.part.now in
-    let exact = covers_exact whole part c.entries.ensures.bundle c.entries-2.ensures.bundle in
-    let same : c.is_covered.result ≡ covers whole part = c.is_covered.ensures ∙ (λ i. covers (c.entries.ensures.value i) (c.entries-2.ensures.value i)) in
-    (λ e. exact.0 (sym same ∙ e), λ some. same ∙ exact.1 some)
+    let is_part = subst IsBundle c.part.view_is c.part.invariant.bundle in
+    let all : covers whole c.args.part.now ≡ true =
+    ap (covers whole) (sym (take_all _ _ c.loop-resource-test.false ∙ c.deref-resource-items.ensures.value ∙ c.part.view_is)) ∙ c.loop-resource.invariant in
+    (λ e. (covers_exact whole c.args.part.now c.entries-whole.ensures.bundle is_part).0 all, λ some. refl)

@@ -9,5 +9,5 @@ new-requires c =
     let b = c.args.other.now in
     let none : refusal a b ≡ None = sym c.refusal.ensures.refusal ∙ c.in_default.is in
     let whole : c.in_ok-resources.resources.items ≡ merged a b =
-    c.in_ok-resources.ensures ∙ (λ i. merged (c.entries.ensures.value i) (c.entries-2.ensures.value i)) in
+    c.in_ok-resources.ensures ∙ (λ i. merged ((c.deref.ensures.value ∙ c.self.view_is) i) ((c.deref-2.ensures.value ∙ c.other.view_is) i)) in
     rw whole (join_of_free a b c.refusal.ensures.given.0 c.refusal.ensures.given.1 (free_from_refusal a b none)).bundle

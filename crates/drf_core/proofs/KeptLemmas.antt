@@ -340,7 +340,7 @@ filters_bounded rows consistent =
     (each_from (IsFilter rows.agents rows.frameworks) Ends rows.filters (λ f is. is.until) consistent.filters)
 
 -- the rows with the filters in force alone are consistent
-consistent-live : (rows : Rows) → IsConsistent rows → IsConsistent (live_rows rows)
+pub consistent-live : (rows : Rows) → IsConsistent rows → IsConsistent (live_rows rows)
 consistent-live rows consistent = IsConsistent-filters_kept rows (is_in_force rows.clock) consistent
 
 -- what callers see of a core that is kept

@@ -1,0 +1,4 @@
+mod OrderOne
+mod WalkOrder
+mod WalkMembers
+mod WalkLemmas

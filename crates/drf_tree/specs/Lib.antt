@@ -1,0 +1,6 @@
+pub mod Walk
+pub mod Marks
+pub mod Family
+pub mod Nodes
+pub mod Tree
+pub mod Queue

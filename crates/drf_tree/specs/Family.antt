@@ -1,9 +1,13 @@
 -- Siblings in the order of their keys.
-use Rattle.std.specs.Prelude.{ℕ, ◌==◌, Bool, true, not, ◌&&◌, List, [], ◌∷◌, map, filter}
+use Rattle.std.specs.Prelude.{◌≡◌, ℕ, ◌==◌, Bool, true, not, ◌&&◌, List, [], ◌∷◌, ◌++◌, map}
 use Rattle.std.specs.List.{list_all, list_any}
 use Rattle.std.specs.Ordering.{is_lt}
 use Rattle.drf_role.specs.Text.{Text}
-use Rattle.drf_sorter.specs.Keys.{key_by, key_cmp}
+use Rattle.drf_bundle.specs.Quantities.{amount_of}
+use Rattle.drf_bundle.specs.declared.quantities.Entry.{Entry}
+use Rattle.drf_sorter.specs.Fractions.{weigh, dominant_of}
+use Rattle.drf_sorter.specs.Keys.{Key, key_by, key_cmp}
+use Rattle.drf_tree.specs.declared.node.Sum.{Sum}
 use Rattle.drf_tree.specs.declared.family.Child.{Child}
 
 -- the name of a child, which its key keeps
@@ -27,6 +31,42 @@ numbers_of children = map (λ c. c.node) children
 abbrev pub has_child : ℕ → List Child → Bool
 has_child node children = list_any (λ c. c.node == node) children
 
--- all children but that one
-abbrev pub without_child : ℕ → List Child → List Child
-without_child node children = filter (λ c. not (c.node == node)) children
+-- a family, and the same with one child more, wherever it stands
+pub record IsWith (child : Child) (less more : List Child) : Type 0 where
+  pub before : List Child
+  pub after : List Child
+  pub less_is : less ≡ before ++ after
+  pub more_is : more ≡ before ++ child ∷ after
+
+-- a child of that number is gone
+pub record IsGone (node : ℕ) (old new : List Child) : Type 0 where
+  pub child : Child
+  pub node_is : child.node ≡ node
+  pub gone : IsWith child new old
+
+-- the key that belongs to a sum
+abbrev pub key_for : List Entry → Sum → Text → Key
+key_for total sum name = record {
+  share = weigh (dominant_of (amount_of sum.held) total) sum.weight;
+  count = sum.count;
+  name = name;
+}
+
+-- a child of that number has the key of its sum now, in its place
+pub record IsRenewed (node : ℕ) (total : List Entry) (sum : Sum) (old new : List Child) : Type 0 where
+  pub was : Child
+  pub now : Child
+  pub rest : List Child
+  pub was_is : was.node ≡ node
+  pub now_is : now.node ≡ node
+  pub gone : IsWith was rest old
+  pub put : IsWith now rest new
+  pub key : key_by now.key ≡ key_for total sum (child_name was)
+
+-- a child as contracts see it
+abbrev pub seen : Child → Key × ℕ
+seen child = (key_by child.key, child.node)
+
+-- the same keys and numbers
+abbrev pub AreCopies : List Child → List Child → Type 0
+AreCopies old new = map seen old ≡ map seen new

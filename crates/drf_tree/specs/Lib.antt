@@ -4,3 +4,4 @@ pub mod Family
 pub mod Nodes
 pub mod Tree
 pub mod Queue
+pub mod Changes

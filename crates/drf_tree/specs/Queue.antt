@@ -32,6 +32,10 @@ unfoldable pub queue_in : Content → List (Option Place) → List (List Child) 
 queue_in content places families frames =
     pending (active_paths content) (path_at places) (family_at families) most_parts frames
 
+-- those of a tree
+abbrev pub frames_queue : Content → Tree → List Frame → List Path
+frames_queue content tree frames = queue_in content tree.places.items tree.families.items frames
+
 -- frame by frame one part deeper, each at a node
 pub record AreFrames (places : List (Option Place)) (frames : List Frame) : Type 0 where
   pub few : length frames ≤ most_parts
@@ -60,4 +64,4 @@ abbrev pub tree_work : TreeSorter → Work
 tree_work s = work_of s.tree.marks
 
 abbrev pub tree_queue : TreeSorter → List Path
-tree_queue s = queue_in (tree_content s) s.tree.places.items s.tree.families.items s.walk.frames.items
+tree_queue s = frames_queue (tree_content s) s.tree s.walk.frames.items

@@ -83,3 +83,11 @@ pub record IsTreeOf (content : Content) (tree : Tree) : Type 0 where
   pub sums : AreSums content tree.places.items tree.sums.items
   pub complete : IsComplete content tree.places.items tree.families.items
   pub right : AreRight content tree.places.items tree.families.items tree.marks.stale
+
+-- all of it, but for the key of one node, which has no mark
+pub record IsTreeBut (node : ℕ) (content : Content) (tree : Tree) : Type 0 where
+  pub shape : IsShape tree.places.items tree.families.items tree.marks.stale tree.sums.items
+  pub sums : AreSums content tree.places.items tree.sums.items
+  pub complete : IsComplete content tree.places.items tree.families.items
+  pub right : (i : ℕ) → AllByRecursion (λ c. (c.node ≡ node) ⊎ ((slice_index_or tree.marks.stale c.node false ≡ true)
+    ⊎ (key_by c.key ≡ key_of (standing_in content) (path_at tree.places.items i) (child_name c)))) (children_at tree.families.items i)

@@ -1,4 +1,14 @@
 //! The children of a node, in the order of their keys.
+ghost use Rattle.std.specs.Prelude.{◌≡◌, ◌≤◌, ◌<◌, ◌^◌, [], true, not, IfOk, IsTrue, OnOk, OnErr, drop, length, slice_get, take};
+ghost use Rattle.std.specs.List.{list_all};
+ghost use Rattle.std.specs.Ordering.{is_lt};
+ghost use Rattle.drf_bundle.specs.Quantities.{amount_of};
+ghost use Rattle.drf_role.specs.Text.{Text};
+ghost use Rattle.drf_sorter.specs.Keys.{key_by, key_cmp};
+ghost use Rattle.drf_tree.specs.Family.{AreCopies, are_sorted};
+
+use crate::node::Sum;
+use drf_bundle::Quantities;
 use drf_sorter::Key;
 use std::alloc::{AllocError, Global};
 
@@ -31,35 +41,79 @@ impl Model for Family {
 }
 
 impl Family {
-    pub(crate) fn new(alloc: Global) -> Family {
+    ghost use Rattle.drf_tree.specs.Family.{IsWith, IsRenewed, IsGone, has_child, numbers_of};
+
+    pub(crate) fn new(alloc: Global) -> Family
+        ensures { result ≡ [] }
+    {
         Family {
             children: Vec::new(alloc),
         }
     }
 
-    pub(crate) fn children(&self) -> &[Child] {
+    pub(crate) fn children(&self) -> &[Child]
+        ensures value { result.now ≡ self.now }
+        ensures sorted { IsTrue (are_sorted self.now) }
+    {
         self.children.as_slice()
     }
 
-    /// The child at that place of the order.
-    pub(crate) fn child(&self, place: usize) -> Option<usize> {
+    /// The number of the child at that place of the order.
+    pub(crate) fn child(&self, place: usize) -> Option<usize>
+        ensures { result ≡ slice_get (numbers_of self.now) place }
+    {
         let child = self.children.get(place)?;
         Some(child.node)
     }
 
-    /// Makes room for one more child.
-    pub(crate) fn reserve(&mut self) -> Result<(), AllocError> {
-        self.children.reserve(1)
+    /// Puts a child where its key belongs. An `Err` changes nothing.
+    pub(crate) fn insert(&mut self, child: Child) -> Result<(), AllocError>
+        ensures ok { OnOk result (IsWith child self.old self.new) }
+        ensures err { OnErr result (self.new ≡ self.old) }
+    {
+        let place = self.place_for(&child.key);
+        Ok(self.children.insert(place, child)?)
     }
 
-    /// Puts a child where its key belongs. There is room.
-    pub(crate) fn put(&mut self, child: Child) {
-        let place = self.children.partition_point(|other| other.key < child.key);
-        self.children.insert(place, child).unwrap();
+    /// Takes a child out.
+    pub(crate) fn remove(&mut self, node: usize)
+        requires { has_child node self.old ≡ true }
+        ensures { IsGone node self.old self.new }
+    {
+        let _ = self.take(node);
+    }
+
+    /// Computes the key of a child from its sum, and puts the child into its place.
+    pub(crate) fn renew(&mut self, node: usize, total: &Quantities, sum: &Sum)
+        requires known { has_child node self.old ≡ true }
+        requires within { (label : Text) → amount_of sum.now.held label ≤ amount_of total.now label }
+        requires fits { (label : Text) → amount_of total.now label < 2 ^ 52 }
+        requires weighs { 1 ≤ sum.now.weight }
+        requires light { sum.now.weight ≤ 1000000 }
+        ensures { IsRenewed node total.now sum.now self.old self.new }
+    {
+        let name = self.take(node).key.into_name();
+        let key = Key::new(total, sum.weight, &sum.held, sum.count, name);
+        let place = self.place_for(&key);
+        // The child that was taken out left its room.
+        self.children.insert(place, Child { key, node }).unwrap();
+    }
+
+    /// How many children stand before those that the key stands before.
+    fn place_for(&self, key: &Key) -> usize
+        ensures bound { result ≤ length self.now }
+        ensures before { IsTrue (list_all (λ c. is_lt (key_cmp (key_by c.key) (key_by key.now))) (take result self.now)) }
+        ensures after { IsTrue (list_all (λ c. not (is_lt (key_cmp (key_by c.key) (key_by key.now)))) (drop result self.now)) }
+    {
+        self.children.partition_point(|other| other.key < *key)
     }
 
     /// Takes a child out. Its room stays.
-    pub(crate) fn take(&mut self, node: usize) -> Child {
+    fn take(&mut self, node: usize) -> Child
+        requires { has_child node self.old ≡ true }
+        ensures node { result.node ≡ node }
+        ensures gone { IsWith result self.new self.old }
+    {
         let place = self
             .children
             .iter()
@@ -68,7 +122,9 @@ impl Family {
         self.children.remove(place)
     }
 
-    pub(crate) fn copy(&self) -> Result<Family, AllocError> {
+    pub(crate) fn copy(&self) -> Result<Family, AllocError>
+        ensures { IfOk result (λ f. AreCopies self.now f) }
+    {
         let alloc = *self.children.allocator();
         let mut children = Vec::with_capacity(alloc, self.children.len())?;
         for child in &self.children {

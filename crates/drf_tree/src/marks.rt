@@ -1,4 +1,9 @@
 //! Which keys may be stale, and how many were computed.
+ghost use Rattle.std.specs.Prelude.{◌≡◌, ◌≤◌, ◌<◌, ◌+◌, ◌↔◌, [], ◌∷◌, ◌++◌, ℕ, false, true, IfOk, IsTrue, OnOk, OnErr, length, slice_index_or, slice_set};
+ghost use Rattle.drf_sorter.specs.Work.{debt};
+ghost use Rattle.drf_tree.specs.Marks.{marked_in, work_of};
+ghost use Rattle.drf_tree.specs.Nodes.{is_live};
+
 use crate::node::Place;
 use std::alloc::{AllocError, Global};
 
@@ -24,7 +29,9 @@ impl Model for Marks {
 }
 
 impl Marks {
-    pub(crate) fn new(alloc: Global) -> Marks {
+    pub(crate) fn new(alloc: Global) -> Marks
+        ensures { result ≡ record { stale = []; made = 0 } }
+    {
         Marks {
             stale: Vec::new(alloc),
             marked: 0,
@@ -32,27 +39,33 @@ impl Marks {
         }
     }
 
-    pub(crate) fn made(&self) -> u64 {
+    pub(crate) fn made(&self) -> u64
+        ensures { result ≡ self.now.made }
+    {
         self.made
     }
 
-    /// How many nodes there are flags for.
-    pub(crate) fn len(&self) -> usize {
-        self.stale.len()
-    }
-
     /// Whether no key is stale.
-    pub(crate) fn is_clear(&self) -> bool {
+    pub(crate) fn is_clear(&self) -> bool
+        ensures { IsTrue result ↔ (marked_in self.now.stale ≡ 0) }
+    {
         self.marked == 0
     }
 
     /// One more node, that is not marked.
-    pub(crate) fn push(&mut self) -> Result<(), AllocError> {
+    pub(crate) fn push(&mut self) -> Result<(), AllocError>
+        ensures ok { OnOk result (self.new ≡ record self.old { stale = self.old.stale ++ false ∷ [] }) }
+        ensures err { OnErr result (self.new ≡ self.old) }
+    {
         Ok(self.stale.push(false)?)
     }
 
     /// The key of a node may be stale.
-    pub(crate) fn mark(&mut self, node: usize) {
+    pub(crate) fn mark(&mut self, node: usize)
+        requires { node < length self.old.stale }
+        ensures flags { self.new ≡ record self.old { stale = slice_set self.old.stale node true } }
+        ensures work { debt (work_of self.new) ≤ debt (work_of self.old) + 1 }
+    {
         if !self.stale[node] {
             self.stale[node] = true;
             self.marked += 1;
@@ -60,7 +73,11 @@ impl Marks {
     }
 
     /// The key of a node is not asked for any more.
-    pub(crate) fn forget(&mut self, node: usize) {
+    pub(crate) fn forget(&mut self, node: usize)
+        requires { node < length self.old.stale }
+        ensures flags { self.new ≡ record self.old { stale = slice_set self.old.stale node false } }
+        ensures work { debt (work_of self.new) ≤ debt (work_of self.old) }
+    {
         if self.stale[node] {
             self.stale[node] = false;
             self.marked -= 1;
@@ -68,7 +85,12 @@ impl Marks {
     }
 
     /// Whether the key of a node is to be computed, which then counts as done.
-    pub(crate) fn take(&mut self, node: usize) -> bool {
+    pub(crate) fn take(&mut self, node: usize) -> bool
+        requires { node < length self.old.stale }
+        ensures marked { result ≡ slice_index_or self.old.stale node false }
+        ensures flags { self.new.stale ≡ slice_set self.old.stale node false }
+        ensures work { debt (work_of self.new) ≤ debt (work_of self.old) }
+    {
         if !self.stale[node] {
             return false;
         }
@@ -79,7 +101,13 @@ impl Marks {
     }
 
     /// Marks each node that is there.
-    pub(crate) fn mark_all(&mut self, places: &[Option<Place>]) {
+    pub(crate) fn mark_all(&mut self, places: &[Option<Place>])
+        requires { length self.old.stale ≡ length places.now }
+        ensures long { length self.new.stale ≡ length self.old.stale }
+        ensures all { (i : ℕ) → is_live places.now i ≡ true → slice_index_or self.new.stale i false ≡ true }
+        ensures others { (i : ℕ) → is_live places.now i ≡ false → slice_index_or self.new.stale i false ≡ slice_index_or self.old.stale i false }
+        ensures made { self.new.made ≡ self.old.made }
+    {
         for node in 0..places.len() {
             if places[node].is_some() {
                 self.mark(node);
@@ -87,7 +115,9 @@ impl Marks {
         }
     }
 
-    pub(crate) fn copy(&self) -> Result<Marks, AllocError> {
+    pub(crate) fn copy(&self) -> Result<Marks, AllocError>
+        ensures { IfOk result (λ marks. marks ≡ self.now) }
+    {
         let alloc = *self.stale.allocator();
         Ok(Marks {
             stale: Vec::from_slice(alloc, self.stale.as_slice())?,

@@ -1,4 +1,8 @@
 //! A sorter over a tree of nodes.
+ghost use Rattle.drf_sorter.specs.Plain.{plain_content};
+ghost use Rattle.drf_tree.specs.Queue.{AreFrames, IsSettled};
+ghost use Rattle.drf_tree.specs.Tree.{IsTreeOf};
+
 use crate::tree::Tree;
 use crate::walk::Walk;
 use drf_bundle::Quantities;
@@ -13,6 +17,9 @@ pub struct TreeSorter {
     ledger: PlainSorter,
     tree: Tree,
     walk: Walk,
+    ghost of_ledger: { IsTreeOf (plain_content ledger) tree },
+    ghost frames: { AreFrames tree.places.items walk.frames.items },
+    ghost settled: { IsSettled (plain_content ledger) tree.places.items tree.families.items walk.frames.items },
 }
 
 impl Sorter for TreeSorter {
@@ -103,7 +110,7 @@ impl Sorter for TreeSorter {
     }
 
     fn fix_order(&mut self) -> Result<(), AllocError> {
-        self.tree.repair(self.ledger.total());
+        self.tree.repair(&self.ledger);
         self.walk.start(&self.tree);
         Ok(())
     }

@@ -1,4 +1,9 @@
 //! Copies of the lists of a tree.
+ghost use Rattle.std.specs.Prelude.{◌≡◌, IfOk, map};
+ghost use Rattle.drf_sorter.specs.Content.{Content};
+ghost use Rattle.drf_tree.specs.Family.{seen};
+ghost use Rattle.drf_tree.specs.Tree.{IsTreeOf};
+
 use crate::family::Family;
 use crate::node::{Place, Sum};
 use crate::tree::Tree;
@@ -6,7 +11,12 @@ use crate::walk::Walk;
 use std::alloc::{AllocError, Global};
 
 impl Tree {
-    pub(crate) fn copy(&self) -> Result<Tree, AllocError> {
+    pub(crate) fn copy(&self) -> Result<Tree, AllocError>
+        ensures tree { IfOk result (λ tree. (content : Content) → IsTreeOf content self.now → IsTreeOf content tree) }
+        ensures places { IfOk result (λ tree. tree.places.items ≡ self.now.places.items) }
+        ensures families { IfOk result (λ tree. map (map seen) tree.families.items ≡ map (map seen) self.now.families.items) }
+        ensures marks { IfOk result (λ tree. tree.marks ≡ self.now.marks) }
+    {
         let alloc = self.alloc();
         Ok(Tree {
             places: copies_of_places(alloc, &self.places)?,
@@ -20,7 +30,9 @@ impl Tree {
 fn copies_of_places(
     alloc: Global,
     places: &[Option<Place>],
-) -> Result<Vec<Option<Place>>, AllocError> {
+) -> Result<Vec<Option<Place>>, AllocError>
+    ensures { IfOk result (λ copies. copies.items ≡ places.now) }
+{
     let mut copies = Vec::with_capacity(alloc, places.len())?;
     for place in places {
         copies.push(copy_of_place(place)?)?;
@@ -28,14 +40,18 @@ fn copies_of_places(
     Ok(copies)
 }
 
-fn copy_of_place(place: &Option<Place>) -> Result<Option<Place>, AllocError> {
+fn copy_of_place(place: &Option<Place>) -> Result<Option<Place>, AllocError>
+    ensures { IfOk result (λ copy. copy ≡ place.now) }
+{
     match place {
         Some(place) => Ok(Some(place.copy()?)),
         None => Ok(None),
     }
 }
 
-fn copies_of_sums(alloc: Global, sums: &[Sum]) -> Result<Vec<Sum>, AllocError> {
+fn copies_of_sums(alloc: Global, sums: &[Sum]) -> Result<Vec<Sum>, AllocError>
+    ensures { IfOk result (λ copies. copies.items ≡ sums.now) }
+{
     let mut copies = Vec::with_capacity(alloc, sums.len())?;
     for sum in sums {
         copies.push(sum.copy()?)?;
@@ -43,7 +59,9 @@ fn copies_of_sums(alloc: Global, sums: &[Sum]) -> Result<Vec<Sum>, AllocError> {
     Ok(copies)
 }
 
-fn copies_of_families(alloc: Global, families: &[Family]) -> Result<Vec<Family>, AllocError> {
+fn copies_of_families(alloc: Global, families: &[Family]) -> Result<Vec<Family>, AllocError>
+    ensures { IfOk result (λ copies. map (map seen) copies.items ≡ map (map seen) families.now) }
+{
     let mut copies = Vec::with_capacity(alloc, families.len())?;
     for family in families {
         copies.push(family.copy()?)?;

@@ -1,4 +1,6 @@
 //! What the tree knows of a node: its place, and its sums.
+ghost use Rattle.std.specs.Prelude.{◌≡◌, ◌-◌, [], IfOk, Some, length, slice_get};
+
 use drf_bundle::Quantities;
 use drf_role::{ClientPath, NodePath};
 use std::alloc::{AllocError, Global};
@@ -15,11 +17,15 @@ pub(crate) struct Place {
 
 impl Place {
     /// The last part of the path.
-    pub(crate) fn name(&self) -> &str {
+    pub(crate) fn name(&self) -> &str
+        ensures { slice_get self.now.path (length self.now.path - 1) ≡ Some result.now }
+    {
         self.path.part(self.path.len() - 1)
     }
 
-    pub(crate) fn copy(&self) -> Result<Place, AllocError> {
+    pub(crate) fn copy(&self) -> Result<Place, AllocError>
+        ensures { IfOk result (λ place. place ≡ self.now) }
+    {
         Ok(Place {
             path: self.path.copy()?,
             parent: self.parent,
@@ -28,7 +34,9 @@ impl Place {
     }
 }
 
-fn copy_of_client(client: &Option<ClientPath>) -> Result<Option<ClientPath>, AllocError> {
+fn copy_of_client(client: &Option<ClientPath>) -> Result<Option<ClientPath>, AllocError>
+    ensures { IfOk result (λ path. path ≡ client.now) }
+{
     match client {
         Some(path) => Ok(Some(path.copy()?)),
         None => Ok(None),
@@ -51,7 +59,9 @@ pub(crate) struct Sum {
 
 impl Sum {
     /// The sum of no clients.
-    pub(crate) fn of_none(alloc: Global, weight: u64) -> Sum {
+    pub(crate) fn of_none(alloc: Global, weight: u64) -> Sum
+        ensures { result ≡ record { held = []; count = 0; clients = 0; active = 0; weight = weight } }
+    {
         Sum {
             held: Quantities::empty(alloc),
             count: 0,
@@ -61,7 +71,9 @@ impl Sum {
         }
     }
 
-    pub(crate) fn copy(&self) -> Result<Sum, AllocError> {
+    pub(crate) fn copy(&self) -> Result<Sum, AllocError>
+        ensures { IfOk result (λ sum. sum ≡ self.now) }
+    {
         Ok(Sum {
             held: self.held.copy()?,
             count: self.count,

@@ -1,11 +1,12 @@
 //! Numbered nodes in parallel lists: their places, their sums, their families and their marks.
-ghost use Rattle.std.specs.Prelude.{◌≡◌, ◌≢◌, ◌≤◌, ◌<◌, ◌+◌, ◌==◌, ◌&&◌, ◌++◌, ◌∷◌, [], ℕ, false, true, IfOk, IfSome, IsSome, List, None, Some, length, map, option_copied, slice_get, slice_set};
+ghost use Rattle.std.specs.Prelude.{◌≡◌, ◌≢◌, ◌≤◌, ◌<◌, ◌+◌, ◌-◌, ◌++◌, ◌∷◌, [], ℕ, false, true, IfOk, IfSome, IsSome, None, OnErr, OnOk, Some, length, map, option_copied, slice_get, slice_set};
 ghost use Rattle.std.specs.List.{list_any};
 ghost use Rattle.drf_bundle.specs.declared.quantities.Entry.{Entry};
 ghost use Rattle.drf_role.specs.Path.{IsClientPath};
 ghost use Rattle.drf_role.specs.Text.{same_text};
 ghost use Rattle.drf_rows.specs.Held.{weight_of};
 ghost use Rattle.drf_sorter.specs.Content.{Content, empty, has_node, with_weight};
+ghost use Rattle.drf_sorter.specs.Keys.{key_by};
 ghost use Rattle.drf_sorter.specs.Work.{debt};
 ghost use Rattle.drf_tree.specs.Changes.{IsOneLonger, IsShapeOf, IsVacant, Stay, is_bare_at};
 ghost use Rattle.drf_tree.specs.Family.{child_name};
@@ -94,8 +95,14 @@ impl Tree {
         self.marks.mark(node);
     }
 
-    /// One more number, that is free. An `Err` may leave longer lists beside the places, which nobody asks.
-    fn push(&mut self) -> Result<(), AllocError> {
+    /// One more number, that is free. An `Err` changes nothing.
+    fn push(&mut self) -> Result<(), AllocError>
+        ensures places { OnOk result (self.new.places.items ≡ self.old.places.items ++ None ∷ []) }
+        ensures families { OnOk result (self.new.families.items ≡ self.old.families.items ++ [] ∷ []) }
+        ensures marks { OnOk result (self.new.marks ≡ record self.old.marks { stale = self.old.marks.stale ++ false ∷ [] }) }
+        ensures sums { OnOk result (length self.new.sums.items ≡ length self.old.sums.items + 1) }
+        ensures err { OnErr result (self.new ≡ self.old) }
+    {
         let alloc = self.alloc();
         self.places.reserve(1)?;
         self.sums.reserve(1)?;
@@ -235,7 +242,11 @@ impl Tree {
 }
 
 /// The first free number but the root's, or that of one more.
-fn free_place(places: &[Option<Place>]) -> usize {
+fn free_place(places: &[Option<Place>]) -> usize
+    requires { 0 < length places.now }
+    ensures within { result ≤ length places.now }
+    ensures free { is_node places.now result ≡ false }
+{
     for node in 1..places.len() {
         if places[node].is_none() {
             return node;
@@ -245,7 +256,9 @@ fn free_place(places: &[Option<Place>]) -> usize {
 }
 
 /// What stands for the key of a node until the next order.
-fn first_key(alloc: Global, path: &NodePath) -> Result<Key, AllocError> {
+fn first_key(alloc: Global, path: &NodePath) -> Result<Key, AllocError>
+    ensures { IfOk result (λ key. slice_get path.now (length path.now - 1) ≡ Some (key_by key).name) }
+{
     let name = String::from_str(alloc, path.part(path.len() - 1))?;
     let nothing = Quantities::empty(alloc);
     Ok(Key::new(&nothing, DEFAULT_WEIGHT, &nothing, 0, name))

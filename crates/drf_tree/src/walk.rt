@@ -114,7 +114,10 @@ impl Walk {
         }
     }
 
-    pub(crate) fn copy(&self) -> Result<Walk, AllocError> {
+    pub(crate) fn copy(&self) -> Result<Walk, AllocError>
+        requires { length self.now.frames.items ≤ 10 }
+        ensures { IfOk result (λ walk. walk.frames.items ≡ self.now.frames.items) }
+    {
         let mut walk = Walk::open(*self.frames.allocator())?;
         for frame in &self.frames {
             walk.frames.push_reserved(*frame);

@@ -6,6 +6,7 @@ use Rattle.drf_bundle.specs.declared.quantities.Entry.{Entry}
 use Rattle.drf_role.specs.Text.{Text}
 use Rattle.drf_role.specs.Path.{Path, begins_with}
 use Rattle.drf_sorter.specs.Content.{Ranked}
+use Rattle.drf_sorter.specs.Keys.{Key}
 use Rattle.drf_tree.specs.declared.node.Place.{Place}
 use Rattle.drf_tree.specs.declared.node.Sum.{Sum}
 use Rattle.drf_tree.specs.declared.tree.Tree.{Tree}
@@ -62,6 +63,13 @@ pub record IsVacant (tree : Tree) (node : ℕ) : Type 0 where
 pub record IsOneLonger (path longer : Path) : Type 0 where
   pub part : Text
   pub joined : longer ≡ path ++ part ∷ []
+
+-- the key of a node of that path with no more than 0 of anything, and no offers
+pub record IsKeyOfNothing (path : Path) (key : Key) : Type 0 where
+  pub whole : 0 < key.share.whole
+  pub part : key.share.part ≡ 0
+  pub count : key.count ≡ 0
+  pub name : slice_get path (length path - 1) ≡ Some key.name
 
 -- a node with neither clients nor children
 abbrev pub is_bare_at : Tree → ℕ → Bool

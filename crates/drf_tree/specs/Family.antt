@@ -1,11 +1,12 @@
 -- Siblings in the order of their keys.
-use Rattle.std.specs.Prelude.{◌≡◌, ℕ, ◌==◌, Bool, true, not, ◌&&◌, List, [], ◌∷◌, ◌++◌, map}
+use Rattle.std.specs.Prelude.{◌≡◌, ◌<◌, ℕ, ◌==◌, Bool, true, not, ◌&&◌, List, [], ◌∷◌, ◌++◌, map}
+use Rattle.std.specs.declared.cmp.Ordering.{Ordering, Equal}
 use Rattle.std.specs.List.{list_all, list_any}
 use Rattle.std.specs.Ordering.{is_lt}
 use Rattle.drf_role.specs.Text.{Text}
 use Rattle.drf_bundle.specs.Quantities.{amount_of}
 use Rattle.drf_bundle.specs.declared.quantities.Entry.{Entry}
-use Rattle.drf_sorter.specs.Fractions.{weigh, dominant_of}
+use Rattle.drf_sorter.specs.Fractions.{fraction_cmp, weigh, dominant_of}
 use Rattle.drf_sorter.specs.Keys.{Key, key_by, key_cmp}
 use Rattle.drf_tree.specs.declared.node.Sum.{Sum}
 use Rattle.drf_tree.specs.declared.family.Child.{Child}
@@ -43,6 +44,13 @@ pub record IsGone (node : ℕ) (old new : List Child) : Type 0 where
   pub child : Child
   pub node_is : child.node ≡ node
   pub gone : IsWith child new old
+
+-- the first key stands where the second does: its share may be another fraction of the same value
+pub record IsSameKey (a b : Key) : Type 0 where
+  pub some : 0 < a.share.whole
+  pub share : fraction_cmp a.share b.share ≡ Equal
+  pub count : a.count ≡ b.count
+  pub name : a.name ≡ b.name
 
 -- the key that belongs to a sum
 abbrev pub key_for : List Entry → Sum → Text → Key

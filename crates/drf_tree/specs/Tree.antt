@@ -11,7 +11,7 @@ use Rattle.drf_tree.specs.declared.node.Place.{Place}
 use Rattle.drf_tree.specs.declared.node.Sum.{Sum}
 use Rattle.drf_tree.specs.declared.family.Child.{Child}
 use Rattle.drf_tree.specs.declared.tree.Tree.{Tree}
-use Rattle.drf_tree.specs.Family.{child_name, has_child}
+use Rattle.drf_tree.specs.Family.{IsSameKey, child_name, has_child}
 use Rattle.drf_tree.specs.Nodes.{place_at, is_live, is_node, path_at, parent_at, client_at, children_at}
 
 -- ---- the shape, whatever the clients
@@ -74,7 +74,7 @@ IsComplete content places families =
 abbrev pub AreRight : Content → List (Option Place) → List (List Child) → List Bool → Type 0
 AreRight content places families stale =
     (i : ℕ) → AllByRecursion (λ c. (slice_index_or stale c.node false ≡ true)
-    ⊎ (key_by c.key ≡ key_of (standing_in content) (path_at places i) (child_name c))) (children_at families i)
+    ⊎ IsSameKey (key_by c.key) (key_of (standing_in content) (path_at places i) (child_name c))) (children_at families i)
 
 -- ---- all of it
 
@@ -90,4 +90,4 @@ pub record IsTreeBut (node : ℕ) (content : Content) (tree : Tree) : Type 0 whe
   pub sums : AreSums content tree.places.items tree.sums.items
   pub complete : IsComplete content tree.places.items tree.families.items
   pub right : (i : ℕ) → AllByRecursion (λ c. (c.node ≡ node) ⊎ ((slice_index_or tree.marks.stale c.node false ≡ true)
-    ⊎ (key_by c.key ≡ key_of (standing_in content) (path_at tree.places.items i) (child_name c)))) (children_at tree.families.items i)
+      ⊎ IsSameKey (key_by c.key) (key_of (standing_in content) (path_at tree.places.items i) (child_name c)))) (children_at tree.families.items i)

@@ -11,7 +11,6 @@ use crate::node::Sum;
 use drf_bundle::Quantities;
 use drf_sorter::Key;
 use std::alloc::{AllocError, Global};
-
 use std::marker::Model;
 
 /// A child of a node, with the key that was last computed for it.

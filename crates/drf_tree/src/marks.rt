@@ -6,7 +6,6 @@ ghost use Rattle.drf_tree.specs.Nodes.{is_live};
 
 use crate::node::Place;
 use std::alloc::{AllocError, Global};
-
 use std::marker::Model;
 
 /// The nodes whose key may be stale, and the number of keys that were computed.
@@ -43,6 +42,14 @@ impl Marks {
         ensures { result ≡ self.now.made }
     {
         self.made
+    }
+
+    /// One more key was computed.
+    pub(crate) fn count(&mut self)
+        ensures stale { self.new.stale ≡ self.old.stale }
+        ensures work { debt (work_of self.new) ≤ debt (work_of self.old) + 1 }
+    {
+        self.made = self.made.saturating_add(1);
     }
 
     /// Whether no key is stale.
@@ -96,7 +103,7 @@ impl Marks {
         }
         self.stale[node] = false;
         self.marked -= 1;
-        self.made = self.made.saturating_add(1);
+        self.count();
         true
     }
 

@@ -8,7 +8,7 @@ ghost use Rattle.drf_rows.specs.Held.{weight_of};
 ghost use Rattle.drf_sorter.specs.Content.{Content, empty, has_node, with_weight};
 ghost use Rattle.drf_sorter.specs.Keys.{key_by};
 ghost use Rattle.drf_sorter.specs.Work.{debt};
-ghost use Rattle.drf_tree.specs.Changes.{IsOneLonger, IsShapeOf, IsVacant, Stay, is_bare_at};
+ghost use Rattle.drf_tree.specs.Changes.{IsKeyOfNothing, IsOneLonger, IsShapeOf, IsVacant, Stay, is_bare_at};
 ghost use Rattle.drf_tree.specs.Family.{child_name};
 ghost use Rattle.drf_tree.specs.Marks.{work_of};
 ghost use Rattle.drf_tree.specs.Nodes.{children_at, is_live, is_node, parent_at, path_at, place_at};
@@ -182,7 +182,7 @@ impl Tree {
         Some(node)
     }
 
-    /// A node without clients, below another. Its key is stale.
+    /// A node without clients, below another, with its key.
     pub(crate) fn sprout(
         &mut self,
         parent: usize,
@@ -202,7 +202,7 @@ impl Tree {
         ensures live { IfOk result (λ node. is_live self.new.places.items node ≡ true) }
         ensures work { debt (work_of self.new.marks) ≤ debt (work_of self.old.marks) + 1 }
     {
-        let key = first_key(self.alloc(), &path)?;
+        let key = self.first_key(&path)?;
         let node = self.vacant()?;
         self.families[parent].insert(Child { key, node })?;
         self.sums[node] = Sum::of_none(self.alloc(), weight);
@@ -211,8 +211,23 @@ impl Tree {
             parent,
             client,
         });
-        self.marks.mark(node);
         Ok(node)
+    }
+
+    /// The key of a node whose clients hold nothing. It is the same whatever the total is, and the weight.
+    fn first_key(&mut self, path: &NodePath) -> Result<Key, AllocError>
+        ensures key { IfOk result (λ key. IsKeyOfNothing path.now (key_by key)) }
+        ensures places { self.new.places ≡ self.old.places }
+        ensures sums { self.new.sums ≡ self.old.sums }
+        ensures families { self.new.families ≡ self.old.families }
+        ensures stale { self.new.marks.stale ≡ self.old.marks.stale }
+        ensures work { debt (work_of self.new.marks) ≤ debt (work_of self.old.marks) + 1 }
+    {
+        let alloc = self.alloc();
+        let name = String::from_str(alloc, path.part(path.len() - 1))?;
+        let nothing = Quantities::empty(alloc);
+        self.marks.count();
+        Ok(Key::new(&nothing, DEFAULT_WEIGHT, &nothing, 0, name))
     }
 
     /// Whether a node has neither clients nor children.
@@ -253,13 +268,4 @@ fn free_place(places: &[Option<Place>]) -> usize
         }
     }
     places.len()
-}
-
-/// What stands for the key of a node until the next order.
-fn first_key(alloc: Global, path: &NodePath) -> Result<Key, AllocError>
-    ensures { IfOk result (λ key. slice_get path.now (length path.now - 1) ≡ Some (key_by key).name) }
-{
-    let name = String::from_str(alloc, path.part(path.len() - 1))?;
-    let nothing = Quantities::empty(alloc);
-    Ok(Key::new(&nothing, DEFAULT_WEIGHT, &nothing, 0, name))
 }

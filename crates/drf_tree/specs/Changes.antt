@@ -54,6 +54,13 @@ lowered quantities offers c =
 abbrev pub Stay : List (Option Place) → List (Option Place) → Type 0
 Stay old new = (i : ℕ) (place : Place) → slice_get old i ≡ Some (Some place) → slice_get new i ≡ Some (Some place)
 
+-- nothing that counts was changed
+pub record IsSameTree (old new : Tree) : Type 0 where
+  pub places : new.places.items ≡ old.places.items
+  pub sums : new.sums.items ≡ old.sums.items
+  pub families : new.families.items ≡ old.families.items
+  pub marks : new.marks ≡ old.marks
+
 -- a number that is no node, and may become one
 pub record IsVacant (tree : Tree) (node : ℕ) : Type 0 where
   pub there : node < length tree.places.items

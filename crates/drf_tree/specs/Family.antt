@@ -1,6 +1,6 @@
 -- Siblings in the order of their keys.
 use Rattle.std.specs.Prelude.{◌≡◌, ◌<◌, ℕ, ◌==◌, Bool, true, not, ◌&&◌, List, [], ◌∷◌, ◌++◌, map}
-use Rattle.std.specs.declared.cmp.Ordering.{Ordering, Equal}
+use Rattle.std.specs.declared.cmp.Ordering.TheVariants.{Equal}
 use Rattle.std.specs.List.{list_all, list_any}
 use Rattle.std.specs.Ordering.{is_lt}
 use Rattle.drf_role.specs.Text.{Text}

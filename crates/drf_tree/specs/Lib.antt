@@ -5,3 +5,4 @@ pub mod Nodes
 pub mod Tree
 pub mod Queue
 pub mod Changes
+pub mod Sorter

@@ -1,5 +1,6 @@
 -- Which keys may be stale, and how many were computed.
-use Rattle.std.specs.Prelude.{ℕ, Bool, List, length, filter}
+use Rattle.std.specs.Prelude.{ℕ, Bool, List}
+use Rattle.std.specs.List.{count_by}
 use Rattle.drf_sorter.specs.Work.{Work}
 
 -- a flag for each number, and the keys that were computed
@@ -9,7 +10,7 @@ pub record Flags : Type 0 where
 
 -- how many numbers are marked
 abbrev pub marked_in : List Bool → ℕ
-marked_in stale = length (filter (λ flag. flag) stale)
+marked_in stale = count_by (λ flag. flag) stale
 
 -- the work of which they tell
 abbrev pub work_of : Flags → Work

@@ -3,15 +3,11 @@ use Rattle.std.specs.Prelude.{◌≡◌, ◌≤◌, ◌<◌, ℕ, zero, suc, Boo
 use Rattle.std.specs.List.{AllByRecursion}
 use Rattle.drf_role.specs.Path.{Path}
 use Rattle.drf_sorter.specs.Content.{Content, active_paths}
-use Rattle.drf_sorter.specs.Plain.{plain_content}
-use Rattle.drf_sorter.specs.Work.{Work}
 use Rattle.drf_tree.specs.declared.node.Place.{Place}
 use Rattle.drf_tree.specs.declared.node.Sum.{Sum}
-use Rattle.drf_tree.specs.declared.family.Child.{Child}
+use Rattle.drf_tree.specs.declared.family.Family.{Family}
 use Rattle.drf_tree.specs.declared.walk.Frame.{Frame}
 use Rattle.drf_tree.specs.declared.tree.Tree.{Tree}
-use Rattle.drf_tree.specs.declared.sorter.TreeSorter.{TreeSorter}
-use Rattle.drf_tree.specs.Marks.{work_of}
 use Rattle.drf_tree.specs.Nodes.{path_at, family_at, client_at, is_node}
 use Rattle.drf_tree.specs.Walk.{walk, own}
 
@@ -28,7 +24,7 @@ abbrev pub most_parts : ℕ
 most_parts = 10
 
 -- the clients that these frames still come to
-unfoldable pub queue_in : Content → List (Option Place) → List (List Child) → List Frame → List Path
+unfoldable pub queue_in : Content → List (Option Place) → List Family → List Frame → List Path
 queue_in content places families frames =
     pending (active_paths content) (path_at places) (family_at families) most_parts frames
 
@@ -43,25 +39,14 @@ pub record AreFrames (places : List (Option Place)) (frames : List Frame) : Type
   pub deep : (k : ℕ) (frame : Frame) → slice_get frames k ≡ Some frame → length (path_at places frame.node) ≡ k
 
 -- a frame stands at a client that is to be served
-pub record IsAtClient (content : Content) (places : List (Option Place)) (families : List (List Child)) (frame : Frame) : Type 0 where
+pub record IsAtClient (content : Content) (places : List (Option Place)) (families : List Family) (frame : Frame) : Type 0 where
   pub node : ℕ
   pub next : slice_get (family_at families frame.node) frame.next ≡ Some node
   pub client : client_at places node ≡ Some (path_at places node)
   pub active : own (active_paths content) (path_at places node) ≡ path_at places node ∷ []
 
 -- the last frame does, if there is any
-abbrev pub IsSettled : Content → List (Option Place) → List (List Child) → List Frame → Type 0
+abbrev pub IsSettled : Content → List (Option Place) → List Family → List Frame → Type 0
 IsSettled content places families [] = Unit
 IsSettled content places families (frame ∷ []) = IsAtClient content places families frame
 IsSettled content places families (frame ∷ other ∷ frames) = IsSettled content places families (other ∷ frames)
-
--- ---- the sorter
-
-abbrev pub tree_content : TreeSorter → Content
-tree_content s = plain_content s.ledger
-
-abbrev pub tree_work : TreeSorter → Work
-tree_work s = work_of s.tree.marks
-
-abbrev pub tree_queue : TreeSorter → List Path
-tree_queue s = frames_queue (tree_content s) s.tree s.walk.frames.items

@@ -1,6 +1,6 @@
 -- That the lists of a tree are those of the clients of a content. Each rule is one field.
 use Rattle.std.specs.Prelude.{◌≡◌, ◌<◌, ℕ, Bool, true, false, List, [], ◌∷◌, ◌++◌, Option, None, Some, ◌⊎◌, length, map, filter, slice_get, slice_index_or}
-use Rattle.std.specs.List.{AllByRecursion, list_any}
+use Rattle.std.specs.List.{AllByRecursion, IsDistinct, list_any}
 use Rattle.drf_bundle.specs.Quantities.{amount_of}
 use Rattle.drf_role.specs.Text.{Text, same_text}
 use Rattle.drf_role.specs.Path.{Path, IsClientPath, IsNodePath, same_path}
@@ -10,6 +10,7 @@ use Rattle.drf_sorter.specs.Keys.{key_by, key_of}
 use Rattle.drf_tree.specs.declared.node.Place.{Place}
 use Rattle.drf_tree.specs.declared.node.Sum.{Sum}
 use Rattle.drf_tree.specs.declared.family.Child.{Child}
+use Rattle.drf_tree.specs.declared.family.Family.{Family}
 use Rattle.drf_tree.specs.declared.tree.Tree.{Tree}
 use Rattle.drf_tree.specs.Family.{IsSameKey, child_name, has_child}
 use Rattle.drf_tree.specs.Nodes.{place_at, is_live, is_node, path_at, parent_at, client_at, children_at}
@@ -22,7 +23,7 @@ pub record IsChildOf (places : List (Option Place)) (node : ℕ) (child : Child)
   pub above : parent_at places child.node ≡ node
   pub path : path_at places child.node ≡ path_at places node ++ child_name child ∷ []
 
-pub record IsShape (places : List (Option Place)) (families : List (List Child)) (stale : List Bool) (sums : List Sum) : Type 0 where
+pub record IsShape (places : List (Option Place)) (families : List Family) (stale : List Bool) (sums : List Sum) : Type 0 where
   -- each number has all that a number has
   pub some : 0 < length places
   pub sums_long : length sums ≡ length places
@@ -34,6 +35,8 @@ pub record IsShape (places : List (Option Place)) (families : List (List Child))
   pub children : (i : ℕ) → AllByRecursion (IsChildOf places i) (children_at families i)
   -- each node stands in the family of the node above it
   pub kept : (i : ℕ) → is_live places i ≡ true → (is_node places (parent_at places i) ≡ true) × (has_child i (children_at families (parent_at places i)) ≡ true)
+  -- it stands there once
+  pub once : (i : ℕ) → IsDistinct same_text (map child_name (children_at families i))
   -- no path is that of two nodes
   pub distinct : (i j : ℕ) → is_live places i ≡ true → is_live places j ≡ true → path_at places i ≡ path_at places j → i ≡ j
   -- a node that is a client is told by its path
@@ -62,7 +65,7 @@ AreSums content places sums =
 -- ---- the ways to the clients
 
 -- the next part of each client's path is a child
-abbrev pub IsComplete : Content → List (Option Place) → List (List Child) → Type 0
+abbrev pub IsComplete : Content → List (Option Place) → List Family → Type 0
 IsComplete content places families =
     (i : ℕ) → is_node places i ≡ true → (part : Text) (below : Path)
     → list_any (same_path (path_at places i ++ part ∷ below)) (map (λ c. c.path) content.clients) ≡ true
@@ -71,7 +74,7 @@ IsComplete content places families =
 -- ---- the keys
 
 -- the key of each child is right, or the child is marked
-abbrev pub AreRight : Content → List (Option Place) → List (List Child) → List Bool → Type 0
+abbrev pub AreRight : Content → List (Option Place) → List Family → List Bool → Type 0
 AreRight content places families stale =
     (i : ℕ) → AllByRecursion (λ c. (slice_index_or stale c.node false ≡ true)
     ⊎ IsSameKey (key_by c.key) (key_of (standing_in content) (path_at places i) (child_name c))) (children_at families i)
@@ -79,6 +82,7 @@ AreRight content places families stale =
 -- ---- all of it
 
 pub record IsTreeOf (content : Content) (tree : Tree) : Type 0 where
+  pub paths : AllByRecursion (λ c. IsClientPath c.path) content.clients
   pub shape : IsShape tree.places.items tree.families.items tree.marks.stale tree.sums.items
   pub sums : AreSums content tree.places.items tree.sums.items
   pub complete : IsComplete content tree.places.items tree.families.items
@@ -86,6 +90,7 @@ pub record IsTreeOf (content : Content) (tree : Tree) : Type 0 where
 
 -- all of it, but for the key of one node, which has no mark
 pub record IsTreeBut (node : ℕ) (content : Content) (tree : Tree) : Type 0 where
+  pub paths : AllByRecursion (λ c. IsClientPath c.path) content.clients
   pub shape : IsShape tree.places.items tree.families.items tree.marks.stale tree.sums.items
   pub sums : AreSums content tree.places.items tree.sums.items
   pub complete : IsComplete content tree.places.items tree.families.items

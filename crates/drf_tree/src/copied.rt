@@ -1,7 +1,7 @@
 //! Copies of the lists of a tree.
 ghost use Rattle.std.specs.Prelude.{◌≡◌, IfOk, map};
 ghost use Rattle.drf_sorter.specs.Content.{Content};
-ghost use Rattle.drf_tree.specs.Family.{seen};
+ghost use Rattle.drf_tree.specs.Nodes.{seen_in};
 ghost use Rattle.drf_tree.specs.Tree.{IsTreeOf};
 
 use crate::family::Family;
@@ -14,7 +14,7 @@ impl Tree {
     pub(crate) fn copy(&self) -> Result<Tree, AllocError>
         ensures tree { IfOk result (λ tree. (content : Content) → IsTreeOf content self.now → IsTreeOf content tree) }
         ensures places { IfOk result (λ tree. tree.places.items ≡ self.now.places.items) }
-        ensures families { IfOk result (λ tree. map (map seen) tree.families.items ≡ map (map seen) self.now.families.items) }
+        ensures families { IfOk result (λ tree. map seen_in tree.families.items ≡ map seen_in self.now.families.items) }
         ensures marks { IfOk result (λ tree. tree.marks ≡ self.now.marks) }
     {
         let alloc = self.alloc();
@@ -60,7 +60,7 @@ fn copies_of_sums(alloc: Global, sums: &[Sum]) -> Result<Vec<Sum>, AllocError>
 }
 
 fn copies_of_families(alloc: Global, families: &[Family]) -> Result<Vec<Family>, AllocError>
-    ensures { IfOk result (λ copies. map (map seen) copies.items ≡ map (map seen) families.now) }
+    ensures { IfOk result (λ copies. map seen_in copies.items ≡ map seen_in families.now) }
 {
     let mut copies = Vec::with_capacity(alloc, families.len())?;
     for family in families {

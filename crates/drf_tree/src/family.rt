@@ -11,7 +11,6 @@ use crate::node::Sum;
 use drf_bundle::Quantities;
 use drf_sorter::Key;
 use std::alloc::{AllocError, Global};
-use std::marker::Model;
 
 /// A child of a node, with the key that was last computed for it.
 #[derive(Debug, Drop)]
@@ -25,25 +24,14 @@ pub(crate) struct Child {
 #[derive(Debug, Drop)]
 pub(crate) struct Family {
     children: Vec<Child>,
-}
-
-impl Model for Family {
-    ghost use Rattle.std.specs.Prelude.{IsTrue, List};
-    ghost use Rattle.drf_tree.specs.declared.family.Child.{Child};
-    ghost use Rattle.drf_tree.specs.Family.{are_sorted};
-
-    ghost Value = { List Child };
-
-    ghost view = { λ f. f.children.items };
-
-    ghost invariant = { λ f. IsTrue (are_sorted f.children.items) };
+    ghost sorted: { IsTrue (are_sorted children.items) },
 }
 
 impl Family {
     ghost use Rattle.drf_tree.specs.Family.{IsWith, IsRenewed, IsGone, has_child, numbers_of};
 
     pub(crate) fn new(alloc: Global) -> Family
-        ensures { result ≡ [] }
+        ensures { result.children.items ≡ [] }
     {
         Family {
             children: Vec::new(alloc),
@@ -51,15 +39,14 @@ impl Family {
     }
 
     pub(crate) fn children(&self) -> &[Child]
-        ensures value { result.now ≡ self.now }
-        ensures sorted { IsTrue (are_sorted self.now) }
+        ensures { result.now ≡ self.now.children.items }
     {
         self.children.as_slice()
     }
 
     /// The number of the child at that place of the order.
     pub(crate) fn child(&self, place: usize) -> Option<usize>
-        ensures { result ≡ slice_get (numbers_of self.now) place }
+        ensures { result ≡ slice_get (numbers_of self.now.children.items) place }
     {
         let child = self.children.get(place)?;
         Some(child.node)
@@ -67,8 +54,8 @@ impl Family {
 
     /// Puts a child where its key belongs. An `Err` changes nothing.
     pub(crate) fn insert(&mut self, child: Child) -> Result<(), AllocError>
-        ensures ok { OnOk result (IsWith child self.old self.new) }
-        ensures err { OnErr result (self.new ≡ self.old) }
+        ensures ok { OnOk result (IsWith child self.old.children.items self.new.children.items) }
+        ensures err { OnErr result (self.new.children.items ≡ self.old.children.items) }
     {
         let place = self.place_for(&child.key);
         Ok(self.children.insert(place, child)?)
@@ -76,20 +63,20 @@ impl Family {
 
     /// Takes a child out.
     pub(crate) fn remove(&mut self, node: usize)
-        requires { has_child node self.old ≡ true }
-        ensures { IsGone node self.old self.new }
+        requires { has_child node self.old.children.items ≡ true }
+        ensures { IsGone node self.old.children.items self.new.children.items }
     {
         let _ = self.take(node);
     }
 
     /// Computes the key of a child from its sum, and puts the child into its place.
     pub(crate) fn renew(&mut self, node: usize, total: &Quantities, sum: &Sum)
-        requires known { has_child node self.old ≡ true }
+        requires known { has_child node self.old.children.items ≡ true }
         requires within { (label : Text) → amount_of sum.now.held label ≤ amount_of total.now label }
         requires fits { (label : Text) → amount_of total.now label < 2 ^ 52 }
         requires weighs { 1 ≤ sum.now.weight }
         requires light { sum.now.weight ≤ 1000000 }
-        ensures { IsRenewed node total.now sum.now self.old self.new }
+        ensures { IsRenewed node total.now sum.now self.old.children.items self.new.children.items }
     {
         let name = self.take(node).key.into_name();
         let key = Key::new(total, sum.weight, &sum.held, sum.count, name);
@@ -100,18 +87,18 @@ impl Family {
 
     /// How many children stand before those that the key stands before.
     fn place_for(&self, key: &Key) -> usize
-        ensures bound { result ≤ length self.now }
-        ensures before { IsTrue (list_all (λ c. is_lt (key_cmp (key_by c.key) (key_by key.now))) (take result self.now)) }
-        ensures after { IsTrue (list_all (λ c. not (is_lt (key_cmp (key_by c.key) (key_by key.now)))) (drop result self.now)) }
+        ensures bound { result ≤ length self.now.children.items }
+        ensures before { IsTrue (list_all (λ c. is_lt (key_cmp (key_by c.key) (key_by key.now))) (take result self.now.children.items)) }
+        ensures after { IsTrue (list_all (λ c. not (is_lt (key_cmp (key_by c.key) (key_by key.now)))) (drop result self.now.children.items)) }
     {
         self.children.partition_point(|other| other.key < *key)
     }
 
     /// Takes a child out. Its room stays.
     fn take(&mut self, node: usize) -> Child
-        requires { has_child node self.old ≡ true }
+        requires { has_child node self.old.children.items ≡ true }
         ensures node { result.node ≡ node }
-        ensures gone { IsWith result self.new self.old }
+        ensures gone { IsWith result self.new.children.items self.old.children.items }
     {
         let place = self
             .children
@@ -122,7 +109,7 @@ impl Family {
     }
 
     pub(crate) fn copy(&self) -> Result<Family, AllocError>
-        ensures { IfOk result (λ f. AreCopies self.now f) }
+        ensures { IfOk result (λ f. AreCopies self.now.children.items f.children.items) }
     {
         let alloc = *self.children.allocator();
         let mut children = Vec::with_capacity(alloc, self.children.len())?;

@@ -24,7 +24,7 @@ pub struct TreeSorter {
 
 impl Sorter for TreeSorter {
     ghost use Rattle.std.specs.Prelude.{true};
-    ghost use Rattle.drf_tree.specs.Queue.{tree_content, tree_queue, tree_work};
+    ghost use Rattle.drf_tree.specs.Sorter.{tree_content, tree_queue, tree_work};
 
     ghost content = { tree_content };
 

@@ -8,7 +8,7 @@ ghost use Rattle.drf_rows.specs.Held.{weight_of};
 ghost use Rattle.drf_sorter.specs.Content.{Content, empty, has_node, with_weight};
 ghost use Rattle.drf_sorter.specs.Keys.{key_by};
 ghost use Rattle.drf_sorter.specs.Work.{debt};
-ghost use Rattle.drf_tree.specs.Changes.{IsKeyOfNothing, IsOneLonger, IsShapeOf, IsVacant, Stay, is_bare_at};
+ghost use Rattle.drf_tree.specs.Changes.{IsKeyOfNothing, IsSameTree, IsOneLonger, IsShapeOf, IsVacant, Stay, is_bare_at};
 ghost use Rattle.drf_tree.specs.Family.{child_name};
 ghost use Rattle.drf_tree.specs.Marks.{work_of};
 ghost use Rattle.drf_tree.specs.Nodes.{children_at, is_live, is_node, parent_at, path_at, place_at};
@@ -98,10 +98,11 @@ impl Tree {
     /// One more number, that is free. An `Err` changes nothing.
     fn push(&mut self) -> Result<(), AllocError>
         ensures places { OnOk result (self.new.places.items ≡ self.old.places.items ++ None ∷ []) }
-        ensures families { OnOk result (self.new.families.items ≡ self.old.families.items ++ [] ∷ []) }
+        ensures families { (i : ℕ) → children_at self.new.families.items i ≡ children_at self.old.families.items i }
+        ensures families_long { OnOk result (length self.new.families.items ≡ length self.old.families.items + 1) }
         ensures marks { OnOk result (self.new.marks ≡ record self.old.marks { stale = self.old.marks.stale ++ false ∷ [] }) }
         ensures sums { OnOk result (length self.new.sums.items ≡ length self.old.sums.items + 1) }
-        ensures err { OnErr result (self.new ≡ self.old) }
+        ensures err { OnErr result (IsSameTree self.old self.new) }
     {
         let alloc = self.alloc();
         self.places.reserve(1)?;

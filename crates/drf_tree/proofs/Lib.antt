@@ -5,3 +5,4 @@ mod WalkLemmas
 pub mod MarkLemmas
 pub mod FamilyLemmas
 pub mod KeyLemmas
+pub mod OrderOfWalk

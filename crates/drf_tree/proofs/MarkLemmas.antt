@@ -1,8 +1,9 @@
 -- Marks that are set and taken back, one at a time.
-use Rattle.std.specs.Prelude.{◌≡◌, ◌≤◌, ◌<◌, ◌+◌, ℕ, Bool, true, false, List, cond, length, slice_index_or, slice_set}
-use Rattle.std.proofs.Common.{sym, ap, ◌∙◌, arith}
+use Rattle.std.specs.Prelude.{◌≡◌, ◌≤◌, ◌<◌, ◌+◌, ℕ, zero, suc, Bool, true, false, List, [], ◌∷◌, cond, length, slice_index_or, slice_set}
+use Rattle.std.proofs.Common.{refl, sym, ap, ◌∙◌, arith}
 use Rattle.std.proofs.lemmas.List.{set-get_or}
 use Rattle.std.proofs.lemmas.List.Sums.{count_by-le-length, sum_by-set}
+use Rattle.drf_rows.specs.ListLaws.{count_by-cons}
 use Rattle.drf_tree.specs.Marks.{marked_in}
 
 pub few_marked : (stale : List Bool) → marked_in stale ≤ length stale
@@ -28,3 +29,13 @@ marked_less stale i below marked =
 pub set_again : (stale : List Bool) (i : ℕ) (flag : Bool) → slice_index_or stale i false ≡ flag
     → slice_set stale i flag ≡ stale
 set_again stale i flag is = ap (slice_set stale i) (sym is) ∙ set-get_or stale i false
+
+-- where none is counted, no flag is up
+pub none_marked : (stale : List Bool) → marked_in stale ≡ 0 → (i : ℕ) → slice_index_or stale i false ≡ false
+none_marked [] none zero = refl
+none_marked [] none (suc i) = refl
+none_marked (true ∷ stale) none zero = absurd (omega (arith, none, count_by-cons (λ (flag : Bool). flag) true stale))
+none_marked (false ∷ stale) none zero = refl
+none_marked (flag ∷ stale) none (suc i) =
+    let fewer : marked_in stale ≡ 0 = omega (arith, none, count_by-cons (λ (f : Bool). f) flag stale) in
+    none_marked stale fewer i

@@ -82,7 +82,7 @@ AreRight content places families stale =
 -- ---- all of it
 
 pub record IsTreeOf (content : Content) (tree : Tree) : Type 0 where
-  pub paths : AllByRecursion (λ c. IsClientPath c.path) content.clients
+  pub paths : AllByRecursion IsClientPath (map (λ c. c.path) content.clients)
   pub shape : IsShape tree.places.items tree.families.items tree.marks.stale tree.sums.items
   pub sums : AreSums content tree.places.items tree.sums.items
   pub complete : IsComplete content tree.places.items tree.families.items
@@ -90,7 +90,7 @@ pub record IsTreeOf (content : Content) (tree : Tree) : Type 0 where
 
 -- all of it, but for the key of one node, which has no mark
 pub record IsTreeBut (node : ℕ) (content : Content) (tree : Tree) : Type 0 where
-  pub paths : AllByRecursion (λ c. IsClientPath c.path) content.clients
+  pub paths : AllByRecursion IsClientPath (map (λ c. c.path) content.clients)
   pub shape : IsShape tree.places.items tree.families.items tree.marks.stale tree.sums.items
   pub sums : AreSums content tree.places.items tree.sums.items
   pub complete : IsComplete content tree.places.items tree.families.items

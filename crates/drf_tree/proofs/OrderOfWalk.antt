@@ -138,7 +138,7 @@ module _ (places : List (Option Place)) (node : ℕ) where
 -- ---- the order
 
 module _ (content : Content) (tree : Tree) (of : IsTreeOf content tree) (clear : marked_in tree.marks.stale ≡ 0)
-    (weighs : Weighs (standing_in content)) (distinct : IsDistinct same_path (paths_in content.clients)) where
+    (weighs : Weighs (standing_in content)) where
   abbrev places : List (Option Place)
   places = tree.places.items
 
@@ -183,5 +183,5 @@ module _ (content : Content) (tree : Tree) (of : IsTreeOf content tree) (clear :
       walk_is_order (is_node places) (path_at places) (λ i. last_part (path_at places i)) (family_at families)
       (standing_in content) (active_paths content) most_parts 0 refl top weighs in_order right_paths
       (each_from IsClientPath (λ p. length p ≤ most_parts) (active_paths content) short right_paths)
-      (distinct_active content.clients distinct) in
+      (distinct_active content.clients of.distinct) in
       record { active = both.0; in_order = both.1 }

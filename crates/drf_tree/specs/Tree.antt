@@ -83,6 +83,7 @@ AreRight content places families stale =
 
 pub record IsTreeOf (content : Content) (tree : Tree) : Type 0 where
   pub paths : AllByRecursion IsClientPath (map (λ c. c.path) content.clients)
+  pub distinct : IsDistinct same_path (map (λ c. c.path) content.clients)
   pub shape : IsShape tree.places.items tree.families.items tree.marks.stale tree.sums.items
   pub sums : AreSums content tree.places.items tree.sums.items
   pub complete : IsComplete content tree.places.items tree.families.items
@@ -91,6 +92,7 @@ pub record IsTreeOf (content : Content) (tree : Tree) : Type 0 where
 -- all of it, but for the key of one node, which has no mark
 pub record IsTreeBut (node : ℕ) (content : Content) (tree : Tree) : Type 0 where
   pub paths : AllByRecursion IsClientPath (map (λ c. c.path) content.clients)
+  pub distinct : IsDistinct same_path (map (λ c. c.path) content.clients)
   pub shape : IsShape tree.places.items tree.families.items tree.marks.stale tree.sums.items
   pub sums : AreSums content tree.places.items tree.sums.items
   pub complete : IsComplete content tree.places.items tree.families.items

@@ -1,5 +1,5 @@
 //! Clients that come and go.
-ghost use Rattle.std.specs.Prelude.{◌≡◌, ◌≢◌, ◌≤◌, ◌+◌, ◌-◌, ◌<◌, ◌^◌, ℕ, Some, IfOk, length, take, true};
+ghost use Rattle.std.specs.Prelude.{◌≡◌, ◌≢◌, ◌≤◌, ◌+◌, ◌-◌, ◌<◌, ◌^◌, ℕ, Some, IfOk, false, length, take, true};
 ghost use Rattle.drf_role.specs.Path.{Path};
 ghost use Rattle.drf_sorter.specs.Content.{Content, activated, has_client, with_change, with_client, without_client};
 ghost use Rattle.drf_sorter.specs.Plain.{plain_content};
@@ -72,7 +72,7 @@ impl Tree {
         requires shape { IsShapeOf self.old }
         requires live { is_live self.old.places.items leaf ≡ true }
         requires fits { OnWay self.old leaf (λ s. (s.clients + 1 < 2 ^ 64) × (s.active + 1 < 2 ^ 64)) }
-        ensures tree { (content : Content) (path : Path) → IsTreeOf content self.old → client_at self.old.places.items leaf ≡ Some path → IsTreeOf (with_client content path) self.new }
+        ensures tree { (content : Content) (path : Path) → IsTreeOf content self.old → client_at self.old.places.items leaf ≡ Some path → has_client content path ≡ false → IsTreeOf (with_client content path) self.new }
         ensures places { self.new.places ≡ self.old.places }
         ensures families { self.new.families ≡ self.old.families }
         ensures marks { self.new.marks ≡ self.old.marks }

@@ -2,7 +2,7 @@
 ghost use Rattle.std.specs.Prelude.{◌≡◌, ◌≢◌, ◌≤◌, ◌<◌, ◌+◌, ◌-◌, ◌++◌, ◌∷◌, [], ℕ, false, true, IfOk, IfSome, IsSome, None, OnErr, OnOk, Some, length, map, option_copied, slice_get, slice_set};
 ghost use Rattle.std.specs.List.{list_any};
 ghost use Rattle.drf_bundle.specs.declared.quantities.Entry.{Entry};
-ghost use Rattle.drf_role.specs.Path.{IsClientPath};
+ghost use Rattle.drf_role.specs.Path.{IsClientPath, IsNodePath};
 ghost use Rattle.drf_role.specs.Text.{same_text};
 ghost use Rattle.drf_rows.specs.Held.{weight_of};
 ghost use Rattle.drf_sorter.specs.Content.{Content, empty, has_node, with_weight};
@@ -194,6 +194,7 @@ impl Tree {
         requires shape { IsShapeOf self.old }
         requires parent { is_node self.old.places.items parent ≡ true }
         requires path { IsOneLonger (path_at self.old.places.items parent) path }
+        requires right { IsNodePath path }
         requires missing { (i : ℕ) → is_live self.old.places.items i ≡ true → path_at self.old.places.items i ≢ path }
         requires client { IsClientPath path → client ≡ Some path }
         requires other { IfSome client (λ c. (c ≡ path) × IsClientPath path) }

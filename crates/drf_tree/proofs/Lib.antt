@@ -6,3 +6,7 @@ pub mod MarkLemmas
 pub mod FamilyLemmas
 pub mod KeyLemmas
 pub mod OrderOfWalk
+pub mod ContentLemmas
+pub mod PathLemmas
+pub mod WayLemmas
+pub mod FitLemmas

@@ -1,7 +1,7 @@
 -- What changes along the nodes of a client.
 use Rattle.std.specs.Prelude.{◌≡◌, ◌≤◌, ◌<◌, ◌+◌, ◌-◌, ◌^◌, ◌==◌, ◌&&◌, ℕ, Bool, true, List, [], ◌∷◌, ◌++◌, Option, None, Some, length, slice_get}
 use Rattle.std.specs.Option.{option_map_or}
-use Rattle.drf_bundle.specs.Quantities.{amount_of, plus}
+use Rattle.drf_bundle.specs.Quantities.{amount_of}
 use Rattle.drf_bundle.specs.declared.quantities.Entry.{Entry}
 use Rattle.drf_role.specs.Text.{Text}
 use Rattle.drf_role.specs.Path.{Path, begins_with}
@@ -42,8 +42,10 @@ pub record IsLowerable (tree : Tree) (leaf : ℕ) (quantities : List Entry) (off
 -- what the nodes on the way would hold with so much more, the upmost first: that of a node of `k + 1` parts at `k`
 pub record AreRaised (tree : Tree) (leaf : ℕ) (quantities : List Entry) (raised : List (List Entry)) : Type 0 where
   pub long : length raised ≡ length (path_at tree.places.items leaf)
-  pub each : (i k : ℕ) (sum : Sum) → is_on_way tree leaf i ≡ true → length (path_at tree.places.items i) ≡ k + 1
-      → slice_get tree.sums.items i ≡ Some sum → slice_get raised k ≡ Some (plus sum.held quantities)
+  pub each : (i k : ℕ) (sum : Sum) (held : List Entry) → is_on_way tree leaf i ≡ true
+      → length (path_at tree.places.items i) ≡ k + 1 → slice_get tree.sums.items i ≡ Some sum
+      → slice_get raised k ≡ Some held
+      → (label : Text) → amount_of held label ≡ amount_of sum.held label + amount_of quantities label
 
 -- a client that gave so much back, with so many offers taken back
 abbrev pub lowered : List Entry → ℕ → Ranked → Ranked

@@ -24,6 +24,8 @@ impl Tree {
         requires room { HasRoomFor self.now leaf quantities.now }
         ensures { IfOk result (λ raised. AreRaised self.now leaf quantities.now raised.items) }
     {
+        // Its labels are in order.
+        let _ = quantities.entries();
         let mut raised = Vec::new(self.alloc());
         let mut node = leaf;
         while node != ROOT {
@@ -62,6 +64,8 @@ impl Tree {
         ensures families { self.new.families ≡ self.old.families }
         ensures work { debt (work_of self.new.marks) ≤ debt (work_of self.old.marks) + length (path_at self.old.places.items leaf) }
     {
+        // Its labels are in order.
+        let _ = quantities.entries();
         let mut node = leaf;
         while node != ROOT {
             let sum = &mut self.sums[node];

@@ -1,5 +1,5 @@
 -- Siblings stay in order when one is put in, or taken out.
-use Rattle.std.specs.Prelude.{◌≡◌, ◌≤◌, ◌<◌, ◌+◌, ℕ, zero, suc, Bool, true, false, not, ◌&&◌, List, [], ◌∷◌, ◌++◌, length, take, drop, slice_index_or}
+use Rattle.std.specs.Prelude.{◌≡◌, ◌≤◌, ◌<◌, ◌+◌, ℕ, zero, suc, Bool, true, false, not, ◌&&◌, cond, List, [], ◌∷◌, ◌++◌, Some, length, take, drop, slice_get, slice_index_or}
 use Rattle.std.specs.declared.cmp.Ordering.{Ordering}
 use Rattle.std.specs.Cmp.{IsTotalOrder, IsStrictWeakOrder, nat_cmp_total}
 use Rattle.std.specs.Cmp.Lexicographic.{nat_list_cmp_total}
@@ -8,6 +8,8 @@ use Rattle.std.specs.List.Sorted.{IsPartitionedBy}
 use Rattle.std.specs.Ordering.{is_lt}
 use Rattle.std.specs.String.{string_bytes}
 use Rattle.std.proofs.Common.{refl, sym, ap, ◌∙◌, inl, inr, arith}
+use Rattle.std.proofs.lemmas.List.{take-append-drop}
+use Rattle.drf_rows.specs.EndingLaws.{split_at}
 use Rattle.std.proofs.lemmas.Bool.{true≢false, cases_Bool, and_from, and_parts, not-true}
 use Rattle.std.proofs.lemmas.Cmp.{then_total, on_total}
 use Rattle.std.proofs.lemmas.List.Sorted.{ranks_by}
@@ -15,15 +17,12 @@ use Rattle.drf_sorter.specs.declared.key.Key as made
 use Rattle.drf_sorter.specs.Keys.{key_by, key_cmp}
 use Rattle.drf_sorter.specs.ShareLaws.{share_total}
 use Rattle.drf_tree.specs.declared.family.Child.{Child}
-use Rattle.drf_tree.specs.Family.{are_sorted, is_not_behind}
+use Rattle.drf_tree.specs.Family.{IsWith, are_sorted, is_before, is_not_behind}
 
 -- ---- the order of keys
 
 abbrev key_order : made.Key → made.Key → Ordering
 key_order a b = key_cmp (key_by a) (key_by b)
-
-abbrev pub is_before : made.Key → made.Key → Bool
-is_before a b = is_lt (key_cmp (key_by a) (key_by b))
 
 key_total : IsTotalOrder key_order
 key_total =
@@ -125,3 +124,45 @@ back_all p [] zero all = refl
 back_all p [] (suc i) all = refl
 back_all p (x ∷ xs) zero all = none_at p (x ∷ xs) all
 back_all p (x ∷ xs) (suc i) all = back_all p xs i (λ k d low high. all (suc k) d (omega (arith, low)) (omega (arith, high)))
+
+-- ---- one child more, or less, where it belongs
+
+module _ (children : List Child) (child : Child) (place : ℕ) where
+  pub with_child : IsWith child children (take place children ++ child ∷ drop place children)
+  with_child = record {
+    before = take place children;
+    after = drop place children;
+    less_is = sym (take-append-drop place children);
+    more_is = refl;
+  }
+
+  pub sorted_insert : are_sorted children ≡ true → list_all (λ c. is_before c.key child.key) (take place children) ≡ true
+      → list_all (λ c. not (is_before c.key child.key)) (drop place children) ≡ true
+      → are_sorted (take place children ++ child ∷ drop place children) ≡ true
+  sorted_insert sorted front back =
+      sorted_with (take place children) (drop place children) child
+      (ap are_sorted (take-append-drop place children) ∙ sorted) front back
+
+  -- whether or not there was memory for it
+  pub sorted_tried : (b : Bool) → are_sorted children ≡ true
+      → list_all (λ c. is_before c.key child.key) (take place children) ≡ true
+      → list_all (λ c. not (is_before c.key child.key)) (drop place children) ≡ true
+      → are_sorted (cond b (take place children ++ child ∷ drop place children) children) ≡ true
+  sorted_tried true sorted front back = sorted_insert sorted front back
+  sorted_tried false sorted front back = sorted
+
+  -- the child stands at that place
+  pub without_child : slice_get children place ≡ Some child
+      → IsWith child (take place children ++ drop (suc place) children) children
+  without_child at = record {
+    before = take place children;
+    after = drop (suc place) children;
+    less_is = refl;
+    more_is = split_at children place child at;
+  }
+
+  pub sorted_remove : slice_get children place ≡ Some child → are_sorted children ≡ true
+      → are_sorted (take place children ++ drop (suc place) children) ≡ true
+  sorted_remove at sorted =
+      sorted_without (take place children) (drop (suc place) children) child
+      (ap are_sorted (sym (split_at children place child at)) ∙ sorted)

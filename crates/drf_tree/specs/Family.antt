@@ -7,6 +7,7 @@ use Rattle.drf_role.specs.Text.{Text}
 use Rattle.drf_bundle.specs.Quantities.{amount_of}
 use Rattle.drf_bundle.specs.declared.quantities.Entry.{Entry}
 use Rattle.drf_sorter.specs.Fractions.{fraction_cmp, weigh, dominant_of}
+use Rattle.drf_sorter.specs.declared.key.Key as made
 use Rattle.drf_sorter.specs.Keys.{Key, key_by, key_cmp}
 use Rattle.drf_tree.specs.declared.node.Sum.{Sum}
 use Rattle.drf_tree.specs.declared.family.Child.{Child}
@@ -15,9 +16,13 @@ use Rattle.drf_tree.specs.declared.family.Child.{Child}
 abbrev pub child_name : Child → Text
 child_name child = (key_by child.key).name
 
+-- the order of keys as they were made
+abbrev pub is_before : made.Key → made.Key → Bool
+is_before a b = is_lt (key_cmp (key_by a) (key_by b))
+
 -- the second child is not ahead of the first
 abbrev pub is_not_behind : Child → Child → Bool
-is_not_behind a b = not (is_lt (key_cmp (key_by b.key) (key_by a.key)))
+is_not_behind a b = not (is_before b.key a.key)
 
 -- none of them is ahead of an earlier one
 abbrev pub are_sorted : List Child → Bool

@@ -1,11 +1,11 @@
 //! The children of a node, in the order of their keys.
-ghost use Rattle.std.specs.Prelude.{◌≡◌, ◌≤◌, ◌<◌, ◌^◌, [], true, not, IfOk, IsTrue, OnOk, OnErr, drop, length, slice_get, take};
-ghost use Rattle.std.specs.List.{list_all};
-ghost use Rattle.std.specs.Ordering.{is_lt};
+ghost use Rattle.std.specs.Prelude.{◌≡◌, ◌==◌, ◌≤◌, ◌<◌, ◌^◌, [], true, not, IfOk, IsTrue, OnOk, OnErr, drop, length, slice_get, take};
+ghost use Rattle.std.specs.List.{list_all, position};
+ghost use Rattle.std.specs.Vec.{vec_capacity, vec_len};
 ghost use Rattle.drf_bundle.specs.Quantities.{amount_of};
 ghost use Rattle.drf_role.specs.Text.{Text};
-ghost use Rattle.drf_sorter.specs.Keys.{key_by, key_cmp};
-ghost use Rattle.drf_tree.specs.Family.{AreCopies, are_sorted};
+ghost use Rattle.drf_sorter.specs.Keys.{key_by};
+ghost use Rattle.drf_tree.specs.Family.{AreCopies, are_sorted, is_before};
 
 use crate::node::Sum;
 use drf_bundle::Quantities;
@@ -57,7 +57,7 @@ impl Family {
         ensures ok { OnOk result (IsWith child self.old.children.items self.new.children.items) }
         ensures err { OnErr result (self.new.children.items ≡ self.old.children.items) }
     {
-        let place = self.place_for(&child.key);
+        let place = place_for(&self.children, &child.key);
         Ok(self.children.insert(place, child)?)
     }
 
@@ -80,18 +80,9 @@ impl Family {
     {
         let name = self.take(node).key.into_name();
         let key = Key::new(total, sum.weight, &sum.held, sum.count, name);
-        let place = self.place_for(&key);
+        let place = place_for(&self.children, &key);
         // The child that was taken out left its room.
         self.children.insert(place, Child { key, node }).unwrap();
-    }
-
-    /// How many children stand before those that the key stands before.
-    fn place_for(&self, key: &Key) -> usize
-        ensures bound { result ≤ length self.now.children.items }
-        ensures before { IsTrue (list_all (λ c. is_lt (key_cmp (key_by c.key) (key_by key.now))) (take result self.now.children.items)) }
-        ensures after { IsTrue (list_all (λ c. not (is_lt (key_cmp (key_by c.key) (key_by key.now)))) (drop result self.now.children.items)) }
-    {
-        self.children.partition_point(|other| other.key < *key)
     }
 
     /// Takes a child out. Its room stays.
@@ -99,12 +90,9 @@ impl Family {
         requires { has_child node self.old.children.items ≡ true }
         ensures node { result.node ≡ node }
         ensures gone { IsWith result self.new.children.items self.old.children.items }
+        ensures room { vec_len self.new.children < vec_capacity self.new.children }
     {
-        let place = self
-            .children
-            .iter()
-            .position(|child| child.node == node)
-            .unwrap();
+        let place = place_of(&self.children, node).unwrap();
         self.children.remove(place)
     }
 
@@ -122,4 +110,21 @@ impl Family {
         }
         Ok(Family { children })
     }
+}
+
+/// How many children stand before the key.
+fn place_for(children: &[Child], key: &Key) -> usize
+    requires { IsTrue (are_sorted children.now) }
+    ensures bound { result ≤ length children.now }
+    ensures before { list_all (λ c. is_before c.key key.now) (take result children.now) ≡ true }
+    ensures after { list_all (λ c. not (is_before c.key key.now)) (drop result children.now) ≡ true }
+{
+    children.partition_point(|other| other.key < *key)
+}
+
+/// Where the child of that number stands.
+fn place_of(children: &[Child], node: usize) -> Option<usize>
+    ensures { result ≡ position (λ c. c.node == node) children.now }
+{
+    children.iter().position(|child| child.node == node)
 }

@@ -68,6 +68,7 @@ impl Marks {
     }
 
     /// The key of a node may be stale.
+    #[tactic(auto, using(crate::proofs::MarkLemmas::marked_once, crate::proofs::MarkLemmas::few_marked, crate::proofs::MarkLemmas::set_again))]
     pub(crate) fn mark(&mut self, node: usize)
         requires { node < length self.old.stale }
         ensures flags { self.new ≡ record self.old { stale = slice_set self.old.stale node true } }
@@ -80,6 +81,7 @@ impl Marks {
     }
 
     /// The key of a node is not asked for any more.
+    #[tactic(auto, using(crate::proofs::MarkLemmas::marked_less, crate::proofs::MarkLemmas::set_again))]
     pub(crate) fn forget(&mut self, node: usize)
         requires { node < length self.old.stale }
         ensures flags { self.new ≡ record self.old { stale = slice_set self.old.stale node false } }
@@ -92,6 +94,7 @@ impl Marks {
     }
 
     /// Whether the key of a node is to be computed, which then counts as done.
+    #[tactic(auto, using(crate::proofs::MarkLemmas::marked_less, crate::proofs::MarkLemmas::set_again))]
     pub(crate) fn take(&mut self, node: usize) -> bool
         requires { node < length self.old.stale }
         ensures marked { result ≡ slice_index_or self.old.stale node false }

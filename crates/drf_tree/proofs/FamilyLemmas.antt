@@ -1,9 +1,10 @@
 -- Siblings stay in order when one is put in, or taken out.
-use Rattle.std.specs.Prelude.{◌≡◌, ◌≤◌, ◌<◌, ◌+◌, ℕ, zero, suc, Bool, true, false, not, ◌&&◌, cond, List, [], ◌∷◌, ◌++◌, Some, length, take, drop, slice_get, slice_index_or}
+use Rattle.std.specs.Prelude.{◌≡◌, ◌≤◌, ◌<◌, ◌+◌, ℕ, zero, suc, Bool, true, false, not, ◌&&◌, cond, List, [], ◌∷◌, ◌++◌, Option, None, Some, ◌==◌, length, take, drop, slice_get, slice_index_or}
 use Rattle.std.specs.declared.cmp.Ordering.{Ordering}
 use Rattle.std.specs.Cmp.{IsTotalOrder, IsStrictWeakOrder, nat_cmp_total}
 use Rattle.std.specs.Cmp.Lexicographic.{nat_list_cmp_total}
-use Rattle.std.specs.List.{AllWithin, list_all}
+use Rattle.std.specs.List.{AllWithin, list_all, position}
+use Rattle.std.specs.Option.{is_some}
 use Rattle.std.specs.List.Sorted.{IsPartitionedBy}
 use Rattle.std.specs.Ordering.{is_lt}
 use Rattle.std.specs.String.{string_bytes}
@@ -15,9 +16,10 @@ use Rattle.std.proofs.lemmas.Cmp.{then_total, on_total}
 use Rattle.std.proofs.lemmas.List.Sorted.{ranks_by}
 use Rattle.drf_sorter.specs.declared.key.Key as made
 use Rattle.drf_sorter.specs.Keys.{key_by, key_cmp}
+use Rattle.drf_sorter.proofs.ChangeLemmas.{position-none}
 use Rattle.drf_sorter.specs.ShareLaws.{share_total}
 use Rattle.drf_tree.specs.declared.family.Child.{Child}
-use Rattle.drf_tree.specs.Family.{IsWith, are_sorted, is_before, is_not_behind}
+use Rattle.drf_tree.specs.Family.{IsWith, are_sorted, has_child, is_before, is_not_behind}
 
 -- ---- the order of keys
 
@@ -166,3 +168,10 @@ module _ (children : List Child) (child : Child) (place : ℕ) where
   sorted_remove at sorted =
       sorted_without (take place children) (drop (suc place) children) child
       (ap are_sorted (sym (split_at children place child at)) ∙ sorted)
+
+-- a child that is there has a place
+pub found_place : (node : ℕ) (children : List Child) → has_child node children ≡ true → (o : Option ℕ)
+    → o ≡ position (λ c. c.node == node) children → is_some o ≡ true
+found_place node children some (Some i) is = refl
+found_place node children some None is =
+    absurd (true≢false (sym some ∙ position-none (λ (c : Child). c.node == node) children is))

@@ -10,3 +10,4 @@ pub mod ContentLemmas
 pub mod PathLemmas
 pub mod WayLemmas
 pub mod FitLemmas
+pub mod SumLemmas

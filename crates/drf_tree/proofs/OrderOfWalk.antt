@@ -25,7 +25,7 @@ use Rattle.drf_tree.specs.Family.{IsSameKey, are_sorted, child_name, numbers_of}
 use Rattle.drf_tree.specs.Marks.{marked_in}
 use Rattle.drf_tree.specs.Nodes.{children_at, family_at, is_live, is_node, last_part, path_at}
 use Rattle.drf_tree.specs.Queue.{most_parts}
-use Rattle.drf_tree.specs.Tree.{IsChildOf, IsTreeOf}
+use Rattle.drf_tree.specs.Tree.{IsChildOf, IsMarkedOrRight, IsTreeOf}
 use Rattle.drf_tree.specs.Walk.{AreFamilies, IsChild, are_ahead, walk}
 use Rattle.drf_tree.proofs.KeyLemmas.{IsRightAt, ordered_names}
 use Rattle.drf_tree.proofs.MarkLemmas.{none_marked}
@@ -150,7 +150,7 @@ module _ (content : Content) (tree : Tree) (of : IsTreeOf content tree) (clear :
 
   rights : (x : ℕ) → AllByRecursion (IsRightAt (standing_in content) (path_at places x)) (children_at families x)
   rights x =
-      each_from _ (IsRightAt (standing_in content) (path_at places x)) (children_at families x)
+      each_from (IsMarkedOrRight content places tree.marks.stale x) (IsRightAt (standing_in content) (path_at places x)) (children_at families x)
       (λ c either. elim either [
         | inl marked ↦ absurd (true≢false (sym marked ∙ none_marked tree.marks.stale clear c.node))
         | inr right ↦ right

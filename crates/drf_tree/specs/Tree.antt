@@ -73,11 +73,18 @@ IsComplete content places families =
 
 -- ---- the keys
 
--- the key of each child is right, or the child is marked
+-- the key of a child is the one that the clients of the content give it
+abbrev pub IsRight : Content → List (Option Place) → ℕ → Child → Type 0
+IsRight content places i c = IsSameKey (key_by c.key) (key_of (standing_in content) (path_at places i) (child_name c))
+
+-- it is, or the child is marked
+abbrev pub IsMarkedOrRight : Content → List (Option Place) → List Bool → ℕ → Child → Type 0
+IsMarkedOrRight content places stale i c = (slice_index_or stale c.node false ≡ true) ⊎ IsRight content places i c
+
+-- it is so for each child
 abbrev pub AreRight : Content → List (Option Place) → List Family → List Bool → Type 0
 AreRight content places families stale =
-    (i : ℕ) → AllByRecursion (λ c. (slice_index_or stale c.node false ≡ true)
-    ⊎ IsSameKey (key_by c.key) (key_of (standing_in content) (path_at places i) (child_name c))) (children_at families i)
+    (i : ℕ) → AllByRecursion (IsMarkedOrRight content places stale i) (children_at families i)
 
 -- ---- all of it
 
@@ -96,5 +103,4 @@ pub record IsTreeBut (node : ℕ) (content : Content) (tree : Tree) : Type 0 whe
   pub shape : IsShape tree.places.items tree.families.items tree.marks.stale tree.sums.items
   pub sums : AreSums content tree.places.items tree.sums.items
   pub complete : IsComplete content tree.places.items tree.families.items
-  pub right : (i : ℕ) → AllByRecursion (λ c. (c.node ≡ node) ⊎ ((slice_index_or tree.marks.stale c.node false ≡ true)
-      ⊎ IsSameKey (key_by c.key) (key_of (standing_in content) (path_at tree.places.items i) (child_name c)))) (children_at tree.families.items i)
+  pub right : (i : ℕ) → AllByRecursion (λ c. (c.node ≡ node) ⊎ IsMarkedOrRight content tree.places.items tree.marks.stale i c) (children_at tree.families.items i)

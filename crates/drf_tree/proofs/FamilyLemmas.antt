@@ -13,7 +13,7 @@ use Rattle.std.proofs.lemmas.List.{take-append-drop}
 use Rattle.drf_rows.specs.EndingLaws.{split_at}
 use Rattle.std.proofs.lemmas.Bool.{true≢false, cases_Bool, and_from, and_parts, not-true}
 use Rattle.std.proofs.lemmas.Cmp.{then_total, on_total}
-use Rattle.std.proofs.lemmas.List.Sorted.{ranks_by}
+use Rattle.std.proofs.lemmas.List.MinMax.{ranks_by}
 use Rattle.drf_sorter.specs.declared.key.Key as made
 use Rattle.drf_sorter.specs.Keys.{key_by, key_cmp}
 use Rattle.drf_sorter.proofs.ChangeLemmas.{position-none}

@@ -1,5 +1,5 @@
 -- What changes along the nodes of a client.
-use Rattle.std.specs.Prelude.{◌≡◌, ◌≤◌, ◌<◌, ◌+◌, ◌-◌, ◌^◌, ◌==◌, ◌&&◌, ℕ, Bool, true, List, [], ◌∷◌, ◌++◌, Option, None, Some, length, slice_get}
+use Rattle.std.specs.Prelude.{◌≡◌, ◌≤◌, ◌<◌, ◌+◌, ◌-◌, ◌^◌, ◌==◌, ◌&&◌, ℕ, Bool, true, false, List, [], ◌∷◌, ◌++◌, Option, None, Some, length, slice_get}
 use Rattle.std.specs.Option.{option_map_or}
 use Rattle.drf_bundle.specs.Quantities.{amount_of}
 use Rattle.drf_bundle.specs.declared.quantities.Entry.{Entry}

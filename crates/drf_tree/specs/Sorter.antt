@@ -4,15 +4,20 @@ use Rattle.drf_role.specs.Path.{Path}
 use Rattle.drf_sorter.specs.Content.{Content}
 use Rattle.drf_sorter.specs.Plain.{plain_content}
 use Rattle.drf_sorter.specs.Work.{Work}
-use Rattle.drf_tree.specs.declared.sorter.TreeSorter.{TreeSorter}
-use Rattle.drf_tree.specs.Marks.{work_of}
-use Rattle.drf_tree.specs.Queue.{frames_queue}
+use Rattle.drf_sorter.specs.declared.plain.PlainSorter.{PlainSorter}
+use Rattle.drf_tree.specs.declared.tree.Tree.{Tree}
+use Rattle.drf_tree.specs.declared.walk.Walk.{Walk}
+use Rattle.drf_tree.specs.Queue.{AreFrames, IsSettled}
+use Rattle.drf_tree.specs.Tree.{IsTreeOf}
 
-abbrev pub tree_content : TreeSorter → Content
-tree_content s = plain_content s.ledger
+-- the clients, those of the last order that are still to be served, and the work that was done
+pub record Sorted : Type 0 where
+  pub content : Content
+  pub queue : List Path
+  pub work : Work
 
-abbrev pub tree_work : TreeSorter → Work
-tree_work s = work_of s.tree.marks
-
-abbrev pub tree_queue : TreeSorter → List Path
-tree_queue s = frames_queue (tree_content s) s.tree s.walk.frames.items
+-- the tree is that of the clients in the ledger, and the walk stands at one that is to be served, if at any
+pub record IsKept (ledger : PlainSorter) (tree : Tree) (walk : Walk) : Type 0 where
+  pub of_ledger : IsTreeOf (plain_content ledger) tree
+  pub frames : AreFrames tree.places.items walk.frames.items
+  pub settled : IsSettled (plain_content ledger) tree.places.items tree.families.items walk.frames.items

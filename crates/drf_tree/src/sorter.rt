@@ -1,14 +1,11 @@
 //! A sorter over a tree of nodes.
-ghost use Rattle.drf_sorter.specs.Plain.{plain_content};
-ghost use Rattle.drf_tree.specs.Queue.{AreFrames, IsSettled};
-ghost use Rattle.drf_tree.specs.Tree.{IsTreeOf};
-
 use crate::tree::Tree;
 use crate::walk::Walk;
 use drf_bundle::Quantities;
 use drf_role::{ClientPath, NodePath, Role};
 use drf_sorter::{DEFAULT_WEIGHT, PlainSorter, Share, Sorter};
 use std::alloc::{AllocError, Global};
+use std::marker::Model;
 
 /// A sorter that keeps its clients in a list, and their order in a tree, where a change costs one key for each node on
 /// the way to the client.
@@ -17,20 +14,33 @@ pub struct TreeSorter {
     ledger: PlainSorter,
     tree: Tree,
     walk: Walk,
-    ghost of_ledger: { IsTreeOf (plain_content ledger) tree },
-    ghost frames: { AreFrames tree.places.items walk.frames.items },
-    ghost settled: { IsSettled (plain_content ledger) tree.places.items tree.families.items walk.frames.items },
+}
+
+impl Model for TreeSorter {
+    ghost use Rattle.drf_sorter.specs.Plain.{plain_content};
+    ghost use Rattle.drf_tree.specs.Marks.{work_of};
+    ghost use Rattle.drf_tree.specs.Queue.{frames_queue};
+    ghost use Rattle.drf_tree.specs.Sorter.{IsKept, Sorted};
+
+    ghost Value = { Sorted };
+
+    ghost view = { λ s. record {
+      content = plain_content s.ledger;
+      queue = frames_queue (plain_content s.ledger) s.tree s.walk.frames.items;
+      work = work_of s.tree.marks;
+    } };
+
+    ghost invariant = { λ s. IsKept s.ledger s.tree s.walk };
 }
 
 impl Sorter for TreeSorter {
     ghost use Rattle.std.specs.Prelude.{true};
-    ghost use Rattle.drf_tree.specs.Sorter.{tree_content, tree_queue, tree_work};
 
-    ghost content = { tree_content };
+    ghost content = { λ s. s.content };
 
-    ghost queue = { tree_queue };
+    ghost queue = { λ s. s.queue };
 
-    ghost work = { tree_work };
+    ghost work = { λ s. s.work };
 
     ghost COUNTED = { true };
 

@@ -1,5 +1,5 @@
 //! Numbered nodes in parallel lists: their places, their sums, their families and their marks.
-ghost use Rattle.std.specs.Prelude.{◌≡◌, ◌≢◌, ◌≤◌, ◌<◌, ◌+◌, ◌-◌, ◌++◌, ◌∷◌, [], ℕ, false, true, IfOk, IfSome, IsSome, None, OnErr, OnOk, Some, length, map, option_copied, slice_get, slice_set};
+ghost use Rattle.std.specs.Prelude.{◌≡◌, ◌≢◌, ◌≤◌, ◌<◌, ◌+◌, ◌-◌, ◌++◌, ◌∷◌, [], ℕ, false, true, IfOk, IfSome, IsSome, List, None, OnErr, OnOk, Some, length, map, option_copied, slice_get, slice_set};
 ghost use Rattle.std.specs.List.{list_any};
 ghost use Rattle.drf_bundle.specs.declared.quantities.Entry.{Entry};
 ghost use Rattle.drf_role.specs.Path.{IsClientPath, IsNodePath};

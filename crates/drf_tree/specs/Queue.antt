@@ -47,6 +47,6 @@ pub record IsAtClient (content : Content) (places : List (Option Place)) (famili
 
 -- the last frame does, if there is any
 abbrev pub IsSettled : Content → List (Option Place) → List Family → List Frame → Type 0
-IsSettled content places families [] = Unit
+IsSettled content places families [] = Unit {0}
 IsSettled content places families (frame ∷ []) = IsAtClient content places families frame
 IsSettled content places families (frame ∷ other ∷ frames) = IsSettled content places families (other ∷ frames)

@@ -20,7 +20,7 @@ pub use laws::{
     taking_part_example, turn_law, weights_example,
 };
 pub use limits::{LARGEST_AMOUNT, LATEST_MOMENT, LONGEST_REFUSAL, Limits};
-pub use quota_laws::limits_law;
+pub use quota_laws::{consumption_law, limits_law};
 pub use reply::{OfferLine, Refusal, Reply};
 pub use report::{NodeLine, Report};
 pub use rows::{

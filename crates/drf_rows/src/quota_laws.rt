@@ -1,9 +1,17 @@
 //! Laws of quota limits. The functions do nothing: what they promise is proved of the definitions alone.
-ghost use Rattle.drf_rows.specs.QuotaLaws.{GrantKeepsLimits, SpentLimitLeavesNothing};
+ghost use Rattle.drf_rows.specs.QuotaLaws.{GrantKeepsLimits, SpentLimitLeavesNothing, ConsumptionIsPartOfTotal, MovedIsReserved, MovedBackIsAsBefore};
 
 /// An offer of what a client may have of a bundle takes neither its role nor a role above it over a limit. A limit that is at
 /// most the consumption leaves nothing.
 pub fn limits_law()
     ensures kept { GrantKeepsLimits }
     ensures spent { SpentLimitLeavesNothing }
+{}
+
+/// Roles consume no more than there is. What is moved from everyone to a role is consumed by that role and the roles above it,
+/// as much as there was, and moved back it is as before.
+pub fn consumption_law()
+    ensures total { ConsumptionIsPartOfTotal }
+    ensures moved { MovedIsReserved }
+    ensures back { MovedBackIsAsBefore }
 {}

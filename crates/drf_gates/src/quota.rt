@@ -8,9 +8,9 @@ ghost use Rattle.drf_role.specs.Role.{IsRole};
 ghost use Rattle.drf_bundle.specs.Quantities.{amount_of, names_of};
 ghost use Rattle.drf_rows.specs.Quota.{is_within, binds, headroom_under, headrooms, stays_within, admits_under, limit_of, limits_with, consumption, headroom_at, headroom, admits};
 ghost use Rattle.drf_rows.specs.declared.rows.Rows.{Rows};
-ghost use Rattle.drf_gates.specs.Quota.{IsAllowanceOf, IsRaised, limit_row, lesser, used_at, used_by, with_headroom};
+ghost use Rattle.drf_gates.specs.Quota.{IsAllowanceOf, IsRaised, IsSame, limit_row, lesser, used_at, used_by, with_headroom};
 
-use crate::usage::{is_within, lower, raise, used_at};
+use crate::usage::{copy_used, is_within, lower, raise, used_at};
 use drf_bundle::{Entry, Quantities};
 use drf_role::Role;
 use drf_rows::{LimitRow, Table};
@@ -53,6 +53,23 @@ fn lesser(known: Option<u64>, number: u64) -> u64
         None => number,
         Some(other) => other.min(number),
     }
+}
+
+/// The limits, copied in their order.
+fn copy_limits(
+    limits: &IndexMap<Role, Quantities>,
+) -> Result<IndexMap<Role, Quantities>, AllocError>
+    ensures { IfOk result (λ copy. copy.entries ≡ limits.now.entries) }
+{
+    // The proof learns that no role has two limits by this call alone.
+    let _ = limits.len();
+    let mut copy = IndexMap::new(*limits.allocator());
+    for (role, limit) in limits {
+        let role = role.copy()?;
+        let limit = limit.copy()?;
+        copy.insert(role, limit)?;
+    }
+    Ok(copy)
 }
 
 impl Quota {
@@ -230,5 +247,14 @@ impl Quota {
         ensures { IsRaised self.new self.old role.now amounts.now }
     {
         lower(&mut self.used, role, amounts);
+    }
+
+    /// The same limits, and the same consumption.
+    pub fn copy(&self) -> Result<Quota, AllocError>
+        ensures { IfOk result (IsSame self.now) }
+    {
+        let limits = copy_limits(&self.limits)?;
+        let used = copy_used(&self.used)?;
+        Ok(Quota { limits, used })
     }
 }

@@ -35,6 +35,7 @@ pub mod ReportExamples
 pub mod LifeExamples
 pub mod FilterExamples
 pub mod QuotaLaws
+pub mod QuotaExamples
 pub mod Laws
 pub mod LifeLaws
 pub mod EndedLaws

@@ -20,7 +20,10 @@ pub use laws::{
     taking_part_example, turn_law, weights_example,
 };
 pub use limits::{LARGEST_AMOUNT, LATEST_MOMENT, LONGEST_REFUSAL, Limits};
-pub use quota_laws::{consumption_law, limits_law};
+pub use quota_laws::{
+    consumption_law, limit_above_example, limit_example, limit_rows_example, limits_law,
+    reserved_example,
+};
 pub use reply::{OfferLine, Refusal, Reply};
 pub use report::{NodeLine, Report};
 pub use rows::{

@@ -85,32 +85,35 @@ fn lines_are_told(alloc: Global, journal: &[u8]) -> Result<bool> {
     Ok(true)
 }
 
-/// With a byte of a reply changed a journal is wrong at that line. The line feed of the last one may be missing.
-fn bytes_are_told(alloc: Global, journal: &[u8]) -> Result<bool> {
+/// The journal with its byte at `place` changed.
+fn with_other_byte(alloc: Global, journal: &[u8], place: usize) -> Result<Vec<u8>, AllocError> {
     let mut text = Vec::new(alloc);
-    text.extend_from_slice(journal)?;
+    for (i, byte) in journal.iter().enumerate() {
+        let change = if i == place { 1u8 } else { 0 };
+        text.push(*byte ^ change)?;
+    }
+    Ok(text)
+}
+
+/// With a byte of a reply changed, be it the line feed, a journal is wrong at that line.
+fn bytes_are_told(alloc: Global, journal: &[u8]) -> Result<bool> {
     for i in 0..journal.len() {
-        let place = line_feeds(&journal[..i]);
-        if place % 2 == 0 {
-            continue;
-        }
-        text[i] ^= 1;
-        if !is_told(alloc, &text, wrong_at(place)) {
+        let line = line_feeds(&journal[..i]);
+        let changed = with_other_byte(alloc, journal, i)?;
+        if line % 2 == 1 && !is_told(alloc, &changed, wrong_at(line)) {
             return Ok(false);
         }
-        text[i] ^= 1;
     }
     Ok(true)
 }
 
-/// Cut before its last bytes, up to the end of the last event line, a journal lacks its last reply, but for the last line
-/// feed alone.
+/// The front of a journal is right up to the end of a reply, with its line feed or without, and else it lacks its last reply.
 fn cuts_are_told(alloc: Global, journal: &[u8]) -> bool {
     (0..journal.len()).all(|end| {
-        let front = &journal[..end];
+        let front = &journal[..end.min(journal.len())];
         let place = line_feeds(front);
         let is_open = front.last().is_some_and(|byte| *byte != b'\n');
-        let is_whole = journal[end] == b'\n' && place % 2 == 1;
+        let is_whole = journal.get(end) == Some(&b'\n') && place % 2 == 1;
         let verdict = if place % 2 == 0 && !is_open || is_whole {
             Verdict::Good(place.div_ceil(2) as u64)
         } else {

@@ -38,8 +38,9 @@ impl Read for Slow<'_> {
             return Err(io::Error::from(ErrorKind::Interrupted));
         }
         self.calls -= 1;
-        let line = self.rest.iter().position(|byte| *byte == b'\n');
-        let line = line.map_or(self.rest.len(), |end| end.saturating_add(1));
+        let window = &self.rest[..self.most.min(self.rest.len())];
+        let line = window.iter().position(|byte| *byte == b'\n');
+        let line = line.map_or(window.len(), |end| end.saturating_add(1));
         let count = self.most.min(line).min(self.rest.len()).min(buf.len());
         buf[..count].copy_from_slice(&self.rest[..count]);
         self.rest = &self.rest[count..];

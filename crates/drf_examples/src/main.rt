@@ -1,11 +1,8 @@
 //! Runs the worked examples of `data/`, and one of them over streams that are slow or fail, and tells of each whether
-//! what was written is, byte for byte, what it must be. So does it of events that are read and written again, of journals
-//! whether the verdict on them is right, and of commands.
+//! what was written is, byte for byte, what it must be. So does it of events that are read and written again.
 #![tactic(auto)]
 
-mod commands;
 mod events;
-mod journals;
 mod lines;
 mod rows;
 mod streams;
@@ -15,8 +12,6 @@ use anyhow::Result;
 fn main(rt: HostRuntime) -> Result<()> {
     rows::run_all(&rt)?;
     streams::run_all(&rt)?;
-    journals::run_all(&rt)?;
     events::run_all(&rt)?;
-    lines::run_all(&rt)?;
-    commands::run_all(&rt)
+    lines::run_all(&rt)
 }

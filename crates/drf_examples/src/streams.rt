@@ -15,20 +15,10 @@ const EXAMPLE: &str = "three_agents";
 /// Gives at most some bytes a call and never more than a line. Once its calls are used up it is interrupted, and would go on
 /// if it were asked again.
 #[derive(Drop)]
-pub struct Slow<'a> {
+struct Slow<'a> {
     rest: &'a [u8],
     most: usize,
     calls: usize,
-}
-
-impl<'a> Slow<'a> {
-    pub fn new(input: &'a [u8], bounds: Bounds) -> Slow<'a> {
-        Slow {
-            rest: input,
-            most: bounds.bytes,
-            calls: bounds.reads,
-        }
-    }
 }
 
 impl Read for Slow<'_> {
@@ -38,9 +28,8 @@ impl Read for Slow<'_> {
             return Err(io::Error::from(ErrorKind::Interrupted));
         }
         self.calls -= 1;
-        let window = &self.rest[..self.most.min(self.rest.len())];
-        let line = window.iter().position(|byte| *byte == b'\n');
-        let line = line.map_or(window.len(), |end| end.saturating_add(1));
+        let line = self.rest.iter().position(|byte| *byte == b'\n');
+        let line = line.map_or(self.rest.len(), |end| end.saturating_add(1));
         let count = self.most.min(line).min(self.rest.len()).min(buf.len());
         buf[..count].copy_from_slice(&self.rest[..count]);
         self.rest = &self.rest[count..];
@@ -81,13 +70,13 @@ impl Write for Full {
 
 /// How many bytes a read gives at most, and how many reads and how many writes and flushes come before one fails.
 #[derive(Clone, Copy, Drop)]
-pub struct Bounds {
-    pub bytes: usize,
-    pub reads: usize,
-    pub writes: usize,
+struct Bounds {
+    bytes: usize,
+    reads: usize,
+    writes: usize,
 }
 
-pub const NO_BOUNDS: Bounds = Bounds {
+const NO_BOUNDS: Bounds = Bounds {
     bytes: usize::MAX,
     reads: usize::MAX,
     writes: usize::MAX,
@@ -101,7 +90,11 @@ struct Ended {
 }
 
 fn run_within(alloc: Global, input: &[u8], bounds: Bounds) -> Ended {
-    let mut reader = Device::new(Slow::new(input, bounds));
+    let mut reader = Device::new(Slow {
+        rest: input,
+        most: bounds.bytes,
+        calls: bounds.reads,
+    });
     let mut writer = Device::new(Full {
         taken: Vec::new(alloc),
         calls: bounds.writes,
@@ -207,7 +200,11 @@ impl Write for Counting<'_> {
 fn answers_at_once(alloc: Global, input: &[u8]) -> Result<bool> {
     let flushed = Cell::new(0);
     let mut reader = Device::new(Asking {
-        slow: Slow::new(input, NO_BOUNDS),
+        slow: Slow {
+            rest: input,
+            most: usize::MAX,
+            calls: usize::MAX,
+        },
         given: 0,
         flushed: &flushed,
         is_late: false,

@@ -12,7 +12,7 @@ import tempfile
 from churn import churn, line
 
 ROOT = os.path.dirname(os.path.dirname(os.path.realpath(__file__)))
-PROGRAM = f"{ROOT}/crates/drf_app/out/drf_app"
+PROGRAM = f"{ROOT}/crates/drf/out/drf"
 SHORTER = int(sys.argv[1]) if len(sys.argv) > 1 else 1
 AGENTS, FRAMEWORKS = 4096 // SHORTER, 1024 // SHORTER
 

@@ -1,1 +1,3 @@
-pub mod Status
+pub mod Line
+pub mod Told
+pub mod Done

@@ -1,5 +1,5 @@
 -- What the tables and the sorter stand at once an offer is accepted or declined.
-use Rattle.std.proofs.Common.{◌≡◌, ℕ, ◌≤◌, Bool, true, false, List, [], ◌∷◌, ◌++◌, Option, Some, None, refl, sym, ap, subst, ◌∙◌, arith, nat_lt}
+use Rattle.std.proofs.Common.{◌≡◌, ℕ, ◌≤◌, Bool, true, false, List, [], ◌∷◌, ◌++◌, Option, Some, None, map, refl, sym, ap, subst, ◌∙◌, arith, nat_lt}
 use Rattle.std.specs.Prelude.{◌&&◌, is_some, max, not, if◌then◌else◌}
 use Rattle.std.specs.Option.{option_map_or}
 use Rattle.std.proofs.lemmas.Bool.{not-false}
@@ -7,8 +7,8 @@ use Rattle.std.proofs.lemmas.List.{append-nil}
 use Rattle.drf_role.specs.Text.{Text, same_text}
 use Rattle.drf_role.specs.TextLaws.{same_from_test}
 use Rattle.drf_role.specs.Path.{Path, client_path}
-use Rattle.drf_bundle.specs.Bundle.{IsBundle, covers, rest, quantities_of}
-use Rattle.drf_bundle.specs.RestLaws.{bundle-rest}
+use Rattle.drf_bundle.specs.Bundle.{IsBundle, quantities_of}
+use Rattle.drf_bundle.specs.Taken.{bundle-rest_of_all}
 use Rattle.drf_bundle.specs.declared.quantities.Entry.{Entry}
 use Rattle.drf_bundle.specs.declared.resource.Resource.{Resource}
 use Rattle.drf_rows.specs.Consistent.{IsFilter, IsConsistent}
@@ -16,8 +16,12 @@ use Rattle.drf_rows.specs.Cycle.{at_moment}
 use Rattle.drf_rows.specs.EndingLaws.{offer_at-place, held-offer_at, held_where-accepted}
 use Rattle.drf_rows.specs.Endings.{without_ended, one_offer}
 use Rattle.drf_rows.specs.Holdings.{is_of}
-use Rattle.drf_rows.specs.Offers.{Start, offer_accepted, offer_declined, filter_of, filters_with, has_offer, has_task, is_empty, offer_at, refused_until, refuses_all, task_of}
+use Rattle.drf_rows.specs.Offers.{CanStart, offer_accepted, offer_declined, filter_of, filters_with, has_offer, is_task_known, left_of_offer, offer_at, refused_until, refuses_all, refuses_rest, task_of}
 use Rattle.drf_rows.specs.Step.{effect}
+use Rattle.drf_rows.specs.TaskLaws.{HasAll, units-covers_all}
+use Rattle.drf_rows.specs.Tasks.{Start, uses, covers_all, IsTaskList}
+use Rattle.drf_rows.specs.declared.event.Accept as accepting
+use Rattle.drf_rows.specs.declared.event.Decline as declining
 use Rattle.drf_rows.specs.declared.event.Event.TheVariants.{Accept, Decline}
 use Rattle.drf_rows.specs.declared.limits.TheConstants.{LATEST_MOMENT}
 use Rattle.drf_rows.specs.declared.rows.FilterRow.{FilterRow}
@@ -25,7 +29,7 @@ use Rattle.drf_rows.specs.declared.rows.OfferRow.{OfferRow}
 use Rattle.drf_rows.specs.declared.rows.Rows.{Rows}
 use Rattle.drf_sorter.specs.Content.{Content, has_client, with_change, refunded, HoldsAt}
 use Rattle.drf_tables.specs.Ended.{CanAccept, with_accepted}
-use Rattle.drf_core.specs.Accepting.{CanStart, filter_if}
+use Rattle.drf_core.specs.Accepting.{IsEnough, filter_if}
 use Rattle.drf_core.specs.Content.{content_of}
 use Rattle.drf_core.specs.Kept.{StandAt}
 use Rattle.drf_core.proofs.ContentEnded.{GaveBack, content_of-gave_back, HoldsAt-gave_back}
@@ -68,46 +72,45 @@ moment_early rows at moment right late same =
 
 -- ---- it is accepted
 
--- an offer that may be accepted can be
-pub can_start : (rows : Rows) (framework : Text) (number : ℕ) (task : Text) (used : List Resource) (at : ℕ)
-    → IsWelcomeAccept rows framework number task used at → CanStart rows number (task, used)
-can_start rows framework number task used at welcome =
-    let one = some_offer rows number welcome.stands in
-    let its_own : not (same_text one.offer.framework framework) ≡ false
-    = sym (ap (λ (o : Option OfferRow). option_map_or (λ o. not (same_text o.framework framework)) o false) one.at) ∙ welcome.its_own in
-    let framework_is = same_from_test one.offer.framework framework (not-false (same_text one.offer.framework framework) its_own) in
+-- an offer that may be accepted is enough
+pub enough_of : (rows : Rows) (a : accepting.Accept) → IsWelcomeAccept rows a → IsEnough rows a.offer a.tasks
+enough_of rows a welcome =
+    let one = some_offer rows a.offer welcome.stands in
+    let its_own : not (same_text one.offer.framework a.framework) ≡ false
+    = sym (ap (λ (o : Option OfferRow). option_map_or (λ o. not (same_text o.framework a.framework)) o false) one.at) ∙ welcome.its_own in
+    let framework_is = same_from_test one.offer.framework a.framework (not-false (same_text one.offer.framework a.framework) its_own) in
     record {
       offer = one.offer;
       at = one.at;
-      covered = not-false (covers one.offer.bundle used)
-          (sym (ap (λ (o : Option OfferRow). option_map_or (λ o. not (covers o.bundle used)) o false) one.at) ∙ welcome.covered);
-      new = ap (λ (f : Text). has_task rows f task) framework_is ∙ welcome.new;
+      covered = not-false (covers_all one.offer.bundle (uses a.tasks))
+          (sym (ap (λ (o : Option OfferRow). option_map_or (λ o. not (covers_all o.bundle (uses a.tasks))) o false) one.at) ∙ welcome.covered);
+      new = ap (λ (f : Text). is_task_known rows f a.tasks) framework_is ∙ welcome.new;
     }
 
-pub covered_at : (rows : Rows) (number : ℕ) (start : Start) (o : OfferRow) → CanStart rows number start → offer_at rows number ≡ Some o
-    → covers o.bundle start.1 ≡ true
-covered_at rows number start o can found =
-    subst (λ (p : OfferRow). covers p.bundle start.1 ≡ true) (same_offer rows number can.offer o can.at found) can.covered
+pub can_start : (rows : Rows) (number : ℕ) (starts : List Start) (o : OfferRow) → IsEnough rows number starts → IsTaskList starts
+    → offer_at rows number ≡ Some o → CanStart rows o starts
+can_start rows number starts o enough list found =
+    subst (λ (p : OfferRow). CanStart rows p starts) (same_offer rows number enough.offer o enough.at found)
+    (record { bundles = list.bundles; covered = enough.covered; new = enough.new })
 
 -- the filter, if there is to be one, is that
 the_filter : (b : Bool) (filter f : FilterRow) → filter_if b filter ≡ Some f → filter ≡ f
 the_filter true filter f same = cc
 the_filter false filter f same = cc
 
-pub can_accept : (rows : Rows) (number : ℕ) (start : Start) (o : OfferRow) (filter : Option FilterRow) (b : Bool) (moment refuse_ms : ℕ)
-    → IsConsistent rows → CanStart rows number start → offer_at rows number ≡ Some o → moment ≤ LATEST_MOMENT
-    → filter ≡ filter_if b (filter_of o (rest o.bundle start.1) (refused_until moment refuse_ms))
-    → CanAccept rows number start filter
-can_accept rows number start o filter b moment refuse_ms right can found early told = record {
-  offer = can.offer;
-  at = can.at;
-  covered = can.covered;
-  new = can.new;
+pub can_accept : (rows : Rows) (number : ℕ) (starts : List Start) (o : OfferRow) (filter : Option FilterRow) (b : Bool) (moment refuse_ms : ℕ)
+    → IsConsistent rows → CanStart rows o starts → offer_at rows number ≡ Some o → moment ≤ LATEST_MOMENT
+    → filter ≡ filter_if b (filter_of o (left_of_offer o starts) (refused_until moment refuse_ms))
+    → CanAccept rows number starts filter
+can_accept rows number starts o filter b moment refuse_ms right can found early told = record {
+  offer = o;
+  at = found;
+  can = can;
   filter = λ f some.
       subst (IsFilter rows.agents rows.frameworks)
-      (the_filter b (filter_of o (rest o.bundle start.1) (refused_until moment refuse_ms)) f (sym told ∙ some))
-      (offer_filter rows number o (rest o.bundle start.1) moment refuse_ms right found
-      (bundle-rest o.bundle start.1 (held-offer_at rows number o right found).bundle) early);
+      (the_filter b (filter_of o (left_of_offer o starts) (refused_until moment refuse_ms)) f (sym told ∙ some))
+      (offer_filter rows number o (left_of_offer o starts) moment refuse_ms right found
+      (bundle-rest_of_all o.bundle (uses starts) (held-offer_at rows number o right found).bundle) early);
 }
 
 push_if : (b : Bool) (filters : List FilterRow) (f : FilterRow)
@@ -116,38 +119,41 @@ push_if true filters f = refl
 push_if false filters f = append-nil filters
 
 -- what the tables then hold
-pub rows_accepted : (rows tables : Rows) (o : OfferRow) (start : Start) (filter : Option FilterRow) (at moment refuse_ms : ℕ)
+pub rows_accepted : (rows tables : Rows) (o : OfferRow) (starts : List Start) (filter : Option FilterRow) (at moment refuse_ms : ℕ)
     → moment ≡ max rows.clock at
-    → filter ≡ filter_if (nat_lt 0 refuse_ms && not (is_empty (rest o.bundle start.1))) (filter_of o (rest o.bundle start.1) (refused_until moment refuse_ms))
-    → tables ≡ record (with_accepted rows o start filter) { clock = moment }
-    → tables ≡ offer_accepted (at_moment rows at) o (start ∷ []) refuse_ms
-rows_accepted rows tables o start filter at moment refuse_ms later told same =
-    let b : Bool = nat_lt 0 refuse_ms && not (is_empty (rest o.bundle start.1)) in
-    let f : FilterRow = filter_of o (rest o.bundle start.1) (refused_until moment refuse_ms) in
+    → filter ≡ filter_if (refuses_rest o starts refuse_ms) (filter_of o (left_of_offer o starts) (refused_until moment refuse_ms))
+    → tables ≡ record (with_accepted rows o starts filter) { clock = moment }
+    → tables ≡ offer_accepted (at_moment rows at) o starts refuse_ms
+rows_accepted rows tables o starts filter at moment refuse_ms later told same =
+    let b : Bool = refuses_rest o starts refuse_ms in
+    let f : FilterRow = filter_of o (left_of_offer o starts) (refused_until moment refuse_ms) in
     let filters : rows.filters ++ option_map_or (λ f. f ∷ []) filter [] ≡ (if b then rows.filters ++ f ∷ [] else rows.filters)
     = ap (λ (o : Option FilterRow). rows.filters ++ option_map_or (λ f. f ∷ []) o []) told ∙ push_if b rows.filters f in
-    let filters_now : (if b then rows.filters ++ f ∷ [] else rows.filters) ≡ filters_with (at_moment rows at) b o (rest o.bundle start.1) refuse_ms
-    = λ i. if b then rows.filters ++ filter_of o (rest o.bundle start.1) (refused_until (later i) refuse_ms) ∷ [] else rows.filters in
+    let filters_now : (if b then rows.filters ++ f ∷ [] else rows.filters) ≡ filters_with (at_moment rows at) b o (left_of_offer o starts) refuse_ms
+    = λ i. if b then rows.filters ++ filter_of o (left_of_offer o starts) (refused_until (later i) refuse_ms) ∷ [] else rows.filters in
     same
     ∙ (λ i. record (without_ended rows (one_offer o.number)) {
-      tasks = rows.tasks ++ task_of o start ∷ [];
+      tasks = rows.tasks ++ map (task_of o) starts;
       filters = (filters ∙ filters_now) i;
       clock = later i;
     })
 
-module _ (rows : Rows) (number : ℕ) (o : OfferRow) (task : Text) (used : List Resource) (at refuse_ms : ℕ) (content : Content) (path : Path) (quantities : List Entry)
+module _ (rows : Rows) (number : ℕ) (o : OfferRow) (starts : List Start) (at refuse_ms : ℕ) (content : Content) (path : Path) (quantities : List Entry)
     (right : IsConsistent rows) (sorted : content ≡ content_of rows) (found : offer_at rows number ≡ Some o)
-    (is : IsBundle used) (covered : covers o.bundle used ≡ true)
-    (joined : path ≡ client_path o.role o.framework) (told : quantities ≡ quantities_of (rest o.bundle used)) where
+    (can : CanStart rows o starts)
+    (joined : path ≡ client_path o.role o.framework) (told : quantities ≡ quantities_of (left_of_offer o starts)) where
   abbrev new : Rows
-  new = offer_accepted (at_moment rows at) o ((task, used) ∷ []) refuse_ms
+  new = offer_accepted (at_moment rows at) o starts refuse_ms
+
+  has_all : HasAll o.bundle (uses starts)
+  has_all = units-covers_all o.bundle (uses starts) (held-offer_at rows number o right found).bundle can.bundles can.covered
 
   gave : GaveBack rows new path quantities
   gave = rw (joined, told) (record {
     agents = refl;
     frameworks = refl;
     weights = refl;
-    out = λ other label. held_where-accepted rows number o task used [] right found (is_of other) label is covered refl;
+    out = λ other label. held_where-accepted rows number o starts [] right found (is_of other) label can.bundles has_all (λ s. refl);
   })
 
   pub known-accepted : has_client content path ≡ true
@@ -156,9 +162,9 @@ module _ (rows : Rows) (number : ℕ) (o : OfferRow) (task : Text) (used : List 
   pub held-accepted : HoldsAt content path quantities
   held-accepted = subst (λ (k : Content). HoldsAt k path quantities) (sym sorted) (HoldsAt-gave_back rows new path quantities gave)
 
-  pub applied_accept : (tables : Rows) (after : Content) → tables ≡ offer_accepted (at_moment rows at) o ((task, used) ∷ []) refuse_ms
+  pub applied_accept : (tables : Rows) (after : Content) → tables ≡ offer_accepted (at_moment rows at) o starts refuse_ms
       → after ≡ with_change content path (refunded quantities)
-      → StandAt (offer_accepted (at_moment rows at) o ((task, used) ∷ []) refuse_ms) tables after
+      → StandAt (offer_accepted (at_moment rows at) o starts refuse_ms) tables after
   applied_accept tables after same changed = record {
     same = same;
     sorted = changed
@@ -191,20 +197,20 @@ applied_decline rows middle tables number o at moment refuse_ms content found la
 
 -- ---- the effects
 
-pub effect-accept : (rows tables : Rows) (framework : Text) (number : ℕ) (task : Text) (used : List Resource) (at refuse_ms : ℕ) (content : Content)
-    → has_offer rows number ≡ true
-    → ((o : OfferRow) → offer_at rows number ≡ Some o → StandAt (offer_accepted (at_moment rows at) o ((task, used) ∷ []) refuse_ms) tables content)
-    → StandAt (effect rows (Accept framework number task used at refuse_ms)) tables content
+pub effect-accept : (rows tables : Rows) (a : accepting.Accept) (content : Content)
+    → has_offer rows a.offer ≡ true
+    → ((o : OfferRow) → offer_at rows a.offer ≡ Some o → StandAt (offer_accepted (at_moment rows a.at) o a.tasks a.refuse_ms) tables content)
+    → StandAt (effect rows (Accept a)) tables content
 unfolding effect
-effect-accept rows tables framework number task used at refuse_ms content stands each =
-    let one = some_offer rows number stands in
+effect-accept rows tables a content stands each =
+    let one = some_offer rows a.offer stands in
     rw one.at (each one.offer one.at)
 
-pub effect-decline : (rows tables : Rows) (framework : Text) (number at refuse_ms : ℕ) (content : Content)
-    → has_offer rows number ≡ true
-    → ((o : OfferRow) → offer_at rows number ≡ Some o → StandAt (offer_declined (at_moment rows at) o refuse_ms) tables content)
-    → StandAt (effect rows (Decline framework number at refuse_ms)) tables content
+pub effect-decline : (rows tables : Rows) (d : declining.Decline) (content : Content)
+    → has_offer rows d.offer ≡ true
+    → ((o : OfferRow) → offer_at rows d.offer ≡ Some o → StandAt (offer_declined (at_moment rows d.at) o d.refuse_ms) tables content)
+    → StandAt (effect rows (Decline d)) tables content
 unfolding effect
-effect-decline rows tables framework number at refuse_ms content stands each =
-    let one = some_offer rows number stands in
+effect-decline rows tables d content stands each =
+    let one = some_offer rows d.offer stands in
     rw one.at (each one.offer one.at)

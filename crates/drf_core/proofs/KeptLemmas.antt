@@ -11,7 +11,7 @@ use Rattle.drf_role.specs.Path.{Path}
 use Rattle.drf_bundle.specs.declared.resource.Resource.{Resource}
 use Rattle.drf_rows.specs.LimitNumbers.{LimitNumbers}
 use Rattle.drf_rows.specs.Client.{Client}
-use Rattle.drf_rows.specs.Held.{client_of, clients_of, cluster_total}
+use Rattle.drf_rows.specs.Held.{client_of, clients_in, clients_of, cluster_total}
 use Rattle.drf_rows.specs.Cycle.{at_moment, cycle}
 use Rattle.drf_rows.specs.Step.{live_rows, refusal_of, effect}
 use Rattle.drf_rows.specs.Members.{active_at, suppressed_at, suppressed_in, with_activity, with_agent, with_framework, with_suppression, new_client, distinct, agent_deactivated, revived, agent_removed, framework_removed}
@@ -35,7 +35,6 @@ use Rattle.drf_sorter.specs.Content.{Content}
 use Rattle.drf_core.specs.Kept.{AreFew, IsKept}
 use Rattle.drf_core.specs.Machine.{IsSafe}
 use Rattle.drf_core.proofs.CycleLemmas.{turns-clients, turns-tables, turns-next_offer}
-use Rattle.drf_core.proofs.ReportLemmas.{clients_in}
 use Rattle.drf_core.proofs.WeightLemmas.{few_weights, weights-turns}
 use Rattle.drf_core.proofs.Welcome.{room_for, welcome_agent, welcome_framework, welcome_weight}
 
@@ -285,14 +284,14 @@ module _ (limits : LimitNumbers) (rows : Rows) (few : AreFew limits rows) (numbe
   countable_after (AddFramework framework roles) none = countable-framework framework roles none
   countable_after (RemoveFramework framework) none =
       countable (framework_removed rows framework) (RemoveFramework framework) none (no_more-framework_removed rows framework)
-  countable_after (Accept framework offer task used at refuse_ms) none =
-      let become : OfferRow → Rows = λ o. offer_accepted (at_moment rows at) o ((task, used) ∷ []) refuse_ms in
-      countable (option_map_or become (offer_at rows offer) rows) (Accept framework offer task used at refuse_ms) none
-      (no_more-at_offer rows become (offer_at rows offer) (λ o. no_more-others rows (become o) refl))
-  countable_after (Decline framework offer at refuse_ms) none =
-      let become : OfferRow → Rows = λ o. offer_declined (at_moment rows at) o refuse_ms in
-      countable (option_map_or become (offer_at rows offer) rows) (Decline framework offer at refuse_ms) none
-      (no_more-at_offer rows become (offer_at rows offer) (λ o. no_more-others rows (become o) refl))
+  countable_after (Accept a) none =
+      let become : OfferRow → Rows = λ o. offer_accepted (at_moment rows a.at) o a.tasks a.refuse_ms in
+      countable (option_map_or become (offer_at rows a.offer) rows) (Accept a) none
+      (no_more-at_offer rows become (offer_at rows a.offer) (λ o. no_more-others rows (become o) refl))
+  countable_after (Decline d) none =
+      let become : OfferRow → Rows = λ o. offer_declined (at_moment rows d.at) o d.refuse_ms in
+      countable (option_map_or become (offer_at rows d.offer) rows) (Decline d) none
+      (no_more-at_offer rows become (offer_at rows d.offer) (λ o. no_more-others rows (become o) refl))
   countable_after (Rescind offer) none =
       let new : Rows = without_ended rows (one_offer offer) in
       countable new (Rescind offer) none (no_more-others rows new refl)
@@ -341,7 +340,7 @@ filters_bounded rows consistent =
     (each_from (IsFilter rows.agents rows.frameworks) Ends rows.filters (λ f is. is.until) consistent.filters)
 
 -- the rows with the filters in force alone are consistent
-consistent-live : (rows : Rows) → IsConsistent rows → IsConsistent (live_rows rows)
+pub consistent-live : (rows : Rows) → IsConsistent rows → IsConsistent (live_rows rows)
 consistent-live rows consistent = IsConsistent-filters_kept rows (is_in_force rows.clock) consistent
 
 -- what callers see of a core that is kept

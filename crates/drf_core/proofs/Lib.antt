@@ -9,16 +9,10 @@ pub mod ContentMembers
 pub mod ContentRemoved
 pub mod DraftLemmas
 pub mod DraftTried
+pub mod GrantLemmas
 pub mod TurnLemmas
 pub mod CycleLemmas
 pub mod RegisterLemmas
-pub mod ReportLemmas
-pub mod ReportPassed
-pub mod ReportCounts
-pub mod ReportSums
-pub mod ReportLines
-pub mod ReportNodes
-pub mod WeighingLemmas
 pub mod WeightLemmas
 pub mod Welcome
 pub mod KeptLemmas
@@ -26,5 +20,7 @@ pub mod ApplyLemmas
 pub mod RefusalLemmas
 pub mod RemovalLemmas
 pub mod EndedLemmas
+pub mod WorkLemmas
 pub mod AcceptLemmas
 pub mod StepLemmas
+pub mod AllowanceLemmas

@@ -1,5 +1,6 @@
 -- Steps and runs of a core.
-use Rattle.std.proofs.Common.{◌≡◌, ◌+◌, Option, List, [], ◌∷◌, ◌++◌, Some, None, refl, sym, ap, subst, ◌∙◌, arith}
+use Rattle.std.proofs.Common.{◌≡◌, ℕ, zero, suc, ◌+◌, Option, List, [], ◌∷◌, ◌++◌, Some, None, take, refl, sym, ap, subst, ◌∙◌, arith, add-one}
+use Rattle.std.specs.Prelude.{slice_get}
 use Rattle.drf_rows.specs.LimitNumbers.{LimitNumbers, IsWithinCeilings}
 use Rattle.drf_rows.specs.Step.{opening, live_rows, refusal_of, effect, answer, rows_after, rows_after_all, reply_to, replies_to}
 use Rattle.drf_rows.specs.Consistent.{IsConsistent, IsNumberedByEvents}
@@ -14,11 +15,17 @@ use Rattle.drf_rows.specs.declared.reply.Reply.{Reply}
 use Rattle.drf_rows.specs.declared.reply.Reply.TheVariants.{Refused}
 use Rattle.drf_rows.specs.declared.rows.Rows.{Rows}
 use Rattle.drf_sorter.specs.Content.{Content, empty}
-use Rattle.drf_core.specs.Machine.{Machine, IsAfter, IsAfterAll}
+use Rattle.drf_core.specs.Machine.{Engine, IsAfter, IsAfterAll}
 use Rattle.drf_core.specs.Content.{content_of}
 use Rattle.drf_core.specs.Kept.{AreFew, IsKept}
 use Rattle.drf_core.proofs.ContentMembers.{content_of-filters}
 use Rattle.drf_core.proofs.KeptLemmas.{IsCountable, countable_after}
+
+-- the elements up to one, and that one
+pub take_one_more : {X : Type 0} (xs : List X) (i : ℕ) (x : X) → slice_get xs i ≡ Some x → take (i + 1) xs ≡ take i xs ++ x ∷ []
+take_one_more [] i x at = cc
+take_one_more (y ∷ xs) zero x at = let same : y ≡ x = cc in ap (λ z. z ∷ []) same
+take_one_more (y ∷ xs) (suc i) x at = rw (add-one (suc i)) (ap (λ zs. y ∷ zs) (rw (add-one i) at (take_one_more xs i x at)))
 
 pub IsKept-opening : (content : Content) (limits : LimitNumbers) (rows : Rows) → rows ≡ opening → content ≡ empty → IsWithinCeilings limits → IsKept content limits rows
 unfolding content_of
@@ -56,8 +63,8 @@ answer_told before after (ActivateAgent agent) refusal told = cc
 answer_told before after (DeactivateAgent agent) refusal told = cc
 answer_told before after (AddFramework framework roles) refusal told = cc
 answer_told before after (RemoveFramework framework) refusal told = cc
-answer_told before after (Accept framework offer task used at refuse_ms) refusal told = cc
-answer_told before after (Decline framework offer at refuse_ms) refusal told = cc
+answer_told before after (Accept a) refusal told = cc
+answer_told before after (Decline d) refusal told = cc
 answer_told before after (Rescind offer) refusal told = cc
 answer_told before after (Finish framework task) refusal told = cc
 answer_told before after (Suppress framework role) refusal told = cc
@@ -125,7 +132,7 @@ module _ (limits : LimitNumbers) (rows tables counted : Rows) (event : Event) (b
 -- ---- a run
 
 -- one more event was taken
-pub IsAfterAll-more : (old middle new : Machine) (events : List Event) (event : Event) → IsAfterAll old middle events → IsAfter middle new event → IsAfterAll old new (events ++ event ∷ [])
+pub IsAfterAll-more : (old middle new : Engine) (events : List Event) (event : Event) → IsAfterAll old middle events → IsAfter middle new event → IsAfterAll old new (events ++ event ∷ [])
 IsAfterAll-more old middle new events event before next = record {
   limits = next.limits ∙ before.limits;
   rows = next.rows
@@ -135,7 +142,7 @@ IsAfterAll-more old middle new events event before next = record {
 }
 
 -- and replied to
-pub reply-more : (old middle : Machine) (events : List Event) (event : Event) (reply : Reply) → IsAfterAll old middle events → reply ≡ reply_to middle.limits middle.rows event
+pub reply-more : (old middle : Engine) (events : List Event) (event : Event) (reply : Reply) → IsAfterAll old middle events → reply ≡ reply_to middle.limits middle.rows event
     → replies_to old.limits old.rows events ++ reply ∷ [] ≡ replies_to old.limits old.rows (events ++ event ∷ [])
 reply-more old middle events event reply before told =
     let same : reply ≡ reply_to old.limits (rows_after_all old.limits old.rows events) event =

@@ -1,10 +1,9 @@
 -- The turn of an agent, from its first client to its last.
-use Rattle.std.proofs.Common.{◌≡◌, ℕ, ◌+◌, ◌<◌, ◌≤◌, ◌^◌, zero, suc, Bool, true, false, ◌&&◌, List, [], ◌∷◌, ◌++◌, Option, Some, None, length, map, take, refl, sym, ap, subst, ◌∙◌, cond, arith, add-one}
-use Rattle.std.specs.Prelude.{slice_get, slice_set, not}
+use Rattle.std.proofs.Common.{◌≡◌, ℕ, ◌+◌, ◌<◌, ◌≤◌, ◌^◌, zero, suc, Bool, true, false, ◌&&◌, List, [], ◌∷◌, ◌++◌, Option, Some, None, length, map, drop, refl, sym, ap, subst, ◌∙◌, cond, arith}
+use Rattle.std.specs.Prelude.{slice_get, slice_set, is_some, not}
 use Rattle.std.specs.List.{list_all, AllByRecursion}
 use Rattle.std.specs.Option.{option_map, option_map_or}
 use Rattle.std.proofs.lemmas.Bool.{and_parts, not-true}
-use Rattle.std.proofs.lemmas.List.{take_all}
 use Rattle.std.proofs.lemmas.Option.{slice_get-map}
 use Rattle.std.proofs.lemmas.Grind.{fold-append}
 use Rattle.drf_role.specs.Text.{Text, same_text}
@@ -12,8 +11,8 @@ use Rattle.drf_role.specs.Path.{Path}
 use Rattle.drf_bundle.specs.declared.resource.Resource.{Resource}
 use Rattle.drf_rows.specs.Client.{Client, path_of}
 use Rattle.drf_rows.specs.Cycle.{free_of, grant, is_allocatable, new_offer, with_offer, tried, all_tried, turn, turn_order}
-use Rattle.drf_rows.specs.CycleLaws.{free_of-with_offer_other, all_tried-append, all_tried_none}
-use Rattle.drf_rows.specs.ListLaws.{each_at, each_from}
+use Rattle.drf_rows.specs.CycleLaws.{free_of-with_offer_other, all_tried_none}
+use Rattle.drf_rows.specs.ListLaws.{each_from}
 use Rattle.drf_rows.specs.Consistent.{are_distinct}
 use Rattle.drf_rows.specs.Held.{is_registered}
 use Rattle.drf_rows.specs.ConsistentLaws.{same_text-swap}
@@ -22,7 +21,7 @@ use Rattle.drf_rows.specs.declared.rows.OfferRow.{OfferRow}
 use Rattle.drf_rows.specs.declared.rows.Rows.{Rows}
 use Rattle.drf_tables.specs.Drafts.{with_offers, frees_of, frees_after}
 use Rattle.drf_tables.specs.declared.tables.Left.{Left}
-use Rattle.drf_core.specs.Drafting.{IsDrafting, IsFreeAt, HasLeft, is_open_at, turn_at}
+use Rattle.drf_core.specs.Drafting.{IsDrafting, IsFreeAt, IsRegisteredPath, IsTried, HasLeft, is_open_at, turn_at}
 use Rattle.drf_sorter.specs.Content.{Content, IsSound, IsOrderOf}
 use Rattle.drf_tables.specs.DraftLaws.{agents-with_offers, next-with_offers}
 use Rattle.drf_core.proofs.DraftLemmas.{is_registered-with_offers}
@@ -30,12 +29,6 @@ use Rattle.drf_core.proofs.ContentSound.{IsSound-content_of}
 use Rattle.drf_core.proofs.ContentOrder.{IsOrderOf-turn_order, turn_order-registered}
 
 -- ---- lists
-
--- the elements up to one, and that one
-pub take_one_more : {X : Type 0} (xs : List X) (i : ℕ) (x : X) → slice_get xs i ≡ Some x → take (i + 1) xs ≡ take i xs ++ x ∷ []
-take_one_more [] i x at = cc
-take_one_more (y ∷ xs) zero x at = let same : y ≡ x = cc in ap (λ z. z ∷ []) same
-take_one_more (y ∷ xs) (suc i) x at = rw (add-one (suc i)) (ap (λ zs. y ∷ zs) (rw (add-one i) at (take_one_more xs i x at)))
 
 -- no element has that name
 abbrev has_no : {X : Type 0} → (X → Text) → Text → List X → Bool
@@ -191,37 +184,6 @@ is_open_at-before rows offers lefts place left =
     by None at = refl
     by (Some a) at = ap (λ f. a.active && is_allocatable f) (free-before rows offers lefts place a left at)
 
--- the next client is tried
-pub tried-step : (rows middle after : Rows) (agent : AgentRow) (clients : List Client) (i : ℕ) (client : Client)
-    → slice_get clients i ≡ Some client
-    → middle ≡ all_tried rows agent (take i clients)
-    → after ≡ tried middle agent client
-    → after ≡ all_tried rows agent (take (i + 1) clients)
-tried-step rows middle after agent clients i client at so_far next =
-    next ∙ ap (λ (r : Rows). tried r agent client) so_far
-    ∙ sym (all_tried-append rows agent (take i clients) (client ∷ []))
-    ∙ ap (all_tried rows agent) (sym (take_one_more clients i client at))
-
--- the client at a place of an order
-pub record IsClientAt (rows : Rows) (clients : List Client) (i : ℕ) (path : Path) : Type 0 where
-  pub client : Client
-  pub at : slice_get clients i ≡ Some client
-  pub joined : path ≡ path_of client
-  pub known : is_registered rows.frameworks client ≡ true
-
-pub client_at : (rows : Rows) (clients : List Client) (paths : List Path) (i : ℕ) (path : Path) → paths ≡ map path_of clients → slice_get paths i ≡ Some path
-    → AllByRecursion (λ c. is_registered rows.frameworks c ≡ true) clients
-    → IsClientAt rows clients i path
-client_at rows clients paths i path same at known = by (slice_get clients i) refl
-  where
-    by : (o : Option Client) → slice_get clients i ≡ o → IsClientAt rows clients i path
-    by None none =
-        let nothing : Some path ≡ None = sym at ∙ ap (λ ps. slice_get ps i) same ∙ slice_get-map path_of clients i ∙ ap (option_map path_of) none in
-        cc
-    by (Some c) some =
-        let here : Some path ≡ Some (path_of c) = sym at ∙ ap (λ ps. slice_get ps i) same ∙ slice_get-map path_of clients i ∙ ap (option_map path_of) some in
-        record { client = c; at = some; joined = cc; known = each_at (λ c. is_registered rows.frameworks c ≡ true) clients i c known some }
-
 -- ---- the order of a turn
 
 -- a list has an element at each place below its length
@@ -252,7 +214,70 @@ module _ (content : Content) (rows : Rows) (offers : List OfferRow) (drafting : 
             (λ c known. sym (is_registered-with_offers rows offers c) ∙ known) (turn_order-registered (with_offers rows offers));
       }
 
--- all clients were tried
-pub tried_all : (rows after : Rows) (agent : AgentRow) (clients : List Client) (n : ℕ) → length clients ≤ n
-    → after ≡ all_tried rows agent (take n clients) → after ≡ all_tried rows agent clients
-tried_all rows after agent clients n all so_far = so_far ∙ ap (all_tried rows agent) (take_all n clients all)
+-- ---- clients that wait
+
+-- the clients that are still to be tried: to try them gives what trying all gives
+pub record AreWaiting (rows : Rows) (place : ℕ) (start now : Rows) (queue : List Path) : Type 0 where
+  pub clients : List Client
+  pub queued : queue ≡ map path_of clients
+  pub known : AllByRecursion (λ c. is_registered rows.frameworks c ≡ true) clients
+  pub same : (agent : AgentRow) → slice_get rows.agents place ≡ Some agent → all_tried now agent clients ≡ all_tried start agent (turn_order start)
+
+-- at first these are all
+pub waiting-begins : (content : Content) (rows : Rows) (offers : List OfferRow) → IsDrafting content rows offers → (place : ℕ) (queue : List Path) → IsOrderOf content queue
+    → AreWaiting rows place (with_offers rows offers) (with_offers rows offers) queue
+waiting-begins content rows offers drafting place queue order =
+    let ordered = ordered_from content rows offers drafting queue order in
+    record { clients = turn_order (with_offers rows offers); queued = ordered.same; known = ordered.known; same = λ agent at. refl }
+
+module _ (rows : Rows) (place : ℕ) (start now : Rows) (queue : List Path) (waiting : AreWaiting rows place start now queue) where
+  -- the next one is registered
+  pub waiting-first : (path : Path) → slice_get queue 0 ≡ Some path → IsRegisteredPath rows path
+  waiting-first path first = by waiting.clients waiting.queued waiting.known
+    where
+      by : (clients : List Client) → queue ≡ map path_of clients → AllByRecursion (λ c. is_registered rows.frameworks c ≡ true) clients → IsRegisteredPath rows path
+      by [] queued known = let nothing : Some path ≡ None = sym first ∙ ap (λ ps. slice_get ps 0) queued in absurd cc
+      by (c ∷ cs) queued known =
+          let here : Some path ≡ Some (path_of c) = sym first ∙ ap (λ ps. slice_get ps 0) queued in
+          record { client = c; joined = cc; registered = known.0 }
+
+  -- when it was tried, the others wait
+  pub waiting-passed : (after : Rows) (left : List Path) (path : Path) → now.agents ≡ rows.agents → slice_get queue 0 ≡ Some path
+      → IsTried now after place path → left ≡ drop 1 queue → AreWaiting rows place start after left
+  waiting-passed after left path agents first tried left_is = by waiting.clients waiting.queued waiting.known waiting.same
+    where
+      by : (clients : List Client) → queue ≡ map path_of clients → AllByRecursion (λ c. is_registered rows.frameworks c ≡ true) clients
+          → ((agent : AgentRow) → slice_get rows.agents place ≡ Some agent → all_tried now agent clients ≡ all_tried start agent (turn_order start))
+          → AreWaiting rows place start after left
+      by [] queued known same = let nothing : Some path ≡ None = sym first ∙ ap (λ ps. slice_get ps 0) queued in absurd cc
+      by (c ∷ cs) queued known same =
+          let here : Some path ≡ Some (path_of c) = sym first ∙ ap (λ ps. slice_get ps 0) queued in
+          let joined : path ≡ path_of c = cc in
+          record {
+            clients = cs;
+            queued = left_is ∙ ap (λ ps. drop 1 ps) queued;
+            known = known.1;
+            same = λ agent at.
+                ap (λ (r : Rows). all_tried r agent cs) (tried agent c (ap (λ as'. slice_get as' place) agents ∙ at) joined) ∙ same agent at;
+          }
+
+  -- when none waits, or where too little is left to grant, all were tried
+  pub waiting-over : (free : List Resource) → (is_some (slice_get queue 0) && is_allocatable free) ≡ false
+      → (agent : AgentRow) → slice_get rows.agents place ≡ Some agent → free ≡ free_of now agent → now ≡ all_tried start agent (turn_order start)
+  waiting-over free over agent at is_free = by waiting.clients waiting.queued (waiting.same agent at)
+    where
+      by : (clients : List Client) → queue ≡ map path_of clients → all_tried now agent clients ≡ all_tried start agent (turn_order start) → now ≡ all_tried start agent (turn_order start)
+      by [] queued same = same
+      by (c ∷ cs) queued same =
+          let little : is_allocatable (free_of now agent) ≡ false =
+          ap is_allocatable (sym is_free) ∙ sym (ap (λ ps. is_some (slice_get ps 0) && is_allocatable free) queued) ∙ over in
+          sym (all_tried_none now agent (c ∷ cs) little) ∙ same
+
+-- a client is still to be served
+pub first_of_queue : (queue : List Path) (worth : Bool) → (is_some (slice_get queue 0) && worth) ≡ true → (path : Path) × (slice_get queue 0 ≡ Some path)
+first_of_queue [] worth some = cc
+first_of_queue (path ∷ queue) worth some = (path, refl)
+
+pub queue_falls : (queue : List Path) (worth : Bool) → (is_some (slice_get queue 0) && worth) ≡ true → length (drop 1 queue) < length queue
+queue_falls [] worth some = cc
+queue_falls (path ∷ queue) worth some = omega arith

@@ -11,15 +11,17 @@ use Rattle.drf_bundle.specs.declared.resource.Resource.{Resource}
 use Rattle.drf_rows.specs.LimitNumbers.{LimitNumbers}
 use Rattle.drf_rows.specs.Step.{is_full, is_in_role, too_many_agents, too_many_frameworks, first_case, cases_of, refusal_of}
 use Rattle.drf_rows.specs.Members.{has_agent, has_framework, with_agent}
-use Rattle.drf_rows.specs.Offers.{has_offer, has_task, is_anothers, is_beyond}
+use Rattle.drf_rows.specs.Offers.{has_offer, is_anothers, is_beyond, is_task_known}
 use Rattle.drf_rows.specs.Weights.{is_weight, too_many_weights}
 use Rattle.drf_rows.specs.declared.limits.TheConstants.{LARGEST_AMOUNT, LATEST_MOMENT}
+use Rattle.drf_rows.specs.declared.event.Accept as accepting
+use Rattle.drf_rows.specs.declared.event.Decline as declining
 use Rattle.drf_rows.specs.declared.event.Event.{Event}
 use Rattle.drf_rows.specs.declared.event.Event.TheVariants.{AddAgent, RemoveAgent, ActivateAgent, DeactivateAgent, AddFramework, RemoveFramework, Accept, Decline, Rescind, Finish, Suppress, Revive, SetWeight, Cycle, Report}
 use Rattle.drf_rows.specs.declared.reply.Refusal.{Refusal}
 use Rattle.drf_rows.specs.declared.rows.Rows.{Rows}
 
-no_case : (cases : List (Bool × Refusal)) → first_case cases ≡ None → AllByRecursion (λ c. c.0 ≡ false) cases
+pub no_case : (cases : List (Bool × Refusal)) → first_case cases ≡ None → AllByRecursion (λ c. c.0 ≡ false) cases
 no_case [] none = tt
 no_case ((true, r) ∷ cases) none = cc
 no_case ((false, r) ∷ cases) none = (refl, no_case cases none)
@@ -37,9 +39,8 @@ not_full limits rows (ActivateAgent agent) none = (no_case_of limits rows (Activ
 not_full limits rows (DeactivateAgent agent) none = (no_case_of limits rows (DeactivateAgent agent) none).0
 not_full limits rows (AddFramework framework roles) none = (no_case_of limits rows (AddFramework framework roles) none).0
 not_full limits rows (RemoveFramework framework) none = (no_case_of limits rows (RemoveFramework framework) none).0
-not_full limits rows (Accept framework offer task used at refuse_ms) none =
-    (no_case_of limits rows (Accept framework offer task used at refuse_ms) none).0
-not_full limits rows (Decline framework offer at refuse_ms) none = (no_case_of limits rows (Decline framework offer at refuse_ms) none).0
+not_full limits rows (Accept a) none = (no_case_of limits rows (Accept a) none).0
+not_full limits rows (Decline d) none = (no_case_of limits rows (Decline d) none).0
 not_full limits rows (Rescind offer) none = (no_case_of limits rows (Rescind offer) none).0
 not_full limits rows (Finish framework task) none = (no_case_of limits rows (Finish framework task) none).0
 not_full limits rows (Suppress framework role) none = (no_case_of limits rows (Suppress framework role) none).0
@@ -108,32 +109,32 @@ pub known_reviving : (limits : LimitNumbers) (rows : Rows) (framework : Text) (r
 known_reviving limits rows framework role none =
     not-false (is_in_role rows framework role) (no_case_of limits rows (Revive framework role) none).1.1.0
 
--- an offer that is accepted stands, is the framework's and covers the part, and its task is new
-pub record IsWelcomeAccept (rows : Rows) (framework : Text) (number : ℕ) (task : Text) (used : List Resource) (at : ℕ) : Type 0 where
-  pub early : at ≤ LATEST_MOMENT
-  pub stands : has_offer rows number ≡ true
-  pub its_own : is_anothers rows framework number ≡ false
-  pub new : has_task rows framework task ≡ false
-  pub covered : is_beyond rows number used ≡ false
+-- an offer that is accepted stands, is the framework's and covers what the tasks use, and the tasks are new
+pub record IsWelcomeAccept (rows : Rows) (a : accepting.Accept) : Type 0 where
+  pub early : a.at ≤ LATEST_MOMENT
+  pub stands : has_offer rows a.offer ≡ true
+  pub its_own : is_anothers rows a.framework a.offer ≡ false
+  pub new : is_task_known rows a.framework a.tasks ≡ false
+  pub covered : is_beyond rows a.offer a.tasks ≡ false
 
-pub welcome_accept : (limits : LimitNumbers) (rows : Rows) (framework : Text) (number : ℕ) (task : Text) (used : List Resource) (at refuse_ms : ℕ)
-    → refusal_of limits rows (Accept framework number task used at refuse_ms) ≡ None → IsWelcomeAccept rows framework number task used at
-welcome_accept limits rows framework number task used at refuse_ms none =
-    let no = no_case_of limits rows (Accept framework number task used at refuse_ms) none in
+pub welcome_accept : (limits : LimitNumbers) (rows : Rows) (a : accepting.Accept)
+    → refusal_of limits rows (Accept a) ≡ None → IsWelcomeAccept rows a
+welcome_accept limits rows a none =
+    let no = no_case_of limits rows (Accept a) none in
     record {
-      early = ltb-false LATEST_MOMENT at no.1.0;
-      stands = not-false (has_offer rows number) no.1.1.1.0;
+      early = ltb-false LATEST_MOMENT a.at no.1.0;
+      stands = not-false (has_offer rows a.offer) no.1.1.1.0;
       its_own = no.1.1.1.1.0;
       new = no.1.1.1.1.1.0;
       covered = no.1.1.1.1.1.1.1.0;
     }
 
 -- an offer that is declined stands
-pub welcome_decline : (limits : LimitNumbers) (rows : Rows) (framework : Text) (number at refuse_ms : ℕ)
-    → refusal_of limits rows (Decline framework number at refuse_ms) ≡ None → (at ≤ LATEST_MOMENT) × (has_offer rows number ≡ true)
-welcome_decline limits rows framework number at refuse_ms none =
-    let no = no_case_of limits rows (Decline framework number at refuse_ms) none in
-    (ltb-false LATEST_MOMENT at no.1.0, not-false (has_offer rows number) no.1.1.1.0)
+pub welcome_decline : (limits : LimitNumbers) (rows : Rows) (d : declining.Decline)
+    → refusal_of limits rows (Decline d) ≡ None → (d.at ≤ LATEST_MOMENT) × (has_offer rows d.offer ≡ true)
+welcome_decline limits rows d none =
+    let no = no_case_of limits rows (Decline d) none in
+    (ltb-false LATEST_MOMENT d.at no.1.0, not-false (has_offer rows d.offer) no.1.1.1.0)
 
 -- ---- small amounts
 

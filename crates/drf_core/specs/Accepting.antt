@@ -1,24 +1,44 @@
--- An offer that is accepted in part.
-use Rattle.std.specs.Prelude.{◌≡◌, ℕ, Bool, true, false, not, List, Option, Some, None, if◌then◌else◌}
+-- An offer that is accepted.
+use Rattle.std.specs.Prelude.{◌≡◌, ℕ, Bool, true, false, not, List, [], ◌∷◌, Option, Some, None, nat_lt, if◌then◌else◌}
+use Rattle.std.specs.List.{list_any}
 use Rattle.std.specs.Option.{option_map_or}
-use Rattle.drf_bundle.specs.Bundle.{covers, rest}
-use Rattle.drf_bundle.specs.declared.resource.Resource.{Resource}
-use Rattle.drf_rows.specs.Offers.{Start, offer_at, has_task, is_empty}
+use Rattle.drf_rows.specs.LimitNumbers.{LimitNumbers}
+use Rattle.drf_rows.specs.Members.{has_framework}
+use Rattle.drf_rows.specs.Offers.{offer_at, has_offer, is_anothers, is_beyond, is_task_known, is_empty, left_of_offer}
+use Rattle.drf_rows.specs.Step.{is_full}
+use Rattle.drf_rows.specs.Tasks.{Start, uses, covers_all}
+use Rattle.drf_rows.specs.declared.event.Accept as accepting
+use Rattle.drf_rows.specs.declared.limits.TheConstants.{LATEST_MOMENT}
+use Rattle.drf_rows.specs.declared.reply.Refusal.{Refusal}
+use Rattle.drf_rows.specs.declared.reply.Refusal.TheVariants.{HistoryFull, BadMoment, UnknownFramework, UnknownOffer, NotYours, KnownTask, Empty, NotCovered}
 use Rattle.drf_rows.specs.declared.rows.FilterRow.{FilterRow}
 use Rattle.drf_rows.specs.declared.rows.OfferRow.{OfferRow}
 use Rattle.drf_rows.specs.declared.rows.Rows.{Rows}
 
--- the offer covers the part, and its framework has no task of that name
-pub record CanStart (rows : Rows) (number : ℕ) (start : Start) : Type 0 where
+-- the offer of a number covers what the tasks use together, and their names are new
+pub record IsEnough (rows : Rows) (number : ℕ) (starts : List Start) : Type 0 where
   pub offer : OfferRow
   pub at : offer_at rows number ≡ Some offer
-  pub covered : covers offer.bundle start.1 ≡ true
-  pub new : has_task rows offer.framework start.0 ≡ false
+  pub covered : covers_all offer.bundle (uses starts) ≡ true
+  pub new : is_task_known rows offer.framework starts ≡ false
 
 -- a filter, if there is to be one
 abbrev pub filter_if : Bool → FilterRow → Option FilterRow
 filter_if refused filter = if refused then Some filter else None
 
 -- the offer of a number stands, and something is left of it
-abbrev pub has_rest : Rows → ℕ → List Resource → Bool
-has_rest rows number used = option_map_or (λ o. not (is_empty (rest o.bundle used))) (offer_at rows number) false
+abbrev pub has_rest : Rows → ℕ → List Start → Bool
+has_rest rows number starts = option_map_or (λ o. not (is_empty (left_of_offer o starts))) (offer_at rows number) false
+
+-- the cases in which an accept is refused, but for the number of filters
+abbrev pub cases_of_tasks : LimitNumbers → Rows → accepting.Accept → List (Bool × Refusal)
+cases_of_tasks limits rows a =
+    (is_full limits rows, HistoryFull)
+    ∷ (nat_lt LATEST_MOMENT a.at, BadMoment)
+    ∷ (not (has_framework rows a.framework), UnknownFramework)
+    ∷ (not (has_offer rows a.offer), UnknownOffer)
+    ∷ (is_anothers rows a.framework a.offer, NotYours)
+    ∷ (is_task_known rows a.framework a.tasks, KnownTask)
+    ∷ (list_any is_empty (uses a.tasks), Empty)
+    ∷ (is_beyond rows a.offer a.tasks, NotCovered)
+    ∷ []

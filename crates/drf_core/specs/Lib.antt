@@ -2,8 +2,8 @@ pub mod Machine
 pub mod MachineLaws
 pub mod Content
 pub mod Kept
+pub mod Working
 pub mod Drafting
+pub mod Entitling
 pub mod Registering
 pub mod Accepting
-pub mod Reporting
-pub mod Weighing

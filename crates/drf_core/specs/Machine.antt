@@ -1,7 +1,7 @@
--- What an allocator is to its callers: its limits and rows, of which clauses name the live ones.
+-- What an allocator is to its callers: its limits and rows, of which clauses name the live ones, and the work of its sorter.
 use Rattle.std.specs.Prelude.{◌≡◌, ℕ, ◌≤◌, ◌<◌, ◌^◌, List, ◌++◌, length, take, refl}
 use Rattle.std.specs.List.{AllByRecursion}
-use Rattle.std.specs.Coded.{Coded, code_by, coded×}
+use Rattle.std.specs.Coded.{Coded, code_by, coded×, coded_ℕ}
 use Rattle.drf_rows.specs.contracts.limits.Limits as limits
 use Rattle.drf_rows.specs.contracts.rows.Rows as rows
 use Rattle.drf_rows.specs.LimitNumbers.{LimitNumbers}
@@ -10,6 +10,7 @@ use Rattle.drf_rows.specs.Step.{opening, live_rows, rows_after, rows_after_all, 
 use Rattle.drf_rows.specs.declared.reply.Reply.{Reply}
 use Rattle.drf_rows.specs.declared.rows.Rows.{Rows}
 use Rattle.drf_rows.specs.declared.event.Event.{Event}
+use Rattle.drf_sorter.specs.Work.{Work}
 
 pub record Machine : Type 0 where
   pub limits : LimitNumbers
@@ -19,9 +20,20 @@ pub record Machine : Type 0 where
 abbrev pub machine_code : Coded Machine
 machine_code = code_by (LimitNumbers × Rows) (coded× limits.the_row.coded rows.the_row.coded) (λ m. (m.limits, m.rows)) (λ p. record { limits = p.0; rows = p.1 }) (λ _. refl)
 
--- the allocator as callers see it: with its live rows
-unfoldable pub live : Machine → Machine
-live machine = record { limits = machine.limits; rows = live_rows machine.rows }
+-- an allocator: a machine, and what its sorter has worked and owes
+pub record Engine : Type 0 where
+  pub limits : LimitNumbers
+  pub rows : Rows
+  pub work : Work
+
+abbrev pub engine_code : Coded Engine
+engine_code = code_by (LimitNumbers × (Rows × (ℕ × ℕ))) (coded× limits.the_row.coded (coded× rows.the_row.coded (coded× coded_ℕ coded_ℕ)))
+    (λ e. (e.limits, (e.rows, (e.work.made, e.work.marked))))
+    (λ p. record { limits = p.0; rows = p.1.0; work = record { made = p.1.1.0; marked = p.1.1.1 } }) (λ _. refl)
+
+-- the machine as callers see it: with its live rows
+unfoldable pub live : Engine → Machine
+live engine = record { limits = engine.limits; rows = live_rows engine.rows }
 
 -- as it is seen when it has just been opened, and after an event
 abbrev pub opened : LimitNumbers → Machine
@@ -31,8 +43,9 @@ unfoldable pub after : Machine → Event → Machine
 after machine event = record { limits = machine.limits; rows = live_rows (rows_after machine.limits machine.rows event) }
 
 -- an allocator that has just been opened
-pub record IsOpened (given : LimitNumbers) (new : Machine) : Type 0 where
+pub record IsOpened (given : LimitNumbers) (new : Engine) : Type 0 where
   pub limits : new.limits ≡ given
+  pub work : new.work ≡ record { made = 0; marked = 0 }
   pub rows : live_rows new.rows ≡ opening
 
 -- What holds of the live rows at all times: they are consistent, nothing is granted twice, no number of an offer, not the
@@ -45,22 +58,22 @@ pub record IsSafe (rows : Rows) : Type 0 where
   pub filters : AllByRecursion (λ f. f.until < 2 ^ 63) rows.filters
 
 -- nothing that callers see has changed
-pub record IsSame (old new : Machine) : Type 0 where
+pub record IsSame (old new : Engine) : Type 0 where
   pub limits : new.limits ≡ old.limits
   pub rows : live_rows new.rows ≡ live_rows old.rows
 
 -- the allocator after an event
-pub record IsAfter (old new : Machine) (event : Event) : Type 0 where
+pub record IsAfter (old new : Engine) (event : Event) : Type 0 where
   pub limits : new.limits ≡ old.limits
   pub rows : live_rows new.rows ≡ live_rows (rows_after old.limits old.rows event)
 
 -- the allocator after a list of events
-pub record IsAfterAll (old new : Machine) (events : List Event) : Type 0 where
+pub record IsAfterAll (old new : Engine) (events : List Event) : Type 0 where
   pub limits : new.limits ≡ old.limits
   pub rows : live_rows new.rows ≡ live_rows (rows_after_all old.limits old.rows events)
 
 -- the allocator took the events of a prefix, and their replies were appended
-pub record HasRun (old new : Machine) (events : List Event) (before told : List Reply) : Type 0 where
+pub record HasRun (old new : Engine) (events : List Event) (before told : List Reply) : Type 0 where
   pub number : ℕ
   pub few : number ≤ length events
   pub ended : IsAfterAll old new (take number events)

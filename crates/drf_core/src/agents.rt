@@ -5,6 +5,8 @@ ghost use Rattle.drf_rows.specs.declared.event.Event.TheVariants.{AddAgent, Remo
 ghost use Rattle.drf_rows.specs.declared.reply.Reply.TheVariants.{Done};
 ghost use Rattle.drf_core.specs.Content.{content_of};
 ghost use Rattle.drf_core.specs.Kept.{IsKept, StandAt};
+ghost use Rattle.drf_sorter.specs.Work.{Adds};
+ghost use Rattle.drf_core.specs.Working.{nodes_of, touched};
 
 use crate::ending::end;
 use drf_bundle::Bundle;
@@ -68,6 +70,7 @@ pub fn deactivate_agent<S: Sorter>(tables: &mut Tables, sorter: &mut S, agent: &
     requires { S.content sorter.old ≡ content_of tables.old.rows }
     ensures reply { result ≡ Done }
     ensures rows { StandAt (effect tables.old.rows (DeactivateAgent agent.now)) tables.new.rows (S.content sorter.new) }
+    ensures work { Adds S.COUNTED (S.work sorter.old) (S.work sorter.new) (nodes_of (touched tables.old.rows (DeactivateAgent agent.now))) }
 {
     end(tables, sorter, Ending::OffersOn(agent));
     tables.set_active(agent, false);

@@ -1,4 +1,6 @@
-ghost use Rattle.std.specs.Prelude.{◌≡◌, ◌++◌, None, IfOk, OnOk, OnErr};
+ghost use Rattle.std.specs.Prelude.{◌≡◌, ◌++◌, None, IfOk, OnOk, OnErr, MatchOption};
+ghost use Rattle.drf_sorter.specs.Work.{Adds};
+ghost use Rattle.drf_core.specs.Working.{allowance};
 ghost use Rattle.drf_core.specs.Machine.{IsOpened, IsSafe, IsSame, IsAfter, IsAfterAll, HasRun};
 
 use crate::apply::apply;
@@ -20,15 +22,15 @@ pub struct Core<S: Sorter> {
 }
 
 impl<S: Sorter> Model for Core<S> {
-    ghost use Rattle.drf_core.specs.Machine.{Machine, machine_code};
+    ghost use Rattle.drf_core.specs.Machine.{Engine, engine_code};
 
-    ghost Value = { Machine };
+    ghost Value = { Engine };
 
-    ghost coded = { machine_code };
+    ghost coded = { engine_code };
 
     ghost use Rattle.drf_core.specs.Kept.{IsKept};
 
-    ghost view = { λ c. record { limits = c.limits; rows = c.tables.rows } };
+    ghost view = { λ c. record { limits = c.limits; rows = c.tables.rows; work = S.work c.sorter } };
 
     ghost invariant = { λ c. IsKept (S.content c.sorter) c.limits c.tables.rows };
 }
@@ -36,6 +38,7 @@ impl<S: Sorter> Model for Core<S> {
 impl<S: Sorter> Core<S> {
     ghost use Rattle.drf_rows.specs.Step.{live_rows, reply_to, replies_to, refusal_of};
     ghost use Rattle.drf_rows.specs.Report.{report_of};
+    ghost use Rattle.drf_core.specs.Content.{content_of};
 
     /// An allocator with no rows.
     pub fn open(alloc: Global, limits: Limits) -> Result<Core<S>, AllocError>
@@ -52,13 +55,15 @@ impl<S: Sorter> Core<S> {
     }
 
     /// Takes one event, whole or not at all. A refusal is a reply; a refused event changes nothing, nor does want of
-    /// memory, which no refused event meets. However it ends, nothing is granted twice.
+    /// memory, which no refused event meets. However it ends, nothing is granted twice. A sorter whose work is counted owes
+    /// no more for it than the nodes of the clients that it touches, but where the total of the cluster changes.
     pub fn step(&mut self, event: Event) -> Result<Reply, AllocError>
         ensures reply { IfOk result (λ reply. reply ≡ reply_to self.old.limits self.old.rows event) }
         ensures ok { OnOk result (IsAfter self.old self.new event) }
         ensures err { OnErr result (IsSame self.old self.new) }
         ensures not_refused { OnErr result (refusal_of self.old.limits self.old.rows event ≡ None) }
         ensures safe { IsSafe (live_rows self.new.rows) }
+        ensures work { OnOk result (MatchOption (allowance self.old.limits self.old.rows event) (Unit {0}) (Adds S.COUNTED self.old.work self.new.work)) }
     {
         self.tables.forget_spent();
         if let Some(refusal) = refusal(&self.limits, &self.tables, &event) {
@@ -75,13 +80,22 @@ impl<S: Sorter> Core<S> {
         Ok(reply)
     }
 
+    /// What this call ensures tells a proof that nothing is granted twice.
+    fn tell_safe(&self)
+        ensures { IsSafe (live_rows self.now.rows) }
+    {
+        let _ = self.limits.agents();
+    }
+
     /// Takes events in order, and appends their replies. At an `Err` it stands after the events whose replies it has
-    /// appended.
+    /// appended. However it ends, nothing is granted twice.
     pub fn run(&mut self, events: &[Event], replies: &mut Vec<Reply>) -> Result<(), AllocError>
         ensures run { HasRun self.old self.new events.now replies.old.items replies.new.items }
         ensures ok { OnOk result (IsAfterAll self.old self.new events.now) }
         ensures replies { OnOk result (replies.new.items ≡ replies.old.items ++ replies_to self.old.limits self.old.rows events.now) }
+        ensures safe { IsSafe (live_rows self.new.rows) }
     {
+        self.tell_safe();
         for event in events {
             let event = event.copy()?;
             replies.reserve(1)?;
@@ -89,6 +103,14 @@ impl<S: Sorter> Core<S> {
             replies.push_reserved(reply);
         }
         Ok(())
+    }
+
+    /// The sorter: the order of its clients, and its work.
+    pub fn sorter(&self) -> &S
+        ensures content { S.content result.now ≡ content_of self.now.rows }
+        ensures work { S.work result.now ≡ self.now.work }
+    {
+        &self.sorter
     }
 
     /// What there is, and who holds what of it.

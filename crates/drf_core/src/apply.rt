@@ -1,9 +1,11 @@
 //! The effects of events that are not refused.
-ghost use Rattle.std.specs.Prelude.{◌≡◌, None, IfOk, OnOk, OnErr};
+ghost use Rattle.std.specs.Prelude.{◌≡◌, None, IfOk, OnOk, OnErr, MatchOption};
 ghost use Rattle.drf_rows.specs.Step.{refusal_of, effect, answer};
 ghost use Rattle.drf_rows.specs.declared.event.Event.TheVariants.{SetWeight};
 ghost use Rattle.drf_rows.specs.declared.reply.Reply.TheVariants.{Done};
 ghost use Rattle.drf_core.specs.Kept.{IsKept, StandAt};
+ghost use Rattle.drf_sorter.specs.Work.{Adds};
+ghost use Rattle.drf_core.specs.Working.{allowed};
 
 use crate::agents::{activate_agent, add_agent, deactivate_agent, remove_agent};
 use crate::cycle::cycle;
@@ -28,6 +30,7 @@ fn set_weight<S: Sorter>(
     requires welcome { refusal_of limits.now tables.old.rows (SetWeight role weight) ≡ None }
     ensures reply { IfOk result (λ reply. reply ≡ Done) }
     ensures ok { OnOk result (StandAt (effect tables.old.rows (SetWeight role weight)) tables.new.rows (S.content sorter.new)) }
+    ensures work { OnOk result (Adds S.COUNTED (S.work sorter.old) (S.work sorter.new) 1) }
     ensures err { OnErr result (StandAt tables.old.rows tables.new.rows (S.content sorter.new)) }
 {
     tables.reserve_weight()?;
@@ -48,6 +51,7 @@ pub fn apply<S: Sorter>(
     requires welcome { refusal_of limits.now tables.old.rows event ≡ None }
     ensures reply { IfOk result (λ reply. reply ≡ answer tables.old.rows (effect tables.old.rows event) event) }
     ensures ok { OnOk result (StandAt (effect tables.old.rows event) tables.new.rows (S.content sorter.new)) }
+    ensures work { OnOk result (MatchOption (allowed tables.old.rows event) (Unit {0}) (Adds S.COUNTED (S.work sorter.old) (S.work sorter.new))) }
     ensures err { OnErr result (StandAt tables.old.rows tables.new.rows (S.content sorter.new)) }
 {
     match event {
@@ -61,20 +65,8 @@ pub fn apply<S: Sorter>(
         Event::RemoveFramework { framework } => {
             remove_framework(alloc, limits, tables, sorter, &framework)
         }
-        Event::Accept {
-            offer,
-            task,
-            used,
-            at,
-            refuse_ms,
-            ..
-        } => { accept(alloc, tables, sorter, offer, task, used, at, refuse_ms) }
-        Event::Decline {
-            offer,
-            at,
-            refuse_ms,
-            ..
-        } => { decline(tables, sorter, offer, at, refuse_ms) }
+        Event::Accept(event) => accept(alloc, tables, sorter, event),
+        Event::Decline(event) => decline(tables, sorter, &event),
         Event::Rescind { offer } => Ok(rescind(tables, sorter, offer)),
         Event::Finish { framework, task } => Ok(finish(tables, sorter, &framework, &task)),
         Event::Suppress { framework, role } => suppress(alloc, tables, sorter, &framework, &role),

@@ -1,22 +1,21 @@
 //! The allocation cycle. Its offers are drafts until the last agent had its turn: the sorter is charged with them, while of
 //! the rows the clock alone has moved. Where memory ends, the charges are taken back and so is the clock, which needs none.
-ghost use Rattle.std.specs.Prelude.{◌≡◌, true, ◌<◌, ◌≤◌, ◌+◌, ◌*◌, None, [], length, map, slice_get, Some, IfOk, OnOk, OnErr, MatchOption};
+ghost use Rattle.std.specs.Prelude.{◌≡◌, true, ◌<◌, ◌≤◌, ◌+◌, ◌*◌, None, [], length, map, slice_get, is_some, ◌&&◌, Some, IfOk, OnOk, OnErr};
 ghost use Rattle.std.specs.List.{AllByRecursion};
-ghost use Rattle.drf_role.specs.Path.{role_part, framework_part};
-ghost use Rattle.drf_bundle.specs.Bundle.{IsBundle, rest};
-ghost use Rattle.drf_rows.specs.Client.{Client, path_of};
-ghost use Rattle.drf_rows.specs.Held.{clients_of};
-ghost use Rattle.drf_rows.specs.Cycle.{free_of, is_allocatable, grant, at_moment};
+ghost use Rattle.drf_role.specs.Path.{Path, role_part, framework_part};
+ghost use Rattle.drf_rows.specs.Cycle.{is_allocatable};
 ghost use Rattle.drf_rows.specs.Step.{line_told, new_offers, refusal_of, effect};
 ghost use Rattle.drf_rows.specs.declared.event.Event.TheVariants.{Cycle};
-ghost use Rattle.drf_rows.specs.declared.rows.AgentRow.{AgentRow};
-ghost use Rattle.drf_rows.specs.declared.rows.Rows.{Rows};
 ghost use Rattle.drf_tables.specs.Drafts.{with_offers};
 ghost use Rattle.drf_core.specs.Content.{content_of};
 ghost use Rattle.drf_core.specs.Kept.{AreFew, IsKept};
+ghost use Rattle.drf_core.specs.Entitling.{IsEntitled};
 ghost use Rattle.drf_core.specs.Drafting.{IsDrafting, IsRegisteredPath, IsFreeAt, IsTried, HasLeft, is_open_at, turn_at, turns_of};
 ghost use Rattle.drf_core.specs.Kept.{StandAt};
+ghost use Rattle.drf_sorter.specs.Work.{Adds};
+ghost use Rattle.drf_core.specs.Working.{AddsDrafts, nodes_of, offered_to, touched};
 
+use crate::free::{Free, grant, is_worth_an_offer};
 use drf_amount::Algebra;
 use drf_bundle::Bundle;
 use drf_role::{ClientPath, Name};
@@ -33,15 +32,6 @@ struct Drafts {
     lefts: Vec<Left>,
 }
 
-/// Whether a bundle is worth an offer: 0.01 `cpus`, or 32 `mem`.
-fn is_worth_an_offer(bundle: &Bundle) -> bool
-    ensures value { result ≡ is_allocatable bundle.now }
-    ensures bundle { IsBundle bundle.now }
-{
-    let quantities = bundle.quantities();
-    10 <= quantities.get("cpus") || 32000 <= quantities.get("mem")
-}
-
 /// Whether the agent at a place is active, and what is free there is worth an offer.
 fn is_open(tables: &Tables, place: usize) -> bool
     requires place { place < length tables.now.rows.agents }
@@ -49,33 +39,6 @@ fn is_open(tables: &Tables, place: usize) -> bool
     ensures { result ≡ is_open_at tables.now.rows place }
 {
     tables.is_active(place) && is_worth_an_offer(tables.free(place))
-}
-
-/// Takes from what is free on an agent what a client is granted: what its role may use, if that is worth an offer and no
-/// filter holds it back.
-fn grant(
-    tables: &Tables,
-    agent: &Name,
-    client: &ClientPath,
-    free: &mut Bundle,
-) -> Result<Option<Bundle>, AllocError>
-    ensures granted { IfOk result (λ granted. (rows : Rows) (a : AgentRow) (of : Client)
-        → free_of rows a ≡ free.old → a.name ≡ agent.now → rows.filters ≡ tables.now.rows.filters
-        → rows.clock ≡ tables.now.rows.clock → client.now ≡ path_of of → granted ≡ grant rows a of) }
-    ensures left { IfOk result (λ granted. MatchOption granted (free.new ≡ free.old) (λ bundle. free.new ≡ rest free.old bundle)) }
-{
-    if !is_worth_an_offer(free) {
-        return Ok(None);
-    }
-    let bundle = free.part_for(client.role())?;
-    if !is_worth_an_offer(&bundle) {
-        return Ok(None);
-    }
-    if tables.is_held_back(client.role(), client.framework(), agent, &bundle) {
-        return Ok(None);
-    }
-    *free = free.rest(&bundle)?;
-    Ok(Some(bundle))
 }
 
 /// The row of an offer.
@@ -102,38 +65,52 @@ fn offer_row(
     })
 }
 
-/// Offers to a client what it is granted of what is free on an agent.
-fn try_client<S: Sorter>(
+/// Offers to the client that is served next what it is granted of what is free on an agent.
+fn try_first<S: Sorter>(
     tables: &Tables,
     sorter: &mut S,
     place: usize,
-    client: &ClientPath,
-    free: &mut Bundle,
+    free: &mut Free,
     offers: &mut Vec<OfferRow>,
 ) -> Result<(), AllocError>
     requires drafting { IsDrafting (S.content sorter.old) tables.now.rows offers.old.items }
     requires place { place < length tables.now.rows.agents }
-    requires client { IsRegisteredPath tables.now.rows client.now }
-    requires free { IsFreeAt (with_offers tables.now.rows offers.old.items) place free.old }
+    requires client { (path : Path) → slice_get (S.queue sorter.old) 0 ≡ Some path → IsRegisteredPath tables.now.rows path }
+    requires free { IsFreeAt (with_offers tables.now.rows offers.old.items) place free.old.bundle }
+    requires entitled { IsEntitled free.old.bundle free.old.entitled }
     ensures drafting { IsDrafting (S.content sorter.new) tables.now.rows offers.new.items }
-    ensures tried { OnOk result (IsTried (with_offers tables.now.rows offers.old.items)
-        (with_offers tables.now.rows offers.new.items) place client.now) }
-    ensures free { OnOk result (IsFreeAt (with_offers tables.now.rows offers.new.items) place free.new) }
+    ensures queue { S.queue sorter.new ≡ S.queue sorter.old }
+    ensures tried { OnOk result ((path : Path) → slice_get (S.queue sorter.old) 0 ≡ Some path
+        → IsTried (with_offers tables.now.rows offers.old.items) (with_offers tables.now.rows offers.new.items) place path) }
+    ensures free { OnOk result (IsFreeAt (with_offers tables.now.rows offers.new.items) place free.new.bundle) }
+    ensures entitled { OnOk result (IsEntitled free.new.bundle free.new.entitled) }
+    ensures work { OnOk result (AddsDrafts S.COUNTED (S.work sorter.old) (S.work sorter.new) offers.old.items offers.new.items) }
 {
+    let Some(client) = sorter.first() else {
+        return Ok(());
+    };
     let agent = tables.agent_name(place);
     let granted = grant(tables, agent, client, free)?;
     let Some(bundle) = granted else {
         return Ok(());
     };
+    let client = client.copy()?;
     let number = tables.next_offer() + offers.len() as u64;
-    let offer = offer_row(number, agent, client, bundle)?;
+    let offer = offer_row(number, agent, &client, bundle)?;
     offers.reserve(1)?;
-    sorter.charge(client, offer.bundle.quantities())?;
+    sorter.charge(&client, offer.bundle.quantities())?;
     offers.push_reserved(offer);
     Ok(())
 }
 
-/// The turn of an agent: each client in order is tried.
+/// Whether a client is still to be served, and what is left is worth an offer.
+fn goes_on<S: Sorter>(sorter: &S, free: &Free) -> bool
+    ensures { result ≡ (is_some (slice_get (S.queue sorter.now) 0) && is_allocatable free.now.bundle) }
+{
+    sorter.first().is_some() && is_worth_an_offer(&free.bundle)
+}
+
+/// The turn of an agent: each client in order is tried, until what is left is not worth an offer.
 fn turn<S: Sorter>(
     tables: &Tables,
     sorter: &mut S,
@@ -148,16 +125,28 @@ fn turn<S: Sorter>(
     ensures turn { OnOk result (with_offers tables.now.rows drafts.new.offers.items
         ≡ turn_at (with_offers tables.now.rows drafts.old.offers.items) place) }
     ensures left { OnOk result (HasLeft tables.now.rows drafts.new.offers.items drafts.new.lefts.items (place + 1)) }
+    ensures work { OnOk result (AddsDrafts S.COUNTED (S.work sorter.old) (S.work sorter.new) drafts.old.offers.items drafts.new.offers.items) }
 {
     if !is_open(tables, place) {
         return Ok(());
     }
-    let order = sorter.order()?;
-    let mut free = tables.free(place).copy()?;
-    for client in &order {
-        try_client(tables, sorter, place, client, &mut free, &mut drafts.offers)?;
+    sorter.fix_order()?;
+    let mut free = Free {
+        bundle: tables.free(place).copy()?,
+        entitled: None,
+    };
+    while goes_on(sorter, &free) {
+        try_first(tables, sorter, place, &mut free, &mut drafts.offers)?;
+        sorter.pass();
     }
-    drafts.lefts.push(Left { agent: place, free })?;
+    let Free {
+        bundle,
+        entitled: _,
+    } = free;
+    drafts.lefts.push(Left {
+        agent: place,
+        free: bundle,
+    })?;
     Ok(())
 }
 
@@ -170,6 +159,7 @@ fn turns<S: Sorter>(tables: &Tables, sorter: &mut S, drafts: &mut Drafts) -> Res
     ensures drafting { IsDrafting (S.content sorter.new) tables.now.rows drafts.new.offers.items }
     ensures turns { OnOk result (with_offers tables.now.rows drafts.new.offers.items ≡ turns_of tables.now.rows) }
     ensures left { OnOk result (HasLeft tables.now.rows drafts.new.offers.items drafts.new.lefts.items (length tables.now.rows.agents)) }
+    ensures work { OnOk result (AddsDrafts S.COUNTED (S.work sorter.old) (S.work sorter.new) drafts.old.offers.items drafts.new.offers.items) }
 {
     for place in 0..tables.agent_count() {
         turn(tables, sorter, place, drafts)?;
@@ -226,6 +216,7 @@ fn offer_all<S: Sorter>(
     ensures lines { IfOk result (λ lines. lines.items ≡ map line_told (new_offers tables.old.rows (turns_of tables.old.rows))) }
     ensures err { OnErr result (tables.new.rows ≡ tables.old.rows) }
     ensures drafting { OnErr result (IsDrafting (S.content sorter.new) tables.old.rows drafts.new.offers.items) }
+    ensures work { OnOk result (Adds S.COUNTED (S.work sorter.old) (S.work sorter.new) (nodes_of (offered_to (new_offers tables.old.rows (turns_of tables.old.rows))))) }
 {
     tables.settle()?;
     turns(tables, sorter, drafts)?;
@@ -248,6 +239,7 @@ pub fn cycle<S: Sorter>(
     ensures lines { IfOk result (λ lines. lines.items ≡ map line_told (new_offers tables.old.rows (effect tables.old.rows (Cycle at)))) }
     ensures ok { OnOk result (StandAt (effect tables.old.rows (Cycle at)) tables.new.rows (S.content sorter.new)) }
     ensures err { OnErr result (StandAt tables.old.rows tables.new.rows (S.content sorter.new)) }
+    ensures work { OnOk result (Adds S.COUNTED (S.work sorter.old) (S.work sorter.new) (nodes_of (touched tables.old.rows (Cycle at)))) }
 {
     // The moment is put back if memory ends.
     let before = tables.clock();

@@ -1,11 +1,13 @@
 //! Frameworks register, are served or not, and leave.
-ghost use Rattle.std.specs.Prelude.{◌≡◌, None, true, map, IfOk, OnOk, OnErr};
+ghost use Rattle.std.specs.Prelude.{◌≡◌, None, true, map, sum_by, length, IfOk, OnOk, OnErr};
 ghost use Rattle.drf_rows.specs.Members.{distinct, has_framework, new_client};
 ghost use Rattle.drf_rows.specs.Step.{refusal_of, effect, is_in_role};
 ghost use Rattle.drf_rows.specs.declared.event.Event.TheVariants.{AddFramework, RemoveFramework, Suppress, Revive};
 ghost use Rattle.drf_rows.specs.declared.reply.Reply.TheVariants.{Done};
 ghost use Rattle.drf_core.specs.Content.{content_of};
 ghost use Rattle.drf_core.specs.Kept.{IsKept, StandAt};
+ghost use Rattle.drf_sorter.specs.Work.{Adds};
+ghost use Rattle.drf_core.specs.Working.{nodes_of, touched};
 ghost use Rattle.drf_core.specs.Registering.{AreKnown, AreNew, client_paths, with_all, without_all};
 
 use crate::ending::end;
@@ -64,6 +66,7 @@ fn add_clients<S: Sorter>(sorter: &mut S, paths: &[ClientPath]) -> Result<(), Al
     requires { AreNew (S.content sorter.old) paths.now }
     ensures ok { OnOk result (S.content sorter.new ≡ with_all (S.content sorter.old) paths.now) }
     ensures err { OnErr result (S.content sorter.new ≡ S.content sorter.old) }
+    ensures work { OnOk result (Adds S.COUNTED (S.work sorter.old) (S.work sorter.new) (sum_by length paths.now)) }
 {
     let Some((first, rest)) = paths.split_first() else {
         return Ok(());
@@ -91,6 +94,7 @@ pub fn add_framework<S: Sorter>(
     requires welcome { refusal_of limits.now tables.old.rows (AddFramework framework roles) ≡ None }
     ensures reply { IfOk result (λ reply. reply ≡ Done) }
     ensures ok { OnOk result (StandAt (effect tables.old.rows (AddFramework framework roles)) tables.new.rows (S.content sorter.new)) }
+    ensures work { OnOk result (Adds S.COUNTED (S.work sorter.old) (S.work sorter.new) (nodes_of (touched tables.old.rows (AddFramework framework roles)))) }
     ensures err { OnErr result (StandAt tables.old.rows tables.new.rows (S.content sorter.new)) }
 {
     let roles = distinct_roles(alloc, roles)?;
@@ -105,7 +109,8 @@ pub fn add_framework<S: Sorter>(
 /// Removes clients from the sorter.
 fn remove_clients<S: Sorter>(sorter: &mut S, paths: &[ClientPath])
     requires { AreKnown (S.content sorter.old) paths.now }
-    ensures { S.content sorter.new ≡ without_all (S.content sorter.old) paths.now }
+    ensures content { S.content sorter.new ≡ without_all (S.content sorter.old) paths.now }
+    ensures work { Adds S.COUNTED (S.work sorter.old) (S.work sorter.new) (sum_by length paths.now) }
 {
     for path in paths {
         sorter.remove(path);
@@ -124,6 +129,7 @@ pub fn remove_framework<S: Sorter>(
     requires known { has_framework tables.old.rows framework.now ≡ true }
     ensures reply { IfOk result (λ reply. reply ≡ Done) }
     ensures ok { OnOk result (StandAt (effect tables.old.rows (RemoveFramework framework.now)) tables.new.rows (S.content sorter.new)) }
+    ensures work { OnOk result (Adds S.COUNTED (S.work sorter.old) (S.work sorter.new) (nodes_of (touched tables.old.rows (RemoveFramework framework.now)))) }
     ensures err { OnErr result (StandAt tables.old.rows tables.new.rows (S.content sorter.new)) }
 {
     let paths = client_paths(alloc, framework, tables.clients(framework))?;
@@ -145,6 +151,7 @@ pub fn suppress<S: Sorter>(
     requires known { is_in_role tables.old.rows framework.now role.now ≡ true }
     ensures reply { IfOk result (λ reply. reply ≡ Done) }
     ensures ok { OnOk result (StandAt (effect tables.old.rows (Suppress framework.now role.now)) tables.new.rows (S.content sorter.new)) }
+    ensures work { OnOk result (Adds S.COUNTED (S.work sorter.old) (S.work sorter.new) (nodes_of (touched tables.old.rows (Suppress framework.now role.now)))) }
     ensures err { OnErr result (StandAt tables.old.rows tables.new.rows (S.content sorter.new)) }
 {
     let path = ClientPath::new(alloc, role, framework)?;
@@ -165,6 +172,7 @@ pub fn revive<S: Sorter>(
     requires known { is_in_role tables.old.rows framework.now role.now ≡ true }
     ensures reply { IfOk result (λ reply. reply ≡ Done) }
     ensures ok { OnOk result (StandAt (effect tables.old.rows (Revive framework.now role.now)) tables.new.rows (S.content sorter.new)) }
+    ensures work { OnOk result (Adds S.COUNTED (S.work sorter.old) (S.work sorter.new) (nodes_of (touched tables.old.rows (Revive framework.now role.now)))) }
     ensures err { OnErr result (StandAt tables.old.rows tables.new.rows (S.content sorter.new)) }
 {
     let path = ClientPath::new(alloc, role, framework)?;

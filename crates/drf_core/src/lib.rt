@@ -7,9 +7,9 @@ mod apply;
 mod cycle;
 mod ending;
 mod frameworks;
+mod free;
 mod life;
 mod refusal;
 mod report;
-mod weights;
 
 pub use allocator::Core;

@@ -8,15 +8,18 @@ ghost use Rattle.drf_rows.specs.declared.event.Event.TheVariants.{Rescind, Finis
 ghost use Rattle.drf_rows.specs.declared.limits.TheConstants.{LATEST_MOMENT};
 ghost use Rattle.drf_rows.specs.declared.reply.Reply.TheVariants.{Done};
 ghost use Rattle.drf_rows.specs.declared.rows.OfferRow.{OfferRow};
-ghost use Rattle.drf_core.specs.Accepting.{CanStart, filter_if};
+ghost use Rattle.drf_core.specs.Accepting.{IsEnough, filter_if};
 ghost use Rattle.drf_core.specs.Content.{content_of};
 ghost use Rattle.drf_core.specs.Kept.{StandAt};
+ghost use Rattle.drf_rows.specs.Endings.{one_offer, one_task};
+ghost use Rattle.drf_sorter.specs.Work.{Adds};
+ghost use Rattle.drf_core.specs.Working.{losers, nodes_of};
 
 use crate::ending::end;
 use drf_amount::Algebra;
 use drf_bundle::Bundle;
 use drf_role::{ClientPath, Name};
-use drf_rows::{FilterRow, LONGEST_REFUSAL, OfferRow, Reply};
+use drf_rows::{Accept, Decline, FilterRow, LONGEST_FILTER, OfferRow, Reply};
 use drf_sorter::Sorter;
 use drf_tables::{Ending, Tables};
 use std::alloc::{AllocError, Global};
@@ -37,7 +40,7 @@ fn filter_row(
         role: offer.role.copy()?,
         agent: offer.agent.copy()?,
         bundle: bundle.copy()?,
-        until: moment + refuse_ms.min(LONGEST_REFUSAL),
+        until: moment + refuse_ms.min(LONGEST_FILTER),
     })
 }
 
@@ -60,34 +63,31 @@ fn filter_rest(
     Ok(Some(filter_row(offer, rest, moment, refuse_ms)?))
 }
 
-/// A framework starts a task with a part of an offer. The rest is free, and is refused for a time.
+/// A framework starts tasks with parts of an offer. The rest is free, and is refused for a time.
 pub fn accept<S: Sorter>(
     alloc: Global,
     tables: &mut Tables,
     sorter: &mut S,
-    number: u64,
-    task: Name,
-    used: Bundle,
-    at: u64,
-    refuse_ms: u64,
+    accept: Accept,
 ) -> Result<Reply, AllocError>
     requires sorted { S.content sorter.old ≡ content_of tables.old.rows }
     requires consistent { IsConsistent tables.old.rows }
-    requires can { CanStart tables.old.rows number (task, used) }
-    requires early { at ≤ LATEST_MOMENT }
+    requires enough { IsEnough tables.old.rows accept.offer accept.tasks }
+    requires early { accept.at ≤ LATEST_MOMENT }
     ensures reply { IfOk result (λ reply. reply ≡ Done) }
-    ensures ok { OnOk result ((o : OfferRow) → offer_at tables.old.rows number ≡ Some o
-        → StandAt (offer_accepted (at_moment tables.old.rows at) o ((task, used) ∷ []) refuse_ms) tables.new.rows (S.content sorter.new)) }
+    ensures ok { OnOk result ((o : OfferRow) → offer_at tables.old.rows accept.offer ≡ Some o
+        → StandAt (offer_accepted (at_moment tables.old.rows accept.at) o accept.tasks accept.refuse_ms) tables.new.rows (S.content sorter.new)) }
     ensures err { OnErr result (StandAt tables.old.rows tables.new.rows (S.content sorter.new)) }
+    ensures work { OnOk result (Adds S.COUNTED (S.work sorter.old) (S.work sorter.new) (nodes_of (losers tables.old.rows (one_offer accept.offer)))) }
 {
-    // The proof learns that it is a bundle by this call alone.
-    let _ = used.entries();
-    let offer = tables.offer(number).unwrap();
-    let moment = tables.clock().max(at);
-    let rest = offer.bundle.rest(&used)?;
+    // The proof learns that the tasks use bundles by this call alone.
+    let _ = accept.tasks.as_slice();
+    let offer = tables.offer(accept.offer).unwrap();
+    let moment = tables.clock().max(accept.at);
+    let rest = accept.tasks.rest_of(&offer.bundle)?;
     let client = ClientPath::new(alloc, &offer.role, &offer.framework)?;
-    let filter = filter_rest(offer, &rest, moment, refuse_ms)?;
-    tables.accept(number, task, used, filter)?;
+    let filter = filter_rest(offer, &rest, moment, accept.refuse_ms)?;
+    tables.accept(accept.offer, accept.tasks, filter)?;
     tables.set_clock(moment);
     sorter.refund(&client, rest.quantities());
     Ok(Reply::Done)
@@ -119,23 +119,22 @@ fn refuse_offer(
 pub fn decline<S: Sorter>(
     tables: &mut Tables,
     sorter: &mut S,
-    number: u64,
-    at: u64,
-    refuse_ms: u64,
+    decline: &Decline,
 ) -> Result<Reply, AllocError>
     requires sorted { S.content sorter.old ≡ content_of tables.old.rows }
     requires consistent { IsConsistent tables.old.rows }
-    requires offer { has_offer tables.old.rows number ≡ true }
-    requires early { at ≤ LATEST_MOMENT }
+    requires offer { has_offer tables.old.rows decline.now.offer ≡ true }
+    requires early { decline.now.at ≤ LATEST_MOMENT }
     ensures reply { IfOk result (λ reply. reply ≡ Done) }
-    ensures ok { OnOk result ((o : OfferRow) → offer_at tables.old.rows number ≡ Some o
-        → StandAt (offer_declined (at_moment tables.old.rows at) o refuse_ms) tables.new.rows (S.content sorter.new)) }
+    ensures ok { OnOk result ((o : OfferRow) → offer_at tables.old.rows decline.now.offer ≡ Some o
+        → StandAt (offer_declined (at_moment tables.old.rows decline.now.at) o decline.now.refuse_ms) tables.new.rows (S.content sorter.new)) }
     ensures err { OnErr result (StandAt tables.old.rows tables.new.rows (S.content sorter.new)) }
+    ensures work { OnOk result (Adds S.COUNTED (S.work sorter.old) (S.work sorter.new) (nodes_of (losers tables.old.rows (one_offer decline.now.offer)))) }
 {
-    let moment = tables.clock().max(at);
-    refuse_offer(tables, number, moment, refuse_ms)?;
+    let moment = tables.clock().max(decline.at);
+    refuse_offer(tables, decline.offer, moment, decline.refuse_ms)?;
     tables.set_clock(moment);
-    end(tables, sorter, Ending::Offer(number));
+    end(tables, sorter, Ending::Offer(decline.offer));
     Ok(Reply::Done)
 }
 
@@ -144,6 +143,7 @@ pub fn rescind<S: Sorter>(tables: &mut Tables, sorter: &mut S, number: u64) -> R
     requires { S.content sorter.old ≡ content_of tables.old.rows }
     ensures reply { result ≡ Done }
     ensures rows { StandAt (effect tables.old.rows (Rescind number)) tables.new.rows (S.content sorter.new) }
+    ensures work { Adds S.COUNTED (S.work sorter.old) (S.work sorter.new) (nodes_of (losers tables.old.rows (one_offer number))) }
 {
     end(tables, sorter, Ending::Offer(number));
     Reply::Done
@@ -159,6 +159,7 @@ pub fn finish<S: Sorter>(
     requires { S.content sorter.old ≡ content_of tables.old.rows }
     ensures reply { result ≡ Done }
     ensures rows { StandAt (effect tables.old.rows (Finish framework.now task.now)) tables.new.rows (S.content sorter.new) }
+    ensures work { Adds S.COUNTED (S.work sorter.old) (S.work sorter.new) (nodes_of (losers tables.old.rows (one_task framework.now task.now))) }
 {
     let ending = Ending::Task {
         framework,

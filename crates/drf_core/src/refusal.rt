@@ -1,21 +1,21 @@
 //! Why an event is refused. No test needs memory.
-ghost use Rattle.std.specs.Prelude.{◌≡◌, ◌∷◌, [], ◌<◌, ◌≤◌, length, nat_lt, not, IfNone, IfSome};
-ghost use Rattle.std.specs.List.{list_any};
-ghost use Rattle.drf_role.specs.Text.{Text};
+ghost use Rattle.std.specs.Prelude.{◌≡◌, ◌∷◌, [], ◌<◌, ◌≤◌, false, length, nat_lt, not, IfNone, IfSome};
+ghost use Rattle.std.specs.List.{list_all, list_any};
 ghost use Rattle.drf_bundle.specs.Bundle.{quantities_of};
 ghost use Rattle.drf_rows.specs.Step.{accept_is_too_much, decline_is_too_much, first_case, is_full, is_in_role, too_many_agents, too_many_frameworks, refusal_of};
 ghost use Rattle.drf_rows.specs.Members.{distinct, has_agent, has_framework, with_agent};
-ghost use Rattle.drf_rows.specs.Offers.{are_many_filters, has_offer, is_anothers, is_beyond};
+ghost use Rattle.drf_rows.specs.Offers.{are_many_filters, has_offer, has_task, is_anothers, is_beyond, is_task_known};
 ghost use Rattle.drf_rows.specs.Weights.{is_weight, too_many_weights};
-ghost use Rattle.drf_rows.specs.declared.event.Event.TheVariants.{AddAgent, AddFramework, Accept, Decline, Rescind, Finish, SetWeight, Cycle};
-ghost use Rattle.drf_rows.specs.declared.reply.Refusal.TheVariants.{HistoryFull, UnknownAgent, UnknownFramework, NotInRole};
-ghost use Rattle.drf_core.specs.Accepting.{has_rest};
+ghost use Rattle.drf_rows.specs.declared.event.Event.TheVariants.{AddAgent, AddFramework, Rescind, Finish, SetWeight, Cycle};
+ghost use Rattle.drf_rows.specs.declared.reply.Refusal.TheVariants.{HistoryFull, UnknownAgent, UnknownFramework, NotInRole, TooMany};
+ghost use Rattle.drf_core.specs.Accepting.{cases_of_tasks, has_rest};
 ghost use Rattle.drf_core.specs.Kept.{AreFew};
 
-use drf_amount::Algebra;
 use drf_bundle::Bundle;
 use drf_role::{Name, Role};
-use drf_rows::{Event, LARGEST_AMOUNT, LATEST_MOMENT, Limits, Refusal, Table};
+use drf_rows::{
+    Accept, Decline, Event, LARGEST_AMOUNT, LATEST_MOMENT, Limits, Refusal, Table, TaskList,
+};
 use drf_tables::Tables;
 
 /// The first of some cases that holds.
@@ -127,12 +127,31 @@ fn is_anothers(tables: &Tables, framework: &Name, number: u64) -> bool
     }
 }
 
-/// The offer stands, and does not cover the resources.
-fn is_beyond(tables: &Tables, number: u64, used: &Bundle) -> bool
-    ensures { result ≡ is_beyond tables.now.rows number used.now }
+/// The framework has no task of any of the names.
+fn are_new(tables: &Tables, framework: &Name, tasks: &[(Name, Bundle)]) -> bool
+    ensures { result ≡ list_all (λ s. not (has_task tables.now.rows framework.now s.0)) tasks.now }
+{
+    for task in tasks {
+        if tables.has_task(framework, &task.0) {
+            return false;
+        }
+    }
+    true
+}
+
+/// The framework has a task of one of the names, or a name stands twice.
+fn is_task_known(tables: &Tables, framework: &Name, tasks: &TaskList) -> bool
+    ensures { result ≡ is_task_known tables.now.rows framework.now tasks.now }
+{
+    !are_new(tables, framework, tasks.as_slice()) | !tasks.are_distinct()
+}
+
+/// The offer stands, and does not cover what all tasks use together, which may have no join.
+fn is_beyond(tables: &Tables, number: u64, tasks: &TaskList) -> bool
+    ensures { result ≡ is_beyond tables.now.rows number tasks.now }
 {
     match tables.offer(number) {
-        Some(offer) => !offer.bundle.covers(used),
+        Some(offer) => !tasks.are_covered_by(&offer.bundle),
         None => false,
     }
 }
@@ -144,35 +163,32 @@ fn are_many_filters(limits: &Limits, tables: &Tables, at: u64) -> bool
     limits.filters() <= tables.filters_in_force(tables.clock().max(at))
 }
 
-/// Something is left of an offer, if it stands. It needs no memory: the part covers the offer where nothing is left.
-fn has_rest(tables: &Tables, number: u64, used: &Bundle) -> bool
-    ensures { result ≡ has_rest tables.now.rows number used.now }
+/// Something is left of an offer, if it stands. It needs no memory.
+fn has_rest(tables: &Tables, number: u64, tasks: &TaskList) -> bool
+    requires { is_beyond tables.now.rows number tasks.now ≡ false }
+    ensures { result ≡ has_rest tables.now.rows number tasks.now }
 {
     match tables.offer(number) {
-        Some(offer) => !used.covers(&offer.bundle),
+        Some(offer) => tasks.leave_any_of(&offer.bundle),
         None => false,
     }
 }
 
 /// An accept would set one filter too many.
-fn accept_is_too_much(
-    limits: &Limits,
-    tables: &Tables,
-    number: u64,
-    used: &Bundle,
-    at: u64,
-    refuse_ms: u64,
-) -> bool
-    ensures { (task : Text) → result ≡ accept_is_too_much limits.now tables.now.rows number (task, used.now) at refuse_ms }
+fn accept_is_too_much(limits: &Limits, tables: &Tables, accept: &Accept) -> bool
+    requires { is_beyond tables.now.rows accept.now.offer accept.now.tasks ≡ false }
+    ensures { result ≡ accept_is_too_much limits.now tables.now.rows accept.now }
 {
-    0 < refuse_ms && has_rest(tables, number, used) && are_many_filters(limits, tables, at)
+    0 < accept.refuse_ms
+        && has_rest(tables, accept.offer, &accept.tasks)
+        && are_many_filters(limits, tables, accept.at)
 }
 
 /// A decline would set one filter too many.
-fn decline_is_too_much(limits: &Limits, tables: &Tables, at: u64, refuse_ms: u64) -> bool
-    ensures { result ≡ decline_is_too_much limits.now tables.now.rows at refuse_ms }
+fn decline_is_too_much(limits: &Limits, tables: &Tables, decline: &Decline) -> bool
+    ensures { result ≡ decline_is_too_much limits.now tables.now.rows decline.now }
 {
-    0 < refuse_ms && are_many_filters(limits, tables, at)
+    0 < decline.refuse_ms && are_many_filters(limits, tables, decline.at)
 }
 
 /// Why an agent that registers is refused.
@@ -245,54 +261,65 @@ fn refuse_unknown_client(
     ])
 }
 
-/// Why a framework that accepts an offer is refused.
-fn refuse_accept(
-    limits: &Limits,
-    tables: &Tables,
-    framework: &Name,
-    number: u64,
-    task: &Name,
-    used: &Bundle,
-    at: u64,
-    refuse_ms: u64,
-) -> Option<Refusal>
-    ensures { result ≡ refusal_of limits.now tables.now.rows (Accept framework.now number task.now used.now at refuse_ms) }
+/// Why a framework that accepts an offer is refused, but for the number of filters.
+fn refuse_tasks(limits: &Limits, tables: &Tables, accept: &Accept) -> Option<Refusal>
+    ensures { result ≡ first_case (cases_of_tasks limits.now tables.now.rows accept.now) }
 {
+    let Accept {
+        framework,
+        offer,
+        tasks,
+        at,
+        ..
+    } = accept;
     first_case(&[
         (is_full(limits, tables), Refusal::HistoryFull),
-        (LATEST_MOMENT < at, Refusal::BadMoment),
+        (LATEST_MOMENT < *at, Refusal::BadMoment),
         (!tables.has_framework(framework), Refusal::UnknownFramework),
-        (!has_offer(tables, number), Refusal::UnknownOffer),
-        (is_anothers(tables, framework, number), Refusal::NotYours),
-        (tables.has_task(framework, task), Refusal::KnownTask),
-        (used.is_empty(), Refusal::Empty),
-        (is_beyond(tables, number, used), Refusal::NotCovered),
-        (
-            accept_is_too_much(limits, tables, number, used, at, refuse_ms),
-            Refusal::TooMany,
-        ),
+        (!has_offer(tables, *offer), Refusal::UnknownOffer),
+        (is_anothers(tables, framework, *offer), Refusal::NotYours),
+        (is_task_known(tables, framework, tasks), Refusal::KnownTask),
+        (tasks.has_empty(), Refusal::Empty),
+        (is_beyond(tables, *offer, tasks), Refusal::NotCovered),
     ])
 }
 
-/// Why a framework that declines an offer is refused.
-fn refuse_decline(
-    limits: &Limits,
-    tables: &Tables,
-    framework: &Name,
-    number: u64,
-    at: u64,
-    refuse_ms: u64,
-) -> Option<Refusal>
-    ensures { result ≡ refusal_of limits.now tables.now.rows (Decline framework.now number at refuse_ms) }
+/// Why an accept is refused whose offer covers the tasks.
+fn refuse_rest(limits: &Limits, tables: &Tables, accept: &Accept) -> Option<Refusal>
+    requires { is_beyond tables.now.rows accept.now.offer accept.now.tasks ≡ false }
+    ensures { result ≡ first_case ((accept_is_too_much limits.now tables.now.rows accept.now, TooMany) ∷ []) }
 {
+    first_case(&[(accept_is_too_much(limits, tables, accept), Refusal::TooMany)])
+}
+
+/// Why a framework that accepts an offer is refused. What is left of the offer is asked for only where it covers the tasks.
+fn refuse_accept(limits: &Limits, tables: &Tables, accept: &Accept) -> Option<Refusal>
+    ensures { result ≡ refusal_of limits.now tables.now.rows (Event.Accept accept.now) }
+{
+    match refuse_tasks(limits, tables, accept) {
+        Some(refusal) => Some(refusal),
+        None => refuse_rest(limits, tables, accept),
+    }
+}
+
+/// Why a framework that declines an offer is refused.
+fn refuse_decline(limits: &Limits, tables: &Tables, decline: &Decline) -> Option<Refusal>
+    ensures { result ≡ refusal_of limits.now tables.now.rows (Event.Decline decline.now) }
+{
+    let Decline {
+        framework,
+        offer,
+        at,
+        ..
+    } = decline;
     first_case(&[
         (is_full(limits, tables), Refusal::HistoryFull),
-        (LATEST_MOMENT < at, Refusal::BadMoment),
+        (LATEST_MOMENT < *at, Refusal::BadMoment),
         (!tables.has_framework(framework), Refusal::UnknownFramework),
-        (!has_offer(tables, number), Refusal::UnknownOffer),
-        (is_anothers(tables, framework, number), Refusal::NotYours),
+        (!has_offer(tables, *offer), Refusal::UnknownOffer),
+        (is_anothers(tables, framework, *offer), Refusal::NotYours),
         (
-            decline_is_too_much(limits, tables, at, refuse_ms),
+            decline_is_too_much(limits, tables, decline),
             Refusal::TooMany,
         ),
     ])
@@ -355,22 +382,8 @@ pub fn refusal(limits: &Limits, tables: &Tables, event: &Event) -> Option<Refusa
             refuse_framework(limits, tables, framework, roles)
         }
         Event::RemoveFramework { framework } => refuse_unknown_framework(limits, tables, framework),
-        Event::Accept {
-            framework,
-            offer,
-            task,
-            used,
-            at,
-            refuse_ms,
-        } => refuse_accept(
-            limits, tables, framework, *offer, task, used, *at, *refuse_ms,
-        ),
-        Event::Decline {
-            framework,
-            offer,
-            at,
-            refuse_ms,
-        } => refuse_decline(limits, tables, framework, *offer, *at, *refuse_ms),
+        Event::Accept(accept) => refuse_accept(limits, tables, accept),
+        Event::Decline(decline) => refuse_decline(limits, tables, decline),
         Event::Rescind { offer } => refuse_rescind(limits, tables, *offer),
         Event::Finish { framework, task } => refuse_finish(limits, tables, framework, task),
         Event::Suppress { framework, role } => refuse_unknown_client(

@@ -1,2 +1,4 @@
 pub mod ChainLemmas
 pub mod FilterLemmas
+pub mod UsageLemmas
+pub mod QuotaLemmas

@@ -1,3 +1,4 @@
 pub mod Chains
 pub mod Index
 pub mod Laws
+pub mod Quota

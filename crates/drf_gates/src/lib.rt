@@ -5,7 +5,10 @@
 mod filters;
 mod index;
 mod laws;
+mod quota;
 mod row;
+mod usage;
 
 pub use filters::FilterTable;
 pub use laws::filters_law;
+pub use quota::Quota;

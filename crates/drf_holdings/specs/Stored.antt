@@ -3,7 +3,8 @@ use Rattle.std.specs.Prelude.{◌≡◌, ℕ, ◌==◌, ◌⊎◌, List, [], ◌
 use Rattle.std.specs.Coded.{Coded, code_by, coded×, coded_list}
 use Rattle.drf_rows.specs.Endings.{Ending, ends_offer, ends_task}
 use Rattle.drf_rows.specs.Holdings.{Holding, of_offer, of_task}
-use Rattle.drf_rows.specs.Offers.{Start, task_of}
+use Rattle.drf_rows.specs.Offers.{task_of}
+use Rattle.drf_rows.specs.Tasks.{Start}
 use Rattle.drf_rows.specs.contracts.rows.OfferRow as offer_row
 use Rattle.drf_rows.specs.contracts.rows.TaskRow as task_row
 use Rattle.drf_rows.specs.declared.rows.OfferRow.{OfferRow}
@@ -53,8 +54,8 @@ abbrev pub HasTaken : Ending → Standing → Standing → Option Taken → Type
 HasTaken ending old new None = HasLostNone ending old new
 HasTaken ending old new (Some taken) = HasLostOffer ending old new taken ⊎ HasLostTask ending old new taken
 
--- the offer of a number was taken out, and a task with a part of it stands last
-pub record HasStarted (number : ℕ) (start : Start) (old new : Standing) (offer : OfferRow) : Type 0 where
+-- the offer of a number was taken out, and tasks with parts of it stand last
+pub record HasStarted (number : ℕ) (starts : List Start) (old new : Standing) (offer : OfferRow) : Type 0 where
   pub found : find (λ o. o.number == number) old.offers ≡ Some offer
   pub taken : IsTaken (λ o. o.number == number) old.offers new.offers offer
-  pub started : new.tasks ≡ old.tasks ++ task_of offer start ∷ []
+  pub started : new.tasks ≡ old.tasks ++ map (task_of offer) starts

@@ -1,22 +1,22 @@
 //! What clients hold, and how it ends.
-ghost use Rattle.std.specs.Prelude.{◌≡◌, ◌==◌, [], ◌++◌, Some, true, false, map, find, IfOk, OnOk, OnErr, MatchOption, option_copied};
+ghost use Rattle.std.specs.Prelude.{◌≡◌, ◌==◌, [], ◌++◌, Some, true, map, find, IfOk, OnOk, OnErr, MatchOption, option_copied};
 ghost use Rattle.std.specs.List.{list_any};
 ghost use Rattle.drf_bundle.specs.Taken.{rest_of_all};
 ghost use Rattle.drf_rows.specs.Endings.{ends_offer, ends_task, is_task};
 ghost use Rattle.drf_rows.specs.Holdings.{parts_on};
+ghost use Rattle.drf_rows.specs.Offers.{task_of, AreNew};
 ghost use Rattle.drf_rows.specs.declared.rows.OfferRow.{OfferRow};
-ghost use Rattle.drf_holdings.specs.Ended.{ending_of};
+ghost use Rattle.drf_rows.specs.Ended.{ending_of};
 ghost use Rattle.drf_holdings.specs.Listed.{offer_number, task_row};
 ghost use Rattle.drf_holdings.specs.Rising.{IsRising};
 ghost use Rattle.drf_holdings.specs.Stored.{HasTaken, HasStarted, holdings_in};
 ghost use Rattle.drf_holdings.specs.Taking.{IsTaken, HasNone};
 
-use crate::ending::Ending;
 use crate::offers::OfferTable;
 use crate::tasks::{Task, TaskTable};
 use drf_bundle::Bundle;
 use drf_role::{Name, Role};
-use drf_rows::{OfferRow, TaskRow};
+use drf_rows::{Ending, OfferRow, TaskList, TaskRow};
 use std::alloc::{AllocError, Global};
 use std::marker::Model;
 
@@ -57,6 +57,23 @@ fn take_task(tasks: &mut TaskTable, ending: Ending) -> Option<TaskRow>
         Ending::AllOn(agent) => tasks.take_on(agent),
         Ending::AllOf(framework) => tasks.take_of(framework),
     }
+}
+
+/// The tasks that are started with parts of an offer, in their order.
+fn task_rows(offer: &OfferRow, tasks: Vec<(Name, Bundle)>) -> Result<Vec<TaskRow>, AllocError>
+    ensures { IfOk result (λ rows. rows.items ≡ map (task_of offer.now) tasks.items) }
+{
+    let mut rows = Vec::with_capacity(*tasks.allocator(), tasks.len())?;
+    for (name, bundle) in tasks {
+        rows.push(TaskRow {
+            name,
+            agent: offer.agent.copy()?,
+            framework: offer.framework.copy()?,
+            role: offer.role.copy()?,
+            bundle,
+        })?;
+    }
+    Ok(rows)
 }
 
 /// The offers and the tasks. Contracts see their lists. What leaves does so without memory, and no call looks at holdings
@@ -157,23 +174,17 @@ impl Holdings {
         self.offers.append(offers)
     }
 
-    /// An offer becomes a task with a part of it. Gives the offer that it was. An `Err` changes nothing.
-    pub fn start(&mut self, number: u64, name: Name, used: Bundle) -> Result<OfferRow, AllocError>
+    /// Tasks are started with parts of an offer, which goes. Gives the offer that it was. An `Err` changes nothing.
+    pub fn start(&mut self, number: u64, tasks: TaskList) -> Result<OfferRow, AllocError>
         requires there { list_any (λ o. o.number == number) self.old.offers ≡ true }
         requires new { (o : OfferRow) → find (λ p. p.number == number) self.old.offers ≡ Some o
-            → list_any (is_task o.framework name) self.old.tasks ≡ false }
-        ensures ok { IfOk result (HasStarted number (name, used) self.old self.new) }
+            → AreNew self.old.tasks (map (task_of o) tasks) }
+        ensures ok { IfOk result (HasStarted number tasks self.old self.new) }
         ensures err { OnErr result (self.new ≡ self.old) }
     {
         let offer = self.offers.get(number).unwrap();
-        let task = TaskRow {
-            name,
-            agent: offer.agent.copy()?,
-            framework: offer.framework.copy()?,
-            role: offer.role.copy()?,
-            bundle: used,
-        };
-        self.tasks.push(task)?;
+        let rows = task_rows(offer, tasks.into_vec())?;
+        self.tasks.append(rows)?;
         Ok(self.offers.take(number).unwrap())
     }
 }

@@ -2,13 +2,11 @@
 //! a framework, without a look at what others hold.
 #![tactic(auto)]
 
-mod ending;
 mod holdings;
 mod index;
 mod names;
 mod offers;
 mod tasks;
 
-pub use ending::Ending;
 pub use holdings::{Holdings, Taken};
 pub use tasks::Task;

@@ -1,9 +1,10 @@
 //! The tasks that run, as they were started.
-ghost use Rattle.std.specs.Prelude.{◌≡◌, ◌==◌, ℕ, List, [], ◌∷◌, ◌++◌, map, find, flat_map, false, IfOk, IfSome, IfNone, OnOk, OnErr, MatchOption, option_copied};
+ghost use Rattle.std.specs.Prelude.{◌≡◌, ◌==◌, ℕ, List, [], ◌∷◌, ◌++◌, map, find, flat_map, take, length, ◌<◌, ◌-◌, false, IfOk, IfSome, IfNone, OnOk, OnErr, MatchOption, option_copied};
 ghost use Rattle.std.specs.List.{list_any};
 ghost use Rattle.drf_bundle.specs.Taken.{rest_of_all};
 ghost use Rattle.drf_role.specs.Text.{same_text};
 ghost use Rattle.drf_rows.specs.Holdings.{of_task, parts_on};
+ghost use Rattle.drf_rows.specs.Offers.{AreNew};
 ghost use Rattle.drf_rows.specs.Endings.{is_task};
 ghost use Rattle.drf_holdings.specs.Listed.{task_serial, task_row, serials_in, bundles_at, AreTasksListed, AreTasksKept};
 ghost use Rattle.drf_holdings.specs.Rising.{IsRising, AreOthers, IsAt};
@@ -201,6 +202,42 @@ impl TaskTable {
         self.index.add(&task)?;
         self.tasks.push_reserved(task);
         self.next = next;
+        Ok(())
+    }
+
+    /// Takes the last task out.
+    fn pop(&mut self)
+        ensures front { (count : ℕ) → count < length self.old → take count self.new ≡ take count self.old }
+        ensures fewer { length self.new ≡ length self.old - 1 }
+    {
+        if let Some(task) = self.tasks.pop() {
+            self.index.remove(&task);
+        }
+    }
+
+    /// Takes the last tasks out, until so many are left.
+    fn truncate(&mut self, count: usize)
+        ensures { self.new ≡ take count self.old }
+    {
+        while count < self.tasks.len() {
+            self.pop();
+        }
+    }
+
+    /// Puts tasks behind those that are there, all or none: where memory ends, those that came before are taken out, which
+    /// takes none.
+    pub(crate) fn append(&mut self, rows: Vec<TaskRow>) -> Result<(), AllocError>
+        requires { AreNew self.old rows.items }
+        ensures ok { OnOk result (self.new ≡ self.old ++ rows.items) }
+        ensures err { OnErr result (self.new ≡ self.old) }
+    {
+        let count = self.tasks.len();
+        for row in rows {
+            if let Err(error) = self.push(row) {
+                self.truncate(count);
+                return Err(error);
+            }
+        }
         Ok(())
     }
 

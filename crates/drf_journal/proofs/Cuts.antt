@@ -1,10 +1,12 @@
 -- Where an input is cut.
-use Rattle.std.proofs.Common.{◌≡◌, ℕ, ◌+◌, ◌<◌, Bool, true, false, List, [], ◌∷◌, ◌++◌, length, get_or, take, drop, refl, sym, ap, ◌∙◌, append_assoc, suc, add-one, take-append-drop, arith}
+use Rattle.std.proofs.Common.{◌≡◌, ◌==◌, if◌then◌else◌, ℕ, ◌+◌, ◌<◌, Bool, true, false, List, [], ◌∷◌, ◌++◌, length, get_or, take, drop, refl, sym, ap, ◌∙◌, subst, append_assoc, append-nil, suc, add-one, take-append-drop, arith}
 use Rattle.std.proofs.Math.Seq.{drop-cons}
 use Rattle.std.specs.List.{slice_split}
+use Rattle.std.proofs.lemmas.Bool.{ne_eqb}
+use Rattle.std.proofs.lemmas.List.{length-append}
 use Rattle.std.proofs.lemmas.List.Elements.{All-nil, All-cons, All-head, All-tail, All-append}
 use Rattle.std.proofs.lemmas.List.Splits.{slice_split_at, slice_split_none, length-slice_split}
-use Rattle.drf_journal.specs.Lines.{is_line_feed, all_but_last, last_part, ended_lines_of, open_line_of}
+use Rattle.drf_journal.specs.Lines.{is_line_feed, all_but_last, last_part, ended_lines_of, open_line_of, lines_of}
 use Rattle.drf_journal.specs.State.{IsWithinLine}
 
 first_ended : (front : List ℕ) (parts : List (List ℕ)) → 0 < length parts
@@ -62,40 +64,108 @@ cut_at rest at inside feed =
 
 -- ---- the lines of the front of an input come first among its lines
 
-pub record GoesOn (front more : List ℕ) : Type 0 where
-  pub others : List (List ℕ)
-  pub lines : ended_lines_of more ≡ ended_lines_of front ++ others
+-- those that end in the front stand before those of the rest and what is open of the front
+pub record GoesOn (front more : List ℕ) (whole : List ℕ) : Type 0 where
+  pub lines : ended_lines_of whole ≡ ended_lines_of front ++ ended_lines_of (open_line_of front ++ more)
+  pub line : open_line_of whole ≡ open_line_of (open_line_of front ++ more)
+  pub within : IsWithinLine (open_line_of front)
 
-goes_on_from : (line front more : List ℕ) → IsWithinLine line → GoesOn (line ++ front) (line ++ (front ++ more))
-goes_on_from line [] more within = record {
-  others = ended_lines_of (line ++ more);
-  lines = sym (ap (λ ls. ls ++ ended_lines_of (line ++ more))
-      (ended-within (line ++ []) (within-append-nil line within)));
-}
-  where
-    within-append-nil : (line : List ℕ) → IsWithinLine line → IsWithinLine (line ++ [])
-    within-append-nil line within = All-append (λ b. is_line_feed b ≡ false) line [] within within-nil
+goes_on_within : (line front more : List ℕ) → front ≡ line → IsWithinLine line → GoesOn front more (line ++ more)
+goes_on_within line front more same within =
+    let ended : ended_lines_of front ≡ [] = ap ended_lines_of same ∙ ended-within line within in
+    let next : open_line_of front ≡ line = ap open_line_of same ∙ open-within line within in
+    record {
+      lines = λ i. sym ended i ++ ended_lines_of (sym next i ++ more);
+      line = ap (λ (l : List ℕ). open_line_of (l ++ more)) (sym next);
+      within = subst IsWithinLine (sym next) within;
+    }
+
+goes_on_from : (line front more : List ℕ) → IsWithinLine line → GoesOn (line ++ front) more (line ++ (front ++ more))
+goes_on_from line [] more within = goes_on_within line (line ++ []) more (append-nil line) within
 goes_on_from line (b ∷ front) more within =
     by_test (is_line_feed b) refl (goes_on_from [] front more within-nil)
     (λ other. goes_on_from (line ++ b ∷ []) front more (within-push line b within other))
   where
-    by_test : (t : Bool) → is_line_feed b ≡ t → GoesOn front (front ++ more)
-        → (is_line_feed b ≡ false → GoesOn ((line ++ b ∷ []) ++ front) ((line ++ b ∷ []) ++ (front ++ more)))
-        → GoesOn (line ++ b ∷ front) (line ++ (b ∷ front ++ more))
-    by_test true feed rest same = record {
-      others = rest.others;
-      lines =
-          ended-feed line b (front ++ more) within feed ∙ ap (λ ls. line ∷ ls) rest.lines
-          ∙ sym (ap (λ ls. ls ++ rest.others) (ended-feed line b front within feed));
-    }
+    by_test : (t : Bool) → is_line_feed b ≡ t → GoesOn front more (front ++ more)
+        → (is_line_feed b ≡ false → GoesOn ((line ++ b ∷ []) ++ front) more ((line ++ b ∷ []) ++ (front ++ more)))
+        → GoesOn (line ++ b ∷ front) more (line ++ (b ∷ front ++ more))
+    by_test true feed rest same =
+        let next : open_line_of (line ++ b ∷ front) ≡ open_line_of front = open-feed line b front within feed in
+        record {
+          lines =
+              ended-feed line b (front ++ more) within feed ∙ ap (λ ls. line ∷ ls) rest.lines
+              ∙ (λ i. sym (ended-feed line b front within feed) i ++ ended_lines_of (sym next i ++ more));
+          line = open-feed line b (front ++ more) within feed ∙ rest.line
+              ∙ ap (λ (l : List ℕ). open_line_of (l ++ more)) (sym next);
+          within = subst IsWithinLine (sym next) rest.within;
+        }
     by_test false other rest same =
         let next = same other in
-        record {
-          others = next.others;
-          lines =
-              ap ended_lines_of (sym (append_assoc line (b ∷ []) (front ++ more))) ∙ next.lines
-              ∙ ap (λ l. ended_lines_of l ++ next.others) (append_assoc line (b ∷ []) front);
-        }
+        let front_is : (line ++ b ∷ []) ++ front ≡ line ++ b ∷ front = append_assoc line (b ∷ []) front in
+        let whole_is : (line ++ b ∷ []) ++ (front ++ more) ≡ line ++ (b ∷ front ++ more) =
+        append_assoc line (b ∷ []) (front ++ more) in
+        subst (λ (l : List ℕ). GoesOn l more (line ++ (b ∷ front ++ more))) front_is
+        (subst (GoesOn ((line ++ b ∷ []) ++ front) more) whole_is next)
 
-pub goes_on : (front more : List ℕ) → GoesOn front (front ++ more)
+pub goes_on : (front more : List ℕ) → GoesOn front more (front ++ more)
 goes_on front more = goes_on_from [] front more within-nil
+
+-- ---- all lines
+
+pub lines-goes_on : (front more : List ℕ)
+    → lines_of (front ++ more) ≡ ended_lines_of front ++ lines_of (open_line_of front ++ more)
+unfolding lines_of
+lines-goes_on front more =
+    let on = goes_on front more in
+    let last : List ℕ → List (List ℕ) = λ line. if length line == 0 then [] else line ∷ [] in
+    (λ i. on.lines i ++ last (on.line i))
+    ∙ append_assoc (ended_lines_of front) (ended_lines_of (open_line_of front ++ more)) (last (open_line_of (open_line_of front ++ more)))
+
+pub lines-feed : (line rest : List ℕ) → IsWithinLine line → lines_of (line ++ 10 ∷ rest) ≡ line ∷ lines_of rest
+unfolding lines_of
+lines-feed line rest within =
+    let last : List ℕ → List (List ℕ) = λ line. if length line == 0 then [] else line ∷ [] in
+    λ i. ended-feed line 10 rest within refl i ++ last (open-feed line 10 rest within refl i)
+
+-- where something has come of a line it is the first, and goes on
+pub lines-begun : (line more : List ℕ) → IsWithinLine line → 0 < length line
+    → (rest : List ℕ) × ((others : List (List ℕ)) × (lines_of (line ++ more) ≡ (line ++ rest) ∷ others))
+unfolding lines_of
+lines-begun line [] within some =
+    let next : open_line_of (line ++ []) ≡ line = ap open_line_of (append-nil line) ∙ open-within line within in
+    let ended : ended_lines_of (line ++ []) ≡ [] = ap ended_lines_of (append-nil line) ∙ ended-within line within in
+    let test : (length line == 0) ≡ false = ne_eqb (length line) 0 (λ e. omega arith) in
+    let last : List ℕ → List (List ℕ) = λ line. if length line == 0 then [] else line ∷ [] in (
+      [],
+      (
+        [],
+        (λ i. ended i ++ last (next i)) ∙ ap (λ (t : Bool). if t then [] else line ∷ []) test
+            ∙ ap (λ (l : List ℕ). l ∷ []) (sym (append-nil line)),
+      ),
+    )
+lines-begun line (b ∷ more) within some =
+    by_test (is_line_feed b) refl (λ other.
+    lines-begun (line ++ b ∷ []) more (within-push line b within other)
+    (let sum = length-append line (b ∷ []) in omega arith))
+  where
+    by_test : (t : Bool) → is_line_feed b ≡ t
+        → (is_line_feed b ≡ false → (rest : List ℕ) × ((others : List (List ℕ)) × (lines_of ((line ++ b ∷ []) ++ more) ≡ ((line ++ b ∷ []) ++ rest) ∷ others)))
+        → (rest : List ℕ) × ((others : List (List ℕ)) × (lines_of (line ++ b ∷ more) ≡ (line ++ rest) ∷ others))
+    by_test true feed same =
+        let last : List ℕ → List (List ℕ) = λ line. if length line == 0 then [] else line ∷ [] in (
+          [],
+          (
+            lines_of more,
+            (λ i. ended-feed line b more within feed i ++ last (open-feed line b more within feed i))
+                ∙ ap (λ (l : List ℕ). l ∷ lines_of more) (sym (append-nil line)),
+          ),
+        )
+    by_test false other same =
+        let found = same other in (
+          b ∷ found.0,
+          (
+            found.1.0,
+            ap lines_of (sym (append_assoc line (b ∷ []) more)) ∙ found.1.1
+                ∙ ap (λ (l : List ℕ). l ∷ found.1.0) (append_assoc line (b ∷ []) found.0),
+          ),
+        )

@@ -7,3 +7,6 @@ pub mod Devices
 pub mod Texts
 pub mod Parts
 pub mod Served
+pub mod Pairs
+pub mod Checks
+pub mod Verdicts

@@ -15,7 +15,7 @@ use Rattle.drf_journal.specs.Device.{AppendsFrontOf}
 use Rattle.drf_journal.specs.Lines.{ended_lines_of, open_line_of, lines_of}
 use Rattle.drf_journal.specs.Output.{output_of}
 use Rattle.drf_journal.specs.State.{State, begun, IsBegun, machine_after, machine_after_lines, after_line, after_piece, at_end, AnswersFrontOf}
-use Rattle.drf_journal.specs.Ended.{HaveEnded, HasAnswered, HasTaken, HasServed, HasStopped, HasCause}
+use Rattle.drf_journal.specs.Ended.{HaveEnded, HasAnswered, HasTaken, HasServed, HasStopped, HasCause, HasFlushed}
 use Rattle.drf_journal.proofs.Cuts.{within-nil, ended-within, goes_on}
 use Rattle.drf_journal.proofs.Kept.{answer-kept, meaning-kept}
 use Rattle.drf_journal.proofs.Pieces.{answers_from, after_lines, after_piece-lines, piece-nil, end-none, end-line, end-sent, end-counted, end-machine}
@@ -79,7 +79,7 @@ at_end_all s lines (b ∷ next) =
 
 module _ (front more read : List ℕ) (whole : read ≡ front ++ more) where
   others : List (List ℕ)
-  others = (goes_on front more).others
+  others = ended_lines_of (open_line_of front ++ more)
 
   parted : ended_lines_of read ≡ ended_lines_of front ++ others
   unfolding others
@@ -509,3 +509,9 @@ pub cause-stopped : (fault : RunFault) (reader_failed : Bool) (reads : ℕ) (wri
 cause-stopped Read reader_failed reads writer_failed sound cause = absurd (⊎_elim (λ e. cc) (λ e. omega arith) cause.0)
 cause-stopped Write reader_failed reads writer_failed sound cause = (sound, cause.1)
 cause-stopped Memory reader_failed reads writer_failed sound cause = (sound, cause.1)
+
+pub flushed-stopped : (A B : Type 0) (fault : RunFault) (flushed : Bool) → HasFlushed {T = A} (Err fault) flushed
+    → HasFlushed {T = B} (Err fault) flushed
+flushed-stopped A B Read flushed is = is
+flushed-stopped A B Write flushed is = tt
+flushed-stopped A B Memory flushed is = is

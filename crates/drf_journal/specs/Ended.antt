@@ -1,5 +1,5 @@
 -- How a run ends: what it read and wrote, how its session stands, and which device failed.
-use Rattle.std.specs.Prelude.{◌≡◌, ℕ, ◌+◌, ◌-◌, ◌^◌, ◌≤◌, Bool, true, false, List, length, take, Option, Result, Ok, Err, ◌⊎◌, []}
+use Rattle.std.specs.Prelude.{◌≡◌, ℕ, ◌+◌, ◌-◌, ◌^◌, ◌≤◌, Bool, true, false, List, length, take, Option, Result, Ok, Err, ◌⊎◌, [], ⊤}
 use Rattle.std.specs.Io.{StartsWith}
 use Rattle.std.specs.Io.KnownBytes.{Appends, Consumes, IsAtEnd}
 use Rattle.drf_core.specs.Machine.{Machine}
@@ -66,6 +66,13 @@ pub record HasServed (old : State)
   pub run : HasAnswered old.machine.limits old.echo unread_before unread_after written_before written_after result
   pub counted : new.lines ≡ run.lines
   pub taken : HasTaken old.machine new.machine run.lines run.read unread_after
+
+-- whatever was written has been flushed, unless the writer failed
+abbrev pub HasFlushed : {T : Type 0} → Result T RunFault → Bool → Type 0
+HasFlushed (Ok told) flushed = flushed ≡ true
+HasFlushed (Err Read) flushed = flushed ≡ true
+HasFlushed (Err Write) flushed = ⊤
+HasFlushed (Err Memory) flushed = flushed ≡ true
 
 -- a read fault comes where the reader failed, or was asked 2^40 times; a write fault where the writer failed; and
 -- otherwise neither has

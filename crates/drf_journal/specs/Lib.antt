@@ -3,3 +3,6 @@ pub mod Lines
 pub mod Output
 pub mod State
 pub mod Ended
+pub mod Journal
+pub mod Checking
+pub mod JournalLaws

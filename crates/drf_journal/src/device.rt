@@ -1,5 +1,5 @@
 //! Readers and writers that remember whether a call failed.
-ghost use Rattle.std.specs.Prelude.{◌≡◌, ◌+◌, ◌-◌, ◌^◌, ◌||◌, Bool, false, min, is_err, OnOk, OnErr, IfErr};
+ghost use Rattle.std.specs.Prelude.{◌≡◌, ◌+◌, ◌-◌, ◌^◌, ◌||◌, Bool, true, false, min, is_err, is_ok, OnOk, OnErr, IfErr};
 ghost use Rattle.std.specs.Io.{ReadsAtMost, WritesAtMost};
 ghost use Rattle.std.specs.Io.KnownBytes.{Appends, Keeps, ReadConsumes, WriteAppends};
 ghost use Rattle.drf_journal.specs.Device.{moved_nothing, AppendsFrontOf};
@@ -8,24 +8,26 @@ use crate::fault::RunFault;
 use std::io;
 use std::io::{Read, Write};
 
-/// A reader or a writer, how often it was called, and whether a call has failed. An interrupted call has failed like any
-/// other.
+/// A reader or a writer, how often it was called, whether a call has failed, and whether what was written has been
+/// flushed. An interrupted call has failed like any other.
 #[derive(Drop)]
 pub struct Device<T> {
     inner: T,
     calls: u64,
     failed: bool,
+    flushed: bool,
 }
 
 impl<T> Device<T> {
     /// A device that was not called yet.
     pub fn new(inner: T) -> Device<T>
-        ensures { result ≡ record { inner = inner; calls = 0; failed = false } }
+        ensures { result ≡ record { inner = inner; calls = 0; failed = false; flushed = true } }
     {
         Device {
             inner,
             calls: 0,
             failed: false,
+            flushed: true,
         }
     }
 
@@ -49,6 +51,13 @@ impl<T> Device<T> {
     {
         self.failed
     }
+
+    /// Whether all that was written has been flushed, as it has before the first write.
+    pub fn flushed(&self) -> bool
+        ensures { result ≡ self.now.flushed }
+    {
+        self.flushed
+    }
 }
 
 impl<T: Read> Device<T> {
@@ -58,6 +67,7 @@ impl<T: Read> Device<T> {
         ensures bytes { ReadConsumes (T.remaining self.old.inner) (T.remaining self.new.inner) result buf.new }
         ensures calls { self.new.calls ≡ min (self.old.calls + 1) (2 ^ 64 - 1) }
         ensures failed { self.new.failed ≡ self.old.failed || is_err result }
+        ensures flushed { self.new.flushed ≡ self.old.flushed }
     {
         let told = self.inner.read(buf);
         self.calls = self.calls.saturating_add(1);
@@ -73,7 +83,9 @@ impl<T: Write> Device<T> {
         ensures bytes { WriteAppends (T.contents self.old.inner) (T.contents self.new.inner) result bytes.now }
         ensures calls { self.new.calls ≡ min (self.old.calls + 1) (2 ^ 64 - 1) }
         ensures failed { self.new.failed ≡ self.old.failed || moved_nothing result }
+        ensures flushed { self.new.flushed ≡ false }
     {
+        self.flushed = false;
         let told = self.inner.write(bytes);
         self.calls = self.calls.saturating_add(1);
         self.failed = self.failed || !matches!(told, Ok(1..));
@@ -85,8 +97,10 @@ impl<T: Write> Device<T> {
         ensures bytes { Keeps (T.contents self.old.inner) (T.contents self.new.inner) }
         ensures calls { self.new.calls ≡ min (self.old.calls + 1) (2 ^ 64 - 1) }
         ensures failed { self.new.failed ≡ self.old.failed || is_err result }
+        ensures flushed { self.new.flushed ≡ self.old.flushed || is_ok result }
     {
         let told = self.inner.flush();
+        self.flushed = self.flushed || told.is_ok();
         self.calls = self.calls.saturating_add(1);
         self.failed = self.failed || told.is_err();
         told
@@ -99,6 +113,7 @@ pub fn write_whole<W: Write>(writer: &mut Device<W>, bytes: &[u8]) -> Result<(),
     ensures err { OnErr result (AppendsFrontOf (W.contents writer.old.inner) (W.contents writer.new.inner) bytes.now) }
     ensures fault { IfErr result (λ fault. fault ≡ RunFault.Write) }
     ensures failed { writer.old.failed ≡ false → writer.new.failed ≡ is_err result }
+    ensures flushed { OnOk result (writer.new.flushed ≡ true) }
 {
     let mut rest = bytes;
     while !rest.is_empty() {

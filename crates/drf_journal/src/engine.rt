@@ -1,8 +1,8 @@
 //! The engine: lines in, reply lines out.
-ghost use Rattle.std.specs.Prelude.{◌≡◌, ◌+◌, ◌<◌, ◌≤◌, ◌^◌, [], length, take, false, OnOk, IfOk, IfErr};
+ghost use Rattle.std.specs.Prelude.{◌≡◌, ◌+◌, ◌<◌, ◌≤◌, ◌^◌, [], length, take, true, false, OnOk, IfOk, IfErr};
 ghost use Rattle.std.specs.Io.KnownBytes.{Appends, IsAtEnd};
 ghost use Rattle.drf_journal.specs.Device.{IsNew};
-ghost use Rattle.drf_journal.specs.Ended.{HasAnswered, HasServed, HasStopped, HasCause};
+ghost use Rattle.drf_journal.specs.Ended.{HasAnswered, HasServed, HasStopped, HasCause, HasFlushed};
 ghost use Rattle.drf_journal.specs.State.{IsBegun, after_piece};
 
 use crate::device::Device;
@@ -13,11 +13,14 @@ use drf_sorter::{PlainSorter, Sorter};
 use std::alloc::Global;
 use std::io::{Read, Write};
 
-/// How many bytes a read asks for.
-const CHUNK: usize = 65_536;
+/// The sorter that the program uses.
+pub(crate) type ProgramSorter = PlainSorter;
 
-/// How often a run reads at most.
-const MAX_READS: u64 = 1_099_511_627_776;
+/// How many bytes a read asks for.
+pub(crate) const CHUNK: usize = 65_536;
+
+/// How often a run or a check reads at most.
+pub(crate) const MAX_READS: u64 = 1_099_511_627_776;
 
 /// Answers lines that end in the next piece of the input, all of them or until much text waits to be written, and tells
 /// how many bytes that took. What was answered before memory ran out is written too.
@@ -36,6 +39,7 @@ fn answer_part<S: Sorter, W: Write>(
     ensures err { IfErr result (λ fault. HasStopped fault session.old piece.now session.new
         (W.contents writer.old.inner) (W.contents writer.new.inner)) }
     ensures cause { writer.old.failed ≡ false → HasCause result false 0 writer.new.failed }
+    ensures flushed { writer.old.flushed ≡ true → HasFlushed result writer.new.flushed }
 {
     let taken = session.take(alloc, piece);
     session.send(writer)?;
@@ -57,6 +61,7 @@ fn answer_piece<S: Sorter, W: Write>(
     ensures err { IfErr result (λ fault. HasStopped fault session.old piece.now session.new
         (W.contents writer.old.inner) (W.contents writer.new.inner)) }
     ensures cause { writer.old.failed ≡ false → HasCause result false 0 writer.new.failed }
+    ensures flushed { writer.old.flushed ≡ true → HasFlushed result writer.new.flushed }
 {
     let mut rest = piece;
     while !rest.is_empty() {
@@ -81,6 +86,7 @@ pub fn serve<S: Sorter, R: Read, W: Write>(
         (W.contents writer.old.inner) (W.contents writer.new.inner) session.new result }
     ensures read { OnOk result (IsAtEnd (R.remaining reader.new.inner)) }
     ensures cause { HasCause result reader.new.failed reader.new.calls writer.new.failed }
+    ensures flushed { writer.old.flushed ≡ true → HasFlushed result writer.new.flushed }
     ensures reads { reader.new.calls ≤ 2 ^ 40 }
 {
     let mut buffer = vec![in alloc; 0u8; CHUNK]?;
@@ -113,8 +119,9 @@ pub fn run<R: Read, W: Write>(
         (W.contents writer.old.inner) (W.contents writer.new.inner) result }
     ensures read { OnOk result (IsAtEnd (R.remaining reader.new.inner)) }
     ensures cause { HasCause result reader.new.failed reader.new.calls writer.new.failed }
+    ensures flushed { writer.old.flushed ≡ true → HasFlushed result writer.new.flushed }
     ensures reads { reader.new.calls ≤ 2 ^ 40 }
 {
-    let mut session = Session::<PlainSorter>::open(alloc, limits, echo)?;
+    let mut session = Session::<ProgramSorter>::open(alloc, limits, echo)?;
     serve(alloc, &mut session, reader, writer)
 }

@@ -1,116 +1,22 @@
 //! What a run keeps between reads.
-ghost use Rattle.std.specs.Prelude.{◌≡◌, ◌⊎◌, ℕ, ◌+◌, ◌^◌, ◌<◌, ◌≤◌, [], ◌∷◌, ◌++◌, false, is_err, length, take, slice_index, IfOk, OnOk, OnErr, IfErr, IfSome, IfNone};
+ghost use Rattle.std.specs.Prelude.{◌≡◌, ◌⊎◌, ℕ, ◌+◌, ◌^◌, ◌<◌, ◌≤◌, [], ◌∷◌, ◌++◌, true, false, is_err, length, take, IfOk, OnOk, OnErr, IfErr};
 ghost use Rattle.std.specs.Io.KnownBytes.{Appends};
-ghost use Rattle.drf_rows.specs.Step.{reply_to};
-ghost use Rattle.drf_core.specs.Machine.{live, after};
-ghost use Rattle.drf_lines.specs.Meaning.{meaning_of};
 ghost use Rattle.drf_journal.specs.Device.{AppendsFrontOf};
-ghost use Rattle.drf_journal.specs.Output.{kept_of, reply_line_after};
-ghost use Rattle.drf_journal.specs.State.{begun, machine_after, answer_to, after_piece, at_end, IsWithinLine, HasTakenAtMost, WaitsBelow, AnswersFrontOf};
+ghost use Rattle.drf_journal.specs.State.{begun, after_piece, at_end, IsWithinLine, HasTakenAtMost, WaitsBelow, AnswersFrontOf};
 
+use crate::answer::answer_end;
 use crate::device::{Device, write_whole};
 use crate::fault::RunFault;
+use crate::open_line::{OpenLine, line_feed_in};
 use drf_core::Core;
-use drf_lines::{LineError, read_event, write_fault, write_reply};
-use drf_rows::{Event, Limits, Reply};
+use drf_rows::Limits;
 use drf_sorter::Sorter;
 use std::alloc::{AllocError, Global};
 use std::io::Write;
 use std::marker::Model;
 
-/// How many bytes of a line are kept: one more than it may have, so that one that is too long is told from the longest.
-const KEPT: usize = 65_537;
-
 /// One more line is answered only while less text than this waits to be written.
 const MOST_UNSENT: usize = 65_536;
-
-/// Takes an event, as it is seen from outside.
-fn take_event<S: Sorter>(core: &mut Core<S>, event: Event) -> Result<Reply, AllocError>
-    ensures told { IfOk result (λ reply. reply ≡ reply_to (live core.old).limits (live core.old).rows event) }
-    ensures ok { OnOk result (live core.new ≡ after (live core.old) event) }
-    ensures err { OnErr result (live core.new ≡ live core.old) }
-{
-    core.step(event)
-}
-
-/// Takes a line's event, and tells its reply line.
-fn take_line<S: Sorter>(
-    alloc: Global,
-    core: &mut Core<S>,
-    line: &[u8],
-) -> Result<Vec<u8>, AllocError>
-    ensures told { IfOk result (λ told. told.items ≡ reply_line_after (live core.old).limits (live core.old).rows (meaning_of line.now)) }
-    ensures ok { OnOk result (live core.new ≡ machine_after (live core.old) (meaning_of line.now)) }
-    ensures taken { HasTakenAtMost (live core.old) line.now (live core.new) }
-{
-    match read_event(alloc, line) {
-        Ok(event) => {
-            let reply = take_event(core, event)?;
-            write_reply(alloc, &reply)
-        }
-        Err(LineError::Fault(fault)) => write_fault(alloc, fault),
-        Err(LineError::Memory) => Err(AllocError),
-    }
-}
-
-/// Adds to the line at hand, as far as it is kept.
-fn keep(pending: &mut Vec<u8>, more: &[u8]) -> Result<(), AllocError>
-    ensures { OnOk result (pending.new.items ≡ kept_of (pending.old.items ++ more.now)) }
-{
-    pending.extend_from_slice(more)?;
-    pending.truncate(KEPT);
-    Ok(())
-}
-
-/// Takes a line's event, and gives the text for the line.
-fn answer<S: Sorter>(
-    alloc: Global,
-    core: &mut Core<S>,
-    echo: bool,
-    line: &[u8],
-) -> Result<Vec<u8>, AllocError>
-    ensures told { IfOk result (λ told. told.items ≡ answer_to echo (live core.old) line.now) }
-    ensures ok { OnOk result (live core.new ≡ machine_after (live core.old) (meaning_of line.now)) }
-    ensures taken { HasTakenAtMost (live core.old) line.now (live core.new) }
-{
-    let reply = take_line(alloc, core, line)?;
-    if !echo {
-        return Ok(reply);
-    }
-    let mut told = Vec::new(alloc);
-    keep(&mut told, line)?;
-    told.push(b'\n')?;
-    told.extend_from_slice(&reply)?;
-    Ok(told)
-}
-
-/// Takes the event of the line that some bytes end, of which `pending` came before, and gives the text for the line. One
-/// that came whole is read where it lies.
-fn answer_end<S: Sorter>(
-    alloc: Global,
-    core: &mut Core<S>,
-    echo: bool,
-    pending: &mut Vec<u8>,
-    end: &[u8],
-) -> Result<Vec<u8>, AllocError>
-    ensures told { IfOk result (λ told. told.items ≡ answer_to echo (live core.old) (pending.old.items ++ end.now)) }
-    ensures ok { OnOk result (live core.new ≡ machine_after (live core.old) (meaning_of (pending.old.items ++ end.now))) }
-    ensures taken { HasTakenAtMost (live core.old) (pending.old.items ++ end.now) (live core.new) }
-{
-    if pending.is_empty() {
-        return answer(alloc, core, echo, end);
-    }
-    keep(pending, end)?;
-    answer(alloc, core, echo, pending)
-}
-
-/// Where the first line feed stands.
-fn line_feed_in(bytes: &[u8]) -> Option<usize>
-    ensures found { IfSome result (λ at. (at < length bytes.now) × (slice_index bytes.now at ≡ 10) × IsWithinLine (take at bytes.now)) }
-    ensures none { IfNone result (IsWithinLine bytes.now) }
-{
-    bytes.iter().position(|b| *b == b'\n')
-}
 
 /// A run between two reads.
 #[derive(Drop)]
@@ -118,7 +24,7 @@ pub struct Session<S: Sorter> {
     core: Core<S>,
     echo: bool,
     /// What is kept of the line that is not whole yet.
-    pending: Vec<u8>,
+    pending: OpenLine,
     /// The text that is not written yet.
     unsent: Vec<u8>,
     /// How many lines were answered.
@@ -136,7 +42,7 @@ impl<S: Sorter> Model for Session<S> {
     ghost view = { λ s. record {
       machine = live s.core;
       echo = s.echo;
-      pending = s.pending.items;
+      pending = s.pending;
       unsent = s.unsent.items;
       lines = s.lines;
     } };
@@ -150,7 +56,7 @@ impl<S: Sorter> Session<S> {
         Ok(Session {
             core: Core::open(alloc, limits)?,
             echo,
-            pending: Vec::new(alloc),
+            pending: OpenLine::new(alloc),
             unsent: Vec::new(alloc),
             lines: 0,
         })
@@ -198,7 +104,7 @@ impl<S: Sorter> Session<S> {
         if rest.is_empty() {
             return Ok(piece.len());
         }
-        keep(&mut self.pending, rest)?;
+        self.pending.keep(rest)?;
         Ok(piece.len())
     }
 
@@ -223,6 +129,7 @@ impl<S: Sorter> Session<S> {
         ensures err { OnErr result (AppendsFrontOf (W.contents writer.old.inner) (W.contents writer.new.inner) self.old.unsent) }
         ensures fault { IfErr result (λ fault. fault ≡ RunFault.Write) }
         ensures failed { writer.old.failed ≡ false → writer.new.failed ≡ is_err result }
+        ensures flushed { writer.old.flushed ≡ true → OnOk result (writer.new.flushed ≡ true) }
     {
         if self.unsent.is_empty() {
             return Ok(());

@@ -1,23 +1,30 @@
 -- The lines of events mean those events.
-use Rattle.std.proofs.Common.{◌≡◌, ℕ, ◌<◌, ◌≤◌, ◌^◌, ◌==◌, Bool, true, false, cond, List, [], ◌∷◌, map, length, Result, Some, Ok, Err, IfOk, refl, sym, ap, subst, ◌∙◌, ◌||◌, codes, arith}
-use Rattle.std.proofs.lemmas.Bool.{le-ltb, eqb-true}
+use Rattle.std.proofs.Common.{◌≡◌, ℕ, ◌<◌, ◌≤◌, ◌^◌, ◌==◌, Bool, true, false, cond, List, [], ◌∷◌, ◌++◌, ◌+◌, map, length, take, get_or, All, Result, Some, Ok, Err, IfOk, refl, sym, ap, subst, ◌∙◌, ◌||◌, codes, arith}
+use Rattle.std.proofs.lemmas.Bool.{le-ltb, le-leb, eqb-true, and_from, false≢true}
+use Rattle.std.proofs.lemmas.List.Elements.{All-head, All-tail}
+use Rattle.std.specs.Prelude.{nat_le, ◌&&◌, suc}
 use Rattle.std.specs.Option.{option_map}
 use Rattle.std.specs.Str.{IsUtf8}
 use Rattle.serde_json.specs.Data.{Data, Members, member, no_members, number, unsigned, string, depth, items_depth, members_depth}
-use Rattle.serde_json.specs.View.{items_of}
+use Rattle.serde_json.specs.View.{view, items_of}
+use Rattle.serde_json.specs.declared.value.Value.{Value}
+use Rattle.std.proofs.lemmas.List.{map-append, map_more}
 use Rattle.serde_json.specs.Read.{read, max_depth}
 use Rattle.serde_json.specs.Written.{has_float, items_have_float, members_have_float}
 use Rattle.drf_role.specs.Name.{IsName}
 use Rattle.drf_role.specs.Parts.{text_of}
 use Rattle.drf_bundle.specs.Bundle.{IsBundle}
 use Rattle.drf_bundle.specs.declared.resource.Resource.{Resource}
+use Rattle.drf_rows.specs.Tasks.{Start, IsTaskList}
+use Rattle.drf_rows.specs.declared.event.Accept as accepting
+use Rattle.drf_rows.specs.declared.event.Decline as declining
 use Rattle.drf_rows.specs.declared.event.Event.{Event}
 use Rattle.drf_rows.specs.declared.event.Event.TheVariants.{AddAgent, RemoveAgent, ActivateAgent, DeactivateAgent, AddFramework, RemoveFramework, Accept, Decline, Rescind, Finish, Suppress, Revive, SetWeight, Cycle, Report}
 use Rattle.drf_text.specs.RoundTrip.{BundleIsRead, WeightIsRead}
-use Rattle.drf_text.specs.Written.{bundle_text}
 use Rattle.drf_lines.specs.AgentEvents.{agent_event, agent_value, agent_of, of_agent}
 use Rattle.drf_lines.specs.FrameworkEvents.{framework_event, role_value, framework_value, framework_of, of_framework, its_client, of_client}
 use Rattle.drf_lines.specs.OfferEvents.{usual_refusal, refusal_member, accept_event, accept_value, decline_event, decline_value, rescind_event, rescind_value, finish_event, finish_value}
+use Rattle.drf_lines.specs.TaskTexts.{each_in, task_text, values_in, is_few, if_few, values_at, one_text, several_texts, task_texts, start_in, starts_in, start_text, task_value, tasks_members}
 use Rattle.drf_lines.specs.WeightEvents.{weight_event, weight_value}
 use Rattle.drf_lines.specs.EventLine.{cycle_value, report_request, event_value}
 use Rattle.drf_lines.specs.Object.{has_members, keys, keys_besides, texts_of, text_at, number_at, number_or, texts_at}
@@ -78,25 +85,83 @@ revive_read framework role name is = rw (name, is) refl
 
 -- ---- events of offers and tasks
 
-pub accept_read : (framework task : List ℕ) (used : List Resource) (offer at refuse_ms : ℕ) → BundleIsRead
-    → name_in framework ≡ Ok framework → IsName task → IsBundle used
-    → event_in (accept_value framework offer task used at refuse_ms) ≡ Ok (Accept framework offer task used at refuse_ms)
-unfolding event_in accept_event keys_besides keys has_members text_at number_at number_or
-accept_read framework task used offer at refuse_ms law name task_name bundle = by_test (refuse_ms == usual_refusal) refl
-  where
-    by_test : (usual : Bool) → (refuse_ms == usual_refusal) ≡ usual
-        → event_in (accept_value framework offer task used at refuse_ms) ≡ Ok (Accept framework offer task used at refuse_ms)
-    by_test true is = rw (is, name, name_read task task_name, bundle_said used law bundle) (ap (λ time. Ok (Accept framework offer task used at time)) (sym (eqb-true refuse_ms usual_refusal is)))
-    by_test false is = rw (is, name, name_read task task_name, bundle_said used law bundle) refl
+-- what is written of a task is read
+pub start_read : (start : Start) → BundleIsRead → IsName start.0 → IsBundle start.1 → start_in (start_text start) ≡ Ok start
+unfolding start_in
+start_read start law name bundle = rw (name_read start.0 name, bundle_said start.1 law bundle) refl
 
-pub decline_read : (framework : List ℕ) (offer at refuse_ms : ℕ) → name_in framework ≡ Ok framework
-    → event_in (decline_value framework offer at refuse_ms) ≡ Ok (Decline framework offer at refuse_ms)
-unfolding event_in decline_event keys_besides keys has_members text_at number_at number_or
-decline_read framework offer at refuse_ms name = by_test (refuse_ms == usual_refusal) refl
+-- and of each
+pub starts_read : (starts : List Start) → All (λ s. start_in (start_text s) ≡ Ok s) starts
+    → each_in start_in (map start_text starts) ≡ Ok starts
+starts_read [] each = refl
+starts_read (s ∷ starts) each =
+    let Read : Start → Type 0 = λ s. start_in (start_text s) ≡ Ok s in
+    rw (All-head Read s starts each, starts_read starts (All-tail Read s starts each)) refl
+
+texts_read : (starts : List Start) → each_in task_text (values_in (items_of (map task_value starts))) ≡ Ok (map start_text starts)
+unfolding task_text keys has_members text_at
+texts_read [] = refl
+texts_read (s ∷ starts) = rw (texts_read starts) refl
+
+values_few : (starts : List Start) → is_few (length (values_in (items_of (map task_value starts)))) ≡ is_few (length starts)
+values_few starts = ap is_few (count starts)
   where
-    by_test : (usual : Bool) → (refuse_ms == usual_refusal) ≡ usual
-        → event_in (decline_value framework offer at refuse_ms) ≡ Ok (Decline framework offer at refuse_ms)
-    by_test true is = rw (is, name) (ap (λ time. Ok (Decline framework offer at time)) (sym (eqb-true refuse_ms usual_refusal is)))
+    count : (starts : List Start) → length (values_in (items_of (map task_value starts))) ≡ length starts
+    count [] = refl
+    count (s ∷ starts) = ap suc (count starts)
+
+few_read : {X : Type 0} (xs : List X) → 1 ≤ length xs → length xs ≤ 16 → is_few (length xs) ≡ true
+few_read xs some few = and_from _ _ (le-leb 1 (length xs) some) (le-leb (length xs) 16 few)
+
+-- a list of one is its first
+pub only_one : (tasks : List Start) (task : Start) → 1 ≤ length tasks → length tasks < 2 → task ≡ get_or tasks 0 task → tasks ≡ task ∷ []
+only_one [] task some few is = absurd (omega (arith, some))
+only_one (s ∷ []) task some few is = ap (λ (t : Start). t ∷ []) (sym is)
+only_one (s ∷ next ∷ tasks) task some few is = absurd (omega (arith, few))
+
+-- one more task as JSON
+pub task_values_more : (values : List Value) (tasks : List Start) (i : ℕ) (task : Start) (value : Value) (now : List Value)
+    → i < length tasks → task ≡ get_or tasks i task → map view values ≡ map task_value (take i tasks)
+    → view value ≡ task_value task → now ≡ values ++ value ∷ [] → map view now ≡ map task_value (take (i + 1) tasks)
+task_values_more values tasks i task value now inside is so_far seen pushed =
+    ap (map view) pushed ∙ map-append view values (value ∷ [])
+    ∙ (λ k. so_far k ++ (seen ∙ ap task_value is) k ∷ [])
+    ∙ sym (map_more task_value tasks i task inside)
+
+pub accept_read : (a : accepting.Accept) → name_in a.framework ≡ Ok a.framework
+    → each_in start_in (map start_text a.tasks) ≡ Ok a.tasks → IsTaskList a.tasks
+    → event_in (accept_value a) ≡ Ok (Accept a)
+unfolding event_in accept_event task_texts one_text several_texts values_at if_few starts_in keys_besides keys has_members text_at number_at number_or
+accept_read a name tasks list = by a.tasks tasks (few_read a.tasks list.some list.few)
+  where
+    with_tasks : List Start → accepting.Accept
+    with_tasks starts = record a { tasks = starts }
+
+    by : (starts : List Start) → each_in start_in (map start_text starts) ≡ Ok starts → is_few (length starts) ≡ true
+        → event_in (accept_value (with_tasks starts)) ≡ Ok (Accept (with_tasks starts))
+    by [] each few = absurd (false≢true few)
+    by (s ∷ []) each few = by_test (a.refuse_ms == usual_refusal) refl
+      where
+        by_test : (usual : Bool) → (a.refuse_ms == usual_refusal) ≡ usual
+            → event_in (accept_value (with_tasks (s ∷ []))) ≡ Ok (Accept (with_tasks (s ∷ [])))
+        by_test true is = rw (is, name, each) (ap (λ time. Ok (Accept (record (with_tasks (s ∷ [])) { refuse_ms = time }))) (sym (eqb-true a.refuse_ms usual_refusal is)))
+        by_test false is = rw (is, name, each) refl
+    by (s ∷ next ∷ starts) each few = by_test (a.refuse_ms == usual_refusal) refl
+      where
+        all : List Start
+        all = s ∷ next ∷ starts
+
+        by_test : (usual : Bool) → (a.refuse_ms == usual_refusal) ≡ usual
+            → event_in (accept_value (with_tasks all)) ≡ Ok (Accept (with_tasks all))
+        by_test true is = rw (is, values_few all, few, texts_read all, name, each, few) (ap (λ time. Ok (Accept (record (with_tasks all) { refuse_ms = time }))) (sym (eqb-true a.refuse_ms usual_refusal is)))
+        by_test false is = rw (is, values_few all, few, texts_read all, name, each, few) refl
+
+pub decline_read : (d : declining.Decline) → name_in d.framework ≡ Ok d.framework → event_in (decline_value d) ≡ Ok (Decline d)
+unfolding event_in decline_event keys_besides keys has_members text_at number_at number_or
+decline_read d name = by_test (d.refuse_ms == usual_refusal) refl
+  where
+    by_test : (usual : Bool) → (d.refuse_ms == usual_refusal) ≡ usual → event_in (decline_value d) ≡ Ok (Decline d)
+    by_test true is = rw (is, name) (ap (λ time. Ok (Decline (record d { refuse_ms = time }))) (sym (eqb-true d.refuse_ms usual_refusal is)))
     by_test false is = rw (is, name) refl
 
 pub rescind_read : (offer : ℕ) → event_in (rescind_value offer) ≡ Ok (Rescind offer)
@@ -138,6 +203,15 @@ refusal_has_no_float refuse_ms more none = by_test (refuse_ms == usual_refusal)
     by_test true = none
     by_test false = none
 
+values_have_no_float : (starts : List Start) → items_have_float (items_of (map task_value starts)) ≡ false
+values_have_no_float [] = refl
+values_have_no_float (s ∷ starts) = values_have_no_float starts
+
+tasks_have_no_float : (starts : List Start) → members_have_float (tasks_members starts) ≡ false
+tasks_have_no_float [] = refl
+tasks_have_no_float (s ∷ []) = refl
+tasks_have_no_float (s ∷ next ∷ starts) = ap (λ b. b || false) (values_have_no_float (s ∷ next ∷ starts))
+
 pub event_has_no_float : (event : Event) → has_float (event_value event) ≡ false
 event_has_no_float (AddAgent agent total) = refl
 event_has_no_float (RemoveAgent agent) = refl
@@ -145,8 +219,8 @@ event_has_no_float (ActivateAgent agent) = refl
 event_has_no_float (DeactivateAgent agent) = refl
 event_has_no_float (AddFramework framework roles) = ap (λ b. b || false) (roles_have_no_float roles)
 event_has_no_float (RemoveFramework framework) = refl
-event_has_no_float (Accept framework offer task used at refuse_ms) = refusal_has_no_float refuse_ms _ refl
-event_has_no_float (Decline framework offer at refuse_ms) = refusal_has_no_float refuse_ms no_members refl
+event_has_no_float (Accept a) = refusal_has_no_float a.refuse_ms (tasks_members a.tasks) (tasks_have_no_float a.tasks)
+event_has_no_float (Decline d) = refusal_has_no_float d.refuse_ms no_members refl
 event_has_no_float (Rescind offer) = refl
 event_has_no_float (Finish framework task) = refl
 event_has_no_float (Suppress framework role) = refl
@@ -159,14 +233,23 @@ roles_are_flat : (roles : List (List (List ℕ))) → items_depth (items_of (map
 roles_are_flat [] = refl
 roles_are_flat (role ∷ roles) = rw (roles_are_flat roles) refl
 
-refusal_is_flat : (refuse_ms : ℕ) (more : Members) → members_depth more ≡ 0
-    → members_depth (refusal_member refuse_ms more) ≡ 0
-refusal_is_flat refuse_ms more flat = by_test (refuse_ms == usual_refusal)
+refusal_is_low : (refuse_ms : ℕ) (more : Members) (most : ℕ) → members_depth more ≤ most
+    → members_depth (refusal_member refuse_ms more) ≤ most
+refusal_is_low refuse_ms more most low = by_test (refuse_ms == usual_refusal)
   where
     by_test : (usual : Bool)
-        → members_depth (cond usual more (member (codes "refuse_ms") (number (unsigned refuse_ms)) more)) ≡ 0
-    by_test true = rw flat refl
-    by_test false = rw flat refl
+        → members_depth (cond usual more (member (codes "refuse_ms") (number (unsigned refuse_ms)) more)) ≤ most
+    by_test true = low
+    by_test false = omega (arith, low)
+
+values_are_low : (starts : List Start) → items_depth (items_of (map task_value starts)) ≤ 1
+values_are_low [] = omega arith
+values_are_low (s ∷ starts) = omega (arith, values_are_low starts)
+
+tasks_are_low : (starts : List Start) → members_depth (tasks_members starts) ≤ 2
+tasks_are_low [] = omega arith
+tasks_are_low (s ∷ []) = omega arith
+tasks_are_low (s ∷ next ∷ starts) = omega (arith, values_are_low (s ∷ next ∷ starts))
 
 pub event_is_shallow : (event : Event) → depth (event_value event) ≤ max_depth
 event_is_shallow (AddAgent agent total) = omega arith
@@ -175,8 +258,8 @@ event_is_shallow (ActivateAgent agent) = omega arith
 event_is_shallow (DeactivateAgent agent) = omega arith
 event_is_shallow (AddFramework framework roles) = rw (roles_are_flat roles) (omega arith)
 event_is_shallow (RemoveFramework framework) = omega arith
-event_is_shallow (Accept framework offer task used at refuse_ms) = rw (refusal_is_flat refuse_ms (member (codes "task") (string task) (member (codes "use") (string (bundle_text used)) no_members)) refl) (omega arith)
-event_is_shallow (Decline framework offer at refuse_ms) = rw (refusal_is_flat refuse_ms no_members refl) (omega arith)
+event_is_shallow (Accept a) = omega (arith, refusal_is_low a.refuse_ms (tasks_members a.tasks) 2 (tasks_are_low a.tasks))
+event_is_shallow (Decline d) = omega (arith, refusal_is_low d.refuse_ms no_members 2 (omega arith))
 event_is_shallow (Rescind offer) = omega arith
 event_is_shallow (Finish framework task) = omega arith
 event_is_shallow (Suppress framework role) = omega arith

@@ -4,6 +4,7 @@ pub mod Resources
 pub mod Object
 pub mod AgentEvents
 pub mod FrameworkEvents
+pub mod TaskTexts
 pub mod OfferEvents
 pub mod WeightEvents
 pub mod Meaning

@@ -1,15 +1,15 @@
 -- The events of offers and of the tasks that come of them, read and written as those of agents.
 use Rattle.std.specs.Prelude.{ℕ, ◌==◌, List, Result, Ok, if◌then◌else◌, codes}
 use Rattle.serde_json.specs.Data.{Data, number, unsigned, string, object, Members, member, no_members}
-use Rattle.drf_bundle.specs.declared.resource.Resource.{Resource}
+use Rattle.drf_rows.specs.declared.event.Accept as accepting
+use Rattle.drf_rows.specs.declared.event.Decline as declining
 use Rattle.drf_rows.specs.declared.event.Event.{Event}
 use Rattle.drf_rows.specs.declared.event.Event.TheVariants.{Accept, Decline, Rescind, Finish}
-use Rattle.drf_text.specs.Written.{bundle_text}
 use Rattle.drf_lines.specs.declared.fault.LineFault.{LineFault}
 use Rattle.drf_lines.specs.Fault.{◌>>=◌}
 use Rattle.drf_lines.specs.Object.{keys, keys_besides, text_at, number_at, number_or}
 use Rattle.drf_lines.specs.Words.{name_in}
-use Rattle.drf_lines.specs.Resources.{bundle_in}
+use Rattle.drf_lines.specs.TaskTexts.{task_texts, starts_in, tasks_members}
 
 -- the milliseconds for which an offer is refused where a line does not say
 abbrev pub usual_refusal : ℕ
@@ -29,22 +29,18 @@ answer_members event framework offer at refuse_ms more =
     (member (codes "offer") (number (unsigned offer))
     (refusal_member refuse_ms more))))
 
--- a framework starts a task
+-- a framework starts tasks
 unfoldable pub accept_event : Data → Result Event LineFault
 accept_event value =
-    keys_besides (codes "refuse_ms") 6 value >>= λ _.
+    task_texts value >>= λ tasks.
     text_at (codes "framework") value >>= λ framework. number_at (codes "offer") value >>= λ offer.
-    text_at (codes "task") value >>= λ task. text_at (codes "use") value >>= λ used.
     number_at (codes "at") value >>= λ at. number_or usual_refusal (codes "refuse_ms") value >>= λ refuse_ms.
-    name_in framework >>= λ framework. name_in task >>= λ task. bundle_in used >>= λ used.
-    Ok (Accept framework offer task used at refuse_ms)
+    name_in framework >>= λ framework. starts_in tasks >>= λ tasks.
+    Ok (Accept (record { framework = framework; offer = offer; tasks = tasks; at = at; refuse_ms = refuse_ms }))
 
-abbrev pub accept_value : List ℕ → ℕ → List ℕ → List Resource → ℕ → ℕ → Data
-accept_value framework offer task used at refuse_ms = object (
-    answer_members (codes "accept") framework offer at refuse_ms
-    (member (codes "task") (string task)
-    (member (codes "use") (string (bundle_text used))
-    no_members)))
+abbrev pub accept_value : accepting.Accept → Data
+accept_value a =
+    object (answer_members (codes "accept") a.framework a.offer a.at a.refuse_ms (tasks_members a.tasks))
 
 -- a framework declines an offer
 unfoldable pub decline_event : Data → Result Event LineFault
@@ -52,10 +48,11 @@ decline_event value =
     keys_besides (codes "refuse_ms") 4 value >>= λ _.
     text_at (codes "framework") value >>= λ framework. number_at (codes "offer") value >>= λ offer.
     number_at (codes "at") value >>= λ at. number_or usual_refusal (codes "refuse_ms") value >>= λ refuse_ms.
-    name_in framework >>= λ framework. Ok (Decline framework offer at refuse_ms)
+    name_in framework >>= λ framework.
+    Ok (Decline (record { framework = framework; offer = offer; at = at; refuse_ms = refuse_ms }))
 
-abbrev pub decline_value : List ℕ → ℕ → ℕ → ℕ → Data
-decline_value framework offer at refuse_ms = object (answer_members (codes "decline") framework offer at refuse_ms no_members)
+abbrev pub decline_value : declining.Decline → Data
+decline_value d = object (answer_members (codes "decline") d.framework d.offer d.at d.refuse_ms no_members)
 
 -- an offer is taken back
 unfoldable pub rescind_event : Data → Result Event LineFault

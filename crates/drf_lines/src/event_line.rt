@@ -25,20 +25,8 @@ fn event_value(alloc: Global, event: &Event) -> Result<Value, AllocError>
             framework_value(alloc, framework, roles.as_slice())
         }
         Event::RemoveFramework { framework } => of_framework(alloc, "remove_framework", framework),
-        Event::Accept {
-            framework,
-            offer,
-            task,
-            used,
-            at,
-            refuse_ms,
-        } => accept_value(alloc, framework, *offer, task, used, *at, *refuse_ms),
-        Event::Decline {
-            framework,
-            offer,
-            at,
-            refuse_ms,
-        } => decline_value(alloc, framework, *offer, *at, *refuse_ms),
+        Event::Accept(accept) => accept_value(alloc, accept),
+        Event::Decline(decline) => decline_value(alloc, decline),
         Event::Rescind { offer } => json!(in alloc; {"event": "rescind", "offer": (*offer)}),
         Event::Finish { framework, task } => finish_value(alloc, framework, task),
         Event::Suppress { framework, role } => of_client(alloc, "suppress", framework, role),

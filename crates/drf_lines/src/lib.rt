@@ -12,6 +12,7 @@ mod offers;
 mod reply;
 mod report;
 mod resources;
+mod tasks;
 mod weights;
 mod words;
 

@@ -3,6 +3,7 @@ ghost use Rattle.std.specs.Prelude.{◌≡◌, map, option_map, option_and_then}
 ghost use Rattle.serde_json.specs.Find.{get, as_str, as_array};
 ghost use Rattle.serde_json.specs.View.{view, items_view};
 ghost use Rattle.drf_lines.specs.Fault.{IsFoundAs, IsReadAs};
+ghost use Rattle.drf_lines.specs.TaskTexts.{values_at};
 ghost use Rattle.drf_lines.specs.Object.{has_members, keys, keys_besides, number_of, text_at, number_at, number_or, texts_at};
 
 use crate::fault::{LineError, LineFault};
@@ -84,6 +85,17 @@ fn items_at<'a>(value: &'a Value, key: &str) -> Option<&'a Vec<Value>>
     ensures { option_map (λ items. items_view items.now.items) result ≡ option_and_then as_array (get key.now (view value.now)) }
 {
     value.get(key)?.as_array()
+}
+
+/// The values of the array under a key.
+#[tactic(auto, unfolding(crate::specs::TaskTexts::values_at))]
+pub fn values_at<'a>(value: &'a Value, key: &str) -> Result<&'a [Value], LineFault>
+    ensures { IsFoundAs (λ values. map view values.now) result (values_at key.now (view value.now)) }
+{
+    match items_at(value, key) {
+        Some(items) => Ok(items.as_slice()),
+        None => Err(LineFault::BadShape),
+    }
 }
 
 /// The texts of the array under a key.

@@ -1,20 +1,21 @@
 //! The events of offers, and of the tasks that come of them.
-ghost use Rattle.std.specs.Prelude.{◌≡◌, Ok, IfOk, OnOk};
-ghost use Rattle.serde_json.specs.Data.{no_members};
+ghost use Rattle.std.specs.Prelude.{◌≡◌, map, codes, Ok, IfOk, OnOk};
+ghost use Rattle.serde_json.specs.Data.{object, no_members};
 ghost use Rattle.serde_json.specs.View.{view, members_view};
-ghost use Rattle.drf_rows.specs.declared.event.Event.TheVariants.{Accept, Decline, Finish};
+ghost use Rattle.drf_rows.specs.declared.event.Event.TheVariants.{Finish};
 ghost use Rattle.drf_lines.specs.Fault.{IsReadOf};
 ghost use Rattle.drf_lines.specs.Meaning.{event_in};
+ghost use Rattle.drf_lines.specs.TaskTexts.{each_in, start_in, start_text, task_members, several_members};
 ghost use Rattle.drf_lines.specs.Words.{name_in};
 ghost use Rattle.drf_lines.specs.OfferEvents.{answer_members, accept_event, accept_value, decline_event, decline_value, rescind_event, finish_event, finish_value};
 
 use crate::fault::LineError;
 use crate::object::{keys, keys_besides, number_at, number_or, text_at};
-use crate::resources::read_bundle;
+use crate::tasks::{read_tasks, task_texts, task_values};
 use crate::words::read_name;
 use drf_bundle::Bundle;
 use drf_role::Name;
-use drf_rows::Event;
+use drf_rows::{Accept, Decline, Event};
 use drf_text::{bundle_round_trip_law, write_bundle};
 use serde_json::{Map, Value, json, put};
 use std::alloc::{AllocError, Global};
@@ -26,21 +27,18 @@ const USUAL_REFUSAL: u64 = 5000;
 pub fn read_accept(alloc: Global, value: &Value) -> Result<Event, LineError>
     ensures { IsReadOf result (accept_event (view value.now)) }
 {
-    keys_besides(value, "refuse_ms", 6)?;
+    let tasks = task_texts(alloc, value)?;
     let framework = text_at(value, "framework")?;
     let offer = number_at(value, "offer")?;
-    let task = text_at(value, "task")?;
-    let used = text_at(value, "use")?;
     let at = number_at(value, "at")?;
     let refuse_ms = number_or(value, "refuse_ms", USUAL_REFUSAL)?;
-    Ok(Event::Accept {
+    Ok(Event::Accept(Accept {
         framework: read_name(alloc, framework)?,
         offer,
-        task: read_name(alloc, task)?,
-        used: read_bundle(alloc, used)?,
+        tasks: read_tasks(alloc, tasks.as_slice())?,
         at,
         refuse_ms,
-    })
+    }))
 }
 
 #[tactic(auto, unfolding(crate::specs::OfferEvents::decline_event))]
@@ -52,12 +50,12 @@ pub fn read_decline(alloc: Global, value: &Value) -> Result<Event, LineError>
     let offer = number_at(value, "offer")?;
     let at = number_at(value, "at")?;
     let refuse_ms = number_or(value, "refuse_ms", USUAL_REFUSAL)?;
-    Ok(Event::Decline {
+    Ok(Event::Decline(Decline {
         framework: read_name(alloc, framework)?,
         offer,
         at,
         refuse_ms,
-    })
+    }))
 }
 
 #[tactic(auto, unfolding(crate::specs::OfferEvents::rescind_event))]
@@ -116,24 +114,28 @@ fn answer_members(
     Ok(members)
 }
 
-pub fn accept_value(
+/// An accept of one task, with the keys of that task.
+fn one_task_value(
     alloc: Global,
-    framework: &Name,
-    offer: u64,
-    task: &Name,
-    used: &Bundle,
-    at: u64,
-    refuse_ms: u64,
+    accept: &Accept,
+    task: &(Name, Bundle),
 ) -> Result<Value, AllocError>
-    ensures value { IfOk result (λ value. view value ≡ accept_value framework.now offer task.now used.now at refuse_ms) }
-    ensures read { OnOk result (event_in (accept_value framework.now offer task.now used.now at refuse_ms) ≡ Ok (Accept framework.now offer task.now used.now at refuse_ms)) }
+    ensures value { IfOk result (λ value. view value ≡ object (answer_members (codes "accept") accept.now.framework accept.now.offer accept.now.at accept.now.refuse_ms (task_members task.now))) }
+    ensures read { OnOk result ((name_in accept.now.framework ≡ Ok accept.now.framework) × (start_in (start_text task.now) ≡ Ok task.now)) }
 {
     bundle_round_trip_law();
     // What is written of a bundle is read where it is one.
-    let _ = used.quantities();
-    let name = task.text();
-    let resources = write_bundle(alloc, used)?;
-    let mut members = answer_members(alloc, "accept", framework, offer, at, refuse_ms)?;
+    let _ = task.1.quantities();
+    let name = task.0.text();
+    let resources = write_bundle(alloc, &task.1)?;
+    let Accept {
+        framework,
+        offer,
+        at,
+        refuse_ms,
+        ..
+    } = accept;
+    let mut members = answer_members(alloc, "accept", framework, *offer, *at, *refuse_ms)?;
     put(
         &mut members,
         alloc,
@@ -144,17 +146,45 @@ pub fn accept_value(
     Ok(Value::Object(members))
 }
 
-pub fn decline_value(
-    alloc: Global,
-    framework: &Name,
-    offer: u64,
-    at: u64,
-    refuse_ms: u64,
-) -> Result<Value, AllocError>
-    ensures value { IfOk result (λ value. view value ≡ decline_value framework.now offer at refuse_ms) }
-    ensures read { OnOk result (event_in (decline_value framework.now offer at refuse_ms) ≡ Ok (Decline framework.now offer at refuse_ms)) }
+/// An accept of several tasks, with an array of them.
+fn several_tasks_value(alloc: Global, accept: &Accept) -> Result<Value, AllocError>
+    ensures value { IfOk result (λ value. view value ≡ object (answer_members (codes "accept") accept.now.framework accept.now.offer accept.now.at accept.now.refuse_ms (several_members accept.now.tasks))) }
+    ensures read { OnOk result ((name_in accept.now.framework ≡ Ok accept.now.framework) × (each_in start_in (map start_text accept.now.tasks) ≡ Ok accept.now.tasks)) }
 {
-    let members = answer_members(alloc, "decline", framework, offer, at, refuse_ms)?;
+    let values = task_values(alloc, accept.tasks.as_slice())?;
+    let Accept {
+        framework,
+        offer,
+        at,
+        refuse_ms,
+        ..
+    } = accept;
+    let mut members = answer_members(alloc, "accept", framework, *offer, *at, *refuse_ms)?;
+    put(&mut members, alloc, "tasks", Value::Array(values))?;
+    Ok(Value::Object(members))
+}
+
+pub fn accept_value(alloc: Global, accept: &Accept) -> Result<Value, AllocError>
+    ensures value { IfOk result (λ value. view value ≡ accept_value accept.now) }
+    ensures read { OnOk result (event_in (accept_value accept.now) ≡ Ok (Event.Accept accept.now)) }
+{
+    match accept.tasks.as_slice() {
+        [task] => one_task_value(alloc, accept, task),
+        _ => several_tasks_value(alloc, accept),
+    }
+}
+
+pub fn decline_value(alloc: Global, decline: &Decline) -> Result<Value, AllocError>
+    ensures value { IfOk result (λ value. view value ≡ decline_value decline.now) }
+    ensures read { OnOk result (event_in (decline_value decline.now) ≡ Ok (Event.Decline decline.now)) }
+{
+    let Decline {
+        framework,
+        offer,
+        at,
+        refuse_ms,
+    } = decline;
+    let members = answer_members(alloc, "decline", framework, *offer, *at, *refuse_ms)?;
     Ok(Value::Object(members))
 }
 

@@ -8,3 +8,4 @@ pub mod Role
 pub mod Spans
 pub mod Tests
 pub mod TestLaws
+pub mod Mark

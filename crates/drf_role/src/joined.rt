@@ -16,6 +16,7 @@ use std::alloc::{AllocError, Global};
 use std::cmp::Ordering;
 use std::hash::{Hash, Hasher};
 use std::marker::Model;
+use std::sync::Arc;
 
 /// Where a part begins and ends in the text.
 #[derive(Clone, Copy, Debug)]
@@ -37,29 +38,36 @@ fn goes_on(text: &[u8], front: &[u8]) -> bool
     text[front.len()] == b'/'
 }
 
-/// An ASCII text and the places of its parts. Contracts see the list of the parts.
+/// An ASCII text and the places of its parts.
 #[derive(Debug, Drop)]
-pub struct Joined {
+struct Cut {
     text: String,
     spans: Vec<Span>,
+}
+
+/// A text in parts, which its copies share. Contracts see the list of the parts.
+#[derive(Debug, Drop)]
+pub struct Joined {
+    cut: Arc<Cut>,
 }
 
 impl Model for Joined {
     ghost use Rattle.std.specs.Prelude.{List, ℕ};
     ghost use Rattle.std.specs.String.{string_bytes};
+    ghost use Rattle.std.specs.Arc.{arc_value};
 
     ghost Value = { List (List ℕ) };
 
     ghost use Rattle.drf_role.specs.Parts.{parts_of};
     ghost use Rattle.drf_role.specs.Spans.{IsCut};
 
-    ghost view = { λ p. parts_of (string_bytes p.text) };
+    ghost view = { λ p. parts_of (string_bytes (arc_value p.cut).text) };
 
-    ghost invariant = { λ p. IsCut (string_bytes p.text) p.spans.items };
+    ghost invariant = { λ p. IsCut (string_bytes (arc_value p.cut).text) (arc_value p.cut).spans.items };
 }
 
 impl Joined {
-    ghost use Rattle.drf_role.specs.Spans.{spans_from};
+    ghost use Rattle.drf_role.specs.Spans.{spans_from, IsCut};
 
     /// The places of the parts of a text.
     fn spans(alloc: Global, text: &str) -> Result<Vec<Span>, AllocError>
@@ -85,7 +93,9 @@ impl Joined {
         ensures { IfOk result (λ parts. parts ≡ parts_of (string_bytes text)) }
     {
         let spans = Joined::spans(alloc, text.as_str())?;
-        Ok(Joined { text, spans })
+        Ok(Joined {
+            cut: Arc::new(alloc, Cut { text, spans })?,
+        })
     }
 
     pub fn from_text(alloc: Global, text: &str) -> Result<Joined, AllocError>
@@ -95,30 +105,39 @@ impl Joined {
         Joined::cut(alloc, String::from_str(alloc, text)?)
     }
 
+    /// What its copies share.
+    fn shared(&self) -> &Cut
+        ensures parts { parts_of (string_bytes result.now.text) ≡ self.now }
+        ensures right { IsCut (string_bytes result.now.text) result.now.spans.items }
+    {
+        &self.cut
+    }
+
     /// The allocator that its text came from.
     pub fn alloc(&self) -> Global {
-        *self.text.allocator()
+        *self.shared().text.allocator()
     }
 
     pub fn text(&self) -> &str
         ensures text { result.now ≡ text_of self.now }
         ensures parts { parts_of result.now ≡ self.now }
     {
-        self.text.as_str()
+        self.shared().text.as_str()
     }
 
     pub fn len(&self) -> usize
         ensures { result ≡ length self.now }
     {
-        self.spans.len()
+        self.shared().spans.len()
     }
 
     pub fn part(&self, i: usize) -> &str
         requires { i < length self.now }
         ensures { slice_get self.now i ≡ Some result.now }
     {
-        let span = self.spans[i];
-        &self.text.as_str()[span.start..span.end]
+        let cut = self.shared();
+        let span = cut.spans[i];
+        &cut.text.as_str()[span.start..span.end]
     }
 
     pub fn parts(&self) -> Parts<'_>
@@ -133,26 +152,27 @@ impl Joined {
         requires within { len ≤ length self.now }
         ensures { IfOk result (λ front. front ≡ take len self.now) }
     {
-        let end = self.spans[len - 1].end;
-        Joined::from_text(self.alloc(), &self.text.as_str()[..end])
+        let cut = self.shared();
+        let end = cut.spans[len - 1].end;
+        Joined::from_text(self.alloc(), &cut.text.as_str()[..end])
     }
 
-    pub fn copy_in(&self, alloc: Global) -> Result<Joined, AllocError>
-        ensures { IfOk result (λ parts. parts ≡ self.now) }
-    {
-        Joined::from_text(alloc, self.text.as_str())
-    }
-
+    /// A second owner of the same text. It asks for no memory, and fails where 2^63 owners were counted.
     pub fn copy(&self) -> Result<Joined, AllocError>
         ensures { IfOk result (λ parts. parts ≡ self.now) }
     {
-        self.copy_in(self.alloc())
+        Ok(Joined {
+            cut: Arc::try_clone(&self.cut)?,
+        })
     }
 
     pub fn begins_with(&self, front: &Joined) -> bool
         ensures { IsTrue result ↔ BeginsWith self.now front.now }
     {
-        goes_on(self.text.as_bytes(), front.text.as_bytes())
+        goes_on(
+            self.shared().text.as_bytes(),
+            front.shared().text.as_bytes(),
+        )
     }
 }
 
@@ -162,7 +182,7 @@ impl PartialEq for Joined {
     ghost laws = { Cmp.partial_equiv_from_equiv (lists_equiv nat_list_eq_equiv) };
 
     fn eq(&self, other: &Joined) -> bool {
-        self.text.as_str() == other.text.as_str()
+        self.shared().text.as_str() == other.shared().text.as_str()
     }
 }
 

@@ -3,6 +3,7 @@
 
 mod joined;
 mod laws;
+mod mark;
 mod name;
 mod parts;
 mod path;
@@ -10,6 +11,7 @@ mod role;
 mod word;
 
 pub use laws::client_path_law;
+pub use mark::{mark_of, mixed};
 pub use name::{Label, Name, NameFault};
 pub use parts::Parts;
 pub use path::{ClientPath, NodePath};

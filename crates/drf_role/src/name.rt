@@ -84,18 +84,12 @@ impl Name {
         self.word.text()
     }
 
-    pub(crate) fn copy_in(&self, alloc: Global) -> Result<Name, AllocError>
-        ensures { IfOk result (λ name. name ≡ self.now) }
-    {
-        Ok(Name {
-            word: self.word.copy_in(alloc)?,
-        })
-    }
-
     pub fn copy(&self) -> Result<Name, AllocError>
         ensures { IfOk result (λ name. name ≡ self.now) }
     {
-        self.copy_in(self.word.alloc())
+        Ok(Name {
+            word: self.word.copy()?,
+        })
     }
 }
 

@@ -2,16 +2,21 @@
 ghost use Rattle.std.specs.String.{string_bytes};
 ghost use Rattle.std.specs.Prelude.{◌≡◌, ◌==◌, ◌<◌, ◌≤◌, ◌+◌, ◌++◌, codes, List, ℕ, IfOk, Some, length, slice_get, take};
 ghost use Rattle.std.specs.Cmp;
-ghost use Rattle.std.specs.Cmp.Lexicographic.{pointwise, lists_equiv, nat_list_eq_equiv};
+ghost use Rattle.std.specs.Cmp.Lexicographic.{pointwise, lists_equiv, nat_list_eq_equiv, bytes_decides, pointwise_decides};
+ghost use Rattle.std.specs.Hash as fed;
+ghost use Rattle.std.specs.Hash.{same_Alike};
 ghost use Rattle.drf_role.specs.Name.{IsName};
 ghost use Rattle.drf_role.specs.Role.{IsRole};
 ghost use Rattle.drf_role.specs.Parts.{parts_of, text_of};
+ghost use Rattle.drf_role.specs.Mark.{IsKept, path_mark};
 ghost use Rattle.drf_role.specs.Path.{client_path, role_part, framework_part, IsClientPath, IsNodePath};
 
 use crate::joined::Joined;
+use crate::mark::mark_of;
 use crate::name::Name;
 use crate::role::Role;
 use std::alloc::{AllocError, Global};
+use std::hash::{Hash, Hasher};
 use std::marker::Model;
 
 // The part under which the clients of a role itself stand.
@@ -39,6 +44,8 @@ fn client_text(alloc: Global, role: &str, framework: &str) -> Result<String, All
 pub struct ClientPath {
     role: Role,
     framework: Name,
+    // The hash of both, by which others find the client.
+    mark: u64,
 }
 
 impl Model for ClientPath {
@@ -46,14 +53,14 @@ impl Model for ClientPath {
 
     ghost view = { λ p. client_path p.role p.framework };
 
-    ghost invariant = { λ p. IsRole p.role × IsName p.framework };
+    ghost invariant = { λ p. IsKept p.role p.framework p.mark };
 }
 
 impl ClientPath {
-    pub fn new(alloc: Global, role: &Role, framework: &Name) -> Result<ClientPath, AllocError>
+    pub fn new(_alloc: Global, role: &Role, framework: &Name) -> Result<ClientPath, AllocError>
         ensures { IfOk result (λ path. path ≡ client_path role.now framework.now) }
     {
-        Ok(ClientPath::from_parts(role.copy_in(alloc)?, framework.copy_in(alloc)?))
+        Ok(ClientPath::from_parts(role.copy()?, framework.copy()?))
     }
 
     /// The path of a framework in a role, which it keeps; no memory is asked for.
@@ -63,7 +70,12 @@ impl ClientPath {
         // What these calls ensure tells the proof that the two are right.
         let _ = role.text();
         let _ = framework.text();
-        ClientPath { role, framework }
+        let mark = mark_of(&role, &framework);
+        ClientPath {
+            role,
+            framework,
+            mark,
+        }
     }
 
     /// The role that the client is in.
@@ -103,10 +115,21 @@ impl ClientPath {
         }
     }
 
+    /// The hash of the client, which is that of every equal path.
+    pub fn mark(&self) -> u64
+        ensures { result ≡ path_mark self.now }
+    {
+        self.mark
+    }
+
     pub fn copy(&self) -> Result<ClientPath, AllocError>
         ensures { IfOk result (λ path. path ≡ self.now) }
     {
-        ClientPath::new(self.role.alloc(), &self.role, &self.framework)
+        Ok(ClientPath {
+            role: self.role.copy()?,
+            framework: self.framework.copy()?,
+            mark: self.mark,
+        })
     }
 
     // The parts in one text, of which a node is a front.
@@ -144,6 +167,16 @@ impl PartialEq for ClientPath {
 
 impl Eq for ClientPath {
     ghost laws = { lists_equiv nat_list_eq_equiv };
+}
+
+impl Hash for ClientPath {
+    ghost hash_input = { λ path. fed.u64 (path_mark path) };
+
+    ghost respects_eq = { (same_Alike (λ path. fed.u64 (path_mark path)) (pointwise_decides bytes_decides)).fed };
+
+    fn hash<H: Hasher>(&self, state: &mut H) {
+        self.mark().hash(state);
+    }
 }
 
 /// The path of a node: a non-empty prefix of a client's path. Contracts see the list of its

@@ -164,18 +164,12 @@ impl Role {
         self.joined.alloc()
     }
 
-    pub(crate) fn copy_in(&self, alloc: Global) -> Result<Role, AllocError>
-        ensures { IfOk result (λ role. role ≡ self.now) }
-    {
-        Ok(Role {
-            joined: self.joined.copy_in(alloc)?,
-        })
-    }
-
     pub fn copy(&self) -> Result<Role, AllocError>
         ensures { IfOk result (λ role. role ≡ self.now) }
     {
-        self.copy_in(self.alloc())
+        Ok(Role {
+            joined: self.joined.copy()?,
+        })
     }
 
     /// Whether the role is `*`.

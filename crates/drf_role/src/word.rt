@@ -1,6 +1,7 @@
 //! A short text that contracts see as its bytes.
 ghost use Rattle.std.specs.Prelude.{◌≡◌, List, ℕ, IfOk, Some};
 ghost use Rattle.std.specs.String.{string_bytes};
+ghost use Rattle.std.specs.Arc.{arc_value};
 ghost use Rattle.std.specs.Hash as fed;
 ghost use Rattle.std.specs.Cmp;
 ghost use Rattle.std.specs.Cmp.Lexicographic.{pointwise, slice_cmp, nat_list_eq_equiv, nat_list_cmp_total, texts_ties, texts_po, bytes_decides};
@@ -12,16 +13,17 @@ use std::alloc::{AllocError, Global};
 use std::cmp::Ordering;
 use std::hash::{Hash, Hasher};
 use std::marker::Model;
+use std::sync::Arc;
 
 #[derive(Debug, Drop)]
 pub struct Word {
-    text: String,
+    text: Arc<String>,
 }
 
 impl Model for Word {
     ghost Value = { List ℕ };
 
-    ghost view = { λ w. string_bytes w.text };
+    ghost view = { λ w. string_bytes (arc_value w.text) };
 }
 
 impl Word {
@@ -29,7 +31,7 @@ impl Word {
         ensures { IfOk result (λ word. word ≡ text.now) }
     {
         Ok(Word {
-            text: String::from_str(alloc, text)?,
+            text: Arc::new(alloc, String::from_str(alloc, text)?)?,
         })
     }
 
@@ -39,21 +41,13 @@ impl Word {
         self.text.as_str()
     }
 
-    /// The allocator that its text came from.
-    pub fn alloc(&self) -> Global {
-        *self.text.allocator()
-    }
-
-    pub fn copy_in(&self, alloc: Global) -> Result<Word, AllocError>
-        ensures { IfOk result (λ word. word ≡ self.now) }
-    {
-        Word::from_text(alloc, self.text())
-    }
-
+    /// A second owner of the same text. It asks for no memory, and fails where 2^63 owners were counted.
     pub fn copy(&self) -> Result<Word, AllocError>
         ensures { IfOk result (λ word. word ≡ self.now) }
     {
-        self.copy_in(self.alloc())
+        Ok(Word {
+            text: Arc::try_clone(&self.text)?,
+        })
     }
 }
 

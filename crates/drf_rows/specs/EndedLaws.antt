@@ -22,12 +22,13 @@ use Rattle.drf_rows.specs.Cycle.{free_of, new_offer, with_offer, at_moment}
 use Rattle.drf_rows.specs.CycleLaws.{bundle-free_of, units-free_of}
 use Rattle.drf_rows.specs.Endings.{is_task}
 use Rattle.drf_rows.specs.EndingLaws.{is_task-swap, find-place}
-use Rattle.drf_rows.specs.Offers.{Start, task_of, offer_at, left_of_offer, refused_until, filter_of, refuses_rest, filters_with, offer_accepted, offer_declined}
+use Rattle.drf_rows.specs.Offers.{task_of, offer_at, left_of_offer, refused_until, filter_of, refuses_rest, filters_with, offer_accepted, offer_declined}
+use Rattle.drf_rows.specs.Tasks.{Start}
 use Rattle.drf_rows.specs.Consistent.{are_distinct_tasks, IsAgent, IsCovered, IsConsistent}
 use Rattle.drf_rows.specs.ConsistentLaws.{numbers_within, bundles-consistent}
 use Rattle.drf_rows.specs.ListLaws.{none_left, filter_each, find_only, filter_only, each_from, each_at, each_true, each_fails, each_append, each_parts}
 use Rattle.drf_rows.specs.Step.{effect}
-use Rattle.drf_rows.specs.LifeLaws.{DeclinedAtOnceIsUndone, FinishedIsGivenBack, AcceptedIsATask, FiltersGoWithTheirOwner, OtherFiltersStay}
+use Rattle.drf_rows.specs.LifeLaws.{DeclinedAtOnceIsUndone, FinishedIsGivenBack, AcceptedStartsTasks, FiltersGoWithTheirOwner, OtherFiltersStay}
 use Rattle.drf_rows.specs.declared.event.Event.TheVariants.{Finish}
 use Rattle.drf_rows.specs.declared.rows.AgentRow.{AgentRow}
 use Rattle.drf_rows.specs.declared.rows.FilterRow.{FilterRow}
@@ -96,38 +97,38 @@ filters_then rows o bundle refuse_ms true =
 filters_then rows o bundle refuse_ms false =
     subst (IsAtMostOneMore o rows.filters) (append-nil rows.filters) (more_filters o rows.filters [] (omega arith) refl)
 
-pub accepted_is_a_task : AcceptedIsATask
+pub accepted_starts_tasks : AcceptedStartsTasks
 unfolding effect IsAtMostOneMore
-accepted_is_a_task rows framework task number at refuse_ms used o found =
+accepted_starts_tasks rows a o found =
     subst (λ (r : Rows).
     (r
     ≡ record rows {
-      offers = filter (λ p. not (p.number == number)) rows.offers;
-      tasks = rows.tasks ++ task_of o (task, used) ∷ [];
+      offers = filter (λ p. not (p.number == a.offer)) rows.offers;
+      tasks = rows.tasks ++ map (task_of o) a.tasks;
       filters = rows.filters ++ drop (length rows.filters) r.filters;
-      clock = max rows.clock at;
+      clock = max rows.clock a.at;
     })
     × (length (drop (length rows.filters) r.filters) ≤ 1)
     × (list_all (λ f. is_of_client (of_offer o).client f && is_on_agent o.agent f) (drop (length rows.filters) r.filters) ≡ true))
-    (sym (ap (λ (f : Option OfferRow). option_map_or (λ o. offer_accepted (at_moment rows at) o ((task, used) ∷ []) refuse_ms) f rows) found)) (
+    (sym (ap (λ (f : Option OfferRow). option_map_or (λ o. offer_accepted (at_moment rows a.at) o a.tasks a.refuse_ms) f rows) found)) (
       (λ i. record rows {
         offers = filter (λ p. not (p.number == same i)) rows.offers;
-        tasks = rows.tasks ++ task_of o (task, used) ∷ [];
+        tasks = rows.tasks ++ map (task_of o) a.tasks;
         filters = added.0 i;
-        clock = max rows.clock at;
+        clock = max rows.clock a.at;
       }),
       added.1,
       added.2,
     )
   where
     starts : List Start
-    starts = (task, used) ∷ []
+    starts = a.tasks
 
-    same : o.number ≡ number
-    same = eqb-true o.number number (find-place (λ (p : OfferRow). p.number == number) rows.offers o found).1
+    same : o.number ≡ a.offer
+    same = eqb-true o.number a.offer (find-place (λ (p : OfferRow). p.number == a.offer) rows.offers o found).1
 
-    added : IsAtMostOneMore o rows.filters (filters_with (at_moment rows at) (refuses_rest o starts refuse_ms) o (left_of_offer o starts) refuse_ms)
-    added = filters_then (at_moment rows at) o (left_of_offer o starts) refuse_ms (refuses_rest o starts refuse_ms)
+    added : IsAtMostOneMore o rows.filters (filters_with (at_moment rows a.at) (refuses_rest o starts a.refuse_ms) o (left_of_offer o starts) a.refuse_ms)
+    added = filters_then (at_moment rows a.at) o (left_of_offer o starts) a.refuse_ms (refuses_rest o starts a.refuse_ms)
 
 -- ---- filters go
 

@@ -1,27 +1,28 @@
 -- What is held once a holding ends, or once an offer is accepted; and that the rows stay consistent.
-use Rattle.std.specs.Prelude.{◌≡◌, ℕ, ◌+◌, ◌<◌, ◌≤◌, ◌==◌, Bool, true, false, not, ◌&&◌, List, [], ◌∷◌, ◌++◌, length, map, filter, find, take, drop, slice_get, sum_by, nat_lt, Option}
+use Rattle.std.specs.Prelude.{◌≡◌, ℕ, ◌+◌, ◌<◌, ◌≤◌, ◌==◌, Bool, true, false, not, ◌&&◌, ⊤, List, [], ◌∷◌, ◌++◌, length, map, filter, find, take, drop, slice_get, sum_by, nat_lt, Option}
 use Rattle.std.specs.List.{list_all, list_any, count_by, AllByRecursion}
 use Rattle.std.proofs.Common.{refl, sym, ap, subst, ◌∙◌, inl, inr, cond, zero, suc, arith, Some, append_assoc}
-use Rattle.std.proofs.lemmas.Bool.{cases_Bool, and_parts, and_from, or_parts, ltb-true, eqb-true, eq-eqb, ne_eqb}
+use Rattle.std.proofs.lemmas.Bool.{cases_Bool, and_parts, and_from, or_parts, or_from, not-true, not-false, ltb-true, eqb-true, eq-eqb, ne_eqb}
 use Rattle.std.proofs.lemmas.List.{map-append, append-nil}
 use Rattle.std.proofs.lemmas.List.Elements.{filter-append}
 use Rattle.std.proofs.lemmas.List.Sums.{sum_by-cons, sum_by-append, length-filter, count_by-le-length}
 use Rattle.drf_role.specs.Text.{Text, same_text}
 use Rattle.drf_bundle.specs.Value.{Point, Thousandths}
 use Rattle.drf_bundle.specs.Quantities.{amount_of}
-use Rattle.drf_bundle.specs.Bundle.{Key, IsBundle, units, covers, rest, quantities_of}
-use Rattle.drf_bundle.specs.RestLaws.{bundle-rest}
+use Rattle.drf_bundle.specs.Bundle.{Key, IsBundle, units, quantities_of}
 use Rattle.drf_bundle.specs.SumLaws.{amount-quantities_of}
-use Rattle.drf_bundle.specs.UnitProofs.{covers_by_units, rest_and_part, stocks_add}
-use Rattle.drf_bundle.specs.Taken.{units_of_all}
+use Rattle.drf_bundle.specs.UnitProofs.{stocks_add}
+use Rattle.drf_bundle.specs.Taken.{units_of_all, rest_of_all, bundle-rest_of_all, joined-rest_of_all, AddsUp, sum-joined}
 use Rattle.drf_bundle.specs.declared.resource.Resource.{Resource}
 use Rattle.drf_rows.specs.Holdings.{Holding, of_offer, of_task, holdings_of, amount_in, held_where, is_on, parts_on}
-use Rattle.drf_rows.specs.HoldingsLaws.{held_where-append, held_where-cons, parts_on-append}
-use Rattle.drf_rows.specs.Consistent.{IsHeld, IsCovered, IsConsistent, IsFilter, are_rising, are_distinct_tasks}
+use Rattle.drf_rows.specs.HoldingsLaws.{held_where-append, held_where-cons, parts_on-append, units_on, units_on-append, units_on-cons}
+use Rattle.drf_rows.specs.Consistent.{are_distinct, IsHeld, IsCovered, IsConsistent, IsFilter, are_rising, are_distinct_tasks}
 use Rattle.drf_rows.specs.ConsistentLaws.{same_text-swap}
 use Rattle.drf_rows.specs.Endings.{Ending, one_offer, ends_offer, ends_task, without_ended, is_task}
 use Rattle.drf_rows.specs.ListLaws.{each_from, each_append}
-use Rattle.drf_rows.specs.Offers.{Start, has_task, offer_at, task_of}
+use Rattle.drf_rows.specs.Offers.{has_task, offer_at, task_of, AreNew, CanStart}
+use Rattle.drf_rows.specs.TaskLaws.{HasAll, units-covers_all}
+use Rattle.drf_rows.specs.Tasks.{Start, names_of, uses}
 use Rattle.drf_rows.specs.declared.rows.AgentRow.{AgentRow}
 use Rattle.drf_rows.specs.declared.rows.FilterRow.{FilterRow}
 use Rattle.drf_rows.specs.declared.rows.OfferRow.{OfferRow}
@@ -434,54 +435,135 @@ tasks_apart-push (s ∷ ts) t apart new =
     (list_all-push other ts t parts.0 (ap not (is_task-swap s t ∙ none.0)))
     (tasks_apart-push ts t parts.1 none.1)
 
--- of the whole a scalar is in the part or in the rest
-amount-rest : (whole part : List Resource) (label : Text) → IsBundle whole → IsBundle part → covers whole part ≡ true
-    → amount_of (quantities_of whole) label ≡ amount_of (quantities_of part) label + amount_of (quantities_of (rest whole part)) label
-amount-rest whole part label first second all =
-    let joined = rest_and_part whole part first second all in
-    omega (
+-- of the whole a scalar is in the parts or in the rest
+amount-rest : (whole : List Resource) (parts : List (List Resource)) (label : Text) → IsBundle whole → AllByRecursion IsBundle parts
+    → HasAll whole parts
+    → amount_of (quantities_of whole) label
+    ≡ sum_by (λ part. amount_of (quantities_of part) label) parts + amount_of (quantities_of (rest_of_all whole parts)) label
+amount-rest whole parts label is each has =
+    omega (arith, sum-joined of adds (rest_of_all whole parts) whole parts (bundle-rest_of_all whole parts is) each (joined-rest_of_all whole parts is each has))
+  where
+    of : List Resource → ℕ
+    of bundle = amount_of (quantities_of bundle) label
+
+    adds : AddsUp (λ bundle. amount_of (quantities_of bundle) label)
+    adds a b both first second same = omega (
       arith,
-      amount-quantities_of whole label,
-      amount-quantities_of part label,
-      amount-quantities_of (rest whole part) label,
-      stocks_add (rest whole part) part whole (bundle-rest whole part first) second joined label Thousandths,
+      amount-quantities_of both label,
+      amount-quantities_of a label,
+      amount-quantities_of b label,
+      stocks_add a b both first second same label Thousandths,
     )
 
--- one holding stands in another's stead, which passes the same test and has so much more
-held_where-instead : (old middle new : List Holding) (h g : Holding) (test : Holding → Bool) (label : Text) (more : ℕ)
-    → IsOneLess old middle h → IsOneLess new middle g → test h ≡ test g → amount_in label h ≡ amount_in label g + more
-    → held_where test old label ≡ held_where test new label + cond (test h) more 0
-held_where-instead old middle new h g test label more out in_place same amounts =
-    held_where-one_less old middle h out test label ∙ by (test h) ∙ ap (λ (n : ℕ). n + cond (test h) more 0) (sym after)
-  where
-    after : held_where test new label ≡ held_where test middle label + cond (test h) (amount_in label g) 0
-    after = held_where-one_less new middle g in_place test label
-        ∙ ap (λ (b : Bool). held_where test middle label + cond b (amount_in label g) 0) (sym same)
+-- the tasks of an offer, as holdings
+abbrev pub started_by : OfferRow → List Start → List Holding
+started_by o starts = map of_task (map (task_of o) starts)
 
-    by : (b : Bool) → held_where test middle label + cond b (amount_in label h) 0
-        ≡ held_where test middle label + cond b (amount_in label g) 0 + cond b more 0
-    by true = omega (arith, amounts)
-    by false = omega arith
-
--- the rows once a part of an offer is a task, and filters stand last
-abbrev pub accepted_in : Rows → OfferRow → Start → List FilterRow → Rows
-accepted_in rows o start filters = record (without_ended rows (one_offer o.number)) {
-  tasks = rows.tasks ++ task_of o start ∷ [];
+-- the rows once parts of an offer are tasks, and filters stand last
+abbrev pub accepted_in : Rows → OfferRow → List Start → List FilterRow → Rows
+accepted_in rows o starts filters = record (without_ended rows (one_offer o.number)) {
+  tasks = rows.tasks ++ map (task_of o) starts;
   filters = rows.filters ++ filters;
 }
 
-module _ (rows : Rows) (number : ℕ) (o : OfferRow) (task : Text) (used : List Resource) (filters : List FilterRow)
-    (consistent : IsConsistent rows) (found : offer_at rows number ≡ Some o) where
-  abbrev started : TaskRow
-  started = task_of o (task, used)
+none_either : (b : Bool) → ◌≡◌ {A = ℕ} 0 (cond b 0 0)
+none_either true = refl
+none_either false = refl
 
+-- tasks that pass the test as their offer did hold what they use
+held_where-started : (test : Holding → Bool) (label : Text) (o : OfferRow) (starts : List Start)
+    → ((s : Start) → test (of_offer o) ≡ test (of_task (task_of o s)))
+    → held_where test (started_by o starts) label
+    ≡ cond (test (of_offer o)) (sum_by (λ part. amount_of (quantities_of part) label) (uses starts)) 0
+held_where-started test label o [] same = none_either (test (of_offer o))
+held_where-started test label o (s ∷ starts) same =
+    held_where-cons test (of_task (task_of o s)) (started_by o starts) label
+    ∙ (λ i. cond (sym (same s) i) (amount_of (quantities_of s.1) label) 0 + held_where-started test label o starts same i)
+    ∙ by (test (of_offer o))
+  where
+    more : sum_by (λ part. amount_of (quantities_of part) label) (s.1 ∷ uses starts)
+        ≡ amount_of (quantities_of s.1) label + sum_by (λ part. amount_of (quantities_of part) label) (uses starts)
+    more = sum_by-cons (λ (part : List Resource). amount_of (quantities_of part) label) s.1 (uses starts)
+
+    by : (b : Bool) → cond b (amount_of (quantities_of s.1) label) 0 + cond b (sum_by (λ part. amount_of (quantities_of part) label) (uses starts)) 0
+        ≡ cond b (sum_by (λ part. amount_of (quantities_of part) label) (s.1 ∷ uses starts)) 0
+    by true = sym more
+    by false = omega arith
+
+-- on the offer's agent they hold what they use, and elsewhere nothing
+units-started : (agent : Text) (key : Key) (p : Point) (o : OfferRow) (starts : List Start)
+    → units_on agent (started_by o starts) key p ≡ cond (same_text o.agent agent) (units_of_all (uses starts) key p) 0
+units-started agent key p o [] = none_either (same_text o.agent agent)
+units-started agent key p o (s ∷ starts) =
+    units_on-cons agent key p (of_task (task_of o s)) (started_by o starts)
+    ∙ ap (λ (n : ℕ). cond (same_text o.agent agent) (units s.1 key p) 0 + n) (units-started agent key p o starts)
+    ∙ by (same_text o.agent agent)
+  where
+    by : (b : Bool) → cond b (units s.1 key p) 0 + cond b (units_of_all (uses starts) key p) 0
+        ≡ cond b (units_of_all (uses (s ∷ starts)) key p) 0
+    by true = sym (sum_by-cons (λ (part : List Resource). units part key p) s.1 (uses starts))
+    by false = omega arith
+
+parts_on-started : (agent : Text) (o : OfferRow) (starts : List Start) → same_text o.agent agent ≡ false
+    → parts_on agent (started_by o starts) ≡ []
+parts_on-started agent o [] past = refl
+parts_on-started agent o (s ∷ starts) past = rw past (parts_on-started agent o starts past)
+
+-- ---- tasks that are new
+
+tasks_apart : (old new : List TaskRow) → are_distinct_tasks old ≡ true → AreNew old new → are_distinct_tasks (old ++ new) ≡ true
+tasks_apart old [] apart new = ap are_distinct_tasks (append-nil old) ∙ apart
+tasks_apart old (t ∷ ts) apart new =
+    ap are_distinct_tasks (sym (append_assoc old (t ∷ []) ts))
+    ∙ tasks_apart (old ++ t ∷ []) ts (tasks_apart-push old t apart new.0) new.1
+
+any-push : {X : Type 0} (p : X → Bool) (xs : List X) (x : X) → list_any p xs ≡ false → p x ≡ false → list_any p (xs ++ x ∷ []) ≡ false
+any-push p [] x none past = or_from (p x) false past refl
+any-push p (y ∷ ys) x none past =
+    let parts = or_parts (p y) (list_any p ys) none in
+    or_from (p y) (list_any p (ys ++ x ∷ [])) parts.0 (any-push p ys x parts.1 past)
+
+and_false : (b : Bool) → (b && false) ≡ false
+and_false true = refl
+and_false false = refl
+
+-- the tasks of an offer are new where their names are
+new_tasks : (o : OfferRow) (old : List TaskRow) (starts : List Start)
+    → list_any (λ s. list_any (is_task o.framework s.0) old) starts ≡ false → are_distinct (names_of starts) ≡ true
+    → AreNew old (map (task_of o) starts)
+new_tasks o old [] new apart = tt
+new_tasks o old (s ∷ starts) new apart =
+    let first = or_parts (list_any (is_task o.framework s.0) old) (list_any (λ s. list_any (is_task o.framework s.0) old) starts) new in
+    let others = and_parts (list_all (λ t. not (same_text s.0 t)) (names_of starts)) (are_distinct (names_of starts)) apart in
+    (first.0, new_tasks o (old ++ task_of o s ∷ []) starts (later starts first.1 others.0) others.1)
+  where
+    later : (ss : List Start) → list_any (λ s. list_any (is_task o.framework s.0) old) ss ≡ false
+        → list_all (λ t. not (same_text s.0 t)) (names_of ss) ≡ true
+        → list_any (λ q. list_any (is_task o.framework q.0) (old ++ task_of o s ∷ [])) ss ≡ false
+    later [] none other = refl
+    later (q ∷ ss) none other =
+        let one = or_parts (list_any (is_task o.framework q.0) old) (list_any (λ s. list_any (is_task o.framework s.0) old) ss) none in
+        let two = and_parts (not (same_text s.0 q.0)) (list_all (λ t. not (same_text s.0 t)) (names_of ss)) other in
+        let past : is_task o.framework q.0 (task_of o s) ≡ false =
+        ap (λ (b : Bool). same_text o.framework o.framework && b) (not-true (same_text s.0 q.0) two.0) ∙ and_false (same_text o.framework o.framework) in
+        or_from _ _ (any-push (is_task o.framework q.0) old (task_of o s) one.0 past) (later ss one.1 two.1)
+
+pub new_starts : (rows : Rows) (o : OfferRow) (starts : List Start) → CanStart rows o starts → AreNew rows.tasks (map (task_of o) starts)
+new_starts rows o starts can =
+    let known = or_parts (list_any (λ s. has_task rows o.framework s.0) starts) (not (are_distinct (names_of starts))) can.new in
+    new_tasks o rows.tasks starts known.0 (not-false (are_distinct (names_of starts)) known.1)
+
+-- ---- what is held then
+
+module _ (rows : Rows) (number : ℕ) (o : OfferRow) (starts : List Start) (filters : List FilterRow)
+    (consistent : IsConsistent rows) (found : offer_at rows number ≡ Some o) where
   abbrev left : List OfferRow
   left = filter (λ p. not (p.number == o.number)) rows.offers
 
   abbrev after : Rows
-  after = accepted_in rows o (task, used) filters
+  after = accepted_in rows o starts filters
 
-  -- neither the offer nor the task is held yet
+  -- neither the offer nor the tasks are held yet
   abbrev between : List Holding
   between = map of_offer left ++ map of_task rows.tasks
 
@@ -497,73 +579,84 @@ module _ (rows : Rows) (number : ℕ) (o : OfferRow) (task : Text) (used : List 
             (without_offer-place rows at.before at.after o consistent at.stands) ∙ less.lacks;
       }
 
-  task_out : IsOneLess (holdings_of after) between (of_task started)
-  task_out = record {
-    before = between;
-    after = [];
-    has = ap (λ (hs : List Holding). map of_offer left ++ hs) (map-append of_task rows.tasks (started ∷ []))
-        ∙ sym (append_assoc (map of_offer left) (map of_task rows.tasks) (of_task started ∷ []));
-    lacks = sym (append-nil between);
-  }
+  -- the tasks stand last
+  tasks_last : holdings_of after ≡ between ++ started_by o starts
+  tasks_last =
+      ap (λ (hs : List Holding). map of_offer left ++ hs) (map-append of_task rows.tasks (map (task_of o) starts))
+      ∙ sym (append_assoc (map of_offer left) (map of_task rows.tasks) (started_by o starts))
 
   offer_held : IsHeld rows.agents rows.frameworks (of_offer o)
   offer_held = held-offer_at rows number o consistent found
 
-  -- where the task passes the same test as the offer did, the rest is no longer held
-  pub held_where-accepted : (test : Holding → Bool) (label : Text)
-      → IsBundle used → covers o.bundle used ≡ true → test (of_offer o) ≡ test (of_task (task_of o (task, used)))
+  -- where the tasks pass the same test as the offer did, the rest is no longer held
+  pub held_where-accepted : (test : Holding → Bool) (label : Text) → AllByRecursion IsBundle (uses starts) → HasAll o.bundle (uses starts)
+      → ((s : Start) → test (of_offer o) ≡ test (of_task (task_of o s)))
       → held_where test (holdings_of rows) label
-      ≡ held_where test (holdings_of (accepted_in rows o (task, used) filters)) label
-      + cond (test (of_offer o)) (amount_of (quantities_of (rest o.bundle used)) label) 0
-  held_where-accepted test label right covered same =
-      held_where-instead (holdings_of rows) between (holdings_of after) (of_offer o) (of_task started) test label
-      (amount_of (quantities_of (rest o.bundle used)) label) offer_out task_out same
-      (amount-rest o.bundle used label offer_held.bundle right covered)
+      ≡ held_where test (holdings_of (accepted_in rows o starts filters)) label
+      + cond (test (of_offer o)) (amount_of (quantities_of (rest_of_all o.bundle (uses starts))) label) 0
+  held_where-accepted test label each has same =
+      let now : held_where test (holdings_of after) label
+      ≡ held_where test between label + cond (test (of_offer o)) (sum_by (λ part. amount_of (quantities_of part) label) (uses starts)) 0 =
+      ap (λ (hs : List Holding). held_where test hs label) tasks_last ∙ held_where-append test between (started_by o starts) label
+      ∙ ap (λ (n : ℕ). held_where test between label + n) (held_where-started test label o starts same) in
+      held_where-one_less (holdings_of rows) between (of_offer o) offer_out test label
+      ∙ by (test (of_offer o)) (held_where test between label) _ _ _ (amount-rest o.bundle (uses starts) label offer_held.bundle each has)
+      ∙ ap (λ (n : ℕ). n + cond (test (of_offer o)) (amount_of (quantities_of (rest_of_all o.bundle (uses starts))) label) 0) (sym now)
+    where
+      by : (b : Bool) (n whole used rest : ℕ) → whole ≡ used + rest → n + cond b whole 0 ≡ n + cond b used 0 + cond b rest 0
+      by true n whole used rest sums = omega (arith, sums)
+      by false n whole used rest sums = omega arith
 
   -- on other agents the same is held
   pub parts_on-accepted : (agent : Text) → same_text o.agent agent ≡ false
-      → parts_on agent (holdings_of (accepted_in rows o (task, used) filters)) ≡ parts_on agent (holdings_of rows)
+      → parts_on agent (holdings_of (accepted_in rows o starts filters)) ≡ parts_on agent (holdings_of rows)
   parts_on-accepted agent past =
-      sym (parts_on-one_less (holdings_of after) between (of_task started) task_out agent past)
+      ap (parts_on agent) tasks_last ∙ parts_on-append agent between (started_by o starts)
+      ∙ ap (λ (ps : List (List Resource)). parts_on agent between ++ ps) (parts_on-started agent o starts past)
+      ∙ append-nil (parts_on agent between)
       ∙ parts_on-one_less (holdings_of rows) between (of_offer o) offer_out agent past
 
   -- and on no agent more
-  pub units-accepted : IsBundle used → covers o.bundle used ≡ true → (agent : Text) (key : Key) (p : Point)
-      → units_of_all (parts_on agent (holdings_of (accepted_in rows o (task, used) filters))) key p
+  pub units-accepted : HasAll o.bundle (uses starts) → (agent : Text) (key : Key) (p : Point)
+      → units_of_all (parts_on agent (holdings_of (accepted_in rows o starts filters))) key p
       ≤ units_of_all (parts_on agent (holdings_of rows)) key p
-  units-accepted right covered agent key p =
-      let below : units used key p ≤ units o.bundle key p = (covers_by_units o.bundle used offer_held.bundle right).0 covered key p in
+  units-accepted has agent key p =
       omega (
         arith,
         units-one_less (holdings_of rows) between (of_offer o) offer_out agent key p,
-        units-one_less (holdings_of after) between (of_task started) task_out agent key p,
-        either (same_text o.agent agent) (units used key p) (units o.bundle key p) below,
+        ap (λ (hs : List Holding). units_on agent hs key p) tasks_last,
+        units_on-append agent key p between (started_by o starts),
+        units-started agent key p o starts,
+        either (same_text o.agent agent) (units_of_all (uses starts) key p) (units o.bundle key p) (has key p),
       )
     where
       either : (b : Bool) (n m : ℕ) → n ≤ m → cond b n 0 ≤ cond b m 0
       either true n m le = le
       either false n m le = omega arith
 
-  pub IsConsistent-accepted : IsBundle used → covers o.bundle used ≡ true → has_task rows o.framework task ≡ false
-      → AllByRecursion (IsFilter rows.agents rows.frameworks) filters
-      → IsConsistent (accepted_in rows o (task, used) filters)
-  unfolding task_out
-  IsConsistent-accepted right covered new each =
+  each_started : (ss : List Start) → AllByRecursion IsBundle (uses ss)
+      → AllByRecursion (IsHeld rows.agents rows.frameworks) (started_by o ss)
+  each_started [] each = tt
+  each_started (s ∷ ss) each = (record { agent = offer_held.agent; client = offer_held.client; bundle = each.0 }, each_started ss each.1)
+
+  pub IsConsistent-accepted : CanStart rows o starts → AllByRecursion (IsFilter rows.agents rows.frameworks) filters
+      → IsConsistent (accepted_in rows o starts filters)
+  IsConsistent-accepted can each =
       let Held : Holding → Type 0 = IsHeld rows.agents rows.frameworks in
+      let has = units-covers_all o.bundle (uses starts) offer_held.bundle can.bundles can.covered in
       let at = (offer_at-place rows number o found).0 in
       let fewer : IsConsistent (record rows { offers = at.before ++ at.after })
       = IsConsistent-offer_out rows at.before at.after o at.stands consistent in
       let rising : are_rising (map number_of left) rows.next_offer ≡ true
       = ap (λ (os : List OfferRow). are_rising (map number_of os) rows.next_offer)
       (without_offer-place rows at.before at.after o consistent at.stands) ∙ fewer.numbered in
-      let runs : Held (of_task started) = record { agent = offer_held.agent; client = offer_held.client; bundle = right } in
-      let more : AllByRecursion Held (holdings_of after) = subst (AllByRecursion Held) (sym task_out.has)
-      (each_append Held between (of_task started ∷ [])
-      (each-one_less (holdings_of rows) between (of_offer o) offer_out Held consistent.holdings) (runs, tt)) in
-      IsConsistent-filters (record rows { offers = left; tasks = rows.tasks ++ started ∷ [] }) (rows.filters ++ filters)
-      (IsConsistent-held rows left (rows.tasks ++ started ∷ []) consistent more
+      let more : AllByRecursion Held (holdings_of after) = subst (AllByRecursion Held) (sym tasks_last)
+      (each_append Held between (started_by o starts)
+      (each-one_less (holdings_of rows) between (of_offer o) offer_out Held consistent.holdings) (each_started starts can.bundles)) in
+      IsConsistent-filters (record rows { offers = left; tasks = rows.tasks ++ map (task_of o) starts }) (rows.filters ++ filters)
+      (IsConsistent-held rows left (rows.tasks ++ map (task_of o) starts) consistent more
       (each_from (IsCovered (holdings_of rows)) (IsCovered (holdings_of after)) rows.agents
-      (λ a there key p. omega (arith, there key p, units-accepted right covered a.name key p)) consistent.covered)
-      (tasks_apart-push rows.tasks started consistent.tasks new)
+      (λ a there key p. omega (arith, there key p, units-accepted has a.name key p)) consistent.covered)
+      (tasks_apart rows.tasks (map (task_of o) starts) consistent.tasks (new_starts rows o starts can))
       rising)
       (each_append (IsFilter rows.agents rows.frameworks) rows.filters filters consistent.filters each)

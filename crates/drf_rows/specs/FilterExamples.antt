@@ -2,7 +2,7 @@
 use Rattle.std.specs.Prelude.{ℕ, List, [], ◌∷◌, codes}
 use Rattle.drf_role.specs.Text.{Text}
 use Rattle.drf_rows.specs.Examples.{cpus, mem, framework_in, offer}
-use Rattle.drf_rows.specs.LifeExamples.{one, none, accept, decline}
+use Rattle.drf_rows.specs.LifeExamples.{one, none, accept, decline, accept_for, decline_for}
 use Rattle.drf_rows.specs.declared.event.Event.{Event}
 use Rattle.drf_rows.specs.declared.event.Event.TheVariants.{AddAgent, RemoveAgent, ActivateAgent, DeactivateAgent, AddFramework, RemoveFramework, Accept, Decline, Rescind, Finish, Suppress, Revive, Cycle}
 use Rattle.drf_rows.specs.declared.reply.OfferLine.{OfferLine}
@@ -23,7 +23,7 @@ in_both framework = AddFramework framework ((codes "a" ∷ []) ∷ (codes "b" �
 
 -- declined at moment 0, for five seconds
 abbrev refuse : Text → ℕ → Event
-refuse framework number = Decline framework number 0 5000
+refuse framework number = decline_for framework number 0 5000
 
 abbrev suppress : Text → Text → Event
 suppress framework role = Suppress framework (role ∷ [])
@@ -78,7 +78,7 @@ a_rest =
     AddAgent (codes "n1") (cpus 1000 ∷ mem 64000 ∷ [])
     ∷ framework_in (codes "f1") (codes "a")
     ∷ Cycle 0
-    ∷ Accept (codes "f1") 1 (codes "t") (cpus 1000 ∷ []) 2000 5000
+    ∷ accept_for (codes "f1") 1 ((codes "t", cpus 1000 ∷ []) ∷ []) 2000 5000
     ∷ Cycle 0
     ∷ Finish (codes "f1") (codes "t")
     ∷ Cycle 0
@@ -113,7 +113,7 @@ a_later_decline =
     one_cpu (codes "n1")
     ∷ framework_in (codes "f1") (codes "a")
     ∷ Cycle 0
-    ∷ Decline (codes "f1") 1 2000 5000
+    ∷ decline_for (codes "f1") 1 2000 5000
     ∷ Cycle 6999
     ∷ Cycle 7000
     ∷ []
@@ -136,9 +136,9 @@ at_the_limit =
     ∷ one_cpu (codes "n3")
     ∷ framework_in (codes "f1") (codes "a")
     ∷ Cycle 0
-    ∷ Decline (codes "f1") 1 0 10
+    ∷ decline_for (codes "f1") 1 0 10
     ∷ decline (codes "f1") 2
-    ∷ Accept (codes "f1") 3 (codes "t") (cpus 1000 ∷ []) 0 10
+    ∷ accept_for (codes "f1") 3 ((codes "t", cpus 1000 ∷ []) ∷ []) 0 10
     ∷ Cycle 4611686018427387904
     ∷ []
 

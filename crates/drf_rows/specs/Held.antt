@@ -20,9 +20,13 @@ use Rattle.drf_rows.specs.declared.rows.Rows.{Rows}
 abbrev pub client_of : FrameworkRow → ClientRow → Client
 client_of framework client = record { role = client.role; framework = framework.name }
 
+-- the clients of some frameworks
+abbrev pub clients_in : List FrameworkRow → List Client
+clients_in frameworks = flat_map (λ f. map (client_of f) f.clients) frameworks
+
 -- the registered clients, in order of registration
 abbrev pub clients_of : Rows → List Client
-clients_of rows = flat_map (λ f. map (client_of f) f.clients) rows.frameworks
+clients_of rows = clients_in rows.frameworks
 
 -- the framework is registered in the role
 abbrev pub is_registered : List FrameworkRow → Client → Bool

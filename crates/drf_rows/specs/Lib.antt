@@ -6,11 +6,15 @@ pub mod Holdings
 pub mod Held
 pub mod Weights
 pub mod Filters
+pub mod Tasks
 pub mod Cycle
 pub mod Endings
+pub mod Ended
 pub mod Offers
+pub mod TaskLaws
 pub mod Members
 pub mod Report
+pub mod Quota
 pub mod Consistent
 pub mod Refusal
 pub mod Step
@@ -26,6 +30,7 @@ pub mod ConsistentLaws
 pub mod RegistrationLaws
 pub mod EndingLaws
 pub mod MemberLaws
+pub mod TotalLaws
 pub mod WeightLaws
 pub mod Examples
 pub mod OrderExamples
@@ -33,6 +38,7 @@ pub mod WeightExamples
 pub mod ReportExamples
 pub mod LifeExamples
 pub mod FilterExamples
+pub mod QuotaLaws
 pub mod Laws
 pub mod LifeLaws
 pub mod EndedLaws

@@ -6,6 +6,7 @@ use Rattle.drf_rows.specs.LimitNumbers.{LimitNumbers, ceilings}
 use Rattle.drf_rows.specs.Examples.{cpus, mem, framework_in, offer}
 use Rattle.drf_rows.specs.OrderExamples.{role_a}
 use Rattle.drf_rows.specs.ReportExamples.{line, dot, none_reported}
+use Rattle.drf_rows.specs.Tasks.{Start}
 use Rattle.drf_rows.specs.declared.event.Event.{Event}
 use Rattle.drf_rows.specs.declared.event.Event.TheVariants as event
 use Rattle.drf_rows.specs.declared.event.Event.TheVariants.{AddAgent, RemoveAgent, ActivateAgent, DeactivateAgent, RemoveFramework, Accept, Decline, Rescind, Finish, Suppress, Revive, Cycle}
@@ -23,12 +24,21 @@ one line = Offers (line ∷ [])
 abbrev pub none : Reply
 none = Offers []
 
+-- at a moment, and for a time
+abbrev pub accept_for : Text → ℕ → List Start → ℕ → ℕ → Event
+accept_for framework number tasks at refuse_ms =
+    Accept (record { framework = framework; offer = number; tasks = tasks; at = at; refuse_ms = refuse_ms })
+
+abbrev pub decline_for : Text → ℕ → ℕ → ℕ → Event
+decline_for framework number at refuse_ms =
+    Decline (record { framework = framework; offer = number; at = at; refuse_ms = refuse_ms })
+
 -- at moment 0, and for no time
 abbrev pub accept : Text → ℕ → Text → List Resource → Event
-accept framework number task used = Accept framework number task used 0 0
+accept framework number task used = accept_for framework number ((task, used) ∷ []) 0 0
 
 abbrev pub decline : Text → ℕ → Event
-decline framework number = Decline framework number 0 0
+decline framework number = decline_for framework number 0 0
 
 -- an offer of all of an agent that has one of `cpus`
 abbrev pub offer_of_n1 : ℕ → OfferLine
@@ -63,6 +73,41 @@ a_task_replies =
     ∷ Refused KnownAgent
     ∷ []
 
+-- several tasks are started with one offer, all or none
+abbrev pub accept_two : List Resource → List Resource → Event
+accept_two first second =
+    accept_for (codes "f1") 1 ((codes "t1", first) ∷ (codes "t2", second) ∷ []) 0 0
+
+abbrev pub two_tasks : List Event
+two_tasks =
+    AddAgent (codes "n1") (cpus 4000 ∷ [])
+    ∷ framework_in (codes "f1") (codes "a")
+    ∷ Cycle 0
+    ∷ accept_two (cpus 3000 ∷ []) (cpus 2000 ∷ [])
+    ∷ accept_for (codes "f1") 1 ((codes "t1", cpus 1000 ∷ []) ∷ (codes "t1", cpus 1000 ∷ []) ∷ []) 0 0
+    ∷ accept_two (cpus 1000 ∷ []) []
+    ∷ accept_two (cpus 1000 ∷ []) (cpus 2000 ∷ [])
+    ∷ Cycle 0
+    ∷ Finish (codes "f1") (codes "t1")
+    ∷ decline (codes "f1") 2
+    ∷ Cycle 0
+    ∷ []
+
+abbrev pub two_tasks_replies : List Reply
+two_tasks_replies =
+    Done
+    ∷ Done
+    ∷ one (offer 1 (codes "f1") (codes "a") (codes "n1") (cpus 4000 ∷ []))
+    ∷ Refused NotCovered
+    ∷ Refused KnownTask
+    ∷ Refused Empty
+    ∷ Done
+    ∷ one (offer_of_n1 2)
+    ∷ Done
+    ∷ Done
+    ∷ one (offer 3 (codes "f1") (codes "a") (codes "n1") (cpus 2000 ∷ []))
+    ∷ []
+
 -- what is declined is offered to another, and again to the first from the end of its filter on
 abbrev pub a_filter : List Event
 a_filter =
@@ -70,7 +115,7 @@ a_filter =
     ∷ framework_in (codes "fa") (codes "a")
     ∷ framework_in (codes "fb") (codes "b")
     ∷ Cycle 1000
-    ∷ Decline (codes "fa") 1 1000 5000
+    ∷ decline_for (codes "fa") 1 1000 5000
     ∷ Cycle 2000
     ∷ accept (codes "fb") 2 (codes "t") (cpus 1000 ∷ [])
     ∷ Cycle 5999
@@ -98,7 +143,7 @@ a_clock =
     AddAgent (codes "n1") (cpus 1000 ∷ [])
     ∷ framework_in (codes "f1") (codes "a")
     ∷ Cycle 7000
-    ∷ Decline (codes "f1") 1 2000 5000
+    ∷ decline_for (codes "f1") 1 2000 5000
     ∷ Cycle 11999
     ∷ Cycle 3
     ∷ Cycle 12000
@@ -113,7 +158,7 @@ a_year =
     AddAgent (codes "n1") (cpus 1000 ∷ [])
     ∷ framework_in (codes "f1") (codes "a")
     ∷ Cycle 0
-    ∷ Decline (codes "f1") 1 0 18446744073709551615
+    ∷ decline_for (codes "f1") 1 0 18446744073709551615
     ∷ Cycle 31535999999
     ∷ Cycle 31536000000
     ∷ []
@@ -135,7 +180,7 @@ taking_part =
     ∷ Cycle 0
     ∷ Revive (codes "f1") (codes "a" ∷ [])
     ∷ Cycle 0
-    ∷ Decline (codes "f1") 2 0 5000
+    ∷ decline_for (codes "f1") 2 0 5000
     ∷ Cycle 0
     ∷ Revive (codes "f1") (codes "a" ∷ [])
     ∷ Cycle 0
@@ -197,7 +242,7 @@ refused =
     ∷ Suppress (codes "f1") (codes "b" ∷ [])
     ∷ accept (codes "f1") 1 (codes "t") []
     ∷ accept (codes "f1") 1 (codes "t") (cpus 3000 ∷ [])
-    ∷ Decline (codes "f1") 1 4611686018427387905 0
+    ∷ decline_for (codes "f1") 1 4611686018427387905 0
     ∷ Suppress (codes "f2") (codes "b" ∷ [])
     ∷ accept (codes "f1") 1 (codes "t") (cpus 1000 ∷ [])
     ∷ Cycle 0
@@ -236,10 +281,10 @@ two_filters =
     ∷ AddAgent (codes "n2") (cpus 2000 ∷ [])
     ∷ framework_in (codes "f1") (codes "a")
     ∷ Cycle 0
-    ∷ Decline (codes "f1") 1 0 10
-    ∷ Decline (codes "f1") 2 9 10
-    ∷ Accept (codes "f1") 2 (codes "t") (cpus 1000 ∷ []) 9 10
-    ∷ Accept (codes "f1") 2 (codes "t") (cpus 1000 ∷ []) 10 10
+    ∷ decline_for (codes "f1") 1 0 10
+    ∷ decline_for (codes "f1") 2 9 10
+    ∷ accept_for (codes "f1") 2 ((codes "t", cpus 1000 ∷ []) ∷ []) 9 10
+    ∷ accept_for (codes "f1") 2 ((codes "t", cpus 1000 ∷ []) ∷ []) 10 10
     ∷ []
 
 abbrev pub two_filters_replies : List Reply

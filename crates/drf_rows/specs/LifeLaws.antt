@@ -15,6 +15,7 @@ use Rattle.drf_rows.specs.Cycle.{free_of, new_offer, with_offer, cycle}
 use Rattle.drf_rows.specs.Endings.{is_task}
 use Rattle.drf_rows.specs.Members.{has_agent, has_framework}
 use Rattle.drf_rows.specs.Offers.{offer_at}
+use Rattle.drf_rows.specs.Tasks.{Start}
 use Rattle.drf_rows.specs.Step.{effect, new_offers, rows_after, rows_after_all, replies_to}
 use Rattle.drf_rows.specs.declared.rows.AgentRow.{AgentRow}
 use Rattle.drf_rows.specs.declared.rows.ClientRow.{ClientRow}
@@ -23,6 +24,7 @@ use Rattle.drf_rows.specs.declared.rows.FilterRow.{FilterRow}
 use Rattle.drf_rows.specs.declared.rows.OfferRow.{OfferRow}
 use Rattle.drf_rows.specs.declared.rows.TaskRow.{TaskRow}
 use Rattle.drf_rows.specs.declared.rows.Rows.{Rows}
+use Rattle.drf_rows.specs.declared.event.Accept as accepting
 use Rattle.drf_rows.specs.declared.event.Event.{Event}
 use Rattle.drf_rows.specs.declared.event.Event.TheVariants.{AddAgent, RemoveAgent, ActivateAgent, DeactivateAgent, AddFramework, RemoveFramework, Accept, Decline, Rescind, Finish, Suppress, Revive, Cycle}
 use Rattle.drf_rows.specs.declared.reply.OfferLine.{OfferLine}
@@ -36,7 +38,7 @@ DeclinedAtOnceIsUndone =
     (rows : Rows) (agent : AgentRow) (client : Client) (bundle : List Resource) (at : ℕ)
     → IsConsistent rows
     → let o : OfferRow = new_offer rows agent client bundle in
-    effect (with_offer rows o) (Decline client.framework o.number at 0)
+    effect (with_offer rows o) (Decline (record { framework = client.framework; offer = o.number; at = at; refuse_ms = 0 }))
     ≡ record rows { frameworks = (with_offer rows o).frameworks; next_offer = rows.next_offer + 1; clock = max rows.clock at }
 
 -- a task that finishes goes, nothing else of the rows changes, and its agent gets back exactly what it used
@@ -51,21 +53,22 @@ FinishedIsGivenBack =
     × (same_text t.agent agent.name ≡ true → join (free_of rows agent) t.bundle ≡ Some (free_of after agent))
     × (same_text t.agent agent.name ≡ false → free_of after agent ≡ free_of rows agent)
 
--- an offer that is accepted goes, and leaves one task behind those that run: its client's, on its agent, with the part that is
--- used. The clock moves, one filter of the client there may be added, and nothing else of the rows changes
-abbrev pub AcceptedIsATask : Type 0
-AcceptedIsATask =
-    (rows : Rows) (framework task : Text) (number at refuse_ms : ℕ) (used : List Resource) (o : OfferRow)
-    → offer_at rows number ≡ Some o
-    → let started : TaskRow = record { name = task; agent = o.agent; framework = o.framework; role = o.role; bundle = used } in
-    let after : Rows = effect rows (Accept framework number task used at refuse_ms) in
+-- an offer that is accepted goes, and leaves its tasks behind those that run, in their order: each its client's, on its agent,
+-- with the part that it uses. The clock moves, one filter of the client there may be added, and nothing else of the rows changes
+abbrev pub AcceptedStartsTasks : Type 0
+AcceptedStartsTasks =
+    (rows : Rows) (a : accepting.Accept) (o : OfferRow)
+    → offer_at rows a.offer ≡ Some o
+    → let started : Start → TaskRow
+    = λ s. record { name = s.0; agent = o.agent; framework = o.framework; role = o.role; bundle = s.1 } in
+    let after : Rows = effect rows (Accept a) in
     let added : List FilterRow = drop (length rows.filters) after.filters in
     (after
     ≡ record rows {
-      offers = filter (λ p. not (p.number == number)) rows.offers;
-      tasks = rows.tasks ++ started ∷ [];
+      offers = filter (λ p. not (p.number == a.offer)) rows.offers;
+      tasks = rows.tasks ++ map started a.tasks;
       filters = rows.filters ++ added;
-      clock = max rows.clock at;
+      clock = max rows.clock a.at;
     })
     × (length added ≤ 1)
     × (list_all (λ f. is_of_client (of_offer o).client f && is_on_agent o.agent f) added ≡ true)
@@ -196,8 +199,8 @@ abbrev pub other_offers : Event → List OfferRow → List OfferRow
 other_offers (RemoveAgent agent) offers = filter (λ o. not (same_text o.agent agent)) offers
 other_offers (DeactivateAgent agent) offers = filter (λ o. not (same_text o.agent agent)) offers
 other_offers (RemoveFramework framework) offers = filter (λ o. not (same_text o.framework framework)) offers
-other_offers (Accept framework offer task used at refuse_ms) offers = filter (λ o. not (o.number == offer)) offers
-other_offers (Decline framework offer at refuse_ms) offers = filter (λ o. not (o.number == offer)) offers
+other_offers (Accept a) offers = filter (λ o. not (o.number == a.offer)) offers
+other_offers (Decline d) offers = filter (λ o. not (o.number == d.offer)) offers
 other_offers (Rescind offer) offers = filter (λ o. not (o.number == offer)) offers
 other_offers event offers = offers
 
@@ -209,10 +212,10 @@ other_tasks (Finish framework task) tasks = filter (λ t. not (is_task framework
 other_tasks event tasks = tasks
 
 abbrev pub is_accept : Event → Bool
-is_accept (Accept framework offer task used at refuse_ms) = true
+is_accept (Accept a) = true
 is_accept event = false
 
--- what an event does not end stays as it was, and in order; a cycle adds offers, and an accept a task
+-- what an event does not end stays as it was, and in order; a cycle adds offers, and an accept tasks
 abbrev pub OtherHoldingsStay : Type 0
 OtherHoldingsStay =
     (limits : LimitNumbers) (rows : Rows) (event : Event)

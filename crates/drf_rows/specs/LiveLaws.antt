@@ -10,7 +10,8 @@ use Rattle.drf_rows.specs.Held.{standing_of}
 use Rattle.drf_rows.specs.Filters.{in_force, is_of_client, is_on_agent, is_held_back}
 use Rattle.drf_rows.specs.FilterLaws.{held_back-in_force, in_force-later, number_in_force-later, in_force-left, in_force-more}
 use Rattle.drf_rows.specs.Cycle.{free_of, is_allocatable, entitlement, grant, new_offer, with_offer, tried, all_tried, turn_order, turn, turns, at_moment, cycle}
-use Rattle.drf_rows.specs.Offers.{Start, offer_at, left_of_offer, refused_until, filter_of, refuses_all, refuses_rest, filters_with, are_many_filters, offer_accepted, offer_declined}
+use Rattle.drf_rows.specs.Offers.{offer_at, left_of_offer, refused_until, filter_of, refuses_all, refuses_rest, filters_with, are_many_filters, offer_accepted, offer_declined}
+use Rattle.drf_rows.specs.Tasks.{Start}
 use Rattle.drf_rows.specs.Report.{report_of}
 use Rattle.drf_rows.specs.Step.{live_rows, refusal_of, effect, answer, rows_after, rows_after_all, reply_to, replies_to}
 use Rattle.drf_rows.specs.declared.event.Event.{Event}
@@ -130,8 +131,8 @@ refusal_of-live limits rows (ActivateAgent agent) = refl
 refusal_of-live limits rows (DeactivateAgent agent) = refl
 refusal_of-live limits rows (AddFramework framework roles) = refl
 refusal_of-live limits rows (RemoveFramework framework) = refl
-refusal_of-live limits rows (Accept framework offer task used at refuse_ms) = rw (are_many-live rows at limits)
-refusal_of-live limits rows (Decline framework offer at refuse_ms) = rw (are_many-live rows at limits)
+refusal_of-live limits rows (Accept a) = rw (are_many-live rows a.at limits)
+refusal_of-live limits rows (Decline d) = rw (are_many-live rows d.at limits)
 refusal_of-live limits rows (Rescind offer) = refl
 refusal_of-live limits rows (Finish framework task) = refl
 refusal_of-live limits rows (Suppress framework role) = refl
@@ -209,8 +210,8 @@ module _ (rows : Rows) (n : ℕ) where
   effect-live (DeactivateAgent agent) = live-stay (effect rows (DeactivateAgent agent)) (omega arith) refl
   effect-live (AddFramework framework roles) = live-stay (effect rows (AddFramework framework roles)) (omega arith) refl
   effect-live (RemoveFramework framework) = live-leave (effect rows (RemoveFramework framework)) (λ f. not (same_text f.framework framework)) refl refl
-  effect-live (Accept framework offer task used at refuse_ms) = live-accepted at ((task, used) ∷ []) refuse_ms (offer_at rows offer)
-  effect-live (Decline framework offer at refuse_ms) = live-declined at refuse_ms (offer_at rows offer)
+  effect-live (Accept a) = live-accepted a.at a.tasks a.refuse_ms (offer_at rows a.offer)
+  effect-live (Decline d) = live-declined d.at d.refuse_ms (offer_at rows d.offer)
   effect-live (Rescind offer) = live-stay (effect rows (Rescind offer)) (omega arith) refl
   effect-live (Finish framework task) = live-stay (effect rows (Finish framework task)) (omega arith) refl
   effect-live (Suppress framework role) = live-stay (effect rows (Suppress framework role)) (omega arith) refl
@@ -220,6 +221,10 @@ module _ (rows : Rows) (n : ℕ) where
   effect-live (Cycle at) = live-cycle at
   effect-live Report = live-stay rows (omega arith) refl
 
+pub report_of-live : (rows : Rows) → report_of (live_rows rows) ≡ report_of rows
+unfolding report_of standing_of
+report_of-live rows = refl
+
 answer-live : (rows : Rows) (event : Event) → answer (live_rows rows) (effect (live_rows rows) event) event ≡ answer rows (effect rows event) event
 unfolding effect report_of standing_of
 answer-live rows (AddAgent agent total) = refl
@@ -228,8 +233,8 @@ answer-live rows (ActivateAgent agent) = refl
 answer-live rows (DeactivateAgent agent) = refl
 answer-live rows (AddFramework framework roles) = refl
 answer-live rows (RemoveFramework framework) = refl
-answer-live rows (Accept framework offer task used at refuse_ms) = refl
-answer-live rows (Decline framework offer at refuse_ms) = refl
+answer-live rows (Accept a) = refl
+answer-live rows (Decline d) = refl
 answer-live rows (Rescind offer) = refl
 answer-live rows (Finish framework task) = refl
 answer-live rows (Suppress framework role) = refl

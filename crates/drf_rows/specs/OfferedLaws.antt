@@ -15,7 +15,8 @@ use Rattle.drf_rows.specs.Holdings.{of_offer}
 use Rattle.drf_rows.specs.Held.{client_of, active_clients, standing_of}
 use Rattle.drf_rows.specs.Cycle.{grant, new_offer, with_offer, tried, all_tried, first_of, without, serving_order, turn, turn_order, turns, at_moment, cycle}
 use Rattle.drf_rows.specs.CycleLaws.{active_clients-with_offer}
-use Rattle.drf_rows.specs.Offers.{Start, offer_at, offer_accepted, offer_declined}
+use Rattle.drf_rows.specs.Offers.{offer_at, offer_accepted, offer_declined}
+use Rattle.drf_rows.specs.Tasks.{Start}
 use Rattle.drf_rows.specs.ListLaws.{each_append, each_map, each_filter, each_find, each_true, any_fails}
 use Rattle.drf_rows.specs.Step.{refusal_of, effect, answer, line_told, new_offers, rows_after, rows_after_all, reply_to, replies_to}
 use Rattle.drf_rows.specs.LifeLaws.{is_same_client, SuppressedIsNotOffered, CountUp, lines_told, NumbersAreNew}
@@ -190,8 +191,8 @@ told_by_effect rows (ActivateAgent agent) = refl
 told_by_effect rows (DeactivateAgent agent) = refl
 told_by_effect rows (AddFramework framework roles) = refl
 told_by_effect rows (RemoveFramework framework) = refl
-told_by_effect rows (Accept framework offer task used at refuse_ms) = told-accepted rows at ((task, used) ∷ []) refuse_ms (offer_at rows offer)
-told_by_effect rows (Decline framework offer at refuse_ms) = told-declined rows at refuse_ms (offer_at rows offer)
+told_by_effect rows (Accept a) = told-accepted rows a.at a.tasks a.refuse_ms (offer_at rows a.offer)
+told_by_effect rows (Decline d) = told-declined rows d.at d.refuse_ms (offer_at rows d.offer)
 told_by_effect rows (Rescind offer) = refl
 told_by_effect rows (Finish framework task) = refl
 told_by_effect rows (Suppress framework role) = refl

@@ -1,16 +1,18 @@
 -- What a framework makes of an offer: it starts tasks with parts of it, or declines it, and for a time is offered there
 -- nothing that the rest covers.
-use Rattle.std.specs.Prelude.{ℕ, ◌+◌, ◌==◌, max, min, Bool, true, false, not, ◌&&◌, List, [], ◌∷◌, ◌++◌, map, find, Option, is_some, if◌then◌else◌, nat_le, nat_lt}
-use Rattle.std.specs.List.{list_any}
+use Rattle.std.specs.Prelude.{◌≡◌, ℕ, ◌+◌, ◌==◌, max, min, Bool, true, false, not, ◌&&◌, ◌||◌, ⊤, List, [], ◌∷◌, ◌++◌, map, find, Option, is_some, if◌then◌else◌, nat_le, nat_lt}
+use Rattle.std.specs.List.{list_any, AllByRecursion}
 use Rattle.std.specs.Option.{option_map_or}
 use Rattle.drf_role.specs.Text.{Text, same_text}
-use Rattle.drf_bundle.specs.Bundle.{covers}
+use Rattle.drf_bundle.specs.Bundle.{IsBundle}
 use Rattle.drf_bundle.specs.Taken.{rest_of_all}
 use Rattle.drf_bundle.specs.declared.resource.Resource.{Resource}
 use Rattle.drf_rows.specs.LimitNumbers.{LimitNumbers}
 use Rattle.drf_rows.specs.Endings.{without_ended, one_offer, is_task}
+use Rattle.drf_rows.specs.Consistent.{are_distinct}
 use Rattle.drf_rows.specs.Filters.{number_in_force}
-use Rattle.drf_rows.specs.declared.limits.TheConstants.{LONGEST_REFUSAL}
+use Rattle.drf_rows.specs.Tasks.{Start, names_of, uses, covers_all}
+use Rattle.drf_rows.specs.declared.limits.TheConstants.{LONGEST_FILTER}
 use Rattle.drf_rows.specs.declared.rows.FilterRow.{FilterRow}
 use Rattle.drf_rows.specs.declared.rows.OfferRow.{OfferRow}
 use Rattle.drf_rows.specs.declared.rows.Rows.{Rows}
@@ -29,33 +31,45 @@ has_offer rows number = is_some (offer_at rows number)
 abbrev pub is_anothers : Rows → Text → ℕ → Bool
 is_anothers rows framework number = option_map_or (λ o. not (same_text o.framework framework)) (offer_at rows number) false
 
--- it is there, and does not cover the resources
-abbrev pub is_beyond : Rows → ℕ → List Resource → Bool
-is_beyond rows number used = option_map_or (λ o. not (covers o.bundle used)) (offer_at rows number) false
+-- it is there, and does not cover what all tasks use together, which may have no join
+abbrev pub is_beyond : Rows → ℕ → List Start → Bool
+is_beyond rows number starts = option_map_or (λ o. not (covers_all o.bundle (uses starts))) (offer_at rows number) false
 
 -- the framework has a task of that name
 abbrev pub has_task : Rows → Text → Text → Bool
 has_task rows framework name = list_any (is_task framework name) rows.tasks
 
--- ---- tasks that are started with parts of an offer
+-- the framework has a task of one of the names, or a name stands twice
+abbrev pub is_task_known : Rows → Text → List Start → Bool
+is_task_known rows framework starts =
+    list_any (λ s. has_task rows framework s.0) starts || not (are_distinct (names_of starts))
 
--- a task to start: its name and its part
-abbrev pub Start : Type 0
-Start = Text × List Resource
+-- ---- tasks that are started with parts of an offer
 
 -- the task runs where the offer was made, and is its client's
 abbrev pub task_of : OfferRow → Start → TaskRow
 task_of o start = record { name = start.0; agent = o.agent; framework = o.framework; role = o.role; bundle = start.1 }
 
+-- tasks can be started with parts of an offer: it covers all together, and their names are new
+pub record CanStart (rows : Rows) (o : OfferRow) (starts : List Start) : Type 0 where
+  pub bundles : AllByRecursion IsBundle (uses starts)
+  pub covered : covers_all o.bundle (uses starts) ≡ true
+  pub new : is_task_known rows o.framework starts ≡ false
+
+-- each task is new behind those before it
+abbrev pub AreNew : List TaskRow → List TaskRow → Type 0
+AreNew old [] = ⊤
+AreNew old (t ∷ ts) = (list_any (is_task t.framework t.name) old ≡ false) × AreNew (old ++ t ∷ []) ts
+
 -- what is left of the offer
 abbrev pub left_of_offer : OfferRow → List Start → List Resource
-left_of_offer o starts = rest_of_all o.bundle (map (λ s. s.1) starts)
+left_of_offer o starts = rest_of_all o.bundle (uses starts)
 
 -- ---- filters that a framework sets
 
 -- a filter that is set for so long ends so long after the clock; more than 365 days are 365 days
 abbrev pub refused_until : ℕ → ℕ → ℕ
-refused_until clock refuse_ms = clock + min refuse_ms LONGEST_REFUSAL
+refused_until clock refuse_ms = clock + min refuse_ms LONGEST_FILTER
 
 -- the filter of an offer's client, where the offer was made
 abbrev pub filter_of : OfferRow → List Resource → ℕ → FilterRow

@@ -17,7 +17,8 @@ use Rattle.drf_rows.specs.Holdings.{of_offer}
 use Rattle.drf_rows.specs.Cycle.{grant, counted, count_offer, new_offer, with_offer, tried, all_tried, turn, turn_order, turns, at_moment, cycle}
 use Rattle.drf_rows.specs.Endings.{is_task}
 use Rattle.drf_rows.specs.EndingLaws.{filter-out, find-place}
-use Rattle.drf_rows.specs.Offers.{Start, offer_at, offer_accepted, offer_declined}
+use Rattle.drf_rows.specs.Offers.{offer_at, offer_accepted, offer_declined}
+use Rattle.drf_rows.specs.Tasks.{Start}
 use Rattle.drf_rows.specs.Members.{distinct, new_client, active_at, suppressed_at, suppressed_in}
 use Rattle.drf_rows.specs.ListLaws.{filter_each, filter-again, each_true, none_left}
 use Rattle.drf_rows.specs.Step.{refusal_of, effect, new_offers, rows_after}
@@ -211,10 +212,10 @@ agents_left rows (ActivateAgent agent) = agents_active agent true rows.agents
 agents_left rows (DeactivateAgent agent) = agents_active agent false rows.agents
 agents_left rows (AddFramework framework roles) = refl
 agents_left rows (RemoveFramework framework) = refl
-agents_left rows (Accept framework offer task used at refuse_ms) =
-    ap (filter (λ (a : AgentRow). true)) (same-accepted rows at ((task, used) ∷ []) refuse_ms (offer_at rows offer)).0
-agents_left rows (Decline framework offer at refuse_ms) =
-    ap (filter (λ (a : AgentRow). true)) (same-declined rows at refuse_ms (offer_at rows offer)).0
+agents_left rows (Accept a) =
+    ap (filter (λ (a : AgentRow). true)) (same-accepted rows a.at a.tasks a.refuse_ms (offer_at rows a.offer)).0
+agents_left rows (Decline d) =
+    ap (filter (λ (a : AgentRow). true)) (same-declined rows d.at d.refuse_ms (offer_at rows d.offer)).0
 agents_left rows (Rescind offer) = refl
 agents_left rows (Finish framework task) = refl
 agents_left rows (Suppress framework role) = refl
@@ -253,10 +254,10 @@ frameworks_left rows (AddFramework framework roles) no_cycle =
     filter-last (λ f. not (same_text f.name framework)) rows.frameworks
     (record { name = framework; clients = map new_client (distinct roles) }) (ap not (same_itself framework))
 frameworks_left rows (RemoveFramework framework) no_cycle = filter-again (λ f. not (same_text f.name framework)) rows.frameworks
-frameworks_left rows (Accept framework offer task used at refuse_ms) no_cycle =
-    ap (filter (λ (f : FrameworkRow). true)) (same-accepted rows at ((task, used) ∷ []) refuse_ms (offer_at rows offer)).1
-frameworks_left rows (Decline framework offer at refuse_ms) no_cycle =
-    ap (filter (λ (f : FrameworkRow). true)) (same-declined rows at refuse_ms (offer_at rows offer)).1
+frameworks_left rows (Accept a) no_cycle =
+    ap (filter (λ (f : FrameworkRow). true)) (same-accepted rows a.at a.tasks a.refuse_ms (offer_at rows a.offer)).1
+frameworks_left rows (Decline d) no_cycle =
+    ap (filter (λ (f : FrameworkRow). true)) (same-declined rows d.at d.refuse_ms (offer_at rows d.offer)).1
 frameworks_left rows (Rescind offer) no_cycle = refl
 frameworks_left rows (Finish framework task) no_cycle = refl
 frameworks_left rows (Suppress framework role) no_cycle =
@@ -319,9 +320,9 @@ offers_left rows (ActivateAgent agent) no_cycle = refl
 offers_left rows (DeactivateAgent agent) no_cycle = filter-again (λ o. not (same_text o.agent agent)) rows.offers
 offers_left rows (AddFramework framework roles) no_cycle = refl
 offers_left rows (RemoveFramework framework) no_cycle = filter-again (λ o. not (same_text o.framework framework)) rows.offers
-offers_left rows (Accept framework offer task used at refuse_ms) no_cycle =
-    offers-accepted rows at ((task, used) ∷ []) refuse_ms offer (offer_at rows offer) refl
-offers_left rows (Decline framework offer at refuse_ms) no_cycle = offers-declined rows at refuse_ms offer (offer_at rows offer) refl
+offers_left rows (Accept a) no_cycle =
+    offers-accepted rows a.at a.tasks a.refuse_ms a.offer (offer_at rows a.offer) refl
+offers_left rows (Decline d) no_cycle = offers-declined rows d.at d.refuse_ms d.offer (offer_at rows d.offer) refl
 offers_left rows (Rescind offer) no_cycle = filter-again (λ o. not (o.number == offer)) rows.offers
 offers_left rows (Finish framework task) no_cycle = filter_each (λ o. true) rows.offers (each_true rows.offers)
 offers_left rows (Suppress framework role) no_cycle = refl
@@ -347,8 +348,8 @@ tasks_left rows (ActivateAgent agent) no_accept = refl
 tasks_left rows (DeactivateAgent agent) no_accept = all_tasks rows.tasks
 tasks_left rows (AddFramework framework roles) no_accept = refl
 tasks_left rows (RemoveFramework framework) no_accept = filter-again (λ t. not (same_text t.framework framework)) rows.tasks
-tasks_left rows (Accept framework offer task used at refuse_ms) no_accept = absurd (false≢true (sym no_accept))
-tasks_left rows (Decline framework offer at refuse_ms) no_accept = tasks-declined rows at refuse_ms (offer_at rows offer)
+tasks_left rows (Accept a) no_accept = absurd (false≢true (sym no_accept))
+tasks_left rows (Decline d) no_accept = tasks-declined rows d.at d.refuse_ms (offer_at rows d.offer)
 tasks_left rows (Rescind offer) no_accept = all_tasks rows.tasks
 tasks_left rows (Finish framework task) no_accept = filter-again (λ t. not (is_task framework task t)) rows.tasks
 tasks_left rows (Suppress framework role) no_accept = refl
@@ -407,9 +408,9 @@ offers_gone rows (ActivateAgent agent) no_cycle = refl
 offers_gone rows (DeactivateAgent agent) no_cycle = refl
 offers_gone rows (AddFramework framework roles) no_cycle = refl
 offers_gone rows (RemoveFramework framework) no_cycle = refl
-offers_gone rows (Accept framework offer task used at refuse_ms) no_cycle =
-    gone-accepted rows at ((task, used) ∷ []) refuse_ms offer (offer_at rows offer) refl
-offers_gone rows (Decline framework offer at refuse_ms) no_cycle = gone-declined rows at refuse_ms offer (offer_at rows offer) refl
+offers_gone rows (Accept a) no_cycle =
+    gone-accepted rows a.at a.tasks a.refuse_ms a.offer (offer_at rows a.offer) refl
+offers_gone rows (Decline d) no_cycle = gone-declined rows d.at d.refuse_ms d.offer (offer_at rows d.offer) refl
 offers_gone rows (Rescind offer) no_cycle = refl
 offers_gone rows (Finish framework task) no_cycle = filter_each (λ o. true) rows.offers (each_true rows.offers)
 offers_gone rows (Suppress framework role) no_cycle = refl
@@ -426,8 +427,8 @@ tasks_gone rows (ActivateAgent agent) no_accept = refl
 tasks_gone rows (DeactivateAgent agent) no_accept = all_tasks rows.tasks
 tasks_gone rows (AddFramework framework roles) no_accept = refl
 tasks_gone rows (RemoveFramework framework) no_accept = refl
-tasks_gone rows (Accept framework offer task used at refuse_ms) no_accept = absurd (false≢true (sym no_accept))
-tasks_gone rows (Decline framework offer at refuse_ms) no_accept = tasks-declined rows at refuse_ms (offer_at rows offer)
+tasks_gone rows (Accept a) no_accept = absurd (false≢true (sym no_accept))
+tasks_gone rows (Decline d) no_accept = tasks-declined rows d.at d.refuse_ms (offer_at rows d.offer)
 tasks_gone rows (Rescind offer) no_accept = all_tasks rows.tasks
 tasks_gone rows (Finish framework task) no_accept = refl
 tasks_gone rows (Suppress framework role) no_accept = refl

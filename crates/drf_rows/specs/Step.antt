@@ -8,16 +8,19 @@ use Rattle.drf_bundle.specs.Bundle.{quantities_of}
 use Rattle.drf_rows.specs.LimitNumbers.{LimitNumbers}
 use Rattle.drf_rows.specs.Held.{cluster_total, clients_of, is_registered}
 use Rattle.drf_rows.specs.Members.{has_agent, has_framework, distinct, with_agent, with_framework, with_activity, with_suppression, agent_deactivated, revived, agent_removed, framework_removed}
-use Rattle.drf_rows.specs.Offers.{Start, offer_at, has_offer, is_anothers, is_beyond, has_task, is_empty, refuses_all, refuses_rest, are_many_filters, offer_accepted, offer_declined}
+use Rattle.drf_rows.specs.Offers.{offer_at, has_offer, is_anothers, is_beyond, has_task, is_task_known, is_empty, refuses_all, refuses_rest, are_many_filters, offer_accepted, offer_declined}
 use Rattle.drf_rows.specs.Endings.{without_ended, one_offer, one_task}
 use Rattle.drf_rows.specs.Cycle.{at_moment, cycle}
 use Rattle.drf_rows.specs.Filters.{in_force}
 use Rattle.drf_rows.specs.Report.{report_of}
+use Rattle.drf_rows.specs.Tasks.{uses}
 use Rattle.drf_rows.specs.Weights.{is_weight, too_many_weights, weights_with}
 use Rattle.drf_rows.specs.declared.limits.TheConstants.{LATEST_MOMENT, LARGEST_AMOUNT}
 use Rattle.drf_rows.specs.declared.rows.AgentRow.{AgentRow}
 use Rattle.drf_rows.specs.declared.rows.OfferRow.{OfferRow}
 use Rattle.drf_rows.specs.declared.rows.Rows.{Rows}
+use Rattle.drf_rows.specs.declared.event.Accept as accepting
+use Rattle.drf_rows.specs.declared.event.Decline as declining
 use Rattle.drf_rows.specs.declared.event.Event.{Event}
 use Rattle.drf_rows.specs.declared.event.Event.TheVariants as event
 use Rattle.drf_rows.specs.declared.event.Event.TheVariants.{AddAgent, RemoveAgent, ActivateAgent, DeactivateAgent, AddFramework, RemoveFramework, Accept, Decline, Rescind, Finish, Suppress, Revive, SetWeight, Cycle}
@@ -61,13 +64,13 @@ too_many_frameworks limits rows roles =
     || (nat_lt limits.roles (length (distinct roles)) || nat_lt limits.clients (length (clients_of rows) + length (distinct roles)))
 
 -- an accept would set one filter too many
-abbrev pub accept_is_too_much : LimitNumbers → Rows → ℕ → Start → ℕ → ℕ → Bool
-accept_is_too_much limits rows number start at refuse_ms =
-    option_map_or (λ o. refuses_rest o (start ∷ []) refuse_ms) (offer_at rows number) false && are_many_filters limits rows at
+abbrev pub accept_is_too_much : LimitNumbers → Rows → accepting.Accept → Bool
+accept_is_too_much limits rows a =
+    option_map_or (λ o. refuses_rest o a.tasks a.refuse_ms) (offer_at rows a.offer) false && are_many_filters limits rows a.at
 
 -- a decline would
-abbrev pub decline_is_too_much : LimitNumbers → Rows → ℕ → ℕ → Bool
-decline_is_too_much limits rows at refuse_ms = refuses_all refuse_ms && are_many_filters limits rows at
+abbrev pub decline_is_too_much : LimitNumbers → Rows → declining.Decline → Bool
+decline_is_too_much limits rows d = refuses_all d.refuse_ms && are_many_filters limits rows d.at
 
 -- the framework is in the role
 abbrev pub is_in_role : Rows → Text → Path → Bool
@@ -107,24 +110,24 @@ cases_of limits rows (RemoveFramework framework) =
     (is_full limits rows, HistoryFull)
     ∷ (not (has_framework rows framework), UnknownFramework)
     ∷ []
-cases_of limits rows (Accept framework offer task used at refuse_ms) =
+cases_of limits rows (Accept a) =
     (is_full limits rows, HistoryFull)
-    ∷ (nat_lt LATEST_MOMENT at, BadMoment)
-    ∷ (not (has_framework rows framework), UnknownFramework)
-    ∷ (not (has_offer rows offer), UnknownOffer)
-    ∷ (is_anothers rows framework offer, NotYours)
-    ∷ (has_task rows framework task, KnownTask)
-    ∷ (is_empty used, Empty)
-    ∷ (is_beyond rows offer used, NotCovered)
-    ∷ (accept_is_too_much limits rows offer (task, used) at refuse_ms, TooMany)
+    ∷ (nat_lt LATEST_MOMENT a.at, BadMoment)
+    ∷ (not (has_framework rows a.framework), UnknownFramework)
+    ∷ (not (has_offer rows a.offer), UnknownOffer)
+    ∷ (is_anothers rows a.framework a.offer, NotYours)
+    ∷ (is_task_known rows a.framework a.tasks, KnownTask)
+    ∷ (list_any is_empty (uses a.tasks), Empty)
+    ∷ (is_beyond rows a.offer a.tasks, NotCovered)
+    ∷ (accept_is_too_much limits rows a, TooMany)
     ∷ []
-cases_of limits rows (Decline framework offer at refuse_ms) =
+cases_of limits rows (Decline d) =
     (is_full limits rows, HistoryFull)
-    ∷ (nat_lt LATEST_MOMENT at, BadMoment)
-    ∷ (not (has_framework rows framework), UnknownFramework)
-    ∷ (not (has_offer rows offer), UnknownOffer)
-    ∷ (is_anothers rows framework offer, NotYours)
-    ∷ (decline_is_too_much limits rows at refuse_ms, TooMany)
+    ∷ (nat_lt LATEST_MOMENT d.at, BadMoment)
+    ∷ (not (has_framework rows d.framework), UnknownFramework)
+    ∷ (not (has_offer rows d.offer), UnknownOffer)
+    ∷ (is_anothers rows d.framework d.offer, NotYours)
+    ∷ (decline_is_too_much limits rows d, TooMany)
     ∷ []
 cases_of limits rows (Rescind offer) =
     (is_full limits rows, HistoryFull)
@@ -168,10 +171,10 @@ effect rows (ActivateAgent agent) = record rows { agents = with_activity rows ag
 effect rows (DeactivateAgent agent) = agent_deactivated rows agent
 effect rows (AddFramework framework roles) = record rows { frameworks = with_framework rows framework roles }
 effect rows (RemoveFramework framework) = framework_removed rows framework
-effect rows (Accept framework offer task used at refuse_ms) =
-    option_map_or (λ o. offer_accepted (at_moment rows at) o ((task, used) ∷ []) refuse_ms) (offer_at rows offer) rows
-effect rows (Decline framework offer at refuse_ms) =
-    option_map_or (λ o. offer_declined (at_moment rows at) o refuse_ms) (offer_at rows offer) rows
+effect rows (Accept a) =
+    option_map_or (λ o. offer_accepted (at_moment rows a.at) o a.tasks a.refuse_ms) (offer_at rows a.offer) rows
+effect rows (Decline d) =
+    option_map_or (λ o. offer_declined (at_moment rows d.at) o d.refuse_ms) (offer_at rows d.offer) rows
 effect rows (Rescind offer) = without_ended rows (one_offer offer)
 effect rows (Finish framework task) = without_ended rows (one_task framework task)
 effect rows (Suppress framework role) =

@@ -1,86 +1,91 @@
 ghost use Rattle.std.specs.Prelude.{◌≡◌, IfOk};
 
 use crate::table::Table;
+use crate::tasks::TaskList;
 use drf_amount::Algebra;
 use drf_bundle::Bundle;
 use drf_role::{Name, Role};
 use std::alloc::AllocError;
+
+/// A framework starts tasks with parts of an offer, at a moment, and refuses the rest for a time.
+#[derive(Debug, Drop)]
+pub struct Accept {
+    pub framework: Name,
+    pub offer: u64,
+    pub tasks: TaskList,
+    pub at: u64,
+    pub refuse_ms: u64,
+}
+
+/// A framework gives an offer back, at a moment, and refuses it for a time.
+#[derive(Debug, Drop)]
+pub struct Decline {
+    pub framework: Name,
+    pub offer: u64,
+    pub at: u64,
+    pub refuse_ms: u64,
+}
+
+impl Accept {
+    pub fn copy(&self) -> Result<Accept, AllocError>
+        ensures { IfOk result (λ copy. copy ≡ self.now) }
+    {
+        Ok(Accept {
+            framework: self.framework.copy()?,
+            offer: self.offer,
+            tasks: self.tasks.copy()?,
+            at: self.at,
+            refuse_ms: self.refuse_ms,
+        })
+    }
+}
+
+impl Decline {
+    pub fn copy(&self) -> Result<Decline, AllocError>
+        ensures { IfOk result (λ copy. copy ≡ self.now) }
+    {
+        Ok(Decline {
+            framework: self.framework.copy()?,
+            offer: self.offer,
+            at: self.at,
+            refuse_ms: self.refuse_ms,
+        })
+    }
+}
 
 /// What happens to the cluster. The allocator takes one event at a time, whole or not at all. Moments and times are in
 /// milliseconds; a `refuse_ms` above 365 days counts as 365 days, and with 0 nothing is refused.
 #[derive(Debug, Drop)]
 pub enum Event {
     /// An agent registers with all its resources.
-    AddAgent {
-        agent: Name,
-        total: Bundle,
-    },
+    AddAgent { agent: Name, total: Bundle },
     /// An agent leaves, with its total and all that is held there.
-    RemoveAgent {
-        agent: Name,
-    },
+    RemoveAgent { agent: Name },
     /// What is free on an agent is offered, from now on.
-    ActivateAgent {
-        agent: Name,
-    },
+    ActivateAgent { agent: Name },
     /// An agent's offers are rescinded, and no more are made. Its tasks stay.
-    DeactivateAgent {
-        agent: Name,
-    },
+    DeactivateAgent { agent: Name },
     /// A framework registers in its roles.
-    AddFramework {
-        framework: Name,
-        roles: Table<Role>,
-    },
+    AddFramework { framework: Name, roles: Table<Role> },
     /// A framework leaves. What it held is free.
-    RemoveFramework {
-        framework: Name,
-    },
-    /// A framework starts a task with a part of an offer. The rest is free; for a time its client is offered there nothing
-    /// that this rest covers.
-    Accept {
-        framework: Name,
-        offer: u64,
-        task: Name,
-        used: Bundle,
-        at: u64,
-        refuse_ms: u64,
-    },
+    RemoveFramework { framework: Name },
+    /// A framework starts tasks with parts of an offer, all or none. The rest is free; for a time its client is offered there
+    /// nothing that this rest covers.
+    Accept(Accept),
     /// A framework gives an offer back; for a time its client is offered there nothing that the offer covers.
-    Decline {
-        framework: Name,
-        offer: u64,
-        at: u64,
-        refuse_ms: u64,
-    },
+    Decline(Decline),
     /// An offer is taken back.
-    Rescind {
-        offer: u64,
-    },
+    Rescind { offer: u64 },
     /// A task ends. What it used is free.
-    Finish {
-        framework: Name,
-        task: Name,
-    },
+    Finish { framework: Name, task: Name },
     /// A framework is not to be served in a role, until it revives.
-    Suppress {
-        framework: Name,
-        role: Role,
-    },
+    Suppress { framework: Name, role: Role },
     /// A framework is to be served in a role, and no longer refuses anything there.
-    Revive {
-        framework: Name,
-        role: Role,
-    },
+    Revive { framework: Name, role: Role },
     /// A role gets a weight, in thousandths.
-    SetWeight {
-        role: Role,
-        weight: u64,
-    },
+    SetWeight { role: Role, weight: u64 },
     /// The allocator offers what is free, at a moment in milliseconds.
-    Cycle {
-        at: u64,
-    },
+    Cycle { at: u64 },
     /// The allocator tells what there is, and who holds what of it.
     Report,
 }
@@ -110,32 +115,8 @@ impl Event {
             Event::RemoveFramework { framework } => Ok(Event::RemoveFramework {
                 framework: framework.copy()?,
             }),
-            Event::Accept {
-                framework,
-                offer,
-                task,
-                used,
-                at,
-                refuse_ms,
-            } => Ok(Event::Accept {
-                framework: framework.copy()?,
-                offer: *offer,
-                task: task.copy()?,
-                used: used.copy()?,
-                at: *at,
-                refuse_ms: *refuse_ms,
-            }),
-            Event::Decline {
-                framework,
-                offer,
-                at,
-                refuse_ms,
-            } => Ok(Event::Decline {
-                framework: framework.copy()?,
-                offer: *offer,
-                at: *at,
-                refuse_ms: *refuse_ms,
-            }),
+            Event::Accept(accept) => Ok(Event::Accept(accept.copy()?)),
+            Event::Decline(decline) => Ok(Event::Decline(decline.copy()?)),
             Event::Rescind { offer } => Ok(Event::Rescind { offer: *offer }),
             Event::Finish { framework, task } => Ok(Event::Finish {
                 framework: framework.copy()?,

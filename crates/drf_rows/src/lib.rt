@@ -2,26 +2,33 @@
 #![tactic(auto)]
 
 mod copied;
+mod copies;
+mod ending;
 mod event;
 mod laws;
 mod limits;
+mod quota_laws;
 mod reply;
 mod report;
 mod rows;
 mod table;
+mod tasks;
 
 pub use copied::{Copied, copy_all};
-pub use event::Event;
+pub use ending::Ending;
+pub use event::{Accept, Decline, Event};
 pub use laws::{
     cycles_example, filters_example, inactive_example, least_offer_example, life_example, life_law,
     limits_example, live_rows_law, offers_law, order_example, others_example, others_law,
     report_example, report_law, reservations_example, serving_order_law, set_weight_law, step_law,
     taking_part_example, turn_law, weights_example,
 };
-pub use limits::{LARGEST_AMOUNT, LATEST_MOMENT, LONGEST_REFUSAL, Limits};
+pub use limits::{LARGEST_AMOUNT, LATEST_MOMENT, LONGEST_FILTER, Limits};
+pub use quota_laws::limits_law;
 pub use reply::{OfferLine, Refusal, Reply};
 pub use report::{NodeLine, Report};
 pub use rows::{
     AgentRow, ClientRow, FilterRow, FrameworkRow, LimitRow, OfferRow, Rows, TaskRow, WeightRow,
 };
 pub use table::Table;
+pub use tasks::{MOST_TASKS, TaskList};

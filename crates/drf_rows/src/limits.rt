@@ -7,8 +7,8 @@ use std::marker::Model;
 /// The latest moment of an event, in milliseconds.
 pub const LATEST_MOMENT: u64 = 1 << 62;
 
-/// The longest time for which an offer is refused, in milliseconds: 365 days.
-pub const LONGEST_REFUSAL: u64 = 31_536_000_000;
+/// The longest time for which a filter is in force, in milliseconds: 365 days.
+pub const LONGEST_FILTER: u64 = 31_536_000_000;
 
 /// The greatest amount of a scalar on one agent, over all its reservations, in thousandths.
 pub const LARGEST_AMOUNT: u64 = (1 << 40) - 1;

@@ -1,4 +1,5 @@
 pub mod Content
+pub mod Work
 pub mod Fractions
 pub mod FractionLaws
 pub mod Share

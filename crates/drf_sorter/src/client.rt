@@ -1,11 +1,12 @@
 //! The clients of a sorter that lists them, and those of one node.
-ghost use Rattle.std.specs.Prelude.{◌≡◌, ◌<◌, ◌^◌};
+ghost use Rattle.std.specs.Prelude.{◌≡◌, ◌<◌, ◌^◌, IfOk};
 ghost use Rattle.std.specs.List.{list_any};
 ghost use Rattle.drf_role.specs.Path.{begins_with};
 
 use crate::key::Holding;
 use drf_bundle::Quantities;
 use drf_role::{ClientPath, NodePath};
+use std::alloc::AllocError;
 
 /// A client with what it holds, and the number of offers that were made to it.
 #[derive(Debug, Drop)]
@@ -14,6 +15,19 @@ pub struct Client {
     pub active: bool,
     pub held: Quantities,
     pub count: u64,
+}
+
+impl Client {
+    pub fn copy(&self) -> Result<Client, AllocError>
+        ensures { IfOk result (λ client. client ≡ self.now) }
+    {
+        Ok(Client {
+            path: self.path.copy()?,
+            active: self.active,
+            held: self.held.copy()?,
+            count: self.count,
+        })
+    }
 }
 
 /// Whether the path begins with the node's parts.

@@ -97,4 +97,16 @@ impl Key {
             name,
         }
     }
+
+    /// The name of the node, given out again without memory.
+    pub fn into_name(self) -> String
+        ensures { string_bytes result ≡ (key_by self).name }
+    {
+        let Key {
+            share: _,
+            count: _,
+            name,
+        } = self;
+        name
+    }
 }

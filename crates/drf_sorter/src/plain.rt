@@ -27,6 +27,9 @@ pub struct PlainSorter {
     clients: Vec<Client>,
     total: Quantities,
     weights: Vec<WeightRow>,
+    queue: Vec<ClientPath>,
+    next: usize,
+    made: u64,
     ghost distinct: { IsDistinct same_path (map (λ c. c.path) clients.items) } by { IsDistinct-prop same_path (map (λ c. c.path) clients.items) },
     ghost weighs: { IsTrue (are_weights weights.items) },
 }
@@ -59,6 +62,40 @@ fn row_of_node<'a>(weights: &'a [WeightRow], node: &NodePath) -> Option<&'a Weig
     weights.iter().find(|row| is_node_of(&row.role, node))
 }
 
+/// Copies of clients, in their order.
+fn copies_of(alloc: Global, clients: &[Client]) -> Result<Vec<Client>, AllocError>
+    ensures { IfOk result (λ copies. copies.items ≡ clients.now) }
+{
+    let mut copies = Vec::with_capacity(alloc, clients.len())?;
+    for client in clients {
+        copies.push(client.copy()?)?;
+    }
+    Ok(copies)
+}
+
+/// Copies of the weights of roles, in their order.
+fn weights_of(alloc: Global, rows: &[WeightRow]) -> Result<Vec<WeightRow>, AllocError>
+    ensures { IfOk result (λ copies. copies.items ≡ rows.now) }
+{
+    let mut copies = Vec::with_capacity(alloc, rows.len())?;
+    for row in rows {
+        copies.push(WeightRow {
+            role: row.role.copy()?,
+            weight: row.weight,
+        })?;
+    }
+    Ok(copies)
+}
+
+/// How many keys the candidates have together.
+fn keys_in(candidates: &[Candidate]) -> u64 {
+    let mut keys: u64 = 0;
+    for candidate in candidates {
+        keys = keys.saturating_add(candidate.keys.len() as u64);
+    }
+    keys
+}
+
 /// The paths of the candidates, in their order.
 fn paths(alloc: Global, candidates: Vec<Candidate>) -> Result<Vec<ClientPath>, AllocError>
     ensures { IfOk result (λ paths. paths.items ≡ map (λ c. c.path) candidates.items) }
@@ -72,10 +109,6 @@ fn paths(alloc: Global, candidates: Vec<Candidate>) -> Result<Vec<ClientPath>, A
 impl PlainSorter {
     ghost use Rattle.drf_sorter.specs.Plain.{plain_content, plain_standing};
     ghost use Rattle.drf_sorter.specs.Candidates.{HasKeys};
-
-    fn alloc(&self) -> Global {
-        *self.clients.allocator()
-    }
 
     /// The weight of a node, in thousandths.
     fn weight_of(&self, node: &NodePath) -> u64
@@ -142,15 +175,31 @@ impl PlainSorter {
 
 impl Sorter for PlainSorter {
     ghost use Rattle.drf_sorter.specs.Plain.{plain_content};
+    ghost use Rattle.std.specs.Prelude.{drop, false};
 
     ghost content = { plain_content };
+
+    ghost queue = { λ s. drop s.next s.queue.items };
+
+    ghost work = { λ s. record { made = s.made; marked = 0 } };
+
+    ghost COUNTED = { false };
+
+    const COUNTED: bool = false;
 
     fn open(alloc: Global) -> Result<Self, AllocError> {
         Ok(PlainSorter {
             clients: Vec::new(alloc),
             total: Quantities::empty(alloc),
             weights: Vec::new(alloc),
+            queue: Vec::new(alloc),
+            next: 0,
+            made: 0,
         })
+    }
+
+    fn alloc(&self) -> Global {
+        *self.clients.allocator()
     }
 
     fn add(&mut self, path: ClientPath) -> Result<(), AllocError> {
@@ -225,10 +274,28 @@ impl Sorter for PlainSorter {
         }
     }
 
-    fn order(&mut self) -> Result<Vec<ClientPath>, AllocError> {
+    fn fix_order(&mut self) -> Result<(), AllocError> {
         let mut candidates = self.candidates()?;
         candidates.sort_unstable();
-        paths(self.alloc(), candidates)
+        let made = keys_in(&candidates);
+        self.queue = paths(self.alloc(), candidates)?;
+        self.next = 0;
+        self.made = self.made.saturating_add(made);
+        Ok(())
+    }
+
+    fn first(&self) -> Option<&ClientPath> {
+        self.queue.get(self.next)
+    }
+
+    fn pass(&mut self) {
+        if self.next < self.queue.len() {
+            self.next += 1;
+        }
+    }
+
+    fn keys_made(&self) -> u64 {
+        self.made
     }
 
     fn share(&self, node: &NodePath) -> Option<(Share, Share, u64)> {
@@ -242,5 +309,17 @@ impl Sorter for PlainSorter {
         let share = weighted_share(&self.total, DEFAULT_WEIGHT, &clients);
         let weighted = weighted_share(&self.total, self.weight_of(node), &clients);
         Some((share, weighted, clients.count()))
+    }
+
+    fn copy(&self) -> Result<PlainSorter, AllocError> {
+        let alloc = self.alloc();
+        Ok(PlainSorter {
+            clients: copies_of(alloc, &self.clients)?,
+            total: self.total.copy()?,
+            weights: weights_of(alloc, &self.weights)?,
+            queue: Vec::new(alloc),
+            next: 0,
+            made: self.made,
+        })
     }
 }

@@ -1,19 +1,18 @@
--- The rows once one holding is taken out, and once an offer is a task.
+-- The rows once one holding is taken out, and once parts of an offer are tasks.
 use Rattle.std.specs.Prelude.{◌≡◌, ℕ, ◌+◌, ◌==◌, ◌||◌, Bool, true, false, not, List, [], ◌∷◌, ◌++◌, length, map, filter, find, Option, Some, None, cond, ◌⊎◌}
 use Rattle.std.specs.List.{list_any, AllByRecursion}
 use Rattle.std.specs.Option.{option_map_or}
 use Rattle.std.proofs.Common.{refl, sym, ap, ◌∙◌, subst, inl, inr}
 use Rattle.drf_role.specs.Text.{Text}
-use Rattle.drf_bundle.specs.Bundle.{IsBundle, covers}
 use Rattle.drf_bundle.specs.declared.quantities.Entry.{Entry}
-use Rattle.drf_bundle.specs.declared.resource.Resource.{Resource}
 use Rattle.drf_rows.specs.Client.{path_of}
 use Rattle.drf_rows.specs.Consistent.{IsConsistent, IsHeld, IsFilter}
 use Rattle.drf_rows.specs.Endings.{Ending, without_ended}
 use Rattle.drf_rows.specs.EndingLaws.{IsOneLess, held_where-one_less, parts_on-one_less, one-one_less, one_less-offer, IsConsistent-offer_out, without_ended-offer, left-offer, one_less-task, IsConsistent-task_out, without_ended-task, left-task, without_ended-none, parts_on-accepted, IsConsistent-accepted, without_offer-place}
 use Rattle.drf_rows.specs.Held.{clients_of, cluster_total}
 use Rattle.drf_rows.specs.Holdings.{Holding, of_offer, of_task, holdings_of}
-use Rattle.drf_rows.specs.Offers.{offer_at, has_task, task_of}
+use Rattle.drf_rows.specs.Offers.{CanStart, offer_at, task_of}
+use Rattle.drf_rows.specs.Tasks.{Start}
 use Rattle.drf_rows.specs.declared.rows.FilterRow.{FilterRow}
 use Rattle.drf_rows.specs.declared.rows.OfferRow.{OfferRow}
 use Rattle.drf_rows.specs.declared.rows.TaskRow.{TaskRow}
@@ -123,7 +122,7 @@ module _ (t : Inside) (held : Standing) (ending : Ending) (lost : HasLostNone en
   unfolding rows_of
   without-none = without_ended-none (rows_in t) ending lost.offers.none lost.tasks.none
 
--- ---- an offer is a task
+-- ---- parts of an offer are tasks
 
 -- an offer that is found is there
 pub found_any : {X : Type 0} (p : X → Bool) (xs : List X) (x : X) → find p xs ≡ Some x → list_any p xs ≡ true
@@ -139,11 +138,11 @@ each_filter : (P : FilterRow → Type 0) (refused : Option FilterRow) → ((f : 
 each_filter P None right = tt
 each_filter P (Some f) right = (right f refl, tt)
 
-module _ (t : Inside) (entries : List (Text × Agent)) (held : Standing) (filters : List FilterRow) (number : ℕ) (task : Text)
-    (used : List Resource) (refused : Option FilterRow) (o x : OfferRow)
+module _ (t : Inside) (entries : List (Text × Agent)) (held : Standing) (filters : List FilterRow) (number : ℕ)
+    (starts : List Start) (refused : Option FilterRow) (o x : OfferRow)
     (kept : IsKept (rows_in t) t.agents.entries t.total t.clients)
     (found : offer_at (rows_in t) number ≡ Some o)
-    (started : HasStarted number (task, used) t.holdings held x)
+    (started : HasStarted number starts t.holdings held x)
     (forgot : entries ≡ map (changed x.agent forgotten) t.agents.entries)
     (added : filters ≡ t.filters ++ option_map_or (λ f. f ∷ []) refused []) where
   -- the rows with all that changed
@@ -156,32 +155,32 @@ module _ (t : Inside) (entries : List (Text × Agent)) (held : Standing) (filter
       let both : ◌≡◌ {A = Option OfferRow} (Some x) (Some o) = sym started.found ∙ found in
       cc
 
-  pub accepted-rows : rows_accepted ≡ with_accepted (rows_in t) o (task, used) refused
+  pub accepted-rows : rows_accepted ≡ with_accepted (rows_in t) o starts refused
   unfolding rows_of
   accepted-rows =
       let took = started.taken in
       let left : held.offers ≡ filter (λ p. not (p.number == o.number)) (rows_in t).offers =
       took.left ∙ sym (without_offer-place (rows_in t) took.before took.after x kept.consistent took.whole)
       ∙ ap (λ (y : OfferRow). filter (λ p. not (p.number == y.number)) (rows_in t).offers) same_offer in
-      let runs : held.tasks ≡ (rows_in t).tasks ++ task_of o (task, used) ∷ [] =
-      started.started ∙ (λ i. (rows_in t).tasks ++ task_of (same_offer i) (task, used) ∷ []) in
+      let runs : held.tasks ≡ (rows_in t).tasks ++ map (task_of o) starts =
+      started.started ∙ (λ i. (rows_in t).tasks ++ map (task_of (same_offer i)) starts) in
       let agents : map agent_row entries ≡ map agent_row t.agents.entries =
       ap (map agent_row) forgot ∙ rows-forgotten x.agent t.agents.entries in
       λ i. record (rows_in t) { agents = agents i; offers = left i; tasks = runs i; filters = added i }
 
-  pub accepted-kept : IsBundle used → covers o.bundle used ≡ true → has_task (rows_in t) o.framework task ≡ false
+  pub accepted-kept : CanStart (rows_in t) o starts
       → ((f : FilterRow) → refused ≡ Some f → IsFilter (rows_in t).agents (rows_in t).frameworks f)
       → IsKept rows_accepted entries t.total t.clients
-  accepted-kept right covered new each =
-      let rows : Rows = with_accepted (rows_in t) o (task, used) refused in
+  accepted-kept can each =
+      let rows : Rows = with_accepted (rows_in t) o starts refused in
       let more : List FilterRow = option_map_or (λ f. f ∷ []) refused [] in
       let known : AllByRecursion (IsKnown (holdings_of rows)) entries =
       subst (λ (es : List (Text × Agent)). AllByRecursion (IsKnown (holdings_of rows)) es)
       (sym (forgot ∙ (λ i. map (changed (same_offer i).agent forgotten) t.agents.entries)))
       (known-forgotten (holdings_of (rows_in t)) (holdings_of rows) o.agent
-      (parts_on-accepted (rows_in t) number o task used more kept.consistent found) t.agents.entries kept.free) in
+      (parts_on-accepted (rows_in t) number o starts more kept.consistent found) t.agents.entries kept.free) in
       subst (λ (r : Rows). IsKept r entries t.total t.clients) (sym accepted-rows) (record {
-        consistent = IsConsistent-accepted (rows_in t) number o task used more kept.consistent found right covered new
+        consistent = IsConsistent-accepted (rows_in t) number o starts more kept.consistent found can
             (each_filter (IsFilter (rows_in t).agents (rows_in t).frameworks) refused each);
         free = known;
         total = kept.total;

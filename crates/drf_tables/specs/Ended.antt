@@ -1,13 +1,13 @@
 -- What it means that something that is held has ended.
-use Rattle.std.specs.Prelude.{◌≡◌, ℕ, ◌+◌, Bool, true, false, ◌⊎◌, [], ◌∷◌, ◌++◌, count_by, cond, Option, Some}
+use Rattle.std.specs.Prelude.{◌≡◌, ℕ, ◌+◌, Bool, true, false, ◌⊎◌, List, [], ◌∷◌, ◌++◌, map, count_by, cond, Option, Some}
 use Rattle.std.specs.Option.{option_map_or}
 use Rattle.drf_role.specs.Text.{Text}
 use Rattle.drf_rows.specs.Client.{path_of}
 use Rattle.drf_rows.specs.Endings.{Ending, one_offer, ends_offer, ends_task, without_ended}
 use Rattle.drf_rows.specs.Held.{is_registered}
 use Rattle.drf_rows.specs.Holdings.{Holding, of_offer, of_task, holdings_of, held_where, amount_in}
-use Rattle.drf_bundle.specs.Bundle.{covers}
-use Rattle.drf_rows.specs.Offers.{Start, offer_at, has_task, task_of}
+use Rattle.drf_rows.specs.Offers.{CanStart, offer_at, task_of}
+use Rattle.drf_rows.specs.Tasks.{Start}
 use Rattle.drf_rows.specs.Consistent.{IsFilter}
 use Rattle.drf_rows.specs.declared.rows.FilterRow.{FilterRow}
 use Rattle.drf_rows.specs.declared.rows.OfferRow.{OfferRow}
@@ -51,17 +51,16 @@ pub record HasEnded (old new : Rows) (ending : Ending) (held : Held) : Type 0 wh
       → held_where test (holdings_of old) label
       ≡ held_where test (holdings_of new) label + cond (test holding) (amount_in label holding) 0
 
--- an offer can be accepted in part
-pub record CanAccept (rows : Rows) (number : ℕ) (start : Start) (refused : Option FilterRow) : Type 0 where
+-- tasks can be started with parts of an offer
+pub record CanAccept (rows : Rows) (number : ℕ) (starts : List Start) (refused : Option FilterRow) : Type 0 where
   pub offer : OfferRow
   pub at : offer_at rows number ≡ Some offer
-  pub covered : covers offer.bundle start.1 ≡ true
-  pub new : has_task rows offer.framework start.0 ≡ false
+  pub can : CanStart rows offer starts
   pub filter : (f : FilterRow) → refused ≡ Some f → IsFilter rows.agents rows.frameworks f
 
--- the offer is a task, and a filter stands last, if there is one
-abbrev pub with_accepted : Rows → OfferRow → Start → Option FilterRow → Rows
-with_accepted rows o start filter = record (without_ended rows (one_offer o.number)) {
-  tasks = rows.tasks ++ task_of o start ∷ [];
+-- parts of the offer are tasks, and a filter stands last, if there is one
+abbrev pub with_accepted : Rows → OfferRow → List Start → Option FilterRow → Rows
+with_accepted rows o starts filter = record (without_ended rows (one_offer o.number)) {
+  tasks = rows.tasks ++ map (task_of o) starts;
   filters = rows.filters ++ option_map_or (λ f. f ∷ []) filter [];
 }

@@ -1,4 +1,4 @@
-//! What is held ends, and an offer that is accepted becomes a task.
+//! What is held ends, and an offer that is accepted becomes tasks.
 #![tactic(auto, unfolding(crate::specs::Inside::rows_of))]
 
 ghost use Rattle.std.specs.Prelude.{◌≡◌, ◌++◌, ◌∷◌, [], true, Some, OnOk, OnErr, IfSome, IfNone, option_copied};
@@ -7,7 +7,7 @@ ghost use Rattle.drf_rows.specs.Consistent.{IsConsistent};
 ghost use Rattle.drf_rows.specs.Endings.{without_ended};
 ghost use Rattle.drf_rows.specs.Offers.{offer_at, has_task};
 ghost use Rattle.drf_rows.specs.declared.rows.OfferRow.{OfferRow};
-ghost use Rattle.drf_holdings.specs.Ended.{ending_of};
+ghost use Rattle.drf_rows.specs.Ended.{ending_of};
 ghost use Rattle.drf_tables.specs.Ended.{HasEnded, CanAccept, with_accepted};
 
 use crate::members::forget_free;
@@ -15,9 +15,8 @@ use crate::settling::settle_all;
 use crate::tables::Tables;
 use drf_bundle::Bundle;
 use drf_gates::FilterTable;
-use drf_holdings::Ending;
 use drf_role::{ClientPath, Name};
-use drf_rows::{FilterRow, OfferRow};
+use drf_rows::{Ending, FilterRow, OfferRow, TaskList};
 use std::alloc::AllocError;
 
 /// What a client held, and holds no longer.
@@ -75,25 +74,21 @@ impl Tables {
         })
     }
 
-    /// A framework starts a task with a part of an offer, and a filter stands last, if one is given. An `Err` changes no
-    /// row.
+    /// A framework starts tasks with parts of an offer, and a filter stands last, if one is given. An `Err` changes no row.
     pub fn accept(
         &mut self,
         number: u64,
-        task: Name,
-        used: Bundle,
+        tasks: TaskList,
         filter: Option<FilterRow>,
     ) -> Result<(), AllocError>
-        requires { CanAccept self.old.rows number (task, used) filter }
+        requires { CanAccept self.old.rows number tasks filter }
         ensures ok { OnOk result ((o : OfferRow) → offer_at self.old.rows number ≡ Some o
-            → self.new.rows ≡ with_accepted self.old.rows o (task, used) filter) }
+            → self.new.rows ≡ with_accepted self.old.rows o tasks filter) }
         ensures err { OnErr result (self.new.rows ≡ self.old.rows) }
     {
-        // What this call ensures tells the proof that it is a bundle.
-        let _ = used.quantities();
         let filters = self.filters.len();
         add_if(&mut self.filters, filter)?;
-        match self.holdings.start(number, task, used) {
+        match self.holdings.start(number, tasks) {
             Ok(offer) => {
                 forget_free(&mut self.agents, &offer.agent);
                 Ok(())

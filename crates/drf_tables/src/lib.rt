@@ -11,6 +11,6 @@ mod offers;
 mod settling;
 mod tables;
 
-pub use drf_holdings::Ending;
+pub use drf_rows::Ending;
 pub use ending::Held;
 pub use tables::{Left, Tables};

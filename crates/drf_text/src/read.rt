@@ -1,5 +1,5 @@
 //! Bundles and quantities read from text.
-ghost use Rattle.std.specs.Prelude.{◌≡◌, if◌then◌else◌, OnOk, IfErr};
+ghost use Rattle.std.specs.Prelude.{◌≡◌, if◌then◌else◌, OnOk, IfErr, IsErrOf, IsOk};
 ghost use Rattle.drf_bundle.specs.Union.{has_other_kind};
 ghost use Rattle.drf_text.specs.Faults.{IsTold, IsMeaning};
 ghost use Rattle.drf_text.specs.Meaning.{counted, meaning_of, quantities_meant};
@@ -27,6 +27,7 @@ fn fault_of_too_large(bundle: &Bundle, label: &Label) -> TextFault
 fn put_said(bundle: &mut Bundle, said: Said) -> Result<(), TextFault>
     ensures ok { OnOk result (put_said bundle.old said ≡ Ok bundle.new) }
     ensures fault { IfErr result (IsTold (put_said bundle.old said)) }
+    ensures memory { IsErrOf result TextFault.Memory → IsOk (put_said bundle.old said) }
 {
     let Said { label, role, value } = said;
     match value {
@@ -69,6 +70,7 @@ pub fn read_bundle(alloc: Global, text: &str) -> Result<Bundle, TextFault>
 fn add_amount(quantities: &mut Quantities, label: Label, thousandths: u64) -> Result<(), TextFault>
     ensures ok { OnOk result (counted quantities.old label (Value.Scalar thousandths) ≡ Ok quantities.new) }
     ensures fault { IfErr result (IsTold (counted quantities.old label (Value.Scalar thousandths))) }
+    ensures memory { IsErrOf result TextFault.Memory → IsOk (counted quantities.old label (Value.Scalar thousandths)) }
 {
     match quantities.get(label.text()).checked_add(thousandths) {
         Some(sum) => Ok(quantities.set(label, sum)?),
@@ -80,6 +82,7 @@ fn add_amount(quantities: &mut Quantities, label: Label, thousandths: u64) -> Re
 fn put_counted(quantities: &mut Quantities, said: Counted) -> Result<(), TextFault>
     ensures ok { OnOk result (put_counted quantities.old said ≡ Ok quantities.new) }
     ensures fault { IfErr result (IsTold (put_counted quantities.old said)) }
+    ensures memory { IsErrOf result TextFault.Memory → IsOk (put_counted quantities.old said) }
 {
     let Counted { label, value } = said;
     match value {

@@ -35,22 +35,47 @@ fn call<A: Amount>(alloc: Global, pool: &mut Pool<A>, text: &str) -> Result<Stri
     }
 }
 
-fn state<A: Amount>(alloc: Global, pool: &Pool<A>) -> Result<String> {
-    let (free, total) = (show(alloc, pool.free())?, show(alloc, pool.total())?);
-    Ok(format!(in alloc; "{free} of {total}")?)
+fn append_state<A: Amount>(alloc: Global, answers: &mut String, pool: &Pool<A>) -> Result<()> {
+    answers.push_str(&show(alloc, pool.free())?)?;
+    answers.push_str(" of ")?;
+    Ok(answers.push_str(&show(alloc, pool.total())?)?)
+}
+
+fn append_call<A: Amount>(
+    alloc: Global,
+    answers: &mut String,
+    pool: &mut Pool<A>,
+    text: &str,
+) -> Result<()> {
+    match call(alloc, pool, text) {
+        Ok(answer) => write!(answers, "; {answer}: ")?,
+        Err(fault) => write!(answers, "; {fault}: ")?,
+    }
+    append_state(alloc, answers, pool)
+}
+
+fn append_calls<A: Amount>(
+    alloc: Global,
+    answers: &mut String,
+    pool: &mut Pool<A>,
+    calls: &str,
+) -> Result<()> {
+    append_state(alloc, answers, pool)?;
+    for text in calls.split("; ") {
+        append_call(alloc, answers, pool, text)?;
+    }
+    Ok(())
+}
+
+fn pool_of<A: Amount>(alloc: Global, total: &str) -> Result<Pool<A>> {
+    Ok(Pool::new(alloc, read::<A>(alloc, total)?)?)
 }
 
 /// What is free of the total, then what each call answers and what is free after it.
 pub fn answers<A: Amount>(alloc: Global, text: &str) -> Result<String> {
     let (total, calls) = text.split_once("; ").context("no calls")?;
-    let mut pool = Pool::new(alloc, read::<A>(alloc, total)?)?;
-    let mut answers = state(alloc, &pool)?;
-    for text in calls.split("; ") {
-        match call(alloc, &mut pool, text) {
-            Ok(answer) => write!(answers, "; {answer}")?,
-            Err(fault) => write!(answers, "; {fault}")?,
-        }
-        write!(answers, ": {}", state(alloc, &pool)?)?;
-    }
+    let mut pool = pool_of::<A>(alloc, total)?;
+    let mut answers = String::new(alloc);
+    append_calls(alloc, &mut answers, &mut pool, calls)?;
     Ok(answers)
 }

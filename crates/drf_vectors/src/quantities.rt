@@ -1,4 +1,4 @@
-ghost use Rattle.std.specs.Prelude.{ℕ, ◌<◌, ◌^◌, List, IfOk};
+ghost use Rattle.std.specs.Prelude.{ℕ, ◌+◌, ◌<◌, ◌^◌, List, IfOk};
 ghost use Rattle.drf_bundle.specs.Quantities.{amount_of};
 
 use crate::halves;
@@ -21,34 +21,58 @@ fn read(alloc: Global, text: &str) -> Result<Quantities>
     Ok(amounts)
 }
 
-fn show(alloc: Global, amounts: &Quantities) -> Result<String> {
-    let mut text = String::new(alloc);
-    for entry in amounts.entries() {
-        let (label, thousandths) = (entry.label.text(), entry.amount.thousandths());
-        write!(text, "{label}={thousandths},")?;
+fn append(told: &mut String, what: &str, amounts: &Quantities) -> Result<()> {
+    told.push_str(what)?;
+    for (i, entry) in amounts.entries().iter().enumerate() {
+        if i > 0 {
+            told.push(',')?;
+        }
+        write!(
+            told,
+            "{}={}",
+            entry.label.text(),
+            entry.amount.thousandths()
+        )?;
     }
-    let _ = text.pop();
-    Ok(text)
+    Ok(())
 }
 
-/// The sum of two quantities, how many labels it has, what is left without the second, and what of the sum is above 0.
-pub fn compared(alloc: Global, text: &str) -> Result<String> {
-    let (kept_text, part_text) = halves(text, ' ')?;
-    let kept = read(alloc, kept_text)?;
-    let part = read(alloc, part_text)?;
+/// The sum of the two, and what is left of it without the second.
+fn append_sum(told: &mut String, kept: &Quantities, part: &Quantities) -> Result<()>
+    requires { (label : List ℕ) → amount_of kept.now label + amount_of part.now label < 2 ^ 64 }
+{
+    // The proof learns that the part is in order by this call alone.
+    let _ = part.entries();
+    let mut sum = kept.plus(part)?;
+    append(told, "; sum ", &sum)?;
+    sum.lower(part);
+    append(told, "; rest ", &sum)
+}
+
+/// What of the sum is above 0.
+fn append_filled(told: &mut String, kept: &Quantities, part: &Quantities) -> Result<()>
+    requires { (label : List ℕ) → amount_of kept.now label + amount_of part.now label < 2 ^ 64 }
+{
+    let mut sum = kept.plus(part)?;
+    sum.remove_zeros();
+    append(told, "; above 0 ", &sum)
+}
+
+fn counts(alloc: Global, kept: &Quantities, part: &Quantities) -> Result<String> {
     let counts = (
         kept.entries().len(),
         part.entries().len(),
-        kept.count_with(&part),
+        kept.count_with(part),
     );
-    let sum = kept.plus(&part)?;
-    let mut rest = sum.copy()?;
-    rest.lower(&part);
-    let (sum_text, rest_text) = (show(alloc, &sum)?, show(alloc, &rest)?);
-    let mut filled = sum;
-    filled.remove_zeros();
-    let filled_text = show(alloc, &filled)?;
-    Ok(format!(in alloc;
-        "labels {counts:?}; sum {sum_text}; rest {rest_text}; above 0 {filled_text}"
-    )?)
+    Ok(format!(in alloc; "labels {counts:?}")?)
+}
+
+/// How many labels two quantities have, each and together, then what their sum is.
+pub fn compared(alloc: Global, text: &str) -> Result<String> {
+    let (kept, part) = halves(text, ' ')?;
+    let (kept, part) = (read(alloc, kept)?, read(alloc, part)?);
+    let mut told = counts(alloc, &kept, &part)?;
+    append_sum(&mut told, &kept, &part)?;
+    append_filled(&mut told, &kept, &part)?;
+    Ok(told)
 }

@@ -31,4 +31,4 @@ returns-clause-ok g c =
     c.in_ok-sum.ensures ∙ (λ i. plus (c.total.ensures i) (c.quantities.ensures.value i)) in
     applied_agent c.args.tables.now.rows c.add_agent.new.self.rows c.args.agent c.args.total (g.S.Sorter.content c.args.sorter.now) (g.S.Sorter.content c.set_total.new.self)
     c.requires.kept.sorted c.in_ok-add_agent.ensures.ok
-    (c.set_total.ensures ∙ ap (λ t. record (g.S.Sorter.content c.args.sorter.now) { total = t }) sum)
+    (c.set_total.ensures.content ∙ ap (λ t. record (g.S.Sorter.content c.args.sorter.now) { total = t }) sum)

@@ -3,7 +3,7 @@ use Rattle.std.proofs.lemmas.Result.{on_ok_weaker}
 use Rattle.drf_rows.specs.Step.{refusal_of, effect}
 use Rattle.drf_rows.specs.declared.event.Event.{Event}
 use Rattle.drf_core.specs.Kept.{StandAt}
-use Rattle.drf_core.proofs.AcceptLemmas.{can_start, effect-accept, effect-decline}
+use Rattle.drf_core.proofs.AcceptLemmas.{enough_of, effect-accept, effect-decline}
 use Rattle.drf_core.proofs.ApplyLemmas.{applied_report}
 use Rattle.drf_core.proofs.KeptLemmas.{few_agents_kept, few_offers_kept}
 use Rattle.drf_core.proofs.Welcome.{known_framework, known_suppressed, known_reviving, welcome_accept, welcome_decline}
@@ -24,46 +24,46 @@ revive-requires-clause-known g c =
     known_reviving c.args.limits.now c.args.tables.now.rows c.in-Revive.framework c.in-Revive.role
     (subst (λ (e : Event). refusal_of c.args.limits.now c.args.tables.now.rows e ≡ None) c.in-Revive.is c.requires.welcome)
 
-pub accept-requires-clause-can : goal.accept-requires-clause-can
-accept-requires-clause-can g c =
-    can_start c.args.tables.now.rows c.in-Accept.framework c.in-Accept.offer c.in-Accept.task c.in-Accept.used c.in-Accept.at
-    (welcome_accept c.args.limits.now c.args.tables.now.rows c.in-Accept.framework c.in-Accept.offer c.in-Accept.task c.in-Accept.used c.in-Accept.at c.in-Accept.refuse_ms
+pub accept-requires-clause-enough : goal.accept-requires-clause-enough
+accept-requires-clause-enough g c =
+    enough_of c.args.tables.now.rows c.in-Accept.event
+    (welcome_accept c.args.limits.now c.args.tables.now.rows c.in-Accept.event
     (subst (λ (e : Event). refusal_of c.args.limits.now c.args.tables.now.rows e ≡ None) c.in-Accept.is c.requires.welcome))
 
 pub accept-requires-clause-early : goal.accept-requires-clause-early
 accept-requires-clause-early g c =
-    (welcome_accept c.args.limits.now c.args.tables.now.rows c.in-Accept.framework c.in-Accept.offer c.in-Accept.task c.in-Accept.used c.in-Accept.at c.in-Accept.refuse_ms
+    (welcome_accept c.args.limits.now c.args.tables.now.rows c.in-Accept.event
     (subst (λ (e : Event). refusal_of c.args.limits.now c.args.tables.now.rows e ≡ None) c.in-Accept.is c.requires.welcome)).early
 
 pub returns-in-Accept-clause-ok : goal.returns-in-Accept-clause-ok
 returns-in-Accept-clause-ok g c =
     let rows = c.args.tables.now.rows in
-    let welcome = welcome_accept c.args.limits.now rows c.in-Accept.framework c.in-Accept.offer c.in-Accept.task c.in-Accept.used c.in-Accept.at c.in-Accept.refuse_ms
+    let welcome = welcome_accept c.args.limits.now rows c.in-Accept.event
     (subst (λ (e : Event). refusal_of c.args.limits.now c.args.tables.now.rows e ≡ None) c.in-Accept.is c.requires.welcome) in
     on_ok_weaker c.accept.result
     (λ each. subst (λ (e : Event). StandAt (effect rows e) c.accept.new.tables.rows (g.S.Sorter.content c.accept.new.sorter)) (sym c.in-Accept.is)
-    (effect-accept rows c.accept.new.tables.rows c.in-Accept.framework c.in-Accept.offer c.in-Accept.task c.in-Accept.used c.in-Accept.at c.in-Accept.refuse_ms
+    (effect-accept rows c.accept.new.tables.rows c.in-Accept.event
     (g.S.Sorter.content c.accept.new.sorter) welcome.stands each))
     c.accept.ensures.ok
 
 pub decline-requires-clause-offer : goal.decline-requires-clause-offer
 decline-requires-clause-offer g c =
-    (welcome_decline c.args.limits.now c.args.tables.now.rows c.in-Decline.framework c.in-Decline.offer c.in-Decline.at c.in-Decline.refuse_ms
+    (welcome_decline c.args.limits.now c.args.tables.now.rows c.in-Decline.event
     (subst (λ (e : Event). refusal_of c.args.limits.now c.args.tables.now.rows e ≡ None) c.in-Decline.is c.requires.welcome)).1
 
 pub decline-requires-clause-early : goal.decline-requires-clause-early
 decline-requires-clause-early g c =
-    (welcome_decline c.args.limits.now c.args.tables.now.rows c.in-Decline.framework c.in-Decline.offer c.in-Decline.at c.in-Decline.refuse_ms
+    (welcome_decline c.args.limits.now c.args.tables.now.rows c.in-Decline.event
     (subst (λ (e : Event). refusal_of c.args.limits.now c.args.tables.now.rows e ≡ None) c.in-Decline.is c.requires.welcome)).0
 
 pub returns-in-Decline-clause-ok : goal.returns-in-Decline-clause-ok
 returns-in-Decline-clause-ok g c =
     let rows = c.args.tables.now.rows in
-    let welcome = welcome_decline c.args.limits.now rows c.in-Decline.framework c.in-Decline.offer c.in-Decline.at c.in-Decline.refuse_ms
+    let welcome = welcome_decline c.args.limits.now rows c.in-Decline.event
     (subst (λ (e : Event). refusal_of c.args.limits.now c.args.tables.now.rows e ≡ None) c.in-Decline.is c.requires.welcome) in
     on_ok_weaker c.decline.result
     (λ each. subst (λ (e : Event). StandAt (effect rows e) c.decline.new.tables.rows (g.S.Sorter.content c.decline.new.sorter)) (sym c.in-Decline.is)
-    (effect-decline rows c.decline.new.tables.rows c.in-Decline.framework c.in-Decline.offer c.in-Decline.at c.in-Decline.refuse_ms
+    (effect-decline rows c.decline.new.tables.rows c.in-Decline.event
     (g.S.Sorter.content c.decline.new.sorter) welcome.1 each))
     c.decline.ensures.ok
 
@@ -78,8 +78,8 @@ pub report-requires-clause-few_offers : goal.report-requires-clause-few_offers
 report-requires-clause-few_offers g c =
     omega (arith, few_offers_kept (g.S.Sorter.content c.args.sorter.now) c.args.limits.now c.args.tables.now.rows c.requires.kept)
 
-pub returns-clause-ok : goal.returns-clause-ok
-returns-clause-ok g c =
+pub returns-in_ok-report-in-Report-clause-ok : goal.returns-in_ok-report-in-Report-clause-ok
+returns-in_ok-report-in-Report-clause-ok g c =
     subst (λ (e : Event). StandAt (effect c.args.tables.now.rows e) c.args.tables.now.rows (g.S.Sorter.content c.args.sorter.now))
     (sym c.in-Report.is)
     (applied_report c.args.tables.now.rows (g.S.Sorter.content c.args.sorter.now) c.requires.kept.sorted)

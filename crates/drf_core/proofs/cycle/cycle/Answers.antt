@@ -1,10 +1,12 @@
-use Rattle.std.proofs.Common.{◌≡◌, map, ap, ◌∙◌, subst}
+use Rattle.std.proofs.Common.{◌≡◌, List, map, ap, ◌∙◌, subst, arith}
 use Rattle.std.specs.Prelude.{max}
 use Rattle.drf_rows.specs.Step.{line_told, new_offers}
 use Rattle.drf_rows.specs.declared.rows.Rows.{Rows}
 use Rattle.drf_core.specs.Content.{content_of}
 use Rattle.drf_core.specs.Kept.{StandAt}
+use Rattle.drf_rows.specs.declared.rows.OfferRow.{OfferRow}
 use Rattle.drf_core.specs.Drafting.{turns_of}
+use Rattle.drf_core.specs.Working.{nodes_of, offered_to}
 use Rattle.drf_core.proofs.CycleLemmas.{early_moment, drafting-begins, turns_of-cycle, new_offers-cycle, content_of-clock}
 use Rattle.drf_core.proofs.cycle.cycle.Goals as goal
 
@@ -42,3 +44,12 @@ returns-clause-err g c =
       same = c.set_clock-in-Err.ensures ∙ (λ i. record (same i) { clock = c.clock-before.ensures i });
       sorted = c.take_back.ensures ∙ ap content_of same ∙ content_of-clock rows c.max.result;
     }
+
+pub returns-in-Ok-clause-work : goal.returns-in-Ok-clause-work
+returns-in-Ok-clause-work g c = λ counted.
+    let rows : Rows = c.args.tables.now.rows in
+    let moment = c.max.ensures ∙ ap (λ n. max n c.args.at) c.clock-before.ensures in
+    let turned = turns_of-cycle rows c.set_clock.new.self.rows c.args.at c.max.result moment c.set_clock.ensures in
+    let new = new_offers-cycle rows c.set_clock.new.self.rows c.max.result (turns_of c.set_clock.new.self.rows) c.set_clock.ensures
+    ∙ ap (new_offers rows) turned in
+    omega (arith, c.in-Ok.ensures.work counted, ap (λ (os : List OfferRow). nodes_of (offered_to os)) new)

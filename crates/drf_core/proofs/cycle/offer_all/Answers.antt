@@ -1,7 +1,9 @@
-use Rattle.std.proofs.Common.{◌≡◌, ◌≤◌, ◌^◌, map, ap, ◌∙◌, sym, arith}
+use Rattle.std.proofs.Common.{◌≡◌, ◌≤◌, ◌^◌, ℕ, List, map, ap, ◌∙◌, sym, arith}
 use Rattle.drf_rows.specs.Step.{line_told, new_offers}
 use Rattle.drf_rows.specs.declared.rows.Rows.{Rows}
+use Rattle.drf_rows.specs.declared.rows.OfferRow.{OfferRow}
 use Rattle.drf_core.specs.Drafting.{turns_of}
+use Rattle.drf_core.specs.Working.{nodes_of, offered_to}
 use Rattle.drf_tables.specs.DraftLaws.{next-with_offers}
 use Rattle.drf_core.proofs.CycleLemmas.{new_offers-drafts}
 use Rattle.drf_core.proofs.cycle.offer_all.Goals as goal
@@ -20,3 +22,12 @@ returns-clause-lines g c =
     ∙ ap (map line_told) (c.deref.ensures.value
     ∙ sym (new_offers-drafts c.settle.new.self.rows c.turns.new.drafts.offers.items c.in_ok-turns.ensures.turns)
     ∙ (λ i. new_offers (c.settle.ensures.same i) (turns_of (c.settle.ensures.same i))))
+
+pub returns-clause-work : goal.returns-clause-work
+returns-clause-work g c = λ counted.
+    let Nodes : List OfferRow → ℕ = λ os. nodes_of (offered_to os) in
+    let drafts = c.turns.new.drafts.offers.items in
+    let new : drafts ≡ new_offers c.args.tables.now.rows (turns_of c.args.tables.now.rows) =
+    sym (new_offers-drafts c.settle.new.self.rows drafts c.in_ok-turns.ensures.turns)
+    ∙ (λ i. new_offers (c.settle.ensures.same i) (turns_of (c.settle.ensures.same i))) in
+    omega (arith, c.in_ok-turns.ensures.work counted, ap Nodes c.requires.none, ap Nodes new)

@@ -21,6 +21,6 @@ loop-offer-preserved g c =
     let taken = sorted-taken_back content c.args.tables.now.rows c.loop-offer.offers.items c.pop.new.self.items c.in-Some.offer c.in-Some.ensures.items c.loop-offer.invariant.sorted c.loop-offer.invariant.clients in
     let front = clients_front content c.args.tables.now.rows c.loop-offer.offers.items c.pop.new.self.items c.in-Some.offer c.in-Some.ensures.items c.loop-offer.invariant.sorted c.loop-offer.invariant.clients in
     record {
-      sorted = c.undo_charge.ensures ∙ (λ i. with_change content (c.from_parts-client.ensures i) (discharged (c.quantities.ensures.value i))) ∙ taken;
+      sorted = c.undo_charge.ensures.content ∙ (λ i. with_change content (c.from_parts-client.ensures i) (discharged (c.quantities.ensures.value i))) ∙ taken;
       clients = front.0;
     }

@@ -1,6 +1,7 @@
-use Rattle.std.proofs.Common.{◌≡◌, ◌++◌, ◌∷◌, [], ap, sym, subst, ◌∙◌}
-use Rattle.std.specs.Prelude.{map}
+use Rattle.std.proofs.Common.{◌≡◌, ◌++◌, ◌∷◌, [], List, length, ap, sym, subst, ◌∙◌, arith}
+use Rattle.std.specs.Prelude.{map, sum_by}
 use Rattle.std.specs.List.{AllByRecursion}
+use Rattle.drf_role.specs.Path.{Path}
 use Rattle.drf_rows.specs.Members.{distinct, has_framework, new_client}
 use Rattle.drf_rows.specs.Consistent.{are_distinct_roles}
 use Rattle.drf_rows.specs.declared.rows.ClientRow.{ClientRow}
@@ -10,6 +11,7 @@ use Rattle.drf_core.specs.Registering.{AreNew, client_paths, with_all}
 use Rattle.drf_core.proofs.RegisterLemmas.{distinct_apart, roles_of_new, uncounted_new, AreNew-registering}
 use Rattle.drf_core.proofs.Welcome.{welcome_framework}
 use Rattle.drf_core.proofs.ApplyLemmas.{applied_framework}
+use Rattle.drf_core.proofs.WorkLemmas.{nodes_of-new}
 use Rattle.drf_core.proofs.frameworks.add_framework.Goals as goal
 
 pub add_clients-requires : goal.add_clients-requires
@@ -49,3 +51,9 @@ returns-clause-ok g c =
     (c.in_ok-add_clients.ensures.ok
     ∙ ap (with_all content) (c.deref.ensures.value ∙ c.in_ok-paths.ensures
     ∙ ap (client_paths c.args.framework) (c.as_slice.ensures ∙ c.in_ok-clients.ensures ∙ ap (map new_client) c.in_ok-roles.ensures)))
+
+pub returns-clause-work : goal.returns-clause-work
+returns-clause-work g c = λ counted.
+    let paths : c.deref.result.now ≡ client_paths c.args.framework (map new_client (distinct c.args.roles)) =
+    c.deref.ensures.value ∙ c.in_ok-paths.ensures ∙ ap (client_paths c.args.framework) (c.as_slice.ensures ∙ c.in_ok-clients.ensures ∙ ap (map new_client) c.in_ok-roles.ensures) in
+    omega (arith, c.in_ok-add_clients.ensures.work counted, ap (λ (ps : List Path). sum_by length ps) paths, nodes_of-new c.args.framework (distinct c.args.roles))

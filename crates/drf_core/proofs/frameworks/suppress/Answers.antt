@@ -1,3 +1,4 @@
+use Rattle.std.proofs.Common.{arith}
 use Rattle.drf_core.proofs.EndedLemmas.{known-client, applied_suppression}
 use Rattle.drf_core.proofs.frameworks.suppress.Goals as goal
 
@@ -10,4 +11,7 @@ pub returns-clause-ok : goal.returns-clause-ok
 returns-clause-ok g c =
     applied_suppression c.args.tables.now.rows c.suppress.new.self.rows c.args.role.now c.args.framework.now
     (g.S.Sorter.content c.args.sorter.now) (g.S.Sorter.content c.set_active.new.self) c.in_ok-path.path
-    c.requires.sorted c.in_ok-path.ensures c.suppress.ensures c.set_active.ensures
+    c.requires.sorted c.in_ok-path.ensures c.suppress.ensures c.set_active.ensures.content
+
+pub returns-clause-work : goal.returns-clause-work
+returns-clause-work g c = λ counted. omega (arith, c.set_active.ensures.work counted)

@@ -1,7 +1,9 @@
-use Rattle.std.proofs.Common.{ℕ, ap, ◌∙◌}
+use Rattle.std.proofs.Common.{ℕ, ap, ◌∙◌, arith}
 use Rattle.std.specs.Prelude.{max}
 use Rattle.drf_rows.specs.Offers.{filters_with, refuses_all}
 use Rattle.drf_rows.specs.declared.rows.Rows.{Rows}
+use Rattle.drf_rows.specs.Endings.{one_offer}
+use Rattle.drf_core.specs.Working.{losers, nodes_of}
 use Rattle.drf_core.proofs.AcceptLemmas.{some_offer, sorted-declined, applied_decline}
 use Rattle.drf_core.proofs.life.decline.Goals as goal
 
@@ -9,8 +11,8 @@ pub end-requires : goal.end-requires
 end-requires g c =
     let rows : Rows = c.args.tables.now.rows in
     let moment = c.max-moment.result in
-    let one = some_offer rows c.args.number c.requires.offer in
-    sorted-declined rows c.set_clock.new.self.rows (filters_with (record rows { clock = moment }) (refuses_all c.args.refuse_ms) one.offer one.offer.bundle c.args.refuse_ms)
+    let one = some_offer rows c.args.decline.now.offer c.requires.offer in
+    sorted-declined rows c.set_clock.new.self.rows (filters_with (record rows { clock = moment }) (refuses_all c.args.decline.now.refuse_ms) one.offer one.offer.bundle c.args.decline.now.refuse_ms)
     moment (g.S.Sorter.content c.args.sorter.now) c.requires.sorted
     (c.set_clock.ensures ∙ (λ i. record (c.in_ok-refuse_offer.ensures.ok one.offer one.at i) { clock = moment }))
 
@@ -18,7 +20,14 @@ pub returns-clause-ok : goal.returns-clause-ok
 returns-clause-ok g c = λ o at.
     let rows : Rows = c.args.tables.now.rows in
     let moment = c.max-moment.result in
-    applied_decline rows c.set_clock.new.self.rows c.end.new.tables.rows c.args.number o c.args.at moment c.args.refuse_ms (g.S.Sorter.content c.end.new.sorter)
-    at (c.max-moment.ensures ∙ ap (λ (n : ℕ). max n c.args.at) c.clock.ensures)
+    applied_decline rows c.set_clock.new.self.rows c.end.new.tables.rows c.args.decline.now.offer o c.args.decline.now.at moment c.args.decline.now.refuse_ms (g.S.Sorter.content c.end.new.sorter)
+    at (c.max-moment.ensures ∙ ap (λ (n : ℕ). max n c.args.decline.now.at) c.clock.ensures)
     (c.set_clock.ensures ∙ (λ i. record (c.in_ok-refuse_offer.ensures.ok o at i) { clock = moment }))
-    c.end.ensures
+    c.end.ensures.stands
+
+pub returns-clause-work : goal.returns-clause-work
+returns-clause-work g c = λ counted.
+    let rows : Rows = c.args.tables.now.rows in
+    let one = some_offer rows c.args.decline.now.offer c.requires.offer in
+    let same = c.set_clock.ensures ∙ (λ i. record (c.in_ok-refuse_offer.ensures.ok one.offer one.at i) { clock = c.max-moment.result }) in
+    omega (arith, c.end.ensures.work counted, ap (λ (r : Rows). nodes_of (losers r (one_offer c.args.decline.now.offer))) same)

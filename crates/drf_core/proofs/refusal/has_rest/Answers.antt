@@ -1,7 +1,12 @@
-use Rattle.std.proofs.Common.{sym}
-use Rattle.drf_core.proofs.RefusalLemmas.{rest_at}
+use Rattle.std.proofs.Common.{Option, false, not, ap, ◌∙◌}
+use Rattle.std.specs.Option.{option_map_or}
+use Rattle.std.proofs.lemmas.Bool.{not-false}
+use Rattle.drf_rows.specs.Tasks.{uses, covers_all}
+use Rattle.drf_rows.specs.declared.rows.OfferRow.{OfferRow}
 use Rattle.drf_core.proofs.refusal.has_rest.Goals as goal
 
-pub returns-in-Some : goal.returns-in-Some
-returns-in-Some c =
-    rest_at c.args.tables.now.rows c.args.number c.args.used.now c.in-Some.offer.now (sym c.in-Some.ensures) c.covers.result c.covers.ensures.given c.covers.ensures.covers
+pub leave_any_of-requires : goal.leave_any_of-requires
+leave_any_of-requires c =
+    let tasks = c.args.tasks.now in
+    not-false (covers_all c.in-Some.offer.now.bundle (uses tasks))
+    (ap (λ (o : Option OfferRow). option_map_or (λ o. not (covers_all o.bundle (uses tasks))) o false) c.in-Some.ensures ∙ c.requires)

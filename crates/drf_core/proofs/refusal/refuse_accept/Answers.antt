@@ -1,12 +1,28 @@
-use Rattle.std.proofs.Common.{◌∷◌, [], ◌∙◌, not, nat_lt}
-use Rattle.drf_rows.specs.Step.{first_case, refusal_of}
-use Rattle.drf_rows.specs.declared.limits.TheConstants.{LATEST_MOMENT}
-use Rattle.drf_core.proofs.RefusalLemmas.{empty_from}
-use Rattle.drf_rows.specs.declared.reply.Refusal.TheVariants.{BadMoment, Empty, HistoryFull, KnownTask, NotCovered, NotYours, TooMany, UnknownFramework, UnknownOffer}
+use Rattle.std.proofs.Common.{◌∷◌, [], sym, ◌∙◌}
+use Rattle.drf_rows.specs.Step.{accept_is_too_much, refusal_of}
+use Rattle.drf_rows.specs.declared.reply.Refusal.TheVariants.{TooMany}
+use Rattle.drf_core.specs.Accepting.{cases_of_tasks}
+use Rattle.drf_core.proofs.RefusalLemmas.{first_front, first_rest}
+use Rattle.drf_core.proofs.Welcome.{no_case}
 use Rattle.drf_core.proofs.refusal.refuse_accept.Goals as goal
 
-pub returns : goal.returns
+pub returns-in-Some : goal.returns-in-Some
 unfolding refusal_of
-returns c =
-    let empty = empty_from c.args.used.now c.is_empty.result c.is_empty.ensures.is_empty in
-    c.first_case.ensures ∙ (λ i. first_case ((c.is_full.ensures i, HistoryFull) ∷ (nat_lt LATEST_MOMENT c.args.at, BadMoment) ∷ (not (c.has_framework.ensures i), UnknownFramework) ∷ (not (c.has_offer.ensures i), UnknownOffer) ∷ (c.is_anothers.ensures i, NotYours) ∷ (c.has_task.ensures i, KnownTask) ∷ (empty i, Empty) ∷ (c.is_beyond.ensures i, NotCovered) ∷ (c.accept_is_too_much.ensures c.args.task.now i, TooMany) ∷ []))
+returns-in-Some c =
+    let limits = c.args.limits.now in
+    let rows = c.args.tables.now.rows in
+    let accept = c.args.accept.now in
+    sym (first_front (cases_of_tasks limits rows accept) ((accept_is_too_much limits rows accept, TooMany) ∷ []) c.in-Some.refusal (sym c.in-Some.ensures))
+
+pub refuse_rest-requires : goal.refuse_rest-requires
+refuse_rest-requires c =
+    (no_case (cases_of_tasks c.args.limits.now c.args.tables.now.rows c.args.accept.now) (sym c.in-None.ensures)).1.1.1.1.1.1.1.0
+
+pub returns-in-None : goal.returns-in-None
+unfolding refusal_of
+returns-in-None c =
+    let limits = c.args.limits.now in
+    let rows = c.args.tables.now.rows in
+    let accept = c.args.accept.now in
+    c.refuse_rest.ensures
+    ∙ sym (first_rest (cases_of_tasks limits rows accept) ((accept_is_too_much limits rows accept, TooMany) ∷ []) (sym c.in-None.ensures))

@@ -6,4 +6,4 @@ use Rattle.drf_core.proofs.refusal.refuse_decline.Goals as goal
 
 pub returns : goal.returns
 unfolding refusal_of
-returns c = c.first_case.ensures ∙ (λ i. first_case ((c.is_full.ensures i, HistoryFull) ∷ (nat_lt LATEST_MOMENT c.args.at, BadMoment) ∷ (not (c.has_framework.ensures i), UnknownFramework) ∷ (not (c.has_offer.ensures i), UnknownOffer) ∷ (c.is_anothers.ensures i, NotYours) ∷ (c.decline_is_too_much.ensures i, TooMany) ∷ []))
+returns c = c.first_case.ensures ∙ (λ i. first_case ((c.is_full.ensures i, HistoryFull) ∷ (nat_lt LATEST_MOMENT c.args.decline.now.at, BadMoment) ∷ (not (c.has_framework.ensures i), UnknownFramework) ∷ (not (c.has_offer.ensures i), UnknownOffer) ∷ (c.is_anothers.ensures i, NotYours) ∷ (c.decline_is_too_much.ensures i, TooMany) ∷ []))

@@ -1,4 +1,4 @@
-use Rattle.std.proofs.Common.{◌≡◌, ◌+◌, ◌≤◌, false, length}
+use Rattle.std.proofs.Common.{◌≡◌, ◌+◌, ◌≤◌, true, false, length}
 use Rattle.drf_journal.proofs.Parts.{SentFront}
 use Rattle.drf_journal.proofs.engine.answer_piece.Given as goal
 
@@ -8,6 +8,7 @@ invariant-loop-rest g l = record {
       (g.W.Write.contents l.writer.inner);
   few : l.session.lines + length l.rest ≤ l.fn.session.lines + length l.fn.piece;
   sound : l.fn.writer.failed ≡ false → l.writer.failed ≡ false;
+  flushed : l.fn.writer.flushed ≡ true → l.writer.flushed ≡ true;
 }
 
 abbrev pub decreases-loop-rest : goal.decreases-loop-rest

@@ -1,10 +1,10 @@
-use Rattle.std.proofs.Common.{◌<◌, ◌≤◌, [], length, take, refl, ap, ◌∙◌, arith}
+use Rattle.std.proofs.Common.{ℕ, ◌<◌, ◌≤◌, [], length, take, refl, ap, ◌∙◌, arith}
 use Rattle.std.proofs.lemmas.Result.{err_from_is_err_and}
 use Rattle.std.proofs.lemmas.List.{length-take-le}
 use Rattle.std.proofs.KnownBytes.{Keeps-refl}
 use Rattle.drf_journal.specs.State.{State}
 use Rattle.drf_journal.proofs.Pieces.{few_lines}
-use Rattle.drf_journal.proofs.Served.{serving-begins, never-served, serving-takes, run-unread, run-forgotten, run-unwritten, run-ends, run-stops, cause-stopped}
+use Rattle.drf_journal.proofs.Served.{serving-begins, never-served, serving-takes, run-unread, run-forgotten, run-unwritten, run-ends, run-stops, cause-stopped, flushed-stopped}
 use Rattle.drf_journal.proofs.engine.serve.Goals as goal
 
 pub returns-in_err-buffer-clause-served : goal.returns-in_err-buffer-clause-served
@@ -18,6 +18,7 @@ loop-turn-init g c = record {
   reads = c.requires.reader.0;
   reader_sound = c.requires.reader.1;
   writer_sound = c.requires.writer.1;
+  flushed = λ e. e;
   chunk = let a = c.as_mut_slice-chunk.ensures.len in let b = c.in_ok-buffer.ensures.len in omega arith;
   few = let none = ap (λ (s : State). s.lines) c.requires.session in omega arith;
 }
@@ -103,6 +104,26 @@ returns-in_err-answer_piece-clause-cause g c =
     (cause-stopped _ _ _ _ (rw c.loop-turn.invariant.reader_sound at c.in-Ok.ensures.failed)
     (c.in_err-answer_piece.ensures.cause c.loop-turn.invariant.writer_sound))
 
+pub returns-in_err-close-clause-flushed : goal.returns-in_err-close-clause-flushed
+returns-in_err-close-clause-flushed g c = λ begun.
+    let p = err_from_is_err_and c.from_residual-in_err-close.result c.from_residual-in_err-close.ensures.1 in
+    rw (p.1, p.2) (c.loop-turn.invariant.flushed begun)
+
+pub returns-in_default-clause-flushed : goal.returns-in_default-clause-flushed
+returns-in_default-clause-flushed g c = λ begun. c.loop-turn.invariant.flushed begun
+
+pub returns-then-count-eq0-clause-flushed : goal.returns-then-count-eq0-clause-flushed
+returns-then-count-eq0-clause-flushed g c = λ begun. c.in_ok-send.ensures.flushed (c.loop-turn.invariant.flushed begun)
+
+pub returns-clause-flushed : goal.returns-clause-flushed
+returns-clause-flushed g c = λ begun. c.loop-turn.invariant.flushed begun
+
+pub returns-in_err-answer_piece-clause-flushed : goal.returns-in_err-answer_piece-clause-flushed
+returns-in_err-answer_piece-clause-flushed g c = λ begun.
+    let p = err_from_is_err_and c.from_residual-in_err-answer_piece.result c.from_residual-in_err-answer_piece.ensures.1 in
+    rw (p.1, p.2)
+    (flushed-stopped (Unit {0}) ℕ _ _ (c.in_err-answer_piece.ensures.flushed (c.loop-turn.invariant.flushed begun)))
+
 pub loop-turn-preserved : goal.loop-turn-preserved
 loop-turn-preserved g c =
     let piece = take c.in-Ok.count c.read.new.buf in
@@ -115,6 +136,7 @@ loop-turn-preserved g c =
           omega arith;
       reader_sound = rw c.loop-turn.invariant.reader_sound at c.in-Ok.ensures.failed;
       writer_sound = (c.in_ok-answer_piece.ensures.cause c.loop-turn.invariant.writer_sound).1;
+      flushed = λ begun. c.in_ok-answer_piece.ensures.flushed (c.loop-turn.invariant.flushed begun);
       chunk = let a = c.read.auto.buf in let b = c.loop-turn.invariant.chunk in omega arith;
       few =
           let same = ap (λ (s : State). s.lines) next in

@@ -1,4 +1,4 @@
-use Rattle.std.proofs.Common.{◌≡◌, ◌*◌, ◌≤◌, false, length}
+use Rattle.std.proofs.Common.{◌≡◌, ◌*◌, ◌≤◌, true, false, length}
 use Rattle.drf_journal.proofs.Served.{IsServing}
 use Rattle.drf_journal.proofs.engine.serve.Given as goal
 
@@ -9,6 +9,7 @@ invariant-loop-turn g l = record {
   reads : l.reader.calls ≡ l._turn;
   reader_sound : l.reader.failed ≡ false;
   writer_sound : l.writer.failed ≡ false;
+  flushed : l.fn.writer.flushed ≡ true → l.writer.flushed ≡ true;
   chunk : length l.chunk ≡ 65536;
   few : l.session.lines ≤ l._turn * 65536;
 }

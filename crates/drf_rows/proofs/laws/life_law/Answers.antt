@@ -1,8 +1,8 @@
-use Rattle.drf_rows.specs.EndedLaws.{accepted_is_a_task, declined_at_once, finished_is_given_back, filters_go, other_filters_stay}
+use Rattle.drf_rows.specs.EndedLaws.{accepted_starts_tasks, declined_at_once, finished_is_given_back, filters_go, other_filters_stay}
 use Rattle.drf_rows.proofs.laws.life_law.Goals as goal
 
 pub returns-clause-accepted : goal.returns-clause-accepted
-returns-clause-accepted c = accepted_is_a_task
+returns-clause-accepted c = accepted_starts_tasks
 
 pub returns-clause-declined : goal.returns-clause-declined
 returns-clause-declined c = declined_at_once

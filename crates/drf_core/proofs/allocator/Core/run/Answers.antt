@@ -3,8 +3,7 @@ use Rattle.std.proofs.lemmas.Option.{slice_get_read}
 use Rattle.drf_rows.specs.Step.{replies_to}
 use Rattle.drf_rows.specs.declared.event.Event.{Event}
 use Rattle.drf_rows.specs.declared.reply.Reply.{Reply}
-use Rattle.drf_core.proofs.TurnLemmas.{take_one_more}
-use Rattle.drf_core.proofs.StepLemmas.{IsAfterAll-more, reply-more}
+use Rattle.drf_core.proofs.StepLemmas.{IsAfterAll-more, reply-more, take_one_more}
 use Rattle.drf_core.proofs.allocator.Core.run.Goals as goal
 
 pub loop-event-preserved : goal.loop-event-preserved
@@ -19,6 +18,7 @@ loop-event-preserved g c =
     c.push_reserved.ensures.items ∙ ap (λ (rs : List Reply). rs ++ c.in_ok-reply.reply ∷ []) (c.reserve.ensures.items ∙ c.loop-event.invariant.told) in
     rw more (record {
       after = IsAfterAll-more c.args.self.now c.loop-event.self c.step.new.self before c.in_ok-event.event c.loop-event.invariant.after c.in_ok-reply.ensures.ok;
+      safe = c.step.ensures.safe;
       told = told
           ∙ append_assoc c.args.replies.now.items (replies_to c.args.self.now.limits c.args.self.now.rows before) (c.in_ok-reply.reply ∷ [])
           ∙ ap (λ (rs : List Reply). c.args.replies.now.items ++ rs)

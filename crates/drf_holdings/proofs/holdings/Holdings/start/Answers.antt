@@ -1,10 +1,6 @@
-use Rattle.std.proofs.Common.{◌≡◌, ◌==◌, ◌∷◌, ◌++◌, [], Bool, Option, Some, MatchOption, find, sym, ap, subst, ◌∙◌, is_some}
-use Rattle.std.specs.List.{list_any}
+use Rattle.std.proofs.Common.{◌≡◌, ◌==◌, ◌++◌, Bool, List, Option, Some, MatchOption, find, map, sym, ap, subst, ◌∙◌, is_some}
 use Rattle.std.specs.Option.{option_copied}
-use Rattle.drf_role.specs.Path.{Path}
-use Rattle.drf_role.specs.Text.{Text}
-use Rattle.drf_rows.specs.Endings.{is_task}
-use Rattle.drf_rows.specs.Offers.{Start, task_of}
+use Rattle.drf_rows.specs.Offers.{task_of, AreNew}
 use Rattle.drf_rows.specs.declared.rows.OfferRow.{OfferRow}
 use Rattle.drf_rows.specs.declared.rows.TaskRow.{TaskRow}
 use Rattle.drf_holdings.specs.Stored.{Standing, HasStarted}
@@ -20,14 +16,16 @@ unwrap-offer-requires c =
     c.get.ensures ∙ (λ i. find (λ (o : OfferRow). o.number == c.args.number) (c.self.view_is i).offers) in
     some_copied c.get.result ∙ ap is_some got ∙ some
 
-pub push-requires : goal.push-requires
-push-requires c =
+pub append-requires : goal.append-requires
+append-requires c =
     let offers = c.args.self.now.offers in
     let offer = c.unwrap-offer.result.now in
     let got : option_copied c.get.result ≡ find (λ (o : OfferRow). o.number == c.args.number) offers =
     c.get.ensures ∙ (λ i. find (λ (o : OfferRow). o.number == c.args.number) (c.self.view_is i).offers) in
-    let new = c.requires.new offer (sym got ∙ ap option_copied c.unwrap-offer.ensures) in
-    (λ i. list_any (is_task (c.in_ok-copy-2.ensures i) c.args.name) (c.self.view_is i).tasks) ∙ new
+    let rows : c.in_ok-rows.rows.items ≡ map (task_of offer) c.args.tasks = c.in_ok-rows.ensures ∙ ap (map (task_of offer)) c.into_vec.ensures.value in
+    subst (λ (ts : List TaskRow). AreNew ts c.in_ok-rows.rows.items) (ap (λ (h : Standing). h.tasks) (sym c.self.view_is))
+    (subst (AreNew c.args.self.now.tasks) (sym rows)
+    (c.requires.new offer (sym got ∙ ap option_copied c.unwrap-offer.ensures)))
 
 pub unwrap-requires : goal.unwrap-requires
 unwrap-requires c =
@@ -38,21 +36,18 @@ pub returns-clause-ok : goal.returns-clause-ok
 returns-clause-ok c =
     let test : OfferRow → Bool = λ o. o.number == c.args.number in
     let old : Standing = record { offers = c.self.inside.offers; tasks = c.self.inside.tasks } in
-    let new : Standing = record { offers = c.take.new.self; tasks = c.push.new.self } in
-    let start : Start = (c.args.name, c.args.used) in
+    let new : Standing = record { offers = c.take.new.self; tasks = c.append.new.self } in
     let found : OfferRow = c.unwrap-offer.result.now in
     let offer : OfferRow = c.unwrap.result in
     let both : ◌≡◌ {A = Option OfferRow} (Some found) (Some offer) =
     sym (ap option_copied c.unwrap-offer.ensures) ∙ c.get.ensures ∙ sym c.take.ensures.found ∙ c.unwrap.ensures in
     let same : found ≡ offer = cc in
-    let row : Text → Text → Path → TaskRow = λ agent framework role.
-    record { name = c.args.name; agent = agent; framework = framework; role = role; bundle = c.args.used } in
-    let its : row c.in_ok-copy.field-0 c.in_ok-copy-2.field-0 c.in_ok-copy-3.field-0 ≡ task_of offer start =
-    (λ i. row (c.in_ok-copy.ensures i) (c.in_ok-copy-2.ensures i) (c.in_ok-copy-3.ensures i)) ∙ (λ i. task_of (same i) start) in
-    let started : HasStarted c.args.number start old new offer = record {
+    let rows : c.in_ok-rows.rows.items ≡ map (task_of offer) c.args.tasks =
+    c.in_ok-rows.ensures ∙ ap (map (task_of found)) c.into_vec.ensures.value ∙ (λ i. map (task_of (same i)) c.args.tasks) in
+    let started : HasStarted c.args.number c.args.tasks old new offer = record {
       found = sym c.take.ensures.found ∙ c.unwrap.ensures;
       taken = subst (λ (r : Option OfferRow). MatchOption r (HasNone test old.offers new.offers) (IsTaken test old.offers new.offers))
           c.unwrap.ensures c.take.ensures.taken;
-      started = c.in_ok-push.ensures.ok ∙ ap (λ (t : TaskRow). old.tasks ++ t ∷ []) its;
+      started = c.in_ok-append.ensures.ok ∙ ap (λ (ts : List TaskRow). old.tasks ++ ts) rows;
     } in
-    subst (λ (h : Standing). HasStarted c.args.number start h new offer) c.self.view_is started
+    subst (λ (h : Standing). HasStarted c.args.number c.args.tasks h new offer) c.self.view_is started

@@ -7,14 +7,14 @@ use Rattle.drf_journal.proofs.session.Session.end_line.Goals as goal
 pub returns-clause-ok : goal.returns-clause-ok
 returns-clause-ok g c =
     let inside = c.self.inside in
-    let old : State = record { machine = live inside.core; echo = inside.echo; pending = inside.pending.items; unsent = inside.unsent.items; lines = inside.lines } in
+    let old : State = record { machine = live inside.core; echo = inside.echo; pending = inside.pending; unsent = inside.unsent.items; lines = inside.lines } in
     let machine = c.in_ok-told.ensures.ok in
-    let pending = c.clear.ensures.items in
+    let pending = c.clear.ensures in
     let unsent = c.in_ok-extend_from_slice.ensures.items ∙ ap (λ told. inside.unsent.items ++ told) (c.deref.ensures.value ∙ c.in_ok-told.ensures.told) in
     let new : State = record {
       machine = live c.answer_end.new.core;
       echo = inside.echo;
-      pending = c.clear.new.self.items;
+      pending = c.clear.new.self;
       unsent = c.extend_from_slice.new.self.items;
       lines = inside.lines + 1;
     } in

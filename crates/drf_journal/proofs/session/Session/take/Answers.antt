@@ -117,7 +117,7 @@ returns-then-is_empty-clause-answers g c =
 pub returns-in_err-keep-clause-answers : goal.returns-in_err-keep-clause-answers
 returns-in_err-keep-clause-answers g c =
     let inside = c.self-2.inside in
-    let kept : State = record { machine = live inside.core; echo = inside.echo; pending = c.keep.new.pending.items; unsent = inside.unsent.items; lines = inside.lines } in
+    let kept : State = record { machine = live inside.core; echo = inside.echo; pending = c.keep.new.self; unsent = inside.unsent.items; lines = inside.lines } in
     front-answers c.args.self.now c.loop-at.self kept c.args.piece.now c.loop-at.rest.now c.loop-at.invariant.front
     (ap (λ (s : State). s.unsent) c.self-2.view_is) (ap (λ (s : State). s.lines) c.self-2.view_is)
     (ap (λ (s : State). s.machine) c.self-2.view_is)
@@ -125,7 +125,7 @@ returns-in_err-keep-clause-answers g c =
 pub returns-clause-answers : goal.returns-clause-answers
 returns-clause-answers g c =
     let inside = c.self-2.inside in
-    let kept : State = record { machine = live inside.core; echo = inside.echo; pending = c.keep.new.pending.items; unsent = inside.unsent.items; lines = inside.lines } in
+    let kept : State = record { machine = live inside.core; echo = inside.echo; pending = c.keep.new.self; unsent = inside.unsent.items; lines = inside.lines } in
     front-answers c.args.self.now c.loop-at.self kept c.args.piece.now c.loop-at.rest.now c.loop-at.invariant.front
     (ap (λ (s : State). s.unsent) c.self-2.view_is) (ap (λ (s : State). s.lines) c.self-2.view_is)
     (ap (λ (s : State). s.machine) c.self-2.view_is)
@@ -134,7 +134,7 @@ pub returns-clause-ok : goal.returns-clause-ok
 returns-clause-ok g c =
     let inside = c.self-2.inside in
     let rest = c.loop-at.rest.now in
-    let now : State = record { machine = live inside.core; echo = inside.echo; pending = inside.pending.items; unsent = inside.unsent.items; lines = inside.lines } in
+    let now : State = record { machine = live inside.core; echo = inside.echo; pending = inside.pending; unsent = inside.unsent.items; lines = inside.lines } in
     let some : 0 < length rest = grind (arith, nat_tests) in
     ap (λ (pending : List ℕ). record now { pending = pending }) c.in_ok-keep.ensures
     ∙ sym (piece-some now rest (c.in_default.ensures.none) some)

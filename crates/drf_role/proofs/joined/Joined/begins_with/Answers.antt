@@ -6,10 +6,10 @@ use Rattle.drf_role.proofs.joined.Joined.begins_with.Goals as goal
 
 pub returns : goal.returns
 returns c =
-    let text = string_bytes c.self.inside.text in
-    let front = string_bytes c.front.inside.text in
+    let text = string_bytes c.shared.result.now.text in
+    let front = string_bytes c.shared-2.result.now.text in
     let by_bytes = subst (λ bs. IsTrue c.goes_on.result ↔ GoesOn bs c.as_bytes-2.result.now) c.as_bytes.ensures.value c.goes_on.ensures in
     let by_text = subst (λ bs. IsTrue c.goes_on.result ↔ GoesOn text bs) c.as_bytes-2.ensures.value by_bytes in
     let by_parts = begins_decided c.goes_on.result text front by_text in
-    let of_self = subst (λ ps. IsTrue c.goes_on.result ↔ BeginsWith ps (parts_of front)) c.self.view_is by_parts in
-    subst (λ ps. IsTrue c.goes_on.result ↔ BeginsWith c.args.self.now ps) c.front.view_is of_self
+    let of_self = subst (λ ps. IsTrue c.goes_on.result ↔ BeginsWith ps (parts_of front)) c.shared.ensures.parts by_parts in
+    subst (λ ps. IsTrue c.goes_on.result ↔ BeginsWith c.args.self.now ps) c.shared-2.ensures.parts of_self

@@ -7,7 +7,7 @@ use Rattle.drf_role.proofs.joined.Joined.len.Goals as goal
 pub returns : goal.returns
 returns c =
     c.len.ensures
-    ∙ c.self.inside.spans.ok.0
-    ∙ ap length c.self.invariant.exact
-    ∙ length-spans_from 0 (parts_of (string_bytes c.self.inside.text))
-    ∙ ap length c.self.view_is
+    ∙ c.shared.result.now.spans.ok.0
+    ∙ ap length c.shared.ensures.right.exact
+    ∙ length-spans_from 0 (parts_of (string_bytes c.shared.result.now.text))
+    ∙ ap length c.shared.ensures.parts

@@ -8,16 +8,16 @@ use Rattle.drf_role.specs.Parts.{parts_of}
 use Rattle.drf_role.proofs.SpanLemmas.{length-spans_from, place_of, IsPlace}
 use Rattle.drf_role.proofs.joined.Joined.part.Goals as goal
 
-within : (c : goal.After-self) → c.args.i < length (parts_of (string_bytes c.self.inside.text))
-within c = subst (λ parts. c.args.i < length parts) (sym c.self.view_is) c.requires
+within : (c : goal.After-shared-cut) → c.args.i < length (parts_of (string_bytes c.shared-cut.result.now.text))
+within c = subst (λ parts. c.args.i < length parts) (sym c.shared-cut.ensures.parts) c.requires
 
-place : (c : goal.After-as_str) → IsPlace (string_bytes c.self.inside.text) (get_or (parts_of (string_bytes c.self.inside.text)) c.args.i []) c.index-span.result.now
+place : (c : goal.After-as_str) → IsPlace (string_bytes c.shared-cut.result.now.text) (get_or (parts_of (string_bytes c.shared-cut.result.now.text)) c.args.i []) c.index-span.result.now
 place c =
-    place_of (string_bytes c.self.inside.text) c.self.inside.spans.items c.args.i c.index-span.result.now c.self.invariant (subst (λ parts. c.args.i < length parts) (sym c.self.view_is) c.requires) c.index-span.ensures
+    place_of (string_bytes c.shared-cut.result.now.text) c.shared-cut.result.now.spans.items c.args.i c.index-span.result.now c.shared-cut.ensures.right (subst (λ parts. c.args.i < length parts) (sym c.shared-cut.ensures.parts) c.requires) c.index-span.ensures
 
 pub index-span-requires : goal.index-span-requires
 index-span-requires c =
-    let size = c.self.inside.spans.ok.0 ∙ ap length c.self.invariant.exact ∙ length-spans_from 0 (parts_of (string_bytes c.self.inside.text)) in
+    let size = c.shared-cut.result.now.spans.ok.0 ∙ ap length c.shared-cut.ensures.right.exact ∙ length-spans_from 0 (parts_of (string_bytes c.shared-cut.result.now.text)) in
     subst (λ n. c.args.i < n) (sym size) (within c)
 
 pub range-requires-clause-start_le_end : goal.range-requires-clause-start_le_end
@@ -27,18 +27,18 @@ pub range-requires-clause-start_boundary : goal.range-requires-clause-start_boun
 range-requires-clause-start_boundary c =
     let p = place c in
     let start = c.index-span.result.now.start in
-    λ _. subst (λ bs. IsCharBoundary bs start) (sym c.as_str.ensures.value) (IsCharBoundary-from_ascii (string_bytes c.self.inside.text) start c.self.invariant.ascii (omega (arith, p.ordered, p.inside)))
+    λ _. subst (λ bs. IsCharBoundary bs start) (sym c.as_str.ensures.value) (IsCharBoundary-from_ascii (string_bytes c.shared-cut.result.now.text) start c.shared-cut.ensures.right.ascii (omega (arith, p.ordered, p.inside)))
 
 pub range-requires-clause-end_boundary : goal.range-requires-clause-end_boundary
 range-requires-clause-end_boundary c =
     let end = c.index-span.result.now.end in
-    subst (λ bs. IsCharBoundary bs end) (sym c.as_str.ensures.value) (IsCharBoundary-from_ascii (string_bytes c.self.inside.text) end c.self.invariant.ascii (place c).inside)
+    subst (λ bs. IsCharBoundary bs end) (sym c.as_str.ensures.value) (IsCharBoundary-from_ascii (string_bytes c.shared-cut.result.now.text) end c.shared-cut.ensures.right.ascii (place c).inside)
 
 pub returns : goal.returns
 returns c =
     let span = c.index-span.result.now in
-    let part = place_of (string_bytes c.self.inside.text) c.self.inside.spans.items c.args.i span c.self.invariant (subst (λ parts. c.args.i < length parts) (sym c.self.view_is) c.requires) c.index-span.ensures in
+    let part = place_of (string_bytes c.shared-cut.result.now.text) c.shared-cut.result.now.spans.items c.args.i span c.shared-cut.ensures.right (subst (λ parts. c.args.i < length parts) (sym c.shared-cut.ensures.parts) c.requires) c.index-span.ensures in
     let read = c.range.ensures.value ∙ ap (λ bs. slice_range bs span.start span.end) c.as_str.ensures.value ∙ part.cut in
-    ap (λ parts. slice_get parts c.args.i) (sym c.self.view_is)
-    ∙ slice_get-get_or (parts_of (string_bytes c.self.inside.text)) c.args.i [] (subst (λ parts. c.args.i < length parts) (sym c.self.view_is) c.requires)
+    ap (λ parts. slice_get parts c.args.i) (sym c.shared-cut.ensures.parts)
+    ∙ slice_get-get_or (parts_of (string_bytes c.shared-cut.result.now.text)) c.args.i [] (subst (λ parts. c.args.i < length parts) (sym c.shared-cut.ensures.parts) c.requires)
     ∙ ap Some (sym read)

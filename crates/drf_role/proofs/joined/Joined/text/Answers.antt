@@ -6,4 +6,4 @@ use Rattle.drf_role.proofs.joined.Joined.text.Goals as goal
 
 pub returns-clause-text : goal.returns-clause-text
 returns-clause-text c =
-    c.as_str.ensures.value ∙ sym (text_of-parts_of (string_bytes c.self.inside.text)) ∙ ap text_of c.self.view_is
+    c.as_str.ensures.value ∙ sym (text_of-parts_of (string_bytes c.shared.result.now.text)) ∙ ap text_of c.shared.ensures.parts

@@ -7,11 +7,11 @@ use Rattle.drf_role.proofs.joined.JoinedPartialEq.eq.Goals as goal
 
 pub returns : goal.returns
 returns c =
-    let text = string_bytes c.self.inside.text in
-    let other = string_bytes c.other.inside.text in
+    let text = string_bytes c.shared.result.now.text in
+    let other = string_bytes c.shared-2.result.now.text in
     c.eq.ensures
     ∙ ap (λ bs. pointwise eqb bs c.as_str-2.result.now) c.as_str.ensures.value
     ∙ ap (pointwise eqb text) c.as_str-2.ensures.value
     ∙ same_parts text other
-    ∙ ap (λ ps. pointwise (pointwise eqb) ps (parts_of other)) c.self.view_is
-    ∙ ap (pointwise (pointwise eqb) c.args.self.now) c.other.view_is
+    ∙ ap (λ ps. pointwise (pointwise eqb) ps (parts_of other)) c.shared.ensures.parts
+    ∙ ap (pointwise (pointwise eqb) c.args.self.now) c.shared-2.ensures.parts

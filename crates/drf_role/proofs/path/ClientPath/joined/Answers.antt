@@ -10,11 +10,11 @@ cut-requires c =
     let role = c.self.inside.role in
     let framework = c.self.inside.framework in
     let text : string_bytes c.in_ok-text.text ≡ client_text role framework = cc c.in_ok-text.ensures in
-    subst IsAscii (sym text) (client_text_ascii role framework c.self.invariant.0 c.self.invariant.1)
+    subst IsAscii (sym text) (client_text_ascii role framework c.self.invariant.right_role c.self.invariant.right_name)
 
 pub returns-clause-parts : goal.returns-clause-parts
 returns-clause-parts c =
     let role = c.self.inside.role in
     let framework = c.self.inside.framework in
     let text : string_bytes c.in_ok-text.text ≡ client_text role framework = cc c.in_ok-text.ensures in
-    rw (← c.self.view_is) (c.in_ok-joined.ensures ∙ (ap parts_of text ∙ parts_of-client_text role framework c.self.invariant.0 c.self.invariant.1))
+    rw (← c.self.view_is) (c.in_ok-joined.ensures ∙ (ap parts_of text ∙ parts_of-client_text role framework c.self.invariant.right_role c.self.invariant.right_name))

@@ -17,8 +17,8 @@ lower-requires c =
     covers_from x.held c.args.quantities.now c.entries.ensures.in_order
     (at_found (Holds c.args.quantities.now) clients c.args.path.now c.in-Some.at x found c.requires.held)
 
-pub returns-in-Some : goal.returns-in-Some
-returns-in-Some c =
+pub returns-in-Some-clause-content : goal.returns-in-Some-clause-content
+returns-in-Some-clause-content c =
     let sorter = c.args.self.now in
     let clients = sorter.clients.items in
     let x = c.index_mut.result.now in
@@ -30,8 +30,8 @@ returns-in-Some c =
     ap (with_clients sorter)
     (changed_one c.args.path.now (refunded c.args.quantities.now) clients c.in-Some.at x y sorter.distinct found made)
 
-pub returns-in_default : goal.returns-in_default
-returns-in_default c =
+pub returns-in_default-clause-content : goal.returns-in_default-clause-content
+returns-in_default-clause-content c =
     let clients = c.args.self.now.clients.items in
     absurd
     (known-found clients c.args.path.now c.requires.known

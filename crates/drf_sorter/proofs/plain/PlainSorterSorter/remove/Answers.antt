@@ -14,8 +14,8 @@ invariant_of-self-clause-distinct c =
     let kept = filter_same _ others _ (λ x b f' k. (search rules, search rules)) _ _ c.retain.ensures.filtered in
     rw kept (distinct_filter (λ (x : Client). x.path) others c.args.self.now.clients.items c.args.self.now.distinct)
 
-pub returns : goal.returns
-returns c =
+pub returns-clause-content : goal.returns-clause-content
+returns-clause-content c =
     let clients = c.args.self.now.clients.items in
     let others = λ (x : Client). not (same_path x.path c.args.path.now) in
     let kept = filter_same _ others _ (λ x b f' k. (search rules, search rules)) _ _ c.retain.ensures.filtered in

@@ -6,8 +6,8 @@ use Rattle.drf_sorter.specs.Content.{activated}
 use Rattle.drf_sorter.proofs.ChangeLemmas.{place-found, known-found, changed_one, with_clients}
 use Rattle.drf_sorter.proofs.plain.PlainSorterSorter.set_active.Goals as goal
 
-pub returns-in-Some : goal.returns-in-Some
-returns-in-Some c =
+pub returns-in-Some-clause-content : goal.returns-in-Some-clause-content
+returns-in-Some-clause-content c =
     let sorter = c.args.self.now in
     let clients = sorter.clients.items in
     let x = c.index_mut.result.now in
@@ -18,8 +18,8 @@ returns-in-Some c =
     ap (with_clients sorter)
     (changed_one c.args.path.now (activated c.args.active) clients c.in-Some.at x y sorter.distinct found refl)
 
-pub returns-in_default : goal.returns-in_default
-returns-in_default c =
+pub returns-in_default-clause-content : goal.returns-in_default-clause-content
+returns-in_default-clause-content c =
     let clients = c.args.self.now.clients.items in
     absurd
     (known-found clients c.args.path.now c.requires

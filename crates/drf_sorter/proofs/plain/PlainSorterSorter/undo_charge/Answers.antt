@@ -29,8 +29,8 @@ overflow_sub-client c =
     at_found (HasCharge c.args.quantities.now) clients c.args.path.now c.in-Some.at x found c.requires.charged in
     charge.count
 
-pub returns-in-Some : goal.returns-in-Some
-returns-in-Some c =
+pub returns-in-Some-clause-content : goal.returns-in-Some-clause-content
+returns-in-Some-clause-content c =
     let sorter = c.args.self.now in
     let clients = sorter.clients.items in
     let x = c.index_mut-client.result.now in
@@ -42,8 +42,8 @@ returns-in-Some c =
     ap (with_clients sorter)
     (changed_one c.args.path.now (discharged c.args.quantities.now) clients c.in-Some.at x y sorter.distinct found made)
 
-pub returns-in_default : goal.returns-in_default
-returns-in_default c =
+pub returns-in_default-clause-content : goal.returns-in_default-clause-content
+returns-in_default-clause-content c =
     let clients = c.args.self.now.clients.items in
     absurd
     (known-found clients c.args.path.now c.requires.known

@@ -1,7 +1,6 @@
-use Rattle.std.proofs.Common.{◌≡◌, ◌==◌, Bool, Some, Option, sym, ap, ◌∙◌, subst}
-use Rattle.std.specs.List.{list_any}
-use Rattle.drf_rows.specs.Endings.{is_task}
-use Rattle.drf_rows.specs.Offers.{offer_at}
+use Rattle.std.proofs.Common.{◌≡◌, ◌==◌, Bool, Some, Option, map, sym, ap, ◌∙◌, subst}
+use Rattle.drf_rows.specs.EndingLaws.{new_starts}
+use Rattle.drf_rows.specs.Offers.{offer_at, task_of, AreNew}
 use Rattle.drf_rows.specs.declared.rows.OfferRow.{OfferRow}
 use Rattle.drf_tables.specs.Ended.{CanAccept, with_accepted}
 use Rattle.drf_tables.specs.Inside.{rows_of, rows_in}
@@ -14,30 +13,30 @@ unfolding rows_of
 start-requires-clause-there c =
     let t = c.self.inside in
     let test : OfferRow → Bool = λ o. o.number == c.args.number in
-    let can : CanAccept (rows_in t) c.args.number (c.args.task, c.args.used) c.args.filter =
-    subst (λ (s : Stored). CanAccept s.rows c.args.number (c.args.task, c.args.used) c.args.filter) (sym c.self.view_is) c.requires in
+    let can : CanAccept (rows_in t) c.args.number c.args.tasks c.args.filter =
+    subst (λ (s : Stored). CanAccept s.rows c.args.number c.args.tasks c.args.filter) (sym c.self.view_is) c.requires in
     found_any test t.holdings.offers can.offer can.at
 
 pub start-requires-clause-new : goal.start-requires-clause-new
 unfolding rows_of
 start-requires-clause-new c = λ o found.
     let t = c.self.inside in
-    let can : CanAccept (rows_in t) c.args.number (c.args.task, c.args.used) c.args.filter =
-    subst (λ (s : Stored). CanAccept s.rows c.args.number (c.args.task, c.args.used) c.args.filter) (sym c.self.view_is) c.requires in
+    let can : CanAccept (rows_in t) c.args.number c.args.tasks c.args.filter =
+    subst (λ (s : Stored). CanAccept s.rows c.args.number c.args.tasks c.args.filter) (sym c.self.view_is) c.requires in
     let both : ◌≡◌ {A = Option OfferRow} (Some o) (Some can.offer) = sym found ∙ can.at in
     let same : o ≡ can.offer = cc in
-    (λ i. list_any (is_task (same i).framework c.args.task) t.holdings.tasks) ∙ can.new
+    subst (λ (p : OfferRow). AreNew t.holdings.tasks (map (task_of p) c.args.tasks)) (sym same) (new_starts (rows_in t) can.offer c.args.tasks can.can)
 
 pub invariant_of-self-in-Ok : goal.invariant_of-self-in-Ok
 unfolding rows_of
 invariant_of-self-in-Ok c =
     let t = c.self.inside in
     let number = c.args.number in
-    let can : CanAccept (rows_in t) number (c.args.task, c.args.used) c.args.filter =
-    subst (λ (s : Stored). CanAccept s.rows number (c.args.task, c.args.used) c.args.filter) (sym c.self.view_is) c.requires in
-    accepted-kept t c.forget_free.new.agents.entries c.start.new.self c.add_if.new.filters number c.args.task c.args.used c.args.filter
+    let can : CanAccept (rows_in t) number c.args.tasks c.args.filter =
+    subst (λ (s : Stored). CanAccept s.rows number c.args.tasks c.args.filter) (sym c.self.view_is) c.requires in
+    accepted-kept t c.forget_free.new.agents.entries c.start.new.self c.add_if.new.filters number c.args.tasks c.args.filter
     can.offer c.in-Ok.offer c.self.invariant can.at c.in-Ok.ensures.ok c.forget_free.ensures c.in_ok-add_if.ensures.ok
-    c.quantities.ensures.bundle can.covered can.new can.filter
+    can.can can.filter
 
 pub returns-in-Ok-clause-ok : goal.returns-in-Ok-clause-ok
 unfolding rows_of
@@ -45,6 +44,6 @@ returns-in-Ok-clause-ok c = λ o at.
     let t = c.self.inside in
     let number = c.args.number in
     let found : offer_at (rows_in t) number ≡ Some o = ap (λ (s : Stored). offer_at s.rows number) c.self.view_is ∙ at in
-    accepted-rows t c.forget_free.new.agents.entries c.start.new.self c.add_if.new.filters number c.args.task c.args.used c.args.filter
+    accepted-rows t c.forget_free.new.agents.entries c.start.new.self c.add_if.new.filters number c.args.tasks c.args.filter
     o c.in-Ok.offer c.self.invariant found c.in-Ok.ensures.ok c.forget_free.ensures c.in_ok-add_if.ensures.ok
-    ∙ ap (λ (s : Stored). with_accepted s.rows o (c.args.task, c.args.used) c.args.filter) c.self.view_is
+    ∙ ap (λ (s : Stored). with_accepted s.rows o c.args.tasks c.args.filter) c.self.view_is

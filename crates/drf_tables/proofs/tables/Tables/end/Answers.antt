@@ -1,7 +1,7 @@
 use Rattle.std.proofs.Common.{◌≡◌, Some, None, ap, ◌∙◌, subst, refl}
 use Rattle.drf_rows.specs.Endings.{without_ended}
 use Rattle.drf_rows.specs.declared.rows.Rows.{Rows}
-use Rattle.drf_holdings.specs.Ended.{ending_of}
+use Rattle.drf_rows.specs.Ended.{ending_of}
 use Rattle.drf_tables.specs.Ended.{HasEnded}
 use Rattle.drf_tables.specs.Stored.{Stored}
 use Rattle.drf_holdings.specs.Stored.{HasTaken}

@@ -1,0 +1,23 @@
+//! The program `drf`, on the words of its command line and the three standard streams.
+#![tactic(auto)]
+
+use drf_app::{command, no_words};
+use drf_journal::Device;
+use std::env::Env;
+use std::process::ExitCode;
+use std::{env, io};
+
+fn words<R: Env + AllocGlobal>(rt: &R) -> io::Result<Vec<String>> {
+    Ok(env::args(rt)?.collect::<Vec<String>>(rt.alloc())?)
+}
+
+fn main(rt: HostRuntime) -> ExitCode {
+    let mut input = Device::new(rt.stdin());
+    let mut output = Device::new(rt.stdout());
+    let mut errors = Device::new(rt.stderr());
+    let status = match words(&rt) {
+        Ok(words) => command(rt.alloc(), &words, &mut input, &mut output, &mut errors),
+        Err(error) => no_words(&error, &mut errors),
+    };
+    ExitCode::from(status)
+}

@@ -1,0 +1,49 @@
+use Rattle.std.proofs.Common.{◌≡◌, true, false, map, ap, subst, ◌∙◌, sym, refl, codes}
+use Rattle.std.proofs.lemmas.Bool.{false≢true}
+use Rattle.clap.specs.Words.{App, IsParsedFrom, HasKind, fault_of, found_of, is_simple, is_simple_and_free, rows_of, subcommand_of}
+use Rattle.clap.specs.declared.parser.matches.ArgMatches.TheViews.{out-ArgMatches}
+use Rattle.clap.proofs.CallerLemmas.{subcommand_required}
+use Rattle.clap.proofs.WalkLemmas.{one_text-rows}
+use Rattle.drf_app.proofs.Words.{entered, is_run, local, out_of_memory, refused_as}
+use Rattle.drf_app.proofs.line.task_of.Goals as goal
+
+pub returns-in_err-line : goal.returns-in_err-line
+returns-in_err-line g c = out_of_memory (map g.S.AsStr.text c.args.words.now) c.from_residual.result c.from_residual.ensures.1
+
+pub returns-in_err-matches : goal.returns-in_err-matches
+returns-in_err-matches g c =
+    let words = map g.S.AsStr.text c.args.words.now in
+    let form = c.in_ok-line.ensures in
+    let refused = subst (λ (a : App). HasKind (fault_of a words) c.in_err-matches.field-0.0) form (c.in_err-matches.ensures.kinds (ap is_simple_and_free form)) in
+    refused_as words c.from_residual-in_err-matches.result c.in_err-matches.field-0.0 c.from_residual-in_err-matches.ensures.1 refused
+
+pub unreachable-requires : goal.unreachable-requires
+unreachable-requires g c =
+    let words = map g.S.AsStr.text c.args.words.now in
+    let form = c.in_ok-line.ensures in
+    let ok = c.in_ok-matches.ensures.ok in
+    let parsed : IsParsedFrom c.in_ok-line.line c.in_ok-matches.matches =
+    record { built = c.try_get_matches_from_mut.new.self; from = ok.0; parsed = ok.1 } in
+    let has = subcommand_required c.in_ok-line.line c.in_ok-matches.matches parsed (local c.in_ok-line.line (ap (λ (a : App). a.top.is_plain) form))
+    (ap (λ (a : App). a.top.subcommand_required) form) in
+    let rows = (ok.2 (ap is_simple form)).1 ∙ ap (λ (a : App). subcommand_of a words) form in
+    let named = is_run (out-ArgMatches c.in_ok-matches.matches).subcommand words has rows in
+    let bad : false ≡ true = c.in_default.ensures.found.1 named in
+    absurd (false≢true bad)
+
+pub returns : goal.returns
+returns g c =
+    let words = map g.S.AsStr.text c.args.words.now in
+    let form = c.in_ok-line.ensures in
+    let rows = (c.in_ok-matches.ensures.ok.2 (ap is_simple form)).1 ∙ ap (λ (a : App). subcommand_of a words) form in
+    let found = found_of c.in-Some.run'.now in
+    let flag = one_text-rows found (codes "echo") in (
+      rows_of found,
+      sym rows ∙ entered (out-ArgMatches c.in_ok-matches.matches).subcommand (codes "run") (rows_of found)
+          (c.in-Some.ensures.found.0 refl) c.in-Some.ensures.rows,
+      record {
+        unsaid = λ e. c.get_flag.ensures.none (flag ∙ e);
+        no = λ e. c.get_flag.ensures.other (flag ∙ e);
+        yes = λ e. c.get_flag.ensures.value (flag ∙ e);
+      },
+    )

@@ -1,0 +1,62 @@
+//! A whole command.
+ghost use Rattle.std.specs.Prelude.{◌≡◌, ◌≤◌, ◌^◌, map};
+ghost use Rattle.drf_journal.specs.Device.{IsNew};
+ghost use Rattle.drf_app.specs.Done.{HasDone, HasObeyed, stream_of};
+
+use crate::line::{Task, task_of};
+use crate::refusal::refuse;
+use crate::told::finish;
+use drf_journal::{Device, run};
+use drf_rows::Limits;
+use std::alloc::Global;
+use std::convert::AsStr;
+use std::io::{Read, Write};
+
+fn perform<R: Read, W: Write, E: Write>(
+    alloc: Global,
+    task: Task,
+    input: &mut Device<R>,
+    output: &mut Device<W>,
+    errors: &mut Device<E>,
+) -> u8
+    requires input { IsNew input.old.calls input.old.failed }
+    requires output { IsNew output.old.calls output.old.failed }
+    requires errors { IsNew errors.old.calls errors.old.failed }
+    ensures done { HasDone task
+        (record { input = stream_of R.remaining input.old; output = stream_of W.contents output.old; errors = stream_of E.contents errors.old })
+        (record { input = stream_of R.remaining input.new; output = stream_of W.contents output.new; errors = stream_of E.contents errors.new })
+        result }
+    ensures reads { input.new.calls ≤ 2 ^ 40 }
+{
+    match task {
+        Task::Run { echo } => {
+            let ended = run(alloc, Limits::full(), input, output, echo);
+            finish(ended, errors)
+        }
+    }
+}
+
+/// Does what the words ask for, of which the first is the program's name: reads `input`, writes `output`, tells faults on
+/// `errors`, a line each, and gives the program's status. That is 0, 1 where a stream failed or memory ran out, or 2 where
+/// the words ask for nothing that there is.
+pub fn command<S: AsStr, R: Read, W: Write, E: Write>(
+    alloc: Global,
+    words: &[S],
+    input: &mut Device<R>,
+    output: &mut Device<W>,
+    errors: &mut Device<E>,
+) -> u8
+    requires input { IsNew input.old.calls input.old.failed }
+    requires output { IsNew output.old.calls output.old.failed }
+    requires errors { IsNew errors.old.calls errors.old.failed }
+    ensures obeyed { HasObeyed (map S.text words.now)
+        (record { input = stream_of R.remaining input.old; output = stream_of W.contents output.old; errors = stream_of E.contents errors.old })
+        (record { input = stream_of R.remaining input.new; output = stream_of W.contents output.new; errors = stream_of E.contents errors.new })
+        result }
+    ensures reads { input.new.calls ≤ 2 ^ 40 }
+{
+    match task_of(alloc, words) {
+        Ok(task) => perform(alloc, task, input, output, errors),
+        Err(error) => refuse(alloc, &error, output, errors),
+    }
+}

@@ -1,0 +1,72 @@
+//! What is held on each agent.
+ghost use Rattle.std.specs.Prelude.{◌≡◌, [], ◌∷◌, ◌++◌, cond, map, IfOk, OnOk};
+ghost use Rattle.drf_role.specs.Text.{Text, same_text};
+ghost use Rattle.drf_rows.specs.Holdings.{holdings_of, of_offer, of_task, parts_on};
+ghost use Rattle.drf_audit.specs.Held.{parts_in};
+
+use drf_bundle::Bundle;
+use drf_role::Name;
+use drf_rows::{OfferRow, Rows, TaskRow};
+use indexmap::IndexMap;
+use std::alloc::{AllocError, Global};
+
+/// The bundles that are held on each agent, by its name.
+#[derive(Drop)]
+pub(crate) struct Held<'a> {
+    pub(crate) by_agent: IndexMap<Name, Vec<&'a Bundle>>,
+}
+
+impl<'a> Held<'a> {
+    fn new(alloc: Global) -> Held<'a>
+        ensures { (name : Text) → parts_in result name ≡ [] }
+    {
+        Held {
+            by_agent: IndexMap::new(alloc),
+        }
+    }
+
+    /// Adds a bundle behind those that are held on the agent.
+    fn add(&mut self, agent: &Name, bundle: &'a Bundle) -> Result<(), AllocError>
+        ensures { OnOk result ((name : Text) → parts_in self.new name
+            ≡ parts_in self.old name ++ cond (same_text agent.now name) (bundle.now ∷ []) []) }
+    {
+        if let Some(bundles) = self.by_agent.get_mut(agent) {
+            bundles.push(bundle)?;
+            return Ok(());
+        }
+        let mut bundles = Vec::new(*self.by_agent.allocator());
+        bundles.push(bundle)?;
+        self.by_agent.insert(agent.copy()?, bundles)?;
+        Ok(())
+    }
+
+    fn add_offers(&mut self, offers: &'a [OfferRow]) -> Result<(), AllocError>
+        ensures { OnOk result ((name : Text) → parts_in self.new name
+            ≡ parts_in self.old name ++ parts_on name (map of_offer offers.now)) }
+    {
+        for offer in offers {
+            self.add(&offer.agent, &offer.bundle)?;
+        }
+        Ok(())
+    }
+
+    fn add_tasks(&mut self, tasks: &'a [TaskRow]) -> Result<(), AllocError>
+        ensures { OnOk result ((name : Text) → parts_in self.new name
+            ≡ parts_in self.old name ++ parts_on name (map of_task tasks.now)) }
+    {
+        for task in tasks {
+            self.add(&task.agent, &task.bundle)?;
+        }
+        Ok(())
+    }
+
+    /// What is offered and what is in tasks, looked at once each.
+    pub(crate) fn of(alloc: Global, rows: &'a Rows) -> Result<Held<'a>, AllocError>
+        ensures { IfOk result (λ held. (name : Text) → parts_in held name ≡ parts_on name (holdings_of rows.now)) }
+    {
+        let mut held = Held::new(alloc);
+        held.add_offers(rows.offers.as_slice())?;
+        held.add_tasks(rows.tasks.as_slice())?;
+        Ok(held)
+    }
+}

@@ -1,0 +1,24 @@
+-- Lists with which one list begins.
+use Rattle.std.proofs.Common.{◌≡◌, ◌≤◌, List, [], ◌∷◌, ◌++◌, length, refl, sym, ◌∙◌, arith}
+use mathlib.Core.List.{IsPrefix}
+
+-- where two lists go on to the same list, the shorter begins the longer
+shorter-begins : {A : Type 0} (xs ys r s : List A) → xs ++ r ≡ ys ++ s → length xs ≤ length ys → IsPrefix xs ys
+shorter-begins [] ys r s same few = (ys, refl)
+shorter-begins (x ∷ xs) [] r s same few = absurd (omega arith)
+shorter-begins (x ∷ xs) (y ∷ ys) r s same few =
+    let head : x ≡ y = cc same in
+    let tail : xs ++ r ≡ ys ++ s = cc same in
+    let rest : IsPrefix xs ys = shorter-begins xs ys r s tail (omega (arith, few)) in
+    (rest.0, cc (head, rest.1))
+
+pub prefixes-compare : {A : Type 0} (xs ys whole : List A) → IsPrefix xs whole → IsPrefix ys whole → length xs ≤ length ys → IsPrefix xs ys
+prefixes-compare xs ys whole begins ends few = shorter-begins xs ys begins.0 ends.0 (begins.1 ∙ sym ends.1) few
+
+-- a beginning that is no shorter is all of it
+pub prefix-all : {A : Type 0} (xs whole : List A) → IsPrefix xs whole → length whole ≤ length xs → xs ≡ whole
+prefix-all [] [] begins few = refl
+prefix-all [] (y ∷ ys) begins few = absurd (omega arith)
+prefix-all (x ∷ xs) [] begins few = absurd (cc (begins.1))
+prefix-all (x ∷ xs) (y ∷ ys) begins few =
+    let rest : xs ≡ ys = prefix-all xs ys (begins.0, cc (begins.1)) (omega (arith, few)) in cc (begins.1, rest)

@@ -1,0 +1,24 @@
+-- What a board is to its callers.
+use Rattle.std.specs.Prelude.{◌≡◌, ℕ, List, [], ◌∷◌, ◌++◌, refl}
+use Rattle.std.specs.Coded.{Coded, code_by, coded×, coded_ℕ, coded_list}
+use Rattle.drf_board.specs.contracts.entry.Entry as entry
+use Rattle.drf_board.specs.declared.entry.Entry.{Entry}
+
+-- by it a proof tells two lists apart
+abbrev pub entries_code : Coded (List Entry)
+entries_code = coded_list entry.the_row.coded
+
+-- all that was published, in order, and how many viewers look at it
+pub record Published : Type 0 where
+  pub entries : List Entry
+  pub viewers : ℕ
+
+-- by it a proof tells two of them apart
+abbrev pub published_code : Coded Published
+published_code = code_by (List Entry × ℕ) (coded× entries_code coded_ℕ) (λ b. (b.entries, b.viewers))
+    (λ p. record { entries = p.0; viewers = p.1 }) (λ _. refl)
+
+-- exactly this entry was published
+pub record HasPublished (old new : Published) (e : Entry) : Type 0 where
+  pub entries : new.entries ≡ old.entries ++ e ∷ []
+  pub viewers : new.viewers ≡ old.viewers

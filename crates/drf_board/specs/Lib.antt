@@ -1,0 +1,6 @@
+pub mod History
+pub mod HistoryLaws
+pub mod Sheets
+pub mod Slates
+pub mod Boards
+pub mod Chains

@@ -1,0 +1,23 @@
+-- What tells one slate from another.
+use Rattle.std.specs.Prelude.{ℕ, refl}
+use Rattle.std.specs.Coded.{Coded, code_by, coded×, coded_ℕ}
+use Rattle.logbook.specs.Pages.{Book, book_coded}
+use Rattle.drf_rows.specs.LimitNumbers.{LimitNumbers}
+use Rattle.drf_rows.specs.contracts.limits.Limits as limits
+
+-- the name of a slate: where its history stands (the chain of a book), and the limits under which that is legal
+pub record SlateName : Type 0 where
+  pub book : Book
+  pub chain : ℕ
+  pub limits : LimitNumbers
+
+-- a slate, as its callers see it
+pub record SlateState : Type 0 where
+  pub name : SlateName
+  pub viewers : ℕ
+
+-- by it a proof tells two of them apart
+abbrev pub slate_code : Coded SlateState
+slate_code = code_by (Book × (ℕ × (LimitNumbers × ℕ))) (coded× book_coded (coded× coded_ℕ (coded× limits.the_row.coded coded_ℕ)))
+    (λ s. (s.name.book, (s.name.chain, (s.name.limits, s.viewers))))
+    (λ p. record { name = record { book = p.0; chain = p.1.0; limits = p.1.1.0 }; viewers = p.1.1.1 }) (λ _. refl)

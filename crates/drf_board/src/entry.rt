@@ -1,0 +1,18 @@
+use drf_rows::{Copied, Event, Reply};
+use std::alloc::AllocError;
+
+/// An event with its reply: one line of a history. Events that were refused have one too.
+#[derive(Debug, Drop)]
+pub struct Entry {
+    pub event: Event,
+    pub reply: Reply,
+}
+
+impl Copied for Entry {
+    fn copy(&self) -> Result<Entry, AllocError> {
+        Ok(Entry {
+            event: self.event.copy()?,
+            reply: self.reply.copy()?,
+        })
+    }
+}

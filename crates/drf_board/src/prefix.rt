@@ -1,0 +1,111 @@
+//! How much of the history is known.
+ghost use Rattle.std.specs.Prelude.{◌≡◌, length, MatchBool};
+ghost use mathlib.Core.List.{IsPrefix};
+ghost use Rattle.drf_board.specs.Chains.{entries_of};
+ghost use Rattle.drf_board.specs.History.{IsLegal};
+
+use crate::history::{Chained, Link, Naming};
+use logbook::Seen;
+use std::marker::{Model, PhantomData};
+
+/// A legal list with which the history of the board begins. Contracts see it as that list; at run time it is its length alone.
+#[derive(Drop)]
+pub struct Prefix<K: Naming> {
+    count: u64,
+    seen: Seen<Link, u64, Chained>,
+    of: PhantomData<K>,
+}
+
+impl<K: Naming> Model for Prefix<K> {
+    ghost use Rattle.std.specs.Prelude.{◌≡◌, List, length};
+    ghost use Rattle.drf_board.specs.Boards.{entries_code};
+    ghost use Rattle.drf_board.specs.Chains.{entries_of};
+    ghost use Rattle.drf_board.specs.History.{IsLegal};
+    ghost use Rattle.drf_board.specs.declared.entry.Entry.{Entry};
+
+    ghost Value = { List Entry };
+
+    ghost coded = { entries_code };
+
+    ghost view = { λ p. entries_of K.slate.chain p.seen.log };
+
+    ghost invariant = { λ p. (p.count ≡ length (entries_of K.slate.chain p.seen.log)) × (p.seen.book ≡ K.slate.book) × IsLegal K.slate.limits (entries_of K.slate.chain p.seen.log) };
+}
+
+impl<K: Naming> Prefix<K> {
+    /// What was seen of the history, which has so many entries.
+    pub fn of(count: u64, seen: Seen<Link, u64, Chained>) -> Prefix<K>
+        requires count { count ≡ length (entries_of K.slate.chain seen.log) }
+        requires book { seen.book ≡ K.slate.book }
+        requires legal { IsLegal K.slate.limits (entries_of K.slate.chain seen.log) }
+        ensures { result ≡ entries_of K.slate.chain seen.log }
+    {
+        Prefix {
+            count,
+            seen,
+            of: PhantomData,
+        }
+    }
+
+    pub fn len(&self) -> u64
+        ensures length { result ≡ length self.now }
+        ensures legal { IsLegal K.slate.limits self.now }
+    {
+        self.count
+    }
+
+    /// The same list once more, without memory.
+    pub fn again(&self) -> Prefix<K>
+        ensures { result ≡ self.now }
+    {
+        Prefix {
+            count: self.count,
+            seen: self.seen.again(),
+            of: PhantomData,
+        }
+    }
+
+    /// Whether the other list begins with this one. If it does not, this one begins with the other.
+    pub fn begins(&self, other: &Prefix<K>) -> bool
+        ensures { MatchBool result (IsPrefix self.now other.now) (IsPrefix other.now self.now) }
+    {
+        let mut both = self.seen.again();
+        both.learn(&other.seen);
+        if other.count < self.count {
+            return false;
+        }
+        true
+    }
+}
+
+/// The list that the board had when a call was answered, for a viewer to learn. It carries no sheet.
+#[derive(Drop)]
+pub struct Told<K: Naming> {
+    prefix: Prefix<K>,
+}
+
+impl<K: Naming> Model for Told<K> {
+    ghost use Rattle.std.specs.Prelude.{List};
+    ghost use Rattle.drf_board.specs.Boards.{entries_code};
+    ghost use Rattle.drf_board.specs.declared.entry.Entry.{Entry};
+
+    ghost Value = { List Entry };
+
+    ghost coded = { entries_code };
+
+    ghost view = { λ t. t.prefix };
+}
+
+impl<K: Naming> Told<K> {
+    pub(crate) fn of(prefix: Prefix<K>) -> Told<K>
+        ensures { result ≡ prefix }
+    {
+        Told { prefix }
+    }
+
+    pub(crate) fn prefix(&self) -> &Prefix<K>
+        ensures { result.now ≡ self.now }
+    {
+        &self.prefix
+    }
+}

@@ -1,0 +1,64 @@
+-- How much an event may add to what a sorter owes.
+use Rattle.std.specs.Prelude.{ℕ, ◌+◌, ◌≤◌, Bool, IsTrue, List, [], ◌∷◌, ◌++◌, Option, Some, None, length, map, filter, sum_by}
+use Rattle.std.specs.Option.{option_map_or}
+use Rattle.drf_role.specs.Text.{same_text}
+use Rattle.drf_rows.specs.Client.{Client, path_of}
+use Rattle.drf_rows.specs.Endings.{Ending, one_offer, one_task, offers_on, all_of, ends_offer, ends_task}
+use Rattle.drf_rows.specs.Held.{clients_of}
+use Rattle.drf_rows.specs.Holdings.{of_offer, of_task}
+use Rattle.drf_rows.specs.LimitNumbers.{LimitNumbers}
+use Rattle.drf_rows.specs.Members.{distinct}
+use Rattle.drf_rows.specs.Step.{effect, new_offers, refusal_of}
+use Rattle.drf_rows.specs.declared.event.Event.{Event}
+use Rattle.drf_rows.specs.declared.event.Event.TheVariants.{AddAgent, RemoveAgent, ActivateAgent, DeactivateAgent, AddFramework, RemoveFramework, Accept, Decline, Rescind, Finish, Suppress, Revive, SetWeight, Cycle, Report}
+use Rattle.drf_rows.specs.declared.rows.OfferRow.{OfferRow}
+use Rattle.drf_rows.specs.declared.rows.Rows.{Rows}
+use Rattle.drf_sorter.specs.Work.{Work, debt}
+
+-- the nodes of the clients' paths
+abbrev pub nodes_of : List Client → ℕ
+nodes_of clients = sum_by (λ c. length (path_of c)) clients
+
+-- the clients of offers
+abbrev pub offered_to : List OfferRow → List Client
+offered_to offers = map (λ o. (of_offer o).client) offers
+
+-- the clients of what ends
+abbrev pub losers : Rows → Ending → List Client
+losers rows ending =
+    offered_to (filter (ends_offer ending) rows.offers) ++ map (λ t. (of_task t).client) (filter (ends_task ending) rows.tasks)
+
+-- the client of each offer and task that an event adds or ends, and each client that it adds, changes or removes
+abbrev pub touched : Rows → Event → List Client
+touched rows (AddAgent agent total) = []
+touched rows (RemoveAgent agent) = []
+touched rows (ActivateAgent agent) = []
+touched rows (DeactivateAgent agent) = losers rows (offers_on agent)
+touched rows (AddFramework framework roles) = map (λ role. record { role = role; framework = framework }) (distinct roles)
+touched rows (RemoveFramework framework) =
+    losers rows (all_of framework) ++ filter (λ c. same_text c.framework framework) (clients_of rows)
+touched rows (Accept a) = losers rows (one_offer a.offer)
+touched rows (Decline d) = losers rows (one_offer d.offer)
+touched rows (Rescind offer) = losers rows (one_offer offer)
+touched rows (Finish framework task) = losers rows (one_task framework task)
+touched rows (Suppress framework role) = record { role = role; framework = framework } ∷ []
+touched rows (Revive framework role) = record { role = role; framework = framework } ∷ []
+touched rows (SetWeight role weight) = []
+touched rows (Cycle at) = offered_to (new_offers rows (effect rows (Cycle at)))
+touched rows Report = []
+
+-- what an event that is not refused may add: nothing bounds a change of the cluster's total, which all keys depend on
+abbrev pub allowed : Rows → Event → Option ℕ
+allowed rows (AddAgent agent total) = None
+allowed rows (RemoveAgent agent) = None
+allowed rows (SetWeight role weight) = Some 1
+allowed rows event = Some (nodes_of (touched rows event))
+
+-- what an event may add
+abbrev pub allowance : LimitNumbers → Rows → Event → Option ℕ
+allowance limits rows event = option_map_or (λ refusal. Some 0) (refusal_of limits rows event) (allowed rows event)
+
+-- where work is counted, what is owed grew by no more than the nodes of the clients of new drafts
+abbrev pub AddsDrafts : Bool → Work → Work → List OfferRow → List OfferRow → Type 0
+AddsDrafts counted old new before after =
+    IsTrue counted → debt new + nodes_of (offered_to before) ≤ debt old + nodes_of (offered_to after)

@@ -1,0 +1,158 @@
+-- Limits as rows, and what they leave, limit by limit.
+use Rattle.std.specs.Prelude.{◌≡◌, ◌≢◌, ℕ, ◌+◌, ◌-◌, ◌≤◌, Bool, true, false, ◌&&◌, List, [], ◌∷◌, ◌++◌, map, filter, fold, min, length, nat_le, Option, Some, None}
+use Rattle.std.specs.List.{reduce, list_all, flat_map, AllByRecursion, IsDistinct}
+use Rattle.std.specs.Map.{keys_of, lookup, remove_entry}
+use Rattle.std.specs.Option.{option_map_or}
+use Rattle.std.proofs.Common.{refl, sym, ap, subst, ◌∙◌, inl, inr, cond, arith}
+use Rattle.std.proofs.lemmas.Bool.{cases_Bool}
+use Rattle.std.proofs.lemmas.Map.Keys.{IsDistinct-head, IsDistinct-tail}
+use Rattle.indexmap.specs.IndexMap.{insert_entry}
+use Rattle.drf_role.specs.Text.{Text}
+use Rattle.drf_role.specs.Path.{Path, same_path}
+use Rattle.drf_role.specs.PathLaws.{same_path-true, same_path-swap}
+use Rattle.drf_bundle.specs.Quantities.{names_of}
+use Rattle.drf_bundle.specs.declared.quantities.Entry.{Entry}
+use Rattle.drf_rows.specs.Quota.{Consumed, is_within, binds, room_under, headroom_under, headrooms, limited_names, stays_within, limit_of, limits_put, limits_without, limits_with, consumption, headroom_at, headroom, admits_under, admits}
+use Rattle.drf_rows.specs.declared.rows.LimitRow.{LimitRow}
+use Rattle.drf_rows.specs.declared.rows.Rows.{Rows}
+use Rattle.drf_gates.specs.Quota.{Allowance, IsAllowanceOf, limit_row, limit_rows, lesser, least_with, headroom_from, used_at, with_headroom}
+
+-- ---- the table of limits
+
+pub limit_found : (role : Path) (es : List (Path × List Entry)) → lookup (same_path role) es ≡ limit_of (limit_rows es) role
+limit_found role [] = refl
+limit_found role (e ∷ es) =
+    λ i. cond (same_path-swap role e.0 i) (Some e.1) (limit_found role es i)
+
+pub limit_put : (es : List (Path × List Entry)) (role : Path) (limit : List Entry)
+    → limit_rows (insert_entry same_path es role limit) ≡ limits_put (limit_rows es) role limit
+limit_put [] role limit = refl
+limit_put (e ∷ es) role limit =
+    let test = same_path-swap e.0 role in
+    elim (cases_Bool (same_path role e.0)) [
+      | inl same ↦ rw (test ∙ same, same) refl
+      | inr other ↦ rw (test ∙ other, other) (ap (λ ls. limit_row e ∷ ls) (limit_put es role limit))
+    ]
+
+pub limit_gone : (es : List (Path × List Entry)) (role : Path)
+    → limit_rows (remove_entry (same_path role) es) ≡ limits_without (limit_rows es) role
+limit_gone [] role = refl
+limit_gone (e ∷ es) role =
+    let test = same_path-swap e.0 role in
+    elim (cases_Bool (same_path role e.0)) [
+      | inl same ↦ rw (test ∙ same, same) refl
+      | inr other ↦ rw (test ∙ other, other) (ap (λ ls. limit_row e ∷ ls) (limit_gone es role))
+    ]
+
+pub limits_with-some : (limits : List LimitRow) (role : Path) (limit : List Entry) → (length limit ≡ 0 → ⊥)
+    → limits_put limits role limit ≡ limits_with limits role limit
+limits_with-some limits role [] some = absurd (some refl)
+limits_with-some limits role (e ∷ es) some = refl
+
+pub limits_with-none : (limits : List LimitRow) (role : Path) (limit : List Entry) → length limit ≡ 0
+    → limits_without limits role ≡ limits_with limits role limit
+limits_with-none limits role [] none = refl
+limits_with-none limits role (e ∷ es) none = absurd (omega (arith, none))
+
+pub some_rows : (es : List (Path × List Entry)) → limit_rows es ≢ [] → length es ≢ 0
+some_rows [] some = λ e. some refl
+some_rows (e ∷ es) some = λ zero. omega (arith, zero)
+
+pub no_rows : (es : List (Path × List Entry)) → length es ≡ 0 → limit_rows es ≡ []
+no_rows [] none = refl
+no_rows (e ∷ es) none = absurd (omega (arith, none))
+
+-- no role has two limits, so one that is still to come is new
+role_apart : (role : Path) (e : Path × List Entry) (es : List (Path × List Entry)) (limit : List Entry) (rest : List (Path × List Entry))
+    → AllByRecursion (λ y. same_path e.0 y ≡ false) (keys_of (es ++ (role, limit) ∷ rest)) → same_path role e.0 ≡ false
+role_apart role e [] limit rest none = same_path-swap role e.0 ∙ none.0
+role_apart role e (x ∷ xs) limit rest none = role_apart role e xs limit rest none.1
+
+pub limit_to_come : (es : List (Path × List Entry)) (role : Path) (limit : List Entry) (rest : List (Path × List Entry))
+    → IsDistinct same_path (keys_of (es ++ (role, limit) ∷ rest)) → insert_entry same_path es role limit ≡ es ++ (role, limit) ∷ []
+limit_to_come [] role limit rest apart = refl
+limit_to_come (e ∷ es) role limit rest apart =
+    let other = role_apart role e es limit rest (IsDistinct-head same_path e.0 (keys_of (es ++ (role, limit) ∷ rest)) apart) in
+    rw other (ap (λ (xs : List (Path × List Entry)). e ∷ xs)
+    (limit_to_come es role limit rest (IsDistinct-tail same_path e.0 (keys_of (es ++ (role, limit) ∷ rest)) apart)))
+
+-- ---- the least room
+
+least_more : (known : Option ℕ) (n : ℕ) (ns : List ℕ) → least_with (Some (lesser known n)) ns ≡ least_with known (n ∷ ns)
+least_more None n ns = refl
+least_more (Some m) n ns = refl
+
+module _ (consumed : Consumed) (role : Path) (label : Text) where
+  -- a limit that does not bind is passed over
+  pub room_past : (known : Option ℕ) (l : LimitRow) (ls : List LimitRow) → binds role label l ≡ false
+      → headroom_from known ls consumed role label ≡ headroom_from known (l ∷ ls) consumed role label
+  room_past known l ls past =
+      ap (λ (b : Bool). least_with known (map (room_under consumed label) (cond b (l ∷ filter (binds role label) ls) (filter (binds role label) ls)))) (sym past)
+
+  -- one that binds may leave less
+  pub room_here : (known : Option ℕ) (l : LimitRow) (ls : List LimitRow) → binds role label l ≡ true
+      → headroom_from (Some (lesser known (room_under consumed label l))) ls consumed role label
+      ≡ headroom_from known (l ∷ ls) consumed role label
+  room_here known l ls here =
+      least_more known (room_under consumed label l) (map (room_under consumed label) (filter (binds role label) ls))
+      ∙ ap (λ (b : Bool). least_with known (map (room_under consumed label) (cond b (l ∷ filter (binds role label) ls) (filter (binds role label) ls)))) (sym here)
+
+-- ---- the headrooms, name by name
+
+module _ {A B : Type 0} (f : A → B → A) where
+  fold_parts : (start : A) (xs ys : List B) → fold f start (xs ++ ys) ≡ fold f (fold f start xs) ys
+  fold_parts start [] ys = refl
+  fold_parts start (x ∷ xs) ys = fold_parts (f start x) xs ys
+
+module _ (put : List Entry → Text → List Entry) (role : Path) where
+  pub names_past : (room : List Entry) (l : LimitRow) (ls : List LimitRow) → is_within l.role role ≡ false
+      → fold put room (limited_names ls role) ≡ fold put room (limited_names (l ∷ ls) role)
+  names_past room l ls past =
+      ap (λ (b : Bool). fold put room (flat_map (λ (m : LimitRow). names_of m.limit)
+      (cond b (l ∷ filter (λ m. is_within m.role role) ls) (filter (λ m. is_within m.role role) ls)))) (sym past)
+
+  pub names_here : (room : List Entry) (l : LimitRow) (ls : List LimitRow) → is_within l.role role ≡ true
+      → fold put (fold put room (names_of l.limit)) (limited_names ls role) ≡ fold put room (limited_names (l ∷ ls) role)
+  names_here room l ls here =
+      sym (fold_parts put room (names_of l.limit) (limited_names ls role))
+      ∙ ap (λ (b : Bool). fold put room (flat_map (λ (m : LimitRow). names_of m.limit)
+      (cond b (l ∷ filter (λ m. is_within m.role role) ls) (filter (λ m. is_within m.role role) ls)))) (sym here)
+
+-- ---- what is admitted, limit by limit
+
+module _ (consumed : Consumed) (role : Path) (more : Entry) where
+  -- how it goes on from here
+  abbrev pub admitted_from : List LimitRow → Bool
+  admitted_from ls = list_all (stays_within consumed more) (filter (binds role more.label) ls)
+
+  pub admitted_past : (l : LimitRow) (ls : List LimitRow) → binds role more.label l ≡ false
+      → admitted_from ls ≡ admitted_from (l ∷ ls)
+  admitted_past l ls past =
+      ap (λ (b : Bool). list_all (stays_within consumed more) (cond b (l ∷ filter (binds role more.label) ls) (filter (binds role more.label) ls))) (sym past)
+
+  pub admitted_here : (l : LimitRow) (ls : List LimitRow) → binds role more.label l ≡ true → stays_within consumed more l ≡ true
+      → admitted_from ls ≡ admitted_from (l ∷ ls)
+  admitted_here l ls here stays =
+      ap (λ (b : Bool). b && admitted_from ls) (sym stays)
+      ∙ ap (λ (b : Bool). list_all (stays_within consumed more) (cond b (l ∷ filter (binds role more.label) ls) (filter (binds role more.label) ls))) (sym here)
+
+  pub refused_here : (l : LimitRow) (ls : List LimitRow) → binds role more.label l ≡ true → stays_within consumed more l ≡ false
+      → false ≡ admitted_from (l ∷ ls)
+  refused_here l ls here over =
+      ap (λ (b : Bool). b && admitted_from ls) (sym over)
+      ∙ ap (λ (b : Bool). list_all (stays_within consumed more) (cond b (l ∷ filter (binds role more.label) ls) (filter (binds role more.label) ls))) (sym here)
+
+-- ---- the rows' words
+
+module _ (rows : Rows) (a : Allowance) (its : IsAllowanceOf rows a) (role : Path) where
+  pub consumption-its : (label : Text) → used_at a.used role label ≡ consumption rows role label
+  consumption-its label = its.used (is_within role) label
+
+  pub headroom_at-its : (label : Text) → headroom_under a.limits (used_at a.used) role label ≡ headroom_at rows role label
+  headroom_at-its label = λ i. headroom_under (its.limits i) (λ r l. its.used (is_within r) l i) role label
+
+  pub headroom-its : headrooms a.limits (used_at a.used) role ≡ headroom rows role
+  headroom-its = λ i. headrooms (its.limits i) (λ r l. its.used (is_within r) l i) role
+
+  pub admits-its : (amounts : List Entry) → admits_under a.limits (used_at a.used) role amounts ≡ admits rows role amounts
+  admits-its amounts = λ i. admits_under (its.limits i) (λ r l. its.used (is_within r) l i) role amounts

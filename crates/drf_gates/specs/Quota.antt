@@ -1,0 +1,100 @@
+-- What a quota keeps: the limits, and what each role consumes.
+use Rattle.std.specs.Prelude.{◌≡◌, ℕ, ◌+◌, ◌^◌, ◌<◌, min, Bool, List, [], map, filter, fold, sum_by, Option, Some, None, if◌then◌else◌, refl}
+use Rattle.std.specs.List.{reduce}
+use Rattle.std.specs.Coded.{Coded, code_by, coded×, coded_list, coded_ℕ}
+use Rattle.std.specs.Map.{lookup}
+use Rattle.std.specs.Option.{option_map_or}
+use Rattle.drf_role.specs.Text.{Text}
+use Rattle.drf_role.specs.Path.{Path, same_path}
+use Rattle.drf_role.specs.Role.{IsRole}
+use Rattle.drf_bundle.specs.Quantities.{amount_of, with_amount}
+use Rattle.drf_bundle.specs.contracts.quantities.Entry as entry
+use Rattle.drf_bundle.specs.declared.quantities.Entry.{Entry}
+use Rattle.drf_rows.specs.Quota.{Consumed, is_within, consumption_where, binds, room_under, headroom_under}
+use Rattle.drf_rows.specs.contracts.rows.LimitRow as limit
+use Rattle.drf_rows.specs.declared.rows.LimitRow.{LimitRow}
+use Rattle.drf_rows.specs.declared.rows.Rows.{Rows}
+
+-- what a role consumes itself, the roles below it left out
+abbrev pub Usage : Type 0
+Usage = Path × List Entry
+
+pub record Allowance : Type 0 where
+  pub limits : List LimitRow
+  pub used : List Usage
+
+-- by it a proof tells two of them apart
+abbrev pub allowance_code : Coded Allowance
+allowance_code =
+    code_by (List LimitRow × List Usage)
+    (coded× (coded_list limit.the_row.coded) (coded_list (coded× (coded_list (coded_list coded_ℕ)) (coded_list entry.the_row.coded))))
+    (λ a. (a.limits, a.used)) (λ p. record { limits = p.0; used = p.1 }) (λ _. refl)
+
+-- how much of a scalar is added to what the roles that pass a test consume
+abbrev pub counted : (Path → Bool) → Path → List Entry → Text → ℕ
+counted test role amounts label = if test role then amount_of amounts label else 0
+
+-- what the roles that pass a test consume of a scalar
+abbrev pub used_where : (Path → Bool) → List Usage → Text → ℕ
+used_where test used label = sum_by (λ u. counted test u.0 u.1 label) used
+
+-- what a role consumes of it itself
+abbrev pub used_by : List Usage → Path → Text → ℕ
+used_by used role label = used_where (same_path role) used label
+
+-- and together with the roles below it
+abbrev pub used_at : List Usage → Path → Text → ℕ
+used_at used role label = used_where (is_within role) used label
+
+-- a role consumes so much more, and with it the roles above it
+abbrev pub AreRaised : List Usage → List Usage → Path → List Entry → Type 0
+AreRaised old new role amounts =
+    (test : Path → Bool) (label : Text) → used_where test new label ≡ used_where test old label + counted test role amounts label
+
+pub record IsRaised (old new : Allowance) (role : Path) (amounts : List Entry) : Type 0 where
+  pub limits : new.limits ≡ old.limits
+  pub used : AreRaised old.used new.used role amounts
+
+-- the limits are the same, and each role consumes as much
+pub record IsSame (one other : Allowance) : Type 0 where
+  pub limits : other.limits ≡ one.limits
+  pub used : (test : Path → Bool) (label : Text) → used_where test other.used label ≡ used_where test one.used label
+
+-- limits and consumption are those of the rows
+pub record IsAllowanceOf (rows : Rows) (a : Allowance) : Type 0 where
+  pub limits : a.limits ≡ rows.limits
+  pub used : (test : Path → Bool) (label : Text) → used_where test a.used label ≡ consumption_where test rows label
+
+-- no role consumes 2^64 thousandths of a scalar
+pub record IsBounded (used : List Usage) : Type 0 where
+  pub below : (role : Path) (label : Text) → IsRole role → used_at used role label < 2 ^ 64
+
+-- the amounts of a role's own row
+abbrev pub row_of : List Usage → Path → List Entry
+row_of used role = option_map_or (λ amounts. amounts) (lookup (same_path role) used) []
+
+-- a limit as a row
+abbrev pub limit_row : Path × List Entry → LimitRow
+limit_row e = record { role = e.0; limit = e.1 }
+
+abbrev pub limit_rows : List (Path × List Entry) → List LimitRow
+limit_rows entries = map limit_row entries
+
+-- the least of some numbers and of one that may be known
+abbrev pub lesser : Option ℕ → ℕ → ℕ
+lesser None n = n
+lesser (Some m) n = min m n
+
+abbrev pub least_with : Option ℕ → List ℕ → Option ℕ
+least_with None ns = reduce min ns
+least_with (Some n) ns = Some (fold min n ns)
+
+-- what the limits leave, given what is known of the least
+abbrev pub headroom_from : Option ℕ → List LimitRow → Consumed → Path → Text → Option ℕ
+headroom_from known limits consumed role label =
+    least_with known (map (room_under consumed label) (filter (binds role label) limits))
+
+-- one more name among the headrooms
+abbrev pub with_headroom : List LimitRow → Consumed → Path → List Entry → Text → List Entry
+with_headroom limits consumed role room label =
+    with_amount room label (option_map_or (λ n. n) (headroom_under limits consumed role label) 0)

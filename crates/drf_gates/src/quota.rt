@@ -1,0 +1,234 @@
+//! Quota limits, and what roles consume (Mesos: quota limits).
+ghost use Rattle.std.specs.Prelude.{◌≡◌, ◌≢◌, ℕ, ◌+◌, ◌^◌, ◌<◌, ◌≤◌, [], ◌↔◌, true, IsTrue, fold, filter, length, OnOk, OnErr, IfOk};
+ghost use Rattle.std.specs.List.{list_all};
+ghost use Rattle.std.specs.Option.{option_copied};
+ghost use Rattle.drf_role.specs.Text.{Text};
+ghost use Rattle.drf_role.specs.Path.{Path};
+ghost use Rattle.drf_role.specs.Role.{IsRole};
+ghost use Rattle.drf_bundle.specs.Quantities.{amount_of, names_of};
+ghost use Rattle.drf_rows.specs.Quota.{is_within, binds, headroom_under, headrooms, stays_within, admits_under, limit_of, limits_with, consumption, headroom_at, headroom, admits};
+ghost use Rattle.drf_rows.specs.declared.rows.Rows.{Rows};
+ghost use Rattle.drf_gates.specs.Quota.{IsAllowanceOf, IsRaised, limit_row, lesser, used_at, used_by, with_headroom};
+
+use crate::usage::{is_within, lower, raise, used_at};
+use drf_bundle::{Entry, Quantities};
+use drf_role::Role;
+use drf_rows::{LimitRow, Table};
+use indexmap::IndexMap;
+use std::alloc::{AllocError, Global};
+use std::marker::Model;
+
+/// The limits of roles, in the order in which the roles got one, and what each role consumes, all in thousandths.
+#[derive(Drop)]
+pub struct Quota {
+    limits: IndexMap<Role, Quantities>,
+    // What each role consumes itself, the roles below it left out.
+    used: IndexMap<Role, Quantities>,
+}
+
+impl Model for Quota {
+    ghost use Rattle.drf_gates.specs.Quota.{Allowance, allowance_code, IsBounded, limit_rows};
+
+    ghost Value = { Allowance };
+
+    ghost coded = { allowance_code };
+
+    ghost view = { λ q. record { limits = limit_rows q.limits.entries; used = q.used.entries } };
+
+    ghost invariant = { λ q. IsBounded q.used.entries };
+}
+
+/// Whether the limit of a role is that of the other role or of one above it, and names the scalar.
+fn binds(limited: &Role, limit: &Quantities, role: &Role, label: &str) -> bool
+    ensures { result ≡ binds role.now label.now (limit_row (limited.now, limit.now)) }
+{
+    is_within(limited, role) && limit.is_named(label)
+}
+
+/// The lesser of a number and of one that may be known.
+fn lesser(known: Option<u64>, number: u64) -> u64
+    ensures { result ≡ lesser known number }
+{
+    match known {
+        None => number,
+        Some(other) => other.min(number),
+    }
+}
+
+impl Quota {
+    /// No limit, and nothing consumed.
+    pub fn new(alloc: Global) -> Quota
+        ensures { result ≡ record { limits = []; used = [] } }
+    {
+        Quota {
+            limits: IndexMap::new(alloc),
+            used: IndexMap::new(alloc),
+        }
+    }
+
+    /// Whether any role has a limit.
+    pub fn has_limits(&self) -> bool
+        ensures { IsTrue result ↔ (self.now.limits ≢ []) }
+    {
+        !self.limits.is_empty()
+    }
+
+    /// How many roles have a limit.
+    pub fn limit_count(&self) -> usize
+        ensures { result ≡ length self.now.limits }
+    {
+        self.limits.len()
+    }
+
+    /// The limits as rows, copied.
+    pub fn rows(&self) -> Result<Table<LimitRow>, AllocError>
+        ensures { IfOk result (λ rows. rows ≡ self.now.limits) }
+    {
+        let mut rows = Vec::with_capacity(*self.limits.allocator(), self.limits.len())?;
+        for (role, limit) in &self.limits {
+            rows.push(LimitRow {
+                role: role.copy()?,
+                limit: limit.copy()?,
+            })?;
+        }
+        Ok(Table::from_vec(rows))
+    }
+
+    /// The limit of a role, if it has one.
+    pub fn limit(&self, role: &Role) -> Option<&Quantities>
+        ensures { option_copied result ≡ limit_of self.now.limits role.now }
+    {
+        self.limits.get(role)
+    }
+
+    /// Gives a role a limit in the place of the one that it has, if any. A limit that names nothing takes the role's limit
+    /// away. An `Err` changes nothing.
+    pub fn set_limit(&mut self, role: Role, limit: Quantities) -> Result<(), AllocError>
+        ensures ok { OnOk result (self.new ≡ record self.old { limits = limits_with self.old.limits role limit }) }
+        ensures err { OnErr result (self.new ≡ self.old) }
+    {
+        if limit.entries().is_empty() {
+            self.limits.shift_remove(&role);
+            return Ok(());
+        }
+        self.limits.insert(role, limit)?;
+        Ok(())
+    }
+
+    /// What a role consumes of a scalar together with the roles below it, in thousandths.
+    pub fn consumption(&self, role: &Role, label: &str) -> u64
+        ensures value { result ≡ used_at self.now.used role.now label.now }
+        ensures of_rows { (rows : Rows) → IsAllowanceOf rows self.now → result ≡ consumption rows role.now label.now }
+    {
+        // The proof learns that it is a role by this call alone.
+        let _ = role.text();
+        used_at(&self.used, role, label)
+    }
+
+    /// What the limits of a role and of the roles above it leave of a scalar, in thousandths, if one of them names it.
+    pub fn headroom_at(&self, role: &Role, label: &str) -> Option<u64>
+        ensures value { result ≡ headroom_under self.now.limits (used_at self.now.used) role.now label.now }
+        ensures of_rows { (rows : Rows) → IsAllowanceOf rows self.now → result ≡ headroom_at rows role.now label.now }
+    {
+        let mut least = None;
+        for (limited, limit) in &self.limits {
+            if !binds(limited, limit, role, label) {
+                continue;
+            }
+            let used = self.consumption(limited, label);
+            let room = limit.get(label).saturating_sub(used);
+            least = Some(lesser(least, room));
+        }
+        least
+    }
+
+    /// The headroom of each scalar that a limit names, among those that are there.
+    fn add_headroom(
+        &self,
+        role: &Role,
+        limit: &Quantities,
+        room: &mut Quantities,
+    ) -> Result<(), AllocError>
+        ensures { OnOk result (room.new
+            ≡ fold (with_headroom self.now.limits (used_at self.now.used) role.now) room.old (names_of limit.now)) }
+    {
+        for entry in limit.entries() {
+            let left = self.headroom_at(role, entry.label.text()).unwrap_or(0);
+            room.set(entry.label.copy()?, left)?;
+        }
+        Ok(())
+    }
+
+    /// The headroom of a role, in thousandths: of the scalars that its limits and those of the roles above it name.
+    pub fn headroom(&self, role: &Role) -> Result<Quantities, AllocError>
+        ensures value { IfOk result (λ room. room ≡ headrooms self.now.limits (used_at self.now.used) role.now) }
+        ensures of_rows { IfOk result (λ room. (rows : Rows) → IsAllowanceOf rows self.now → room ≡ headroom rows role.now) }
+    {
+        let mut room = Quantities::empty(*self.limits.allocator());
+        for (limited, limit) in &self.limits {
+            if !is_within(limited, role) {
+                continue;
+            }
+            self.add_headroom(role, limit, &mut room)?;
+        }
+        Ok(room)
+    }
+
+    /// Whether a role may consume so much more under the limit of another.
+    fn stays_within(&self, limited: &Role, limit: &Quantities, more: &Entry) -> bool
+        ensures { result ≡ stays_within (used_at self.now.used) more.now (limit_row (limited.now, limit.now)) }
+    {
+        let label = more.label.text();
+        let used = self.consumption(limited, label);
+        let most = limit.get(label);
+        used <= most && more.amount.thousandths() <= most - used
+    }
+
+    /// Whether a role may consume so much more of a scalar.
+    fn admits_one(&self, role: &Role, more: &Entry) -> bool
+        ensures { result
+            ≡ list_all (stays_within (used_at self.now.used) more.now) (filter (binds role.now more.now.label) self.now.limits) }
+    {
+        for (limited, limit) in &self.limits {
+            if !binds(limited, limit, role, more.label.text()) {
+                continue;
+            }
+            if !self.stays_within(limited, limit, more) {
+                return false;
+            }
+        }
+        true
+    }
+
+    /// Whether a role may consume so much more: neither its limit nor that of a role above it would be exceeded.
+    pub fn admits(&self, role: &Role, amounts: &Quantities) -> bool
+        ensures value { result ≡ admits_under self.now.limits (used_at self.now.used) role.now amounts.now }
+        ensures of_rows { (rows : Rows) → IsAllowanceOf rows self.now → result ≡ admits rows role.now amounts.now }
+    {
+        for more in amounts.entries() {
+            if !self.admits_one(role, more) {
+                return false;
+            }
+        }
+        true
+    }
+
+    /// Raises what a role and the roles above it consume. An `Err` changes nothing.
+    pub fn consume(&mut self, role: &Role, amounts: &Quantities) -> Result<(), AllocError>
+        requires { (outer : Path) (label : Text) → IsRole outer → is_within outer role.now ≡ true
+            → used_at self.old.used outer label + amount_of amounts.now label < 2 ^ 64 }
+        ensures ok { OnOk result (IsRaised self.old self.new role.now amounts.now) }
+        ensures err { OnErr result (self.new ≡ self.old) }
+    {
+        let _ = role.text();
+        raise(&mut self.used, role, amounts)
+    }
+
+    /// Lowers what a role and the roles above it consume. A role releases no more than it consumed itself.
+    pub fn release(&mut self, role: &Role, amounts: &Quantities)
+        requires { (label : Text) → amount_of amounts.now label ≤ used_by self.old.used role.now label }
+        ensures { IsRaised self.new self.old role.now amounts.now }
+    {
+        lower(&mut self.used, role, amounts);
+    }
+}

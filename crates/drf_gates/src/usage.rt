@@ -1,0 +1,101 @@
+//! What roles consume, each by itself.
+ghost use Rattle.std.specs.Prelude.{◌≡◌, ◌+◌, ◌^◌, ◌<◌, ◌≤◌, [], true, IfOk, OnOk, OnErr};
+ghost use Rattle.drf_role.specs.Text.{Text};
+ghost use Rattle.drf_bundle.specs.Quantities.{amount_of};
+ghost use Rattle.drf_rows.specs.Quota.{is_within};
+ghost use Rattle.drf_gates.specs.Quota.{AreRaised, counted, used_at, used_by, row_of};
+
+use drf_bundle::Quantities;
+use drf_role::Role;
+use indexmap::IndexMap;
+use std::alloc::AllocError;
+
+/// Whether the role is the outer one or stands below it.
+pub(crate) fn is_within(outer: &Role, role: &Role) -> bool
+    ensures { result ≡ is_within outer.now role.now }
+{
+    role.is_within(outer)
+}
+
+/// How much of a scalar a role adds to what the outer one consumes, in thousandths.
+fn counted(outer: &Role, role: &Role, amounts: &Quantities, label: &str) -> u64
+    ensures { result ≡ counted (is_within outer.now) role.now amounts.now label.now }
+{
+    if is_within(outer, role) {
+        amounts.get(label)
+    } else {
+        0
+    }
+}
+
+/// What a role consumes of a scalar together with the roles below it, in thousandths.
+pub(crate) fn used_at(used: &IndexMap<Role, Quantities>, outer: &Role, label: &str) -> u64
+    requires { used_at used.now.entries outer.now label.now < 2 ^ 64 }
+    ensures { result ≡ used_at used.now.entries outer.now label.now }
+{
+    let mut sum = 0;
+    for (role, amounts) in used {
+        sum += counted(outer, role, amounts, label);
+    }
+    sum
+}
+
+/// What a role consumes itself, with so much more.
+fn row_with(
+    used: &IndexMap<Role, Quantities>,
+    role: &Role,
+    amounts: &Quantities,
+) -> Result<Quantities, AllocError>
+    requires { (label : Text) → amount_of (row_of used.now.entries role.now) label + amount_of amounts.now label < 2 ^ 64 }
+    ensures { IfOk result (λ sum. (label : Text) → amount_of sum label ≡ amount_of (row_of used.now.entries role.now) label + amount_of amounts.now label) }
+{
+    // The proof learns that the labels are in order by this call alone.
+    let _ = amounts.entries();
+    match used.get(role) {
+        Some(row) => row.plus(amounts),
+        None => amounts.copy(),
+    }
+}
+
+/// Adds to what a role consumes. An `Err` changes nothing.
+pub(crate) fn raise(
+    used: &mut IndexMap<Role, Quantities>,
+    role: &Role,
+    amounts: &Quantities,
+) -> Result<(), AllocError>
+    requires { (label : Text) → used_by used.old.entries role.now label + amount_of amounts.now label < 2 ^ 64 }
+    ensures ok { OnOk result (AreRaised used.old.entries used.new.entries role.now amounts.now) }
+    ensures err { OnErr result (used.new.entries ≡ used.old.entries) }
+{
+    let sum = row_with(used, role, amounts)?;
+    let role = role.copy()?;
+    used.insert(role, sum)?;
+    Ok(())
+}
+
+/// Takes amounts away, and forgets the labels that come to 0. Whether nothing is left.
+fn lower_row(row: &mut Quantities, amounts: &Quantities) -> bool
+    requires { (label : Text) → amount_of amounts.now label ≤ amount_of row.old label }
+    ensures left { (label : Text) → amount_of row.new label + amount_of amounts.now label ≡ amount_of row.old label }
+    ensures empty { result ≡ true → row.new ≡ [] }
+{
+    // The proof learns that the labels are in order by these calls alone.
+    let _ = amounts.entries();
+    let _ = row.entries();
+    row.lower(amounts);
+    row.remove_zeros();
+    row.entries().is_empty()
+}
+
+/// Takes away from what a role consumes. A role that consumes nothing more leaves. It needs no memory.
+pub(crate) fn lower(used: &mut IndexMap<Role, Quantities>, role: &Role, amounts: &Quantities)
+    requires { (label : Text) → amount_of amounts.now label ≤ used_by used.old.entries role.now label }
+    ensures { AreRaised used.new.entries used.old.entries role.now amounts.now }
+{
+    let Some(row) = used.get_mut(role) else {
+        return;
+    };
+    if lower_row(row, amounts) {
+        used.shift_remove(role);
+    }
+}

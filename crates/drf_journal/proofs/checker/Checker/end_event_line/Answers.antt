@@ -1,0 +1,19 @@
+use Rattle.std.proofs.Common.{◌≡◌, ◌+◌, subst}
+use Rattle.drf_core.specs.Machine.{live}
+use Rattle.drf_journal.specs.Checking.{Check, after_event_line}
+use Rattle.drf_journal.proofs.Checks.{event-line-is}
+use Rattle.drf_journal.proofs.checker.Checker.end_event_line.Goals as goal
+
+pub returns : goal.returns
+returns g c =
+    let inside = c.self.inside in
+    let old : Check = record { machine = live inside.core; line = inside.line; due = inside.due; events = inside.events } in
+    let new : Check = record {
+      machine = live c.answer_end.new.core;
+      line = c.clear.new.self;
+      due = c.of.result;
+      events = inside.events + 1;
+    } in
+    subst (λ (s : Check). new ≡ after_event_line s c.args.end.now) c.self.view_is
+    (event-line-is old c.args.end.now (live c.answer_end.new.core) c.clear.new.self c.in_ok-text.text.items c.of.result
+    c.in_ok-text.ensures.ok c.clear.ensures c.of.ensures c.in_ok-text.ensures.told)

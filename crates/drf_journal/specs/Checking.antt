@@ -1,0 +1,76 @@
+-- A check of a journal between two reads.
+use Rattle.std.specs.Prelude.{refl, ◌≡◌, ℕ, ◌+◌, ◌*◌, ◌<◌, Bool, true, false, List, [], ◌∷◌, ◌++◌, length, drop}
+use Rattle.std.specs.Coded.{Coded, code_by, coded×, coded_ℕ, coded_list}
+use Rattle.drf_core.specs.Machine.{Machine, machine_code, opened}
+use Rattle.drf_rows.specs.LimitNumbers.{LimitNumbers}
+use Rattle.drf_lines.specs.Meaning.{meaning_of}
+use Rattle.drf_journal.specs.declared.journal.Verdict.TheVariants.{Bad}
+use Rattle.drf_journal.specs.Journal.{event_lines, replies_due, replies_there, IsVerdict}
+use Rattle.drf_journal.specs.Lines.{ended_lines_of, open_line_of}
+use Rattle.drf_journal.specs.Output.{kept_of, reply_line_after}
+use Rattle.drf_journal.specs.State.{machine_after, machine_after_lines}
+
+-- a reply line that is due, if any is, and how many of its bytes have come
+pub record DueLine : Type 0 where
+  pub text : List ℕ
+  pub come : ℕ
+
+-- by it a proof tells two of them apart
+abbrev pub due_code : Coded DueLine
+due_code = code_by (List ℕ × ℕ) (coded× (coded_list coded_ℕ) coded_ℕ) (λ d. (d.text, d.come)) (λ p. record { text = p.0; come = p.1 }) (λ _. refl)
+
+-- these bytes of it have come
+pub record HasCome (due : DueLine) (bytes : List ℕ) : Type 0 where
+  pub text : due.text ≡ bytes ++ drop due.come due.text
+  pub count : due.come ≡ length bytes
+
+-- the allocator after the event lines so far, what is kept of an event line at hand, the reply line that is due, and the
+-- number of event lines
+pub record Check : Type 0 where
+  pub machine : Machine
+  pub line : List ℕ
+  pub due : DueLine
+  pub events : ℕ
+
+-- by it a proof tells two of them apart
+abbrev pub check_code : Coded Check
+check_code = code_by (Machine × (List ℕ × (DueLine × ℕ)))
+    (coded× machine_code (coded× (coded_list coded_ℕ) (coded× due_code coded_ℕ)))
+    (λ c. (c.machine, (c.line, (c.due, c.events))))
+    (λ p. record { machine = p.0; line = p.1.0; due = p.1.1.0; events = p.1.1.1 }) (λ _. refl)
+
+-- an event line has ended, the last of whose bytes are these: its event was taken, and its reply is due
+unfoldable pub after_event_line : Check → List ℕ → Check
+after_event_line check end = record {
+  machine = machine_after check.machine (meaning_of (check.line ++ end));
+  line = [];
+  due = record { text = reply_line_after check.machine.limits check.machine.rows (meaning_of (check.line ++ end)); come = 0 };
+  events = check.events + 1;
+}
+
+-- all replies are there, and an event line is at hand
+pub record ExpectsEvent (limits : LimitNumbers) (read : List ℕ) (check : Check) : Type 0 where
+  pub replies : replies_due limits (ended_lines_of read) ≡ replies_there (ended_lines_of read)
+  pub line : check.line ≡ kept_of (open_line_of read)
+
+-- one reply is not there yet, and its line is at hand
+pub record ExpectsReply (limits : LimitNumbers) (read : List ℕ) (check : Check) : Type 0 where
+  pub replies : replies_due limits (ended_lines_of read) ≡ replies_there (ended_lines_of read) ++ check.due.text ∷ []
+  pub line : check.line ≡ []
+  pub come : HasCome check.due (open_line_of read)
+
+-- the check stands so after these bytes, in which no reply line is wrong
+pub record IsCheckedTo (limits : LimitNumbers) (read : List ℕ) (check : Check) : Type 0 where
+  pub machine : check.machine ≡ machine_after_lines (opened limits) (event_lines (ended_lines_of read))
+  pub events : check.events ≡ length (event_lines (ended_lines_of read))
+  pub event : length check.due.text ≡ 0 → ExpectsEvent limits read check
+  pub reply : 0 < length check.due.text → ExpectsReply limits read check
+
+-- A check went over the next bytes, and tells whether they are right. If they are not, the reply line at hand is the
+-- first wrong one, whatever follows.
+pub record HasChecked (piece : List ℕ) (old new : Check) (right : Bool) : Type 0 where
+  pub goes_on : right ≡ true
+      → (limits : LimitNumbers) (read : List ℕ) → IsCheckedTo limits read old → IsCheckedTo limits (read ++ piece) new
+  pub wrong : right ≡ false
+      → (limits : LimitNumbers) (read more : List ℕ) → IsCheckedTo limits read old
+      → IsVerdict limits ((read ++ piece) ++ more) (Bad (2 * new.events))

@@ -1,0 +1,146 @@
+//! A check of a journal between two reads.
+ghost use Rattle.std.specs.Prelude.{◌≡◌, ℕ, ◌+◌, ◌*◌, ◌^◌, ◌<◌, ◌≤◌, [], ◌∷◌, ◌++◌, List, length, OnOk, IfOk};
+ghost use Rattle.drf_rows.specs.LimitNumbers.{LimitNumbers};
+ghost use Rattle.drf_journal.specs.Checking.{after_event_line, IsCheckedTo, HasChecked};
+ghost use Rattle.drf_journal.specs.Journal.{IsVerdict};
+ghost use Rattle.drf_journal.specs.State.{IsWithinLine};
+
+use crate::answer::answer_end;
+use crate::due::Due;
+use crate::journal::Verdict;
+use crate::open_line::{OpenLine, line_feed_in};
+use drf_core::Core;
+use drf_rows::Limits;
+use drf_sorter::Sorter;
+use std::alloc::{AllocError, Global};
+use std::marker::Model;
+
+/// A check of a journal between two reads.
+#[derive(Drop)]
+pub(crate) struct Checker<S: Sorter> {
+    core: Core<S>,
+    /// What is kept of an event line that is not whole yet.
+    line: OpenLine,
+    /// The reply line that has to come; none while an event line comes.
+    due: Due,
+    /// How many event lines have ended.
+    events: u64,
+}
+
+impl<S: Sorter> Model for Checker<S> {
+    ghost use Rattle.drf_core.specs.Machine.{live};
+    ghost use Rattle.drf_journal.specs.Checking.{Check, check_code};
+
+    ghost Value = { Check };
+
+    ghost coded = { check_code };
+
+    ghost view = { λ c. record {
+      machine = live c.core;
+      line = c.line;
+      due = c.due;
+      events = c.events;
+    } };
+}
+
+impl<S: Sorter> Checker<S> {
+    /// A check that has read nothing.
+    pub(crate) fn open(alloc: Global, limits: Limits) -> Result<Checker<S>, AllocError>
+        ensures { IfOk result (IsCheckedTo limits []) }
+    {
+        Ok(Checker {
+            core: Core::open(alloc, limits)?,
+            line: OpenLine::new(alloc),
+            due: Due::none(alloc),
+            events: 0,
+        })
+    }
+
+    /// The number of the reply line that is at hand, or was the last one.
+    pub(crate) fn reply_line(&self) -> u64
+        requires { self.now.events < 2 ^ 63 }
+        ensures { result ≡ 2 * self.now.events }
+    {
+        2 * self.events
+    }
+
+    /// The bytes end an event line: takes its event, after which its reply is due.
+    fn end_event_line(&mut self, alloc: Global, end: &[u8]) -> Result<(), AllocError>
+        requires { self.old.events + 1 < 2 ^ 63 }
+        ensures { OnOk result (self.new ≡ after_event_line self.old end.now) }
+    {
+        let text = answer_end(alloc, &mut self.core, false, &mut self.line, end)?;
+        self.line.clear();
+        self.due = Due::of(text);
+        self.events += 1;
+        Ok(())
+    }
+
+    /// The bytes end the line at hand. Tells whether it is right.
+    fn end_line(&mut self, alloc: Global, end: &[u8]) -> Result<bool, AllocError>
+        requires within { IsWithinLine end.now }
+        requires few { self.old.events + 1 < 2 ^ 63 }
+        ensures checked { IfOk result (HasChecked (end.now ++ 10 ∷ []) self.old self.new) }
+        ensures few { IfOk result (λ _. self.new.events ≤ self.old.events + 1) }
+    {
+        if self.due.is_none() {
+            self.end_event_line(alloc, end)?;
+            return Ok(true);
+        }
+        if !self.due.ends(end) {
+            return Ok(false);
+        }
+        self.due = Due::none(alloc);
+        Ok(true)
+    }
+
+    /// The bytes are of the line at hand, which does not end in them. Tells whether they are right.
+    fn go_on(&mut self, more: &[u8]) -> Result<bool, AllocError>
+        requires { IsWithinLine more.now }
+        ensures checked { IfOk result (HasChecked more.now self.old self.new) }
+        ensures few { IfOk result (λ _. self.new.events ≡ self.old.events) }
+    {
+        if self.due.is_none() {
+            self.line.keep(more)?;
+            return Ok(true);
+        }
+        Ok(self.due.takes(more))
+    }
+
+    /// Goes over the next piece of the journal, up to the first wrong line. Tells whether it is right.
+    pub(crate) fn take(&mut self, alloc: Global, piece: &[u8]) -> Result<bool, AllocError>
+        requires { self.old.events + length piece.now < 2 ^ 63 }
+        ensures checked { IfOk result (HasChecked piece.now self.old self.new) }
+        ensures few { IfOk result (λ _. self.new.events ≤ self.old.events + length piece.now) }
+    {
+        let mut rest = piece;
+        while let Some(at) = line_feed_in(rest) {
+            let right = self.end_line(alloc, &rest[..at])?;
+            if !right {
+                return Ok(false);
+            }
+            rest = &rest[at + 1..];
+        }
+        self.go_on(rest)
+    }
+
+    /// The journal ended.
+    pub(crate) fn verdict(&mut self) -> Verdict
+        requires { self.old.events + 1 < 2 ^ 63 }
+        ensures { (limits : LimitNumbers) (read : List ℕ) → IsCheckedTo limits read self.old → IsVerdict limits read result }
+    {
+        if !self.line.is_empty() {
+            return Verdict::Bad(2 * (self.events + 1));
+        }
+        if self.due.is_none() {
+            return Verdict::Good(self.events);
+        }
+        if !self.due.has_begun() {
+            return Verdict::Bad(2 * self.events);
+        }
+        if !self.due.ends(&[]) {
+            return Verdict::Bad(2 * self.events);
+        }
+        Verdict::Good(self.events)
+    }
+}

@@ -1,0 +1,88 @@
+//! The reply line that a journal has to have next.
+ghost use Rattle.std.specs.Prelude.{◌≡◌, ℕ, ◌<◌, List, [], ◌∷◌, ◌++◌, length, true, false, IsTrue, ◌↔◌};
+ghost use Rattle.drf_journal.specs.Checking.{HasCome};
+
+use std::alloc::Global;
+use std::marker::Model;
+
+/// A reply line that is due, and how many of its bytes have come. None is due while the text is empty.
+#[derive(Drop)]
+pub(crate) struct Due {
+    text: Vec<u8>,
+    come: usize,
+}
+
+impl Model for Due {
+    ghost use Rattle.std.specs.Prelude.{◌≤◌, length};
+    ghost use Rattle.drf_journal.specs.Checking.{DueLine, due_code};
+
+    ghost Value = { DueLine };
+
+    ghost coded = { due_code };
+
+    ghost view = { λ d. record { text = d.text.items; come = d.come } };
+
+    ghost invariant = { λ d. d.come ≤ length d.text.items };
+}
+
+impl Due {
+    /// Nothing is due.
+    pub(crate) fn none(alloc: Global) -> Due
+        ensures { result ≡ record { text = []; come = 0 } }
+    {
+        Due {
+            text: Vec::new(alloc),
+            come: 0,
+        }
+    }
+
+    /// This line is due.
+    pub(crate) fn of(text: Vec<u8>) -> Due
+        ensures { result ≡ record { text = text.items; come = 0 } }
+    {
+        Due { text, come: 0 }
+    }
+
+    /// Whether nothing is due.
+    pub(crate) fn is_none(&self) -> bool
+        ensures { IsTrue result ↔ (length self.now.text ≡ 0) }
+    {
+        self.text.is_empty()
+    }
+
+    /// Whether any of it has come.
+    pub(crate) fn has_begun(&self) -> bool
+        ensures { IsTrue result ↔ (0 < self.now.come) }
+    {
+        self.come > 0
+    }
+
+    /// Takes bytes that come next, and tells whether they are its own.
+    pub(crate) fn takes(&mut self, bytes: &[u8]) -> bool
+        ensures text { self.new.text ≡ self.old.text }
+        ensures right { result ≡ true → (line : List ℕ) → HasCome self.old line → HasCome self.new (line ++ bytes.now) }
+        ensures wrong { result ≡ false → (line : List ℕ) → HasCome self.old line
+            → (more : List ℕ) → ¬ (self.old.text ≡ line ++ (bytes.now ++ more)) }
+    {
+        if !self.text[self.come..].starts_with(bytes) {
+            return false;
+        }
+        self.come += bytes.len();
+        true
+    }
+
+    /// Takes bytes with which the line at hand ends, and tells whether it is the one that is due.
+    pub(crate) fn ends(&mut self, end: &[u8]) -> bool
+        ensures right { result ≡ true → (line : List ℕ) → HasCome self.old line → self.old.text ≡ line ++ (end.now ++ 10 ∷ []) }
+        ensures wrong { result ≡ false → (line : List ℕ) → HasCome self.old line
+            → ¬ (self.old.text ≡ line ++ (end.now ++ 10 ∷ [])) }
+    {
+        if !self.takes(end) {
+            return false;
+        }
+        if !self.takes(b"\n") {
+            return false;
+        }
+        self.come == self.text.len()
+    }
+}

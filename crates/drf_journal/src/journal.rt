@@ -1,0 +1,71 @@
+//! The check of a journal.
+ghost use Rattle.std.specs.Prelude.{◌≡◌, ◌≤◌, ◌^◌, [], false, IfOk, IfSome};
+ghost use Rattle.drf_rows.specs.LimitNumbers.{LimitNumbers};
+ghost use Rattle.drf_journal.specs.Checking.{IsCheckedTo};
+ghost use Rattle.drf_journal.specs.Device.{IsNew};
+ghost use Rattle.drf_journal.specs.Ended.{HasCause};
+ghost use Rattle.drf_journal.specs.Journal.{IsVerdict};
+
+use crate::checker::Checker;
+use crate::device::Device;
+use crate::engine::{CHUNK, MAX_READS, ProgramSorter};
+use crate::fault::RunFault;
+use drf_rows::Limits;
+use drf_sorter::Sorter;
+use std::alloc::Global;
+use std::io::Read;
+
+/// What is to be said of a journal.
+#[derive(Clone, Copy, Debug, PartialEq, Eq)]
+pub enum Verdict {
+    /// Each line is right, and there are so many event lines.
+    Good(u64),
+    /// The number of the first line that is wrong or missing, from 1.
+    Bad(u64),
+}
+
+/// Checks the lines of a reader's bytes, up to the first wrong one.
+fn check<S: Sorter, R: Read>(
+    alloc: Global,
+    checker: &mut Checker<S>,
+    reader: &mut Device<R>,
+) -> Result<Verdict, RunFault>
+    requires first { checker.old.events ≡ 0 }
+    requires reader { IsNew reader.old.calls reader.old.failed }
+    ensures verdict { IfOk result (λ verdict. (limits : LimitNumbers) → IsCheckedTo limits [] checker.old
+        → IfSome (R.remaining reader.old.inner) (λ journal. IsVerdict limits journal verdict)) }
+    ensures cause { HasCause result reader.new.failed reader.new.calls false }
+    ensures reads { reader.new.calls ≤ 2 ^ 40 }
+{
+    let mut buffer = vec![in alloc; 0u8; CHUNK]?;
+    let chunk = buffer.as_mut_slice();
+    for _turn in 0..MAX_READS {
+        let Ok(count) = reader.read(chunk) else {
+            return Err(RunFault::Read);
+        };
+        if count == 0 {
+            return Ok(checker.verdict());
+        }
+        let right = checker.take(alloc, &chunk[..count])?;
+        if !right {
+            return Ok(Verdict::Bad(checker.reply_line()));
+        }
+    }
+    Err(RunFault::Read)
+}
+
+/// Tells whether a journal is right, by the sorter that the program uses. It reads up to the first wrong line, and keeps
+/// of a line no more than a run does, and of a reply line no more than the right one has.
+pub fn verify<R: Read>(
+    alloc: Global,
+    limits: Limits,
+    reader: &mut Device<R>,
+) -> Result<Verdict, RunFault>
+    requires reader { IsNew reader.old.calls reader.old.failed }
+    ensures verdict { IfOk result (λ verdict. IfSome (R.remaining reader.old.inner) (λ journal. IsVerdict limits journal verdict)) }
+    ensures cause { HasCause result reader.new.failed reader.new.calls false }
+    ensures reads { reader.new.calls ≤ 2 ^ 40 }
+{
+    let mut checker = Checker::<ProgramSorter>::open(alloc, limits)?;
+    check(alloc, &mut checker, reader)
+}

@@ -1,0 +1,80 @@
+//! How a stream is cut into lines: what is kept of the line at hand, and where it ends.
+ghost use Rattle.std.specs.Prelude.{◌≡◌, ◌++◌, ◌<◌, [], length, take, slice_index, IsTrue, ◌↔◌, OnOk, IfSome, IfNone};
+ghost use Rattle.drf_journal.specs.Output.{kept_of};
+ghost use Rattle.drf_journal.specs.State.{IsWithinLine};
+
+use std::alloc::{AllocError, Global};
+use std::marker::Model;
+
+/// How many bytes of a line are kept: one more than it may have, so that one that is too long is told from the longest.
+const KEPT: usize = 65_537;
+
+/// Adds bytes of a line, as far as they are kept.
+pub(crate) fn keep(line: &mut Vec<u8>, more: &[u8]) -> Result<(), AllocError>
+    ensures { OnOk result (line.new.items ≡ kept_of (line.old.items ++ more.now)) }
+{
+    line.extend_from_slice(more)?;
+    line.truncate(KEPT);
+    Ok(())
+}
+
+/// What is kept of the line at hand, which comes in pieces.
+#[derive(Drop)]
+pub(crate) struct OpenLine {
+    kept: Vec<u8>,
+}
+
+impl Model for OpenLine {
+    ghost use Rattle.std.specs.Prelude.{ℕ, List};
+
+    ghost Value = { List ℕ };
+
+    ghost view = { λ l. l.kept.items };
+}
+
+impl OpenLine {
+    /// Nothing of a line.
+    pub(crate) fn new(alloc: Global) -> OpenLine
+        ensures { result ≡ [] }
+    {
+        OpenLine {
+            kept: Vec::new(alloc),
+        }
+    }
+
+    /// Whether nothing is kept.
+    pub(crate) fn is_empty(&self) -> bool
+        ensures { IsTrue result ↔ (length self.now ≡ 0) }
+    {
+        self.kept.is_empty()
+    }
+
+    /// The bytes that are kept.
+    pub(crate) fn bytes(&self) -> &[u8]
+        ensures { result.now ≡ self.now }
+    {
+        &self.kept
+    }
+
+    /// Adds bytes of the line, as far as they are kept.
+    pub(crate) fn keep(&mut self, more: &[u8]) -> Result<(), AllocError>
+        ensures { OnOk result (self.new ≡ kept_of (self.old ++ more.now)) }
+    {
+        keep(&mut self.kept, more)
+    }
+
+    /// The next line begins.
+    pub(crate) fn clear(&mut self)
+        ensures { self.new ≡ [] }
+    {
+        self.kept.clear();
+    }
+}
+
+/// Where the first line feed stands.
+pub(crate) fn line_feed_in(bytes: &[u8]) -> Option<usize>
+    ensures found { IfSome result (λ at. (at < length bytes.now) × (slice_index bytes.now at ≡ 10) × IsWithinLine (take at bytes.now)) }
+    ensures none { IfNone result (IsWithinLine bytes.now) }
+{
+    bytes.iter().position(|b| *b == b'\n')
+}

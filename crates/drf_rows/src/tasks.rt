@@ -1,0 +1,275 @@
+//! Tasks that are started with parts of one offer.
+ghost use Rattle.std.specs.Prelude.{◌≡◌, ◌≤◌, length, true, not, is_some, IfOk};
+ghost use Rattle.std.specs.List.{list_all, list_any, AllByRecursion};
+ghost use Rattle.std.specs.Option.{SomeIff};
+ghost use Rattle.drf_role.specs.Text.{same_text};
+ghost use Rattle.drf_bundle.specs.Bundle.{IsBundle, covers, join, key_of, units};
+ghost use Rattle.drf_bundle.specs.Taken.{rest_of_all};
+ghost use Rattle.drf_bundle.specs.Value.{Thousandths, units_in};
+ghost use Rattle.drf_rows.specs.Consistent.{are_distinct};
+ghost use Rattle.drf_rows.specs.Offers.{is_empty};
+ghost use Rattle.drf_rows.specs.TaskLaws.{are_apart, is_enough};
+ghost use Rattle.drf_rows.specs.Tasks.{IsTaskList, names_of, uses, covers_all};
+
+use drf_amount::Algebra;
+use drf_bundle::{Bundle, Resource, Value};
+use drf_role::Name;
+use std::alloc::{AllocError, Global};
+use std::marker::Model;
+
+/// The most tasks that one accept may start.
+pub const MOST_TASKS: usize = 16;
+
+/// The tasks that an accept starts, 1 to 16, each with its name and what it uses of the offer.
+#[derive(Debug, Drop)]
+pub struct TaskList {
+    tasks: Vec<(Name, Bundle)>,
+}
+
+impl Model for TaskList {
+    ghost use Rattle.std.specs.Prelude.{List};
+    ghost use Rattle.drf_rows.specs.Tasks.{Start, IsTaskList};
+
+    ghost Value = { List Start };
+
+    ghost use Rattle.std.specs.Coded.{coded×, coded_ℕ, coded_list};
+    ghost use Rattle.drf_bundle.specs.contracts.resource.Resource as resource;
+
+    ghost coded = { coded_list (coded× (coded_list coded_ℕ) (coded_list resource.the_row.coded)) };
+
+    ghost view = { λ l. l.tasks.items };
+
+    ghost invariant = { λ l. IsTaskList l.tasks.items };
+}
+
+/// The proof learns by this call alone that what tasks use are bundles.
+fn recall(tasks: &[(Name, Bundle)])
+    ensures { AllByRecursion IsBundle (uses tasks.now) }
+{
+    for task in tasks {
+        let _ = task.1.quantities();
+    }
+}
+
+/// Whether no task has the name.
+fn is_new(name: &Name, tasks: &[(Name, Bundle)]) -> bool
+    ensures { result ≡ list_all (λ s. not (same_text name.now s.0)) tasks.now }
+{
+    for task in tasks {
+        if *name == task.0 {
+            return false;
+        }
+    }
+    true
+}
+
+/// Whether no name stands twice.
+fn are_distinct(tasks: &[(Name, Bundle)]) -> bool
+    ensures { result ≡ are_distinct (names_of tasks.now) }
+{
+    let Some((first, others)) = tasks.split_first() else {
+        return true;
+    };
+    is_new(&first.0, others) & are_distinct(others)
+}
+
+/// Whether a bundle has nothing in it.
+fn is_empty(bundle: &Bundle) -> bool
+    ensures { result ≡ is_empty bundle.now }
+{
+    bundle.is_empty()
+}
+
+/// Whether a task uses nothing.
+fn has_empty(tasks: &[(Name, Bundle)]) -> bool
+    ensures { result ≡ list_any (λ s. is_empty s.1) tasks.now }
+{
+    for task in tasks {
+        if is_empty(&task.1) {
+            return true;
+        }
+    }
+    false
+}
+
+/// Whether a bundle covers another.
+fn covers(whole: &Bundle, part: &Bundle) -> bool
+    ensures { result ≡ covers whole.now part.now }
+{
+    whole.covers(part)
+}
+
+/// Whether a bundle covers what each task uses.
+fn covers_each(whole: &Bundle, tasks: &[(Name, Bundle)]) -> bool
+    ensures { result ≡ list_all (λ s. covers whole.now s.1) tasks.now }
+{
+    for task in tasks {
+        if !covers(whole, &task.1) {
+            return false;
+        }
+    }
+    true
+}
+
+/// Whether two bundles have a join.
+fn have_join(part: &Bundle, other: &Bundle) -> bool
+    ensures { result ≡ is_some (join part.now other.now) }
+{
+    part.disjoint(other)
+}
+
+/// Whether a bundle has a join with what each task uses.
+fn is_apart(part: &Bundle, tasks: &[(Name, Bundle)]) -> bool
+    ensures { result ≡ list_all (λ s. is_some (join part.now s.1)) tasks.now }
+{
+    for task in tasks {
+        if !have_join(part, &task.1) {
+            return false;
+        }
+    }
+    true
+}
+
+/// Whether each two of what the tasks use have a join.
+fn are_apart(tasks: &[(Name, Bundle)]) -> bool
+    ensures { result ≡ are_apart (uses tasks.now) }
+{
+    let Some((first, others)) = tasks.split_first() else {
+        return true;
+    };
+    is_apart(&first.1, others) & are_apart(others)
+}
+
+/// The thousandths of a value, if it is a scalar.
+fn thousandths(value: &Value) -> u64
+    ensures { result ≡ units_in value.now Thousandths }
+{
+    match value {
+        Value::Scalar(scalar) => scalar.thousandths(),
+        Value::Ranges(_) => 0,
+        Value::Items(_) => 0,
+    }
+}
+
+/// The thousandths of a scalar that a bundle has under a resource's name and reservation.
+fn scalar_in(bundle: &Bundle, resource: &Resource) -> u64
+    ensures { result ≡ units bundle.now (key_of resource.now) Thousandths }
+{
+    // The proof learns by this call alone that it is a bundle.
+    let _ = bundle.quantities();
+    match bundle.get(&resource.label, &resource.role) {
+        Some(value) => thousandths(value),
+        None => 0,
+    }
+}
+
+/// Whether a bundle has enough of a scalar for all tasks.
+fn is_enough(whole: &Bundle, tasks: &[(Name, Bundle)], resource: &Resource) -> bool
+    ensures { result ≡ is_enough whole.now (uses tasks.now) resource.now }
+{
+    let mut left = scalar_in(whole, resource);
+    for task in tasks {
+        let Some(rest) = left.checked_sub(scalar_in(&task.1, resource)) else {
+            return false;
+        };
+        left = rest;
+    }
+    true
+}
+
+/// Whether a bundle has enough of each of some scalars for all tasks.
+fn has_enough(whole: &Bundle, tasks: &[(Name, Bundle)], resources: &[Resource]) -> bool
+    ensures { result ≡ list_all (is_enough whole.now (uses tasks.now)) resources.now }
+{
+    for resource in resources {
+        if !is_enough(whole, tasks, resource) {
+            return false;
+        }
+    }
+    true
+}
+
+impl TaskList {
+    /// The list of those tasks, where they are 1 to 16. It needs no memory.
+    pub fn new(tasks: Vec<(Name, Bundle)>) -> Option<TaskList>
+        ensures { SomeIff result ((1 ≤ length tasks.items) × (length tasks.items ≤ 16)) tasks.items }
+    {
+        recall(&tasks);
+        if tasks.is_empty() || MOST_TASKS < tasks.len() {
+            return None;
+        }
+        Some(TaskList { tasks })
+    }
+
+    /// The tasks, in their order.
+    pub fn as_slice(&self) -> &[(Name, Bundle)]
+        ensures value { result.now ≡ self.now }
+        ensures right { IsTaskList self.now }
+    {
+        self.tasks.as_slice()
+    }
+
+    pub fn into_vec(self) -> Vec<(Name, Bundle)>
+        ensures value { result.items ≡ self }
+        ensures right { IsTaskList self }
+    {
+        let TaskList { tasks } = self;
+        tasks
+    }
+
+    pub fn copy(&self) -> Result<TaskList, AllocError>
+        ensures { IfOk result (λ copy. copy ≡ self.now) }
+    {
+        let mut tasks = Vec::with_capacity(*self.tasks.allocator(), self.tasks.len())?;
+        for task in &self.tasks {
+            tasks.push((task.0.copy()?, task.1.copy()?))?;
+        }
+        Ok(TaskList { tasks })
+    }
+
+    /// Whether a task uses nothing.
+    pub fn has_empty(&self) -> bool
+        ensures { result ≡ list_any is_empty (uses self.now) }
+    {
+        has_empty(&self.tasks)
+    }
+
+    /// Whether no two tasks have one name.
+    pub fn are_distinct(&self) -> bool
+        ensures { result ≡ are_distinct (names_of self.now) }
+    {
+        are_distinct(&self.tasks)
+    }
+
+    /// Whether what the tasks use has a join that the bundle covers. It needs no memory: each part is covered, each two
+    /// parts have a join, and of each scalar there is enough for all.
+    pub fn are_covered_by(&self, whole: &Bundle) -> bool
+        ensures { result ≡ covers_all whole.now (uses self.now) }
+    {
+        let tasks = self.tasks.as_slice();
+        covers_each(whole, tasks) & are_apart(tasks) & has_enough(whole, tasks, whole.entries())
+    }
+
+    /// Whether anything is left of a bundle that covers what the tasks use. It needs no memory.
+    pub fn leave_any_of(&self, whole: &Bundle) -> bool
+        requires { covers_all whole.now (uses self.now) ≡ true }
+        ensures { result ≡ not (is_empty (rest_of_all whole.now (uses self.now))) }
+    {
+        let mut left = whole.amount();
+        for task in &self.tasks {
+            left = left.saturating_sub(task.1.amount());
+        }
+        0 < left
+    }
+
+    /// What is left of a bundle without what the tasks use.
+    pub fn rest_of(&self, whole: &Bundle) -> Result<Bundle, AllocError>
+        ensures { IfOk result (λ rest. rest ≡ rest_of_all whole.now (uses self.now)) }
+    {
+        let mut rest = whole.copy()?;
+        for task in &self.tasks {
+            rest = rest.rest(&task.1)?;
+        }
+        Ok(rest)
+    }
+}

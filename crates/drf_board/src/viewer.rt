@@ -69,7 +69,8 @@ impl<K: Naming> Viewer<K> {
     }
 
     /// The sheet of a legal list with which the history begins, and which begins with all that this viewer saw before and all that it
-    /// learnt: what it reads never goes back. It waits for nobody. `Closed` is for a board that is gone.
+    /// learnt: what it reads never goes back. It waits for nobody. `Closed` is for a board that is gone,
+    /// and for a sheet older than what was seen, which no board shows.
     pub fn read(&mut self) -> Result<Sheet, ViewFault>
         ensures later { IsPrefix self.old self.new }
         ensures legal { IsLegal K.slate.limits self.new }

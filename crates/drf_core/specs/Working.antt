@@ -28,7 +28,8 @@ abbrev pub losers : Rows → Ending → List Client
 losers rows ending =
     offered_to (filter (ends_offer ending) rows.offers) ++ map (λ t. (of_task t).client) (filter (ends_task ending) rows.tasks)
 
--- the client of each offer and task that an event adds or ends, and each client that it adds, changes or removes
+-- The client of each offer that an event adds, of each offer and task that it ends, and each client that it adds, changes or
+-- removes. An accepted offer and its tasks are one client's, which stands once.
 abbrev pub touched : Rows → Event → List Client
 touched rows (AddAgent agent total) = []
 touched rows (RemoveAgent agent) = []

@@ -55,8 +55,9 @@ impl<S: Sorter> Core<S> {
     }
 
     /// Takes one event, whole or not at all. A refusal is a reply; a refused event changes nothing, nor does want of
-    /// memory, which no refused event meets. However it ends, nothing is granted twice. A sorter whose work is counted owes
-    /// no more for it than the nodes of the clients that it touches, but where the total of the cluster changes.
+    /// memory, which no refused event meets. However it ends, nothing is granted twice. At `Ok`, a sorter whose work is
+    /// counted owes no more for it than the nodes of the clients that it touches, and one for a weight, but where the total
+    /// of the cluster changes.
     pub fn step(&mut self, event: Event) -> Result<Reply, AllocError>
         ensures reply { IfOk result (λ reply. reply ≡ reply_to self.old.limits self.old.rows event) }
         ensures ok { OnOk result (IsAfter self.old self.new event) }

@@ -1,8 +1,8 @@
 //! The reader of a line.
-ghost use Rattle.std.specs.Prelude.{◌≡◌};
+ghost use Rattle.std.specs.Prelude.{◌≡◌, ◌≤◌, length, IsErrOf};
 ghost use Rattle.serde_json.specs.View.{view};
 ghost use Rattle.drf_lines.specs.Fault.{IsReadAs, IsReadOf};
-ghost use Rattle.drf_lines.specs.Meaning.{value_in, cycle_event, report_event, event_in, meaning_of};
+ghost use Rattle.drf_lines.specs.Meaning.{value_in, cycle_event, report_event, event_in, meaning_of, longest_line};
 
 use crate::agents::{read_agent, read_its_agent};
 use crate::fault::{LineError, LineFault};
@@ -87,7 +87,8 @@ const LONGEST_LINE: usize = 65_536;
 
 /// Reads a line, which is an event or has a fault. All shapes are looked at before any text.
 pub fn read_event(alloc: Global, line: &[u8]) -> Result<Event, LineError>
-    ensures { IsReadOf result (meaning_of line.now) }
+    ensures read { IsReadOf result (meaning_of line.now) }
+    ensures memory { IsErrOf result LineError.Memory → length line.now ≤ longest_line }
 {
     if line.len() > LONGEST_LINE {
         return Err(LineError::Fault(LineFault::LineTooLong));

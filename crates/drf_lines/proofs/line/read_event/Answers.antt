@@ -4,13 +4,13 @@ use Rattle.std.proofs.lemmas.Result.{err_from_is_err_and}
 use Rattle.drf_lines.proofs.Meanings.{meaning_refused, meaning_read, meaning_long}
 use Rattle.drf_lines.proofs.line.read_event.Goals as goal
 
-pub returns-then-line-gt-LONGEST_LINE : goal.returns-then-line-gt-LONGEST_LINE
-returns-then-line-gt-LONGEST_LINE c = rw (meaning_long c.args.line.now (grind (arith, nat_tests)))
+pub returns-then-line-gt-LONGEST_LINE-clause-read : goal.returns-then-line-gt-LONGEST_LINE-clause-read
+returns-then-line-gt-LONGEST_LINE-clause-read c = rw (meaning_long c.args.line.now (grind (arith, nat_tests)))
 
-pub returns-in_err-value : goal.returns-in_err-value
-returns-in_err-value c =
+pub returns-in_err-value-clause-read : goal.returns-in_err-value-clause-read
+returns-in_err-value-clause-read c =
     let p = err_from_is_err_and c.from_residual.result c.from_residual.ensures.1 in
     rw (p.1, p.2) (meaning_refused _ c.args.line.now (grind (arith, nat_tests)) c.in_err-value.ensures)
 
-pub returns : goal.returns
-returns c = rw (meaning_read c.args.line.now _ (grind (arith, nat_tests)) c.in_ok-value.ensures) c.read_object.ensures
+pub returns-clause-read : goal.returns-clause-read
+returns-clause-read c = rw (meaning_read c.args.line.now _ (grind (arith, nat_tests)) c.in_ok-value.ensures) c.read_object.ensures

@@ -1,6 +1,6 @@
-use Rattle.std.proofs.Common.{◌≡◌, true, false, map, ap, subst, ◌∙◌, sym, refl, codes}
+use Rattle.std.proofs.Common.{◌≡◌, true, false, map, ap, subst, ◌∙◌, sym, refl, codes, Some, is_some, true≢false}
 use Rattle.std.proofs.lemmas.Bool.{false≢true}
-use Rattle.clap.specs.Words.{App, IsParsedFrom, HasKind, fault_of, found_of, is_simple, is_simple_and_free, rows_of, subcommand_of}
+use Rattle.clap.specs.Words.{App, IsParsedFrom, HasKind, fault_of, found_of, is_simple, is_simple_and_free, rows_of, subcommand_name_of, subcommand_of}
 use Rattle.clap.specs.declared.parser.matches.ArgMatches.TheViews.{out-ArgMatches}
 use Rattle.clap.proofs.CallerLemmas.{subcommand_required}
 use Rattle.clap.proofs.WalkLemmas.{one_text-rows}
@@ -27,7 +27,10 @@ unreachable-requires g c =
     let has = subcommand_required c.in_ok-line.line c.in_ok-matches.matches parsed (local c.in_ok-line.line (ap (λ (a : App). a.top.is_plain) form))
     (ap (λ (a : App). a.top.subcommand_required) form) in
     let rows = (ok.2 (ap is_simple form)).1 ∙ ap (λ (a : App). subcommand_of a words) form in
-    let named = is_run (out-ArgMatches c.in_ok-matches.matches).subcommand words has rows in
+    let not_check : subcommand_name_of c.in_ok-matches.matches ≡ Some (codes "check") → ⊥ =
+    λ named. let some : is_some c.subcommand_matches.result ≡ true = c.subcommand_matches.ensures.found.1 named in
+    let bad : true ≡ false = cc in absurd (true≢false bad) in
+    let named = is_run (out-ArgMatches c.in_ok-matches.matches).subcommand words has rows not_check in
     let bad : false ≡ true = c.in_default.ensures.found.1 named in
     absurd (false≢true bad)
 

@@ -25,11 +25,7 @@ fn verdict_line(alloc: Global, verdict: Verdict) -> Result<String, AllocError>
 }
 
 /// Writes what is said of a journal.
-fn say<W: Write>(
-    alloc: Global,
-    verdict: Verdict,
-    output: &mut Device<W>,
-) -> Result<(), RunFault>
+fn say<W: Write>(alloc: Global, verdict: Verdict, output: &mut Device<W>) -> Result<(), RunFault>
     requires { output.old.failed ≡ false }
     ensures said { IsSaid verdict result (W.contents output.old.inner) (W.contents output.new.inner) output.new.failed }
 {

@@ -1,5 +1,5 @@
 -- What a command has read, written and told, and its status.
-use Rattle.std.specs.Prelude.{◌≡◌, ℕ, Bool, ◌⊎◌, List, Option, Result, OnOk, is_err}
+use Rattle.std.specs.Prelude.{◌≡◌, ℕ, Bool, ◌⊎◌, List, Option, Result, OnOk, IfErr, is_err}
 use Rattle.std.specs.Io.KnownBytes.{IsAtEnd}
 use Rattle.clap.specs.Words.{kind_of}
 use Rattle.clap.specs.declared.error.Error.{Error}
@@ -10,7 +10,7 @@ use Rattle.drf_journal.specs.Ended.{HasAnswered, HasCause}
 use Rattle.drf_journal.specs.declared.device.Device.{Device}
 use Rattle.drf_journal.specs.declared.fault.RunFault.{RunFault}
 use Rattle.drf_journal.specs.declared.journal.Verdict.{Verdict}
-use Rattle.drf_journal.specs.declared.fault.RunFault.TheVariants.{Memory}
+use Rattle.drf_journal.specs.declared.fault.RunFault.TheVariants.{Write, Memory}
 use Rattle.drf_app.specs.Line.{Asks, IsRefused}
 use Rattle.drf_app.specs.Told.{IsTold, IsToldOf, fault_line, status_of}
 use Rattle.drf_app.specs.Verdicts.{IsJudged, check_status}
@@ -62,6 +62,7 @@ pub record HasShown (old new : Streams) (answer : ℕ) : Type 0 where
   pub text : List ℕ
   pub input : new.input ≡ old.input
   pub shown : IsTold text old.output.bytes new.output.bytes new.output.failed
+  pub fault : IfErr ended (λ fault. fault ≡ Write)
   pub cause : new.output.failed ≡ is_err ended
   pub status : answer ≡ status_of ended
   pub told : IsToldOf ended old.errors.bytes new.errors.bytes new.errors.failed

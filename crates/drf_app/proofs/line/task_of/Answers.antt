@@ -63,7 +63,8 @@ returns-then-is_some g c =
     let form = c.in_ok-line.ensures in
     let rows = (c.in_ok-matches.ensures.ok.2 (ap is_simple form)).1 ∙ ap (λ (a : App). subcommand_of a words) form in
     let right = c.in_ok-matches.ensures.kinds (ap is_simple_and_free form) in
-    let named : subcommand_name_of c.in_ok-matches.matches ≡ Some (codes "check") = c.subcommand_matches.ensures.found.0 ? in
+    let entered : is_some c.subcommand_matches.result ≡ true = cc in
+    let named : subcommand_name_of c.in_ok-matches.matches ≡ Some (codes "check") = c.subcommand_matches.ensures.found.0 entered in
     let some = entered_some (out-ArgMatches c.in_ok-matches.matches).subcommand (codes "check") named in
     record {
       right = ap (λ (a : App). fault_of a words) (sym form) ∙ right;

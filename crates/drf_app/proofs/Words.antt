@@ -53,13 +53,21 @@ module _ {Z : Type 0} where
       let same_rows : rows_of (found_of (out-SubCommand (box_value b)).matches) ≡ rows = cc in
       λ i. Some (same_name i, same_rows i)
 
-  -- the command that was entered is `run`
+  -- a command of that name was entered
+  pub entered_some : (o : Option (Box SubCommand Z)) (name : Text) → name_in o ≡ Some name
+      → (rows : List Row) × (subcommand_rows o ≡ Some (name, rows))
+  entered_some None name named = cc
+  entered_some (Some b) name named =
+      let same_name : (out-SubCommand (box_value b)).name.now ≡ name = cc in
+      (rows_of (found_of (out-SubCommand (box_value b)).matches), (λ i. Some (same_name i, rows_of (found_of (out-SubCommand (box_value b)).matches))))
+
+  -- the command that was entered is `run`, if it is not `check`
   pub is_run : (o : Option (Box SubCommand Z)) (words : List Text) → is_some o ≡ true
-      → subcommand_rows o ≡ subcommand_of drf_line words → name_in o ≡ Some (codes "run")
-  is_run None words some e = cc
-  is_run (Some b) words some e =
+      → subcommand_rows o ≡ subcommand_of drf_line words → (name_in o ≡ Some (codes "check") → ⊥) → name_in o ≡ Some (codes "run")
+  is_run None words some e not_check = cc
+  is_run (Some b) words some e not_check =
       let among = entered_among (built drf_line).subs _ (stop_after (built drf_line).top.rules (names_of (built drf_line)) (argument_words drf_line words)) (sym e) in
-      ap Some (⊎_elim (λ named. named) (λ none. absurd none) among)
+      ap Some (⊎_elim (λ named. named) (λ later. absurd (⊎_elim (λ named. not_check (ap Some named)) (λ none. absurd none) later)) among)
 
 no_globals : (a b c rest : Bool) → a && (not b && (not c && rest)) ≡ true → c ≡ false
 no_globals a b false rest plain = refl

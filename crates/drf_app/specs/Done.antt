@@ -1,5 +1,5 @@
 -- What a command has read, written and told, and its status.
-use Rattle.std.specs.Prelude.{◌≡◌, ℕ, Bool, ◌⊎◌, List, Option, Result, OnOk, is_err}
+use Rattle.std.specs.Prelude.{◌≡◌, ℕ, Bool, ◌⊎◌, List, Option, Result, OnOk, IfErr, is_err}
 use Rattle.std.specs.Io.KnownBytes.{IsAtEnd}
 use Rattle.clap.specs.Words.{kind_of}
 use Rattle.clap.specs.declared.error.Error.{Error}
@@ -9,11 +9,13 @@ use Rattle.drf_rows.specs.LimitNumbers.{ceilings}
 use Rattle.drf_journal.specs.Ended.{HasAnswered, HasCause}
 use Rattle.drf_journal.specs.declared.device.Device.{Device}
 use Rattle.drf_journal.specs.declared.fault.RunFault.{RunFault}
-use Rattle.drf_journal.specs.declared.fault.RunFault.TheVariants.{Memory}
+use Rattle.drf_journal.specs.declared.journal.Verdict.{Verdict}
+use Rattle.drf_journal.specs.declared.fault.RunFault.TheVariants.{Write, Memory}
 use Rattle.drf_app.specs.Line.{Asks, IsRefused}
 use Rattle.drf_app.specs.Told.{IsTold, IsToldOf, fault_line, status_of}
+use Rattle.drf_app.specs.Verdicts.{IsJudged, check_status}
 use Rattle.drf_app.specs.declared.line.Task.{Task}
-use Rattle.drf_app.specs.declared.line.Task.TheVariants.{Run}
+use Rattle.drf_app.specs.declared.line.Task.TheVariants.{Run, Check}
 
 -- a stream: what is still to be read or what was written, where that is known, how often it was called, and whether it failed
 pub record Stream : Type 0 where
@@ -39,6 +41,14 @@ pub record HasRun (echo : Bool) (old new : Streams) (answer : ℕ) : Type 0 wher
   pub status : answer ≡ status_of ended
   pub told : IsToldOf ended old.errors.bytes new.errors.bytes new.errors.failed
 
+-- a check of a journal within the full limits
+pub record HasChecked (old new : Streams) (answer : ℕ) : Type 0 where
+  pub ended : Result Verdict RunFault
+  pub judged : IsJudged old.input.bytes ended old.output.bytes new.output.bytes
+  pub cause : HasCause ended new.input.failed new.input.calls new.output.failed
+  pub status : answer ≡ check_status ended
+  pub told : IsToldOf ended old.errors.bytes new.errors.bytes new.errors.failed
+
 -- memory ran out before anything was written
 pub record HasNoMemory (old new : Streams) (answer : ℕ) : Type 0 where
   pub input : new.input ≡ old.input
@@ -52,6 +62,7 @@ pub record HasShown (old new : Streams) (answer : ℕ) : Type 0 where
   pub text : List ℕ
   pub input : new.input ≡ old.input
   pub shown : IsTold text old.output.bytes new.output.bytes new.output.failed
+  pub fault : IfErr ended (λ fault. fault ≡ Write)
   pub cause : new.output.failed ≡ is_err ended
   pub status : answer ≡ status_of ended
   pub told : IsToldOf ended old.errors.bytes new.errors.bytes new.errors.failed
@@ -74,6 +85,7 @@ HasRefused mistake old new answer = HasExplained old new answer ⊎ HasNoMemory 
 -- what is done for a task
 abbrev pub HasDone : Task → Streams → Streams → ℕ → Type 0
 HasDone (Run echo) old new answer = HasRun echo old new answer
+HasDone Check old new answer = HasChecked old new answer
 
 -- what the words ask for was done, or they were refused
 abbrev pub HasObeyed : List (List ℕ) → Streams → Streams → ℕ → Type 0

@@ -1,3 +1,4 @@
 pub mod Line
 pub mod Told
+pub mod Verdicts
 pub mod Done

@@ -11,6 +11,10 @@ fault_line Read = codes "drf: read fault" ++ 10 ∷ []
 fault_line Write = codes "drf: write fault" ++ 10 ∷ []
 fault_line Memory = codes "drf: out of memory" ++ 10 ∷ []
 
+-- the line that tells of a word that is no text
+abbrev pub no_text_line : List ℕ
+no_text_line = codes "drf: a word of the command line is not UTF-8" ++ 10 ∷ []
+
 -- a text was written to a device: all of it, or a front of it where the device failed
 abbrev pub IsTold : List ℕ → Option (List ℕ) → Option (List ℕ) → Bool → Type 0
 IsTold text old new false = Appends old new text

@@ -1,6 +1,7 @@
 //! The command line: what its words ask for, what a command reads, writes and tells, and its status.
 #![tactic(auto)]
 
+mod check;
 mod line;
 mod refusal;
 mod tasks;

@@ -1,7 +1,7 @@
 //! The words of the command line, and what they ask for.
 ghost use Rattle.std.specs.Prelude.{◌≡◌, map, MatchResult, IfOk};
 ghost use Rattle.clap.specs.Words.{app_of};
-ghost use Rattle.drf_app.specs.Line.{run_line, drf_line, Asks, IsRefused};
+ghost use Rattle.drf_app.specs.Line.{check_line, run_line, drf_line, Asks, IsRefused};
 
 use clap::{Arg, ArgAction, Command, Error};
 use std::alloc::{AllocError, Global};
@@ -12,6 +12,8 @@ use std::convert::AsStr;
 pub enum Task {
     /// The replies to event lines; with `echo` each line, as it was read, before its reply.
     Run { echo: bool },
+    /// Whether a journal is right.
+    Check,
 }
 
 const VERSION: &str = "0.1.0";
@@ -29,16 +31,26 @@ fn run_line<'a>(alloc: Global) -> Result<Command<'a>, AllocError>
         .arg(echo)
 }
 
+fn check_line<'a>(alloc: Global) -> Command<'a>
+    ensures { app_of result ≡ check_line }
+{
+    Command::new(alloc, "check")
+        .about("Tells whether the journal on standard input is right")
+        .after_help("Example: drf run --echo < examples/day.jsonl | drf check")
+}
+
 fn drf_line<'a>(alloc: Global) -> Result<Command<'a>, AllocError>
     ensures { IfOk result (λ line. app_of line ≡ drf_line) }
 {
     let run = run_line(alloc)?;
+    let check = check_line(alloc);
     Command::new(alloc, "drf")
         .about("Shares the machines of a cluster among teams by Dominant Resource Fairness")
         .version(VERSION)
         .subcommand_required(true)
         .disable_help_subcommand(true)
-        .subcommand(run)
+        .subcommand(run)?
+        .subcommand(check)
 }
 
 /// What the words ask for, of which the first is the program's name.
@@ -47,6 +59,9 @@ pub(crate) fn task_of<S: AsStr>(alloc: Global, words: &[S]) -> Result<Task, Erro
 {
     let mut line = drf_line(alloc)?;
     let matches = line.try_get_matches_from_mut(words)?;
+    if matches.subcommand_matches("check").is_some() {
+        return Ok(Task::Check);
+    }
     let Some(run) = matches.subcommand_matches("run") else {
         unreachable!()
     };

@@ -3,6 +3,7 @@ ghost use Rattle.std.specs.Prelude.{◌≡◌, ◌≤◌, ◌^◌, map};
 ghost use Rattle.drf_journal.specs.Device.{IsNew};
 ghost use Rattle.drf_app.specs.Done.{HasDone, HasObeyed, stream_of};
 
+use crate::check::{check, verdict_status};
 use crate::line::{Task, task_of};
 use crate::refusal::refuse;
 use crate::told::finish;
@@ -33,12 +34,16 @@ fn perform<R: Read, W: Write, E: Write>(
             let ended = run(alloc, Limits::full(), input, output, echo);
             finish(ended, errors)
         }
+        Task::Check => match check(alloc, input, output) {
+            Ok(verdict) => verdict_status(verdict),
+            Err(fault) => finish::<(), E>(Err(fault), errors),
+        },
     }
 }
 
 /// Does what the words ask for, of which the first is the program's name: reads `input`, writes `output`, tells faults on
-/// `errors`, a line each, and gives the program's status. That is 0, 1 where a stream failed or memory ran out, or 2 where
-/// the words ask for nothing that there is.
+/// `errors`, a line each, and gives the program's status. That is 0, 1 where a stream failed or memory ran out, 2 where
+/// the words ask for nothing that there is, or 3 where a journal is wrong.
 pub fn command<S: AsStr, R: Read, W: Write, E: Write>(
     alloc: Global,
     words: &[S],

@@ -1,7 +1,8 @@
 //! What is told on standard error, and the statuses of the program.
 ghost use Rattle.std.specs.Prelude.{◌≡◌, false, Err};
 ghost use Rattle.drf_journal.specs.declared.fault.RunFault.{RunFault};
-ghost use Rattle.drf_app.specs.Told.{fault_line, status_of, IsTold, IsToldOf};
+ghost use Rattle.std.specs.IoError.{error_kind};
+ghost use Rattle.drf_app.specs.Told.{fault_line, no_text_line, status_of, IsTold, IsToldOf};
 
 use drf_journal::{Device, RunFault, write_whole};
 use std::io;
@@ -43,6 +44,10 @@ pub(crate) fn finish<T: Drop, E: Write>(ended: Result<T, RunFault>, errors: &mut
 /// The status where the words of the command line cannot be had: 1 where memory ran out, 2 where one is no UTF-8.
 pub fn no_words<E: Write>(error: &io::Error, errors: &mut Device<E>) -> u8
     requires { errors.old.failed ≡ false }
+    ensures memory { error_kind error.now ≡ ErrorKind.OutOfMemory → (result ≡ 1)
+        × IsTold (fault_line RunFault.Memory) (E.contents errors.old.inner) (E.contents errors.new.inner) errors.new.failed }
+    ensures no_text { ¬ (error_kind error.now ≡ ErrorKind.OutOfMemory) → (result ≡ 2)
+        × IsTold no_text_line (E.contents errors.old.inner) (E.contents errors.new.inner) errors.new.failed }
 {
     if error.kind() == ErrorKind::OutOfMemory {
         return finish::<(), E>(Err(RunFault::Memory), errors);

@@ -2,6 +2,7 @@
 //! what was written is, byte for byte, what it must be. So does it of events that are read and written again.
 #![tactic(auto)]
 
+mod commands;
 mod events;
 mod lines;
 mod rows;
@@ -13,5 +14,6 @@ fn main(rt: HostRuntime) -> Result<()> {
     rows::run_all(&rt)?;
     streams::run_all(&rt)?;
     events::run_all(&rt)?;
-    lines::run_all(&rt)
+    lines::run_all(&rt)?;
+    commands::run_all(&rt)
 }

@@ -15,10 +15,20 @@ const EXAMPLE: &str = "three_agents";
 /// Gives at most some bytes a call and never more than a line. Once its calls are used up it is interrupted, and would go on
 /// if it were asked again.
 #[derive(Drop)]
-struct Slow<'a> {
+pub struct Slow<'a> {
     rest: &'a [u8],
     most: usize,
     calls: usize,
+}
+
+impl<'a> Slow<'a> {
+    pub fn new(rest: &'a [u8], bounds: Bounds) -> Slow<'a> {
+        Slow {
+            rest,
+            most: bounds.bytes,
+            calls: bounds.reads,
+        }
+    }
 }
 
 impl Read for Slow<'_> {
@@ -40,12 +50,25 @@ impl Read for Slow<'_> {
 /// Keeps what is written. Once its calls are used up, be they writes or flushes, it is interrupted, and would go on if it were
 /// asked again.
 #[derive(Drop)]
-struct Full {
+pub struct Full {
     taken: Vec<u8>,
     calls: usize,
 }
 
 impl Full {
+    pub fn new(alloc: Global, bounds: Bounds) -> Full {
+        Full {
+            taken: Vec::new(alloc),
+            calls: bounds.writes,
+        }
+    }
+
+    /// What was written.
+    pub fn into_taken(self) -> Vec<u8> {
+        let Full { taken, calls: _ } = self;
+        taken
+    }
+
     fn call(&mut self) -> io::Result<()> {
         if self.calls == 0 {
             self.calls = usize::MAX;
@@ -70,13 +93,13 @@ impl Write for Full {
 
 /// How many bytes a read gives at most, and how many reads and how many writes and flushes come before one fails.
 #[derive(Clone, Copy, Drop)]
-struct Bounds {
-    bytes: usize,
-    reads: usize,
-    writes: usize,
+pub struct Bounds {
+    pub bytes: usize,
+    pub reads: usize,
+    pub writes: usize,
 }
 
-const NO_BOUNDS: Bounds = Bounds {
+pub const NO_BOUNDS: Bounds = Bounds {
     bytes: usize::MAX,
     reads: usize::MAX,
     writes: usize::MAX,
@@ -90,17 +113,10 @@ struct Ended {
 }
 
 fn run_within(alloc: Global, input: &[u8], bounds: Bounds) -> Ended {
-    let mut reader = Device::new(Slow {
-        rest: input,
-        most: bounds.bytes,
-        calls: bounds.reads,
-    });
-    let mut writer = Device::new(Full {
-        taken: Vec::new(alloc),
-        calls: bounds.writes,
-    });
+    let mut reader = Device::new(Slow::new(input, bounds));
+    let mut writer = Device::new(Full::new(alloc, bounds));
     let fault = run(alloc, Limits::full(), &mut reader, &mut writer, false).err();
-    let Full { taken, calls: _ } = writer.into_inner();
+    let taken = writer.into_inner().into_taken();
     Ended { fault, taken }
 }
 
@@ -200,11 +216,7 @@ impl Write for Counting<'_> {
 fn answers_at_once(alloc: Global, input: &[u8]) -> Result<bool> {
     let flushed = Cell::new(0);
     let mut reader = Device::new(Asking {
-        slow: Slow {
-            rest: input,
-            most: usize::MAX,
-            calls: usize::MAX,
-        },
+        slow: Slow::new(input, NO_BOUNDS),
         given: 0,
         flushed: &flushed,
         is_late: false,

@@ -13,6 +13,9 @@ returns c =
     let required = ap app_of_fields c.subcommand_required.ensures ∙ ap (on_top (λ s. record s { subcommand_required = true })) versioned in
     let top : app_of c.disable_help_subcommand.result ≡ on_top drf_top (new_app (codes "drf")) =
     ap app_of_fields c.disable_help_subcommand.ensures ∙ ap (on_top (λ s. record s { disable_help_subcommand = true })) required in
-    IfOk-weaker c.subcommand.result _ _
-    (λ line added. added.shape (local c.in_ok-run.run' (ap (λ (a : App). a.top.is_plain) c.in_ok-run.ensures)) ∙ ap₂ with_subcommand top (ap (λ (a : App). a.top) c.in_ok-run.ensures))
-    c.subcommand.ensures
+    let with_run = c.in_ok-subcommand.ensures.shape (local c.in_ok-run.run' (ap (λ (a : App). a.top.is_plain) c.in_ok-run.ensures))
+    ∙ ap₂ with_subcommand top (ap (λ (a : App). a.top) c.in_ok-run.ensures) in
+    IfOk-weaker c.subcommand-2.result _ _
+    (λ line added. added.shape (local c.check_line-check.result (ap (λ (a : App). a.top.is_plain) c.check_line-check.ensures))
+    ∙ ap₂ with_subcommand with_run (ap (λ (a : App). a.top) c.check_line-check.ensures))
+    c.subcommand-2.ensures

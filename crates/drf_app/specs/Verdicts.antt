@@ -1,0 +1,41 @@
+-- What is said of a journal, and the status.
+use Rattle.std.specs.Prelude.{◌≡◌, ℕ, Bool, true, false, List, [], ◌∷◌, ◌++◌, Option, Result, Ok, Err, IfSome, codes, decimal}
+use Rattle.std.specs.Io.KnownBytes.{Appends}
+use Rattle.drf_rows.specs.LimitNumbers.{ceilings}
+use Rattle.drf_journal.specs.Device.{AppendsFrontOf}
+use Rattle.drf_journal.specs.Journal.{IsVerdict}
+use Rattle.drf_journal.specs.declared.fault.RunFault.{RunFault}
+use Rattle.drf_journal.specs.declared.fault.RunFault.TheVariants.{Read, Write, Memory}
+use Rattle.drf_journal.specs.declared.journal.Verdict.{Verdict}
+use Rattle.drf_journal.specs.declared.journal.Verdict.TheVariants.{Good, Bad}
+
+abbrev pub verdict_line : Verdict → List ℕ
+verdict_line (Good events) = codes "good " ++ decimal events ++ 10 ∷ []
+verdict_line (Bad line) = codes "bad line " ++ decimal line ++ 10 ∷ []
+
+abbrev pub verdict_status : Verdict → ℕ
+verdict_status (Good events) = 0
+verdict_status (Bad line) = 3
+
+-- the verdict was written
+abbrev pub IsSaid : Verdict → Result (Unit {0}) RunFault → Option (List ℕ) → Option (List ℕ) → Bool → Type 0
+IsSaid verdict (Ok done) old new failed = Appends old new (verdict_line verdict) × (failed ≡ false)
+IsSaid verdict (Err Read) old new failed = ⊥
+IsSaid verdict (Err Write) old new failed = AppendsFrontOf old new (verdict_line verdict) × (failed ≡ true)
+IsSaid verdict (Err Memory) old new failed = (new ≡ old) × (failed ≡ false)
+
+-- it is the journal's
+abbrev pub IsOf : Option (List ℕ) → Verdict → Type 0
+IsOf unread verdict = IfSome unread (λ journal. IsVerdict ceilings journal verdict)
+
+-- and what was written of it: nothing where reading failed or memory ran out
+abbrev pub IsJudged : Option (List ℕ) → Result Verdict RunFault → Option (List ℕ) → Option (List ℕ) → Type 0
+IsJudged unread (Ok verdict) old new = IsOf unread verdict × Appends old new (verdict_line verdict)
+IsJudged unread (Err Read) old new = new ≡ old
+IsJudged unread (Err Write) old new = (verdict : Verdict) × IsOf unread verdict × AppendsFrontOf old new (verdict_line verdict)
+IsJudged unread (Err Memory) old new = new ≡ old
+
+-- the status of a check
+abbrev pub check_status : Result Verdict RunFault → ℕ
+check_status (Ok verdict) = verdict_status verdict
+check_status (Err fault) = 1

@@ -1,0 +1,61 @@
+//! The check of a journal, and what is said of it.
+ghost use Rattle.std.specs.Prelude.{◌≡◌, ◌≤◌, ◌^◌, false, IfOk, string_bytes};
+ghost use Rattle.drf_journal.specs.Device.{IsNew};
+ghost use Rattle.drf_journal.specs.Ended.{HasCause};
+ghost use Rattle.drf_app.specs.Verdicts.{verdict_line, verdict_status, IsSaid, IsJudged};
+
+use drf_journal::{Device, RunFault, Verdict, verify, write_whole};
+use drf_rows::Limits;
+use itoa::Buffer;
+use std::alloc::{AllocError, Global};
+use std::io::{Read, Write};
+
+fn verdict_line(alloc: Global, verdict: Verdict) -> Result<String, AllocError>
+    ensures { IfOk result (λ line. string_bytes line ≡ verdict_line verdict) }
+{
+    let (word, number) = match verdict {
+        Verdict::Good(events) => ("good ", events),
+        Verdict::Bad(line) => ("bad line ", line),
+    };
+    let mut line = String::new(alloc);
+    line.push_str(word)?;
+    line.push_str(Buffer::new().format(number))?;
+    line.push('\n')?;
+    Ok(line)
+}
+
+/// Writes what is said of a journal.
+fn say<W: Write>(alloc: Global, verdict: Verdict, output: &mut Device<W>) -> Result<(), RunFault>
+    requires { output.old.failed ≡ false }
+    ensures said { IsSaid verdict result (W.contents output.old.inner) (W.contents output.new.inner) output.new.failed }
+{
+    let line = verdict_line(alloc, verdict)?;
+    write_whole(output, line.as_str().as_bytes())
+}
+
+/// Checks the journal on `input`, and writes what is said of it on `output`.
+pub(crate) fn check<R: Read, W: Write>(
+    alloc: Global,
+    input: &mut Device<R>,
+    output: &mut Device<W>,
+) -> Result<Verdict, RunFault>
+    requires input { IsNew input.old.calls input.old.failed }
+    requires output { IsNew output.old.calls output.old.failed }
+    ensures judged { IsJudged (R.remaining input.old.inner) result (W.contents output.old.inner) (W.contents output.new.inner) }
+    ensures cause { HasCause result input.new.failed input.new.calls output.new.failed }
+    ensures reads { input.new.calls ≤ 2 ^ 40 }
+{
+    let verdict = verify(alloc, Limits::full(), input)?;
+    say(alloc, verdict, output)?;
+    Ok(verdict)
+}
+
+/// The program's status at a verdict.
+pub(crate) fn verdict_status(verdict: Verdict) -> u8
+    ensures { result ≡ verdict_status verdict }
+{
+    match verdict {
+        Verdict::Good(_) => 0,
+        Verdict::Bad(_) => 3,
+    }
+}

@@ -1,0 +1,160 @@
+//! Commands on words: each line of `commands` has the stream that fails, if one does, the status, the words, the input,
+//! and the first lines that are written and that are told, with `|` between them. The input is a file, or the journal of an
+//! example, which may have a line spoilt.
+use crate::streams::{Bounds, Full, NO_BOUNDS, Slow};
+use anyhow::{Context, Result};
+use drf_app::command;
+use drf_journal::Device;
+use std::alloc::{AllocError, Global};
+use std::fs;
+use std::rt::{Files, Runtime};
+
+/// What is wanted of a command.
+#[derive(Clone, Copy, Drop)]
+struct Wanted<'a> {
+    failing: &'a str,
+    status: u8,
+    words: &'a str,
+    input: &'a str,
+    written: &'a str,
+    told: &'a str,
+}
+
+fn wanted_of(row: &str) -> Option<Wanted<'_>> {
+    let (failing, rest) = row.split_once('|')?;
+    let (status, rest) = rest.split_once('|')?;
+    let (words, rest) = rest.split_once('|')?;
+    let (input, rest) = rest.split_once('|')?;
+    let (written, told) = rest.split_once('|')?;
+    Some(Wanted {
+        failing,
+        status: status.parse::<u8>().ok()?,
+        words,
+        input,
+        written,
+        told,
+    })
+}
+
+fn push_line(journal: &mut Vec<u8>, line: &str) -> Result<(), AllocError> {
+    journal.extend_from_slice(line.as_bytes())?;
+    Ok(journal.push(b'\n')?)
+}
+
+/// Adds a line, spoilt in that way: it is dropped, stands twice, or has another byte in its middle.
+fn push_spoilt(journal: &mut Vec<u8>, line: &str, how: &str) -> Result<(), AllocError> {
+    if how == "dropped" {
+        return Ok(());
+    }
+    push_line(journal, line)?;
+    if how == "doubled" {
+        return push_line(journal, line);
+    }
+    let middle = journal.len().saturating_sub(line.len() / 2 + 1);
+    if let Some(byte) = journal.get_mut(middle) {
+        *byte ^= 1;
+    }
+    Ok(())
+}
+
+/// The lines of an example, each with its reply, of which the line of that number is spoilt.
+fn journal_of(
+    alloc: Global,
+    lines: &str,
+    replies: &str,
+    how: &str,
+    spoilt: u64,
+) -> Result<Vec<u8>, AllocError> {
+    let mut journal = Vec::new(alloc);
+    let mut number = 0u64;
+    for (line, reply) in lines.lines().zip(replies.lines()) {
+        for text in [line, reply] {
+            number = number.saturating_add(1);
+            if number == spoilt {
+                push_spoilt(&mut journal, text, how)?;
+            } else {
+                push_line(&mut journal, text)?;
+            }
+        }
+    }
+    Ok(journal)
+}
+
+fn text_of<R: Files + AllocGlobal>(rt: &R, name: &str, ending: &str) -> Result<String> {
+    let path = format!(in rt.alloc(); "{name}.{ending}")?;
+    Ok(fs::read_to_string(rt, path.as_str())?)
+}
+
+fn input_of<R: Files + AllocGlobal>(rt: &R, input: &str) -> Result<Vec<u8>> {
+    let Some((name, spoiling)) = input.split_once(' ') else {
+        return Ok(fs::read(rt, input)?);
+    };
+    let (how, spoilt) = spoiling.split_once(' ').unwrap_or((spoiling, "0"));
+    let spoilt = spoilt.parse::<u64>().ok().context("no number")?;
+    let lines = text_of(rt, name, "in")?;
+    let replies = text_of(rt, name, "out")?;
+    Ok(journal_of(rt.alloc(), lines.as_str(), replies.as_str(), how, spoilt)?)
+}
+
+fn words_of<'a>(alloc: Global, words: &'a str) -> Result<Vec<&'a str>, AllocError> {
+    let mut list = Vec::new(alloc);
+    list.push("drf")?;
+    for word in words.split_whitespace() {
+        list.push(word)?;
+    }
+    Ok(list)
+}
+
+fn bounds_of(failing: &str) -> Bounds {
+    let (mut reads, mut writes) = (usize::MAX, usize::MAX);
+    if failing == "input" {
+        reads = 0;
+    }
+    if failing == "output" {
+        writes = 0;
+    }
+    Bounds {
+        reads,
+        writes,
+        ..NO_BOUNDS
+    }
+}
+
+fn begins_with_line(text: &[u8], line: &str) -> bool {
+    let first = text.split(|byte| *byte == b'\n').next().unwrap_or(&[]);
+    first == line.as_bytes()
+}
+
+fn is_done(alloc: Global, wanted: Wanted, words: &[&str], input: &[u8]) -> bool {
+    let bounds = bounds_of(wanted.failing);
+    let mut reader = Device::new(Slow::new(input, bounds));
+    let mut writer = Device::new(Full::new(alloc, bounds));
+    let mut errors = Device::new(Full::new(alloc, NO_BOUNDS));
+    let status = command(alloc, words, &mut reader, &mut writer, &mut errors);
+    let written = writer.into_inner().into_taken();
+    let told = errors.into_inner().into_taken();
+    status == wanted.status
+        && begins_with_line(&written, wanted.written)
+        && begins_with_line(&told, wanted.told)
+}
+
+fn is_exact<R: Files + AllocGlobal>(rt: &R, row: &str) -> Result<bool> {
+    let wanted = wanted_of(row).context("no command")?;
+    let words = words_of(rt.alloc(), wanted.words)?;
+    let input = input_of(rt, wanted.input)?;
+    Ok(is_done(rt.alloc(), wanted, &words, &input))
+}
+
+pub fn run_all<R: Runtime + AllocGlobal>(rt: &R) -> Result<()> {
+    let list = fs::read_to_string(rt, "commands")?;
+    let (mut commands, mut others) = (0u64, 0u64);
+    for row in list.as_str().lines() {
+        commands = commands.saturating_add(1);
+        if !is_exact(rt, row)? {
+            println!(rt; "{row}: OTHER")?;
+            others = others.saturating_add(1);
+        }
+    }
+    println!(rt; "{commands} commands, of which {others} are done otherwise")?;
+    Ok(())
+}

@@ -1,5 +1,5 @@
 -- What is granted, by what the code reads.
-use Rattle.std.proofs.Common.{◌≡◌, Bool, true, false, ◌&&◌, List, Option, Some, None, refl, sym, ap, ◌∙◌, cond}
+use Rattle.std.proofs.Common.{◌≡◌, Bool, ◌&&◌, List, Option, Some, None, sym, ap, ◌∙◌, cond}
 use Rattle.std.specs.Prelude.{not}
 use Rattle.drf_role.specs.Text.{Text}
 use Rattle.drf_role.specs.Path.{Path, role_part, framework_part}

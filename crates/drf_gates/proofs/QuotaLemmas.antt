@@ -1,21 +1,20 @@
 -- Limits as rows, and what they leave, limit by limit.
-use Rattle.std.specs.Prelude.{◌≡◌, ◌≢◌, ℕ, ◌+◌, ◌-◌, ◌≤◌, Bool, true, false, ◌&&◌, List, [], ◌∷◌, ◌++◌, map, filter, fold, min, length, nat_le, Option, Some, None}
-use Rattle.std.specs.List.{reduce, list_all, flat_map, AllByRecursion, IsDistinct}
+use Rattle.std.specs.Prelude.{◌≡◌, ◌≢◌, ℕ, ◌+◌, ◌-◌, Bool, true, false, ◌&&◌, List, [], ◌∷◌, ◌++◌, map, filter, fold, length, Option, Some, None}
+use Rattle.std.specs.List.{list_all, flat_map, AllByRecursion, IsDistinct}
 use Rattle.std.specs.Map.{keys_of, lookup, remove_entry}
-use Rattle.std.specs.Option.{option_map_or}
-use Rattle.std.proofs.Common.{refl, sym, ap, subst, ◌∙◌, inl, inr, cond, arith}
+use Rattle.std.proofs.Common.{refl, sym, ap, ◌∙◌, inl, inr, cond, arith}
 use Rattle.std.proofs.lemmas.Bool.{cases_Bool}
 use Rattle.std.proofs.lemmas.Map.Keys.{IsDistinct-head, IsDistinct-tail}
 use Rattle.indexmap.specs.IndexMap.{insert_entry}
 use Rattle.drf_role.specs.Text.{Text}
 use Rattle.drf_role.specs.Path.{Path, same_path}
-use Rattle.drf_role.specs.PathLaws.{same_path-true, same_path-swap}
+use Rattle.drf_role.specs.PathLaws.{same_path-swap}
 use Rattle.drf_bundle.specs.Quantities.{names_of}
 use Rattle.drf_bundle.specs.declared.quantities.Entry.{Entry}
 use Rattle.drf_rows.specs.Quota.{Consumed, is_within, binds, room_under, headroom_under, headrooms, limited_names, stays_within, limit_of, limits_put, limits_without, limits_with, consumption, headroom_at, headroom, admits_under, admits}
 use Rattle.drf_rows.specs.declared.rows.LimitRow.{LimitRow}
 use Rattle.drf_rows.specs.declared.rows.Rows.{Rows}
-use Rattle.drf_gates.specs.Quota.{Allowance, IsAllowanceOf, limit_row, limit_rows, lesser, least_with, headroom_from, used_at, with_headroom}
+use Rattle.drf_gates.specs.Quota.{Allowance, IsAllowanceOf, limit_row, limit_rows, lesser, least_with, headroom_from, used_at}
 
 -- ---- the table of limits
 

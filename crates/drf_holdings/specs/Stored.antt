@@ -1,5 +1,5 @@
 -- What holdings are to their callers, and what it means that one of them was taken out or became a task.
-use Rattle.std.specs.Prelude.{◌≡◌, ℕ, ◌==◌, ◌⊎◌, List, [], ◌∷◌, ◌++◌, map, find, Option, Some, None, refl}
+use Rattle.std.specs.Prelude.{◌≡◌, ℕ, ◌==◌, ◌⊎◌, List, ◌++◌, map, find, Option, Some, None, refl}
 use Rattle.std.specs.Coded.{Coded, code_by, coded×, coded_list}
 use Rattle.drf_rows.specs.Endings.{Ending, ends_offer, ends_task}
 use Rattle.drf_rows.specs.Holdings.{Holding, of_offer, of_task}

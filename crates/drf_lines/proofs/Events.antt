@@ -2,10 +2,10 @@
 use Rattle.std.proofs.Common.{◌≡◌, ℕ, ◌<◌, ◌≤◌, ◌^◌, ◌==◌, Bool, true, false, cond, List, [], ◌∷◌, ◌++◌, ◌+◌, map, length, take, get_or, All, Result, Some, Ok, Err, IfOk, refl, sym, ap, subst, ◌∙◌, ◌||◌, codes, arith}
 use Rattle.std.proofs.lemmas.Bool.{le-ltb, le-leb, eqb-true, and_from, false≢true}
 use Rattle.std.proofs.lemmas.List.Elements.{All-head, All-tail}
-use Rattle.std.specs.Prelude.{nat_le, ◌&&◌, suc}
+use Rattle.std.specs.Prelude.{suc}
 use Rattle.std.specs.Option.{option_map}
 use Rattle.std.specs.Str.{IsUtf8}
-use Rattle.serde_json.specs.Data.{Data, Members, member, no_members, number, unsigned, string, depth, items_depth, members_depth}
+use Rattle.serde_json.specs.Data.{Data, Members, member, no_members, number, unsigned, depth, items_depth, members_depth}
 use Rattle.serde_json.specs.View.{view, items_of}
 use Rattle.serde_json.specs.declared.value.Value.{Value}
 use Rattle.std.proofs.lemmas.List.{map-append, map_more}

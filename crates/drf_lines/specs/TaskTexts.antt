@@ -1,5 +1,5 @@
 -- The tasks of an accept: one under the keys `task` and `use`, or 1 to 16 in an array.
-use Rattle.std.specs.Prelude.{ℕ, Bool, ◌&&◌, List, [], ◌∷◌, length, map, nat_le, Option, Result, Ok, Err, is_some, option_map, option_and_then, if◌then◌else◌, codes}
+use Rattle.std.specs.Prelude.{ℕ, Bool, ◌&&◌, List, [], ◌∷◌, length, map, nat_le, Result, Ok, Err, is_some, option_map, option_and_then, if◌then◌else◌, codes}
 use Rattle.std.specs.Option.{ok_or}
 use Rattle.serde_json.specs.Data.{Data, string, array, object, Items, no_items, item, Members, member, no_members}
 use Rattle.serde_json.specs.Find.{get, as_array}

@@ -4,7 +4,7 @@ use Rattle.drf_role.specs.Text.{Text}
 use Rattle.drf_rows.specs.Examples.{cpus, mem, framework_in, offer}
 use Rattle.drf_rows.specs.LifeExamples.{one, none, accept, decline, accept_for, decline_for}
 use Rattle.drf_rows.specs.declared.event.Event.{Event}
-use Rattle.drf_rows.specs.declared.event.Event.TheVariants.{AddAgent, RemoveAgent, ActivateAgent, DeactivateAgent, AddFramework, RemoveFramework, Accept, Decline, Rescind, Finish, Suppress, Revive, Cycle}
+use Rattle.drf_rows.specs.declared.event.Event.TheVariants.{AddAgent, RemoveAgent, ActivateAgent, DeactivateAgent, AddFramework, RemoveFramework, Rescind, Finish, Suppress, Revive, Cycle}
 use Rattle.drf_rows.specs.declared.reply.OfferLine.{OfferLine}
 use Rattle.drf_rows.specs.declared.reply.Refusal.TheVariants.{UnknownAgent}
 use Rattle.drf_rows.specs.declared.reply.Reply.{Reply}

@@ -1,22 +1,22 @@
 -- What limits hold: a grant cut to the headroom takes no role over its limit, a limit below the consumption leaves nothing, no
 -- role consumes more than there is, and what is moved to a role and back is consumed as before.
-use Rattle.std.specs.Prelude.{◌≡◌, ℕ, zero, suc, ◌+◌, ◌-◌, ◌≤◌, ◌<◌, ◌^◌, max, min, Bool, true, false, not, ◌&&◌, ◌||◌, List, [], ◌∷◌, ◌++◌, map, fold, filter, flat_map, sum_by, length, slice_get, Option, Some, None, IsTrue, All}
+use Rattle.std.specs.Prelude.{◌≡◌, ℕ, zero, suc, ◌+◌, ◌-◌, ◌≤◌, max, min, Bool, true, false, not, ◌&&◌, ◌||◌, List, [], ◌∷◌, ◌++◌, map, fold, filter, flat_map, sum_by, slice_get, Option, Some, IsTrue, All}
 use Rattle.std.specs.List.{list_any, count_by, reduce, AllByRecursion}
 use Rattle.std.specs.Option.{option_map_or}
-use Rattle.std.proofs.Common.{refl, sym, ap, subst, ◌∙◌, inl, inr, cond, arith}
+use Rattle.std.proofs.Common.{refl, sym, ap, ◌∙◌, inl, inr, cond, arith}
 use Rattle.std.proofs.lemmas.Bool.{cases_Bool, and_parts, and_from, or_cases, false≢true}
 use Rattle.std.proofs.lemmas.List.Elements.{All-head, All-tail}
 use Rattle.std.proofs.lemmas.List.Sums.{sum_by-cons, sum_by-append}
 use Rattle.drf_role.specs.Text.{Text, same_text}
-use Rattle.drf_role.specs.TextLaws.{same_itself, same_from_test, cases_same}
-use Rattle.drf_role.specs.Path.{Path, same_path}
+use Rattle.drf_role.specs.TextLaws.{same_from_test}
+use Rattle.drf_role.specs.Path.{Path}
 use Rattle.drf_role.specs.PathLaws.{same_path-true}
 use Rattle.drf_role.specs.Parts.{parts_of, text_of}
 use Rattle.drf_role.specs.Role.{IsComponent, IsRole, IsRolePath, default_role}
-use Rattle.drf_bundle.specs.Value.{Point, Thousandths, units_in}
+use Rattle.drf_bundle.specs.Value.{Thousandths, units_in}
 use Rattle.drf_bundle.specs.Quantities.{amount_of, is_named, names_of, with_amount}
 use Rattle.drf_bundle.specs.QuantitiesLaws.{amount-with, named-with}
-use Rattle.drf_bundle.specs.Bundle.{Key, IsResource, IsBundle, is_default, is_unreserved, reservation, key_of, is_in_order, same_key, units, units_where, stock, quantities_of, part_for, clip, clipped, cut, moved_to, relabel}
+use Rattle.drf_bundle.specs.Bundle.{Key, IsResource, IsBundle, is_default, is_unreserved, reservation, key_of, is_in_order, same_key, units, stock, part_for, clip, clipped, cut, moved_to, relabel}
 use Rattle.drf_bundle.specs.KeyLaws.{stands_first, unit_of, where-cons, unit-here, unit-none, units_first, same_key_true}
 use Rattle.drf_bundle.specs.PartLaws.{bundle-part_for, keeps-clipped, cut-falls}
 use Rattle.drf_bundle.specs.RestLaws.{where-changed-cons, where-changed-le}
@@ -31,10 +31,10 @@ use Rattle.drf_rows.specs.HoldingsLaws.{holdings_of-with_offer}
 use Rattle.drf_rows.specs.Cycle.{new_offer, with_offer}
 use Rattle.drf_rows.specs.Held.{cluster_total}
 use Rattle.drf_rows.specs.Consistent.{IsHeld, IsCovered, IsConsistent}
-use Rattle.drf_rows.specs.ConsistentLaws.{same_text-swap, count_named}
-use Rattle.drf_rows.specs.ListLaws.{sum_by-map, sum_by-plus, sum_by_each_le, sum_by-groups, count_by-any, list_any-map, cond_le, each_from}
+use Rattle.drf_rows.specs.ListLaws.{sum_by-map, sum_by-plus, sum_by_each_le, sum_by-groups, list_any-map, cond_le, each_from}
+use Rattle.drf_rows.specs.TotalLaws.{one_agent}
 use Rattle.drf_rows.specs.MemberLaws.{amount_on, amount-cluster_total}
-use Rattle.drf_rows.specs.Quota.{Consumed, unreserved_in, reserves, reserved_in, held_unreserved, reserved_for, consumption_where, consumption, is_within, binds, room_under, headroom_under, headroom_at, limited_names, headrooms, headroom, entitlement_by_limits}
+use Rattle.drf_rows.specs.Quota.{Consumed, unreserved_in, reserves, reserved_in, consumption_where, consumption, is_within, binds, room_under, headroom_under, headroom_at, limited_names, headroom, entitlement_by_limits}
 use Rattle.drf_rows.specs.declared.rows.AgentRow.{AgentRow}
 use Rattle.drf_rows.specs.declared.rows.LimitRow.{LimitRow}
 use Rattle.drf_rows.specs.declared.rows.OfferRow.{OfferRow}
@@ -376,17 +376,6 @@ moved_back role (r ∷ rs) free =
     λ i. record { label = r.label; role = default i; value = r.value } ∷ moved_back role rs parts.1 i
 
 -- ---- no more than there is
-
--- a holding is on one agent
-one_agent : (rows : Rows) (h : Holding) → IsConsistent rows → IsHeld rows.agents rows.frameworks h
-    → count_by (λ a. is_on a.name h) rows.agents ≡ 1
-one_agent rows h consistent held =
-    let known = (λ i. list_any (λ a. same_text-swap h.agent a.name i) rows.agents) ∙ held.agent in
-    omega (
-      arith,
-      count_by-any (λ a. same_text h.agent a.name) rows.agents known,
-      count_named (λ a. a.name) h.agent rows.agents consistent.agents.names,
-    )
 
 -- of a name, what is unreserved and what is reserved for some roles is at most all
 apart : (a t : Bool) (k : Text) (u : ℕ) → cond (a && same_text [] k) u 0 + cond (a && (not (same_text k []) && t)) u 0 ≤ cond a u 0

@@ -1,5 +1,5 @@
 -- Tasks that are started with parts of one offer.
-use Rattle.std.specs.Prelude.{ℕ, ◌≤◌, Bool, false, List, [], length, map}
+use Rattle.std.specs.Prelude.{◌≤◌, Bool, false, List, [], length, map}
 use Rattle.std.specs.List.{AllByRecursion}
 use Rattle.std.specs.Option.{option_map_or}
 use Rattle.drf_role.specs.Text.{Text}

@@ -14,7 +14,7 @@ use Rattle.drf_rows.specs.declared.rows.AgentRow.{AgentRow}
 use Rattle.drf_rows.specs.declared.rows.Rows.{Rows}
 
 -- a holding is on one agent
-one_agent : (rows : Rows) (h : Holding) → IsConsistent rows → IsHeld rows.agents rows.frameworks h
+pub one_agent : (rows : Rows) (h : Holding) → IsConsistent rows → IsHeld rows.agents rows.frameworks h
     → count_by (λ a. is_on a.name h) rows.agents ≡ 1
 one_agent rows h consistent held =
     let known = (λ i. list_any (λ a. same_text-swap h.agent a.name i) rows.agents) ∙ held.agent in

@@ -1,4 +1,4 @@
-use Rattle.std.proofs.Common.{◌≡◌, Bool, true, false, Option, Some, None, List, cond, ap, ◌∙◌, sym}
+use Rattle.std.proofs.Common.{◌≡◌, Bool, true, false, Some, None, List, cond, ap, ◌∙◌, sym}
 use Rattle.drf_role.specs.Path.{Path, role_part}
 use Rattle.drf_bundle.specs.Bundle.{part_for}
 use Rattle.drf_bundle.specs.declared.resource.Resource.{Resource}

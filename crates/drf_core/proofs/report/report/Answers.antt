@@ -4,7 +4,6 @@ use Rattle.drf_rows.specs.Consistent.{IsConsistent}
 use Rattle.drf_rows.specs.Held.{cluster_total}
 use Rattle.drf_rows.specs.LiveLaws.{report_of-live}
 use Rattle.drf_rows.specs.Report.{report_of}
-use Rattle.drf_rows.specs.Step.{live_rows}
 use Rattle.drf_rows.specs.declared.report.Report.{Report}
 use Rattle.drf_rows.specs.declared.rows.Rows.{Rows}
 use Rattle.drf_core.proofs.KeptLemmas.{consistent-live}

@@ -1,4 +1,4 @@
-use Rattle.std.proofs.Common.{◌≡◌, IsTrue, ap, ◌∙◌, arith}
+use Rattle.std.proofs.Common.{IsTrue, ap, ◌∙◌, arith}
 use Rattle.drf_bundle.specs.Quantities.{amount_of, is_in_order, minus, without_zeros}
 use Rattle.drf_bundle.specs.QuantitiesLaws.{amount-minus, amount-without_zeros, covers_from, in_order-minus}
 use Rattle.drf_bundle.specs.declared.quantities.Entry.{Entry}

@@ -1,4 +1,4 @@
-use Rattle.std.proofs.Common.{◌≡◌, ◌∷◌, [], List, Ok, map, refl, subst, sym, ap, ◌∙◌}
+use Rattle.std.proofs.Common.{◌≡◌, ◌∷◌, [], List, Ok, map, refl, subst, sym, ◌∙◌}
 use Rattle.std.proofs.lemmas.Result.{on_ok_weaker}
 use Rattle.drf_rows.specs.Tasks.{Start}
 use Rattle.drf_lines.specs.TaskTexts.{each_in, start_in, start_text}

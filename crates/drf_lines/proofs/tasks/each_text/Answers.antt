@@ -1,10 +1,10 @@
-use Rattle.std.proofs.Common.{◌≡◌, ℕ, ◌+◌, ◌<◌, ◌∷◌, [], ◌++◌, List, Err, map, drop, length, get_or, sym, ap, subst, ◌∙◌}
+use Rattle.std.proofs.Common.{◌≡◌, ℕ, ◌+◌, ◌<◌, ◌∷◌, [], List, Err, map, drop, length, get_or, sym, ap, subst, ◌∙◌}
 use Rattle.std.proofs.lemmas.List.{at_drop_more, at_drop_all, map-append}
 use Rattle.std.proofs.lemmas.Result.{err_from_is_err_and}
 use Rattle.serde_json.specs.View.{view}
 use Rattle.serde_json.specs.declared.value.Value.{Value}
 use Rattle.drf_lines.specs.Fault.{IsReadAs}
-use Rattle.drf_lines.specs.TaskTexts.{each_in, task_text}
+use Rattle.drf_lines.specs.TaskTexts.{task_text}
 use Rattle.drf_lines.specs.declared.tasks.TaskText.{TaskText}
 use Rattle.drf_lines.proofs.EachIn.{each_after, each_after-end, each_after-one, each_after-refused}
 use Rattle.drf_lines.proofs.tasks.each_text.Goals as goal

@@ -1,10 +1,10 @@
-use Rattle.std.proofs.Common.{◌≡◌, ℕ, ◌+◌, ◌<◌, ◌∷◌, [], List, Bor, Err, map, drop, length, sym, subst, ◌∙◌}
+use Rattle.std.proofs.Common.{◌≡◌, ℕ, ◌+◌, ◌<◌, ◌∷◌, [], List, Err, map, drop, length, sym, subst, ◌∙◌}
 use Rattle.std.specs.List.{slice_index_or}
 use Rattle.std.proofs.lemmas.List.{at_drop_more, at_drop_all}
 use Rattle.std.proofs.lemmas.Result.{err_from_is_err_and}
 use Rattle.drf_rows.specs.Tasks.{Start}
 use Rattle.drf_lines.specs.Fault.{IsReadOf}
-use Rattle.drf_lines.specs.TaskTexts.{each_in, start_in}
+use Rattle.drf_lines.specs.TaskTexts.{start_in}
 use Rattle.drf_lines.specs.declared.tasks.TaskText.{TaskText}
 use Rattle.drf_lines.proofs.EachIn.{each_after, each_after-end, each_after-one, each_after-refused}
 use Rattle.drf_lines.proofs.tasks.read_starts.Goals as goal

@@ -1,4 +1,4 @@
-use Rattle.std.proofs.Common.{◌∷◌, List, is_some, sym, ap, ◌∙◌}
+use Rattle.std.proofs.Common.{List, is_some, sym, ap, ◌∙◌}
 use Rattle.std.specs.Prelude.{◌&&◌}
 use Rattle.std.proofs.lemmas.List.Folds.{list_all-map}
 use Rattle.drf_bundle.specs.Bundle.{join}

@@ -1,4 +1,4 @@
-use Rattle.std.proofs.Common.{◌≡◌, Bool, List, true, false, not, is_some, get_or, sym, ap, ◌∙◌, rules, take_all}
+use Rattle.std.proofs.Common.{◌≡◌, Bool, true, false, get_or, sym, ap, ◌∙◌, rules, take_all}
 use Rattle.std.specs.List.{list_all}
 use Rattle.std.proofs.lemmas.Bool.{and_from}
 use Rattle.std.proofs.lemmas.List.Folds.{list_all_at, list_all_more}

@@ -1,4 +1,4 @@
-use Rattle.std.proofs.Common.{◌≡◌, ◌∙◌, Bool, false, rules, arith}
+use Rattle.std.proofs.Common.{◌≡◌, ◌∙◌, false, rules, arith}
 use Rattle.std.proofs.lemmas.Grind.{common_steps}
 use Rattle.drf_rows.specs.Quota.{admits_under}
 use Rattle.drf_gates.specs.Quota.{Allowance, used_at}

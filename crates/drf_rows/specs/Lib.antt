@@ -7,14 +7,15 @@ pub mod Held
 pub mod Weights
 pub mod Filters
 pub mod Tasks
+pub mod Quota
 pub mod Cycle
+pub mod Totals
 pub mod Endings
 pub mod Ended
 pub mod Offers
 pub mod TaskLaws
 pub mod Members
 pub mod Report
-pub mod Quota
 pub mod Consistent
 pub mod Refusal
 pub mod Step

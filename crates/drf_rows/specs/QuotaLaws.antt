@@ -34,7 +34,7 @@ use Rattle.drf_rows.specs.Consistent.{IsHeld, IsCovered, IsConsistent}
 use Rattle.drf_rows.specs.ListLaws.{sum_by-map, sum_by-plus, sum_by_each_le, sum_by-groups, list_any-map, cond_le, each_from}
 use Rattle.drf_rows.specs.TotalLaws.{one_agent}
 use Rattle.drf_rows.specs.MemberLaws.{amount_on, amount-cluster_total}
-use Rattle.drf_rows.specs.Quota.{Consumed, unreserved_in, reserves, reserved_in, consumption_where, consumption, is_within, binds, room_under, headroom_under, headroom_at, limited_names, headroom, entitlement_by_limits}
+use Rattle.drf_rows.specs.Quota.{Consumed, unreserved_in, reserves, reserved_in, consumption_where, consumption, is_within, binds, room_under, headroom_under, headroom_at, limited_names, headroom, entitlement}
 use Rattle.drf_rows.specs.declared.rows.AgentRow.{AgentRow}
 use Rattle.drf_rows.specs.declared.rows.LimitRow.{LimitRow}
 use Rattle.drf_rows.specs.declared.rows.OfferRow.{OfferRow}
@@ -58,7 +58,7 @@ GrantKeepsLimits =
     → IsBundle free
     → slice_get rows.limits place ≡ Some l
     → IsTrue (binds client.role label l)
-    → consumption (with_offer rows (new_offer rows agent client (entitlement_by_limits rows free client))) l.role label
+    → consumption (with_offer rows (new_offer rows agent client (entitlement rows free client))) l.role label
     ≤ max (amount_of l.limit label) (consumption rows l.role label)
 
 -- what is moved to a role is reserved for it and for the roles above it, just as much as was unreserved
@@ -311,7 +311,7 @@ grant_keeps_limits rows agent free client label place l right at binding =
     let part : List Resource = part_for role free in
     let is = bundle-part_for role free right in
     let cut_to = unreserved-clip (headroom rows role) label part is.in_order is.each its.0 in
-    let bundle : List Resource = entitlement_by_limits rows free client in
+    let bundle : List Resource = entitlement rows free client in
     omega (
       arith,
       consumption-with_offer (is_within l.role) rows (new_offer rows agent client bundle) label,

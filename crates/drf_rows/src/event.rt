@@ -3,7 +3,7 @@ ghost use Rattle.std.specs.Prelude.{◌≡◌, IfOk};
 use crate::table::Table;
 use crate::tasks::TaskList;
 use drf_amount::Algebra;
-use drf_bundle::Bundle;
+use drf_bundle::{Bundle, Quantities};
 use drf_role::{Name, Role};
 use std::alloc::AllocError;
 
@@ -65,6 +65,8 @@ pub enum Event {
     ActivateAgent { agent: Name },
     /// An agent's offers are rescinded, and no more are made. Its tasks stay.
     DeactivateAgent { agent: Name },
+    /// An agent's total is another from now on. All that is held there stays.
+    SetAgent { agent: Name, total: Bundle },
     /// A framework registers in its roles.
     AddFramework { framework: Name, roles: Table<Role> },
     /// A framework leaves. What it held is free.
@@ -82,8 +84,22 @@ pub enum Event {
     Suppress { framework: Name, role: Role },
     /// A framework is to be served in a role, and no longer refuses anything there.
     Revive { framework: Name, role: Role },
+    /// What is free on an agent for everyone is reserved for a role. The resources name no reservation.
+    Reserve {
+        agent: Name,
+        role: Role,
+        resources: Bundle,
+    },
+    /// What is free on an agent and reserved for just this role is for everyone again. The resources name no reservation.
+    Unreserve {
+        agent: Name,
+        role: Role,
+        resources: Bundle,
+    },
     /// A role gets a weight, in thousandths.
     SetWeight { role: Role, weight: u64 },
+    /// A role gets a limit: the most that it may consume of each scalar named. One that names nothing takes the limit away.
+    SetLimit { role: Role, limit: Quantities },
     /// The allocator offers what is free, at a moment in milliseconds.
     Cycle { at: u64 },
     /// The allocator tells what there is, and who holds what of it.
@@ -108,6 +124,10 @@ impl Event {
             Event::DeactivateAgent { agent } => Ok(Event::DeactivateAgent {
                 agent: agent.copy()?,
             }),
+            Event::SetAgent { agent, total } => Ok(Event::SetAgent {
+                agent: agent.copy()?,
+                total: total.copy()?,
+            }),
             Event::AddFramework { framework, roles } => Ok(Event::AddFramework {
                 framework: framework.copy()?,
                 roles: roles.copy()?,
@@ -130,9 +150,31 @@ impl Event {
                 framework: framework.copy()?,
                 role: role.copy()?,
             }),
+            Event::Reserve {
+                agent,
+                role,
+                resources,
+            } => Ok(Event::Reserve {
+                agent: agent.copy()?,
+                role: role.copy()?,
+                resources: resources.copy()?,
+            }),
+            Event::Unreserve {
+                agent,
+                role,
+                resources,
+            } => Ok(Event::Unreserve {
+                agent: agent.copy()?,
+                role: role.copy()?,
+                resources: resources.copy()?,
+            }),
             Event::SetWeight { role, weight } => Ok(Event::SetWeight {
                 role: role.copy()?,
                 weight: *weight,
+            }),
+            Event::SetLimit { role, limit } => Ok(Event::SetLimit {
+                role: role.copy()?,
+                limit: limit.copy()?,
             }),
             Event::Cycle { at } => Ok(Event::Cycle { at: *at }),
             Event::Report => Ok(Event::Report),

@@ -39,6 +39,7 @@ pub mod WeightExamples
 pub mod ReportExamples
 pub mod LifeExamples
 pub mod FilterExamples
+pub mod QuotaExamples
 pub mod QuotaLaws
 pub mod Laws
 pub mod LifeLaws

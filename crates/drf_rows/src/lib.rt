@@ -24,7 +24,9 @@ pub use laws::{
     taking_part_example, turn_law, weights_example,
 };
 pub use limits::{LARGEST_AMOUNT, LATEST_MOMENT, LONGEST_FILTER, Limits};
-pub use quota_laws::limits_law;
+pub use quota_laws::{
+    limited_example, limits_law, limits_refused_example, other_totals_example, reserved_example,
+};
 pub use reply::{OfferLine, Refusal, Reply};
 pub use report::{NodeLine, Report};
 pub use rows::{

@@ -33,6 +33,9 @@ pub mod EndingLaws
 pub mod MemberLaws
 pub mod TotalLaws
 pub mod WeightLaws
+pub mod TotalsLaws
+pub mod LimitLaws
+pub mod ReservationLaws
 pub mod Examples
 pub mod OrderExamples
 pub mod WeightExamples

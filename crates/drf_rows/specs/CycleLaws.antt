@@ -1,15 +1,18 @@
 -- The rows with one more offer, and turns step by step.
-use Rattle.std.specs.Prelude.{◌≡◌, ◌-◌, ◌≤◌, ◌&&◌, codes, Bool, true, false, not, List, [], ◌∷◌, ◌++◌, map, filter, Some, if◌then◌else◌}
+use Rattle.std.specs.Prelude.{◌≡◌, ◌-◌, ◌≤◌, ◌&&◌, codes, Bool, true, false, not, List, [], ◌∷◌, ◌++◌, map, filter, Some, if◌then◌else◌, nat_lt, All}
 use Rattle.std.specs.List.{flat_map, AllByRecursion}
 use Rattle.std.specs.Option.{option_map_or}
 use Rattle.std.proofs.Common.{refl, sym, ap, subst, ◌∙◌, inl, inr, cond, arith}
-use Rattle.std.proofs.lemmas.Bool.{cases_Bool}
+use Rattle.std.proofs.lemmas.Bool.{cases_Bool, lt-ltb}
+use Rattle.std.proofs.lemmas.List.Elements.{All-head, All-tail, filter-append}
 use Rattle.std.proofs.lemmas.Bool.Decides.{nat_tests}
 use Rattle.drf_role.specs.Text.{Text, same_text}
 use Rattle.drf_role.specs.TextLaws.{same_itself}
 use Rattle.drf_role.specs.Path.{Path, same_path}
-use Rattle.drf_bundle.specs.Value.{Point, Thousandths}
-use Rattle.drf_bundle.specs.Bundle.{Key, IsBundle, same_key, units, units_where, rest, quantities_of, is_default, is_for, part_for, clipped}
+use Rattle.drf_bundle.specs.Value.{Point, Thousandths, amount_in}
+use Rattle.drf_bundle.specs.declared.value.Value.{Value}
+use Rattle.drf_bundle.specs.declared.value.Value.TheVariants.{Scalar, Ranges, Items}
+use Rattle.drf_bundle.specs.Bundle.{Key, IsResource, IsBundle, same_key, units, units_where, rest, with_value, filled_of, quantities_of, is_default, is_for, part_for, cut, clipped, clip}
 use Rattle.drf_bundle.specs.Quantities.{amount_of, is_named}
 use Rattle.drf_bundle.specs.SumLaws.{of_name, amount-quantities_of}
 use Rattle.drf_bundle.specs.PartLaws.{where-some, bundle-part_for, keeps-clipped, cut-falls, bundle-clip}
@@ -159,7 +162,7 @@ entitled_where test rows free client p =
       arith,
       where-some (is_for client.role) test p free,
       where-changed-le (clipped room) (keeps-clipped room)
-      (λ r q. cut-falls (is_default r.role && is_named room r.label) (amount_of room r.label) r.value q) test p part,
+          (λ r q. cut-falls (is_default r.role && is_named room r.label) (amount_of room r.label) r.value q) test p part,
     )
 
 pub bundle-entitlement : (rows : Rows) (free : List Resource) (client : Client) → IsBundle free → IsBundle (entitlement rows free client)
@@ -169,6 +172,30 @@ bundle-entitlement rows free client is =
 pub units-entitlement : (rows : Rows) (free : List Resource) (client : Client) (key : Key) (p : Point)
     → units (entitlement rows free client) key p ≤ units free key p
 units-entitlement rows free client key p = entitled_where (same_key key) rows free client p
+
+-- where no limit binds a role nothing is cut
+uncut : (r : Resource) → IsResource r → filled_of (clipped [] r ∷ []) ≡ r ∷ []
+uncut r one =
+    let some : nat_lt 0 (amount_in r.value) ≡ true = lt-ltb 0 (amount_in r.value) one.filled in
+    ap (λ (v : Value). filled_of (with_value r v ∷ [])) (whole (is_default r.role) r.value) ∙ (λ i. cond (some i) (r ∷ []) [])
+  where
+    whole : (b : Bool) (v : Value) → cut (b && false) 0 v ≡ v
+    whole true (Scalar t) = refl
+    whole false (Scalar t) = refl
+    whole b (Ranges numbers) = refl
+    whole b (Items members) = refl
+
+clip-nothing : (rs : List Resource) → All IsResource rs → clip [] rs ≡ rs
+clip-nothing [] each = refl
+clip-nothing (r ∷ rs) each =
+    filter-append (λ s. nat_lt 0 (amount_in s.value)) (clipped [] r ∷ []) (map (clipped []) rs)
+    ∙ (λ i. uncut r (All-head IsResource r rs each) i ++ clip-nothing rs (All-tail IsResource r rs each) i)
+
+pub entitlement-unlimited : (rows : Rows) (free : List Resource) (client : Client) → IsBundle free
+    → headroom rows client.role ≡ [] → entitlement rows free client ≡ part_for client.role free
+entitlement-unlimited rows free client is none =
+    ap (λ (room : List Entry). clip room (part_for client.role free)) none
+    ∙ clip-nothing (part_for client.role free) (bundle-part_for client.role free is).each
 
 -- of a bundle that is worth no offer no client may have a part that is
 entitled_less : (rows : Rows) (free : List Resource) (client : Client) (name : Text)

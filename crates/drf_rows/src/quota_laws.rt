@@ -5,14 +5,17 @@ ghost use Rattle.std.specs.Prelude.{◌≡◌};
 ghost use Rattle.drf_rows.specs.LimitNumbers.{ceilings};
 ghost use Rattle.drf_rows.specs.Step.{opening, replies_to};
 ghost use Rattle.drf_rows.specs.QuotaExamples.{no_cpus, no_cpus_replies, limit_in_cycle, limit_in_cycle_replies, reserved_below, reserved_below_replies, two_limits, two_limits_replies, moved_twice, moved_twice_replies, other_totals, other_totals_replies, limits_refused, limits_refused_replies, one_limit, more_limits, more_limits_replies};
-ghost use Rattle.drf_rows.specs.QuotaLaws.{GrantKeepsLimits, SpentLimitLeavesNothing};
+ghost use Rattle.drf_rows.specs.QuotaLaws.{GrantKeepsLimits, CycleKeepsLimits, SpentLimitLeavesNothing, ConsumptionIsPartOfTotal};
+ghost use Rattle.drf_rows.specs.ReservationLaws.{ReservedIsGivenBack, ReservingKeepsLimits, MovedIsConsumed, ChangedAgentKeepsAll};
 ghost use Rattle.drf_rows.specs.LimitLaws.{RoleHasItsLimit, OthersKeepTheirLimit, LimitTakesNothing};
 
-/// An offer of what a client may have of a bundle takes neither its role nor a role above it over a limit. A limit that is at
-/// most the consumption leaves nothing.
+/// An offer of what a client may have of a bundle takes neither its role nor a role above it over a limit, and so no cycle does.
+/// A limit that is at most the consumption leaves nothing, and no role consumes more than there is.
 pub fn limits_law()
     ensures kept { GrantKeepsLimits }
+    ensures cycle { CycleKeepsLimits }
     ensures spent { SpentLimitLeavesNothing }
+    ensures part { ConsumptionIsPartOfTotal }
 {}
 
 /// An event that sets a limit changes the limit of its role, and nothing else: what is consumed above it stays where it is.
@@ -20,6 +23,19 @@ pub fn set_limit_law()
     ensures set { RoleHasItsLimit }
     ensures others { OthersKeepTheirLimit }
     ensures nothing { LimitTakesNothing }
+{}
+
+/// What is reserved is consumed by its role and the roles above it, takes none of them over a limit, and once it is given back
+/// all is as it was.
+pub fn reservations_law()
+    ensures back { ReservedIsGivenBack }
+    ensures kept { ReservingKeepsLimits }
+    ensures consumed { MovedIsConsumed }
+{}
+
+/// An agent whose total changes keeps all that is held there, and nothing else of the rows changes.
+pub fn set_agent_law()
+    ensures { ChangedAgentKeepsAll }
 {}
 
 /// What a role is granted counts against its limit at the next grant of the same cycle, and other roles are not bound by it. The

@@ -1,6 +1,6 @@
 -- What limits hold: a grant cut to the headroom takes no role over its limit, a limit below the consumption leaves nothing, no
 -- role consumes more than there is, and what is moved to a role and back is consumed as before.
-use Rattle.std.specs.Prelude.{◌≡◌, ℕ, zero, suc, ◌+◌, ◌-◌, ◌≤◌, max, min, Bool, true, false, not, ◌&&◌, ◌||◌, List, [], ◌∷◌, ◌++◌, map, fold, filter, flat_map, sum_by, slice_get, Option, Some, None, IsTrue, All, if◌then◌else◌}
+use Rattle.std.specs.Prelude.{◌≡◌, ℕ, zero, suc, ◌+◌, ◌≤◌, max, min, Bool, true, false, not, ◌&&◌, ◌||◌, List, [], ◌∷◌, ◌++◌, map, fold, filter, flat_map, sum_by, slice_get, Option, Some, None, IsTrue, All, if◌then◌else◌}
 use Rattle.std.specs.List.{list_any, count_by, reduce, AllByRecursion}
 use Rattle.std.specs.Option.{option_map_or}
 use Rattle.std.proofs.Common.{refl, sym, ap, ◌∙◌, inl, inr, cond, arith}

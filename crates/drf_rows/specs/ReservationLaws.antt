@@ -1,18 +1,17 @@
 -- What events change of agents: what is reserved and given back again, and what an agent keeps whose total changes.
-use Rattle.std.specs.Prelude.{◌≡◌, ℕ, ◌+◌, ◌≤◌, max, Bool, true, false, not, ◌&&◌, ◌||◌, List, [], ◌∷◌, ◌++◌, map, find, filter, sum_by, slice_get, Option, Some, None, IsTrue, nat_le, if◌then◌else◌}
+use Rattle.std.specs.Prelude.{◌≡◌, ℕ, ◌+◌, ◌≤◌, max, Bool, true, false, not, ◌&&◌, ◌||◌, List, [], ◌∷◌, map, find, filter, sum_by, slice_get, Option, Some, None, IsTrue}
 use Rattle.std.specs.List.{list_any, list_all, AllByRecursion}
 use Rattle.std.specs.Option.{option_map_or}
 use Rattle.std.proofs.Common.{refl, sym, ap, subst, ◌∙◌, inl, inr, cond, arith, zero, suc}
 use Rattle.std.proofs.lemmas.Bool.{cases_Bool, and_parts, and_from, or_parts, leb-true, not-false, false≢true}
-use Rattle.std.proofs.lemmas.List.Sums.{sum_by-cons}
 use Rattle.drf_role.specs.Text.{Text, same_text}
 use Rattle.drf_role.specs.TextLaws.{same_from_test}
 use Rattle.drf_role.specs.Path.{Path}
 use Rattle.drf_role.specs.Parts.{parts_of, text_of}
-use Rattle.drf_role.specs.Role.{IsRole, default_role}
-use Rattle.drf_bundle.specs.Value.{Point, Thousandths, units_in}
+use Rattle.drf_role.specs.Role.{IsRole}
+use Rattle.drf_bundle.specs.Value.{Thousandths, units_in}
 use Rattle.drf_bundle.specs.Quantities.{amount_of, is_named}
-use Rattle.drf_bundle.specs.Bundle.{Key, key_of, same_key, reservation, IsBundle, units_where, stock, quantities_of, covers, is_default, is_unreserved, relabel}
+use Rattle.drf_bundle.specs.Bundle.{same_key, IsBundle, units_where, stock, quantities_of, covers, is_default, is_unreserved, relabel}
 use Rattle.drf_bundle.specs.KeyLaws.{unit_of, where-cons}
 use Rattle.drf_bundle.specs.SumLaws.{of_name, amount-quantities_of}
 use Rattle.drf_bundle.specs.Taken.{joined-rest_of_all, units_of_all}
@@ -27,15 +26,13 @@ use Rattle.drf_rows.specs.Offers.{is_empty}
 use Rattle.drf_rows.specs.Consistent.{IsAgent, IsCovered, IsConsistent, IsConserved}
 use Rattle.drf_rows.specs.ConsistentLaws.{bundles-consistent}
 use Rattle.drf_rows.specs.EndingLaws.{sum_by-out}
-use Rattle.drf_rows.specs.ListLaws.{list_any-map}
 use Rattle.drf_rows.specs.TaskLaws.{units-covers_all}
-use Rattle.drf_rows.specs.Quota.{reserves, unreserved_in, reserved_in, reserved_for, consumption_where, consumption, is_within, binds, stays_within, admits}
-use Rattle.drf_rows.specs.QuotaLaws.{moved_is_reserved, parts_le}
-use Rattle.drf_rows.specs.Step.{cases_of, refusal_of, effect, is_full}
+use Rattle.drf_rows.specs.Quota.{reserves, unreserved_in, reserved_in, consumption_where, consumption, is_within, binds, stays_within, admits}
+use Rattle.drf_rows.specs.QuotaLaws.{moved_is_reserved}
+use Rattle.drf_rows.specs.Step.{refusal_of, effect, is_full}
 use Rattle.drf_rows.specs.StepLaws.{least_is_told}
 use Rattle.drf_rows.specs.Totals.{agent_at, total_at, with_total, with_other_total, exchanged, is_not_free, is_below_held}
-use Rattle.drf_rows.specs.TotalsLaws.{CanExchange, can_reserve, can_unreserve, bundle-moved, where-exchanged, exchanged-back, with_total-place, agents_before, agents_after, agents_stand, same_name, if_named, bundle_free, can_in_total, names-with_total, activity-with_total, IsRightTotal, IsConsistent-with_total, IsConsistent-exchanged, free_of-exchanged}
-use Rattle.drf_rows.specs.declared.event.Event.{Event}
+use Rattle.drf_rows.specs.TotalsLaws.{CanExchange, can_reserve, can_unreserve, where-exchanged, exchanged-back, with_total-place, agents_before, agents_after, agents_stand, same_name, if_named, bundle_free, can_in_total, names-with_total, activity-with_total, IsRightTotal, IsConsistent-with_total}
 use Rattle.drf_rows.specs.declared.event.Event.TheVariants.{SetAgent, Reserve, Unreserve}
 use Rattle.drf_rows.specs.declared.rows.AgentRow.{AgentRow}
 use Rattle.drf_rows.specs.declared.rows.LimitRow.{LimitRow}

@@ -1,17 +1,16 @@
 -- The rows once a part of an agent moves between everyone and a role, or its total is another; and that they stay consistent.
-use Rattle.std.specs.Prelude.{◌≡◌, ℕ, ◌+◌, ◌≤◌, Bool, true, false, not, List, [], ◌∷◌, ◌++◌, map, fold, Option, Some, if◌then◌else◌, IsTrue}
+use Rattle.std.specs.Prelude.{◌≡◌, ◌+◌, ◌≤◌, Bool, true, false, List, [], ◌∷◌, ◌++◌, map, fold, Option, Some, if◌then◌else◌, IsTrue}
 use Rattle.std.specs.List.{list_any, AllByRecursion}
 use Rattle.std.specs.Option.{option_map_or}
 use Rattle.std.proofs.Common.{refl, sym, ap, subst, ◌∙◌, inl, inr, arith}
 use Rattle.std.proofs.lemmas.Bool.{cases_Bool, false≢true}
 use Rattle.std.proofs.lemmas.List.{map-append}
-use Rattle.std.proofs.lemmas.List.Folds.{fold-map}
 use Rattle.std.proofs.lemmas.Simd.{map-map}
 use Rattle.drf_role.specs.Text.{Text, same_text}
-use Rattle.drf_role.specs.TextLaws.{same_itself, same_from_test}
+use Rattle.drf_role.specs.TextLaws.{same_from_test}
 use Rattle.drf_role.specs.Path.{Path}
 use Rattle.drf_role.specs.Parts.{parts_of, text_of}
-use Rattle.drf_role.specs.Role.{IsRole, default_role}
+use Rattle.drf_role.specs.Role.{IsRole}
 use Rattle.drf_bundle.specs.Value.{Point, Thousandths}
 use Rattle.drf_bundle.specs.Quantities.{amount_of, plus}
 use Rattle.drf_bundle.specs.QuantitiesLaws.{same_quantities}
@@ -30,12 +29,12 @@ use Rattle.drf_rows.specs.Held.{cluster_total}
 use Rattle.drf_rows.specs.Cycle.{free_of}
 use Rattle.drf_rows.specs.CycleLaws.{bundle-free_of, units-free_of}
 use Rattle.drf_rows.specs.Consistent.{are_distinct, IsAgent, IsHeld, IsCovered, IsFilter, IsConsistent}
-use Rattle.drf_rows.specs.ConsistentLaws.{same_text-swap, bundles-consistent}
+use Rattle.drf_rows.specs.ConsistentLaws.{bundles-consistent}
 use Rattle.drf_rows.specs.EndingLaws.{IsPlace, find-place, each-one}
 use Rattle.drf_rows.specs.MemberLaws.{others_of_name}
 use Rattle.drf_rows.specs.Members.{has_agent}
 use Rattle.drf_rows.specs.ListLaws.{list_any-map, each_from, each_from_both, each_append, each_parts, each_map}
-use Rattle.drf_rows.specs.Totals.{agent_at, total_at, with_total, exchanged, with_reserved, with_unreserved}
+use Rattle.drf_rows.specs.Totals.{agent_at, total_at, with_total, exchanged}
 use Rattle.drf_rows.specs.declared.rows.AgentRow.{AgentRow}
 use Rattle.drf_rows.specs.declared.rows.Rows.{Rows}
 

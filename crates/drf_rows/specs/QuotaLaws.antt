@@ -232,7 +232,7 @@ limited role label (x ∷ xs) (suc place) l at within named =
 
 -- ---- what the cut leaves
 
-no_text : (role : Path) → IsRole role → is_default role ≡ false → same_text (text_of role) [] ≡ false
+pub no_text : (role : Path) → IsRole role → is_default role ≡ false → same_text (text_of role) [] ≡ false
 no_text role (inl default) other = absurd (false≢true (sym other ∙ ap is_default default))
 no_text role (inr path) other = by role path
   where

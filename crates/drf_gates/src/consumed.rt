@@ -59,7 +59,8 @@ fn one(alloc: Global, resource: &Resource) -> Result<Quantities, AllocError>
 impl Quota {
     /// A client of the role holds the bundle: what is unreserved of it is consumed. An `Err` changes nothing.
     pub fn consume_unreserved(&mut self, role: &Role, bundle: &Bundle) -> Result<(), AllocError>
-        requires { (test : Path → Bool) (label : Text) → used_where test self.old.used label + unreserved_in label bundle.now < 2 ^ 64 }
+        requires { (test : Path → Bool) (label : Text)
+            → used_where test self.old.used label + (if test role.now then unreserved_in label bundle.now else 0) < 2 ^ 64 }
         ensures ok { OnOk result (IsRaisedBy self.old self.new (λ test label. if test role.now then unreserved_in label bundle.now else 0)) }
         ensures err { OnErr result (self.new ≡ self.old) }
     {

@@ -31,8 +31,8 @@ use Rattle.drf_rows.specs.Quota.{reserves, unreserved_in, reserved_in, consumpti
 use Rattle.drf_rows.specs.QuotaLaws.{moved_is_reserved}
 use Rattle.drf_rows.specs.Step.{refusal_of, effect, is_full}
 use Rattle.drf_rows.specs.StepLaws.{least_is_told}
-use Rattle.drf_rows.specs.Totals.{agent_at, total_at, with_total, with_other_total, exchanged, is_not_free, is_below_held}
-use Rattle.drf_rows.specs.TotalsLaws.{CanExchange, can_reserve, can_unreserve, where-exchanged, exchanged-back, with_total-place, agents_before, agents_after, agents_stand, same_name, if_named, bundle_free, can_in_total, names-with_total, activity-with_total, IsRightTotal, IsConsistent-with_total}
+use Rattle.drf_rows.specs.Totals.{CanExchange, agent_at, total_at, with_total, with_other_total, exchanged, is_not_free, is_below_held}
+use Rattle.drf_rows.specs.TotalsLaws.{can_reserve, can_unreserve, where-exchanged, exchanged-back, with_total-place, agents_before, agents_after, agents_stand, same_name, if_named, bundle_free, can_in_total, names-with_total, activity-with_total, IsRightTotal, IsConsistent-with_total}
 use Rattle.drf_rows.specs.declared.event.Event.TheVariants.{SetAgent, Reserve, Unreserve}
 use Rattle.drf_rows.specs.declared.rows.AgentRow.{AgentRow}
 use Rattle.drf_rows.specs.declared.rows.LimitRow.{LimitRow}

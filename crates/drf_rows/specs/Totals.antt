@@ -1,9 +1,10 @@
 -- What agents have, once it changes: a part is reserved for a role or is for everyone again, or the total is another.
-use Rattle.std.specs.Prelude.{Bool, false, not, List, map, find, Option, if◌then◌else◌}
+use Rattle.std.specs.Prelude.{◌≡◌, ◌≤◌, Bool, false, not, List, map, find, Option, if◌then◌else◌}
 use Rattle.std.specs.Option.{option_map_or}
 use Rattle.drf_role.specs.Text.{Text, same_text}
 use Rattle.drf_role.specs.Path.{Path}
-use Rattle.drf_bundle.specs.Bundle.{join, rest, covers, relabel}
+use Rattle.drf_bundle.specs.Value.{Point}
+use Rattle.drf_bundle.specs.Bundle.{Key, IsBundle, units, stock, join, rest, covers, relabel}
 use Rattle.drf_bundle.specs.declared.resource.Resource.{Resource}
 use Rattle.drf_rows.specs.Cycle.{free_of}
 use Rattle.drf_rows.specs.Holdings.{holdings_of, parts_on}
@@ -27,6 +28,14 @@ with_total rows name made = map (total_at name made) rows.agents
 -- a bundle with another part in place of one that it covers
 abbrev pub exchanged : List Resource → List Resource → List Resource → List Resource
 exchanged old new whole = option_map_or (λ both. both) (join (rest whole old) new) whole
+
+-- the bundle has the first part, and as much of each name is in the second
+pub record CanExchange (whole old new : List Resource) : Type 0 where
+  pub is_whole : IsBundle whole
+  pub is_old : IsBundle old
+  pub is_new : IsBundle new
+  pub covered : (key : Key) (p : Point) → units old key p ≤ units whole key p
+  pub stocks : (name : Text) (p : Point) → stock new name p ≡ stock old name p
 
 -- resources of an agent that are for everyone are reserved for a role
 abbrev pub with_reserved : Rows → Text → Path → List Resource → List AgentRow

@@ -1,5 +1,5 @@
 -- The rows once a part of an agent moves between everyone and a role, or its total is another; and that they stay consistent.
-use Rattle.std.specs.Prelude.{◌≡◌, ◌+◌, ◌≤◌, Bool, true, false, List, [], ◌∷◌, ◌++◌, map, fold, Option, Some, if◌then◌else◌, IsTrue}
+use Rattle.std.specs.Prelude.{◌≡◌, ◌+◌, ◌≤◌, Bool, true, false, List, [], ◌∷◌, ◌++◌, map, fold, Option, Some, if◌then◌else◌, IsTrue, not, filter}
 use Rattle.std.specs.List.{list_any, AllByRecursion}
 use Rattle.std.specs.Option.{option_map_or}
 use Rattle.std.proofs.Common.{refl, sym, ap, subst, ◌∙◌, inl, inr, arith}
@@ -12,8 +12,8 @@ use Rattle.drf_role.specs.Path.{Path}
 use Rattle.drf_role.specs.Parts.{parts_of, text_of}
 use Rattle.drf_role.specs.Role.{IsRole}
 use Rattle.drf_bundle.specs.Value.{Point, Thousandths}
-use Rattle.drf_bundle.specs.Quantities.{amount_of, plus}
-use Rattle.drf_bundle.specs.QuantitiesLaws.{same_quantities}
+use Rattle.drf_bundle.specs.Quantities.{amount_of, plus, HasNoZeros}
+use Rattle.drf_bundle.specs.QuantitiesLaws.{same_quantities, no_zeros-empty, no_zeros-plus, amount-plus}
 use Rattle.drf_bundle.specs.Bundle.{Key, IsBundle, same_key, units, units_where, stock, merged, join, rest, covers, quantities_of, is_unreserved, relabel}
 use Rattle.drf_bundle.specs.BundleLaws.{known_by_units}
 use Rattle.drf_bundle.specs.FitLaws.{stock_of_both, fits_less, IsJoinOf, join_some, join_fits}
@@ -30,23 +30,15 @@ use Rattle.drf_rows.specs.Cycle.{free_of}
 use Rattle.drf_rows.specs.CycleLaws.{bundle-free_of, units-free_of}
 use Rattle.drf_rows.specs.Consistent.{are_distinct, IsAgent, IsHeld, IsCovered, IsFilter, IsConsistent}
 use Rattle.drf_rows.specs.ConsistentLaws.{bundles-consistent}
-use Rattle.drf_rows.specs.EndingLaws.{IsPlace, find-place, each-one}
-use Rattle.drf_rows.specs.MemberLaws.{others_of_name}
+use Rattle.drf_rows.specs.EndingLaws.{IsPlace, find-place, each-one, each-out, sum_by-out}
+use Rattle.drf_rows.specs.MemberLaws.{others_of_name, without_named, amount_on, amount-cluster_total}
 use Rattle.drf_rows.specs.Members.{has_agent}
 use Rattle.drf_rows.specs.ListLaws.{list_any-map, each_from, each_from_both, each_append, each_parts, each_map}
-use Rattle.drf_rows.specs.Totals.{agent_at, total_at, with_total, exchanged}
+use Rattle.drf_rows.specs.Totals.{CanExchange, agent_at, total_at, with_total, exchanged, with_other_total}
 use Rattle.drf_rows.specs.declared.rows.AgentRow.{AgentRow}
 use Rattle.drf_rows.specs.declared.rows.Rows.{Rows}
 
 -- ---- one part in place of another
-
--- the bundle has the first part, and as much of each name is in the second
-pub record CanExchange (whole old new : List Resource) : Type 0 where
-  pub is_whole : IsBundle whole
-  pub is_old : IsBundle old
-  pub is_new : IsBundle new
-  pub covered : (key : Key) (p : Point) → units old key p ≤ units whole key p
-  pub stocks : (name : Text) (p : Point) → stock new name p ≡ stock old name p
 
 module _ (whole old new : List Resource) (can : CanExchange whole old new) where
   abbrev left : List Resource
@@ -361,3 +353,46 @@ module _ (rows : Rows) (name : Text) (a : AgentRow) (consistent : IsConsistent r
         same_totals : (bs : List AgentRow) (b c : AgentRow) (cs : List AgentRow) → quantities_of b.total ≡ quantities_of c.total
             → cluster_total (bs ++ b ∷ cs) ≡ cluster_total (bs ++ c ∷ cs)
         same_totals bs b c cs same = same_from [] bs cs b c same
+
+-- ---- another total
+
+no_zeros-added : (start : List Entry) (agents : List AgentRow) → HasNoZeros start → AllByRecursion IsAgent agents
+    → HasNoZeros (fold (λ sum a. plus sum (quantities_of a.total)) start agents)
+no_zeros-added start [] none all = none
+no_zeros-added start (a ∷ agents) none all =
+    no_zeros-added (plus start (quantities_of a.total)) agents
+    (no_zeros-plus start (quantities_of a.total) none (quantities_no_zeros a.total all.0.total)) all.1
+
+pub no_zeros-total : (agents : List AgentRow) → AllByRecursion IsAgent agents → HasNoZeros (cluster_total agents)
+no_zeros-total agents all = no_zeros-added [] agents no_zeros-empty all
+
+-- what the others have, and the new total, is what all have then
+pub cluster_total-other_total : (rows : Rows) (name : Text) (a : AgentRow) (total : List Resource) → IsConsistent rows
+    → agent_at rows name ≡ Some a → IsAgent (record a { total = total })
+    → plus (cluster_total (filter (λ b. not (same_text b.name name)) rows.agents)) (quantities_of total)
+    ≡ cluster_total (with_other_total rows name total)
+cluster_total-other_total rows name a total consistent found right =
+    let before : List AgentRow = agents_before rows name a consistent found in
+    let after : List AgentRow = agents_after rows name a consistent found in
+    let stand = agents_stand rows name a consistent found in
+    let changed : AgentRow = record a { total = total } in
+    let others : filter (λ b. not (same_text b.name name)) rows.agents ≡ before ++ after =
+    subst (λ (n : Text). filter (λ b. not (same_text b.name n)) rows.agents ≡ before ++ after) (same_name rows name a consistent found)
+    (without_named (λ (b : AgentRow). b.name) rows.agents before after a consistent.agents.names stand) in
+    let all = subst (AllByRecursion IsAgent) stand consistent.agents.each in
+    let both = each-out IsAgent before after a all in
+    let parts = each_parts IsAgent before after both in
+    let new = each_append IsAgent before (changed ∷ after) parts.0 (right, parts.1) in
+    let here = with_total-place rows name a consistent found (λ old. total) in
+    ap (λ (bs : List AgentRow). plus (cluster_total bs) (quantities_of total)) others
+    ∙ same_quantities (plus (cluster_total (before ++ after)) (quantities_of total)) (cluster_total (before ++ changed ∷ after))
+    (no_zeros-plus (cluster_total (before ++ after)) (quantities_of total) (no_zeros-total (before ++ after) both) (quantities_no_zeros total right.total))
+    (no_zeros-total (before ++ changed ∷ after) new)
+    (λ label. omega (
+      arith,
+      amount-plus (cluster_total (before ++ after)) (quantities_of total) label (quantities_no_zeros total right.total).in_order,
+      amount-cluster_total (before ++ after) label both,
+      amount-cluster_total (before ++ changed ∷ after) label new,
+      sum_by-out (amount_on label) before after changed,
+    ))
+    ∙ sym (ap cluster_total here)

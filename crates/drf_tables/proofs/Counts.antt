@@ -1,15 +1,17 @@
 -- What a quota counts, change by change.
-use Rattle.std.specs.Prelude.{◌≡◌, ℕ, ◌+◌, ◌<◌, ◌^◌, Bool, true, false, List, [], ◌∷◌, length, drop, map, sum_by, if◌then◌else◌}
-use Rattle.std.proofs.Common.{refl, sym, ap, ◌∙◌, arith, get_or, add-one, drop-cons}
+use Rattle.std.specs.Prelude.{◌≡◌, ℕ, ◌+◌, ◌<◌, ◌^◌, Bool, true, false, List, [], ◌∷◌, length, drop, is_some, map, sum_by, if◌then◌else◌}
+use Rattle.std.proofs.Common.{refl, sym, inl, inr, ap, ◌∙◌, arith, get_or, add-one, drop-cons}
 use Rattle.std.proofs.lemmas.List.Sums.{sum_by-cons}
-use Rattle.std.proofs.lemmas.Bool.{false≢true}
+use Rattle.std.specs.List.{list_any}
+use Rattle.std.proofs.lemmas.Bool.{cases_Bool, false≢true}
 use Rattle.drf_role.specs.Text.{Text, same_text}
-use Rattle.drf_role.specs.Path.{Path}
+use Rattle.drf_role.specs.Path.{Path, same_path}
 use Rattle.drf_rows.specs.Holdings.{Holding, holdings_of}
 use Rattle.drf_rows.specs.ListLaws.{sum_by-map}
 use Rattle.drf_rows.specs.Members.{active_at, with_activity}
-use Rattle.drf_rows.specs.Quota.{unreserved_in, reserved_in, held_unreserved, reserved_for, consumption_where}
+use Rattle.drf_rows.specs.Quota.{unreserved_in, reserved_in, held_unreserved, reserved_for, consumption_where, limit_of}
 use Rattle.drf_rows.specs.declared.rows.AgentRow.{AgentRow}
+use Rattle.drf_rows.specs.declared.rows.LimitRow.{LimitRow}
 use Rattle.drf_rows.specs.declared.rows.Rows.{Rows}
 use Rattle.drf_gates.specs.Quota.{Allowance, IsAllowanceOf, IsRaisedBy, used_where}
 use Rattle.drf_tables.specs.Inside.{CountsIf}
@@ -89,3 +91,13 @@ pub next_of : {A : Type 0} (xs : List A) (i : ℕ) (x : A) → i < length xs →
 next_of {A} xs i x in_range read =
     let split : drop i xs ≡ get_or xs i x ∷ drop (i + 1) xs = rw (add-one) (drop-cons xs i x in_range) in
     split ∙ ap (λ (y : A). y ∷ drop (i + 1) xs) (sym read)
+
+-- ---- limits
+
+-- a role has a limit where one is found
+pub found_limit : (limits : List LimitRow) (role : Path) → is_some (limit_of limits role) ≡ list_any (λ l. same_path l.role role) limits
+found_limit [] role = refl
+found_limit (l ∷ ls) role = elim (cases_Bool (same_path l.role role)) [
+  | inl here ↦ rw here refl
+  | inr past ↦ rw past (found_limit ls role)
+]

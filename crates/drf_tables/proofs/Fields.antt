@@ -151,3 +151,8 @@ pub sums_fit : (agents : List AgentRow) (label : Text) (amount : ℕ)
     → amount_of (cluster_total agents) label + amount < 2 ^ 64
 unfolding added
 sums_fit agents label amount all few small = omega (arith, small_sum [] agents label all, few, small)
+
+pub total_fits : (agents : List AgentRow) (label : Text) → AllByRecursion IsAgent agents → length agents ≤ 4096
+    → amount_of (cluster_total agents) label < 2 ^ 64
+unfolding added
+total_fits agents label all few = omega (arith, small_sum [] agents label all, few)

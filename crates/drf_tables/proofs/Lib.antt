@@ -10,3 +10,4 @@ pub mod Kept
 pub mod Fields
 pub mod Weighed
 pub mod Counts
+pub mod Moved

@@ -1,7 +1,7 @@
 -- Agents whose entries change.
 use Rattle.std.specs.Prelude.{◌≡◌, ℕ, ◌≤◌, Bool, false, List, Some, None, take, if◌then◌else◌}
 use Rattle.std.specs.Option.{option_map}
-use Rattle.drf_bundle.specs.Bundle.{quantities_of}
+use Rattle.drf_bundle.specs.Bundle.{IsBundle, quantities_of}
 use Rattle.drf_bundle.specs.Quantities.{amount_of}
 use Rattle.drf_bundle.specs.declared.resource.Resource.{Resource}
 use Rattle.drf_rows.specs.Cycle.{free_of}
@@ -29,6 +29,11 @@ with_active active a = record a { active = active }
 abbrev pub with_exchanged : List Resource → List Resource → Agent → Agent
 with_exchanged old new a = record a { total = exchanged old new a.total; free = option_map (exchanged old new) a.free }
 
+-- both have the first part
+pub record CanExchangeAt (old new : List Resource) (a : Agent) : Type 0 where
+  pub total : CanExchange a.total old new
+  pub free : (known : List Resource) → a.free ≡ Some known → CanExchange known old new
+
 -- its total is another, and what is free there is not known
 abbrev pub with_other : List Resource → Agent → Agent
 with_other total a = record a { total = total; free = None }
@@ -43,6 +48,7 @@ pub record CanExchangeOn (rows : Rows) (agent : Text) (old new : List Resource) 
 pub record CanHaveTotal (rows : Rows) (agent : Text) (total : List Resource) : Type 0 where
   pub row : AgentRow
   pub found : agent_at rows agent ≡ Some row
+  pub bundle : IsBundle total
   pub small : (label : Text) → amount_of (quantities_of total) label ≤ LARGEST_AMOUNT
   pub covered : is_below_held rows agent total ≡ false
 

@@ -66,7 +66,10 @@ impl Tables {
         ensures same { self.new.rows ≡ self.old.rows }
         ensures settled { self.new.settled ≡ self.old.settled }
     {
-        if self.is_counted || !self.quota.has_limits() {
+        if self.is_counted {
+            return Ok(());
+        }
+        if !self.quota.has_limits() {
             return Ok(());
         }
         self.quota.forget();

@@ -1,14 +1,13 @@
 //! Agents whose totals change: a part is exchanged for another, or all of it.
 ghost use Rattle.std.specs.Prelude.{◌≡◌, List, map, true, Some, OnOk, OnErr, IfOk};
-ghost use Rattle.std.specs.Map.{lookup};
+ghost use Rattle.std.specs.List.{AllByRecursion};
 ghost use Rattle.std.specs.Option.{option_map};
 ghost use Rattle.drf_role.specs.Text.{same_text};
 ghost use Rattle.drf_bundle.specs.declared.resource.Resource.{Resource};
 ghost use Rattle.drf_rows.specs.Consistent.{are_distinct};
 ghost use Rattle.drf_rows.specs.Totals.{CanExchange, exchanged};
-ghost use Rattle.drf_tables.specs.Changing.{changed, with_exchanged, with_other};
+ghost use Rattle.drf_tables.specs.Changing.{CanExchangeAt, changed, with_exchanged, with_other};
 ghost use Rattle.drf_tables.specs.Inside.{agent_row};
-ghost use Rattle.drf_tables.specs.declared.tables.Agent.{Agent as AgentEntry};
 
 use crate::tables::Agent;
 use drf_amount::Algebra;
@@ -53,8 +52,7 @@ pub(crate) fn exchange(
     new: &Bundle,
 ) -> Result<(), AllocError>
     requires names { are_distinct (map (λ a. a.name) (map agent_row agents.old.entries)) ≡ true }
-    requires total { (a : AgentEntry) → lookup (same_text name.now) agents.old.entries ≡ Some a → CanExchange a.total old.now new.now }
-    requires free { (a : AgentEntry) (known : List Resource) → lookup (same_text name.now) agents.old.entries ≡ Some a → a.free ≡ Some known → CanExchange known old.now new.now }
+    requires can { AllByRecursion (λ e. same_text e.0 name.now ≡ true → CanExchangeAt old.now new.now e.1) agents.old.entries }
     ensures ok { OnOk result (agents.new.entries ≡ map (changed name.now (with_exchanged old.now new.now)) agents.old.entries) }
     ensures err { OnErr result (agents.new.entries ≡ agents.old.entries) }
 {

@@ -1,5 +1,5 @@
 -- What a quota counts, change by change.
-use Rattle.std.specs.Prelude.{◌≡◌, ℕ, ◌+◌, ◌<◌, ◌^◌, Bool, true, false, List, [], ◌∷◌, length, drop, is_some, map, sum_by, if◌then◌else◌}
+use Rattle.std.specs.Prelude.{◌≡◌, ℕ, ◌+◌, ◌<◌, ◌^◌, Bool, true, false, List, [], ◌∷◌, length, drop, is_some, sum_by, if◌then◌else◌}
 use Rattle.std.proofs.Common.{refl, sym, inl, inr, ap, ◌∙◌, arith, get_or, add-one, drop-cons}
 use Rattle.std.proofs.lemmas.List.Sums.{sum_by-cons}
 use Rattle.std.specs.List.{list_any}
@@ -9,11 +9,11 @@ use Rattle.drf_role.specs.Path.{Path, same_path}
 use Rattle.drf_rows.specs.Holdings.{Holding, holdings_of}
 use Rattle.drf_rows.specs.ListLaws.{sum_by-map}
 use Rattle.drf_rows.specs.Members.{active_at, with_activity}
-use Rattle.drf_rows.specs.Quota.{unreserved_in, reserved_in, held_unreserved, reserved_for, consumption_where, limit_of}
+use Rattle.drf_rows.specs.Quota.{unreserved_in, reserved_in, held_unreserved, reserved_for, limit_of}
 use Rattle.drf_rows.specs.declared.rows.AgentRow.{AgentRow}
 use Rattle.drf_rows.specs.declared.rows.LimitRow.{LimitRow}
 use Rattle.drf_rows.specs.declared.rows.Rows.{Rows}
-use Rattle.drf_gates.specs.Quota.{Allowance, IsAllowanceOf, IsRaisedBy, used_where}
+use Rattle.drf_gates.specs.Quota.{Allowance, IsRaisedBy, used_where}
 use Rattle.drf_tables.specs.Inside.{CountsIf}
 
 -- nothing is said of a quota that does not count

@@ -1,33 +1,32 @@
 -- The rows that the fields stand for once limits are set, a part of an agent is exchanged, or its total is another.
-use Rattle.std.specs.Prelude.{◌≡◌, ℕ, ◌+◌, ◌≤◌, ◌<◌, ◌^◌, Bool, true, false, not, List, [], ◌∷◌, ◌++◌, length, map, filter, Option, Some, None, Result, Ok, Err, OnOk, OnErr, if◌then◌else◌}
+use Rattle.std.specs.Prelude.{◌≡◌, ℕ, ◌+◌, ◌≤◌, ◌<◌, ◌^◌, Bool, true, false, not, List, [], ◌∷◌, length, map, filter, Option, Some, None, Result, Ok, Err, OnOk, OnErr, if◌then◌else◌}
 use Rattle.std.specs.List.{AllByRecursion}
 use Rattle.std.specs.Option.{option_map}
 use Rattle.std.proofs.Common.{refl, sym, ap, subst, ◌∙◌, arith}
 use Rattle.std.proofs.lemmas.List.Sums.{sum_by-append}
 use Rattle.drf_role.specs.Text.{Text, same_text}
 use Rattle.drf_role.specs.Path.{Path}
-use Rattle.drf_bundle.specs.Bundle.{IsBundle, is_default, quantities_of}
-use Rattle.drf_bundle.specs.Quantities.{amount_of, plus}
+use Rattle.drf_bundle.specs.Bundle.{is_default, quantities_of}
+use Rattle.drf_bundle.specs.Quantities.{plus}
 use Rattle.drf_bundle.specs.Taken.{rest_of_all}
 use Rattle.drf_bundle.specs.declared.quantities.Entry.{Entry}
 use Rattle.drf_bundle.specs.declared.resource.Resource.{Resource}
-use Rattle.drf_rows.specs.Client.{Client}
-use Rattle.drf_rows.specs.Consistent.{IsAgent, IsConsistent}
+use Rattle.drf_rows.specs.Consistent.{IsAgent}
 use Rattle.drf_rows.specs.Cycle.{free_of}
-use Rattle.drf_rows.specs.Held.{clients_of, cluster_total}
+use Rattle.drf_rows.specs.Held.{cluster_total}
 use Rattle.drf_rows.specs.Holdings.{Holding, of_offer, of_task, holdings_of, parts_on}
 use Rattle.drf_rows.specs.LimitLaws.{IsConsistent-limit_set}
 use Rattle.drf_rows.specs.ListLaws.{each_from, each_from_both, each_map}
 use Rattle.drf_rows.specs.Quota.{unreserved_in, held_unreserved, reserved_for, consumption_where, limits_with}
 use Rattle.drf_rows.specs.QuotaLaws.{consumption_is_part_of_total}
 use Rattle.drf_rows.specs.ReservationLaws.{IsConsistent-other_total}
-use Rattle.drf_rows.specs.Totals.{CanExchange, agent_at, total_at, with_total, with_other_total, exchanged}
+use Rattle.drf_rows.specs.Totals.{CanExchange, total_at, with_total, with_other_total, exchanged}
 use Rattle.drf_rows.specs.TotalsLaws.{if_named, can_in_total, IsConsistent-exchanged, free_of-exchanged, cluster_total-exchanged, cluster_total-other_total}
 use Rattle.drf_rows.specs.declared.rows.AgentRow.{AgentRow}
 use Rattle.drf_rows.specs.declared.rows.Rows.{Rows}
 use Rattle.drf_gates.specs.Quota.{Allowance, IsAllowanceOf, IsRaisedBy, used_where}
 use Rattle.drf_tables.specs.Changing.{CanExchangeOn, CanHaveTotal, CanExchangeAt, changed, with_exchanged, with_other}
-use Rattle.drf_tables.specs.Inside.{agent_row, rows_of, rows_in, IsKnown, IsKept, CountsIf, IsWhole}
+use Rattle.drf_tables.specs.Inside.{agent_row, rows_of, rows_in, IsKnown, IsKept, IsWhole}
 use Rattle.drf_tables.specs.declared.tables.Agent.{Agent}
 use Rattle.drf_tables.specs.declared.tables.Tables.TheInside.{Inside}
 use Rattle.drf_tables.proofs.Changes.{rows_but}

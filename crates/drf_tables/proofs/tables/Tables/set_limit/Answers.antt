@@ -1,4 +1,3 @@
-use Rattle.std.proofs.Common.{ap}
 use Rattle.drf_tables.proofs.Moved.{limit-set}
 use Rattle.drf_tables.proofs.tables.Tables.set_limit.Goals as goal
 

@@ -2,3 +2,4 @@ pub mod ChainLemmas
 pub mod FilterLemmas
 pub mod UsageLemmas
 pub mod QuotaLemmas
+pub mod ConsumedLemmas

@@ -4,13 +4,16 @@ use Rattle.std.specs.List.{reduce}
 use Rattle.std.specs.Coded.{Coded, code_by, coded×, coded_list, coded_ℕ}
 use Rattle.std.specs.Map.{lookup}
 use Rattle.std.specs.Option.{option_map_or}
-use Rattle.drf_role.specs.Text.{Text}
+use Rattle.drf_role.specs.Text.{Text, same_text}
 use Rattle.drf_role.specs.Path.{Path, same_path}
 use Rattle.drf_role.specs.Role.{IsRole}
 use Rattle.drf_bundle.specs.Quantities.{amount_of, with_amount}
+use Rattle.drf_bundle.specs.Value.{Thousandths, units_in}
+use Rattle.drf_bundle.specs.Bundle.{same_key, key_of}
+use Rattle.drf_bundle.specs.declared.resource.Resource.{Resource}
 use Rattle.drf_bundle.specs.contracts.quantities.Entry as entry
 use Rattle.drf_bundle.specs.declared.quantities.Entry.{Entry}
-use Rattle.drf_rows.specs.Quota.{Consumed, is_within, consumption_where, binds, room_under, headroom_under}
+use Rattle.drf_rows.specs.Quota.{Consumed, reserves, is_within, consumption_where, binds, room_under, headroom_under}
 use Rattle.drf_rows.specs.contracts.rows.LimitRow as limit
 use Rattle.drf_rows.specs.declared.rows.LimitRow.{LimitRow}
 use Rattle.drf_rows.specs.declared.rows.Rows.{Rows}
@@ -98,3 +101,18 @@ headroom_from known limits consumed role label =
 abbrev pub with_headroom : List LimitRow → Consumed → Path → List Entry → Text → List Entry
 with_headroom limits consumed role room label =
     with_amount room label (option_map_or (λ n. n) (headroom_under limits consumed role label) 0)
+
+-- roles consume so much more, by a test and a scalar
+pub record IsRaisedBy (old new : Allowance) (more : (Path → Bool) → Text → ℕ) : Type 0 where
+  pub limits : new.limits ≡ old.limits
+  pub used : (test : Path → Bool) (label : Text) → used_where test new.used label ≡ used_where test old.used label + more test label
+
+-- how much of a scalar one resource has, and how much for everyone, and reserved for roles that pass a test
+abbrev pub amount_in_one : Text → Resource → ℕ
+amount_in_one label r = if same_text r.label label then units_in r.value Thousandths else 0
+
+abbrev pub unreserved_one : Text → Resource → ℕ
+unreserved_one label r = if same_key (label, []) (key_of r) then units_in r.value Thousandths else 0
+
+abbrev pub reserved_one : (Path → Bool) → Text → Resource → ℕ
+reserved_one test label r = if reserves test label (key_of r) then units_in r.value Thousandths else 0

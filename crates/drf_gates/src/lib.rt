@@ -2,6 +2,7 @@
 //! left of accepted ones.
 #![tactic(auto)]
 
+mod consumed;
 mod filters;
 mod index;
 mod laws;

@@ -3,14 +3,15 @@ ghost use Rattle.std.specs.Prelude.{◌≡◌, ◌≢◌, ℕ, ◌+◌, ◌^◌,
 ghost use Rattle.std.specs.List.{list_all};
 ghost use Rattle.std.specs.Option.{option_copied};
 ghost use Rattle.drf_role.specs.Text.{Text};
-ghost use Rattle.drf_role.specs.Path.{Path};
+ghost use Rattle.drf_role.specs.Path.{Path, same_path};
 ghost use Rattle.drf_role.specs.Role.{IsRole};
 ghost use Rattle.drf_bundle.specs.Quantities.{amount_of, names_of};
 ghost use Rattle.drf_rows.specs.Quota.{is_within, binds, headroom_under, headrooms, stays_within, admits_under, limit_of, limits_with, consumption, headroom_at, headroom, admits};
 ghost use Rattle.drf_rows.specs.declared.rows.Rows.{Rows};
-ghost use Rattle.drf_gates.specs.Quota.{IsAllowanceOf, IsRaised, limit_row, lesser, used_at, used_by, with_headroom};
+ghost use Rattle.indexmap.specs.IndexMap.{insert_entry};
+ghost use Rattle.drf_gates.specs.Quota.{IsAllowanceOf, IsRaised, IsSame, limit_row, lesser, used_at, used_by, with_headroom};
 
-use crate::usage::{is_within, lower, raise, used_at};
+use crate::usage::{copy_used, is_within, lower, raise, used_at};
 use drf_bundle::{Entry, Quantities};
 use drf_role::Role;
 use drf_rows::{LimitRow, Table};
@@ -21,9 +22,9 @@ use std::marker::Model;
 /// The limits of roles, in the order in which the roles got one, and what each role consumes, all in thousandths.
 #[derive(Drop)]
 pub struct Quota {
-    limits: IndexMap<Role, Quantities>,
+    pub(crate) limits: IndexMap<Role, Quantities>,
     // What each role consumes itself, the roles below it left out.
-    used: IndexMap<Role, Quantities>,
+    pub(crate) used: IndexMap<Role, Quantities>,
 }
 
 impl Model for Quota {
@@ -53,6 +54,36 @@ fn lesser(known: Option<u64>, number: u64) -> u64
         None => number,
         Some(other) => other.min(number),
     }
+}
+
+/// Gives a role a limit in the place of the one that it has, if any. An `Err` changes nothing.
+fn put_limit(
+    limits: &mut IndexMap<Role, Quantities>,
+    role: Role,
+    limit: Quantities,
+) -> Result<(), AllocError>
+    ensures ok { OnOk result (limits.new.entries ≡ insert_entry same_path limits.old.entries role limit) }
+    ensures err { OnErr result (limits.new.entries ≡ limits.old.entries) }
+{
+    limits.insert(role, limit)?;
+    Ok(())
+}
+
+/// The limits, copied in their order.
+fn copy_limits(
+    limits: &IndexMap<Role, Quantities>,
+) -> Result<IndexMap<Role, Quantities>, AllocError>
+    ensures { IfOk result (λ copy. copy.entries ≡ limits.now.entries) }
+{
+    // The proof learns that no role has two limits by this call alone.
+    let _ = limits.len();
+    let mut copy = IndexMap::new(*limits.allocator());
+    for (role, limit) in limits {
+        let role = role.copy()?;
+        let limit = limit.copy()?;
+        put_limit(&mut copy, role, limit)?;
+    }
+    Ok(copy)
 }
 
 impl Quota {
@@ -230,5 +261,21 @@ impl Quota {
         ensures { IsRaised self.new self.old role.now amounts.now }
     {
         lower(&mut self.used, role, amounts);
+    }
+
+    /// The same limits, and the same consumption.
+    pub fn copy(&self) -> Result<Quota, AllocError>
+        ensures { IfOk result (IsSame self.now) }
+    {
+        let limits = copy_limits(&self.limits)?;
+        let used = copy_used(&self.used)?;
+        Ok(Quota { limits, used })
+    }
+
+    /// Forgets what roles consume. It needs no memory.
+    pub fn forget(&mut self)
+        ensures { self.new ≡ record self.old { used = [] } }
+    {
+        self.used = IndexMap::new(*self.limits.allocator());
     }
 }

@@ -1,9 +1,10 @@
 //! What roles consume, each by itself.
-ghost use Rattle.std.specs.Prelude.{◌≡◌, ◌+◌, ◌^◌, ◌<◌, ◌≤◌, [], true, IfOk, OnOk, OnErr};
+ghost use Rattle.std.specs.Prelude.{◌≡◌, ◌+◌, ◌^◌, ◌<◌, ◌≤◌, Bool, [], true, IfOk, OnOk, OnErr};
 ghost use Rattle.drf_role.specs.Text.{Text};
+ghost use Rattle.drf_role.specs.Path.{Path};
 ghost use Rattle.drf_bundle.specs.Quantities.{amount_of};
 ghost use Rattle.drf_rows.specs.Quota.{is_within};
-ghost use Rattle.drf_gates.specs.Quota.{AreRaised, counted, used_at, used_by, row_of};
+ghost use Rattle.drf_gates.specs.Quota.{AreRaised, IsBounded, counted, used_at, used_by, used_where, row_of};
 
 use drf_bundle::Quantities;
 use drf_role::Role;
@@ -98,4 +99,21 @@ pub(crate) fn lower(used: &mut IndexMap<Role, Quantities>, role: &Role, amounts:
     if lower_row(row, amounts) {
         used.shift_remove(role);
     }
+}
+
+/// What each role consumes, copied.
+pub(crate) fn copy_used(
+    used: &IndexMap<Role, Quantities>,
+) -> Result<IndexMap<Role, Quantities>, AllocError>
+    requires { IsBounded used.now.entries }
+    ensures { IfOk result (λ copy. (test : Path → Bool) (label : Text)
+        → used_where test copy.entries label ≡ used_where test used.now.entries label) }
+{
+    let mut copy = IndexMap::new(*used.allocator());
+    for (role, amounts) in used {
+        // The proof learns that it is a role by this call alone.
+        let _ = role.text();
+        raise(&mut copy, role, amounts)?;
+    }
+    Ok(copy)
 }

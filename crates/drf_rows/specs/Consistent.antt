@@ -1,11 +1,11 @@
 -- What holds of the rows of an allocator at all times, rule by rule, each over the tables that it reads.
-use Rattle.std.specs.Prelude.{◌≡◌, ℕ, ◌+◌, ◌*◌, ◌^◌, ◌<◌, ◌≤◌, Bool, true, not, ◌&&◌, List, [], ◌∷◌, map, sum_by, nat_lt, Some}
+use Rattle.std.specs.Prelude.{◌≡◌, ℕ, ◌+◌, ◌*◌, ◌^◌, ◌<◌, ◌≤◌, Bool, true, not, ◌&&◌, List, [], ◌∷◌, length, map, sum_by, nat_lt, Some}
 use Rattle.std.specs.List.{list_all, list_any, AllByRecursion}
 use Rattle.drf_role.specs.Text.{Text, same_text}
 use Rattle.drf_role.specs.Path.{Path, same_path}
 use Rattle.drf_bundle.specs.Quantities.{amount_of}
 use Rattle.drf_bundle.specs.Value.{Point}
-use Rattle.drf_bundle.specs.Bundle.{Key, IsBundle, units, quantities_of}
+use Rattle.drf_bundle.specs.Bundle.{Key, IsBundle, is_default, units, quantities_of}
 use Rattle.drf_bundle.specs.Taken.{joined, units_of_all}
 use Rattle.drf_rows.specs.Holdings.{Holding, holdings_of, parts_on}
 use Rattle.drf_rows.specs.Held.{is_registered}
@@ -14,6 +14,7 @@ use Rattle.drf_rows.specs.Cycle.{free_of}
 use Rattle.drf_rows.specs.Weights.{are_weights}
 use Rattle.drf_rows.specs.declared.limits.TheConstants.{LARGEST_AMOUNT, LATEST_MOMENT}
 use Rattle.drf_rows.specs.declared.rows.FilterRow.{FilterRow}
+use Rattle.drf_rows.specs.declared.rows.LimitRow.{LimitRow}
 use Rattle.drf_rows.specs.declared.rows.TaskRow.{TaskRow}
 use Rattle.drf_rows.specs.declared.rows.AgentRow.{AgentRow}
 use Rattle.drf_rows.specs.declared.rows.FrameworkRow.{FrameworkRow}
@@ -54,6 +55,11 @@ abbrev pub are_distinct_tasks : List TaskRow → Bool
 are_distinct_tasks [] = true
 are_distinct_tasks (task ∷ tasks) = list_all (λ t. not (is_task task.framework task.name t)) tasks && are_distinct_tasks tasks
 
+-- each role has one limit, `*` has none, and each names a scalar
+pub record AreLimits (limits : List LimitRow) : Type 0 where
+  pub roles : are_distinct_roles (map (λ l. l.role) limits) ≡ true
+  pub each : list_all (λ l. not (is_default l.role) && nat_lt 0 (length l.limit)) limits ≡ true
+
 -- a filter is that of a registered client on a registered agent, has a bundle, and ends before 2^63
 pub record IsFilter (agents : List AgentRow) (frameworks : List FrameworkRow) (f : FilterRow) : Type 0 where
   pub agent : list_any (λ a. same_text a.name f.agent) agents ≡ true
@@ -82,6 +88,7 @@ pub record IsConsistent (rows : Rows) : Type 0 where
   pub covered : AllByRecursion (IsCovered (holdings_of rows)) rows.agents
   pub tasks : are_distinct_tasks rows.tasks ≡ true
   pub weights : are_weights rows.weights ≡ true
+  pub limits : AreLimits rows.limits
   pub filters : AllByRecursion (IsFilter rows.agents rows.frameworks) rows.filters
   pub early : rows.clock ≤ LATEST_MOMENT
   pub counted : offers_counted rows.frameworks < rows.next_offer

@@ -374,6 +374,7 @@ IsConsistent-with_offer rows agent place client bundle consistent at known right
           (only_named (λ a. a.name) rows.agents place agent consistent.agents.names at);
       tasks = consistent.tasks;
       weights = consistent.weights;
+      limits = consistent.limits;
       filters = each_from (IsFilter rows.agents rows.frameworks) (IsFilter rows.agents frameworks) rows.filters
           (λ f right. record {
             agent = right.agent;

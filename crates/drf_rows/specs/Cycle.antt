@@ -3,7 +3,7 @@ use Rattle.std.specs.Prelude.{ℕ, zero, suc, ◌+◌, max, Bool, not, ◌&&◌,
 use Rattle.std.specs.List.{list_all}
 use Rattle.std.specs.Option.{option_map_or}
 use Rattle.drf_role.specs.Text.{same_text}
-use Rattle.drf_bundle.specs.Bundle.{quantities_of, part_for}
+use Rattle.drf_bundle.specs.Bundle.{quantities_of}
 use Rattle.drf_bundle.specs.Quantities.{amount_of}
 use Rattle.drf_bundle.specs.Taken.{rest_of_all}
 use Rattle.drf_rows.specs.Holdings.{holdings_of, parts_on, of_offer}
@@ -13,6 +13,7 @@ use Rattle.drf_rows.specs.Client.{Client, path_of}
 use Rattle.drf_rows.specs.Share.{Standing, stands_before}
 use Rattle.drf_rows.specs.Filters.{is_held_back}
 use Rattle.drf_rows.specs.Held.{active_clients, standing_of}
+use Rattle.drf_rows.specs.Quota.{entitlement}
 use Rattle.drf_rows.specs.declared.rows.AgentRow.{AgentRow}
 use Rattle.drf_rows.specs.declared.rows.ClientRow.{ClientRow}
 use Rattle.drf_rows.specs.declared.rows.FrameworkRow.{FrameworkRow}
@@ -28,11 +29,6 @@ abbrev pub is_allocatable : List Resource → Bool
 is_allocatable bundle =
     nat_le 10 (amount_of (quantities_of bundle) (codes "cpus")) || nat_le 32000 (amount_of (quantities_of bundle) (codes "mem"))
 
--- what a client may have of a free bundle: what is unreserved, and what is reserved for its role or for a role above it.
--- No event makes quota limits yet, and no grant reads them
-abbrev pub entitlement : List Resource → Client → List Resource
-entitlement free client = part_for client.role free
-
 -- a client is granted a bundle on an agent if that is worth an offer, and no filter holds it back
 abbrev pub is_grantable : Rows → AgentRow → Client → List Resource → Bool
 is_grantable rows agent client bundle =
@@ -41,7 +37,7 @@ is_grantable rows agent client bundle =
 -- what a client is granted on an agent, as the rows stand
 abbrev pub grant : Rows → AgentRow → Client → Option (List Resource)
 grant rows agent client =
-    let bundle = entitlement (free_of rows agent) client in
+    let bundle = entitlement rows (free_of rows agent) client in
     if is_grantable rows agent client bundle then Some bundle else None
 
 -- one more offer was made to the client

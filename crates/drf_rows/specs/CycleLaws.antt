@@ -1,24 +1,30 @@
 -- The rows with one more offer, and turns step by step.
-use Rattle.std.specs.Prelude.{◌≡◌, ◌-◌, ◌≤◌, codes, Bool, true, false, not, List, [], ◌∷◌, ◌++◌, map, filter, Some, if◌then◌else◌}
+use Rattle.std.specs.Prelude.{◌≡◌, ◌-◌, ◌≤◌, ◌&&◌, codes, Bool, true, false, not, List, [], ◌∷◌, ◌++◌, map, filter, Some, if◌then◌else◌, nat_lt, All}
 use Rattle.std.specs.List.{flat_map, AllByRecursion}
 use Rattle.std.specs.Option.{option_map_or}
 use Rattle.std.proofs.Common.{refl, sym, ap, subst, ◌∙◌, inl, inr, cond, arith}
-use Rattle.std.proofs.lemmas.Bool.{cases_Bool}
+use Rattle.std.proofs.lemmas.Bool.{cases_Bool, lt-ltb}
+use Rattle.std.proofs.lemmas.List.Elements.{All-head, All-tail, filter-append}
 use Rattle.std.proofs.lemmas.Bool.Decides.{nat_tests}
 use Rattle.drf_role.specs.Text.{Text, same_text}
 use Rattle.drf_role.specs.TextLaws.{same_itself}
-use Rattle.drf_role.specs.Path.{Path, same_path}
-use Rattle.drf_bundle.specs.Value.{Point, Thousandths}
-use Rattle.drf_bundle.specs.Bundle.{Key, IsBundle, units, rest, quantities_of, is_for, part_for}
-use Rattle.drf_bundle.specs.Quantities.{amount_of}
+use Rattle.drf_role.specs.Path.{same_path}
+use Rattle.drf_bundle.specs.Value.{Point, Thousandths, amount_in}
+use Rattle.drf_bundle.specs.declared.value.Value.{Value}
+use Rattle.drf_bundle.specs.declared.value.Value.TheVariants.{Scalar, Ranges, Items}
+use Rattle.drf_bundle.specs.Bundle.{Key, IsResource, IsBundle, same_key, units, units_where, rest, with_value, filled_of, quantities_of, is_default, is_for, part_for, cut, clipped, clip}
+use Rattle.drf_bundle.specs.Quantities.{amount_of, is_named}
 use Rattle.drf_bundle.specs.SumLaws.{of_name, amount-quantities_of}
-use Rattle.drf_bundle.specs.PartLaws.{where-some}
+use Rattle.drf_bundle.specs.PartLaws.{where-some, bundle-part_for, keeps-clipped, cut-falls, bundle-clip}
+use Rattle.drf_bundle.specs.RestLaws.{where-changed-le}
 use Rattle.drf_bundle.specs.Taken.{rest_of_all, units_of_all, bundle-rest_of_all, units-rest_of_all, rest_of_all-insert, rest-itself}
+use Rattle.drf_bundle.specs.declared.quantities.Entry.{Entry}
 use Rattle.drf_bundle.specs.declared.resource.Resource.{Resource}
 use Rattle.drf_rows.specs.Client.{Client}
 use Rattle.drf_rows.specs.Holdings.{of_offer, of_task, holdings_of, parts_on, AreBundles}
 use Rattle.drf_rows.specs.HoldingsLaws.{parts_on-append, each_part, parts_on-with_offer, parts_on-other, each-with_offer}
 use Rattle.drf_rows.specs.Held.{client_of, clients_of, active_clients}
+use Rattle.drf_rows.specs.Quota.{entitlement, headroom}
 use Rattle.drf_rows.specs.Cycle.{free_of, is_allocatable, grant, counted, count_offer, new_offer, with_offer, tried, all_tried}
 use Rattle.drf_rows.specs.declared.rows.AgentRow.{AgentRow}
 use Rattle.drf_rows.specs.declared.rows.ClientRow.{ClientRow}
@@ -146,27 +152,73 @@ pub all_tried-append : (rows : Rows) (agent : AgentRow) (cs ds : List Client)
 all_tried-append rows agent [] ds = refl
 all_tried-append rows agent (c ∷ cs) ds = all_tried-append (tried rows agent c) agent cs ds
 
--- of a bundle that is worth no offer no part is
-part_is_less : (role : Path) (bundle : List Resource) (name : Text)
-    → amount_of (quantities_of (part_for role bundle)) name ≤ amount_of (quantities_of bundle) name
-part_is_less role bundle name = omega (
+-- what a client may have of a bundle is part of it, name by name and entry by entry
+entitled_where : (test : Key → Bool) (rows : Rows) (free : List Resource) (client : Client) (p : Point)
+    → units_where test p (entitlement rows free client) ≤ units_where test p free
+entitled_where test rows free client p =
+    let room : List Entry = headroom rows client.role in
+    let part : List Resource = part_for client.role free in
+    omega (
+      arith,
+      where-some (is_for client.role) test p free,
+      where-changed-le (clipped room) (keeps-clipped room)
+          (λ r q. cut-falls (is_default r.role && is_named room r.label) (amount_of room r.label) r.value q) test p part,
+    )
+
+pub bundle-entitlement : (rows : Rows) (free : List Resource) (client : Client) → IsBundle free → IsBundle (entitlement rows free client)
+bundle-entitlement rows free client is =
+    bundle-clip (headroom rows client.role) (part_for client.role free) (bundle-part_for client.role free is)
+
+pub units-entitlement : (rows : Rows) (free : List Resource) (client : Client) (key : Key) (p : Point)
+    → units (entitlement rows free client) key p ≤ units free key p
+units-entitlement rows free client key p = entitled_where (same_key key) rows free client p
+
+-- where no limit binds a role nothing is cut
+uncut : (r : Resource) → IsResource r → filled_of (clipped [] r ∷ []) ≡ r ∷ []
+uncut r one =
+    let some : nat_lt 0 (amount_in r.value) ≡ true = lt-ltb 0 (amount_in r.value) one.filled in
+    ap (λ (v : Value). filled_of (with_value r v ∷ [])) (whole (is_default r.role) r.value) ∙ (λ i. cond (some i) (r ∷ []) [])
+  where
+    whole : (b : Bool) (v : Value) → cut (b && false) 0 v ≡ v
+    whole true (Scalar t) = refl
+    whole false (Scalar t) = refl
+    whole b (Ranges numbers) = refl
+    whole b (Items members) = refl
+
+clip-nothing : (rs : List Resource) → All IsResource rs → clip [] rs ≡ rs
+clip-nothing [] each = refl
+clip-nothing (r ∷ rs) each =
+    filter-append (λ s. nat_lt 0 (amount_in s.value)) (clipped [] r ∷ []) (map (clipped []) rs)
+    ∙ (λ i. uncut r (All-head IsResource r rs each) i ++ clip-nothing rs (All-tail IsResource r rs each) i)
+
+pub entitlement-unlimited : (rows : Rows) (free : List Resource) (client : Client) → IsBundle free
+    → headroom rows client.role ≡ [] → entitlement rows free client ≡ part_for client.role free
+entitlement-unlimited rows free client is none =
+    ap (λ (room : List Entry). clip room (part_for client.role free)) none
+    ∙ clip-nothing (part_for client.role free) (bundle-part_for client.role free is).each
+
+-- of a bundle that is worth no offer no client may have a part that is
+entitled_less : (rows : Rows) (free : List Resource) (client : Client) (name : Text)
+    → amount_of (quantities_of (entitlement rows free client)) name ≤ amount_of (quantities_of free) name
+entitled_less rows free client name = omega (
   arith,
-  amount-quantities_of bundle name,
-  amount-quantities_of (part_for role bundle) name,
-  where-some (is_for role) (of_name name) Thousandths bundle,
+  amount-quantities_of free name,
+  amount-quantities_of (entitlement rows free client) name,
+  entitled_where (of_name name) rows free client Thousandths,
 )
 
-pub little_part : (role : Path) (bundle : List Resource) → is_allocatable bundle ≡ false → is_allocatable (part_for role bundle) ≡ false
-little_part role bundle little =
-    let cpus = part_is_less role bundle (codes "cpus") in
-    let mem = part_is_less role bundle (codes "mem") in
+pub little_entitlement : (rows : Rows) (free : List Resource) (client : Client)
+    → is_allocatable free ≡ false → is_allocatable (entitlement rows free client) ≡ false
+little_entitlement rows free client little =
+    let cpus = entitled_less rows free client (codes "cpus") in
+    let mem = entitled_less rows free client (codes "mem") in
     grind (arith, nat_tests)
 
 -- where too little is free, no client is granted anything
 pub all_tried_none : (rows : Rows) (agent : AgentRow) (cs : List Client)
     → is_allocatable (free_of rows agent) ≡ false → all_tried rows agent cs ≡ rows
 all_tried_none rows agent [] little = refl
-all_tried_none rows agent (c ∷ cs) little = rw (little_part c.role (free_of rows agent) little) (all_tried_none rows agent cs little)
+all_tried_none rows agent (c ∷ cs) little = rw (little_entitlement rows (free_of rows agent) c little) (all_tried_none rows agent cs little)
 
 -- where the first is granted all that is free, nothing is left for the others
 pub all_tried_first : (rows : Rows) (agent : AgentRow) (c : Client) (cs : List Client)

@@ -26,7 +26,7 @@ use Rattle.drf_rows.specs.declared.rows.TaskRow.{TaskRow}
 use Rattle.drf_rows.specs.declared.rows.Rows.{Rows}
 use Rattle.drf_rows.specs.declared.event.Accept as accepting
 use Rattle.drf_rows.specs.declared.event.Event.{Event}
-use Rattle.drf_rows.specs.declared.event.Event.TheVariants.{AddAgent, RemoveAgent, ActivateAgent, DeactivateAgent, AddFramework, RemoveFramework, Accept, Decline, Rescind, Finish, Suppress, Revive, Cycle}
+use Rattle.drf_rows.specs.declared.event.Event.TheVariants.{AddAgent, RemoveAgent, ActivateAgent, DeactivateAgent, SetAgent, AddFramework, RemoveFramework, Accept, Decline, Rescind, Finish, Suppress, Revive, Reserve, Unreserve, Cycle}
 use Rattle.drf_rows.specs.declared.reply.OfferLine.{OfferLine}
 use Rattle.drf_rows.specs.declared.reply.Reply.{Reply}
 use Rattle.drf_rows.specs.declared.reply.Reply.TheVariants.{Offers}
@@ -154,12 +154,15 @@ NumbersAreNew =
     (map (λ line. line.number) (flat_map lines_told (replies_to limits rows events)))
     (rows_after_all limits rows events).next_offer
 
--- the agent that an event registers, removes, activates or deactivates
+-- the agent that an event registers, removes, activates or deactivates, or whose total it changes
 abbrev pub is_about_agent : Event → Text → Bool
 is_about_agent (AddAgent agent total) name = same_text name agent
 is_about_agent (RemoveAgent agent) name = same_text name agent
 is_about_agent (ActivateAgent agent) name = same_text name agent
 is_about_agent (DeactivateAgent agent) name = same_text name agent
+is_about_agent (SetAgent agent total) name = same_text name agent
+is_about_agent (Reserve agent role resources) name = same_text name agent
+is_about_agent (Unreserve agent role resources) name = same_text name agent
 is_about_agent event name = false
 
 -- the framework that an event registers, removes, suppresses in a role or makes revive there

@@ -9,13 +9,14 @@ use Rattle.drf_rows.specs.Client.{Client}
 use Rattle.drf_rows.specs.Held.{standing_of}
 use Rattle.drf_rows.specs.Filters.{in_force, is_of_client, is_on_agent, is_held_back}
 use Rattle.drf_rows.specs.FilterLaws.{held_back-in_force, in_force-later, number_in_force-later, in_force-left, in_force-more}
-use Rattle.drf_rows.specs.Cycle.{free_of, is_allocatable, entitlement, grant, new_offer, with_offer, tried, all_tried, turn_order, turn, turns, at_moment, cycle}
+use Rattle.drf_rows.specs.Quota.{entitlement}
+use Rattle.drf_rows.specs.Cycle.{free_of, is_allocatable, grant, new_offer, with_offer, tried, all_tried, turn_order, turn, turns, at_moment, cycle}
 use Rattle.drf_rows.specs.Offers.{offer_at, left_of_offer, refused_until, filter_of, refuses_all, refuses_rest, filters_with, are_many_filters, offer_accepted, offer_declined}
 use Rattle.drf_rows.specs.Tasks.{Start}
 use Rattle.drf_rows.specs.Report.{report_of}
 use Rattle.drf_rows.specs.Step.{live_rows, refusal_of, effect, answer, rows_after, rows_after_all, reply_to, replies_to}
 use Rattle.drf_rows.specs.declared.event.Event.{Event}
-use Rattle.drf_rows.specs.declared.event.Event.TheVariants.{AddAgent, RemoveAgent, ActivateAgent, DeactivateAgent, AddFramework, RemoveFramework, Accept, Decline, Rescind, Finish, Suppress, Revive, SetWeight, Cycle, Report}
+use Rattle.drf_rows.specs.declared.event.Event.TheVariants.{AddAgent, RemoveAgent, ActivateAgent, DeactivateAgent, SetAgent, AddFramework, RemoveFramework, Accept, Decline, Rescind, Finish, Suppress, Revive, Reserve, Unreserve, SetWeight, SetLimit, Cycle, Report}
 use Rattle.drf_rows.specs.declared.reply.Refusal.{Refusal}
 use Rattle.drf_rows.specs.declared.reply.Reply.TheVariants.{Refused}
 use Rattle.drf_rows.specs.declared.rows.AgentRow.{AgentRow}
@@ -37,7 +38,7 @@ granted-filters : (rows : Rows) (fs : List FilterRow) (agent : AgentRow) (client
     → grant (with_filters rows fs) agent client ≡ grant rows agent client
 unfolding free_of
 granted-filters rows fs agent client same =
-    let bundle = entitlement (free_of rows agent) client in
+    let bundle = entitlement rows (free_of rows agent) client in
     λ i. if is_allocatable bundle && not (same client agent.name bundle i) then Some bundle else None
 
 offered-filters : (rows : Rows) (fs : List FilterRow) (agent : AgentRow) (client : Client) (granted : Option (List Resource))
@@ -124,11 +125,12 @@ module _ (rows : Rows) (at : ℕ) where
   cycle-live = turns-filters (at_moment rows at) (in_force rows.clock rows.filters) (filter (λ a. a.active) rows.agents) live_hold_the_same
 
 refusal_of-live : (limits : LimitNumbers) (rows : Rows) (event : Event) → refusal_of limits (live_rows rows) event ≡ refusal_of limits rows event
-unfolding refusal_of
+unfolding refusal_of free_of
 refusal_of-live limits rows (AddAgent agent total) = refl
 refusal_of-live limits rows (RemoveAgent agent) = refl
 refusal_of-live limits rows (ActivateAgent agent) = refl
 refusal_of-live limits rows (DeactivateAgent agent) = refl
+refusal_of-live limits rows (SetAgent agent total) = refl
 refusal_of-live limits rows (AddFramework framework roles) = refl
 refusal_of-live limits rows (RemoveFramework framework) = refl
 refusal_of-live limits rows (Accept a) = rw (are_many-live rows a.at limits)
@@ -137,7 +139,10 @@ refusal_of-live limits rows (Rescind offer) = refl
 refusal_of-live limits rows (Finish framework task) = refl
 refusal_of-live limits rows (Suppress framework role) = refl
 refusal_of-live limits rows (Revive framework role) = refl
+refusal_of-live limits rows (Reserve agent role resources) = refl
+refusal_of-live limits rows (Unreserve agent role resources) = refl
 refusal_of-live limits rows (SetWeight role weight) = refl
+refusal_of-live limits rows (SetLimit role limit) = refl
 refusal_of-live limits rows (Cycle at) = refl
 refusal_of-live limits rows Report = refl
 
@@ -208,6 +213,7 @@ module _ (rows : Rows) (n : ℕ) where
   effect-live (RemoveAgent agent) = live-leave (effect rows (RemoveAgent agent)) (λ f. not (is_on_agent agent f)) refl refl
   effect-live (ActivateAgent agent) = live-stay (effect rows (ActivateAgent agent)) (omega arith) refl
   effect-live (DeactivateAgent agent) = live-stay (effect rows (DeactivateAgent agent)) (omega arith) refl
+  effect-live (SetAgent agent total) = live-stay (effect rows (SetAgent agent total)) (omega arith) refl
   effect-live (AddFramework framework roles) = live-stay (effect rows (AddFramework framework roles)) (omega arith) refl
   effect-live (RemoveFramework framework) = live-leave (effect rows (RemoveFramework framework)) (λ f. not (same_text f.framework framework)) refl refl
   effect-live (Accept a) = live-accepted a.at a.tasks a.refuse_ms (offer_at rows a.offer)
@@ -217,7 +223,10 @@ module _ (rows : Rows) (n : ℕ) where
   effect-live (Suppress framework role) = live-stay (effect rows (Suppress framework role)) (omega arith) refl
   effect-live (Revive framework role) =
       live-leave (effect rows (Revive framework role)) (λ f. not (is_of_client (record { role = role; framework = framework }) f)) refl refl
+  effect-live (Reserve agent role resources) = live-stay (effect rows (Reserve agent role resources)) (omega arith) refl
+  effect-live (Unreserve agent role resources) = live-stay (effect rows (Unreserve agent role resources)) (omega arith) refl
   effect-live (SetWeight role weight) = live-stay (effect rows (SetWeight role weight)) (omega arith) refl
+  effect-live (SetLimit role limit) = live-stay (effect rows (SetLimit role limit)) (omega arith) refl
   effect-live (Cycle at) = live-cycle at
   effect-live Report = live-stay rows (omega arith) refl
 
@@ -231,6 +240,7 @@ answer-live rows (AddAgent agent total) = refl
 answer-live rows (RemoveAgent agent) = refl
 answer-live rows (ActivateAgent agent) = refl
 answer-live rows (DeactivateAgent agent) = refl
+answer-live rows (SetAgent agent total) = refl
 answer-live rows (AddFramework framework roles) = refl
 answer-live rows (RemoveFramework framework) = refl
 answer-live rows (Accept a) = refl
@@ -239,7 +249,10 @@ answer-live rows (Rescind offer) = refl
 answer-live rows (Finish framework task) = refl
 answer-live rows (Suppress framework role) = refl
 answer-live rows (Revive framework role) = refl
+answer-live rows (Reserve agent role resources) = refl
+answer-live rows (Unreserve agent role resources) = refl
 answer-live rows (SetWeight role weight) = refl
+answer-live rows (SetLimit role limit) = refl
 answer-live rows (Cycle at) = ap (λ (r : Rows). answer rows r (Cycle at)) (cycle-live rows at)
 answer-live rows Report = refl
 

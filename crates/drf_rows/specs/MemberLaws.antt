@@ -101,6 +101,7 @@ module _ (rows : Rows) (name : Text) (active : Bool) where
             (each_map (IsCovered (holdings_of rows)) told rows.agents consistent.covered);
         tasks = consistent.tasks;
         weights = consistent.weights;
+        limits = consistent.limits;
         filters = each_from (IsFilter rows.agents rows.frameworks) (IsFilter agents rows.frameworks) rows.filters
             (λ f right. record {
               agent = has_agent-with_activity f.agent ∙ right.agent;
@@ -224,6 +225,7 @@ module _ (rows : Rows) (client : Client) (suppressed : Bool) where
         covered = consistent.covered;
         tasks = consistent.tasks;
         weights = consistent.weights;
+        limits = consistent.limits;
         filters = each_from (IsFilter rows.agents rows.frameworks) (IsFilter rows.agents frameworks) rows.filters
             (λ f right. record {
               agent = right.agent;
@@ -339,6 +341,7 @@ module _ (rows : Rows) (name : Text) (nothing : without_ended rows (all_on name)
         covered = each_filter (IsCovered (holdings_of rows)) stays rows.agents consistent.covered;
         tasks = consistent.tasks;
         weights = consistent.weights;
+        limits = consistent.limits;
         filters = each_kept (IsFilter others rows.frameworks) (λ f. not (is_on_agent name f)) rows.filters
             (each_from (IsFilter rows.agents rows.frameworks)
             (λ f. not (is_on_agent name f) ≡ true → IsFilter others rows.frameworks f) rows.filters
@@ -405,6 +408,7 @@ module _ (rows : Rows) (name : Text) (nothing : without_ended rows (all_of name)
         covered = consistent.covered;
         tasks = consistent.tasks;
         weights = consistent.weights;
+        limits = consistent.limits;
         filters = each_kept (IsFilter rows.agents others_of) (λ f. not (same_text f.framework name)) rows.filters
             (each_from (IsFilter rows.agents rows.frameworks)
             (λ f. not (same_text f.framework name) ≡ true → IsFilter rows.agents others_of f) rows.filters

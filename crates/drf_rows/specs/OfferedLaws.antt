@@ -21,7 +21,7 @@ use Rattle.drf_rows.specs.ListLaws.{each_append, each_map, each_filter, each_fin
 use Rattle.drf_rows.specs.Step.{refusal_of, effect, answer, line_told, new_offers, rows_after, rows_after_all, reply_to, replies_to}
 use Rattle.drf_rows.specs.LifeLaws.{is_same_client, SuppressedIsNotOffered, CountUp, lines_told, NumbersAreNew}
 use Rattle.drf_rows.specs.declared.event.Event.{Event}
-use Rattle.drf_rows.specs.declared.event.Event.TheVariants.{AddAgent, RemoveAgent, ActivateAgent, DeactivateAgent, AddFramework, RemoveFramework, Accept, Decline, Rescind, Finish, Suppress, Revive, SetWeight, Cycle, Report}
+use Rattle.drf_rows.specs.declared.event.Event.TheVariants.{AddAgent, RemoveAgent, ActivateAgent, DeactivateAgent, SetAgent, AddFramework, RemoveFramework, Accept, Decline, Rescind, Finish, Suppress, Revive, Reserve, Unreserve, SetWeight, SetLimit, Cycle, Report}
 use Rattle.drf_rows.specs.declared.reply.OfferLine.{OfferLine}
 use Rattle.drf_rows.specs.declared.reply.Refusal.{Refusal}
 use Rattle.drf_rows.specs.declared.reply.Reply.{Reply}
@@ -189,6 +189,7 @@ told_by_effect rows (AddAgent agent total) = refl
 told_by_effect rows (RemoveAgent agent) = refl
 told_by_effect rows (ActivateAgent agent) = refl
 told_by_effect rows (DeactivateAgent agent) = refl
+told_by_effect rows (SetAgent agent total) = refl
 told_by_effect rows (AddFramework framework roles) = refl
 told_by_effect rows (RemoveFramework framework) = refl
 told_by_effect rows (Accept a) = told-accepted rows a.at a.tasks a.refuse_ms (offer_at rows a.offer)
@@ -197,7 +198,10 @@ told_by_effect rows (Rescind offer) = refl
 told_by_effect rows (Finish framework task) = refl
 told_by_effect rows (Suppress framework role) = refl
 told_by_effect rows (Revive framework role) = refl
+told_by_effect rows (Reserve agent role resources) = refl
+told_by_effect rows (Unreserve agent role resources) = refl
 told_by_effect rows (SetWeight role weight) = refl
+told_by_effect rows (SetLimit role limit) = refl
 told_by_effect rows (Cycle at) = told_by_cycle rows at
 told_by_effect rows Report = refl
 

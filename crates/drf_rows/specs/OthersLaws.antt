@@ -19,12 +19,14 @@ use Rattle.drf_rows.specs.Endings.{is_task}
 use Rattle.drf_rows.specs.EndingLaws.{filter-out, find-place}
 use Rattle.drf_rows.specs.Offers.{offer_at, offer_accepted, offer_declined}
 use Rattle.drf_rows.specs.Tasks.{Start}
+use Rattle.drf_bundle.specs.Bundle.{relabel}
+use Rattle.drf_rows.specs.Totals.{total_at, exchanged}
 use Rattle.drf_rows.specs.Members.{distinct, new_client, active_at, suppressed_at, suppressed_in}
 use Rattle.drf_rows.specs.ListLaws.{filter_each, filter-again, each_true, none_left}
 use Rattle.drf_rows.specs.Step.{refusal_of, effect, new_offers, rows_after}
 use Rattle.drf_rows.specs.LifeLaws.{is_cycle, other_agents, other_frameworks, OtherAgentsStay, OtherFrameworksStay, is_accept, other_offers, other_tasks, OtherHoldingsStay, EndedIsGone, RemovedIsGone, active_row, ActivityIsItsAgents, is_made_to, raised_row, with_counts, CycleOnlyOffers}
 use Rattle.drf_rows.specs.declared.event.Event.{Event}
-use Rattle.drf_rows.specs.declared.event.Event.TheVariants.{AddAgent, RemoveAgent, ActivateAgent, DeactivateAgent, AddFramework, RemoveFramework, Accept, Decline, Rescind, Finish, Suppress, Revive, SetWeight, Cycle, Report}
+use Rattle.drf_rows.specs.declared.event.Event.TheVariants.{AddAgent, RemoveAgent, ActivateAgent, DeactivateAgent, SetAgent, AddFramework, RemoveFramework, Accept, Decline, Rescind, Finish, Suppress, Revive, Reserve, Unreserve, SetWeight, SetLimit, Cycle, Report}
 use Rattle.drf_rows.specs.declared.reply.Refusal.{Refusal}
 use Rattle.drf_rows.specs.declared.rows.AgentRow.{AgentRow}
 use Rattle.drf_rows.specs.declared.rows.ClientRow.{ClientRow}
@@ -203,6 +205,20 @@ agents_active name active agents = filter-changed (λ a. not (same_text a.name n
         by true = own
         by false = own
 
+agents_other_total : (name : Text) (made : List Resource → List Resource) (agents : List AgentRow)
+    → filter (λ a. not (same_text a.name name)) (map (total_at name made) agents) ≡ filter (λ a. not (same_text a.name name)) agents
+agents_other_total name made agents = filter-changed (λ a. not (same_text a.name name)) (total_at name made) agents stays past
+  where
+    stays : (a : AgentRow) → not (same_text a.name name) ≡ true → total_at name made a ≡ a
+    stays a is = rw (not-true (same_text a.name name) is) refl
+
+    past : (a : AgentRow) → not (same_text a.name name) ≡ false → not (same_text (total_at name made a).name name) ≡ false
+    past a own = by (same_text a.name name)
+      where
+        by : (b : Bool) → not (same_text (if b then record a { total = made a.total } else a).name name) ≡ false
+        by true = own
+        by false = own
+
 agents_left : (rows : Rows) (event : Event) → other_agents event (effect rows event).agents ≡ other_agents event rows.agents
 unfolding effect
 agents_left rows (AddAgent agent total) =
@@ -210,6 +226,7 @@ agents_left rows (AddAgent agent total) =
 agents_left rows (RemoveAgent agent) = filter-again (λ a. not (same_text a.name agent)) rows.agents
 agents_left rows (ActivateAgent agent) = agents_active agent true rows.agents
 agents_left rows (DeactivateAgent agent) = agents_active agent false rows.agents
+agents_left rows (SetAgent agent total) = agents_other_total agent (λ old. total) rows.agents
 agents_left rows (AddFramework framework roles) = refl
 agents_left rows (RemoveFramework framework) = refl
 agents_left rows (Accept a) =
@@ -220,7 +237,10 @@ agents_left rows (Rescind offer) = refl
 agents_left rows (Finish framework task) = refl
 agents_left rows (Suppress framework role) = refl
 agents_left rows (Revive framework role) = refl
+agents_left rows (Reserve agent role resources) = agents_other_total agent (exchanged resources (relabel role resources)) rows.agents
+agents_left rows (Unreserve agent role resources) = agents_other_total agent (exchanged (relabel role resources) resources) rows.agents
 agents_left rows (SetWeight role weight) = refl
+agents_left rows (SetLimit role limit) = refl
 agents_left rows (Cycle at) = ap (λ (r : Rows). filter (λ a. true) r.agents) (made_cycle rows at).rest
 agents_left rows Report = refl
 
@@ -250,6 +270,7 @@ frameworks_left rows (AddAgent agent total) no_cycle = refl
 frameworks_left rows (RemoveAgent agent) no_cycle = refl
 frameworks_left rows (ActivateAgent agent) no_cycle = refl
 frameworks_left rows (DeactivateAgent agent) no_cycle = refl
+frameworks_left rows (SetAgent agent total) no_cycle = refl
 frameworks_left rows (AddFramework framework roles) no_cycle =
     filter-last (λ f. not (same_text f.name framework)) rows.frameworks
     (record { name = framework; clients = map new_client (distinct roles) }) (ap not (same_itself framework))
@@ -264,7 +285,10 @@ frameworks_left rows (Suppress framework role) no_cycle =
     frameworks_suppressed (record { role = role; framework = framework }) true rows.frameworks
 frameworks_left rows (Revive framework role) no_cycle =
     frameworks_suppressed (record { role = role; framework = framework }) false rows.frameworks
+frameworks_left rows (Reserve agent role resources) no_cycle = refl
+frameworks_left rows (Unreserve agent role resources) no_cycle = refl
 frameworks_left rows (SetWeight role weight) no_cycle = refl
+frameworks_left rows (SetLimit role limit) no_cycle = refl
 frameworks_left rows (Cycle at) no_cycle = absurd (false≢true (sym no_cycle))
 frameworks_left rows Report no_cycle = refl
 
@@ -318,6 +342,7 @@ offers_left rows (AddAgent agent total) no_cycle = refl
 offers_left rows (RemoveAgent agent) no_cycle = filter-again (λ o. not (same_text o.agent agent)) rows.offers
 offers_left rows (ActivateAgent agent) no_cycle = refl
 offers_left rows (DeactivateAgent agent) no_cycle = filter-again (λ o. not (same_text o.agent agent)) rows.offers
+offers_left rows (SetAgent agent total) no_cycle = refl
 offers_left rows (AddFramework framework roles) no_cycle = refl
 offers_left rows (RemoveFramework framework) no_cycle = filter-again (λ o. not (same_text o.framework framework)) rows.offers
 offers_left rows (Accept a) no_cycle =
@@ -327,7 +352,10 @@ offers_left rows (Rescind offer) no_cycle = filter-again (λ o. not (o.number ==
 offers_left rows (Finish framework task) no_cycle = filter_each (λ o. true) rows.offers (each_true rows.offers)
 offers_left rows (Suppress framework role) no_cycle = refl
 offers_left rows (Revive framework role) no_cycle = refl
+offers_left rows (Reserve agent role resources) no_cycle = refl
+offers_left rows (Unreserve agent role resources) no_cycle = refl
 offers_left rows (SetWeight role weight) no_cycle = refl
+offers_left rows (SetLimit role limit) no_cycle = refl
 offers_left rows (Cycle at) no_cycle = absurd (false≢true (sym no_cycle))
 offers_left rows Report no_cycle = refl
 
@@ -346,6 +374,7 @@ tasks_left rows (AddAgent agent total) no_accept = refl
 tasks_left rows (RemoveAgent agent) no_accept = filter-again (λ t. not (same_text t.agent agent)) rows.tasks
 tasks_left rows (ActivateAgent agent) no_accept = refl
 tasks_left rows (DeactivateAgent agent) no_accept = all_tasks rows.tasks
+tasks_left rows (SetAgent agent total) no_accept = refl
 tasks_left rows (AddFramework framework roles) no_accept = refl
 tasks_left rows (RemoveFramework framework) no_accept = filter-again (λ t. not (same_text t.framework framework)) rows.tasks
 tasks_left rows (Accept a) no_accept = absurd (false≢true (sym no_accept))
@@ -354,7 +383,10 @@ tasks_left rows (Rescind offer) no_accept = all_tasks rows.tasks
 tasks_left rows (Finish framework task) no_accept = filter-again (λ t. not (is_task framework task t)) rows.tasks
 tasks_left rows (Suppress framework role) no_accept = refl
 tasks_left rows (Revive framework role) no_accept = refl
+tasks_left rows (Reserve agent role resources) no_accept = refl
+tasks_left rows (Unreserve agent role resources) no_accept = refl
 tasks_left rows (SetWeight role weight) no_accept = refl
+tasks_left rows (SetLimit role limit) no_accept = refl
 tasks_left rows (Cycle at) no_accept = ap (λ (r : Rows). r.tasks) (made_cycle rows at).rest
 tasks_left rows Report no_accept = refl
 
@@ -406,6 +438,7 @@ offers_gone rows (AddAgent agent total) no_cycle = refl
 offers_gone rows (RemoveAgent agent) no_cycle = refl
 offers_gone rows (ActivateAgent agent) no_cycle = refl
 offers_gone rows (DeactivateAgent agent) no_cycle = refl
+offers_gone rows (SetAgent agent total) no_cycle = refl
 offers_gone rows (AddFramework framework roles) no_cycle = refl
 offers_gone rows (RemoveFramework framework) no_cycle = refl
 offers_gone rows (Accept a) no_cycle =
@@ -415,7 +448,10 @@ offers_gone rows (Rescind offer) no_cycle = refl
 offers_gone rows (Finish framework task) no_cycle = filter_each (λ o. true) rows.offers (each_true rows.offers)
 offers_gone rows (Suppress framework role) no_cycle = refl
 offers_gone rows (Revive framework role) no_cycle = refl
+offers_gone rows (Reserve agent role resources) no_cycle = refl
+offers_gone rows (Unreserve agent role resources) no_cycle = refl
 offers_gone rows (SetWeight role weight) no_cycle = refl
+offers_gone rows (SetLimit role limit) no_cycle = refl
 offers_gone rows (Cycle at) no_cycle = absurd (false≢true (sym no_cycle))
 offers_gone rows Report no_cycle = refl
 
@@ -425,6 +461,7 @@ tasks_gone rows (AddAgent agent total) no_accept = refl
 tasks_gone rows (RemoveAgent agent) no_accept = refl
 tasks_gone rows (ActivateAgent agent) no_accept = refl
 tasks_gone rows (DeactivateAgent agent) no_accept = all_tasks rows.tasks
+tasks_gone rows (SetAgent agent total) no_accept = refl
 tasks_gone rows (AddFramework framework roles) no_accept = refl
 tasks_gone rows (RemoveFramework framework) no_accept = refl
 tasks_gone rows (Accept a) no_accept = absurd (false≢true (sym no_accept))
@@ -433,7 +470,10 @@ tasks_gone rows (Rescind offer) no_accept = all_tasks rows.tasks
 tasks_gone rows (Finish framework task) no_accept = refl
 tasks_gone rows (Suppress framework role) no_accept = refl
 tasks_gone rows (Revive framework role) no_accept = refl
+tasks_gone rows (Reserve agent role resources) no_accept = refl
+tasks_gone rows (Unreserve agent role resources) no_accept = refl
 tasks_gone rows (SetWeight role weight) no_accept = refl
+tasks_gone rows (SetLimit role limit) no_accept = refl
 tasks_gone rows (Cycle at) no_accept = ap (λ (r : Rows). r.tasks) (made_cycle rows at).rest
 tasks_gone rows Report no_accept = refl
 

@@ -1,6 +1,6 @@
 -- Quota limits: what roles consume, what their limits leave, and what a client may have under them (Mesos: quota limits).
 use Rattle.std.specs.Prelude.{ℕ, ◌+◌, ◌-◌, min, Bool, not, ◌&&◌, List, [], ◌∷◌, map, fold, filter, flat_map, sum_by, Option, Some, None, if◌then◌else◌, nat_le}
-use Rattle.std.specs.List.{list_all, reduce}
+use Rattle.std.specs.List.{list_all, list_any, reduce}
 use Rattle.std.specs.Option.{option_map_or}
 use Rattle.drf_role.specs.Text.{Text, same_text}
 use Rattle.drf_role.specs.Parts.{parts_of}
@@ -84,9 +84,9 @@ abbrev pub headroom : Rows → Path → List Entry
 headroom rows role = headrooms rows.limits (consumption rows) role
 
 -- what a client may have of a free bundle: what is unreserved, its scalars cut to the headroom of the client's role, and what is
--- reserved for the role or for a role above it. No event makes limits yet, and no grant reads this: cycles take `entitlement`
-abbrev pub entitlement_by_limits : Rows → List Resource → Client → List Resource
-entitlement_by_limits rows free client = clip (headroom rows client.role) (part_for client.role free)
+-- reserved for the role or for a role above it
+abbrev pub entitlement : Rows → List Resource → Client → List Resource
+entitlement rows free client = clip (headroom rows client.role) (part_for client.role free)
 
 -- ---- what limits admit
 
@@ -124,3 +124,7 @@ limits_without (l ∷ ls) role = if same_path l.role role then ls else l ∷ lim
 abbrev pub limits_with : List LimitRow → Path → List Entry → List LimitRow
 limits_with limits role [] = limits_without limits role
 limits_with limits role (e ∷ es) = limits_put limits role (e ∷ es)
+
+-- the role has a limit
+abbrev pub has_limit : Rows → Path → Bool
+has_limit rows role = list_any (λ l. same_path l.role role) rows.limits

@@ -1,6 +1,6 @@
 -- What limits hold: a grant cut to the headroom takes no role over its limit, a limit below the consumption leaves nothing, no
 -- role consumes more than there is, and what is moved to a role and back is consumed as before.
-use Rattle.std.specs.Prelude.{◌≡◌, ℕ, zero, suc, ◌+◌, ◌-◌, ◌≤◌, max, min, Bool, true, false, not, ◌&&◌, ◌||◌, List, [], ◌∷◌, ◌++◌, map, fold, filter, flat_map, sum_by, slice_get, Option, Some, IsTrue, All}
+use Rattle.std.specs.Prelude.{◌≡◌, ℕ, zero, suc, ◌+◌, ◌≤◌, max, min, Bool, true, false, not, ◌&&◌, ◌||◌, List, [], ◌∷◌, ◌++◌, map, fold, filter, flat_map, sum_by, slice_get, Option, Some, None, IsTrue, All, if◌then◌else◌}
 use Rattle.std.specs.List.{list_any, count_by, reduce, AllByRecursion}
 use Rattle.std.specs.Option.{option_map_or}
 use Rattle.std.proofs.Common.{refl, sym, ap, ◌∙◌, inl, inr, cond, arith}
@@ -28,13 +28,14 @@ use Rattle.drf_bundle.specs.declared.value.Value.TheVariants.{Scalar, Ranges, It
 use Rattle.drf_rows.specs.Client.{Client}
 use Rattle.drf_rows.specs.Holdings.{Holding, of_offer, of_task, holdings_of, is_on}
 use Rattle.drf_rows.specs.HoldingsLaws.{holdings_of-with_offer}
-use Rattle.drf_rows.specs.Cycle.{new_offer, with_offer}
+use Rattle.drf_rows.specs.Cycle.{free_of, is_grantable, new_offer, with_offer, tried, all_tried, turn, turn_order, turns, at_moment, cycle}
+use Rattle.drf_rows.specs.CycleLaws.{bundle-free_of}
 use Rattle.drf_rows.specs.Held.{cluster_total}
-use Rattle.drf_rows.specs.Consistent.{IsHeld, IsCovered, IsConsistent}
-use Rattle.drf_rows.specs.ListLaws.{sum_by-map, sum_by-plus, sum_by_each_le, sum_by-groups, list_any-map, cond_le, each_from}
+use Rattle.drf_rows.specs.Consistent.{IsAgent, IsHeld, IsCovered, IsConsistent}
+use Rattle.drf_rows.specs.ListLaws.{sum_by-map, sum_by-plus, sum_by_each_le, sum_by-groups, list_any-map, cond_le, each_from, each_filter}
 use Rattle.drf_rows.specs.TotalLaws.{one_agent}
 use Rattle.drf_rows.specs.MemberLaws.{amount_on, amount-cluster_total}
-use Rattle.drf_rows.specs.Quota.{Consumed, unreserved_in, reserves, reserved_in, consumption_where, consumption, is_within, binds, room_under, headroom_under, headroom_at, limited_names, headroom, entitlement_by_limits}
+use Rattle.drf_rows.specs.Quota.{Consumed, unreserved_in, reserves, reserved_in, consumption_where, consumption, is_within, binds, room_under, headroom_under, headroom_at, limited_names, headroom, entitlement}
 use Rattle.drf_rows.specs.declared.rows.AgentRow.{AgentRow}
 use Rattle.drf_rows.specs.declared.rows.LimitRow.{LimitRow}
 use Rattle.drf_rows.specs.declared.rows.OfferRow.{OfferRow}
@@ -58,8 +59,17 @@ GrantKeepsLimits =
     → IsBundle free
     → slice_get rows.limits place ≡ Some l
     → IsTrue (binds client.role label l)
-    → consumption (with_offer rows (new_offer rows agent client (entitlement_by_limits rows free client))) l.role label
+    → consumption (with_offer rows (new_offer rows agent client (entitlement rows free client))) l.role label
     ≤ max (amount_of l.limit label) (consumption rows l.role label)
+
+-- no cycle raises what a role consumes above its limit: what it makes offers of is cut, one grant after the other
+abbrev pub CycleKeepsLimits : Type 0
+CycleKeepsLimits =
+    (rows : Rows) (at : ℕ) (label : Text) (place : ℕ) (l : LimitRow)
+    → IsConsistent rows
+    → slice_get rows.limits place ≡ Some l
+    → IsTrue (is_named l.limit label)
+    → consumption (cycle rows at) l.role label ≤ max (amount_of l.limit label) (consumption rows l.role label)
 
 -- what is moved to a role is reserved for it and for the roles above it, just as much as was unreserved
 abbrev pub MovedIsReserved : Type 0
@@ -222,7 +232,7 @@ limited role label (x ∷ xs) (suc place) l at within named =
 
 -- ---- what the cut leaves
 
-no_text : (role : Path) → IsRole role → is_default role ≡ false → same_text (text_of role) [] ≡ false
+pub no_text : (role : Path) → IsRole role → is_default role ≡ false → same_text (text_of role) [] ≡ false
 no_text role (inl default) other = absurd (false≢true (sym other ∙ ap is_default default))
 no_text role (inr path) other = by role path
   where
@@ -311,7 +321,7 @@ grant_keeps_limits rows agent free client label place l right at binding =
     let part : List Resource = part_for role free in
     let is = bundle-part_for role free right in
     let cut_to = unreserved-clip (headroom rows role) label part is.in_order is.each its.0 in
-    let bundle : List Resource = entitlement_by_limits rows free client in
+    let bundle : List Resource = entitlement rows free client in
     omega (
       arith,
       consumption-with_offer (is_within l.role) rows (new_offer rows agent client bundle) label,
@@ -320,6 +330,75 @@ grant_keeps_limits rows agent free client label place l right at binding =
       room,
       least.2,
     )
+
+-- ---- a cycle
+
+-- limits stay, and a role consumes no more than its limit, or than it did
+record KeepsLimit (start after : Rows) (label : Text) (l : LimitRow) : Type 0 where
+  limits : after.limits ≡ start.limits
+  consumed : consumption after l.role label ≤ max (amount_of l.limit label) (consumption start l.role label)
+
+module _ (start : Rows) (label : Text) (place : ℕ) (l : LimitRow) (at : slice_get start.limits place ≡ Some l)
+    (named : IsTrue (is_named l.limit label)) where
+  abbrev Keeps : Rows → Type 0
+  Keeps rows = KeepsLimit start rows label l
+
+  -- one more offer of what a client may have
+  keeps-offer : (rows : Rows) (agent : AgentRow) (client : Client) → IsBundle agent.total → Keeps rows
+      → Keeps (with_offer rows (new_offer rows agent client (entitlement rows (free_of rows agent) client)))
+  unfolding with_offer
+  keeps-offer rows agent client right keeps =
+      let bundle : List Resource = entitlement rows (free_of rows agent) client in
+      let here : slice_get rows.limits place ≡ Some l = ap (λ (ls : List LimitRow). slice_get ls place) keeps.limits ∙ at in
+      record {
+        limits = keeps.limits;
+        consumed = elim (cases_Bool (is_within l.role client.role)) [
+          | inl within ↦
+              omega (
+                arith,
+                keeps.consumed,
+                grant_keeps_limits rows agent (free_of rows agent) client label place l (bundle-free_of rows agent right) here
+                    (and_from (is_within l.role client.role) (is_named l.limit label) within named),
+              )
+          | inr outside ↦
+              omega (
+                arith,
+                keeps.consumed,
+                consumption-with_offer (is_within l.role) rows (new_offer rows agent client bundle) label,
+                ap (λ (b : Bool). cond b (unreserved_in label bundle) 0) outside,
+              )
+        ];
+      }
+
+  keeps-tried : (rows : Rows) (agent : AgentRow) (client : Client) → IsBundle agent.total → Keeps rows → Keeps (tried rows agent client)
+  keeps-tried rows agent client right keeps =
+      by (is_grantable rows agent client (entitlement rows (free_of rows agent) client))
+    where
+      by : (granted : Bool)
+          → Keeps (option_map_or (λ bundle. with_offer rows (new_offer rows agent client bundle))
+          (if granted then Some (entitlement rows (free_of rows agent) client) else None) rows)
+      by true = keeps-offer rows agent client right keeps
+      by false = keeps
+
+  keeps-all_tried : (rows : Rows) (agent : AgentRow) (clients : List Client) → IsBundle agent.total → Keeps rows
+      → Keeps (all_tried rows agent clients)
+  keeps-all_tried rows agent [] right keeps = keeps
+  keeps-all_tried rows agent (client ∷ clients) right keeps =
+      keeps-all_tried (tried rows agent client) agent clients right (keeps-tried rows agent client right keeps)
+
+  keeps-turns : (rows : Rows) (agents : List AgentRow) → AllByRecursion (λ a. IsBundle a.total) agents → Keeps rows → Keeps (turns rows agents)
+  unfolding turn
+  keeps-turns rows [] right keeps = keeps
+  keeps-turns rows (agent ∷ agents) right keeps =
+      keeps-turns (turn rows agent) agents right.1 (keeps-all_tried rows agent (turn_order rows) right.0 keeps)
+
+pub cycle_keeps_limits : CycleKeepsLimits
+unfolding cycle
+cycle_keeps_limits rows at label place l consistent here named =
+    let totals = each_from IsAgent (λ a. IsBundle a.total) rows.agents (λ a right. right.total) consistent.agents.each in
+    (keeps-turns (at_moment rows at) label place l here named (at_moment rows at) (filter (λ a. a.active) rows.agents)
+    (each_filter (λ a. IsBundle a.total) (λ a. a.active) rows.agents totals)
+    (record { limits = refl; consumed = omega arith })).consumed
 
 -- ---- what is moved to a role
 
@@ -384,7 +463,7 @@ apart true t [] u = omega arith
 apart true true (b ∷ bs) u = omega arith
 apart true false (b ∷ bs) u = omega arith
 
-parts_le : (test : Path → Bool) (label : Text) (rs : List Resource)
+pub parts_le : (test : Path → Bool) (label : Text) (rs : List Resource)
     → unreserved_in label rs + reserved_in test label rs ≤ stock rs label Thousandths
 parts_le test label [] = omega arith
 parts_le test label (r ∷ rs) =

@@ -2,7 +2,7 @@
 use Rattle.std.specs.Prelude.{ℕ, codes}
 use Rattle.drf_role.specs.Text.{Text}
 use Rattle.drf_rows.specs.declared.reply.Refusal.{Refusal}
-use Rattle.drf_rows.specs.declared.reply.Refusal.TheVariants.{HistoryFull, BadMoment, UnknownAgent, KnownAgent, UnknownFramework, KnownFramework, UnknownOffer, NotYours, UnknownTask, KnownTask, NotInRole, Empty, NotCovered, BadWeight, TooLarge, TooMany}
+use Rattle.drf_rows.specs.declared.reply.Refusal.TheVariants.{HistoryFull, BadMoment, UnknownAgent, KnownAgent, UnknownFramework, KnownFramework, UnknownOffer, NotYours, UnknownTask, KnownTask, NotInRole, DefaultRole, Empty, NotUnreserved, NotCovered, OverLimit, BadWeight, TooLarge, TooMany}
 
 -- the number of a refusal: of several whose cases hold, the one of the least number is answered
 abbrev pub refusal_number : Refusal → ℕ
@@ -17,8 +17,11 @@ refusal_number NotYours = 8
 refusal_number UnknownTask = 9
 refusal_number KnownTask = 10
 refusal_number NotInRole = 11
+refusal_number DefaultRole = 12
 refusal_number Empty = 13
+refusal_number NotUnreserved = 14
 refusal_number NotCovered = 15
+refusal_number OverLimit = 16
 refusal_number BadWeight = 17
 refusal_number TooLarge = 18
 refusal_number TooMany = 19
@@ -36,8 +39,11 @@ refusal_name NotYours = codes "NotYours"
 refusal_name UnknownTask = codes "UnknownTask"
 refusal_name KnownTask = codes "KnownTask"
 refusal_name NotInRole = codes "NotInRole"
+refusal_name DefaultRole = codes "DefaultRole"
 refusal_name Empty = codes "Empty"
+refusal_name NotUnreserved = codes "NotUnreserved"
 refusal_name NotCovered = codes "NotCovered"
+refusal_name OverLimit = codes "OverLimit"
 refusal_name BadWeight = codes "BadWeight"
 refusal_name TooLarge = codes "TooLarge"
 refusal_name TooMany = codes "TooMany"

@@ -106,6 +106,7 @@ IsConsistent-agent_added rows name total consistent new right =
       covered = each_append (IsCovered (holdings_of rows)) rows.agents (agent ∷ []) consistent.covered (covers, tt);
       tasks = consistent.tasks;
       weights = consistent.weights;
+      limits = consistent.limits;
       filters = each_from (IsFilter rows.agents rows.frameworks) (IsFilter (with_agent rows name total) rows.frameworks) rows.filters
           (λ f here. record {
             agent = list_any-append (λ (a : AgentRow). same_text a.name f.agent) rows.agents (agent ∷ [])
@@ -178,6 +179,7 @@ IsConsistent-framework_added rows f consistent new apart none =
       covered = consistent.covered;
       tasks = consistent.tasks;
       weights = consistent.weights;
+      limits = consistent.limits;
       filters = each_from (IsFilter rows.agents rows.frameworks) (IsFilter rows.agents frameworks) rows.filters
           (λ g here. record {
             agent = here.agent;
@@ -200,6 +202,7 @@ IsConsistent-opening = record {
   covered = tt;
   tasks = refl;
   weights = refl;
+  limits = record { roles = refl; each = refl };
   filters = tt;
   early = omega arith;
   counted = omega arith;

@@ -4,7 +4,9 @@ use Rattle.std.specs.List.{list_any}
 use Rattle.std.specs.Option.{option_map, option_map_or}
 use Rattle.drf_role.specs.Text.{Text}
 use Rattle.drf_role.specs.Path.{Path}
-use Rattle.drf_bundle.specs.Bundle.{quantities_of}
+use Rattle.drf_bundle.specs.Bundle.{quantities_of, is_default, is_unreserved, relabel}
+use Rattle.drf_bundle.specs.declared.quantities.Entry.{Entry}
+use Rattle.drf_bundle.specs.declared.resource.Resource.{Resource}
 use Rattle.drf_rows.specs.LimitNumbers.{LimitNumbers}
 use Rattle.drf_rows.specs.Held.{cluster_total, clients_of, is_registered}
 use Rattle.drf_rows.specs.Members.{has_agent, has_framework, distinct, with_agent, with_framework, with_activity, with_suppression, agent_deactivated, revived, agent_removed, framework_removed}
@@ -14,6 +16,8 @@ use Rattle.drf_rows.specs.Cycle.{at_moment, cycle}
 use Rattle.drf_rows.specs.Filters.{in_force}
 use Rattle.drf_rows.specs.Report.{report_of}
 use Rattle.drf_rows.specs.Tasks.{uses}
+use Rattle.drf_rows.specs.Totals.{with_reserved, with_unreserved, with_other_total, is_not_free, is_below_held}
+use Rattle.drf_rows.specs.Quota.{has_limit, limits_with, admits}
 use Rattle.drf_rows.specs.Weights.{is_weight, too_many_weights, weights_with}
 use Rattle.drf_rows.specs.declared.limits.TheConstants.{LATEST_MOMENT, LARGEST_AMOUNT}
 use Rattle.drf_rows.specs.declared.rows.AgentRow.{AgentRow}
@@ -23,12 +27,12 @@ use Rattle.drf_rows.specs.declared.event.Accept as accepting
 use Rattle.drf_rows.specs.declared.event.Decline as declining
 use Rattle.drf_rows.specs.declared.event.Event.{Event}
 use Rattle.drf_rows.specs.declared.event.Event.TheVariants as event
-use Rattle.drf_rows.specs.declared.event.Event.TheVariants.{AddAgent, RemoveAgent, ActivateAgent, DeactivateAgent, AddFramework, RemoveFramework, Accept, Decline, Rescind, Finish, Suppress, Revive, SetWeight, Cycle}
+use Rattle.drf_rows.specs.declared.event.Event.TheVariants.{AddAgent, RemoveAgent, ActivateAgent, DeactivateAgent, SetAgent, AddFramework, RemoveFramework, Accept, Decline, Rescind, Finish, Suppress, Revive, Reserve, Unreserve, SetWeight, SetLimit, Cycle}
 use Rattle.drf_rows.specs.declared.reply.Reply.{Reply}
 use Rattle.drf_rows.specs.declared.reply.Reply.TheVariants as reply
 use Rattle.drf_rows.specs.declared.reply.Reply.TheVariants.{Done, Offers, Refused}
 use Rattle.drf_rows.specs.declared.reply.Refusal.{Refusal}
-use Rattle.drf_rows.specs.declared.reply.Refusal.TheVariants.{HistoryFull, BadMoment, UnknownAgent, KnownAgent, UnknownFramework, KnownFramework, UnknownOffer, NotYours, UnknownTask, KnownTask, NotInRole, Empty, NotCovered, BadWeight, TooLarge, TooMany}
+use Rattle.drf_rows.specs.declared.reply.Refusal.TheVariants.{HistoryFull, BadMoment, UnknownAgent, KnownAgent, UnknownFramework, KnownFramework, UnknownOffer, NotYours, UnknownTask, KnownTask, NotInRole, DefaultRole, Empty, NotUnreserved, NotCovered, OverLimit, BadWeight, TooLarge, TooMany}
 use Rattle.drf_rows.specs.declared.reply.OfferLine.{OfferLine}
 
 -- the rows of an allocator that has just been opened
@@ -53,9 +57,13 @@ live_rows rows = record rows { filters = in_force rows.clock rows.filters }
 abbrev pub is_full : LimitNumbers → Rows → Bool
 is_full limits rows = nat_le limits.events rows.accepted
 
--- the agents, or the names of scalars over all of them, would be too many
+-- the names of scalars over all agents would be too many
+abbrev pub too_many_names : LimitNumbers → List AgentRow → Bool
+too_many_names limits agents = nat_lt limits.scalar_names (length (cluster_total agents))
+
+-- the agents, or those names, would be
 abbrev pub too_many_agents : LimitNumbers → List AgentRow → Bool
-too_many_agents limits agents = nat_lt limits.agents (length agents) || nat_lt limits.scalar_names (length (cluster_total agents))
+too_many_agents limits agents = nat_lt limits.agents (length agents) || too_many_names limits agents
 
 -- the frameworks, the roles of this one, or the clients would be too many
 abbrev pub too_many_frameworks : LimitNumbers → Rows → List Path → Bool
@@ -76,6 +84,16 @@ decline_is_too_much limits rows d = refuses_all d.refuse_ms && are_many_filters 
 abbrev pub is_in_role : Rows → Text → Path → Bool
 is_in_role rows framework role = is_registered rows.frameworks (record { role = role; framework = framework })
 
+-- a limit would get a row that is one too many, or names too many scalars
+abbrev pub too_many_limits : LimitNumbers → Rows → Path → List Entry → Bool
+too_many_limits limits rows role limit =
+    (not (is_empty limit) && (not (has_limit rows role) && nat_lt limits.limits (length rows.limits + 1)))
+    || nat_lt limits.scalar_names (length limit)
+
+-- a scalar of the resources exceeds 2^40 - 1 thousandths, over all their reservations
+abbrev pub is_too_large : List Resource → Bool
+is_too_large total = list_any (λ e. nat_lt LARGEST_AMOUNT e.amount) (quantities_of total)
+
 -- the first of some cases that holds
 abbrev pub first_case : List (Bool × Refusal) → Option Refusal
 first_case cases = option_map (λ c. c.1) (find (λ c. c.0) cases)
@@ -85,7 +103,7 @@ abbrev pub cases_of : LimitNumbers → Rows → Event → List (Bool × Refusal)
 cases_of limits rows (AddAgent agent total) =
     (is_full limits rows, HistoryFull)
     ∷ (has_agent rows agent, KnownAgent)
-    ∷ (list_any (λ e. nat_lt LARGEST_AMOUNT e.amount) (quantities_of total), TooLarge)
+    ∷ (is_too_large total, TooLarge)
     ∷ (too_many_agents limits (with_agent rows agent total), TooMany)
     ∷ []
 cases_of limits rows (RemoveAgent agent) =
@@ -99,6 +117,13 @@ cases_of limits rows (ActivateAgent agent) =
 cases_of limits rows (DeactivateAgent agent) =
     (is_full limits rows, HistoryFull)
     ∷ (not (has_agent rows agent), UnknownAgent)
+    ∷ []
+cases_of limits rows (SetAgent agent total) =
+    (is_full limits rows, HistoryFull)
+    ∷ (not (has_agent rows agent), UnknownAgent)
+    ∷ (is_below_held rows agent total, NotCovered)
+    ∷ (is_too_large total, TooLarge)
+    ∷ (too_many_names limits (with_other_total rows agent total), TooMany)
     ∷ []
 cases_of limits rows (AddFramework framework roles) =
     (is_full limits rows, HistoryFull)
@@ -148,10 +173,32 @@ cases_of limits rows (Revive framework role) =
     ∷ (not (has_framework rows framework), UnknownFramework)
     ∷ (not (is_in_role rows framework role), NotInRole)
     ∷ []
+cases_of limits rows (Reserve agent role resources) =
+    (is_full limits rows, HistoryFull)
+    ∷ (not (has_agent rows agent), UnknownAgent)
+    ∷ (is_default role, DefaultRole)
+    ∷ (is_empty resources, Empty)
+    ∷ (not (is_unreserved resources), NotUnreserved)
+    ∷ (is_not_free rows agent resources, NotCovered)
+    ∷ (not (admits rows role (quantities_of resources)), OverLimit)
+    ∷ []
+cases_of limits rows (Unreserve agent role resources) =
+    (is_full limits rows, HistoryFull)
+    ∷ (not (has_agent rows agent), UnknownAgent)
+    ∷ (is_default role, DefaultRole)
+    ∷ (is_empty resources, Empty)
+    ∷ (not (is_unreserved resources), NotUnreserved)
+    ∷ (is_not_free rows agent (relabel role resources), NotCovered)
+    ∷ []
 cases_of limits rows (SetWeight role weight) =
     (is_full limits rows, HistoryFull)
     ∷ (not (is_weight weight), BadWeight)
     ∷ (too_many_weights limits rows role, TooMany)
+    ∷ []
+cases_of limits rows (SetLimit role limit) =
+    (is_full limits rows, HistoryFull)
+    ∷ (is_default role, DefaultRole)
+    ∷ (too_many_limits limits rows role limit, TooMany)
     ∷ []
 cases_of limits rows (Cycle at) =
     (is_full limits rows, HistoryFull)
@@ -169,6 +216,7 @@ effect rows (AddAgent agent total) = record rows { agents = with_agent rows agen
 effect rows (RemoveAgent agent) = agent_removed rows agent
 effect rows (ActivateAgent agent) = record rows { agents = with_activity rows agent true }
 effect rows (DeactivateAgent agent) = agent_deactivated rows agent
+effect rows (SetAgent agent total) = record rows { agents = with_other_total rows agent total }
 effect rows (AddFramework framework roles) = record rows { frameworks = with_framework rows framework roles }
 effect rows (RemoveFramework framework) = framework_removed rows framework
 effect rows (Accept a) =
@@ -180,7 +228,10 @@ effect rows (Finish framework task) = without_ended rows (one_task framework tas
 effect rows (Suppress framework role) =
     record rows { frameworks = with_suppression rows (record { role = role; framework = framework }) true }
 effect rows (Revive framework role) = revived rows (record { role = role; framework = framework })
+effect rows (Reserve agent role resources) = record rows { agents = with_reserved rows agent role resources }
+effect rows (Unreserve agent role resources) = record rows { agents = with_unreserved rows agent role resources }
 effect rows (SetWeight role weight) = record rows { weights = weights_with rows.weights role weight }
+effect rows (SetLimit role limit) = record rows { limits = limits_with rows.limits role limit }
 effect rows (Cycle at) = cycle rows at
 effect rows event.Report = rows
 

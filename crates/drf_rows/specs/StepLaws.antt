@@ -10,7 +10,7 @@ use Rattle.drf_rows.specs.Step.{first_case, cases_of, refusal_of, effect, answer
 use Rattle.drf_rows.specs.Laws.{is_rising, CasesRise, LeastIsTold}
 use Rattle.drf_rows.specs.Refusal.{refusal_number}
 use Rattle.drf_rows.specs.declared.event.Event.{Event}
-use Rattle.drf_rows.specs.declared.event.Event.TheVariants.{AddAgent, RemoveAgent, ActivateAgent, DeactivateAgent, AddFramework, RemoveFramework, Accept, Decline, Rescind, Finish, Suppress, Revive, SetWeight, Cycle, Report}
+use Rattle.drf_rows.specs.declared.event.Event.TheVariants.{AddAgent, RemoveAgent, ActivateAgent, DeactivateAgent, SetAgent, AddFramework, RemoveFramework, Accept, Decline, Rescind, Finish, Suppress, Revive, Reserve, Unreserve, SetWeight, SetLimit, Cycle, Report}
 use Rattle.drf_rows.specs.declared.reply.Refusal.{Refusal}
 use Rattle.drf_rows.specs.declared.reply.Reply.TheVariants.{Refused}
 use Rattle.drf_rows.specs.declared.rows.Rows.{Rows}
@@ -20,6 +20,7 @@ cases_rise limits rows (AddAgent agent total) = refl
 cases_rise limits rows (RemoveAgent agent) = refl
 cases_rise limits rows (ActivateAgent agent) = refl
 cases_rise limits rows (DeactivateAgent agent) = refl
+cases_rise limits rows (SetAgent agent total) = refl
 cases_rise limits rows (AddFramework framework roles) = refl
 cases_rise limits rows (RemoveFramework framework) = refl
 cases_rise limits rows (Accept a) = refl
@@ -28,7 +29,10 @@ cases_rise limits rows (Rescind offer) = refl
 cases_rise limits rows (Finish framework task) = refl
 cases_rise limits rows (Suppress framework role) = refl
 cases_rise limits rows (Revive framework role) = refl
+cases_rise limits rows (Reserve agent role resources) = refl
+cases_rise limits rows (Unreserve agent role resources) = refl
 cases_rise limits rows (SetWeight role weight) = refl
+cases_rise limits rows (SetLimit role limit) = refl
 cases_rise limits rows (Cycle at) = refl
 cases_rise limits rows Report = refl
 

@@ -133,6 +133,7 @@ IsConsistent-weight_set rows role weight right consistent = record {
   covered = consistent.covered;
   tasks = consistent.tasks;
   weights = are_weights-with role weight rows.weights right consistent.weights;
+  limits = consistent.limits;
   filters = consistent.filters;
   early = consistent.early;
   counted = consistent.counted;

@@ -3,7 +3,7 @@ ghost use Rattle.std.specs.Prelude.{◌≡◌, IfOk};
 use crate::table::Table;
 use crate::tasks::TaskList;
 use drf_amount::Algebra;
-use drf_bundle::Bundle;
+use drf_bundle::{Bundle, Quantities};
 use drf_role::{Name, Role};
 use std::alloc::AllocError;
 
@@ -58,34 +58,86 @@ impl Decline {
 #[derive(Debug, Drop)]
 pub enum Event {
     /// An agent registers with all its resources.
-    AddAgent { agent: Name, total: Bundle },
+    AddAgent {
+        agent: Name,
+        total: Bundle,
+    },
     /// An agent leaves, with its total and all that is held there.
-    RemoveAgent { agent: Name },
+    RemoveAgent {
+        agent: Name,
+    },
     /// What is free on an agent is offered, from now on.
-    ActivateAgent { agent: Name },
+    ActivateAgent {
+        agent: Name,
+    },
     /// An agent's offers are rescinded, and no more are made. Its tasks stay.
-    DeactivateAgent { agent: Name },
+    DeactivateAgent {
+        agent: Name,
+    },
+    /// An agent's total is another from now on. All that is held there stays.
+    SetAgent {
+        agent: Name,
+        total: Bundle,
+    },
     /// A framework registers in its roles.
-    AddFramework { framework: Name, roles: Table<Role> },
+    AddFramework {
+        framework: Name,
+        roles: Table<Role>,
+    },
     /// A framework leaves. What it held is free.
-    RemoveFramework { framework: Name },
+    RemoveFramework {
+        framework: Name,
+    },
     /// A framework starts tasks with parts of an offer, all or none. The rest is free; for a time its client is offered there
     /// nothing that this rest covers.
     Accept(Accept),
     /// A framework gives an offer back; for a time its client is offered there nothing that the offer covers.
     Decline(Decline),
     /// An offer is taken back.
-    Rescind { offer: u64 },
+    Rescind {
+        offer: u64,
+    },
     /// A task ends. What it used is free.
-    Finish { framework: Name, task: Name },
+    Finish {
+        framework: Name,
+        task: Name,
+    },
     /// A framework is not to be served in a role, until it revives.
-    Suppress { framework: Name, role: Role },
+    Suppress {
+        framework: Name,
+        role: Role,
+    },
     /// A framework is to be served in a role, and no longer refuses anything there.
-    Revive { framework: Name, role: Role },
+    Revive {
+        framework: Name,
+        role: Role,
+    },
+    /// What is free on an agent for everyone is reserved for a role. The resources name no reservation.
+    Reserve {
+        agent: Name,
+        role: Role,
+        resources: Bundle,
+    },
+    /// What is free on an agent and reserved for just this role is for everyone again. The resources name no reservation.
+    Unreserve {
+        agent: Name,
+        role: Role,
+        resources: Bundle,
+    },
     /// A role gets a weight, in thousandths.
-    SetWeight { role: Role, weight: u64 },
+    SetWeight {
+        role: Role,
+        weight: u64,
+    },
+    /// A role gets a limit: the most that it may consume of each scalar named. One that names nothing takes the limit away.
+    SetLimit {
+        role: Role,
+        limit: Quantities,
+    },
     /// The allocator offers what is free, at a moment in milliseconds.
-    Cycle { at: u64 },
+    Cycle {
+        at: u64,
+    },
     /// The allocator tells what there is, and who holds what of it.
     Report,
 }
@@ -107,6 +159,10 @@ impl Event {
             }),
             Event::DeactivateAgent { agent } => Ok(Event::DeactivateAgent {
                 agent: agent.copy()?,
+            }),
+            Event::SetAgent { agent, total } => Ok(Event::SetAgent {
+                agent: agent.copy()?,
+                total: total.copy()?,
             }),
             Event::AddFramework { framework, roles } => Ok(Event::AddFramework {
                 framework: framework.copy()?,
@@ -130,9 +186,31 @@ impl Event {
                 framework: framework.copy()?,
                 role: role.copy()?,
             }),
+            Event::Reserve {
+                agent,
+                role,
+                resources,
+            } => Ok(Event::Reserve {
+                agent: agent.copy()?,
+                role: role.copy()?,
+                resources: resources.copy()?,
+            }),
+            Event::Unreserve {
+                agent,
+                role,
+                resources,
+            } => Ok(Event::Unreserve {
+                agent: agent.copy()?,
+                role: role.copy()?,
+                resources: resources.copy()?,
+            }),
             Event::SetWeight { role, weight } => Ok(Event::SetWeight {
                 role: role.copy()?,
                 weight: *weight,
+            }),
+            Event::SetLimit { role, limit } => Ok(Event::SetLimit {
+                role: role.copy()?,
+                limit: limit.copy()?,
             }),
             Event::Cycle { at } => Ok(Event::Cycle { at: *at }),
             Event::Report => Ok(Event::Report),

@@ -24,7 +24,10 @@ pub use laws::{
     taking_part_example, turn_law, weights_example,
 };
 pub use limits::{LARGEST_AMOUNT, LATEST_MOMENT, LONGEST_FILTER, Limits};
-pub use quota_laws::limits_law;
+pub use quota_laws::{
+    limited_example, limits_law, limits_refused_example, other_totals_example, reservations_law,
+    reserved_example, set_agent_law, set_limit_law,
+};
 pub use reply::{OfferLine, Refusal, Reply};
 pub use report::{NodeLine, Report};
 pub use rows::{

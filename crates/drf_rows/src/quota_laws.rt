@@ -1,9 +1,65 @@
-//! Laws of quota limits. The functions do nothing: what they promise is proved of the definitions alone.
-ghost use Rattle.drf_rows.specs.QuotaLaws.{GrantKeepsLimits, SpentLimitLeavesNothing};
+//! Laws of quota limits, and runs under them. The functions do nothing: what they promise is proved of the definitions alone.
+#![tactic(auto, unfolding(crate::specs::Share::is_ahead, crate::specs::Held::standing_of, crate::specs::Cycle::free_of, crate::specs::Cycle::with_offer, crate::specs::Cycle::turn, crate::specs::Cycle::cycle, crate::specs::Share::common_divisor, crate::specs::Report::report_of, crate::specs::Step::refusal_of, crate::specs::Step::effect, crate::specs::Step::rows_after, crate::specs::Step::reply_to))]
 
-/// An offer of what a client may have of a bundle takes neither its role nor a role above it over a limit. A limit that is at
-/// most the consumption leaves nothing.
+ghost use Rattle.std.specs.Prelude.{◌≡◌};
+ghost use Rattle.drf_rows.specs.LimitNumbers.{ceilings};
+ghost use Rattle.drf_rows.specs.Step.{opening, replies_to};
+ghost use Rattle.drf_rows.specs.QuotaExamples.{no_cpus, no_cpus_replies, limit_in_cycle, limit_in_cycle_replies, reserved_below, reserved_below_replies, two_limits, two_limits_replies, moved_twice, moved_twice_replies, other_totals, other_totals_replies, limits_refused, limits_refused_replies, one_limit, more_limits, more_limits_replies};
+ghost use Rattle.drf_rows.specs.QuotaLaws.{GrantKeepsLimits, CycleKeepsLimits, SpentLimitLeavesNothing, ConsumptionIsPartOfTotal};
+ghost use Rattle.drf_rows.specs.ReservationLaws.{ReservedIsGivenBack, ReservingKeepsLimits, MovedIsConsumed, ChangedAgentKeepsAll};
+ghost use Rattle.drf_rows.specs.LimitLaws.{RoleHasItsLimit, OthersKeepTheirLimit, LimitTakesNothing};
+
+/// An offer of what a client may have of a bundle takes neither its role nor a role above it over a limit, and so no cycle does.
+/// A limit that is at most the consumption leaves nothing, and no role consumes more than there is.
 pub fn limits_law()
     ensures kept { GrantKeepsLimits }
+    ensures cycle { CycleKeepsLimits }
     ensures spent { SpentLimitLeavesNothing }
+    ensures part { ConsumptionIsPartOfTotal }
+{}
+
+/// An event that sets a limit changes the limit of its role, and nothing else: what is consumed above it stays where it is.
+pub fn set_limit_law()
+    ensures set { RoleHasItsLimit }
+    ensures others { OthersKeepTheirLimit }
+    ensures nothing { LimitTakesNothing }
+{}
+
+/// What is reserved is consumed by its role and the roles above it, takes none of them over a limit, and once it is given back
+/// all is as it was.
+pub fn reservations_law()
+    ensures back { ReservedIsGivenBack }
+    ensures kept { ReservingKeepsLimits }
+    ensures consumed { MovedIsConsumed }
+{}
+
+/// An agent whose total changes keeps all that is held there, and nothing else of the rows changes.
+pub fn set_agent_law()
+    ensures { ChangedAgentKeepsAll }
+{}
+
+/// What a role is granted counts against its limit at the next grant of the same cycle, and other roles are not bound by it. The
+/// least of the limits of a role and of the roles above it counts, and one that is lowered takes nothing away.
+pub fn limited_example()
+    ensures none { replies_to ceilings opening no_cpus ≡ no_cpus_replies }
+    ensures cycle { replies_to ceilings opening limit_in_cycle ≡ limit_in_cycle_replies }
+    ensures two { replies_to ceilings opening two_limits ≡ two_limits_replies }
+{}
+
+/// What is reserved for a role counts against its limit and those of the roles above it, and only what is free moves.
+pub fn reserved_example()
+    ensures below { replies_to ceilings opening reserved_below ≡ reserved_below_replies }
+    ensures twice { replies_to ceilings opening moved_twice ≡ moved_twice_replies }
+{}
+
+/// An agent's total changes round what is held there.
+pub fn other_totals_example()
+    ensures { replies_to ceilings opening other_totals ≡ other_totals_replies }
+{}
+
+/// Each refusal of an event that reserves, gives back or sets a limit is told; a limit that is replaced or taken away is not one
+/// more.
+pub fn limits_refused_example()
+    ensures refused { replies_to ceilings opening limits_refused ≡ limits_refused_replies }
+    ensures many { replies_to one_limit opening more_limits ≡ more_limits_replies }
 {}

@@ -30,16 +30,22 @@ pub enum Refusal {
     KnownTask,
     /// The framework is not in the role.
     NotInRole,
+    /// The role `*` takes no limit, and nothing is reserved for it.
+    DefaultRole,
     /// The framework has no roles, or the resources are empty.
     Empty,
-    /// The offer does not cover the resources.
+    /// Of what is reserved, or for everyone again, a part names a reservation.
+    NotUnreserved,
+    /// The offer, or what is free for the purpose, does not cover the resources; or a total does not cover what is held.
     NotCovered,
+    /// With what is reserved for it the role, or a role above it, would consume more than its limit.
+    OverLimit,
     /// The weight is not from 1 to 1,000,000 thousandths.
     BadWeight,
     /// What the agent has of one scalar, over all its reservations, exceeds 2^40 - 1 thousandths.
     TooLarge,
-    /// A limit would be passed: of agents, names of scalars, frameworks, roles of a framework, clients, weights, or filters
-    /// in force.
+    /// A limit would be passed: of agents, names of scalars, frameworks, roles of a framework, clients, filters in force,
+    /// weights, limits, or scalars that one limit names.
     TooMany,
 }
 
@@ -62,8 +68,11 @@ impl Refusal {
             Refusal::UnknownTask => 9,
             Refusal::KnownTask => 10,
             Refusal::NotInRole => 11,
+            Refusal::DefaultRole => 12,
             Refusal::Empty => 13,
+            Refusal::NotUnreserved => 14,
             Refusal::NotCovered => 15,
+            Refusal::OverLimit => 16,
             Refusal::BadWeight => 17,
             Refusal::TooLarge => 18,
             Refusal::TooMany => 19,
@@ -86,8 +95,11 @@ impl Refusal {
             Refusal::UnknownTask => "UnknownTask",
             Refusal::KnownTask => "KnownTask",
             Refusal::NotInRole => "NotInRole",
+            Refusal::DefaultRole => "DefaultRole",
             Refusal::Empty => "Empty",
+            Refusal::NotUnreserved => "NotUnreserved",
             Refusal::NotCovered => "NotCovered",
+            Refusal::OverLimit => "OverLimit",
             Refusal::BadWeight => "BadWeight",
             Refusal::TooLarge => "TooLarge",
             Refusal::TooMany => "TooMany",

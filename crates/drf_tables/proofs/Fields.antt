@@ -90,7 +90,7 @@ module _ (t : Inside) where
     last_agent = inserted ∙ insert_entry-new name a t.agents.entries (sym (has_agent-rows_in name) ∙ new)
 
     pub rows_of-agent : a.active ≡ true
-        → rows_of entries t.frameworks.entries t.holdings t.filters t.weights.entries t.clock t.next_offer t.accepted
+        → rows_of entries t.frameworks.entries t.holdings t.filters t.weights.entries t.quota.limits t.clock t.next_offer t.accepted
         ≡ agent_added (rows_in t) name a.total
     unfolding rows_of
     rows_of-agent active =
@@ -104,7 +104,7 @@ module _ (t : Inside) where
   -- and so does a framework
   pub rows_of-framework : (entries : List (Text × Vec ClientRow)) (name : Text) (v : Vec ClientRow)
       → has_framework (rows_in t) name ≡ false → entries ≡ insert_entry same_text t.frameworks.entries name v
-      → rows_of t.agents.entries entries t.holdings t.filters t.weights.entries t.clock t.next_offer t.accepted
+      → rows_of t.agents.entries entries t.holdings t.filters t.weights.entries t.quota.limits t.clock t.next_offer t.accepted
       ≡ framework_added (rows_in t) (framework_row (name, v))
   unfolding rows_of
   rows_of-framework entries name v new inserted =
@@ -118,7 +118,7 @@ module _ (t : Inside) where
       → map agent_row entries ≡ map agent_row t.agents.entries
       → framework_rows counted ≡ counting_all (framework_rows t.frameworks.entries) made
       → held.offers ≡ t.holdings.offers ++ made → held.tasks ≡ t.holdings.tasks
-      → rows_of entries counted held t.filters t.weights.entries t.clock (t.next_offer + length made) t.accepted
+      → rows_of entries counted held t.filters t.weights.entries t.quota.limits t.clock (t.next_offer + length made) t.accepted
       ≡ with_offers (rows_in t) made
   unfolding rows_of
   rows_of-offers entries counted held made agents frameworks offers tasks =
@@ -151,3 +151,8 @@ pub sums_fit : (agents : List AgentRow) (label : Text) (amount : ℕ)
     → amount_of (cluster_total agents) label + amount < 2 ^ 64
 unfolding added
 sums_fit agents label amount all few small = omega (arith, small_sum [] agents label all, few, small)
+
+pub total_fits : (agents : List AgentRow) (label : Text) → AllByRecursion IsAgent agents → length agents ≤ 4096
+    → amount_of (cluster_total agents) label < 2 ^ 64
+unfolding added
+total_fits agents label all few = omega (arith, small_sum [] agents label all, few)

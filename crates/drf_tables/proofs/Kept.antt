@@ -55,6 +55,7 @@ IsKept-clocked rows agents sum number clock accepted early kept =
       covered = kept.consistent.covered;
       tasks = kept.consistent.tasks;
       weights = kept.consistent.weights;
+      limits = kept.consistent.limits;
       filters = kept.consistent.filters;
       early = early;
       counted = kept.consistent.counted;

@@ -66,7 +66,7 @@ key_unknown name es none =
 
 -- ---- the rows of entries that change
 
-rows-each : (f : Text × Agent → Text × Agent) (g : AgentRow → AgentRow) → ((e : Text × Agent) → agent_row (f e) ≡ g (agent_row e))
+pub rows-each : (f : Text × Agent → Text × Agent) (g : AgentRow → AgentRow) → ((e : Text × Agent) → agent_row (f e) ≡ g (agent_row e))
     → (es : List (Text × Agent)) → map agent_row (map f es) ≡ map g (map agent_row es)
 rows-each f g same [] = refl
 rows-each f g same (e ∷ es) = λ i. same e i ∷ rows-each f g same es i

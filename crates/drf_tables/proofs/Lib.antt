@@ -9,3 +9,5 @@ pub mod Counted
 pub mod Kept
 pub mod Fields
 pub mod Weighed
+pub mod Counts
+pub mod Moved

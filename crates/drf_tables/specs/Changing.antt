@@ -1,5 +1,14 @@
 -- Agents whose entries change.
-use Rattle.std.specs.Prelude.{ℕ, Bool, List, None, take, if◌then◌else◌}
+use Rattle.std.specs.Prelude.{◌≡◌, ℕ, ◌≤◌, Bool, false, List, Some, None, take, if◌then◌else◌}
+use Rattle.std.specs.Option.{option_map}
+use Rattle.drf_bundle.specs.Bundle.{IsBundle, quantities_of}
+use Rattle.drf_bundle.specs.Quantities.{amount_of}
+use Rattle.drf_bundle.specs.declared.resource.Resource.{Resource}
+use Rattle.drf_rows.specs.Cycle.{free_of}
+use Rattle.drf_rows.specs.Totals.{CanExchange, agent_at, exchanged, is_below_held}
+use Rattle.drf_rows.specs.declared.limits.TheConstants.{LARGEST_AMOUNT}
+use Rattle.drf_rows.specs.declared.rows.AgentRow.{AgentRow}
+use Rattle.drf_rows.specs.declared.rows.Rows.{Rows}
 use Rattle.drf_role.specs.Text.{Text, same_text}
 use Rattle.drf_tables.specs.Inside.{is_settled}
 use Rattle.drf_tables.specs.declared.tables.Agent.{Agent}
@@ -15,6 +24,33 @@ forgotten a = record a { free = None }
 -- it is active, or not
 abbrev pub with_active : Bool → Agent → Agent
 with_active active a = record a { active = active }
+
+-- a part is exchanged for another, in its total and in what is free
+abbrev pub with_exchanged : List Resource → List Resource → Agent → Agent
+with_exchanged old new a = record a { total = exchanged old new a.total; free = option_map (exchanged old new) a.free }
+
+-- both have the first part
+pub record CanExchangeAt (old new : List Resource) (a : Agent) : Type 0 where
+  pub total : CanExchange a.total old new
+  pub free : (known : List Resource) → a.free ≡ Some known → CanExchange known old new
+
+-- its total is another, and what is free there is not known
+abbrev pub with_other : List Resource → Agent → Agent
+with_other total a = record a { total = total; free = None }
+
+-- the agent is there, and what is free on it has the first part
+pub record CanExchangeOn (rows : Rows) (agent : Text) (old new : List Resource) : Type 0 where
+  pub row : AgentRow
+  pub found : agent_at rows agent ≡ Some row
+  pub can : CanExchange (free_of rows row) old new
+
+-- the agent is there, and the total covers what is held on it
+pub record CanHaveTotal (rows : Rows) (agent : Text) (total : List Resource) : Type 0 where
+  pub row : AgentRow
+  pub found : agent_at rows agent ≡ Some row
+  pub bundle : IsBundle total
+  pub small : (label : Text) → amount_of (quantities_of total) label ≤ LARGEST_AMOUNT
+  pub covered : is_below_held rows agent total ≡ false
 
 -- what is free is known of the first agents
 abbrev pub are_settled : ℕ → List (Text × Agent) → Bool

@@ -1,5 +1,5 @@
 -- The rows that the fields of tables stand for, and what the fields keep beside the rows.
-use Rattle.std.specs.Prelude.{◌≡◌, ℕ, Bool, List, [], length, map, fold, slice_set, Option, Some, is_some}
+use Rattle.std.specs.Prelude.{◌≡◌, ℕ, Bool, true, List, length, map, fold, slice_set, Option, Some, is_some}
 use Rattle.std.specs.List.{list_all, AllByRecursion}
 use Rattle.std.specs.Global.{Vec}
 use Rattle.drf_role.specs.Text.{Text}
@@ -12,6 +12,8 @@ use Rattle.drf_rows.specs.declared.rows.AgentRow.{AgentRow}
 use Rattle.drf_rows.specs.declared.rows.ClientRow.{ClientRow}
 use Rattle.drf_rows.specs.declared.rows.FrameworkRow.{FrameworkRow}
 use Rattle.drf_rows.specs.declared.rows.WeightRow.{WeightRow}
+use Rattle.drf_rows.specs.declared.rows.LimitRow.{LimitRow}
+use Rattle.drf_gates.specs.Quota.{Allowance, IsAllowanceOf}
 use Rattle.drf_rows.specs.declared.rows.Rows.{Rows}
 use Rattle.drf_bundle.specs.Taken.{rest_of_all}
 use Rattle.drf_rows.specs.Holdings.{Holding, holdings_of, parts_on}
@@ -49,14 +51,23 @@ abbrev pub is_settled : List (Text × Agent) → Bool
 is_settled entries = list_all (λ e. is_some e.1.free) entries
 
 unfoldable pub rows_of :
-    List (Text × Agent) → List (Text × Vec ClientRow) → Standing → List FilterRow → List (Path × ℕ) → ℕ → ℕ → ℕ → Rows
-rows_of agents frameworks holdings filters weights clock next_offer accepted = record {
+    List (Text × Agent)
+    → List (Text × Vec ClientRow)
+    → Standing
+    → List FilterRow
+    → List (Path × ℕ)
+    → List LimitRow
+    → ℕ
+    → ℕ
+    → ℕ
+    → Rows
+rows_of agents frameworks holdings filters weights limits clock next_offer accepted = record {
   agents = map agent_row agents;
   frameworks = framework_rows frameworks;
   offers = holdings.offers;
   tasks = holdings.tasks;
   weights = weight_rows weights;
-  limits = [];
+  limits = limits;
   filters = filters;
   clock = clock;
   next_offer = next_offer;
@@ -66,7 +77,7 @@ rows_of agents frameworks holdings filters weights clock next_offer accepted = r
 -- the rows that the fields stand for
 abbrev pub rows_in : Inside → Rows
 rows_in t =
-    rows_of t.agents.entries t.frameworks.entries t.holdings t.filters t.weights.entries t.clock t.next_offer t.accepted
+    rows_of t.agents.entries t.frameworks.entries t.holdings t.filters t.weights.entries t.quota.limits t.clock t.next_offer t.accepted
 
 -- what is kept of an agent as its free part is left of its total when all that is held there is taken from it
 abbrev pub IsKnown : List Holding → Text × Agent → Type 0
@@ -78,3 +89,12 @@ pub record IsKept (rows : Rows) (agents : List (Text × Agent)) (sum : List Entr
   pub free : AllByRecursion (IsKnown (holdings_of rows)) agents
   pub total : sum ≡ cluster_total rows.agents
   pub clients : number ≡ length (clients_of rows)
+
+-- a quota counts what roles consume, if it is said to
+abbrev pub CountsIf : Bool → Rows → Allowance → Type 0
+CountsIf counted rows quota = counted ≡ true → IsAllowanceOf rows quota
+
+-- what is kept beside the rows, and what the quota counts
+pub record IsWhole (t : Inside) : Type 0 where
+  pub kept : IsKept (rows_in t) t.agents.entries t.total t.clients
+  pub consumed : CountsIf t.is_counted (rows_in t) t.quota

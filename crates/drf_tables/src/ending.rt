@@ -68,6 +68,7 @@ impl Tables {
     {
         let taken = self.holdings.take(ending)?;
         forget_free(&mut self.agents, &taken.agent);
+        self.is_counted = false;
         Some(Held {
             client: ClientPath::from_parts(taken.role, taken.framework),
             bundle: taken.bundle,
@@ -91,6 +92,7 @@ impl Tables {
         match self.holdings.start(number, tasks) {
             Ok(offer) => {
                 forget_free(&mut self.agents, &offer.agent);
+                self.is_counted = false;
                 Ok(())
             }
             Err(error) => {

@@ -79,6 +79,7 @@ impl Tables {
         let _ = self.agents.shift_remove(agent);
         self.filters.drop_agent(agent);
         self.total = total;
+        self.is_counted = false;
     }
 
     /// Takes a framework out that holds nothing, with its filters.

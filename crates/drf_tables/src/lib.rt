@@ -2,11 +2,14 @@
 //! and the total of the cluster. Contracts see the rows, what room is reserved, and whether what is free is known.
 #![tactic(auto)]
 
+mod consuming;
 mod ending;
 mod filtering;
 mod leaving;
+mod limits;
 mod listing;
 mod members;
+mod moving;
 mod offers;
 mod settling;
 mod tables;

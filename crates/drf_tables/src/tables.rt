@@ -20,7 +20,7 @@ use crate::listing::{agent_rows, framework_rows, task_rows, weight_rows};
 use crate::offers::{count_offers, put_lefts};
 use drf_amount::Algebra;
 use drf_bundle::{Bundle, Quantities};
-use drf_gates::FilterTable;
+use drf_gates::{FilterTable, Quota};
 use drf_holdings::Holdings;
 use drf_role::{Name, Role};
 use drf_rows::{ClientRow, OfferRow, Rows, Table, copy_all};
@@ -59,6 +59,9 @@ pub struct Tables {
     pub(crate) total: Quantities,
     // How many clients the frameworks have together.
     pub(crate) clients: usize,
+    pub(crate) quota: Quota,
+    // Whether the quota counts what roles consume. Where it does not, that is computed again when it is asked for.
+    pub(crate) is_counted: bool,
     // Those that have run out are dropped when the filters are so many.
     pub(crate) sweep_at: usize,
 }
@@ -71,11 +74,11 @@ impl Model for Tables {
     ghost coded = { stored_code };
 
     ghost use Rattle.indexmap.specs.IndexMap.{spare};
-    ghost use Rattle.drf_tables.specs.Inside.{rows_in, is_settled, IsKept};
+    ghost use Rattle.drf_tables.specs.Inside.{rows_in, is_settled, IsWhole};
 
-    ghost view = { λ t. record { rows = rows_in t; room = spare t.frameworks; weight_room = spare t.weights; settled = is_settled t.agents.entries } };
+    ghost view = { λ t. record { rows = rows_in t; room = spare t.frameworks; weight_room = spare t.weights; settled = is_settled t.agents.entries; counted = t.is_counted } };
 
-    ghost invariant = { λ t. IsKept (rows_in t) t.agents.entries t.total t.clients };
+    ghost invariant = { IsWhole };
 }
 
 impl Tables {
@@ -95,6 +98,8 @@ impl Tables {
             accepted: 0,
             total: Quantities::empty(alloc),
             clients: 0,
+            quota: Quota::new(alloc),
+            is_counted: false,
             sweep_at: 8,
         }
     }
@@ -115,8 +120,7 @@ impl Tables {
 
     /// How many events were accepted.
     pub fn accepted(&self) -> u64
-        ensures value { result ≡ self.now.rows.accepted }
-        ensures limits { self.now.rows.limits ≡ [] }
+        ensures { result ≡ self.now.rows.accepted }
     {
         self.accepted
     }
@@ -233,6 +237,7 @@ impl Tables {
             },
         )?;
         self.total = sum;
+        self.is_counted = false;
         Ok(())
     }
 
@@ -293,6 +298,7 @@ impl Tables {
         count_offers(&mut self.frameworks, &self.holdings.offers()[before..]);
         put_lefts(&mut self.agents, lefts);
         self.next_offer += made as u64;
+        self.is_counted = false;
         Ok(())
     }
 
@@ -307,7 +313,7 @@ impl Tables {
             offers: copy_all(alloc, self.holdings.offers())?,
             tasks: task_rows(alloc, self.holdings.tasks())?,
             weights: weight_rows(alloc, &self.weights)?,
-            limits: Table::from_vec(Vec::new(alloc)),
+            limits: self.quota.rows()?,
             filters: self.filters.copy_in_force(self.clock)?,
             clock: self.clock,
             next_offer: self.next_offer,

@@ -6,6 +6,7 @@ use Rattle.drf_tables.specs.Ended.{CanAccept, with_accepted}
 use Rattle.drf_tables.specs.Inside.{rows_of, rows_in}
 use Rattle.drf_tables.specs.Stored.{Stored}
 use Rattle.drf_tables.proofs.Ended.{found_any, accepted-rows, accepted-kept}
+use Rattle.drf_tables.proofs.Counts.{none_counted}
 use Rattle.drf_tables.proofs.tables.Tables.accept.Goals as goal
 
 pub start-requires-clause-there : goal.start-requires-clause-there
@@ -34,9 +35,12 @@ invariant_of-self-in-Ok c =
     let number = c.args.number in
     let can : CanAccept (rows_in t) number c.args.tasks c.args.filter =
     subst (λ (s : Stored). CanAccept s.rows number c.args.tasks c.args.filter) (sym c.self.view_is) c.requires in
-    accepted-kept t c.forget_free.new.agents.entries c.start.new.self c.add_if.new.filters number c.args.tasks c.args.filter
-    can.offer c.in-Ok.offer c.self.invariant can.at c.in-Ok.ensures.ok c.forget_free.ensures c.in_ok-add_if.ensures.ok
-    can.can can.filter
+    record {
+      kept = accepted-kept t c.forget_free.new.agents.entries c.start.new.self c.add_if.new.filters number c.args.tasks c.args.filter
+          can.offer c.in-Ok.offer c.self.invariant.kept can.at c.in-Ok.ensures.ok c.forget_free.ensures c.in_ok-add_if.ensures.ok
+          can.can can.filter;
+      consumed = none_counted _ _;
+    }
 
 pub returns-in-Ok-clause-ok : goal.returns-in-Ok-clause-ok
 unfolding rows_of
@@ -45,5 +49,5 @@ returns-in-Ok-clause-ok c = λ o at.
     let number = c.args.number in
     let found : offer_at (rows_in t) number ≡ Some o = ap (λ (s : Stored). offer_at s.rows number) c.self.view_is ∙ at in
     accepted-rows t c.forget_free.new.agents.entries c.start.new.self c.add_if.new.filters number c.args.tasks c.args.filter
-    o c.in-Ok.offer c.self.invariant found c.in-Ok.ensures.ok c.forget_free.ensures c.in_ok-add_if.ensures.ok
+    o c.in-Ok.offer c.self.invariant.kept found c.in-Ok.ensures.ok c.forget_free.ensures c.in_ok-add_if.ensures.ok
     ∙ ap (λ (s : Stored). with_accepted s.rows o c.args.tasks c.args.filter) c.self.view_is

@@ -11,11 +11,12 @@ use Rattle.drf_tables.specs.Stored.{Stored}
 use Rattle.drf_tables.specs.declared.tables.Agent.{Agent}
 use Rattle.drf_tables.proofs.Fields.{rows_of-agent, last_agent, sums_fit}
 use Rattle.drf_tables.proofs.Kept.{IsKept-agent_added}
+use Rattle.drf_tables.proofs.Counts.{none_counted}
 use Rattle.drf_tables.proofs.tables.Tables.add_agent.Goals as goal
 
 pub plus-requires : goal.plus-requires
 plus-requires c = λ label.
-    let kept = c.self.invariant in
+    let kept = c.self.invariant.kept in
     let few = ap (λ (s : Stored). length s.rows.agents) c.self.view_is in
     let fits =
     sums_fit (rows_in c.self.inside).agents label (amount_of (quantities_of c.args.total) label) kept.consistent.agents.each
@@ -42,9 +43,12 @@ invariant_of-self-2 c =
           c.requires.small;
     } in
     let sum : c.in_ok-sum.sum ≡ plus t.total (quantities_of total) = c.in_ok-sum.ensures ∙ ap (plus t.total) c.quantities.ensures.value in
-    rw (rows, last, sum) (
-    IsKept-agent_added (rows_in t) t.agents.entries t.total t.clients name agent c.self.invariant new right all
-    )
+    record {
+      kept = rw (rows, last, sum) (
+          IsKept-agent_added (rows_in t) t.agents.entries t.total t.clients name agent c.self.invariant.kept new right all
+          );
+      consumed = none_counted _ _;
+    }
 
 pub returns-clause-ok : goal.returns-clause-ok
 returns-clause-ok c =

@@ -1,18 +1,20 @@
-use Rattle.std.proofs.Common.{◌≡◌, List, false, ap, ◌∙◌}
+use Rattle.std.proofs.Common.{◌≡◌, List, false, ap, ◌∙◌, refl}
 use Rattle.indexmap.specs.IndexMap.{insert_entry}
 use Rattle.drf_role.specs.Text.{same_text}
 use Rattle.drf_rows.specs.RegistrationLaws.{framework_added}
 use Rattle.drf_rows.specs.Members.{has_framework}
 use Rattle.drf_rows.specs.declared.rows.ClientRow.{ClientRow}
 use Rattle.drf_rows.specs.declared.rows.FrameworkRow.{FrameworkRow}
-use Rattle.drf_tables.specs.Inside.{rows_in}
+use Rattle.drf_tables.specs.Inside.{rows_of, rows_in}
 use Rattle.drf_tables.specs.Stored.{Stored}
 use Rattle.drf_tables.proofs.Entries.{from_ok}
 use Rattle.drf_tables.proofs.Fields.{rows_of-framework}
 use Rattle.drf_tables.proofs.Kept.{IsKept-framework_added}
+use Rattle.drf_tables.proofs.Counts.{counts-same}
 use Rattle.drf_tables.proofs.tables.Tables.add_framework.Goals as goal
 
 pub invariant_of-self : goal.invariant_of-self
+unfolding rows_of
 invariant_of-self c =
     let t = c.self.inside in
     let name = c.args.name in
@@ -25,10 +27,13 @@ invariant_of-self c =
     rows_of-framework t c.insert.new.self.entries name c.into_vec.result new inserted
     ∙ ap (λ (clients : List ClientRow). framework_added (rows_in t) (record { name = name; clients = clients }))
     c.into_vec.ensures in
-    rw (rows, c.len.ensures) (
-    IsKept-framework_added (rows_in t) t.agents.entries t.total t.clients f
-    c.self.invariant new c.requires.roles c.requires.uncounted
-    )
+    record {
+      kept = rw (rows, c.len.ensures) (
+          IsKept-framework_added (rows_in t) t.agents.entries t.total t.clients f
+          c.self.invariant.kept new c.requires.roles c.requires.uncounted
+          );
+      consumed = counts-same _ (rows_in c.self.inside) _ _ c.self.invariant.consumed refl refl (λ test label. refl);
+    }
 
 pub returns : goal.returns
 returns c =

@@ -13,6 +13,7 @@ use Rattle.drf_tables.proofs.Counted.{CanCountAll-from}
 use Rattle.drf_tables.proofs.Entries.{appended}
 use Rattle.drf_tables.proofs.Fields.{rows_of-offers, agents_in}
 use Rattle.drf_tables.proofs.Kept.{IsKept-with_offers, known-left, settled-left}
+use Rattle.drf_tables.proofs.Counts.{none_counted}
 use Rattle.drf_tables.proofs.tables.Tables.commit.Goals as goal
 
 pub append-requires : goal.append-requires
@@ -36,7 +37,7 @@ count_offers-requires-clause-fits c =
     let made = appended t.holdings.offers offers c.offers.result.now (length c.offers-before.result.now) all before in
     let next = next-with_offers (rows_in t) offers in
     let view = ap (λ (s : Stored). (with_offers s.rows offers).next_offer) c.self.view_is in
-    let few = c.self.invariant.consistent.counted in
+    let few = c.self.invariant.kept.consistent.counted in
     rw made (
     CanCountAll-from (length offers) (framework_rows t.frameworks.entries) (omega (arith, few, next, view, c.requires.fits))
     )
@@ -69,11 +70,14 @@ invariant_of-self-2 c =
     (sym c.self.view_is) c.requires.left in
     let settled : is_settled t.agents.entries ≡ true = ap (λ (s : Stored). s.settled) c.self.view_is ∙ c.requires.settled in
     let known = known-left (rows_in t) t.agents.entries c.put_lefts.new.agents.entries offers lefts
-    (agents_in t) c.put_lefts.ensures.rows settled c.self.invariant.free c.put_lefts.ensures.free left in
-    rw (long, rows) (
-    IsKept-with_offers (rows_in t) t.agents.entries c.put_lefts.new.agents.entries t.total t.clients offers
-    c.self.invariant consistent known
-    )
+    (agents_in t) c.put_lefts.ensures.rows settled c.self.invariant.kept.free c.put_lefts.ensures.free left in
+    record {
+      kept = rw (long, rows) (
+          IsKept-with_offers (rows_in t) t.agents.entries c.put_lefts.new.agents.entries t.total t.clients offers
+          c.self.invariant.kept consistent known
+          );
+      consumed = none_counted _ _;
+    }
 
 pub returns-clause-ok : goal.returns-clause-ok
 returns-clause-ok c =
@@ -100,4 +104,4 @@ returns-clause-settled c =
     (sym c.self.view_is) c.requires.left in
     let settled : is_settled t.agents.entries ≡ true = ap (λ (s : Stored). s.settled) c.self.view_is ∙ c.requires.settled in
     settled-left (rows_in t) t.agents.entries c.put_lefts.new.agents.entries offers lefts
-    (agents_in t) c.put_lefts.ensures.rows settled c.self.invariant.free c.put_lefts.ensures.free left
+    (agents_in t) c.put_lefts.ensures.rows settled c.self.invariant.kept.free c.put_lefts.ensures.free left

@@ -7,6 +7,7 @@ use Rattle.drf_tables.specs.Stored.{Stored}
 use Rattle.drf_holdings.specs.Stored.{HasTaken}
 use Rattle.drf_tables.specs.declared.ending.Held.{Held}
 use Rattle.drf_tables.proofs.Ended.{ended-kept, ended-one, rows_ended, rows-none, without-none}
+use Rattle.drf_tables.proofs.Counts.{none_counted}
 use Rattle.drf_tables.proofs.tables.Tables.end.Goals as goal
 
 pub returns-in_err-taken-clause-none : goal.returns-in_err-taken-clause-none
@@ -25,7 +26,10 @@ invariant_of-self-2 c =
     let ending = ending_of c.args.ending in
     let taken = c.in_ok-taken.taken in
     let lost : HasTaken ending t.holdings c.take.new.self (Some taken) = c.in_ok-taken.ensures in
-    ended-kept t c.forget_free.new.agents.entries c.take.new.self ending taken c.self.invariant c.forget_free.ensures lost
+    record {
+      kept = ended-kept t c.forget_free.new.agents.entries c.take.new.self ending taken c.self.invariant.kept c.forget_free.ensures lost;
+      consumed = none_counted _ _;
+    }
 
 pub returns-clause-some : goal.returns-clause-some
 returns-clause-some c =
@@ -35,9 +39,9 @@ returns-clause-some c =
     let lost : HasTaken ending t.holdings c.take.new.self (Some taken) = c.in_ok-taken.ensures in
     let entries = c.forget_free.new.agents.entries in
     let told : Held = record { client = c.from_parts.result; bundle = taken.bundle } in
-    let new : Rows = rows_ended t entries c.take.new.self ending taken c.self.invariant c.forget_free.ensures lost in
+    let new : Rows = rows_ended t entries c.take.new.self ending taken c.self.invariant.kept c.forget_free.ensures lost in
     subst (λ (s : Stored). HasEnded s.rows new ending told) c.self.view_is
-    (ended-one t entries c.take.new.self ending taken c.self.invariant c.forget_free.ensures lost told c.from_parts.ensures refl)
+    (ended-one t entries c.take.new.self ending taken c.self.invariant.kept c.forget_free.ensures lost told c.from_parts.ensures refl)
 
 pub returns-clause-consistent : goal.returns-clause-consistent
 returns-clause-consistent c =
@@ -45,4 +49,4 @@ returns-clause-consistent c =
     let ending = ending_of c.args.ending in
     let taken = c.in_ok-taken.taken in
     let lost : HasTaken ending t.holdings c.take.new.self (Some taken) = c.in_ok-taken.ensures in
-    (ended-kept t c.forget_free.new.agents.entries c.take.new.self ending taken c.self.invariant c.forget_free.ensures lost).consistent
+    (ended-kept t c.forget_free.new.agents.entries c.take.new.self ending taken c.self.invariant.kept c.forget_free.ensures lost).consistent

@@ -1,15 +1,22 @@
-use Rattle.std.proofs.Common.{ap, ◌∙◌}
+use Rattle.std.proofs.Common.{ap, ◌∙◌, refl}
 use Rattle.drf_rows.specs.Step.{live_rows}
 use Rattle.drf_tables.specs.Stored.{Stored}
 use Rattle.drf_tables.proofs.Spent.{live-swept, kept-swept}
+use Rattle.drf_tables.specs.Inside.{rows_of, rows_in}
+use Rattle.drf_tables.proofs.Counts.{counts-same}
 use Rattle.drf_tables.proofs.tables.Tables.forget_spent.Goals as goal
 
 pub invariant_of-self : goal.invariant_of-self
-invariant_of-self c = kept-swept c.self.inside c.drop_spent.new.self c.drop_spent.ensures c.self.invariant
+unfolding rows_of
+invariant_of-self c =
+    record {
+      kept = kept-swept c.self.inside c.drop_spent.new.self c.drop_spent.ensures c.self.invariant.kept;
+      consumed = counts-same _ (rows_in c.self.inside) _ _ c.self.invariant.consumed refl refl (λ test label. refl);
+    }
 
 pub returns-clause-live : goal.returns-clause-live
 returns-clause-live c =
     live-swept c.self.inside c.drop_spent.new.self c.drop_spent.ensures ∙ ap (λ (s : Stored). live_rows s.rows) c.self.view_is
 
 pub returns-clause-consistent : goal.returns-clause-consistent
-returns-clause-consistent c = (kept-swept c.self.inside c.drop_spent.new.self c.drop_spent.ensures c.self.invariant).consistent
+returns-clause-consistent c = (kept-swept c.self.inside c.drop_spent.new.self c.drop_spent.ensures c.self.invariant.kept).consistent

@@ -21,7 +21,7 @@ returns-in_default c =
     let client : Client = record { role = c.args.role.now; framework = c.args.framework.now } in
     let none : lookup (same_text client.framework) t.frameworks.entries ≡ None = sym c.get.ensures.value ∙ ap option_copied c.in_default.is in
     let has : Option (Vec ClientRow) → Bool = λ o. option_map_or (λ v. list_any (λ c. same_path c.role client.role) v.items) o false in
-    sym (registered-lookup client t.frameworks.entries (frameworks_apart t c.self.invariant) ∙ ap has none)
+    sym (registered-lookup client t.frameworks.entries (frameworks_apart t c.self.invariant.kept) ∙ ap has none)
     ∙ ap (λ (s : Stored). is_in_role s.rows client.framework client.role) c.self.view_is
 
 pub returns : goal.returns
@@ -34,5 +34,5 @@ returns c =
     let has : Option (Vec ClientRow) → Bool = λ o. option_map_or (λ v. list_any (λ c. same_path c.role client.role) v.items) o false in
     c.has_role.ensures
     ∙ ap (list_any (λ (c : ClientRow). same_path c.role client.role)) c.deref.ensures.value
-    ∙ sym (registered-lookup client t.frameworks.entries (frameworks_apart t c.self.invariant) ∙ ap has there)
+    ∙ sym (registered-lookup client t.frameworks.entries (frameworks_apart t c.self.invariant.kept) ∙ ap has there)
     ∙ ap (λ (s : Stored). is_in_role s.rows client.framework client.role) c.self.view_is

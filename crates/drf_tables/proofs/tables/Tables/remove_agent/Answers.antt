@@ -6,6 +6,7 @@ use Rattle.drf_rows.specs.Members.{agent_removed}
 use Rattle.drf_tables.specs.Inside.{rows_in}
 use Rattle.drf_tables.specs.Stored.{Stored}
 use Rattle.drf_tables.proofs.Changes.{rows-left, kept-left}
+use Rattle.drf_tables.proofs.Counts.{none_counted}
 use Rattle.drf_tables.proofs.tables.Tables.remove_agent.Goals as goal
 
 pub invariant_of-self : goal.invariant_of-self
@@ -16,8 +17,11 @@ invariant_of-self c =
     subst (λ (s : Stored). without_ended s.rows (all_on name) ≡ s.rows) (sym c.self.view_is) c.requires.nothing in
     let others : c.args.total ≡ cluster_total (filter (λ a. not (same_text a.name name)) (rows_in t).agents) =
     c.requires.total ∙ sym (ap (λ (s : Stored). cluster_total (filter (λ a. not (same_text a.name name)) s.rows.agents)) c.self.view_is) in
-    kept-left t c.self.invariant name c.shift_remove.new.self.entries c.drop_agent.new.self c.args.total nothing
-    c.shift_remove.ensures.entries c.drop_agent.ensures others
+    record {
+      kept = kept-left t c.self.invariant.kept name c.shift_remove.new.self.entries c.drop_agent.new.self c.args.total nothing
+          c.shift_remove.ensures.entries c.drop_agent.ensures others;
+      consumed = none_counted _ _;
+    }
 
 pub returns : goal.returns
 returns c =
@@ -27,6 +31,6 @@ returns c =
     subst (λ (s : Stored). without_ended s.rows (all_on name) ≡ s.rows) (sym c.self.view_is) c.requires.nothing in
     let others : c.args.total ≡ cluster_total (filter (λ a. not (same_text a.name name)) (rows_in t).agents) =
     c.requires.total ∙ sym (ap (λ (s : Stored). cluster_total (filter (λ a. not (same_text a.name name)) s.rows.agents)) c.self.view_is) in
-    rows-left t c.self.invariant name c.shift_remove.new.self.entries c.drop_agent.new.self c.args.total nothing
+    rows-left t c.self.invariant.kept name c.shift_remove.new.self.entries c.drop_agent.new.self c.args.total nothing
     c.shift_remove.ensures.entries c.drop_agent.ensures others
     ∙ ap (λ (s : Stored). agent_removed s.rows name) c.self.view_is

@@ -1,16 +1,28 @@
-use Rattle.std.proofs.Common.{ap, ◌∙◌}
+use Rattle.std.proofs.Common.{refl, sym, ap, ◌∙◌}
 use Rattle.drf_rows.specs.Members.{with_activity}
+use Rattle.drf_rows.specs.Quota.{reserved_for}
+use Rattle.drf_rows.specs.declared.rows.Rows.{Rows}
 use Rattle.drf_tables.specs.Stored.{Stored}
 use Rattle.drf_tables.proofs.Changes.{rows-active, kept-active}
+use Rattle.drf_tables.proofs.Counts.{counts-same, reserved-with_activity}
+use Rattle.drf_tables.specs.Inside.{rows_of, rows_in}
 use Rattle.drf_tables.proofs.tables.Tables.set_active.Goals as goal
 
 pub invariant_of-self : goal.invariant_of-self
+unfolding rows_of
 invariant_of-self c =
-    kept-active c.self.inside c.self.invariant c.args.agent.now c.args.active c.set_active.new.agents.entries c.set_active.ensures
+    record {
+      kept = kept-active c.self.inside c.self.invariant.kept c.args.agent.now c.args.active c.set_active.new.agents.entries c.set_active.ensures;
+      consumed = counts-same _ (rows_in c.self.inside) _ _ c.self.invariant.consumed refl refl
+          (λ test label.
+          reserved-with_activity (rows_in c.self.inside) c.args.agent.now c.args.active test label
+          ∙ sym (ap (λ (r : Rows). reserved_for test r.agents label)
+          (rows-active c.self.inside c.self.invariant.kept c.args.agent.now c.args.active c.set_active.new.agents.entries c.set_active.ensures)));
+    }
 
 pub returns : goal.returns
 returns c =
     let name = c.args.agent.now in
     let active = c.args.active in
-    rows-active c.self.inside c.self.invariant name active c.set_active.new.agents.entries c.set_active.ensures
+    rows-active c.self.inside c.self.invariant.kept name active c.set_active.new.agents.entries c.set_active.ensures
     ∙ ap (λ (s : Stored). record s.rows { agents = with_activity s.rows name active }) c.self.view_is

@@ -1,21 +1,26 @@
-use Rattle.std.proofs.Common.{◌≡◌, ap, ◌∙◌}
+use Rattle.std.proofs.Common.{◌≡◌, ap, ◌∙◌, refl}
 use Rattle.indexmap.specs.IndexMap.{insert_entry}
 use Rattle.drf_role.specs.Path.{same_path}
-use Rattle.drf_tables.specs.Inside.{rows_in}
+use Rattle.drf_tables.specs.Inside.{rows_of, rows_in}
 use Rattle.drf_tables.specs.Stored.{Stored}
 use Rattle.drf_tables.proofs.Entries.{from_ok}
 use Rattle.drf_tables.proofs.Weighed.{weight_set, rows_of-weight, IsKept-weight_set}
+use Rattle.drf_tables.proofs.Counts.{counts-same}
 use Rattle.drf_tables.proofs.tables.Tables.set_weight.Goals as goal
 
 pub invariant_of-self : goal.invariant_of-self
+unfolding rows_of
 invariant_of-self c =
     let t = c.self.inside in
     let role = c.args.role in
     let inserted : c.insert.new.self.entries ≡ insert_entry same_path t.weights.entries role c.args.weight =
     from_ok c.insert.result c.unwrap.result _ c.unwrap.ensures c.insert.ensures.entries in
-    rw (rows_of-weight t c.insert.new.self.entries role c.args.weight inserted) (
-    IsKept-weight_set (rows_in t) t.agents.entries t.total t.clients role c.args.weight c.requires.right c.self.invariant
-    )
+    record {
+      kept = rw (rows_of-weight t c.insert.new.self.entries role c.args.weight inserted) (
+          IsKept-weight_set (rows_in t) t.agents.entries t.total t.clients role c.args.weight c.requires.right c.self.invariant.kept
+          );
+      consumed = counts-same _ (rows_in c.self.inside) _ _ c.self.invariant.consumed refl refl (λ test label. refl);
+    }
 
 pub returns : goal.returns
 returns c =

@@ -1,8 +1,14 @@
-use Rattle.std.proofs.Common.{true}
+use Rattle.std.proofs.Common.{true, refl}
 use Rattle.drf_tables.proofs.Changes.{kept-suppressed}
+use Rattle.drf_tables.specs.Inside.{rows_of, rows_in}
+use Rattle.drf_tables.proofs.Counts.{counts-same}
 use Rattle.drf_tables.proofs.tables.Tables.suppress.Goals as goal
 
 pub invariant_of-self : goal.invariant_of-self
+unfolding rows_of
 invariant_of-self c =
-    kept-suppressed c.self.inside c.self.invariant (record { role = c.args.role.now; framework = c.args.framework.now }) true
-    c.suppress.new.frameworks.entries c.suppress.ensures
+    record {
+      kept = kept-suppressed c.self.inside c.self.invariant.kept (record { role = c.args.role.now; framework = c.args.framework.now }) true
+          c.suppress.new.frameworks.entries c.suppress.ensures;
+      consumed = counts-same _ (rows_in c.self.inside) _ _ c.self.invariant.consumed refl refl (λ test label. refl);
+    }

@@ -1,0 +1,169 @@
+-- What roles consume of a bundle, resource by resource.
+use Rattle.std.specs.Prelude.{◌≡◌, ℕ, ◌+◌, ◌<◌, ◌^◌, Bool, true, false, not, ◌&&◌, List, [], ◌∷◌, length, drop, Result, Ok, Err, OnOk}
+use Rattle.std.proofs.Common.{refl, sym, ap, subst, ◌∙◌, cond, arith, get_or, add-one, drop-cons}
+use Rattle.std.proofs.lemmas.List.Elements.{All-get_or}
+use Rattle.drf_role.specs.Text.{Text, same_text}
+use Rattle.drf_role.specs.TextLaws.{same_from_test}
+use Rattle.drf_role.specs.Path.{Path}
+use Rattle.drf_role.specs.Parts.{parts_of, text_of}
+use Rattle.drf_bundle.specs.Value.{Thousandths, units_in}
+use Rattle.drf_bundle.specs.Quantities.{amount_of, with_amount}
+use Rattle.drf_bundle.specs.QuantitiesLaws.{amount-with}
+use Rattle.drf_bundle.specs.Bundle.{IsResource, IsBundle, is_default, same_key}
+use Rattle.drf_bundle.specs.KeyLaws.{where-cons}
+use Rattle.drf_bundle.specs.declared.quantities.Entry.{Entry}
+use Rattle.drf_bundle.specs.declared.resource.Resource.{Resource}
+use Rattle.drf_rows.specs.ConsistentLaws.{same_text-swap}
+use Rattle.drf_rows.specs.Quota.{reserves, unreserved_in, reserved_in}
+use Rattle.drf_rows.specs.QuotaLaws.{no_text, parts_le}
+use Rattle.drf_gates.specs.Quota.{Allowance, IsRaised, IsRaisedBy, amount_in_one, unreserved_one, reserved_one, counted, used_where}
+
+-- the element that is read is the first of those that are left
+pub next_of : {A : Type 0} (xs : List A) (i : ℕ) (x : A) → i < length xs → x ≡ get_or xs i x → drop i xs ≡ x ∷ drop (i + 1) xs
+next_of {A} xs i x in_range read =
+    let split : drop i xs ≡ get_or xs i x ∷ drop (i + 1) xs = rw (add-one) (drop-cons xs i x in_range) in
+    split ∙ ap (λ (y : A). y ∷ drop (i + 1) xs) (sym read)
+
+pub resource_at : (bundle : List Resource) (i : ℕ) (r : Resource) → IsBundle bundle → i < length bundle → r ≡ get_or bundle i r → IsResource r
+resource_at bundle i r is in_range read = subst IsResource (sym read) (All-get_or IsResource bundle i r in_range is.each)
+
+-- ---- one resource
+
+module _ (r : Resource) (label : Text) where
+  abbrev amount : ℕ
+  amount = units_in r.value Thousandths
+
+  swapped : (b : Bool) → cond (same_text label r.label && b) amount 0 ≡ cond b (amount_in_one label r) 0
+  swapped true = ap (λ (s : Bool). cond (s && true) amount 0) (same_text-swap label r.label) ∙ kept (same_text r.label label)
+    where
+      kept : (s : Bool) → cond (s && true) amount 0 ≡ cond s amount 0
+      kept true = refl
+      kept false = refl
+  swapped false = gone (same_text label r.label)
+    where
+      gone : (s : Bool) → cond (s && false) amount 0 ≡ 0
+      gone true = refl
+      gone false = refl
+
+  -- for everyone
+  pub unreserved-here : is_default r.role ≡ true → unreserved_one label r ≡ amount_in_one label r
+  unreserved-here default =
+      ap (λ b. cond (same_text label r.label && same_text [] (cond b [] (text_of r.role))) amount 0) default ∙ swapped true
+
+  pub reserved-none : (test : Path → Bool) → is_default r.role ≡ true → reserved_one test label r ≡ 0
+  reserved-none test default =
+      ap (λ b. cond (same_text label r.label && (not (same_text (cond b [] (text_of r.role)) []) && test (parts_of (cond b [] (text_of r.role))))) amount 0) default
+      ∙ swapped false
+
+  module _ (right : IsResource r) (other : is_default r.role ≡ false) where
+    some : same_text (text_of r.role) [] ≡ false
+    some = no_text r.role right.role other
+
+    -- for a role
+    pub unreserved-none : unreserved_one label r ≡ 0
+    unreserved-none =
+        ap (λ b. cond (same_text label r.label && same_text [] (cond b [] (text_of r.role))) amount 0) other
+        ∙ ap (λ b. cond (same_text label r.label && b) amount 0) (same_text-swap [] (text_of r.role) ∙ some)
+        ∙ swapped false
+
+    pub reserved-here : (test : Path → Bool) → reserved_one test label r ≡ cond (test r.role) (amount_in_one label r) 0
+    reserved-here test =
+        ap (λ b. cond (same_text label r.label && (not (same_text (cond b [] (text_of r.role)) []) && test (parts_of (cond b [] (text_of r.role))))) amount 0) other
+        ∙ (λ i. cond (same_text label r.label && (not (some i) && test (right.role_read i))) amount 0)
+        ∙ swapped (test r.role)
+
+-- ---- amounts that grow
+
+-- the amount of a resource's name grows by what it has
+pub amount_more : (sum : List Entry) (r : Resource) (label : Text)
+    → amount_of (with_amount sum r.label (amount_of sum r.label + units_in r.value Thousandths)) label
+    ≡ amount_of sum label + amount_in_one label r
+amount_more sum r label = amount-with sum r.label (amount_of sum r.label + units_in r.value Thousandths) label ∙ by (same_text r.label label) refl
+  where
+    by : (b : Bool) → same_text r.label label ≡ b
+        → cond b (amount_of sum r.label + units_in r.value Thousandths) (amount_of sum label)
+        ≡ amount_of sum label + cond b (units_in r.value Thousandths) 0
+    by true same = ap (λ (n : Text). amount_of sum n + units_in r.value Thousandths) (same_from_test r.label label same)
+    by false other = omega arith
+
+-- so where it is set, and for everyone
+pub set_more : {T E : Type 0} (result : Result T E) (sum new : List Entry) (r : Resource) (name : Text) (amount : ℕ)
+    → OnOk result (new ≡ with_amount sum name amount) → name ≡ r.label → amount ≡ amount_of sum r.label + units_in r.value Thousandths
+    → is_default r.role ≡ true
+    → OnOk result ((label : Text) → amount_of new label ≡ amount_of sum label + unreserved_one label r)
+set_more (Ok x) sum new r name more set same is default = λ label.
+    ap (λ (es : List Entry). amount_of es label) set
+    ∙ (λ i. amount_of (with_amount sum (same i) (is i)) label)
+    ∙ amount_more sum r label
+    ∙ ap (λ n. amount_of sum label + n) (sym (unreserved-here r label default))
+set_more (Err e) sum new r name more set same is default = tt
+
+-- ---- sums over a bundle
+
+-- what was added and what is to come is all that the bundle has for everyone
+abbrev pub IsSummed : List Resource → List Entry → List Resource → Type 0
+IsSummed bundle sum left = (label : Text) → amount_of sum label + unreserved_in label left ≡ unreserved_in label bundle
+
+module _ (bundle : List Resource) (is : IsBundle bundle) (sum : List Entry) (i : ℕ) (r : Resource)
+    (in_range : i < length bundle) (read : r ≡ get_or bundle i r) (summed : IsSummed bundle sum (drop i bundle)) where
+  split_sum : (label : Text) → amount_of sum label + unreserved_in label (r ∷ drop (i + 1) bundle) ≡ unreserved_in label bundle
+  split_sum label = subst (λ (rs : List Resource). amount_of sum label + unreserved_in label rs ≡ unreserved_in label bundle) (next_of bundle i r in_range read) (summed label)
+
+  first_unit : (label : Text) → unreserved_in label (r ∷ drop (i + 1) bundle) ≡ unreserved_one label r + unreserved_in label (drop (i + 1) bundle)
+  first_unit label = where-cons (same_key (label, [])) Thousandths r (drop (i + 1) bundle)
+
+  pub sum_fits : unreserved_one r.label r + amount_of sum r.label < 2 ^ 64
+  sum_fits = omega (
+    arith,
+    split_sum r.label,
+    first_unit r.label,
+    parts_le (λ role. true) r.label bundle,
+    is.fits.at_most r.label Thousandths,
+  )
+
+  pub sum_more : (new : List Entry) → ((label : Text) → amount_of new label ≡ amount_of sum label + unreserved_one label r)
+      → IsSummed bundle new (drop (i + 1) bundle)
+  sum_more new more label = omega (arith, split_sum label, first_unit label, more label)
+
+-- what was consumed and what is to come is all that the bundle has reserved
+pub record IsConsumed (bundle : List Resource) (old new : Allowance) (left : List Resource) : Type 0 where
+  pub limits : new.limits ≡ old.limits
+  pub used : (test : Path → Bool) (label : Text)
+      → used_where test new.used label + reserved_in test label left ≡ used_where test old.used label + reserved_in test label bundle
+
+module _ (bundle : List Resource) (old mid : Allowance) (i : ℕ) (r : Resource)
+    (in_range : i < length bundle) (read : r ≡ get_or bundle i r) (consumed : IsConsumed bundle old mid (drop i bundle)) where
+  split_used : (test : Path → Bool) (label : Text)
+      → used_where test mid.used label + (reserved_one test label r + reserved_in test label (drop (i + 1) bundle))
+      ≡ used_where test old.used label + reserved_in test label bundle
+  split_used test label =
+      let of : List Resource → ℕ = λ rs. used_where test mid.used label + reserved_in test label rs in
+      omega (
+        arith,
+        ap of (next_of bundle i r in_range read),
+        where-cons (reserves test label) Thousandths r (drop (i + 1) bundle),
+        consumed.used test label,
+      )
+
+  pub used_fits : ((test : Path → Bool) (label : Text) → used_where test old.used label + reserved_in test label bundle < 2 ^ 64)
+      → (test : Path → Bool) (label : Text) → used_where test mid.used label + reserved_one test label r < 2 ^ 64
+  used_fits fits test label = omega (arith, split_used test label, fits test label)
+
+  pub used_more : (new : Allowance) → IsRaisedBy mid new (λ test label. reserved_one test label r) → IsConsumed bundle old new (drop (i + 1) bundle)
+  used_more new raised = record {
+    limits = raised.limits ∙ consumed.limits;
+    used = λ test label. omega (arith, raised.used test label, split_used test label);
+  }
+
+-- ---- a role that consumes amounts
+
+-- by what is said of the amounts
+pub raised_by : {T E : Type 0} (result : Result T E) (old new : Allowance) (role : Path) (amounts : List Entry) (more : (Path → Bool) → Text → ℕ)
+    → OnOk result (IsRaised old new role amounts)
+    → ((test : Path → Bool) (label : Text) → counted test role amounts label ≡ more test label)
+    → OnOk result (IsRaisedBy old new more)
+raised_by (Ok x) old new role amounts more raised same = record {
+  limits = raised.limits;
+  used = λ test label. raised.used test label ∙ ap (λ n. used_where test old.used label + n) (same test label);
+}
+raised_by (Err e) old new role amounts more raised same = tt

@@ -1,0 +1,10 @@
+use Rattle.std.proofs.Common.{sym, ap, ◌∙◌, cond}
+use Rattle.drf_gates.proofs.ConsumedLemmas.{raised_by, reserved-here}
+use Rattle.drf_gates.proofs.quota.Quota.consume_resource.Goals as goal
+
+pub returns-clause-ok : goal.returns-clause-ok
+returns-clause-ok c =
+    let r = c.args.resource.now in
+    raised_by c.consume.result c.args.self.now c.consume.new.self r.role c.in_ok-amounts.amounts _ c.consume.ensures.ok
+    (λ test label. ap (λ n. cond (test r.role) n 0) (c.in_ok-amounts.ensures label)
+    ∙ sym (reserved-here r label c.requires.right (sym c.is_unreserved.ensures ∙ c.if-is_unreserved.false) test))

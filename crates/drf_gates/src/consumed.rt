@@ -1,0 +1,97 @@
+//! What roles consume of bundles: what is unreserved of what clients hold, and what is reserved of what agents have.
+ghost use Rattle.std.specs.Prelude.{◌≡◌, ◌+◌, ◌^◌, ◌<◌, ◌≤◌, Bool, IfOk, OnOk, OnErr, if◌then◌else◌};
+ghost use Rattle.drf_role.specs.Text.{Text};
+ghost use Rattle.drf_role.specs.Path.{Path};
+ghost use Rattle.drf_bundle.specs.Bundle.{IsBundle, IsResource};
+ghost use Rattle.drf_bundle.specs.Quantities.{amount_of};
+ghost use Rattle.drf_bundle.specs.Value.{Thousandths, units_in};
+ghost use Rattle.drf_rows.specs.Quota.{unreserved_in, reserved_in};
+ghost use Rattle.drf_gates.specs.Quota.{IsRaisedBy, amount_in_one, unreserved_one, reserved_one, used_where};
+
+use crate::quota::Quota;
+use drf_bundle::{Bundle, Quantities, Resource, Value};
+use drf_role::Role;
+use std::alloc::{AllocError, Global};
+
+/// The thousandths of a resource, if it is a scalar.
+fn thousandths(resource: &Resource) -> u64
+    ensures { result ≡ units_in resource.now.value Thousandths }
+{
+    match &resource.value {
+        Value::Scalar(scalar) => scalar.thousandths(),
+        _ => 0,
+    }
+}
+
+/// Adds a resource to the amounts, if it is unreserved. An `Err` changes nothing.
+fn add_unreserved(sum: &mut Quantities, resource: &Resource) -> Result<(), AllocError>
+    requires right { IsResource resource.now }
+    requires fits { unreserved_one resource.now.label resource.now + amount_of sum.old resource.now.label < 2 ^ 64 }
+    ensures { OnOk result ((label : Text) → amount_of sum.new label ≡ amount_of sum.old label + unreserved_one label resource.now) }
+{
+    if !resource.is_unreserved() {
+        return Ok(());
+    }
+    let amount = sum.get(resource.label.text()) + thousandths(resource);
+    sum.set(resource.label.copy()?, amount)
+}
+
+/// What a bundle has unreserved.
+fn unreserved(alloc: Global, bundle: &Bundle) -> Result<Quantities, AllocError>
+    ensures { IfOk result (λ sum. (label : Text) → amount_of sum label ≡ unreserved_in label bundle.now) }
+{
+    let mut sum = Quantities::empty(alloc);
+    for resource in bundle.entries() {
+        add_unreserved(&mut sum, resource)?;
+    }
+    Ok(sum)
+}
+
+/// The thousandths of one resource.
+fn one(alloc: Global, resource: &Resource) -> Result<Quantities, AllocError>
+    ensures { IfOk result (λ amounts. (label : Text) → amount_of amounts label ≡ amount_in_one label resource.now) }
+{
+    let mut amounts = Quantities::empty(alloc);
+    amounts.set(resource.label.copy()?, thousandths(resource))?;
+    Ok(amounts)
+}
+
+impl Quota {
+    /// A client of the role holds the bundle: what is unreserved of it is consumed. An `Err` changes nothing.
+    pub fn consume_unreserved(&mut self, role: &Role, bundle: &Bundle) -> Result<(), AllocError>
+        requires { (test : Path → Bool) (label : Text)
+            → used_where test self.old.used label + (if test role.now then unreserved_in label bundle.now else 0) < 2 ^ 64 }
+        ensures ok { OnOk result (IsRaisedBy self.old self.new (λ test label. if test role.now then unreserved_in label bundle.now else 0)) }
+        ensures err { OnErr result (self.new ≡ self.old) }
+    {
+        let amounts = unreserved(*self.limits.allocator(), bundle)?;
+        self.consume(role, &amounts)
+    }
+
+    /// What a resource has reserved is consumed by its role. An `Err` changes nothing.
+    fn consume_resource(&mut self, resource: &Resource) -> Result<(), AllocError>
+        requires right { IsResource resource.now }
+        requires fits { (test : Path → Bool) (label : Text) → used_where test self.old.used label + reserved_one test label resource.now < 2 ^ 64 }
+        ensures ok { OnOk result (IsRaisedBy self.old self.new (λ test label. reserved_one test label resource.now)) }
+        ensures err { OnErr result (self.new ≡ self.old) }
+    {
+        if resource.is_unreserved() {
+            return Ok(());
+        }
+        let amounts = one(*self.limits.allocator(), resource)?;
+        self.consume(&resource.role, &amounts)
+    }
+
+    /// An agent has the bundle: what is reserved of it is consumed by the roles that it is reserved for. At an `Err` the limits
+    /// are the same.
+    pub fn consume_reserved(&mut self, total: &Bundle) -> Result<(), AllocError>
+        requires { (test : Path → Bool) (label : Text) → used_where test self.old.used label + reserved_in test label total.now < 2 ^ 64 }
+        ensures ok { OnOk result (IsRaisedBy self.old self.new (λ test label. reserved_in test label total.now)) }
+        ensures limits { self.new.limits ≡ self.old.limits }
+    {
+        for resource in total.entries() {
+            self.consume_resource(resource)?;
+        }
+        Ok(())
+    }
+}

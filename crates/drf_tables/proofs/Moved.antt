@@ -1,0 +1,244 @@
+-- The rows that the fields stand for once limits are set, a part of an agent is exchanged, or its total is another.
+use Rattle.std.specs.Prelude.{◌≡◌, ℕ, ◌+◌, ◌≤◌, ◌<◌, ◌^◌, Bool, true, false, not, List, [], ◌∷◌, length, map, filter, Option, Some, None, Result, Ok, Err, OnOk, OnErr, if◌then◌else◌}
+use Rattle.std.specs.List.{AllByRecursion}
+use Rattle.std.specs.Option.{option_map}
+use Rattle.std.proofs.Common.{refl, sym, ap, subst, ◌∙◌, arith}
+use Rattle.std.proofs.lemmas.List.Sums.{sum_by-append}
+use Rattle.drf_role.specs.Text.{Text, same_text}
+use Rattle.drf_role.specs.Path.{Path}
+use Rattle.drf_bundle.specs.Bundle.{is_default, quantities_of}
+use Rattle.drf_bundle.specs.Quantities.{plus}
+use Rattle.drf_bundle.specs.Taken.{rest_of_all}
+use Rattle.drf_bundle.specs.declared.quantities.Entry.{Entry}
+use Rattle.drf_bundle.specs.declared.resource.Resource.{Resource}
+use Rattle.drf_rows.specs.Consistent.{IsAgent}
+use Rattle.drf_rows.specs.Cycle.{free_of}
+use Rattle.drf_rows.specs.Held.{cluster_total}
+use Rattle.drf_rows.specs.Holdings.{Holding, of_offer, of_task, holdings_of, parts_on}
+use Rattle.drf_rows.specs.LimitLaws.{IsConsistent-limit_set}
+use Rattle.drf_rows.specs.ListLaws.{each_from, each_from_both, each_map}
+use Rattle.drf_rows.specs.Quota.{unreserved_in, held_unreserved, reserved_for, consumption_where, limits_with}
+use Rattle.drf_rows.specs.QuotaLaws.{consumption_is_part_of_total}
+use Rattle.drf_rows.specs.ReservationLaws.{IsConsistent-other_total}
+use Rattle.drf_rows.specs.Totals.{CanExchange, total_at, with_total, with_other_total, exchanged}
+use Rattle.drf_rows.specs.TotalsLaws.{if_named, can_in_total, IsConsistent-exchanged, free_of-exchanged, cluster_total-exchanged, cluster_total-other_total}
+use Rattle.drf_rows.specs.declared.rows.AgentRow.{AgentRow}
+use Rattle.drf_rows.specs.declared.rows.Rows.{Rows}
+use Rattle.drf_gates.specs.Quota.{Allowance, IsAllowanceOf, IsRaisedBy, used_where}
+use Rattle.drf_tables.specs.Changing.{CanExchangeOn, CanHaveTotal, CanExchangeAt, changed, with_exchanged, with_other}
+use Rattle.drf_tables.specs.Inside.{agent_row, rows_of, rows_in, IsKnown, IsKept, IsWhole}
+use Rattle.drf_tables.specs.declared.tables.Agent.{Agent}
+use Rattle.drf_tables.specs.declared.tables.Tables.TheInside.{Inside}
+use Rattle.drf_tables.proofs.Changes.{rows_but}
+use Rattle.drf_tables.proofs.Fields.{total_fits}
+use Rattle.drf_tables.proofs.Kept.{IsKept-same}
+use Rattle.drf_tables.proofs.Known.{rows-each}
+
+-- what holds of the rows holds of the entries
+each_entry : (P : AgentRow → Type 0) (es : List (Text × Agent)) → AllByRecursion P (map agent_row es) → AllByRecursion (λ e. P (agent_row e)) es
+each_entry P [] all = tt
+each_entry P (e ∷ es) all = (all.0, each_entry P es all.1)
+
+-- ---- a limit is set
+
+module _ (t : Inside) (whole : IsWhole t) (role : Path) (limit : List Entry) (other : is_default role ≡ false) where
+  abbrev quota_set : Allowance
+  quota_set = record t.quota { limits = limits_with t.quota.limits role limit }
+
+  abbrev rows_set : Rows
+  rows_set = record (rows_in t) { limits = limits_with (rows_in t).limits role limit }
+
+  whole_set : IsWhole (record t { quota = quota_set })
+  unfolding rows_of
+  whole_set = record {
+    kept = IsKept-same (rows_in t) rows_set t.agents.entries t.total t.clients whole.kept
+        (IsConsistent-limit_set (rows_in t) role limit other whole.kept.consistent) refl refl refl;
+    consumed = λ is. record { limits = refl; used = (whole.consumed is).used };
+  }
+
+  -- whether it was, or memory was wanting
+  pub limit-set : {T E : Type 0} (result : Result T E) (new : Allowance) → OnOk result (new ≡ quota_set) → OnErr result (new ≡ t.quota)
+      → IsWhole (record t { quota = new })
+  limit-set (Ok x) new set same = subst (λ (q : Allowance). IsWhole (record t { quota = q })) (sym set) whole_set
+  limit-set (Err e) new set same = subst (λ (q : Allowance). IsWhole (record t { quota = q })) (sym same) whole
+
+-- ---- a part is exchanged
+
+-- the rows of entries whose totals change
+rows-exchanged_entries : (name : Text) (old new : List Resource) (es : List (Text × Agent))
+    → map agent_row (map (changed name (with_exchanged old new)) es) ≡ map (total_at name (exchanged old new)) (map agent_row es)
+rows-exchanged_entries name old new =
+    rows-each (changed name (with_exchanged old new)) (total_at name (exchanged old new)) (λ e. by e (same_text e.0 name))
+  where
+    by : (e : Text × Agent) (b : Bool)
+        → agent_row (if b then (e.0, with_exchanged old new e.1) else e)
+        ≡ (if b then record (agent_row e) { total = exchanged old new e.1.total } else agent_row e)
+    by e true = refl
+    by e false = refl
+
+rows-other_entries : (name : Text) (total : List Resource) (es : List (Text × Agent))
+    → map agent_row (map (changed name (with_other total)) es) ≡ map (total_at name (λ old. total)) (map agent_row es)
+rows-other_entries name total =
+    rows-each (changed name (with_other total)) (total_at name (λ old. total)) (λ e. by e (same_text e.0 name))
+  where
+    by : (e : Text × Agent) (b : Bool)
+        → agent_row (if b then (e.0, with_other total e.1) else e)
+        ≡ (if b then record (agent_row e) { total = total } else agent_row e)
+    by e true = refl
+    by e false = refl
+
+-- the free part is exchanged as the total is
+known-exchanged : (hs : List Holding) (name : Text) (old new : List Resource) (es : List (Text × Agent))
+    → AllByRecursion (λ e. same_text e.0 name ≡ true
+    → exchanged old new (rest_of_all e.1.total (parts_on e.0 hs)) ≡ rest_of_all (exchanged old new e.1.total) (parts_on e.0 hs)) es
+    → AllByRecursion (IsKnown hs) es → AllByRecursion (IsKnown hs) (map (changed name (with_exchanged old new)) es)
+known-exchanged hs name old new es moves known =
+    each_map (IsKnown hs) (changed name (with_exchanged old new)) es
+    (each_from_both (λ e. same_text e.0 name ≡ true
+    → exchanged old new (rest_of_all e.1.total (parts_on e.0 hs)) ≡ rest_of_all (exchanged old new e.1.total) (parts_on e.0 hs))
+    (IsKnown hs) (λ e. IsKnown hs (changed name (with_exchanged old new) e)) es
+    (λ e move was. by e was (same_text e.0 name) refl move) moves known)
+  where
+    here : (e : Text × Agent) (free : Option (List Resource)) → ((f : List Resource) → free ≡ Some f → f ≡ rest_of_all e.1.total (parts_on e.0 hs))
+        → exchanged old new (rest_of_all e.1.total (parts_on e.0 hs)) ≡ rest_of_all (exchanged old new e.1.total) (parts_on e.0 hs)
+        → (f : List Resource) → option_map (exchanged old new) free ≡ Some f → f ≡ rest_of_all (exchanged old new e.1.total) (parts_on e.0 hs)
+    here e None was move f is = cc
+    here e (Some g) was move f is =
+        let same : exchanged old new g ≡ f = cc in
+        sym same ∙ ap (exchanged old new) (was g refl) ∙ move
+
+    by : (e : Text × Agent) → IsKnown hs e → (b : Bool) → same_text e.0 name ≡ b
+        → (same_text e.0 name ≡ true
+        → exchanged old new (rest_of_all e.1.total (parts_on e.0 hs)) ≡ rest_of_all (exchanged old new e.1.total) (parts_on e.0 hs))
+        → IsKnown hs (if b then (e.0, with_exchanged old new e.1) else e)
+    by e was true is move = here e e.1.free was (move is)
+    by e was false past move = was
+
+-- what is forgotten is not known
+known-other : (hs : List Holding) (name : Text) (total : List Resource) (es : List (Text × Agent))
+    → AllByRecursion (IsKnown hs) es → AllByRecursion (IsKnown hs) (map (changed name (with_other total)) es)
+known-other hs name total es known =
+    each_map (IsKnown hs) (changed name (with_other total)) es
+    (each_from (IsKnown hs) (λ e. IsKnown hs (changed name (with_other total) e)) es (λ e was. by e was (same_text e.0 name)) known)
+  where
+    by : (e : Text × Agent) → IsKnown hs e → (b : Bool) → IsKnown hs (if b then (e.0, with_other total e.1) else e)
+    by e was true = λ free is. cc
+    by e was false = was
+
+module _ (t : Inside) (kept : IsKept (rows_in t) t.agents.entries t.total t.clients) (name : Text) (old new : List Resource)
+    (can : CanExchangeOn (rows_in t) name old new) where
+  -- in the total, and in what is free
+  pub can_each : AllByRecursion (λ e. same_text e.0 name ≡ true → CanExchangeAt old new e.1) t.agents.entries
+  unfolding rows_of free_of
+  can_each =
+      let P : AgentRow → Type 0 = λ b. CanExchange b.total old new × CanExchange (free_of (rows_in t) b) old new in
+      let all = each_entry (λ b. same_text b.name name ≡ true → P b) t.agents.entries
+      (if_named (rows_in t) name can.row kept.consistent can.found P
+      (can_in_total (rows_in t) name can.row kept.consistent can.found old new can.can, can.can)) in
+      each_from_both (λ e. same_text e.0 name ≡ true → P (agent_row e)) (IsKnown (holdings_of (rows_in t)))
+      (λ e. same_text e.0 name ≡ true → CanExchangeAt old new e.1) t.agents.entries
+      (λ e both known same. record {
+        total = (both same).0;
+        free = λ f is. subst (λ (g : List Resource). CanExchange g old new) (sym (known f is)) (both same).1;
+      }) all kept.free
+
+  module _ (entries : List (Text × Agent)) (told : entries ≡ map (changed name (with_exchanged old new)) t.agents.entries) where
+    pub rows-exchanged : rows_but t entries t.frameworks.entries t.filters
+        ≡ record (rows_in t) { agents = with_total (rows_in t) name (exchanged old new) }
+    unfolding rows_of
+    rows-exchanged =
+        let read = ap (map agent_row) told ∙ rows-exchanged_entries name old new t.agents.entries in
+        λ i. record (rows_in t) { agents = read i }
+
+    moves_each : AllByRecursion (λ e. same_text e.0 name ≡ true
+        → exchanged old new (rest_of_all e.1.total (parts_on e.0 (holdings_of (rows_in t))))
+        ≡ rest_of_all (exchanged old new e.1.total) (parts_on e.0 (holdings_of (rows_in t)))) t.agents.entries
+    unfolding rows_of free_of
+    moves_each =
+        let P : AgentRow → Type 0 = λ b.
+        exchanged old new (rest_of_all b.total (parts_on b.name (holdings_of (rows_in t))))
+        ≡ rest_of_all (exchanged old new b.total) (parts_on b.name (holdings_of (rows_in t))) in
+        each_entry (λ b. same_text b.name name ≡ true → P b) t.agents.entries
+        (if_named (rows_in t) name can.row kept.consistent can.found P
+        (sym (free_of-exchanged (rows_in t) name can.row kept.consistent can.found old new can.can)))
+
+    pub kept-exchanged : IsKept (rows_but t entries t.frameworks.entries t.filters) entries t.total t.clients
+    kept-exchanged =
+        subst (λ (r : Rows). IsKept r entries t.total t.clients) (sym rows-exchanged) (record {
+          consistent = IsConsistent-exchanged (rows_in t) name can.row kept.consistent can.found old new can.can;
+          free = subst (λ (es : List (Text × Agent)). AllByRecursion (IsKnown (holdings_of (rows_in t))) es) (sym told)
+              (known-exchanged (holdings_of (rows_in t)) name old new t.agents.entries moves_each kept.free);
+          total = kept.total ∙ sym (cluster_total-exchanged (rows_in t) name can.row kept.consistent can.found old new can.can);
+          clients = kept.clients;
+        })
+
+-- ---- another total
+
+module _ (t : Inside) (kept : IsKept (rows_in t) t.agents.entries t.total t.clients) (name : Text) (total : List Resource) (sum : List Entry)
+    (right : CanHaveTotal (rows_in t) name total)
+    (summed : sum ≡ plus (cluster_total (filter (λ a. not (same_text a.name name)) (rows_in t).agents)) (quantities_of total))
+    (entries : List (Text × Agent)) (told : entries ≡ map (changed name (with_other total)) t.agents.entries) where
+  pub rows-other : rows_but t entries t.frameworks.entries t.filters ≡ record (rows_in t) { agents = with_other_total (rows_in t) name total }
+  unfolding rows_of
+  rows-other =
+      let read = ap (map agent_row) told ∙ rows-other_entries name total t.agents.entries in
+      λ i. record (rows_in t) { agents = read i }
+
+  pub kept-other : IsKept (rows_but t entries t.frameworks.entries t.filters) entries sum t.clients
+  kept-other =
+      let agent : IsAgent (record right.row { total = total }) = record { total = right.bundle; small = right.small } in
+      subst (λ (r : Rows). IsKept r entries sum t.clients) (sym rows-other) (record {
+        consistent = IsConsistent-other_total (rows_in t) name right.row total kept.consistent right.found right.bundle right.covered agent;
+        free = subst (λ (es : List (Text × Agent)). AllByRecursion (IsKnown (holdings_of (rows_in t))) es) (sym told)
+            (known-other (holdings_of (rows_in t)) name total t.agents.entries kept.free);
+        total = summed ∙ cluster_total-other_total (rows_in t) name right.row total kept.consistent right.found agent;
+        clients = kept.clients;
+      })
+
+-- ---- what is consumed is counted
+
+module _ (t : Inside) (kept : IsKept (rows_in t) t.agents.entries t.total t.clients) (few : length (rows_in t).agents ≤ 4096)
+    (test : Path → Bool) (label : Text) where
+  abbrev by_offers : ℕ
+  by_offers = held_unreserved test (map of_offer t.holdings.offers) label
+
+  abbrev by_tasks : ℕ
+  by_tasks = held_unreserved test (map of_task t.holdings.tasks) label
+
+  abbrev by_totals : ℕ
+  by_totals = reserved_for test (map agent_row t.agents.entries) label
+
+  pub all_consumed : consumption_where test (rows_in t) label ≡ by_offers + by_tasks + by_totals
+  unfolding rows_of
+  all_consumed =
+      ap (λ n. n + by_totals)
+      (sum_by-append (λ (h : Holding). if test h.client.role then unreserved_in label h.bundle else 0) (map of_offer t.holdings.offers) (map of_task t.holdings.tasks))
+
+  pub consumed_fits : by_offers + by_tasks + by_totals < 2 ^ 64
+  consumed_fits = omega (
+    arith,
+    all_consumed,
+    consumption_is_part_of_total test (rows_in t) label kept.consistent,
+    total_fits (rows_in t).agents label kept.consistent.agents.each few,
+  )
+
+-- counted from nothing, one part after another
+pub counted-all : (t : Inside) (kept : IsKept (rows_in t) t.agents.entries t.total t.clients) (few : length (rows_in t).agents ≤ 4096)
+    (none one two three : Allowance)
+    → none ≡ record t.quota { used = [] }
+    → IsRaisedBy none one (λ test label. held_unreserved test (map of_offer t.holdings.offers) label)
+    → IsRaisedBy one two (λ test label. held_unreserved test (map of_task t.holdings.tasks) label)
+    → IsRaisedBy two three (λ test label. reserved_for test (map agent_row t.agents.entries) label)
+    → IsAllowanceOf (rows_in t) three
+unfolding rows_of
+counted-all t kept few none one two three forgot first second third = record {
+  limits = third.limits ∙ second.limits ∙ first.limits ∙ ap (λ (a : Allowance). a.limits) forgot;
+  used = λ test label. omega (
+    arith,
+    third.used test label,
+    second.used test label,
+    first.used test label,
+    ap (λ (a : Allowance). used_where test a.used label) forgot,
+    all_consumed t kept few test label,
+  );
+}

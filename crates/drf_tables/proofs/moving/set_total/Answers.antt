@@ -1,0 +1,26 @@
+use Rattle.std.proofs.Common.{◌≡◌, false, is_some, sym, ap, ◌∙◌}
+use Rattle.std.specs.Map.{lookup}
+use Rattle.drf_role.specs.Text.{Text, same_text}
+use Rattle.drf_tables.specs.Changing.{with_other}
+use Rattle.drf_tables.proofs.Entries.{key_at, key_found}
+use Rattle.drf_tables.proofs.Known.{changed_entry, changed_none, key_unknown}
+use Rattle.drf_tables.proofs.moving.set_total.Goals as goal
+
+pub returns-in-Some : goal.returns-in-Some
+returns-in-Some c =
+    let entries = c.args.agents.now.entries in
+    let place = c.in-Some.place in
+    let v = c.index.result.now in
+    let name : Text = c.args.name.now in
+    let key = key_at entries place v c.index.ensures in
+    let found = sym c.get_index_of.ensures.index ∙ c.in-Some.is in
+    let named = key_found entries place key.key name found key.name in
+    changed_entry name (with_other c.args.total) entries place (key.key, v) c.requires key.at named
+
+pub returns-in_default : goal.returns-in_default
+returns-in_default c =
+    let entries = c.args.agents.now.entries in
+    let name : Text = c.args.name.now in
+    let none : is_some (lookup (same_text name) entries) ≡ false =
+    sym c.get_index_of.ensures.found ∙ ap is_some c.in_default.is in
+    changed_none name (with_other c.args.total) entries (key_unknown name entries none)

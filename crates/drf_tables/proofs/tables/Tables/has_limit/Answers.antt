@@ -1,0 +1,13 @@
+use Rattle.std.proofs.Common.{is_some, sym, ap, ◌∙◌}
+use Rattle.drf_rows.specs.Quota.{has_limit}
+use Rattle.drf_tables.specs.Inside.{rows_of}
+use Rattle.drf_tables.specs.Stored.{Stored}
+use Rattle.drf_tables.proofs.Counts.{found_limit}
+use Rattle.drf_tables.proofs.Entries.{is_some-copied}
+use Rattle.drf_tables.proofs.tables.Tables.has_limit.Goals as goal
+
+pub returns : goal.returns
+unfolding rows_of
+returns c =
+    c.is_some.ensures ∙ sym (is_some-copied c.limit.result) ∙ ap is_some c.limit.ensures ∙ found_limit c.self.inside.quota.limits c.args.role.now
+    ∙ ap (λ (s : Stored). has_limit s.rows c.args.role.now) c.self.view_is

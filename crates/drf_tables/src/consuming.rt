@@ -1,0 +1,59 @@
+//! What roles consume, counted from the rows.
+ghost use Rattle.std.specs.Prelude.{◌≡◌, ◌+◌, ◌<◌, ◌^◌, Bool, map, OnOk};
+ghost use Rattle.drf_role.specs.Text.{Text};
+ghost use Rattle.drf_role.specs.Path.{Path};
+ghost use Rattle.drf_rows.specs.Holdings.{of_offer, of_task};
+ghost use Rattle.drf_rows.specs.Quota.{held_unreserved, reserved_for};
+ghost use Rattle.drf_gates.specs.Quota.{IsRaisedBy, used_where};
+ghost use Rattle.drf_holdings.specs.Listed.{task_row};
+ghost use Rattle.drf_tables.specs.Inside.{agent_row};
+
+use crate::tables::Agent;
+use drf_gates::Quota;
+use drf_holdings::Task;
+use drf_role::Name;
+use drf_rows::OfferRow;
+use indexmap::IndexMap;
+use std::alloc::AllocError;
+
+/// What clients consume by offers.
+pub(crate) fn consume_offers(quota: &mut Quota, offers: &[OfferRow]) -> Result<(), AllocError>
+    requires { (test : Path → Bool) (label : Text)
+        → used_where test quota.old.used label + held_unreserved test (map of_offer offers.now) label < 2 ^ 64 }
+    ensures ok { OnOk result (IsRaisedBy quota.old quota.new (λ test label. held_unreserved test (map of_offer offers.now) label)) }
+    ensures limits { quota.new.limits ≡ quota.old.limits }
+{
+    for offer in offers {
+        quota.consume_unreserved(&offer.role, &offer.bundle)?;
+    }
+    Ok(())
+}
+
+/// What clients consume by tasks.
+pub(crate) fn consume_tasks(quota: &mut Quota, tasks: &[Task]) -> Result<(), AllocError>
+    requires { (test : Path → Bool) (label : Text)
+        → used_where test quota.old.used label + held_unreserved test (map of_task (map task_row tasks.now)) label < 2 ^ 64 }
+    ensures ok { OnOk result (IsRaisedBy quota.old quota.new (λ test label. held_unreserved test (map of_task (map task_row tasks.now)) label)) }
+    ensures limits { quota.new.limits ≡ quota.old.limits }
+{
+    for task in tasks {
+        quota.consume_unreserved(&task.row.role, &task.row.bundle)?;
+    }
+    Ok(())
+}
+
+/// What is consumed by what agents have reserved.
+pub(crate) fn consume_totals(
+    quota: &mut Quota,
+    agents: &IndexMap<Name, Agent>,
+) -> Result<(), AllocError>
+    requires { (test : Path → Bool) (label : Text)
+        → used_where test quota.old.used label + reserved_for test (map agent_row agents.now.entries) label < 2 ^ 64 }
+    ensures ok { OnOk result (IsRaisedBy quota.old quota.new (λ test label. reserved_for test (map agent_row agents.now.entries) label)) }
+    ensures limits { quota.new.limits ≡ quota.old.limits }
+{
+    for (_, agent) in agents {
+        quota.consume_reserved(&agent.total)?;
+    }
+    Ok(())
+}

@@ -1,0 +1,87 @@
+//! Agents whose totals change: a part is exchanged for another, or all of it.
+ghost use Rattle.std.specs.Prelude.{◌≡◌, List, map, true, Some, OnOk, OnErr, IfOk};
+ghost use Rattle.std.specs.List.{AllByRecursion};
+ghost use Rattle.std.specs.Option.{option_map};
+ghost use Rattle.drf_role.specs.Text.{same_text};
+ghost use Rattle.drf_bundle.specs.declared.resource.Resource.{Resource};
+ghost use Rattle.drf_rows.specs.Consistent.{are_distinct};
+ghost use Rattle.drf_rows.specs.Totals.{CanExchange, exchanged};
+ghost use Rattle.drf_tables.specs.Changing.{CanExchangeAt, changed, with_exchanged, with_other};
+ghost use Rattle.drf_tables.specs.Inside.{agent_row};
+
+use crate::tables::Agent;
+use drf_amount::Algebra;
+use drf_bundle::Bundle;
+use drf_role::Name;
+use indexmap::IndexMap;
+use std::alloc::AllocError;
+
+/// The bundle with another part in the place of one that it has.
+fn exchanged(whole: &Bundle, old: &Bundle, new: &Bundle) -> Result<Bundle, AllocError>
+    requires { CanExchange whole.now old.now new.now }
+    ensures { IfOk result (λ both. both ≡ exchanged old.now new.now whole.now) }
+{
+    let left = whole.rest(old)?;
+    match left.try_join(new) {
+        Ok(both) => Ok(both),
+        // The two have a join, so that only memory was wanting.
+        Err(_) => Err(AllocError),
+    }
+}
+
+/// The free part with another part in the place of one that it has, where it is known.
+fn exchanged_free(
+    free: &Option<Bundle>,
+    old: &Bundle,
+    new: &Bundle,
+) -> Result<Option<Bundle>, AllocError>
+    requires { (known : List Resource) → free.now ≡ Some known → CanExchange known old.now new.now }
+    ensures { IfOk result (λ both. both ≡ option_map (exchanged old.now new.now) free.now) }
+{
+    match free {
+        Some(known) => Ok(Some(exchanged(known, old, new)?)),
+        None => Ok(None),
+    }
+}
+
+/// Exchanges a part of an agent, in its total and in what is free there. An `Err` changes nothing.
+pub(crate) fn exchange(
+    agents: &mut IndexMap<Name, Agent>,
+    name: &Name,
+    old: &Bundle,
+    new: &Bundle,
+) -> Result<(), AllocError>
+    requires names { are_distinct (map (λ a. a.name) (map agent_row agents.old.entries)) ≡ true }
+    requires can { AllByRecursion (λ e. same_text e.0 name.now ≡ true → CanExchangeAt old.now new.now e.1) agents.old.entries }
+    ensures ok { OnOk result (agents.new.entries ≡ map (changed name.now (with_exchanged old.now new.now)) agents.old.entries) }
+    ensures err { OnErr result (agents.new.entries ≡ agents.old.entries) }
+{
+    let Some(place) = agents.get_index_of(name) else {
+        return Ok(());
+    };
+    let agent = &agents[place];
+    let total = exchanged(&agent.total, old, new)?;
+    let free = exchanged_free(&agent.free, old, new)?;
+    let active = agent.active;
+    agents[place] = Agent {
+        total,
+        active,
+        free,
+    };
+    Ok(())
+}
+
+/// Gives an agent another total. What is free there is forgotten.
+pub(crate) fn set_total(agents: &mut IndexMap<Name, Agent>, name: &Name, total: Bundle)
+    requires { are_distinct (map (λ a. a.name) (map agent_row agents.old.entries)) ≡ true }
+    ensures { agents.new.entries ≡ map (changed name.now (with_other total)) agents.old.entries }
+{
+    if let Some(place) = agents.get_index_of(name) {
+        let active = agents[place].active;
+        agents[place] = Agent {
+            total,
+            active,
+            free: None,
+        };
+    }
+}

@@ -14,21 +14,26 @@ use Rattle.serde_json.specs.Written.{has_float, items_have_float, members_have_f
 use Rattle.drf_role.specs.Name.{IsName}
 use Rattle.drf_role.specs.Parts.{text_of}
 use Rattle.drf_bundle.specs.Bundle.{IsBundle}
+use Rattle.drf_bundle.specs.declared.quantities.Entry.{Entry}
 use Rattle.drf_bundle.specs.declared.resource.Resource.{Resource}
 use Rattle.drf_rows.specs.Tasks.{Start, IsTaskList}
 use Rattle.drf_rows.specs.declared.event.Accept as accepting
 use Rattle.drf_rows.specs.declared.event.Decline as declining
 use Rattle.drf_rows.specs.declared.event.Event.{Event}
-use Rattle.drf_rows.specs.declared.event.Event.TheVariants.{AddAgent, RemoveAgent, ActivateAgent, DeactivateAgent, AddFramework, RemoveFramework, Accept, Decline, Rescind, Finish, Suppress, Revive, SetWeight, Cycle, Report}
+use Rattle.drf_rows.specs.declared.event.Event.TheVariants.{AddAgent, RemoveAgent, ActivateAgent, DeactivateAgent, SetAgent, AddFramework, RemoveFramework, Accept, Decline, Rescind, Finish, Suppress, Revive, Reserve, Unreserve, SetWeight, SetLimit, Cycle, Report}
 use Rattle.drf_text.specs.RoundTrip.{BundleIsRead, WeightIsRead}
-use Rattle.drf_lines.specs.AgentEvents.{agent_event, agent_value, agent_of, of_agent}
+use Rattle.drf_text.specs.Written.{bundle_text, quantities_text}
+use Rattle.drf_lines.specs.AgentEvents.{its_total, of_total, agent_of, of_agent}
 use Rattle.drf_lines.specs.FrameworkEvents.{framework_event, role_value, framework_value, framework_of, of_framework, its_client, of_client}
 use Rattle.drf_lines.specs.OfferEvents.{usual_refusal, refusal_member, accept_event, accept_value, decline_event, decline_value, rescind_event, rescind_value, finish_event, finish_value}
 use Rattle.drf_lines.specs.TaskTexts.{each_in, task_text, values_in, is_few, if_few, values_at, one_text, several_texts, task_texts, start_in, starts_in, start_text, task_value, tasks_members}
+use Rattle.drf_lines.specs.ReservationEvents.{its_reservation, of_reservation}
 use Rattle.drf_lines.specs.WeightEvents.{weight_event, weight_value}
+use Rattle.drf_lines.specs.LimitEvents.{limit_event, limit_value}
 use Rattle.drf_lines.specs.EventLine.{cycle_value, report_request, event_value}
 use Rattle.drf_lines.specs.Object.{has_members, keys, keys_besides, texts_of, text_at, number_at, number_or, texts_at}
 use Rattle.drf_lines.specs.Meaning.{cycle_event, report_event, event_in, longest_line, meaning_of}
+use Rattle.drf_lines.specs.Resources.{bundle_in, quantities_in}
 use Rattle.drf_lines.specs.Words.{name_in, roles_in}
 use Rattle.drf_lines.proofs.Meanings.{meaning_read}
 use Rattle.drf_lines.proofs.Texts.{name_read, IsRoleRead, bundle_said, weight_said}
@@ -36,10 +41,15 @@ use Rattle.drf_lines.proofs.Values.{value_read}
 
 -- ---- events of agents
 
-pub agent_read : (agent : List ℕ) (total : List Resource) → BundleIsRead → IsName agent → IsBundle total
-    → event_in (agent_value agent total) ≡ Ok (AddAgent agent total)
-unfolding event_in agent_event keys has_members text_at
-agent_read agent total law name bundle = rw (name_read agent name, bundle_said total law bundle) refl
+pub add_agent_read : (agent : List ℕ) (total : List Resource) → name_in agent ≡ Ok agent → bundle_in (bundle_text total) ≡ Ok total
+    → event_in (of_total (codes "add_agent") agent total) ≡ Ok (AddAgent agent total)
+unfolding event_in its_total keys has_members text_at
+add_agent_read agent total name is = rw (name, is) refl
+
+pub set_agent_read : (agent : List ℕ) (total : List Resource) → name_in agent ≡ Ok agent → bundle_in (bundle_text total) ≡ Ok total
+    → event_in (of_total (codes "set_agent") agent total) ≡ Ok (SetAgent agent total)
+unfolding event_in its_total keys has_members text_at
+set_agent_read agent total name is = rw (name, is) refl
 
 pub remove_agent_read : (agent : List ℕ) → name_in agent ≡ Ok agent
     → event_in (of_agent (codes "remove_agent") agent) ≡ Ok (RemoveAgent agent)
@@ -173,12 +183,29 @@ pub finish_read : (framework task : List ℕ) → IsName framework → IsName ta
 unfolding event_in finish_event keys has_members text_at
 finish_read framework task name task_name = rw (name_read framework name, name_read task task_name) refl
 
+-- ---- events of reservations
+
+module _ (agent : List ℕ) (role : List (List ℕ)) (resources : List Resource) (name : name_in agent ≡ Ok agent)
+    (is : IsRoleRead role) (bundle : bundle_in (bundle_text resources) ≡ Ok resources) where
+  pub reserve_read : event_in (of_reservation (codes "reserve") agent role resources) ≡ Ok (Reserve agent role resources)
+  unfolding event_in its_reservation keys has_members text_at
+  reserve_read = rw (name, is, bundle) refl
+
+  pub unreserve_read : event_in (of_reservation (codes "unreserve") agent role resources) ≡ Ok (Unreserve agent role resources)
+  unfolding event_in its_reservation keys has_members text_at
+  unreserve_read = rw (name, is, bundle) refl
+
 -- ---- other events
 
 pub weight_read : (role : List (List ℕ)) (weight : ℕ) → WeightIsRead → IsRoleRead role → weight < 2 ^ 64
     → event_in (weight_value role weight) ≡ Ok (SetWeight role weight)
 unfolding event_in weight_event keys has_members text_at
 weight_read role weight law is small = rw (is, weight_said weight law small) refl
+
+pub limit_read : (role : List (List ℕ)) (limit : List Entry) → IsRoleRead role → quantities_in (quantities_text limit) ≡ Ok limit
+    → event_in (limit_value role limit) ≡ Ok (SetLimit role limit)
+unfolding event_in limit_event keys has_members text_at
+limit_read role limit is amounts = rw (is, amounts) refl
 
 pub cycle_read : (at : ℕ) → event_in (cycle_value at) ≡ Ok (Cycle at)
 unfolding event_in cycle_event keys has_members text_at number_at
@@ -214,6 +241,10 @@ tasks_have_no_float (s ∷ next ∷ starts) = ap (λ b. b || false) (values_have
 
 pub event_has_no_float : (event : Event) → has_float (event_value event) ≡ false
 event_has_no_float (AddAgent agent total) = refl
+event_has_no_float (SetAgent agent total) = refl
+event_has_no_float (Reserve agent role resources) = refl
+event_has_no_float (Unreserve agent role resources) = refl
+event_has_no_float (SetLimit role limit) = refl
 event_has_no_float (RemoveAgent agent) = refl
 event_has_no_float (ActivateAgent agent) = refl
 event_has_no_float (DeactivateAgent agent) = refl
@@ -253,6 +284,10 @@ tasks_are_low (s ∷ next ∷ starts) = omega (arith, values_are_low (s ∷ next
 
 pub event_is_shallow : (event : Event) → depth (event_value event) ≤ max_depth
 event_is_shallow (AddAgent agent total) = omega arith
+event_is_shallow (SetAgent agent total) = omega arith
+event_is_shallow (Reserve agent role resources) = omega arith
+event_is_shallow (Unreserve agent role resources) = omega arith
+event_is_shallow (SetLimit role limit) = omega arith
 event_is_shallow (RemoveAgent agent) = omega arith
 event_is_shallow (ActivateAgent agent) = omega arith
 event_is_shallow (DeactivateAgent agent) = omega arith

@@ -9,12 +9,14 @@ use Rattle.drf_role.specs.Role.{IsRole}
 use Rattle.drf_role.specs.Parts.{parts_of, text_of}
 use Rattle.drf_role.specs.TestLaws.{name_decides, role_decides}
 use Rattle.drf_bundle.specs.Bundle.{IsBundle}
+use Rattle.drf_bundle.specs.declared.quantities.Entry.{Entry}
 use Rattle.drf_bundle.specs.declared.resource.Resource.{Resource}
+use Rattle.drf_text.specs.Meaning.{quantities_meant}
 use Rattle.drf_text.specs.RoundTrip.{BundleIsRead, WeightIsRead}
-use Rattle.drf_text.specs.Written.{bundle_text, amount_text}
+use Rattle.drf_text.specs.Written.{bundle_text, quantities_text, amount_text}
 use Rattle.drf_lines.specs.FrameworkEvents.{role_value}
 use Rattle.drf_lines.specs.Words.{name_in, role_in, roles_in}
-use Rattle.drf_lines.specs.Resources.{bundle_in, weight_in}
+use Rattle.drf_lines.specs.Resources.{bundle_in, quantities_in, weight_in}
 
 -- what holds in any case holds where there is a value
 pub holds_at_ok : {T E : Type 0} (r : Result T E) (P : Type 0) → P → OnOk r P
@@ -53,6 +55,11 @@ values_more values roles i role value now inside is so_far seen pushed =
 pub bundle_said : (total : List Resource) → BundleIsRead → IsBundle total → bundle_in (bundle_text total) ≡ Ok total
 unfolding bundle_in
 bundle_said total law is = rw (law total is) refl
+
+pub quantities_said : (entries : List Entry) → quantities_meant (quantities_text entries) ≡ Ok entries
+    → quantities_in (quantities_text entries) ≡ Ok entries
+unfolding quantities_in
+quantities_said entries is = rw is refl
 
 pub weight_said : (weight : ℕ) → WeightIsRead → weight < 2 ^ 64 → weight_in (amount_text weight) ≡ Ok weight
 unfolding weight_in

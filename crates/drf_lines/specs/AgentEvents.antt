@@ -3,8 +3,6 @@
 use Rattle.std.specs.Prelude.{ℕ, List, Result, Ok, codes}
 use Rattle.serde_json.specs.Data.{Data, string, object, member, no_members}
 use Rattle.drf_bundle.specs.declared.resource.Resource.{Resource}
-use Rattle.drf_rows.specs.declared.event.Event.{Event}
-use Rattle.drf_rows.specs.declared.event.Event.TheVariants.{AddAgent}
 use Rattle.drf_text.specs.Written.{bundle_text}
 use Rattle.drf_lines.specs.declared.fault.LineFault.{LineFault}
 use Rattle.drf_lines.specs.Fault.{◌>>=◌}
@@ -12,16 +10,16 @@ use Rattle.drf_lines.specs.Object.{keys, text_at}
 use Rattle.drf_lines.specs.Words.{name_in}
 use Rattle.drf_lines.specs.Resources.{bundle_in}
 
--- an agent registers
-unfoldable pub agent_event : Data → Result Event LineFault
-agent_event value =
+-- the agent and the total of an event that has no other keys
+unfoldable pub its_total : Data → Result (List ℕ × List Resource) LineFault
+its_total value =
     keys 3 value >>= λ _. text_at (codes "agent") value >>= λ agent. text_at (codes "total") value >>= λ total.
-    name_in agent >>= λ agent. bundle_in total >>= λ total. Ok (AddAgent agent total)
+    name_in agent >>= λ agent. bundle_in total >>= λ total. Ok (agent, total)
 
-abbrev pub agent_value : List ℕ → List Resource → Data
-agent_value agent total = object (
+abbrev pub of_total : List ℕ → List ℕ → List Resource → Data
+of_total event agent total = object (
     member (codes "agent") (string agent)
-    (member (codes "event") (string (codes "add_agent"))
+    (member (codes "event") (string event)
     (member (codes "total") (string (bundle_text total))
     no_members)))
 

@@ -3,11 +3,13 @@ use Rattle.std.specs.Prelude.{ℕ, List, codes}
 use Rattle.serde_json.specs.Data.{Data, number, unsigned, string, object, member, no_members}
 use Rattle.serde_json.specs.Written.{compact_text}
 use Rattle.drf_rows.specs.declared.event.Event.{Event}
-use Rattle.drf_rows.specs.declared.event.Event.TheVariants.{AddAgent, RemoveAgent, ActivateAgent, DeactivateAgent, AddFramework, RemoveFramework, Accept, Decline, Rescind, Finish, Suppress, Revive, SetWeight, Cycle, Report}
-use Rattle.drf_lines.specs.AgentEvents.{agent_value, of_agent}
+use Rattle.drf_rows.specs.declared.event.Event.TheVariants.{AddAgent, RemoveAgent, ActivateAgent, DeactivateAgent, SetAgent, AddFramework, RemoveFramework, Accept, Decline, Rescind, Finish, Suppress, Revive, Reserve, Unreserve, SetWeight, SetLimit, Cycle, Report}
+use Rattle.drf_lines.specs.AgentEvents.{of_total, of_agent}
 use Rattle.drf_lines.specs.FrameworkEvents.{framework_value, of_framework, of_client}
 use Rattle.drf_lines.specs.OfferEvents.{accept_value, decline_value, rescind_value, finish_value}
+use Rattle.drf_lines.specs.ReservationEvents.{of_reservation}
 use Rattle.drf_lines.specs.WeightEvents.{weight_value}
+use Rattle.drf_lines.specs.LimitEvents.{limit_value}
 
 abbrev pub cycle_value : ℕ → Data
 cycle_value at = object (
@@ -18,10 +20,11 @@ report_request = object (member (codes "event") (string (codes "report")) no_mem
 
 -- an event as JSON
 abbrev pub event_value : Event → Data
-event_value (AddAgent agent total) = agent_value agent total
+event_value (AddAgent agent total) = of_total (codes "add_agent") agent total
 event_value (RemoveAgent agent) = of_agent (codes "remove_agent") agent
 event_value (ActivateAgent agent) = of_agent (codes "activate_agent") agent
 event_value (DeactivateAgent agent) = of_agent (codes "deactivate_agent") agent
+event_value (SetAgent agent total) = of_total (codes "set_agent") agent total
 event_value (AddFramework framework roles) = framework_value framework roles
 event_value (RemoveFramework framework) = of_framework (codes "remove_framework") framework
 event_value (Accept a) = accept_value a
@@ -30,7 +33,10 @@ event_value (Rescind offer) = rescind_value offer
 event_value (Finish framework task) = finish_value framework task
 event_value (Suppress framework role) = of_client (codes "suppress") framework role
 event_value (Revive framework role) = of_client (codes "revive") framework role
+event_value (Reserve agent role resources) = of_reservation (codes "reserve") agent role resources
+event_value (Unreserve agent role resources) = of_reservation (codes "unreserve") agent role resources
 event_value (SetWeight role weight) = weight_value role weight
+event_value (SetLimit role limit) = limit_value role limit
 event_value (Cycle at) = cycle_value at
 event_value Report = report_request
 

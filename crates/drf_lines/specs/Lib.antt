@@ -3,10 +3,12 @@ pub mod Words
 pub mod Resources
 pub mod Object
 pub mod AgentEvents
+pub mod ReservationEvents
 pub mod FrameworkEvents
 pub mod TaskTexts
 pub mod OfferEvents
 pub mod WeightEvents
+pub mod LimitEvents
 pub mod Meaning
 pub mod EventLine
 pub mod ReportLine

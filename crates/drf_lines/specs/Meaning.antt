@@ -8,15 +8,17 @@ use Rattle.serde_json.specs.Data.{Data}
 use Rattle.serde_json.specs.Read.{read}
 use Rattle.drf_role.specs.Text.{same_text}
 use Rattle.drf_rows.specs.declared.event.Event.{Event}
-use Rattle.drf_rows.specs.declared.event.Event.TheVariants.{RemoveAgent, ActivateAgent, DeactivateAgent, RemoveFramework, Suppress, Revive, Cycle, Report}
+use Rattle.drf_rows.specs.declared.event.Event.TheVariants.{AddAgent, RemoveAgent, ActivateAgent, DeactivateAgent, SetAgent, RemoveFramework, Suppress, Revive, Reserve, Unreserve, Cycle, Report}
 use Rattle.drf_lines.specs.declared.fault.LineFault.{LineFault}
 use Rattle.drf_lines.specs.declared.fault.LineFault.TheVariants.{LineTooLong, NotJson, BadShape}
 use Rattle.drf_lines.specs.Fault.{◌>>=◌}
 use Rattle.drf_lines.specs.Object.{keys, text_at, number_at}
-use Rattle.drf_lines.specs.AgentEvents.{agent_event, agent_of}
+use Rattle.drf_lines.specs.AgentEvents.{its_total, agent_of}
 use Rattle.drf_lines.specs.FrameworkEvents.{framework_event, framework_of, its_client}
 use Rattle.drf_lines.specs.OfferEvents.{accept_event, decline_event, rescind_event, finish_event}
+use Rattle.drf_lines.specs.ReservationEvents.{its_reservation}
 use Rattle.drf_lines.specs.WeightEvents.{weight_event}
+use Rattle.drf_lines.specs.LimitEvents.{limit_event}
 
 -- how many bytes a line has at most, without its line feed
 abbrev pub longest_line : ℕ
@@ -41,10 +43,11 @@ made event read value = read value >>= λ found. Ok (event found)
 -- the events by name
 abbrev pub events : List (List ℕ × (Data → Result Event LineFault))
 events =
-    (codes "add_agent", agent_event)
+    (codes "add_agent", made (λ a. AddAgent a.0 a.1) its_total)
     ∷ (codes "remove_agent", made RemoveAgent agent_of)
     ∷ (codes "activate_agent", made ActivateAgent agent_of)
     ∷ (codes "deactivate_agent", made DeactivateAgent agent_of)
+    ∷ (codes "set_agent", made (λ a. SetAgent a.0 a.1) its_total)
     ∷ (codes "add_framework", framework_event)
     ∷ (codes "remove_framework", made RemoveFramework framework_of)
     ∷ (codes "suppress", made (λ c. Suppress c.0 c.1) its_client)
@@ -53,7 +56,10 @@ events =
     ∷ (codes "decline", decline_event)
     ∷ (codes "rescind", rescind_event)
     ∷ (codes "finish", finish_event)
+    ∷ (codes "reserve", made (λ r. Reserve r.0 r.1 r.2) its_reservation)
+    ∷ (codes "unreserve", made (λ r. Unreserve r.0 r.1 r.2) its_reservation)
     ∷ (codes "set_weight", weight_event)
+    ∷ (codes "set_limit", limit_event)
     ∷ (codes "cycle", cycle_event)
     ∷ (codes "report", report_event)
     ∷ []

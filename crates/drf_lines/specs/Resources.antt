@@ -1,5 +1,6 @@
--- Resources and weights as texts of a line.
+-- Resources, quantities and weights as texts of a line.
 use Rattle.std.specs.Prelude.{ℕ, List, Result, Ok, Err}
+use Rattle.drf_bundle.specs.declared.quantities.Entry.{Entry}
 use Rattle.drf_bundle.specs.declared.resource.Resource.{Resource}
 use Rattle.drf_text.specs.Meaning as text
 use Rattle.drf_text.specs.Number.{weight_of}
@@ -15,6 +16,10 @@ read_or_bad (Err fault) = Err BadText
 -- the bundle that a text says
 unfoldable pub bundle_in : List ℕ → Result (List Resource) LineFault
 bundle_in bytes = read_or_bad (text.meaning_of bytes)
+
+-- the amounts that a text says, those of 0 too
+unfoldable pub quantities_in : List ℕ → Result (List Entry) LineFault
+quantities_in bytes = read_or_bad (text.quantities_meant bytes)
 
 -- a weight in thousandths
 unfoldable pub weight_in : List ℕ → Result ℕ LineFault

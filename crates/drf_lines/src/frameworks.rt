@@ -40,7 +40,7 @@ pub fn read_framework(alloc: Global, value: &Value) -> Result<Event, LineError>
     })
 }
 
-fn role_value(alloc: Global, role: &Role) -> Result<Value, AllocError>
+pub fn role_value(alloc: Global, role: &Role) -> Result<Value, AllocError>
     ensures value { IfOk result (λ value. view value ≡ role_value role.now) }
     ensures read { OnOk result (role_in (text_of role.now) ≡ Ok role.now) }
 {

@@ -4,11 +4,13 @@ ghost use Rattle.serde_json.specs.View.{view};
 ghost use Rattle.drf_lines.specs.Fault.{IsReadAs, IsReadOf};
 ghost use Rattle.drf_lines.specs.Meaning.{value_in, cycle_event, report_event, event_in, meaning_of, longest_line};
 
-use crate::agents::{read_agent, read_its_agent};
+use crate::agents::{read_its_agent, read_its_total};
 use crate::fault::{LineError, LineFault};
 use crate::frameworks::{read_framework, read_its_client, read_its_framework};
+use crate::limits::read_limiting;
 use crate::object::{keys, number_at, text_at};
 use crate::offers::{read_accept, read_decline, read_finish, read_rescind};
+use crate::reservations::read_its_reservation;
 use crate::weights::read_weighing;
 use drf_rows::Event;
 use serde_json::{Category, Value};
@@ -49,7 +51,10 @@ fn read_object(alloc: Global, value: &Value) -> Result<Event, LineError>
     ensures { IsReadOf result (event_in (view value.now)) }
 {
     match text_at(value, "event")? {
-        "add_agent" => read_agent(alloc, value),
+        "add_agent" => {
+            let (agent, total) = read_its_total(alloc, value)?;
+            Ok(Event::AddAgent { agent, total })
+        }
         "remove_agent" => Ok(Event::RemoveAgent {
             agent: read_its_agent(alloc, value)?,
         }),
@@ -59,6 +64,10 @@ fn read_object(alloc: Global, value: &Value) -> Result<Event, LineError>
         "deactivate_agent" => Ok(Event::DeactivateAgent {
             agent: read_its_agent(alloc, value)?,
         }),
+        "set_agent" => {
+            let (agent, total) = read_its_total(alloc, value)?;
+            Ok(Event::SetAgent { agent, total })
+        }
         "add_framework" => read_framework(alloc, value),
         "remove_framework" => Ok(Event::RemoveFramework {
             framework: read_its_framework(alloc, value)?,
@@ -75,7 +84,24 @@ fn read_object(alloc: Global, value: &Value) -> Result<Event, LineError>
         "decline" => read_decline(alloc, value),
         "rescind" => read_rescind(value),
         "finish" => read_finish(alloc, value),
+        "reserve" => {
+            let (agent, role, resources) = read_its_reservation(alloc, value)?;
+            Ok(Event::Reserve {
+                agent,
+                role,
+                resources,
+            })
+        }
+        "unreserve" => {
+            let (agent, role, resources) = read_its_reservation(alloc, value)?;
+            Ok(Event::Unreserve {
+                agent,
+                role,
+                resources,
+            })
+        }
         "set_weight" => read_weighing(alloc, value),
+        "set_limit" => read_limiting(alloc, value),
         "cycle" => read_cycle(value),
         "report" => read_report(value),
         _ => Err(LineError::Fault(LineFault::BadShape)),

@@ -1,10 +1,10 @@
-//! Resources and weights as texts of a line.
+//! Resources, quantities and weights as texts of a line.
 ghost use Rattle.std.specs.Prelude.{◌≡◌};
 ghost use Rattle.drf_lines.specs.Fault.{IsReadOf};
-ghost use Rattle.drf_lines.specs.Resources.{bundle_in, weight_in};
+ghost use Rattle.drf_lines.specs.Resources.{bundle_in, quantities_in, weight_in};
 
 use crate::fault::{LineError, LineFault};
-use drf_bundle::Bundle;
+use drf_bundle::{Bundle, Quantities};
 use drf_text::TextFault;
 use std::alloc::Global;
 
@@ -15,6 +15,18 @@ pub fn read_bundle(alloc: Global, text: &str) -> Result<Bundle, LineError>
 {
     match drf_text::read_bundle(alloc, text) {
         Ok(bundle) => Ok(bundle),
+        Err(TextFault::Memory) => Err(LineError::Memory),
+        Err(_) => Err(LineError::Fault(LineFault::BadText)),
+    }
+}
+
+/// Reads quantities.
+#[tactic(auto, unfolding(crate::specs::Resources::quantities_in))]
+pub fn read_quantities(alloc: Global, text: &str) -> Result<Quantities, LineError>
+    ensures { IsReadOf result (quantities_in text.now) }
+{
+    match drf_text::read_quantities(alloc, text) {
+        Ok(quantities) => Ok(quantities),
         Err(TextFault::Memory) => Err(LineError::Memory),
         Err(_) => Err(LineError::Fault(LineFault::BadText)),
     }

@@ -1,5 +1,7 @@
 //! Quantities and bundles as text.
-ghost use Rattle.std.specs.Prelude.{◌≡◌, ◌==◌, [], ◌∷◌, ◌++◌, ◌<◌, if◌then◌else◌, IfOk, OnOk, string_bytes};
+ghost use Rattle.std.specs.Prelude.{◌≡◌, ◌==◌, [], ◌∷◌, ◌++◌, ◌<◌, if◌then◌else◌, Ok, IfOk, OnOk, string_bytes};
+ghost use Rattle.drf_text.specs.Meaning.{quantities_meant};
+ghost use Rattle.drf_text.specs.RoundTrip.{IsEntry};
 ghost use Rattle.drf_text.specs.Written.{amount_text, quantity_text, quantities_text, interval_text, head_text, ranges_text, items_text, value_text, resource_text, bundle_text};
 
 use crate::amount::push_amount;
@@ -20,16 +22,18 @@ fn push_separator(text: &mut String, place: usize, mark: char) -> Result<(), All
 }
 
 fn push_quantity(text: &mut String, entry: &Entry) -> Result<(), AllocError>
-    ensures { OnOk result (string_bytes text.new ≡ string_bytes text.old ++ quantity_text entry.now) }
+    ensures text { OnOk result (string_bytes text.new ≡ string_bytes text.old ++ quantity_text entry.now) }
+    ensures entry { OnOk result (IsEntry entry.now) }
 {
     text.push_str(entry.label.text())?;
     text.push(':')?;
     push_amount(text, entry.amount.thousandths())
 }
 
-/// Writes quantities: for each name in order the name, `:` and its amount, joined by `;`.
+/// Writes quantities: for each name in order the name, `:` and its amount, joined by `;`. The text means those quantities.
 pub fn write_quantities(alloc: Global, quantities: &Quantities) -> Result<String, AllocError>
-    ensures { IfOk result (λ text. string_bytes text ≡ quantities_text quantities.now) }
+    ensures text { IfOk result (λ text. string_bytes text ≡ quantities_text quantities.now) }
+    ensures read { OnOk result (quantities_meant (quantities_text quantities.now) ≡ Ok quantities.now) }
 {
     let entries = quantities.entries();
     let mut text = String::new(alloc);

@@ -21,10 +21,7 @@ use std::alloc::{AllocError, Global};
 
 /// The agent, the role and the resources of an event that has no other keys.
 #[tactic(auto, unfolding(crate::specs::ReservationEvents::its_reservation))]
-pub fn read_its_reservation(
-    alloc: Global,
-    value: &Value,
-) -> Result<(Name, Role, Bundle), LineError>
+pub fn read_its_reservation(alloc: Global, value: &Value) -> Result<(Name, Role, Bundle), LineError>
     ensures { IsReadOf result (its_reservation (view value.now)) }
 {
     keys(value, 4)?;

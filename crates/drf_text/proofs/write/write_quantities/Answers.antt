@@ -13,7 +13,7 @@ loop-i-preserved c =
     let inside = c.loop-i-test.true in
     let so_far = c.loop-i.invariant in (
       mapped_more quantity_text [] 59 entries c.loop-i.i e (string_bytes c.loop-i.text) (string_bytes c.push_quantity.new.text) inside c.index-entries-i.is so_far.0
-      (c.in_ok-push_quantity.ensures.text ∙ ap (λ (b : List ℕ). b ++ quantity_text e) c.in_ok-push_separator.ensures),
+          (c.in_ok-push_quantity.ensures.text ∙ ap (λ (b : List ℕ). b ++ quantity_text e) c.in_ok-push_separator.ensures),
       All-more IsEntry entries c.loop-i.i e inside so_far.1 (subst IsEntry c.index-entries-i.is c.in_ok-push_quantity.ensures.entry),
     )
 

@@ -1,5 +1,5 @@
 //! The worked examples: `rows` names each, behind it the word `echo`, or a limit that is not the greatest: `agents`,
-//! `filters` or `events`, and its number. The lines of `NAME.in` are answered by those of `NAME.out`.
+//! `filters`, `limits`, `scalar_names` or `events`, and its number. The lines of `NAME.in` are answered by those of `NAME.out`.
 use anyhow::{Context, Result};
 use drf_journal::{Device, run};
 use drf_rows::Limits;
@@ -31,8 +31,8 @@ fn limits_of(limit: &str, number: u64) -> Option<Limits> {
         full.clients(),
         most("filters", full.filters()),
         full.weights(),
-        full.limits(),
-        full.scalar_names(),
+        most("limits", full.limits()),
+        most("scalar_names", full.scalar_names()),
         most("events", full.events()),
     )
 }

@@ -1,5 +1,5 @@
 -- The event of limits, read and written as those of agents.
-use Rattle.std.specs.Prelude.{ℕ, List, Result, Ok, codes}
+use Rattle.std.specs.Prelude.{List, Result, Ok, codes}
 use Rattle.serde_json.specs.Data.{Data, string, object, member, no_members}
 use Rattle.drf_role.specs.Parts.{text_of}
 use Rattle.drf_role.specs.Path.{Path}

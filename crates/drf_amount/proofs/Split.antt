@@ -1,12 +1,15 @@
 -- Several parts in the place of one.
-use Rattle.std.proofs.Common.{◌≡◌, ℕ, ◌+◌, ◌≤◌, List, [], ◌∷◌, ◌++◌, length, Option, Some, None, Bool, true, false, cond, option_and_then, All, refl, sym, ap, subst, ◌∙◌, arith}
+use Rattle.std.proofs.Common.{◌≡◌, ℕ, suc, ◌+◌, ◌<◌, ◌≤◌, List, [], ◌∷◌, ◌++◌, length, take, drop, get_or, append_assoc, drop-cons, Option, Some, None, Bool, true, false, cond, option_and_then, All, refl, sym, ap, subst, ◌∙◌, arith}
 use Rattle.std.specs.BTreeMap.{is_at, insert_entry}
 use Rattle.std.specs.Ordering.{nat_cmp}
 use Rattle.std.specs.Map.{lookup, remove_entry, keys_of, values_of}
 use Rattle.std.proofs.lemmas.List.Elements.{All-head, All-tail, All-append}
+use Rattle.std.proofs.lemmas.List.{take_more, length-take-le, take-append-drop, map-append}
 use Rattle.std.proofs.lemmas.Option.{none-some, same_Some}
 use Rattle.drf_amount.specs.declared.algebra.AlgebraFault.{AlgebraFault}
-use Rattle.drf_amount.specs.Algebra.{AlgebraLaws, IsRest}
+use Rattle.drf_amount.specs.declared.algebra.AlgebraFault.TheVariants.{Kind, Overlap, TooLarge, NotCovered, Memory}
+use Rattle.drf_amount.specs.Algebra.{AlgebraLaws, IsRest, IsJoinFault}
+use Rattle.drf_amount.specs.PoolCalls.{StopsAt, IsJoinAllFault}
 use Rattle.drf_amount.specs.Pool.{PoolContent, IsPool, NumbersRise, joined_with, joined_all, numbered, part_at, parts_without}
 use Rattle.drf_amount.proofs.Joined.{and_then-and_then, and_then-Some, given-found, given-without, joined_with-base}
 use Rattle.drf_amount.proofs.Kept.{both_steps, part_joins}
@@ -16,7 +19,7 @@ use Rattle.drf_amount.proofs.Numbered.{insert_entry-last, NumbersRise-without}
 
 -- one more amount
 pub numbered-push : {A : Type 0} (first : ℕ) (amounts : List A) (amount : A) → numbered first (amounts ++ amount ∷ []) ≡ numbered first amounts ++ (first + length amounts, amount) ∷ []
-numbered-push first [] amount = refl
+numbered-push first [] amount = let same : first ≡ first + 0 = omega arith in ap (λ number. (number, amount) ∷ []) same
 numbered-push first (other ∷ amounts) amount =
     let same : (first + 1) + length amounts ≡ first + length (other ∷ amounts) = omega arith in
     ap (λ rest. (first, other) ∷ rest) (numbered-push (first + 1) amounts amount ∙ ap (λ number. numbered (first + 1) amounts ++ (number, amount) ∷ []) same)
@@ -40,6 +43,43 @@ NumbersRise-before low number next (first ∷ before) after part rise = (rise.0,
 -- a part is put behind those that stand before it
 pub insert_entry-before : {A : Type 0} (number next : ℕ) (before after : List (ℕ × A)) (part : A) → NumbersRise 0 (before ++ (number, part) ∷ after) next → insert_entry nat_cmp before number part ≡ before ++ (number, part) ∷ []
 insert_entry-before number next before after part rise = insert_entry-last 0 number before part (NumbersRise-before 0 number next before after part rise)
+
+-- ---- the amounts so far
+
+amounts_more : {A : Type 0} (amounts : List A) (i : ℕ) (amount : A) → i < length amounts → get_or amounts i amount ≡ amount → take (i + 1) amounts ≡ take i amounts ++ amount ∷ []
+amounts_more amounts i amount below is = take_more amounts i amount below ∙ ap (λ a. take i amounts ++ a ∷ []) is
+
+numbered-more : {A : Type 0} (first i number : ℕ) (amounts : List A) (amount : A) → i < length amounts → get_or amounts i amount ≡ amount → number ≡ first + i → numbered first (take (i + 1) amounts) ≡ numbered first (take i amounts) ++ (number, amount) ∷ []
+numbered-more first i number amounts amount below is number_is =
+    let here : first + length (take i amounts) ≡ number = omega (arith, length-take-le i amounts (omega arith)) in
+    ap (numbered first) (amounts_more amounts i amount below is) ∙ numbered-push first (take i amounts) amount ∙ ap (λ number. numbered first (take i amounts) ++ (number, amount) ∷ []) here
+
+-- one more is put
+pub put_more : {A : Type 0} (start parts new : List (ℕ × A)) (first i number : ℕ) (amounts : List A) (amount copy : A) → i < length amounts → get_or amounts i amount ≡ amount → NumbersRise 0 start first → number ≡ first + i → parts ≡ start ++ numbered first (take i amounts) → copy ≡ amount → new ≡ insert_entry nat_cmp parts number copy → new ≡ start ++ numbered first (take (i + 1) amounts)
+put_more {A = A} start parts new first i number amounts amount copy below is rise number_is parts_are copy_is new_is =
+    let here : first + length (take i amounts) ≡ number = omega (arith, length-take-le i amounts (omega arith)) in
+    let rises : NumbersRise 0 parts number =
+    subst (λ (n : ℕ). NumbersRise 0 parts n) here (subst (λ (ps : List (ℕ × A)). NumbersRise 0 ps (first + length (take i amounts))) (sym parts_are) (NumbersRise-behind 0 first start (take i amounts) rise)) in
+    new_is
+    ∙ insert_entry-last 0 number parts copy rises
+    ∙ (λ k. parts_are k ++ (number, copy_is k) ∷ [])
+    ∙ append_assoc start (numbered first (take i amounts)) ((number, amount) ∷ [])
+    ∙ ap (λ (ps : List (ℕ × A)). start ++ ps) (sym (numbered-more first i number amounts amount below is number_is))
+
+pub numbers_more : {A : Type 0} (numbers new : List ℕ) (first i number : ℕ) (amounts : List A) (amount : A) → i < length amounts → get_or amounts i amount ≡ amount → number ≡ first + i → numbers ≡ keys_of (numbered first (take i amounts)) → new ≡ numbers ++ number ∷ [] → new ≡ keys_of (numbered first (take (i + 1) amounts))
+numbers_more {A = A} numbers new first i number amounts amount below is number_is numbers_are new_is =
+    new_is
+    ∙ ap (λ (ns : List ℕ). ns ++ number ∷ []) numbers_are
+    ∙ sym (map-append (λ (part : ℕ × A). part.0) (numbered first (take i amounts)) ((number, amount) ∷ []))
+    ∙ ap keys_of (sym (numbered-more first i number amounts amount below is number_is))
+
+-- one more is copied
+pub copy_more : {A : Type 0} (whole copied iterator rest new : List (ℕ × A)) (next number : ℕ) (part copy : A) → NumbersRise 0 whole next → copied ++ iterator ≡ whole → iterator ≡ (number, part) ∷ rest → copy ≡ part → new ≡ insert_entry nat_cmp copied number copy → new ++ rest ≡ whole
+copy_more {A = A} whole copied iterator rest new next number part copy rise all turn copy_is new_is =
+    let split : copied ++ (number, part) ∷ rest ≡ whole = ap (λ (ps : List (ℕ × A)). copied ++ ps) (sym turn) ∙ all in
+    let put : new ≡ copied ++ (number, part) ∷ [] =
+    new_is ∙ ap (insert_entry nat_cmp copied number) copy_is ∙ insert_entry-before number next copied rest part (subst (λ (ps : List (ℕ × A)). NumbersRise 0 ps next) (sym split) rise) in
+    ap (λ (ps : List (ℕ × A)). ps ++ rest) put ∙ append_assoc copied ((number, part) ∷ []) rest ∙ split
 
 -- ---- lists of parts
 
@@ -69,6 +109,29 @@ joined_all-push join base (first ∷ amounts) amount =
       | None ↦ refl
       | Some more ↦ joined_all-push join more amounts amount
     ]
+
+pub joined_all-more : {A : Type 0} (join : A → A → Option A) (base whole more : A) (amounts : List A) (i : ℕ) (amount : A) → i < length amounts → get_or amounts i amount ≡ amount → joined_all join base (take i amounts) ≡ Some whole → join whole amount ≡ Some more → joined_all join base (take (i + 1) amounts) ≡ Some more
+joined_all-more join base whole more amounts i amount below is so_far joined =
+    ap (joined_all join base) (amounts_more amounts i amount below is) ∙ joined_all-push join base (take i amounts) amount ∙ ap (option_and_then (λ whole. join whole amount)) so_far ∙ joined
+
+-- the join of all stops at a fault of a join
+pub stops_at : {A : Type 0} (join : A → A → Option A) (refusal : A → A → Option AlgebraFault) (empty whole : A) (amounts : List A) (i : ℕ) (amount : A) (fault : AlgebraFault) → i < length amounts → get_or amounts i amount ≡ amount → joined_all join empty (take i amounts) ≡ Some whole → refusal whole amount ≡ Some fault → StopsAt join refusal empty amounts fault
+stops_at join refusal empty whole amounts i amount fault below is so_far refused = record {
+  before = take i amounts;
+  amount = amount;
+  after = drop (suc i) amounts;
+  amounts_are = sym (take-append-drop i amounts) ∙ ap (λ rest. take i amounts ++ rest) (drop-cons amounts i amount below ∙ ap (λ a. a ∷ drop (suc i) amounts) is);
+  joined = whole;
+  joined_is = so_far;
+  refused = refused;
+}
+
+pub join_all_fault : {A : Type 0} (join : A → A → Option A) (refusal : A → A → Option AlgebraFault) (empty whole : A) (amounts : List A) (i : ℕ) (amount : A) (fault : AlgebraFault) → i < length amounts → get_or amounts i amount ≡ amount → joined_all join empty (take i amounts) ≡ Some whole → IsJoinFault (refusal whole amount) fault → IsJoinAllFault join refusal empty amounts fault
+join_all_fault join refusal empty whole amounts i amount Kind below is so_far refused = stops_at join refusal empty whole amounts i amount Kind below is so_far refused
+join_all_fault join refusal empty whole amounts i amount Overlap below is so_far refused = stops_at join refusal empty whole amounts i amount Overlap below is so_far refused
+join_all_fault join refusal empty whole amounts i amount TooLarge below is so_far refused = stops_at join refusal empty whole amounts i amount TooLarge below is so_far refused
+join_all_fault join refusal empty whole amounts i amount NotCovered below is so_far refused = refused
+join_all_fault join refusal empty whole amounts i amount Memory below is so_far refused = tt
 
 -- first the parts behind, and then those before
 joined_with-append : {A : Type 0} (join : A → A → Option A) (base : A) (parts more : List (ℕ × A)) → joined_with join base (parts ++ more) ≡ option_and_then (λ whole. joined_with join whole parts) (joined_with join base more)

@@ -203,7 +203,7 @@ module _ {A : Type 0} {is_given : A → Type 0} {empty : A} {join : A → A → 
         free_given = free_given;
         parts_given = subst (All is_given) (sym (values_of-append others (numbered pool.next wanted))) (All-append is_given (values_of others) (values_of (numbered pool.next wanted)) (given-without laws (is_at (nat_cmp number)) pool.parts kept.parts_given) (subst (All is_given) (sym (values_of-numbered pool.next wanted)) given));
         whole = joined_with-append join free others (numbered pool.next wanted)
-        ∙ ap (option_and_then (λ whole. joined_with join whole others)) (joined_with-whole free whole pool.next wanted free_given given joined ∙ same ∙ joins.1)
-        ∙ joins.2;
+            ∙ ap (option_and_then (λ whole. joined_with join whole others)) (joined_with-whole free whole pool.next wanted free_given given joined ∙ same ∙ joins.1)
+            ∙ joins.2;
         numbered = NumbersRise-behind 0 pool.next others wanted (NumbersRise-without 0 pool.next number pool.parts kept.numbered);
       }

@@ -8,5 +8,5 @@ abbrev pub invariant-loop-amount : goal.invariant-loop-amount
 invariant-loop-amount g l = record {
   number : l.number ≡ l.first + l.amount-index;
   parts : l.parts.entries ≡ l.fn.parts.entries ++ numbered l.first (take l.amount-index l.amounts);
-  numbers : l.numbers.items ≡ keys_of (numbered l.first (take l.amount-index l.amounts))
+  numbers : l.numbers.items ≡ keys_of (numbered l.first (take l.amount-index l.amounts));
 }

@@ -5,7 +5,7 @@ use Rattle.drf_amount.proofs.parts.truncate.Given as goal
 abbrev pub invariant-loop-parts : goal.invariant-loop-parts
 invariant-loop-parts g l = record {
   enough : l.count ≤ length l.parts.entries;
-  same : take l.count l.parts.entries ≡ take l.count l.fn.parts.entries
+  same : take l.count l.parts.entries ≡ take l.count l.fn.parts.entries;
 }
 
 abbrev pub decreases-loop-parts : goal.decreases-loop-parts

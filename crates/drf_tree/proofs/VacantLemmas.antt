@@ -4,7 +4,6 @@ use Rattle.std.specs.List.{AllByRecursion, IsDistinct, list_any}
 use Rattle.std.specs.Option.{is_some, option_map_or}
 use Rattle.std.proofs.Common.{refl, sym, ap, subst, ◌∙◌, inl, inr, arith, length-append}
 use Rattle.std.proofs.lemmas.Bool.{true≢false, false≢true}
-use Rattle.std.proofs.lemmas.Option.{slice_get_within}
 use Rattle.drf_role.specs.Text.{same_text}
 use Rattle.drf_role.specs.Path.{Path, same_path}
 use Rattle.drf_rows.specs.ListLaws.{each_from}
@@ -15,7 +14,7 @@ use Rattle.drf_tree.specs.declared.family.Family.{Family}
 use Rattle.drf_tree.specs.declared.node.Place.{Place}
 use Rattle.drf_tree.specs.declared.node.Sum.{Sum}
 use Rattle.drf_tree.specs.declared.tree.Tree.{Tree}
-use Rattle.drf_tree.specs.Changes.{IsSameTree, IsShapeOf, Stay}
+use Rattle.drf_tree.specs.Changes.{IsSameTree, IsShapeOf}
 use Rattle.drf_tree.specs.Family.{IsSameKey, child_name}
 use Rattle.drf_tree.specs.Nodes.{children_at, is_live, path_at, place_at}
 use Rattle.drf_tree.specs.Tree.{AreRight, AreSums, IsComplete, IsMarkedOrRight, IsShape, IsSumOf, IsTreeOf}
@@ -127,8 +126,3 @@ module _ (old new : Tree) (sum : Sum) (places : new.places.items ≡ old.places.
           ap (λ ss. slice_get ss i) sums
           ∙ get_more old.sums.items (sum ∷ []) i (omega (arith, live_within old.places.items i live, shape.sums_long)))
       tree
-
-  pub stay_more : Stay old.places.items new.places.items
-  stay_more i place at =
-      ap (λ ps. slice_get ps i) places
-      ∙ get_more old.places.items (None ∷ []) i (slice_get_within old.places.items i (Some place) at) ∙ at

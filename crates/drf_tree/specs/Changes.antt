@@ -62,10 +62,6 @@ abbrev pub CanLowerAt : Content → Path → List Entry → ℕ → Type 0
 CanLowerAt content path quantities offers =
     AllByRecursion (λ c. same_path c.path path ≡ true → CanLower quantities offers c) content.clients
 
--- the nodes that were there stand as they did
-abbrev pub Stay : List (Option Place) → List (Option Place) → Type 0
-Stay old new = (i : ℕ) (place : Place) → slice_get old i ≡ Some (Some place) → slice_get new i ≡ Some (Some place)
-
 -- nothing that counts was changed
 pub record IsSameTree (old new : Tree) : Type 0 where
   pub places : new.places.items ≡ old.places.items

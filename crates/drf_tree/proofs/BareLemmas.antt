@@ -12,6 +12,7 @@ use Rattle.drf_role.specs.PathLaws.{same_path-true}
 use Rattle.drf_rows.specs.ListLaws.{each_from_both}
 use Rattle.drf_sorter.specs.Content.{Content, Ranked, clients_under, standing_in}
 use Rattle.drf_sorter.specs.Keys.{key_by, key_of}
+use Rattle.drf_sorter.specs.Work.{debt}
 use Rattle.drf_tree.specs.declared.family.Child.{Child}
 use Rattle.drf_tree.specs.declared.family.Family.{Family}
 use Rattle.drf_tree.specs.declared.node.Place.{Place}
@@ -19,12 +20,13 @@ use Rattle.drf_tree.specs.declared.node.Sum.{Sum}
 use Rattle.drf_tree.specs.declared.tree.Tree.{Tree}
 use Rattle.drf_tree.specs.Changes.{IsShapeOf, is_bare_at}
 use Rattle.drf_tree.specs.Family.{IsGone, IsSameKey, child_name}
+use Rattle.drf_tree.specs.Marks.{work_of}
 use Rattle.drf_tree.specs.Nodes.{children_at, is_live, is_node, parent_at, path_at, place_at}
 use Rattle.drf_tree.specs.Tree.{IsChildOf, IsMarkedOrRight, IsSumOf, IsTreeOf}
-use Rattle.drf_tree.proofs.ClimbLemmas.{leaf_other, live_within, node_from_live, node_within}
+use Rattle.drf_tree.proofs.ClimbLemmas.{leaf_other, live_within, node_within}
 use Rattle.drf_tree.proofs.PathLemmas.{begins_by}
 use Rattle.drf_tree.proofs.ShapeLemmas.{shape_from, shape_in}
-use Rattle.drf_tree.proofs.WayLemmas.{equal, not_equal}
+use Rattle.drf_tree.proofs.WayLemmas.{equal, not_equal, shorter_above}
 use Rattle.drf_tree.proofs.WithLemmas.{any_with, each_without, set_family_other, set_family_same}
 use Rattle.drf_tree.proofs.WitherLemmas.{withered}
 
@@ -145,29 +147,13 @@ module _ (old new : Tree) (shape : IsShapeOf old) (node parent : ℕ) (f : Famil
   path_now : (i : ℕ) → i ≢ node → path_at new.places.items i ≡ path_at old.places.items i
   path_now i other = ap (λ (o : Option Place). option_map_or (λ p. p.path) o []) (rest i other)
 
-  -- the node above is there as it was
-  pub still_above : is_node new.places.items parent ≡ true
-  still_above = elim (cases_eq parent node) [
-    | inl same ↦
-        let bad : children_at old.families.items parent ≡ [] = ap (children_at old.families.items) same ∙ kids_bare in
-        absurd (omega (arith, ap length bad, ap length less.gone.more_is, length-more))
-    | inr other ↦ ap (λ (o : Option Place). (parent == 0) || is_some o) (rest parent other) ∙ there
-  ]
-    where
-      length-more : 0 < length (less.gone.before ++ less.child ∷ less.gone.after)
-      length-more = by less.gone.before
-        where
-          by : (before : List Child) → 0 < length (before ++ less.child ∷ less.gone.after)
-          by [] = omega arith
-          by (c ∷ before) = omega arith
-
   module _ (content : Content) (of : IsTreeOf content old) where
     clients_bare : clients_under content (path_at old.places.items node) ≡ []
     clients_bare =
         bare_clients content old node of live
         (equal (option_map_or (λ s. s.clients) (slice_get old.sums.items node) 0) 0 parts.0)
 
-    child : Child
+    abbrev child : Child
     child = less.child
 
     -- it was the child of its path
@@ -252,3 +238,51 @@ module _ (old new : Tree) (shape : IsShapeOf old) (node parent : ℕ) (f : Famil
       complete = complete_now;
       right = right_now;
     }
+
+-- ---- bare nodes go one after another, upwards
+
+pub record IsPruning (old now : Tree) (node : ℕ) : Type 0 where
+  pub shape : IsShapeOf now
+  pub there : is_node now.places.items node ≡ true
+  pub tree : (content : Content) → IsTreeOf content old → IsTreeOf content now
+  pub work : debt (work_of now.marks) ≤ debt (work_of old.marks)
+
+pub prune_start : (tree : Tree) → IsShapeOf tree → (node : ℕ) → is_node tree.places.items node ≡ true → IsPruning tree tree node
+prune_start tree shape node there = record { shape = shape; there = there; tree = λ content of. of; work = omega arith }
+
+-- where it is not at the root, it is at a node
+pub prune_live : (old now : Tree) (node : ℕ) → IsPruning old now node → node ≢ 0 → is_live now.places.items node ≡ true
+prune_live old now node so other = elim (or_cases (node == 0) (is_live now.places.items node) so.there) [
+  | inl root ↦ absurd (other (equal node 0 root))
+  | inr live ↦ live
+]
+
+module _ (old now new : Tree) (node parent : ℕ) (so : IsPruning old now node) (other : node ≢ 0)
+    (parent_is : parent ≡ parent_at now.places.items node) (shape : IsShapeOf new)
+    (tree : (content : Content) → IsTreeOf content now → IsTreeOf content new)
+    (places : new.places.items ≡ slice_set now.places.items node None)
+    (work : debt (work_of new.marks) ≤ debt (work_of now.marks)) where
+  shorter : length (path_at now.places.items node) ≡ length (path_at now.places.items parent) + 1
+  shorter =
+      shorter_above now.places.items now.families.items now.marks.stale now.sums.items so.shape node (prune_live old now node so other)
+      ∙ ap (λ (k : ℕ). length (path_at now.places.items k) + 1) (sym parent_is)
+
+  past : parent ≢ node
+  past same = omega (arith, shorter, ap (λ (k : ℕ). length (path_at now.places.items k)) same)
+
+  as_it_was : place_at new.places.items parent ≡ place_at now.places.items parent
+  as_it_was = ap (λ ps. place_at ps parent) places ∙ get_or-set_other now.places.items node parent None None past
+
+  pub prune_step : IsPruning old new parent
+  prune_step = record {
+    shape = shape;
+    there =
+        ap (λ (o : Option Place). (parent == 0) || is_some o) as_it_was ∙ ap (is_node now.places.items) parent_is
+        ∙ (so.shape.kept node (prune_live old now node so other)).0;
+    tree = λ content of. tree content (so.tree content of);
+    work = omega (arith, work, so.work);
+  }
+
+  pub prune_less : length (path_at new.places.items parent) + 1 ≡ length (path_at now.places.items node)
+  prune_less =
+      ap (λ (o : Option Place). length (option_map_or (λ p. p.path) o []) + 1) as_it_was ∙ sym shorter

@@ -39,3 +39,4 @@ pub mod VacantLemmas
 pub mod WitherLemmas
 pub mod BareLemmas
 pub mod SproutLemmas
+pub mod GrowLemmas

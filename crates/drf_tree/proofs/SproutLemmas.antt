@@ -32,6 +32,7 @@ use Rattle.drf_tree.proofs.ClimbLemmas.{live_within, node_within}
 use Rattle.drf_tree.proofs.NameLemmas.{last_is}
 use Rattle.drf_tree.proofs.ShapeLemmas.{IsShapeIn, shape_from, shape_in, sprouted}
 use Rattle.drf_tree.proofs.SliceLemmas.{get_set_other, get_set_same}
+use Rattle.drf_tree.proofs.VacantLemmas.{shape_same, tree_seen}
 use Rattle.drf_tree.proofs.WithLemmas.{any_with, each_with, set_family_other, set_family_same}
 
 pub none_pass : {X : Type 0} (p : X → Bool) (xs : List X) → list_any p xs ≡ false → filter p xs ≡ []
@@ -102,11 +103,80 @@ pub last_named : (above path : Path) (longer : IsOneLonger above path) (name : T
 last_named above path longer name at =
     sym (get_or_from_slice_get path (length path - 1) name [] at) ∙ ap last_part longer.joined ∙ last_is above longer.part
 
+-- where a node may come: below another, with a path that is no other's
+pub record IsReady (places : List (Option Place)) (parent : ℕ) (path : Path) : Type 0 where
+  pub there : is_node places parent ≡ true
+  pub longer : IsOneLonger (path_at places parent) path
+  pub missing : (i : ℕ) → is_live places i ≡ true → path_at places i ≢ path
+
+pub ready_seen : (old new : List (Option Place)) (parent : ℕ) (path : Path) → ((i : ℕ) → place_at new i ≡ place_at old i)
+    → IsReady old parent path → IsReady new parent path
+ready_seen old new parent path same ready = record {
+  there = ap (λ (o : Option Place). (parent == 0) || is_some o) (same parent) ∙ ready.there;
+  longer =
+      subst (λ (p : Path). IsOneLonger p path) (sym (ap (λ (o : Option Place). option_map_or (λ p. p.path) o []) (same parent)))
+      ready.longer;
+  missing = λ i live at.
+      ready.missing i (ap (λ (o : Option Place). is_some o) (sym (same i)) ∙ live)
+      (sym (ap (λ (o : Option Place). option_map_or (λ p. p.path) o []) (same i)) ∙ at);
+}
+
+-- a tree with other counts of work
+module _ (old new : Tree) (places : new.places ≡ old.places) (sums : new.sums ≡ old.sums) (families : new.families ≡ old.families)
+    (stale : new.marks.stale ≡ old.marks.stale) (shape : IsShapeOf old) where
+  at_same : (i : ℕ) → place_at new.places.items i ≡ place_at old.places.items i
+  at_same i = ap (λ ps. place_at ps.items i) places
+
+  kids_same : (i : ℕ) → children_at new.families.items i ≡ children_at old.families.items i
+  kids_same i = ap (λ fs. children_at fs.items i) families
+
+  flags_same : (i : ℕ) → slice_index_or new.marks.stale i false ≡ slice_index_or old.marks.stale i false
+  flags_same i = ap (λ flags. slice_index_or flags i false) stale
+
+  some_same : 0 < length new.places.items
+  some_same = omega (arith, ap (λ ps. length ps.items) places, shape.some)
+
+  sums_same : length new.sums.items ≡ length new.places.items
+  sums_same = omega (arith, ap (λ ps. length ps.items) places, ap (λ ss. length ss.items) sums, shape.sums_long)
+
+  families_same : length new.families.items ≡ length new.places.items
+  families_same = omega (arith, ap (λ ps. length ps.items) places, ap (λ fs. length fs.items) families, shape.families_long)
+
+  stale_same : length new.marks.stale ≡ length new.places.items
+  stale_same = omega (arith, ap (λ ps. length ps.items) places, ap length stale, shape.stale_long)
+
+  pub counted_shape : IsShapeOf new
+  counted_shape = shape_same old new at_same kids_same flags_same some_same sums_same families_same stale_same shape
+
+  pub counted_tree : (content : Content) → IsTreeOf content old → IsTreeOf content new
+  counted_tree content of =
+      tree_seen old new at_same kids_same flags_same some_same sums_same families_same stale_same content
+      (λ i live. ap (λ ss. slice_get ss.items i) sums) of
+
+-- a family that was not changed is put back
+pub kept_tree : (old new : Tree) (parent : ℕ) (f : Family) → IsShapeOf old → parent < length old.families.items
+    → f.children.items ≡ children_at old.families.items parent → new.places.items ≡ old.places.items
+    → new.sums.items ≡ old.sums.items → new.families.items ≡ slice_set old.families.items parent f
+    → new.marks.stale ≡ old.marks.stale → (content : Content) → IsTreeOf content old → IsTreeOf content new
+kept_tree old new parent f shape below same places sums families stale content of =
+    tree_seen old new (λ i. ap (λ ps. place_at ps i) places) kids (λ i. ap (λ flags. slice_index_or flags i false) stale)
+    (omega (arith, ap length places, shape.some))
+    (omega (arith, ap length places, ap length sums, shape.sums_long))
+    (omega (arith, ap length places, ap length families, length-set old.families.items parent f, shape.families_long))
+    (omega (arith, ap length places, ap length stale, shape.stale_long))
+    content (λ i live. ap (λ ss. slice_get ss i) sums) of
+  where
+    kids : (i : ℕ) → children_at new.families.items i ≡ children_at old.families.items i
+    kids i = ap (λ fs. children_at fs i) families ∙ elim (cases_eq i parent) [
+      | inl here ↦
+          ap (children_at (slice_set old.families.items parent f)) here ∙ set_family_same old.families.items parent f below ∙ same
+          ∙ ap (children_at old.families.items) (sym here)
+      | inr other ↦ set_family_other old.families.items parent i f other
+    ]
+
 module _ (old new : Tree) (shape : IsShapeOf old) (node parent : ℕ) (place : Place) (child : Child) (f : Family) (weight : ℕ)
     (within : node < length old.places.items) (vacant : is_node old.places.items node ≡ false)
-    (there : is_node old.places.items parent ≡ true)
-    (longer : IsOneLonger (path_at old.places.items parent) place.path) (right : IsNodePath place.path)
-    (missing : (i : ℕ) → is_live old.places.items i ≡ true → path_at old.places.items i ≢ place.path)
+    (ready : IsReady old.places.items parent place.path) (right : IsNodePath place.path)
     (client : IsClientPath place.path → place.client ≡ Some place.path)
     (client_is : IfSome place.client (λ c. (c ≡ place.path) × IsClientPath place.path))
     (above : place.parent ≡ parent) (number : child.node ≡ node) (key : IsKeyOfNothing place.path (key_by child.key))
@@ -115,6 +185,12 @@ module _ (old new : Tree) (shape : IsShapeOf old) (node parent : ℕ) (place : P
     (families : new.families.items ≡ slice_set old.families.items parent f)
     (stale : new.marks.stale ≡ old.marks.stale)
     (sums : new.sums.items ≡ slice_set old.sums.items node (record { held = []; count = 0; clients = 0; active = 0; weight = weight })) where
+  abbrev there : is_node old.places.items parent ≡ true
+  there = ready.there
+
+  abbrev longer : IsOneLonger (path_at old.places.items parent) place.path
+  longer = ready.longer
+
   below : parent < length old.families.items
   below = omega (arith, node_within old shape parent there, shape.families_long)
 
@@ -163,7 +239,7 @@ module _ (old new : Tree) (shape : IsShapeOf old) (node parent : ℕ) (place : P
       (sprouted (λ i. place_at old.places.items i) (λ i. place_at new.places.items i) (λ i. children_at old.families.items i)
       (λ i. children_at new.families.items i) (λ i. slice_index_or old.marks.stale i false)
       (shape_in old.places.items old.families.items old.marks.stale old.sums.items shape) node parent place child vacant there
-      put rest with_now others number above joined right missing client other_client))
+      put rest with_now others number above joined right ready.missing client other_client))
 
   pub sprout_path : path_at new.places.items node ≡ place.path
   sprout_path = ap (λ (o : Option Place). option_map_or (λ p. p.path) o []) put

@@ -1,5 +1,4 @@
-use Rattle.std.proofs.Common.{◌≡◌, ◌++◌, ◌∷◌, [], false, refl, sym, ap, ◌∙◌, arith}
-use Rattle.drf_tree.specs.declared.node.Sum.{Sum}
+use Rattle.std.proofs.Common.{[]}
 use Rattle.drf_tree.proofs.VacantLemmas.{place_more, shape_more, tree_more, tree_same}
 use Rattle.drf_tree.proofs.tree.Tree.vacant.Goals as goal
 

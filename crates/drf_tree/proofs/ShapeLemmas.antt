@@ -1,23 +1,22 @@
 -- The shape of a tree by what stands at each number: where a node comes and where one goes.
-use Rattle.std.specs.Prelude.{◌≡◌, ◌≢◌, ◌≤◌, ◌<◌, ◌+◌, ◌==◌, ℕ, zero, suc, Bool, true, false, ◌||◌, List, [], ◌∷◌, ◌++◌, Option, None, Some, length, map, slice_index_or}
+use Rattle.std.specs.Prelude.{◌≡◌, ◌≢◌, ◌<◌, ◌==◌, ℕ, Bool, true, false, ◌||◌, List, [], ◌∷◌, ◌++◌, Option, None, Some, length, map, slice_index_or}
 use Rattle.std.specs.List.{AllByRecursion, IsDistinct, list_any}
 use Rattle.std.specs.Option.{is_some, option_map_or}
-use Rattle.std.proofs.Common.{refl, sym, ap, subst, ◌∙◌, inl, inr, arith}
+use Rattle.std.proofs.Common.{refl, sym, ap, subst, ◌∙◌, inl, inr}
 use Rattle.std.proofs.lemmas.Bool.{true≢false, false≢true, cases_Bool, cases_eq, or_cases}
 use Rattle.std.specs.Cmp.Lexicographic.{bytes_decides}
-use Rattle.std.proofs.lemmas.List.{same_from_push}
 use Rattle.drf_role.specs.Text.{Text, same_text}
 use Rattle.drf_role.specs.Path.{Path, IsClientPath, IsNodePath}
-use Rattle.drf_rows.specs.ListLaws.{each_append, each_from, each_from_both, each_parts}
+use Rattle.drf_rows.specs.ListLaws.{each_from}
 use Rattle.drf_tree.specs.declared.family.Child.{Child}
 use Rattle.drf_tree.specs.declared.family.Family.{Family}
 use Rattle.drf_tree.specs.declared.node.Place.{Place}
 use Rattle.drf_tree.specs.declared.node.Sum.{Sum}
-use Rattle.drf_tree.specs.Family.{IsGone, IsWith, child_name, has_child}
-use Rattle.drf_tree.specs.Nodes.{children_at, is_live, is_node, path_at, place_at}
+use Rattle.drf_tree.specs.Family.{IsWith, child_name, has_child}
+use Rattle.drf_tree.specs.Nodes.{children_at, place_at}
 use Rattle.drf_tree.specs.Tree.{IsChildOf, IsShape}
 use Rattle.drf_tree.proofs.NameLemmas.{same_text-swap}
-use Rattle.drf_tree.proofs.WayLemmas.{equal, equal_self, not_equal}
+use Rattle.drf_tree.proofs.WayLemmas.{equal_self}
 
 -- ---- by what stands at each number
 

@@ -1,12 +1,12 @@
 -- A node without clients comes, and the tree is still that of the same clients.
-use Rattle.std.specs.Prelude.{◌≡◌, ◌≢◌, ◌≤◌, ◌<◌, ◌+◌, ◌-◌, ◌*◌, ◌==◌, ℕ, Bool, true, false, ◌||◌, cond, nat_lt, List, [], ◌∷◌, ◌++◌, Option, None, Some, IfSome, ◌⊎◌, filter, length, map, slice_get, slice_index_or, slice_set, sum_by}
+use Rattle.std.specs.Prelude.{◌≡◌, ◌≢◌, ◌<◌, ◌-◌, ◌*◌, ◌==◌, ℕ, Bool, true, false, ◌||◌, cond, nat_lt, List, [], ◌∷◌, ◌++◌, Option, None, Some, IfSome, filter, length, map, slice_get, slice_index_or, slice_set, sum_by}
 use Rattle.std.specs.Cmp.{nat_cmp_total}
 use Rattle.std.specs.List.{AllByRecursion, list_any}
 use Rattle.std.specs.Option.{is_some, option_map_or}
 use Rattle.std.specs.Ordering.{nat_cmp}
 use Rattle.std.specs.declared.cmp.Ordering.TheVariants.{Equal}
 use Rattle.std.proofs.Common.{refl, sym, ap, subst, ◌∙◌, inl, inr, arith, length-set, get_or-set_same, get_or-set_other}
-use Rattle.std.proofs.lemmas.Bool.{true≢false, false≢true, cases_Bool, cases_eq, or_cases, or_right}
+use Rattle.std.proofs.lemmas.Bool.{true≢false, cases_Bool, cases_eq, or_right}
 use Rattle.std.proofs.lemmas.Cmp.{tied_itself}
 use Rattle.std.proofs.lemmas.Option.{get_or_from_slice_get, same_Some}
 use Rattle.drf_bundle.specs.declared.quantities.Entry.{Entry}
@@ -26,9 +26,9 @@ use Rattle.drf_tree.specs.declared.tree.Tree.{Tree}
 use Rattle.drf_tree.specs.Changes.{IsKeyOfNothing, IsOneLonger, IsShapeOf}
 use Rattle.drf_tree.specs.Family.{IsSameKey, IsWith, child_name}
 use Rattle.drf_tree.specs.Nodes.{children_at, is_live, is_node, last_part, path_at, place_at}
-use Rattle.drf_tree.specs.Tree.{IsChildOf, IsMarkedOrRight, IsRight, IsSumOf, IsTreeOf}
+use Rattle.drf_tree.specs.Tree.{IsMarkedOrRight, IsSumOf, IsTreeOf}
 use Rattle.drf_tree.proofs.BareLemmas.{none_under}
-use Rattle.drf_tree.proofs.ClimbLemmas.{live_within, node_within}
+use Rattle.drf_tree.proofs.ClimbLemmas.{node_within}
 use Rattle.drf_tree.proofs.NameLemmas.{last_is}
 use Rattle.drf_tree.proofs.ShapeLemmas.{IsShapeIn, shape_from, shape_in, sprouted}
 use Rattle.drf_tree.proofs.SliceLemmas.{get_set_other, get_set_same}

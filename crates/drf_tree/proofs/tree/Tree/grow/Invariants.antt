@@ -1,4 +1,3 @@
-use Rattle.std.proofs.Common.{◌≡◌, ◌≤◌, ◌+◌, true, take}
 use Rattle.drf_sorter.specs.Plain.{plain_content}
 use Rattle.drf_tree.proofs.GrowLemmas.{IsGrowing}
 use Rattle.drf_tree.proofs.tree.Tree.grow.Given as goal

@@ -37,3 +37,5 @@ pub mod ShapeLemmas
 pub mod OpenLemmas
 pub mod VacantLemmas
 pub mod WitherLemmas
+pub mod LeafLemmas
+pub mod WeighLemmas

@@ -40,3 +40,5 @@ pub mod WitherLemmas
 pub mod BareLemmas
 pub mod SproutLemmas
 pub mod GrowLemmas
+pub mod LeafLemmas
+pub mod WeighLemmas

@@ -183,6 +183,7 @@ impl Tree {
     pub(crate) fn find<R: Route>(&self, route: &R) -> Option<usize>
         requires { IsShapeOf self.now }
         ensures found { IfSome result (λ node. (is_node self.now.places.items node ≡ true) × (path_at self.now.places.items node ≡ R.parts route.now)) }
+        ensures live { IfSome result (λ node. is_live self.now.places.items node ≡ true) }
         ensures every { (content : Content) → IsTreeOf content self.now → has_node content (R.parts route.now) ≡ true → IsSome result }
         ensures missing { result ≡ None → (i : ℕ) → is_live self.now.places.items i ≡ true → path_at self.now.places.items i ≢ R.parts route.now }
     {

@@ -1,4 +1,4 @@
-use Rattle.std.proofs.Common.{◌≡◌, refl, sym, ap, ◌∙◌, arith}
+use Rattle.std.proofs.Common.{refl, sym, ap, ◌∙◌, arith}
 use Rattle.std.specs.Prelude.{◌++◌, ◌∷◌, []}
 use Rattle.drf_role.specs.Path.{Path}
 use Rattle.drf_tree.proofs.ClimbLemmas.{node_from_live}

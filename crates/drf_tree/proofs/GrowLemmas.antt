@@ -48,6 +48,7 @@ read_front {X} xs i x at =
   where
     within_too : i < length xs → i ≤ length xs
     within_too less = omega (arith, less)
+
     last_there : (ys : List X) (i : ℕ) (x : X) → length ys ≡ i → slice_get (ys ++ x ∷ []) i ≡ Some x
     last_there [] i x long = ap (λ (k : ℕ). slice_get (x ∷ []) k) (sym long)
     last_there (y ∷ ys) i x long =

@@ -1,13 +1,13 @@
 -- What the nodes on the way to a client have room for, and what they have at least.
-use Rattle.std.specs.Prelude.{◌≡◌, ◌≤◌, ◌<◌, ◌+◌, ◌-◌, ◌^◌, ℕ, Bool, true, false, cond, ◌||◌, List, [], ◌∷◌, Some, filter, length, map, slice_get, sum_by}
+use Rattle.std.specs.Prelude.{◌≡◌, ◌≤◌, ◌<◌, ◌+◌, ◌^◌, ℕ, Bool, true, cond, ◌||◌, List, [], ◌∷◌, Some, filter, length, map, slice_get, sum_by}
 use Rattle.std.specs.List.{AllByRecursion, list_any}
-use Rattle.std.proofs.Common.{refl, sym, ap, subst, ◌∙◌, inl, inr, arith, get_or, length-map}
+use Rattle.std.proofs.Common.{refl, sym, ap, subst, ◌∙◌, inl, inr, arith, get_or}
 use Rattle.std.proofs.lemmas.Bool.{false≢true, cases_Bool, or_cases}
+use Rattle.std.proofs.lemmas.List.{length-map}
 use Rattle.std.proofs.lemmas.List.Sums.{sum_by-cons}
 use Rattle.std.proofs.lemmas.Option.{slice_get-get_or}
 use Rattle.drf_bundle.specs.Quantities.{amount_of}
 use Rattle.drf_bundle.specs.declared.quantities.Entry.{Entry}
-use Rattle.drf_role.specs.Text.{Text}
 use Rattle.drf_role.specs.Path.{Path, IsClientPath, begins_with, same_path}
 use Rattle.drf_role.specs.PathLaws.{same_path-true}
 use Rattle.drf_rows.specs.ListLaws.{each_from, length-filter_le}
@@ -23,7 +23,7 @@ use Rattle.drf_tree.proofs.ChargeLemmas.{of_charged}
 use Rattle.drf_tree.proofs.ClimbLemmas.{live_on_way, live_within}
 use Rattle.drf_tree.proofs.ContentLemmas.{below, sum_below}
 use Rattle.drf_tree.proofs.FitLemmas.{below_less, part_less}
-use Rattle.drf_tree.proofs.MoveLemmas.{AreMoved, IsChange, active_is, changed_below, is_served, length_is, none, one, total_under}
+use Rattle.drf_tree.proofs.MoveLemmas.{AreMoved, IsChange, active_is, changed_below, is_served, length_is, none, one}
 
 -- ---- clients
 

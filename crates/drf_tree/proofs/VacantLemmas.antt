@@ -121,6 +121,6 @@ module _ (old new : Tree) (sum : Sum) (places : new.places.items ≡ old.places.
   tree_more content tree =
       tree_seen old new place_more of flag_more some_more sums_more families_more stale_more content
       (λ i live.
-          ap (λ ss. slice_get ss i) sums
-          ∙ get_more old.sums.items (sum ∷ []) i (omega (arith, live_within old.places.items i live, shape.sums_long)))
+      ap (λ ss. slice_get ss i) sums
+      ∙ get_more old.sums.items (sum ∷ []) i (omega (arith, live_within old.places.items i live, shape.sums_long)))
       tree

@@ -105,9 +105,10 @@ module _ (at now : ℕ → Option Place) (kids new : ℕ → List Child) (flag f
   kept_now i is =
       let was = shape.kept i (was_live i is) in
       let same : parent_in now i ≡ parent_in at i =
-      ap (λ (o : Option Place). option_map_or (λ p. p.parent) o 0) (rest i (now_other i is)) in
-      (ap (node_in now) same ∙ still_node (parent_in at i) (not_above i (was_live i is)) was.0,
-      ap (λ (k : ℕ). has_child i (new k)) same ∙ has_now (parent_in at i) i (now_other i is) was.1)
+      ap (λ (o : Option Place). option_map_or (λ p. p.parent) o 0) (rest i (now_other i is)) in (
+        ap (node_in now) same ∙ still_node (parent_in at i) (not_above i (was_live i is)) was.0,
+        ap (λ (k : ℕ). has_child i (new k)) same ∙ has_now (parent_in at i) i (now_other i is) was.1,
+      )
     where
       has_now : (k i : ℕ) → i ≢ node → has_child i (kids k) ≡ true → has_child i (new k) ≡ true
       has_now k i other some = elim (cases_eq k parent) [

@@ -1,5 +1,5 @@
 //! Ways down the tree, part by part.
-ghost use Rattle.std.specs.Prelude.{◌≡◌, ◌<◌, Some, length, slice_get};
+ghost use Rattle.std.specs.Prelude.{◌≡◌, ◌≤◌, ◌<◌, Some, length, slice_get};
 ghost use Rattle.drf_role.specs.Path.{Path};
 
 use drf_role::{ClientPath, NodePath, Role};
@@ -9,7 +9,8 @@ pub(crate) trait Route {
     ghost parts: { Self → Path };
 
     fn len(&self) -> usize
-        ensures { result ≡ length (parts self.now) };
+        ensures len { result ≡ length (parts self.now) }
+        ensures some { 1 ≤ result };
 
     fn part(&self, i: usize) -> &str
         requires { i < length (parts self.now) }

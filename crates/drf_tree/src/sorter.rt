@@ -71,42 +71,47 @@ impl Sorter for TreeSorter {
 
     fn remove(&mut self, path: &ClientPath) {
         self.walk.stop();
-        if let Some(node) = self.tree.find(path) {
-            self.tree.dismiss(node);
-            self.tree.prune(node);
-        }
         self.ledger.remove(path);
+        let Some(node) = self.tree.find(path) else {
+            return;
+        };
+        self.tree.dismiss(node);
+        self.tree.prune(node);
     }
 
     fn set_active(&mut self, path: &ClientPath, active: bool) {
         self.walk.stop();
         self.ledger.set_active(path, active);
-        if let Some(node) = self.tree.find(path) {
-            self.tree.set_active(node, active);
-        }
+        let Some(node) = self.tree.find(path) else {
+            return;
+        };
+        self.tree.set_active(node, active);
     }
 
     fn charge(&mut self, path: &ClientPath, quantities: &Quantities) -> Result<(), AllocError> {
-        if let Some(node) = self.tree.find(path) {
-            let raised = self.tree.raised(node, quantities)?;
-            self.ledger.charge(path, quantities)?;
-            self.tree.charge(node, raised);
-        }
+        let Some(node) = self.tree.find(path) else {
+            return Ok(());
+        };
+        let raised = self.tree.raised(node, quantities)?;
+        self.ledger.charge(path, quantities)?;
+        self.tree.charge(node, raised);
         Ok(())
     }
 
     fn undo_charge(&mut self, path: &ClientPath, quantities: &Quantities) {
         self.ledger.undo_charge(path, quantities);
-        if let Some(node) = self.tree.find(path) {
-            self.tree.lower(node, quantities, 1);
-        }
+        let Some(node) = self.tree.find(path) else {
+            return;
+        };
+        self.tree.lower(node, quantities, 1);
     }
 
     fn refund(&mut self, path: &ClientPath, quantities: &Quantities) {
         self.ledger.refund(path, quantities);
-        if let Some(node) = self.tree.find(path) {
-            self.tree.lower(node, quantities, 0);
-        }
+        let Some(node) = self.tree.find(path) else {
+            return;
+        };
+        self.tree.lower(node, quantities, 0);
     }
 
     fn set_total(&mut self, total: Quantities) {
@@ -116,9 +121,10 @@ impl Sorter for TreeSorter {
 
     fn set_weight(&mut self, role: &Role, weight: u64) -> Result<(), AllocError> {
         self.ledger.set_weight(role, weight)?;
-        if let Some(node) = self.tree.find(role) {
-            self.tree.weigh(node, weight);
-        }
+        let Some(node) = self.tree.find(role) else {
+            return Ok(());
+        };
+        self.tree.weigh(node, weight);
         Ok(())
     }
 

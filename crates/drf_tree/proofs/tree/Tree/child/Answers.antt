@@ -1,12 +1,8 @@
 use Rattle.std.proofs.Common.{◌≡◌, ◌<◌, length, None, Some, ap, sym, subst, ◌∙◌, arith}
-use Rattle.std.specs.List.{AllByRecursion, list_any, position}
-use Rattle.drf_role.specs.Text.{same_text}
+use Rattle.std.specs.List.{AllByRecursion, position}
 use Rattle.drf_tree.specs.declared.family.Child.{Child}
-use Rattle.drf_tree.specs.declared.family.Family.{Family}
-use Rattle.drf_tree.specs.Family.{child_name}
 use Rattle.drf_tree.specs.Nodes.{children_at, is_named_at}
 use Rattle.drf_tree.specs.Tree.{IsChildOf}
-use Rattle.std.proofs.Common.{List, map, false}
 use Rattle.drf_tree.proofs.ClimbLemmas.{node_within}
 use Rattle.drf_tree.proofs.NameLemmas.{children_read, none_named, one_named}
 use Rattle.drf_tree.proofs.tree.Tree.child.Goals as goal

@@ -1,4 +1,4 @@
-use Rattle.std.proofs.Common.{◌≡◌, ◌≤◌, true, length, take}
+use Rattle.std.proofs.Common.{◌≡◌, true, take}
 use Rattle.drf_tree.specs.Nodes.{is_node, path_at}
 use Rattle.drf_tree.proofs.tree.Tree.find.Given as goal
 

@@ -39,3 +39,4 @@ pub mod VacantLemmas
 pub mod WitherLemmas
 pub mod LeafLemmas
 pub mod WeighLemmas
+pub mod ShareLemmas

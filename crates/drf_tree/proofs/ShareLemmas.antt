@@ -1,5 +1,5 @@
 -- The shares of a node, from its sum.
-use Rattle.std.specs.Prelude.{◌≡◌, ◌≤◌, ◌<◌, ℕ, Bool, true, false, cond, List, [], ◌∷◌, Some, filter, length, slice_get}
+use Rattle.std.specs.Prelude.{◌≡◌, ◌≤◌, ◌<◌, ℕ, Bool, true, false, cond, ◌||◌, List, [], ◌∷◌, Some, filter, length, slice_get}
 use Rattle.std.specs.List.{list_any}
 use Rattle.std.proofs.Common.{refl, subst, ◌∙◌, arith}
 use Rattle.drf_bundle.specs.Quantities.{amount_of}
@@ -24,8 +24,8 @@ any_is p [] = (λ some. absurd (omega (arith, some)), λ none. refl)
 any_is {X} p (x ∷ xs) = by (p x) (any_is p xs)
   where
     by : (b : Bool) → (0 < length (filter p xs) → list_any p xs ≡ true) × (length (filter p xs) ≡ 0 → list_any p xs ≡ false)
-        → (0 < length (cond b (x ∷ filter p xs) (filter p xs)) → cond b true (list_any p xs) ≡ true)
-        × (length (cond b (x ∷ filter p xs) (filter p xs)) ≡ 0 → cond b true (list_any p xs) ≡ false)
+        → (0 < length (cond b (x ∷ filter p xs) (filter p xs)) → (b || list_any p xs) ≡ true)
+        × (length (cond b (x ∷ filter p xs) (filter p xs)) ≡ 0 → (b || list_any p xs) ≡ false)
     by true rest = (λ some. refl, λ none. absurd (omega (arith, none)))
     by false rest = rest
 

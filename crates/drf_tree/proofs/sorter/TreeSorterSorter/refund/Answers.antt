@@ -1,11 +1,8 @@
-use Rattle.std.specs.Prelude.{◌≡◌, List, Some, true}
-use Rattle.std.proofs.Common.{ap, refl, subst, sym, ◌∙◌}
+use Rattle.std.proofs.Common.{ap, refl, subst, sym}
 use Rattle.std.proofs.lemmas.Bool.{false≢true}
-use Rattle.drf_role.specs.Path.{Path}
-use Rattle.drf_sorter.specs.Content.{Content, Ranked, refunded, HoldsAt, active_paths, has_client, with_change}
+use Rattle.drf_sorter.specs.Content.{Content, Ranked, refunded, HoldsAt, with_change}
 use Rattle.drf_sorter.specs.Plain.{plain_content}
 use Rattle.drf_sorter.specs.declared.plain.PlainSorter.{PlainSorter}
-use Rattle.drf_tree.specs.Nodes.{client_at}
 use Rattle.drf_tree.specs.Sorter.{Sorted}
 use Rattle.drf_tree.specs.Tree.{IsTreeOf}
 use Rattle.drf_tree.proofs.KeptLemmas.{active_stays, kept_along}

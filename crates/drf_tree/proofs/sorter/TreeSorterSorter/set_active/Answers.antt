@@ -1,11 +1,7 @@
-use Rattle.std.specs.Prelude.{◌≡◌, List, Some, true}
-use Rattle.std.proofs.Common.{ap, refl, subst, sym, ◌∙◌}
+use Rattle.std.proofs.Common.{ap, subst, sym}
 use Rattle.std.proofs.lemmas.Bool.{false≢true}
-use Rattle.drf_role.specs.Path.{Path}
-use Rattle.drf_sorter.specs.Content.{Content, activated, active_paths, has_client, with_change}
+use Rattle.drf_sorter.specs.Content.{Content}
 use Rattle.drf_sorter.specs.Plain.{plain_content}
-use Rattle.drf_sorter.specs.declared.plain.PlainSorter.{PlainSorter}
-use Rattle.drf_tree.specs.Nodes.{client_at}
 use Rattle.drf_tree.specs.Sorter.{Sorted}
 use Rattle.drf_tree.specs.Tree.{IsTreeOf}
 use Rattle.drf_tree.proofs.KeptLemmas.{stopped}

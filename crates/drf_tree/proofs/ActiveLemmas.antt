@@ -50,11 +50,12 @@ module _ (f : Ranked → ℕ) (path : Path) (right : IsClientPath path) where
         let nothing : below path f c ≡ 0 =
         ap (λ (b : Bool). cond b (f c) 0) (client_paths-apart c.path path all.0 right differ) in
         let whole : sum_by (below path f) cs ≡ sum_by (below path f) (c ∷ cs) =
-        omega (arith, sum_by-cons (below path f) c cs, nothing) in
-        (λ is. absurd (true≢false (sym is ∙ past)),
-        each_from (λ (d : Ranked). same_path d.path path ≡ true → f d ≡ sum_by (below path f) cs)
-        (λ (d : Ranked). same_path d.path path ≡ true → f d ≡ sum_by (below path f) (c ∷ cs)) cs
-        (λ d so is. so is ∙ whole) (only_at cs all.1 (IsDistinct-tail same_path c.path (map (λ (c : Ranked). c.path) cs) distinct)))
+        omega (arith, sum_by-cons (below path f) c cs, nothing) in (
+          λ is. absurd (true≢false (sym is ∙ past)),
+          each_from (λ (d : Ranked). same_path d.path path ≡ true → f d ≡ sum_by (below path f) cs)
+              (λ (d : Ranked). same_path d.path path ≡ true → f d ≡ sum_by (below path f) (c ∷ cs)) cs
+              (λ d so is. so is ∙ whole) (only_at cs all.1 (IsDistinct-tail same_path c.path (map (λ (c : Ranked). c.path) cs) distinct)),
+        )
   ]
     where
       others_far : (ds : List Ranked) → AllByRecursion (λ p. same_path path p ≡ false) (map (λ (c : Ranked). c.path) ds) → (n : ℕ)
@@ -87,12 +88,14 @@ activated_tree content path active now before old new leaf node sum tree live at
   where
     is : (path_at old.places.items leaf ≡ path) × IsClientPath path
     is = tree.shape.others leaf path at
+
     all : before ≡ sum_by (below path is_served) content.clients
     all =
         before_is ∙ (tree.sums leaf sum live there).active
         ∙ active_is (clients_under content (path_at old.places.items leaf))
         ∙ ap (λ p. total_under is_served content p) is.0
         ∙ sum_below path is_served content.clients
+
     here : (c : Ranked) → (same_path c.path path ≡ true → is_served c ≡ sum_by (below path is_served) content.clients)
         → same_path c.path path ≡ true → IsChange (of_active before) (of_active now) c (activated active c)
     here c only same =

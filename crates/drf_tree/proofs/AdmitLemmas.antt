@@ -1,18 +1,17 @@
 -- One more client.
-use Rattle.std.specs.Prelude.{◌≡◌, ◌+◌, ℕ, Bool, true, false, List, Some, length, map, slice_index_or}
-use Rattle.std.specs.List.{AllByRecursion, IsDistinct}
+use Rattle.std.specs.Prelude.{◌≡◌, ◌+◌, ℕ, true, false, Some, length, slice_index_or}
 use Rattle.std.proofs.Common.{refl, sym, ap, subst, ◌∙◌, inl, inr, arith}
 use Rattle.std.proofs.lemmas.Bool.{cases_Bool}
 use Rattle.drf_role.specs.Text.{Text}
-use Rattle.drf_role.specs.Path.{Path, IsClientPath, begins_with}
+use Rattle.drf_role.specs.Path.{Path, begins_with}
 use Rattle.drf_sorter.specs.Content.{Content, has_client, with_client}
 use Rattle.drf_tree.specs.declared.node.Sum.{Sum}
 use Rattle.drf_tree.specs.declared.tree.Tree.{Tree}
-use Rattle.drf_tree.specs.Nodes.{client_at, is_live, path_at}
+use Rattle.drf_tree.specs.Nodes.{client_at, is_live}
 use Rattle.drf_tree.specs.Tree.{AreRight, IsTreeOf}
 use Rattle.drf_tree.proofs.ClimbLemmas.{IsClimbing, climb_end}
 use Rattle.drf_tree.proofs.CompleteLemmas.{complete_with, distinct_with, paths_with}
-use Rattle.drf_tree.proofs.MoveLemmas.{AreMoved, IsMoved, added_below, added_beside, none, of_newcomer, total_under}
+use Rattle.drf_tree.proofs.MoveLemmas.{IsMoved, added_below, added_beside, none, of_newcomer, total_under}
 use Rattle.drf_tree.proofs.TreeLemmas.{right_kept, shape_again, sums_after, tree_from}
 
 pub is_admitted : (s : Sum) → IsMoved none of_newcomer s (record s { clients = s.clients + 1; active = s.active + 1 })
@@ -45,6 +44,7 @@ admitted content path old now leaf node tree live at none_yet so marks root =
       | inl begins ↦ omega (arith, (added_below content path p begins).held label)
       | inr other ↦ omega (arith, (added_beside content path p other).held label)
     ]
+
     count : (p : Path) → total_under (λ c. c.count) (with_client content path) p ≡ total_under (λ c. c.count) content p
     count p = elim (cases_Bool (begins_with path p)) [
       | inl begins ↦ omega (arith, (added_below content path p begins).count)

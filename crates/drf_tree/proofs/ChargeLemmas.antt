@@ -1,5 +1,5 @@
 -- A client gets more.
-use Rattle.std.specs.Prelude.{◌≡◌, ◌≢◌, ◌≤◌, ◌<◌, ◌+◌, ◌-◌, ℕ, zero, suc, true, List, [], ◌∷◌, ◌++◌, Option, Some, length, map, slice_get, slice_index_or, slice_set}
+use Rattle.std.specs.Prelude.{◌≡◌, ◌≢◌, ◌+◌, ◌-◌, ℕ, zero, suc, true, List, [], ◌∷◌, ◌++◌, Option, Some, length, slice_get, slice_index_or, slice_set}
 use Rattle.std.specs.List.{AllByRecursion}
 use Rattle.std.proofs.Common.{refl, sym, ap, subst, ◌∙◌, inl, inr, arith, append_assoc, length-append}
 use Rattle.std.proofs.lemmas.Bool.{cases_eq}
@@ -141,7 +141,7 @@ charged_tree content path quantities old now leaf node raised left tree at has a
           is_charged quantities old.places.items raised i (length (path_at old.places.items i) - 1) s t (omega (arith, deep))
           (done.passed i s t on deep was is)
           (λ held there.
-              all.each i (length (path_at old.places.items i) - 1) s held on (omega (arith, deep)) was there);
+          all.each i (length (path_at old.places.items i) - 1) s held on (omega (arith, deep)) was there);
       ahead = done.ahead;
       beside = done.beside;
     }
@@ -149,6 +149,7 @@ charged_tree content path quantities old now leaf node raised left tree at has a
   where
     done : AreChanged old.places.items leaf 0 (IsReplaced old.places.items raised) old.sums.items now.sums.items
     done = climb_end old now tree.shape leaf node (IsReplaced old.places.items raised) so.climb root
+
     each_any : (P : Ranked → Type 0) → ((c : Ranked) → P c) → (cs : List Ranked) → AllByRecursion P cs
     each_any P so [] = tt
     each_any P so (c ∷ cs) = (so c, each_any P so cs)
@@ -183,10 +184,11 @@ module _ (tree : Tree) (shape : IsShapeOf tree) (leaf : ℕ) (quantities : List 
   pub raising_sum : (node : ℕ) (raised : List (List Entry)) → IsRaising tree leaf quantities node raised → node ≢ 0
       → (s : Sum) → s ≡ slice_index_or tree.sums.items node s
       → (on_way tree.places.items leaf node ≡ true) × (slice_get tree.sums.items node ≡ Some s)
-  raising_sum node raised so other s is =
-      (raising_on node raised so other,
-      slice_get_read tree.sums.items (length tree.sums.items) node s refl
-      (omega (arith, live_within tree.places.items node (raising_live node raised so other), shape.sums_long)) is)
+  raising_sum node raised so other s is = (
+    raising_on node raised so other,
+    slice_get_read tree.sums.items (length tree.sums.items) node s refl
+        (omega (arith, live_within tree.places.items node (raising_live node raised so other), shape.sums_long)) is,
+  )
 
   pub raising_less : (node : ℕ) (raised : List (List Entry)) → IsRaising tree leaf quantities node raised → node ≢ 0
       → length (path_at tree.places.items (parent_at tree.places.items node)) + 1 ≡ length (path_at tree.places.items node)
@@ -209,6 +211,7 @@ module _ (tree : Tree) (shape : IsShapeOf tree) (leaf : ℕ) (quantities : List 
     where
       less : length (path_at tree.places.items (parent_at tree.places.items node)) + 1 ≡ length (path_at tree.places.items node)
       less = raising_less node raised so other
+
       each_now : (i k : ℕ) (sum : Sum) (h : List Entry) → on_way tree.places.items leaf i ≡ true
           → length (path_at tree.places.items i) ≡ length (path_at tree.places.items (parent_at tree.places.items node)) + k + 1
           → slice_get tree.sums.items i ≡ Some sum → slice_get (held ∷ raised) k ≡ Some h

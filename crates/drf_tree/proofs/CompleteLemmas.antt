@@ -1,10 +1,10 @@
 -- Each part of a path on the way to a node is a child's name, so a new client at a leaf leaves the ways complete.
-use Rattle.std.specs.Prelude.{◌≡◌, ◌≢◌, ◌≤◌, ◌<◌, ◌+◌, ℕ, zero, suc, Bool, true, false, ◌||◌, ◌==◌, List, [], ◌∷◌, ◌++◌, Option, ◌⊎◌, drop, length, map}
+use Rattle.std.specs.Prelude.{◌≡◌, ◌≤◌, ◌+◌, ℕ, zero, suc, Bool, true, false, ◌||◌, ◌==◌, List, [], ◌∷◌, ◌++◌, Option, drop, length, map}
 use Rattle.std.specs.Cmp.{IsEquivalence}
 use Rattle.std.specs.Cmp.Lexicographic.{lists_equiv, nat_list_eq_equiv}
 use Rattle.std.specs.List.{AllByRecursion, IsDistinct, list_any}
 use Rattle.std.proofs.Common.{refl, sym, ap, subst, ◌∙◌, inl, inr, arith, length-append, append_assoc}
-use Rattle.std.proofs.lemmas.Bool.{true≢false, false≢true, cases_Bool, or_cases}
+use Rattle.std.proofs.lemmas.Bool.{true≢false, false≢true, or_cases}
 use Rattle.std.proofs.lemmas.List.{append-nil, map-append, same_from_push}
 use Rattle.std.proofs.lemmas.List.Folds.{list_any-append}
 use Rattle.std.proofs.lemmas.Map.Keys.{IsDistinct-push}
@@ -12,7 +12,7 @@ use Rattle.drf_role.specs.Text.{Text, same_text}
 use Rattle.drf_role.specs.TextLaws.{same_itself}
 use Rattle.drf_role.specs.Path.{Path, IsClientPath, begins_with, same_path}
 use Rattle.drf_role.specs.PathLaws.{same_path-swap, same_path-true}
-use Rattle.drf_rows.specs.ListLaws.{each_append, list_any-map}
+use Rattle.drf_rows.specs.ListLaws.{each_append}
 use Rattle.drf_sorter.specs.Content.{Content, Ranked, has_client, with_client}
 use Rattle.drf_tree.specs.declared.family.Child.{Child}
 use Rattle.drf_tree.specs.declared.family.Family.{Family}
@@ -45,6 +45,7 @@ named_there places node leaf part (c ∷ cs) all some whole = elim (or_cases (c.
     first_of_two : (a b : Bool) → a ≡ true → (a || b) ≡ true
     first_of_two true b first = refl
     first_of_two false b first = absurd (false≢true first)
+
     second_of_two : (a b : Bool) → b ≡ true → (a || b) ≡ true
     second_of_two true b second = refl
     second_of_two false b second = second
@@ -80,14 +81,15 @@ module _ (places : List (Option Place)) (families : List Family) (stale : List B
   way_named (suc most) leaf i part few live node begins =
       by
       (λ front.
-          let less : length (path_at places leaf) ≡ length (path_at places above) + 1 =
-          shorter_above places families stale sums shape leaf live in
-          way_named most above i part (omega (arith, less, few)) (live_above front) node front)
+      let less : length (path_at places leaf) ≡ length (path_at places above) + 1 =
+      shorter_above places families stale sums shape leaf live in
+      way_named most above i part (omega (arith, less, few)) (live_above front) node front)
       (drop (length (path_at places i ++ part ∷ [])) (path_at places leaf))
       (begins_to (path_at places leaf) (path_at places i ++ part ∷ []) begins)
     where
       above : ℕ
       above = parent_at places leaf
+
       live_above : begins_with (path_at places above) (path_at places i ++ part ∷ []) ≡ true → is_live places above ≡ true
       live_above front =
           live_from places families stale sums shape above (shape.kept leaf live).0
@@ -96,6 +98,7 @@ module _ (places : List (Option Place)) (families : List Family) (stale : List B
             begins_long (path_at places above) (path_at places i ++ part ∷ []) front,
             length-append (path_at places i) (part ∷ []),
           ))
+
       by : (begins_with (path_at places above) (path_at places i ++ part ∷ []) ≡ true
           → list_any (same_text part) (map child_name (children_at families i)) ≡ true)
           → (rest : Path) → path_at places leaf ≡ (path_at places i ++ part ∷ []) ++ rest

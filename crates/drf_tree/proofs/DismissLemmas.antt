@@ -1,26 +1,26 @@
 -- A client is gone, with all that it held.
-use Rattle.std.specs.Prelude.{◌≡◌, ◌≢◌, ◌≤◌, ◌+◌, ◌-◌, ℕ, Bool, true, false, not, ◌||◌, cond, List, [], ◌∷◌, Some, filter, length, map, slice_get, slice_index_or, sum_by}
+use Rattle.std.specs.Prelude.{◌≡◌, ◌≤◌, ◌+◌, ◌-◌, ℕ, Bool, true, false, not, ◌||◌, cond, List, [], ◌∷◌, Some, filter, map, slice_get, slice_index_or, sum_by}
 use Rattle.std.specs.List.{AllByRecursion, IsDistinct, list_any}
 use Rattle.std.proofs.Common.{refl, sym, ap, subst, ◌∙◌, inl, inr, arith}
-use Rattle.std.proofs.lemmas.Bool.{true≢false, false≢true, cases_Bool}
+use Rattle.std.proofs.lemmas.Bool.{cases_Bool}
 use Rattle.std.proofs.lemmas.List.Sums.{sum_by-cons}
 use Rattle.std.proofs.lemmas.Map.Keys.{IsDistinct-head, IsDistinct-tail}
 use Rattle.drf_bundle.specs.Quantities.{amount_of, minus}
 use Rattle.drf_bundle.specs.QuantitiesLaws.{amount-minus}
 use Rattle.drf_bundle.specs.declared.quantities.Entry.{Entry}
-use Rattle.drf_role.specs.Text.{Text, same_text}
+use Rattle.drf_role.specs.Text.{Text}
 use Rattle.drf_role.specs.Path.{Path, IsClientPath, begins_with, same_path}
 use Rattle.drf_role.specs.PathLaws.{same_path-true}
-use Rattle.drf_sorter.specs.Content.{Content, Ranked, clients_under, has_client, standing_in, without_client}
+use Rattle.drf_sorter.specs.Content.{Content, Ranked, clients_under, standing_in, without_client}
 use Rattle.drf_tree.specs.declared.node.Sum.{Sum}
 use Rattle.drf_tree.specs.declared.tree.Tree.{Tree}
 use Rattle.drf_tree.specs.Changes.{IsLeast, OnWay}
 use Rattle.drf_tree.specs.Nodes.{client_at, is_live, path_at}
-use Rattle.drf_tree.specs.Tree.{IsComplete, IsSumOf, IsTreeOf}
+use Rattle.drf_tree.specs.Tree.{IsSumOf, IsTreeOf}
 use Rattle.drf_tree.proofs.ChangeLemmas.{unmarked_after}
 use Rattle.drf_tree.proofs.ClimbLemmas.{AreChanged, AreMarked, IsClimbing, IsMarking, climb_end, marking_end}
 use Rattle.drf_tree.proofs.ContentLemmas.{below, sum_below}
-use Rattle.drf_tree.proofs.MoveLemmas.{Amounts, AreMoved, IsMoved, active_is, amounts_in, is_served, length_is, none, one, total_under}
+use Rattle.drf_tree.proofs.MoveLemmas.{AreMoved, IsMoved, active_is, amounts_in, is_served, length_is, none, one, total_under}
 use Rattle.drf_tree.proofs.SliceLemmas.{same_read}
 use Rattle.drf_tree.proofs.SumLemmas.{stays, sum_parted}
 use Rattle.drf_tree.proofs.TreeLemmas.{right_marked, shape_again, sums_after, tree_from}
@@ -151,9 +151,11 @@ module _ (keep : Ranked → Bool) where
       join : (a b d : Bool) → (b ≡ true → d ≡ true) → (a || b) ≡ true → (a || d) ≡ true
       join true b d so is = refl
       join false b d so is = so is
+
       second : (a b : Bool) → b ≡ true → (a || b) ≡ true
       second true b is = refl
       second false b is = is
+
       by : (b : Bool)
           → (list_any p (map (λ (c : Ranked). c.path) (filter keep cs)) ≡ true → list_any p (map (λ (c : Ranked). c.path) cs) ≡ true)
           → list_any p (map (λ (c : Ranked). c.path) (cond b (c ∷ filter keep cs) (filter keep cs))) ≡ true
@@ -172,9 +174,11 @@ module _ (keep : Ranked → Bool) where
     where
       by : (b : Bool) → IsDistinct same_path (map (λ (c : Ranked). c.path) (filter keep cs))
           → IsDistinct same_path (map (λ (c : Ranked). c.path) (cond b (c ∷ filter keep cs) (filter keep cs)))
-      by true rest =
-          (paths_all (λ p. same_path c.path p ≡ false) cs
-          (IsDistinct-head same_path c.path (map (λ (c : Ranked). c.path) cs) distinct), rest)
+      by true rest = (
+        paths_all (λ p. same_path c.path p ≡ false) cs
+            (IsDistinct-head same_path c.path (map (λ (c : Ranked). c.path) cs) distinct),
+        rest,
+      )
       by false rest = rest
 
 pub dismissed_tree : (content : Content) (path : Path) (old now : Tree) (leaf node : ℕ) (gone : Sum) → IsTreeOf content old
@@ -196,15 +200,20 @@ dismissed_tree content path old now leaf node gone tree live at there so marking
   where
     is : (path_at old.places.items leaf ≡ path) × IsClientPath path
     is = tree.shape.others leaf path at
+
     of : IsSumOf content path gone
     of = subst (λ (p : Path). IsSumOf content p gone) is.0 (tree.sums leaf gone live there)
+
     done : AreChanged old.places.items leaf 0 (λ i. IsMoved (amounts_in gone) none) old.sums.items now.sums.items
     done = climb_end old now tree.shape leaf node (λ i. IsMoved (amounts_in gone) none) so root
+
     marks : AreMarked old.places.items leaf 0 old.marks.stale now.marks.stale
     marks = marking_end old now tree.shape leaf node (λ i. IsMoved (amounts_in gone) none) marking root
+
     on : (p : Path) → begins_with (path_at old.places.items leaf) p ≡ true
         → AreMoved (amounts_in gone) none content (without_client content path) p
     on p begins = gone_below content path p gone of is.1 (ap (λ q. begins_with q p) (sym is.0) ∙ begins) tree.paths
+
     off : (p : Path) → begins_with (path_at old.places.items leaf) p ≡ false
         → AreMoved none none content (without_client content path) p
     off p other = gone_beside content path p (ap (λ q. begins_with q p) (sym is.0) ∙ other)

@@ -1,8 +1,8 @@
 -- Going down along the parts of a path.
-use Rattle.std.specs.Prelude.{◌≡◌, ◌≢◌, ◌≤◌, ◌<◌, ◌+◌, ℕ, zero, suc, Bool, true, false, ◌||◌, List, [], ◌∷◌, ◌++◌, Option, None, Some, drop, length, map, slice_get, take}
+use Rattle.std.specs.Prelude.{◌≡◌, ◌≢◌, ◌≤◌, ◌+◌, ℕ, zero, suc, Bool, true, false, ◌||◌, List, [], ◌∷◌, ◌++◌, Some, drop, length, map, slice_get, take}
 use Rattle.std.specs.List.{list_any}
 use Rattle.std.proofs.Common.{refl, sym, ap, subst, ◌∙◌, inl, inr, arith, append_assoc}
-use Rattle.std.proofs.lemmas.Bool.{true≢false, false≢true, or_cases}
+use Rattle.std.proofs.lemmas.Bool.{false≢true, or_cases, or_left, or_right}
 use Rattle.drf_role.specs.Text.{Text, same_text}
 use Rattle.drf_role.specs.Path.{Path, begins_with, same_path}
 use Rattle.drf_role.specs.PathLaws.{path_decides}
@@ -13,7 +13,7 @@ use Rattle.drf_tree.specs.Family.{child_name}
 use Rattle.drf_tree.specs.Nodes.{children_at, is_live, is_node, path_at}
 use Rattle.drf_tree.specs.Tree.{IsTreeOf}
 use Rattle.drf_tree.proofs.CompleteLemmas.{way_named}
-use Rattle.drf_tree.proofs.PathLemmas.{begins_by, begins_to}
+use Rattle.drf_tree.proofs.PathLemmas.{begins_by, begins_itself, begins_to}
 
 -- a list around one of its elements
 pub around : {X : Type 0} (xs : List X) (i : ℕ) (x : X) → slice_get xs i ≡ Some x → xs ≡ take i xs ++ x ∷ drop (i + 1) xs
@@ -51,6 +51,17 @@ any_below node (c ∷ cs) some = elim (or_cases (begins_with c.path node) (list_
     second : (a b : Bool) → b ≡ true → (a || b) ≡ true
     second true b is = refl
     second false b is = is
+
+-- a client is below its own path
+pub client_below : (path : Path) (cs : List Ranked) → list_any (λ c. same_path c.path path) cs ≡ true
+    → list_any (λ c. begins_with c.path path) cs ≡ true
+client_below path [] some = absurd (false≢true some)
+client_below path (c ∷ cs) some = elim (or_cases (same_path c.path path) (list_any (λ c. same_path c.path path) cs) some) [
+  | inl here ↦
+      or_left (begins_with c.path path) (list_any (λ c. begins_with c.path path) cs)
+      (ap (λ (p : Path). begins_with p path) ((path_decides c.path path).0 here) ∙ begins_itself path)
+  | inr past ↦ or_right (begins_with c.path path) (list_any (λ c. begins_with c.path path) cs) (client_below path cs past)
+]
 
 module _ (tree : Tree) (shape : IsShapeOf tree) (node i : ℕ) (parts : Path) (name : Text)
     (there : is_node tree.places.items node ≡ true) (at : path_at tree.places.items node ≡ take i parts)

@@ -1,5 +1,5 @@
 -- What a node has is within what the nodes above it have, and within the cluster.
-use Rattle.std.specs.Prelude.{◌≡◌, ◌≤◌, ℕ, Bool, true, false, cond, List, filter, length, sum_by}
+use Rattle.std.specs.Prelude.{◌≡◌, ◌≤◌, ℕ, Bool, true, false, cond, List, filter, sum_by}
 use Rattle.std.proofs.Common.{refl, ap, arith}
 use Rattle.std.proofs.lemmas.List.Sums.{sum_by-le-sum_by}
 use Rattle.drf_role.specs.Path.{Path, begins_with}

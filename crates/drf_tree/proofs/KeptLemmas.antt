@@ -1,6 +1,6 @@
 -- A sorter is kept where its walk stands over the same places and families.
-use Rattle.std.specs.Prelude.{◌≡◌, ℕ, Bool, true, false, cond, List, [], ◌∷◌, Option, filter, map}
-use Rattle.std.proofs.Common.{ap, refl, subst, sym, ◌∙◌, arith}
+use Rattle.std.specs.Prelude.{◌≡◌, Bool, true, false, cond, List, [], ◌∷◌, Option, filter, map}
+use Rattle.std.proofs.Common.{ap, arith, refl, subst, sym, ◌∙◌}
 use Rattle.drf_role.specs.Path.{Path, same_path}
 use Rattle.drf_sorter.specs.Content.{Content, Ranked, active_paths, with_change}
 use Rattle.drf_sorter.specs.Plain.{plain_content}

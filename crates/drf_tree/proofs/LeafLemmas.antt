@@ -1,14 +1,13 @@
 -- What the nodes on the way to a client have room for, and what they have at least.
-use Rattle.std.specs.Prelude.{◌≡◌, ◌≤◌, ◌<◌, ◌+◌, ◌-◌, ◌^◌, ℕ, Bool, true, false, cond, ◌||◌, List, [], ◌∷◌, Some, filter, length, map, slice_get, sum_by}
+use Rattle.std.specs.Prelude.{◌≡◌, ◌≤◌, ◌<◌, ◌+◌, ◌-◌, ◌^◌, ℕ, Bool, true, cond, ◌||◌, List, [], ◌∷◌, Some, filter, length, map, slice_get, sum_by}
 use Rattle.std.specs.List.{AllByRecursion, list_any}
 use Rattle.std.proofs.Common.{refl, sym, ap, subst, ◌∙◌, inl, inr, arith, get_or}
-use Rattle.std.proofs.lemmas.Bool.{false≢true, cases_Bool, or_cases, or_left, or_right}
+use Rattle.std.proofs.lemmas.Bool.{false≢true, cases_Bool, or_cases}
 use Rattle.std.proofs.lemmas.List.{length-map}
 use Rattle.std.proofs.lemmas.List.Sums.{sum_by-cons}
 use Rattle.std.proofs.lemmas.Option.{slice_get-get_or}
 use Rattle.drf_bundle.specs.Quantities.{amount_of}
 use Rattle.drf_bundle.specs.declared.quantities.Entry.{Entry}
-use Rattle.drf_role.specs.Text.{Text}
 use Rattle.drf_role.specs.Path.{Path, IsClientPath, begins_with, same_path}
 use Rattle.drf_role.specs.PathLaws.{same_path-true}
 use Rattle.drf_rows.specs.ListLaws.{each_from, length-filter_le}
@@ -24,8 +23,7 @@ use Rattle.drf_tree.proofs.ChargeLemmas.{of_charged}
 use Rattle.drf_tree.proofs.ClimbLemmas.{live_on_way, live_within}
 use Rattle.drf_tree.proofs.ContentLemmas.{below, sum_below}
 use Rattle.drf_tree.proofs.FitLemmas.{below_less, part_less}
-use Rattle.drf_tree.proofs.PathLemmas.{begins_itself}
-use Rattle.drf_tree.proofs.MoveLemmas.{AreMoved, IsChange, active_is, changed_below, is_served, length_is, none, one, total_under}
+use Rattle.drf_tree.proofs.MoveLemmas.{AreMoved, IsChange, active_is, changed_below, is_served, length_is, none, one}
 
 -- ---- clients
 
@@ -45,20 +43,6 @@ pub leaf_of : (content : Content) (tree : Tree) (leaf : ℕ) (path : Path) → I
 leaf_of content tree leaf path of has live at =
     of.shape.clients leaf live (subst IsClientPath (sym at) (right_path path content.clients of.paths has))
     ∙ ap (λ (p : Path). Some p) at
-
--- and a client is below it
-pub node_of_client : (content : Content) (path : Path) → has_client content path ≡ true → has_node content path ≡ true
-node_of_client content path has = by content.clients has
-  where
-    by : (cs : List Ranked) → list_any (λ c. same_path c.path path) cs ≡ true
-        → list_any (λ c. begins_with c.path path) cs ≡ true
-    by [] some = some
-    by (c ∷ cs) some = elim (or_cases (same_path c.path path) (list_any (λ c. same_path c.path path) cs) some) [
-      | inl here ↦
-          or_left (begins_with c.path path) (list_any (λ c. begins_with c.path path) cs)
-          (ap (λ (p : Path). begins_with p path) (same_path-true c.path path here) ∙ begins_itself path)
-      | inr past ↦ or_right (begins_with c.path path) (list_any (λ c. begins_with c.path path) cs) (by cs past)
-    ]
 
 -- a client of a ledger is one of what contracts see
 pub known_in : (inside seen : PlainSorter) (path : Path) → inside ≡ seen → has_client (plain_content seen) path ≡ true

@@ -37,6 +37,9 @@ pub mod ShapeLemmas
 pub mod OpenLemmas
 pub mod VacantLemmas
 pub mod WitherLemmas
+pub mod BareLemmas
+pub mod SproutLemmas
+pub mod GrowLemmas
 pub mod LeafLemmas
 pub mod WeighLemmas
 pub mod ShareLemmas

@@ -1,25 +1,21 @@
 -- What the clients below a node come to, before and after a change of one client.
-use Rattle.std.specs.Prelude.{◌≡◌, ◌≢◌, ◌≤◌, ◌<◌, ◌+◌, ◌-◌, ◌*◌, ℕ, Bool, true, false, not, cond, List, [], ◌∷◌, ◌++◌, filter, length, map, sum_by, nat_lt}
-use Rattle.std.specs.List.{AllByRecursion, IsDistinct, list_any}
-use Rattle.std.proofs.Common.{refl, sym, ap, subst, ◌∙◌, inl, inr, arith}
-use Rattle.std.proofs.lemmas.Bool.{true≢false, false≢true, cases_Bool}
-use Rattle.std.proofs.lemmas.List.Elements.{filter-append}
+use Rattle.std.specs.Prelude.{◌≡◌, ◌+◌, ◌*◌, ℕ, Bool, true, false, cond, List, [], ◌∷◌, ◌++◌, filter, length, map, sum_by, nat_lt}
+use Rattle.std.specs.List.{AllByRecursion, IsDistinct}
+use Rattle.std.proofs.Common.{refl, sym, ap, ◌∙◌, arith}
 use Rattle.std.proofs.lemmas.List.Sums.{sum_by-append, sum_by-cons}
-use Rattle.std.proofs.lemmas.Map.Keys.{IsDistinct-head, IsDistinct-tail}
 use Rattle.drf_bundle.specs.Quantities.{amount_of}
 use Rattle.drf_bundle.specs.declared.quantities.Entry.{Entry}
 use Rattle.drf_role.specs.Text.{Text}
-use Rattle.drf_role.specs.Path.{Path, IsClientPath, begins_with, same_path}
-use Rattle.drf_role.specs.PathLaws.{client_paths-apart, path_decides, same_path-swap, same_path-true}
+use Rattle.drf_role.specs.Path.{Path, begins_with, same_path}
+use Rattle.drf_role.specs.PathLaws.{same_path-true}
 use Rattle.drf_rows.specs.Held.{weight_of}
-use Rattle.drf_rows.specs.ListLaws.{each_from, each_from_both, sum_by-filter}
-use Rattle.drf_rows.specs.Share.{Standing, greatest}
-use Rattle.drf_sorter.specs.Content.{Content, Ranked, activated, charged, clients_under, has_client, standing_in, with_change, with_client, without_client}
+use Rattle.drf_rows.specs.ListLaws.{each_from, sum_by-filter}
+use Rattle.drf_rows.specs.Share.{greatest}
+use Rattle.drf_sorter.specs.Content.{Content, Ranked, clients_under, has_client, standing_in, with_change, with_client}
 use Rattle.drf_sorter.specs.Keys.{Key, key_of}
 use Rattle.drf_tree.specs.declared.node.Sum.{Sum}
 use Rattle.drf_tree.specs.Tree.{IsSumOf}
 use Rattle.drf_tree.proofs.ContentLemmas.{below, step, sum_below, sum_moved, sum_stays}
-use Rattle.drf_tree.proofs.PathLemmas.{begins_itself}
 
 -- what some clients have
 pub record Amounts : Type 0 where
@@ -150,11 +146,11 @@ module _ (content : Content) (path node : Path) (change : Ranked → Ranked) (ke
       (λ (c : Ranked). same_path c.path path ≡ true → below node f (change c) + less ≡ below node f c + more)
       content.clients
       (λ c so same.
-          let new : below node f (change c) ≡ f (change c) =
-          ap (λ (b : Bool). cond b (f (change c)) 0) (still_below c same ∙ begins) in
-          let old : below node f c ≡ f c = ap (λ (b : Bool). cond b (f c) 0) (is_below c same ∙ begins) in
-          let both : f (change c) + less ≡ f c + more = so same in
-          omega (arith, new, old, both))
+      let new : below node f (change c) ≡ f (change c) =
+      ap (λ (b : Bool). cond b (f (change c)) 0) (still_below c same ∙ begins) in
+      let old : below node f c ≡ f c = ap (λ (b : Bool). cond b (f c) 0) (is_below c same ∙ begins) in
+      let both : f (change c) + less ≡ f c + more = so same in
+      omega (arith, new, old, both))
       at) in
       omega (
         arith,
@@ -169,8 +165,8 @@ module _ (content : Content) (path node : Path) (change : Ranked → Ranked) (ke
       sum_below node f (map (step path change) content.clients)
       ∙ sum_stays path change (below node f)
       (λ c same.
-          ap (λ (b : Bool). cond b (f (change c)) 0) (still_below c same ∙ other)
-          ∙ sym (ap (λ (b : Bool). cond b (f c) 0) (is_below c same ∙ other)))
+      ap (λ (b : Bool). cond b (f (change c)) 0) (still_below c same ∙ other)
+      ∙ sym (ap (λ (b : Bool). cond b (f c) 0) (is_below c same ∙ other)))
       content.clients
       ∙ sym (sum_below node f content.clients)
 

@@ -1,23 +1,22 @@
 -- The shape of a tree by what stands at each number: where a node comes and where one goes.
-use Rattle.std.specs.Prelude.{◌≡◌, ◌≢◌, ◌≤◌, ◌<◌, ◌+◌, ◌==◌, ℕ, zero, suc, Bool, true, false, ◌||◌, List, [], ◌∷◌, ◌++◌, Option, None, Some, length, map, slice_index_or}
+use Rattle.std.specs.Prelude.{◌≡◌, ◌≢◌, ◌<◌, ◌==◌, ℕ, Bool, true, false, ◌||◌, List, [], ◌∷◌, ◌++◌, Option, None, Some, length, map, slice_index_or}
 use Rattle.std.specs.List.{AllByRecursion, IsDistinct, list_any}
 use Rattle.std.specs.Option.{is_some, option_map_or}
-use Rattle.std.proofs.Common.{refl, sym, ap, subst, ◌∙◌, inl, inr, arith}
+use Rattle.std.proofs.Common.{refl, sym, ap, subst, ◌∙◌, inl, inr}
 use Rattle.std.proofs.lemmas.Bool.{true≢false, false≢true, cases_Bool, cases_eq, or_cases}
 use Rattle.std.specs.Cmp.Lexicographic.{bytes_decides}
-use Rattle.std.proofs.lemmas.List.{same_from_push}
 use Rattle.drf_role.specs.Text.{Text, same_text}
 use Rattle.drf_role.specs.Path.{Path, IsClientPath, IsNodePath}
-use Rattle.drf_rows.specs.ListLaws.{each_append, each_from, each_from_both, each_parts}
+use Rattle.drf_rows.specs.ListLaws.{each_from}
 use Rattle.drf_tree.specs.declared.family.Child.{Child}
 use Rattle.drf_tree.specs.declared.family.Family.{Family}
 use Rattle.drf_tree.specs.declared.node.Place.{Place}
 use Rattle.drf_tree.specs.declared.node.Sum.{Sum}
-use Rattle.drf_tree.specs.Family.{IsGone, IsWith, child_name, has_child}
-use Rattle.drf_tree.specs.Nodes.{children_at, is_live, is_node, path_at, place_at}
+use Rattle.drf_tree.specs.Family.{IsWith, child_name, has_child}
+use Rattle.drf_tree.specs.Nodes.{children_at, place_at}
 use Rattle.drf_tree.specs.Tree.{IsChildOf, IsShape}
 use Rattle.drf_tree.proofs.NameLemmas.{same_text-swap}
-use Rattle.drf_tree.proofs.WayLemmas.{equal, equal_self, not_equal}
+use Rattle.drf_tree.proofs.WayLemmas.{equal_self}
 
 -- ---- by what stands at each number
 
@@ -165,10 +164,12 @@ pub once_more : (x : Child) (before after : List Child) → IsDistinct same_text
     → AllByRecursion (differs (child_name x)) (before ++ after) → IsDistinct same_text (map child_name (before ++ x ∷ after))
 unfolding IsDistinct
 once_more x [] after once all = (names_differ (child_name x) after all, once)
-once_more x (b ∷ before) after once all =
-    (names_differ (child_name b) (before ++ x ∷ after)
-    (each_more (differs (child_name b)) x before after (differ_names (child_name b) (before ++ after) once.0)
-    (same_text-swap (child_name b) (child_name x) ∙ all.0)), once_more x before after once.1 all.1)
+once_more x (b ∷ before) after once all = (
+  names_differ (child_name b) (before ++ x ∷ after)
+      (each_more (differs (child_name b)) x before after (differ_names (child_name b) (before ++ after) once.0)
+      (same_text-swap (child_name b) (child_name x) ∙ all.0)),
+  once_more x before after once.1 all.1,
+)
 
 pub once_less : (x : Child) (before after : List Child) → IsDistinct same_text (map child_name (before ++ x ∷ after))
     → IsDistinct same_text (map child_name (before ++ after)) × AllByRecursion (differs (child_name x)) (before ++ after)
@@ -176,9 +177,10 @@ unfolding IsDistinct
 once_less x [] after once = (once.1, differ_names (child_name x) after once.0)
 once_less x (b ∷ before) after once =
     let rest = once_less x before after once.1 in
-    let heads = differ_names (child_name b) (before ++ x ∷ after) once.0 in
-    ((names_differ (child_name b) (before ++ after) (each_less (differs (child_name b)) x before after heads), rest.0),
-    (same_text-swap (child_name x) (child_name b) ∙ each_of (differs (child_name b)) x before after heads, rest.1))
+    let heads = differ_names (child_name b) (before ++ x ∷ after) once.0 in (
+      (names_differ (child_name b) (before ++ after) (each_less (differs (child_name b)) x before after heads), rest.0),
+      (same_text-swap (child_name x) (child_name b) ∙ each_of (differs (child_name b)) x before after heads, rest.1),
+    )
 
 -- ---- a node comes
 
@@ -298,15 +300,17 @@ module _ (at now : ℕ → Option Place) (kids new : ℕ → List Child) (flag :
   kept_now i live = elim (cases_eq i node) [
     | inl here ↦
         let is : parent_in now i ≡ parent =
-        ap (parent_in now) here ∙ ap (λ (o : Option Place). option_map_or (λ p. p.parent) o 0) put ∙ above in
-        (ap (node_in now) is ∙ still_node parent there,
-        ap (λ (k : ℕ). has_child i (new k)) is ∙ ap (λ (k : ℕ). has_child k (new parent)) here ∙ has_new)
+        ap (parent_in now) here ∙ ap (λ (o : Option Place). option_map_or (λ p. p.parent) o 0) put ∙ above in (
+          ap (node_in now) is ∙ still_node parent there,
+          ap (λ (k : ℕ). has_child i (new k)) is ∙ ap (λ (k : ℕ). has_child k (new parent)) here ∙ has_new,
+        )
     | inr other ↦
         let is : parent_in now i ≡ parent_in at i =
         ap (λ (o : Option Place). option_map_or (λ p. p.parent) o 0) (rest i other) in
-        let was = shape.kept i (was_live i other live) in
-        (ap (node_in now) is ∙ still_node (parent_in at i) was.0,
-        ap (λ (k : ℕ). has_child i (new k)) is ∙ has_still (λ c. c.node == i) (parent_in at i) was.1)
+        let was = shape.kept i (was_live i other live) in (
+          ap (node_in now) is ∙ still_node (parent_in at i) was.0,
+          ap (λ (k : ℕ). has_child i (new k)) is ∙ has_still (λ c. c.node == i) (parent_in at i) was.1,
+        )
   ]
 
   -- no sibling has the name

@@ -1,8 +1,8 @@
 -- A tree whose sums, marks and keys are those of another content.
-use Rattle.std.specs.Prelude.{◌≡◌, ◌≢◌, ◌≤◌, ◌<◌, ◌+◌, ℕ, Bool, true, false, List, [], ◌∷◌, ◌++◌, Option, None, Some, ◌⊎◌, length, map, slice_get, slice_index_or}
-use Rattle.std.specs.List.{AllByRecursion, IsDistinct, list_any}
-use Rattle.std.proofs.Common.{refl, sym, ap, subst, ◌∙◌, inl, inr, arith, get_or}
-use Rattle.std.proofs.lemmas.Bool.{true≢false, cases_Bool}
+use Rattle.std.specs.Prelude.{◌≡◌, ◌<◌, ℕ, Bool, true, false, List, [], ◌∷◌, ◌++◌, Option, Some, length, map, slice_get, slice_index_or}
+use Rattle.std.specs.List.{AllByRecursion, IsDistinct}
+use Rattle.std.proofs.Common.{sym, ap, subst, ◌∙◌, inl, inr, arith, get_or}
+use Rattle.std.proofs.lemmas.Bool.{cases_Bool}
 use Rattle.std.proofs.lemmas.Option.{slice_get_within, slice_get-get_or}
 use Rattle.drf_role.specs.Text.{Text}
 use Rattle.drf_role.specs.Path.{Path, IsClientPath, begins_with, same_path}
@@ -15,11 +15,10 @@ use Rattle.drf_tree.specs.declared.family.Family.{Family}
 use Rattle.drf_tree.specs.declared.node.Place.{Place}
 use Rattle.drf_tree.specs.declared.node.Sum.{Sum}
 use Rattle.drf_tree.specs.declared.tree.Tree.{Tree}
-use Rattle.drf_tree.specs.Changes.{IsShapeOf}
 use Rattle.drf_tree.specs.Family.{IsSameKey, child_name}
 use Rattle.drf_tree.specs.Nodes.{children_at, is_live, path_at}
 use Rattle.drf_tree.specs.Tree.{AreRight, AreSums, IsChildOf, IsComplete, IsMarkedOrRight, IsRight, IsShape, IsTreeOf}
-use Rattle.drf_tree.proofs.ClimbLemmas.{AreChanged, AreMarked, beside_from, live_on_way, on_way, some_part, way_from}
+use Rattle.drf_tree.proofs.ClimbLemmas.{AreChanged, AreMarked, beside_from, some_part, way_from}
 use Rattle.drf_tree.proofs.MoveLemmas.{Amounts, AreMoved, IsMoved, key_again, none, not_moved, sum_after, total_under}
 
 -- the shape of lists of the same length, where no mark is put at a free number
@@ -144,5 +143,6 @@ tree_from content old new places families paths distinct shape sums complete rig
   where
     at : new.places.items ≡ old.places.items
     at = λ i. (places i).items
+
     of : new.families.items ≡ old.families.items
     of = λ i. (families i).items

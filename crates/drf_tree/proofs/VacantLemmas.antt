@@ -1,24 +1,21 @@
 -- One more number, that is free.
-use Rattle.std.specs.Prelude.{◌≡◌, ◌≤◌, ◌<◌, ◌+◌, ◌==◌, ◌||◌, ℕ, zero, suc, Bool, true, false, List, [], ◌∷◌, ◌++◌, Option, None, Some, length, map, slice_get, slice_index_or}
-use Rattle.std.specs.List.{AllByRecursion, IsDistinct, list_any}
+use Rattle.std.specs.Prelude.{◌≡◌, ◌<◌, ◌+◌, ◌==◌, ◌||◌, ℕ, zero, suc, true, false, List, [], ◌∷◌, ◌++◌, Option, None, length, map, slice_get, slice_index_or}
+use Rattle.std.specs.List.{AllByRecursion, list_any}
 use Rattle.std.specs.Option.{is_some, option_map_or}
 use Rattle.std.proofs.Common.{refl, sym, ap, subst, ◌∙◌, inl, inr, arith, length-append}
-use Rattle.std.proofs.lemmas.Bool.{true≢false, false≢true}
-use Rattle.std.proofs.lemmas.Option.{slice_get_within}
 use Rattle.drf_role.specs.Text.{same_text}
 use Rattle.drf_role.specs.Path.{Path, same_path}
 use Rattle.drf_rows.specs.ListLaws.{each_from}
 use Rattle.drf_sorter.specs.Content.{Content, Ranked, standing_in}
 use Rattle.drf_sorter.specs.Keys.{key_by, key_of}
 use Rattle.drf_tree.specs.declared.family.Child.{Child}
-use Rattle.drf_tree.specs.declared.family.Family.{Family}
 use Rattle.drf_tree.specs.declared.node.Place.{Place}
 use Rattle.drf_tree.specs.declared.node.Sum.{Sum}
 use Rattle.drf_tree.specs.declared.tree.Tree.{Tree}
-use Rattle.drf_tree.specs.Changes.{IsSameTree, IsShapeOf, Stay}
+use Rattle.drf_tree.specs.Changes.{IsSameTree, IsShapeOf}
 use Rattle.drf_tree.specs.Family.{IsSameKey, child_name}
 use Rattle.drf_tree.specs.Nodes.{children_at, is_live, path_at, place_at}
-use Rattle.drf_tree.specs.Tree.{AreRight, AreSums, IsComplete, IsMarkedOrRight, IsShape, IsSumOf, IsTreeOf}
+use Rattle.drf_tree.specs.Tree.{IsMarkedOrRight, IsSumOf, IsTreeOf}
 use Rattle.drf_tree.proofs.ClimbLemmas.{live_within}
 use Rattle.drf_tree.proofs.ShapeLemmas.{shape_from, shape_in, shape_seen}
 
@@ -124,11 +121,6 @@ module _ (old new : Tree) (sum : Sum) (places : new.places.items ≡ old.places.
   tree_more content tree =
       tree_seen old new place_more of flag_more some_more sums_more families_more stale_more content
       (λ i live.
-          ap (λ ss. slice_get ss i) sums
-          ∙ get_more old.sums.items (sum ∷ []) i (omega (arith, live_within old.places.items i live, shape.sums_long)))
+      ap (λ ss. slice_get ss i) sums
+      ∙ get_more old.sums.items (sum ∷ []) i (omega (arith, live_within old.places.items i live, shape.sums_long)))
       tree
-
-  pub stay_more : Stay old.places.items new.places.items
-  stay_more i place at =
-      ap (λ ps. slice_get ps i) places
-      ∙ get_more old.places.items (None ∷ []) i (slice_get_within old.places.items i (Some place) at) ∙ at

@@ -1,12 +1,11 @@
 -- The nodes on the way to a leaf: the leaf, and those on the way to the node above it.
-use Rattle.std.specs.Prelude.{◌≡◌, ◌≢◌, ◌≤◌, ◌<◌, ◌+◌, ◌==◌, ℕ, Bool, true, false, ◌||◌, List, [], ◌∷◌, ◌++◌, Option, None, ◌⊎◌, drop, length, slice_index_or}
-use Rattle.std.specs.List.{AllByRecursion, list_any}
-use Rattle.std.specs.Option.{is_some, option_map_or}
-use Rattle.std.proofs.Common.{refl, sym, ap, subst, ◌∙◌, inl, inr, arith, length-append}
-use Rattle.std.proofs.lemmas.Bool.{true≢false, false≢true, cases_Bool, or_cases}
+use Rattle.std.specs.Prelude.{◌≡◌, ◌≢◌, ◌<◌, ◌+◌, ◌==◌, ℕ, Bool, true, false, List, [], ◌∷◌, ◌++◌, Option, ◌⊎◌, drop, length}
+use Rattle.std.specs.List.{AllByRecursion}
+use Rattle.std.specs.Option.{option_map_or}
+use Rattle.std.proofs.Common.{sym, ap, ◌∙◌, inl, inr, arith, length-append}
+use Rattle.std.proofs.lemmas.Bool.{false≢true, cases_Bool, or_cases}
 use Rattle.std.proofs.lemmas.Bool.Decides.{nat_tests}
 use Rattle.std.proofs.lemmas.List.{append-nil}
-use Rattle.drf_role.specs.Text.{Text}
 use Rattle.drf_role.specs.Path.{Path, begins_with}
 use Rattle.drf_tree.specs.declared.family.Child.{Child}
 use Rattle.drf_tree.specs.declared.family.Family.{Family}
@@ -16,7 +15,7 @@ use Rattle.drf_tree.specs.Changes.{IsOneLonger}
 use Rattle.drf_tree.specs.Family.{child_name, has_child}
 use Rattle.drf_tree.specs.Nodes.{children_at, is_live, is_node, parent_at, path_at}
 use Rattle.drf_tree.specs.Tree.{IsChildOf, IsShape}
-use Rattle.drf_tree.proofs.PathLemmas.{begins_by, begins_front, begins_itself, begins_to, begins_trans}
+use Rattle.drf_tree.proofs.PathLemmas.{begins_by, begins_front, begins_to, begins_trans}
 
 pub equal : (m i : ℕ) → (m == i) ≡ true → m ≡ i
 equal m i same = grind (arith, nat_tests)

@@ -178,6 +178,6 @@ module _ (content : Content) (weight : ℕ) (old : Tree) (node : ℕ) (of : IsTr
         of.complete
         (subst (AreRight after old.places.items old.families.items) (sym marks)
         (λ i.
-            each_from_both (IsChildOf old.places.items i) (IsMarkedOrRight content old.places.items old.marks.stale i)
-            (IsMarkedOrRight after old.places.items stale i) (children_at old.families.items i) (right_here i)
-            (of.shape.children i) (of.right i)))
+        each_from_both (IsChildOf old.places.items i) (IsMarkedOrRight content old.places.items old.marks.stale i)
+        (IsMarkedOrRight after old.places.items stale i) (children_at old.families.items i) (right_here i)
+        (of.shape.children i) (of.right i)))

@@ -1,17 +1,17 @@
 -- The shape of a tree where a bare node goes.
-use Rattle.std.specs.Prelude.{◌≡◌, ◌≢◌, ◌≤◌, ◌<◌, ◌+◌, ◌==◌, ℕ, Bool, true, false, ◌||◌, List, [], ◌∷◌, ◌++◌, Option, None, Some, length, map}
-use Rattle.std.specs.List.{AllByRecursion, IsDistinct, list_any}
+use Rattle.std.specs.Prelude.{◌≡◌, ◌≢◌, ◌==◌, ℕ, Bool, true, false, ◌||◌, List, [], ◌∷◌, ◌++◌, Option, None, Some, map}
+use Rattle.std.specs.List.{AllByRecursion, IsDistinct}
 use Rattle.std.specs.Option.{is_some, option_map_or}
-use Rattle.std.proofs.Common.{refl, sym, ap, subst, ◌∙◌, inl, inr, arith}
-use Rattle.std.proofs.lemmas.Bool.{true≢false, false≢true, cases_Bool, cases_eq, or_cases}
+use Rattle.std.proofs.Common.{sym, ap, subst, ◌∙◌, inl, inr}
+use Rattle.std.proofs.lemmas.Bool.{true≢false, false≢true, cases_eq}
 use Rattle.std.specs.Cmp.Lexicographic.{bytes_decides}
 use Rattle.std.proofs.lemmas.List.{same_from_push}
-use Rattle.drf_role.specs.Text.{Text, same_text}
+use Rattle.drf_role.specs.Text.{same_text}
 use Rattle.drf_role.specs.Path.{Path, IsClientPath, IsNodePath}
 use Rattle.drf_rows.specs.ListLaws.{each_from, each_from_both}
 use Rattle.drf_tree.specs.declared.family.Child.{Child}
 use Rattle.drf_tree.specs.declared.node.Place.{Place}
-use Rattle.drf_tree.specs.Family.{IsGone, IsWith, child_name, has_child}
+use Rattle.drf_tree.specs.Family.{IsGone, child_name, has_child}
 use Rattle.drf_tree.proofs.ShapeLemmas.{IsChildIn, IsShapeIn, any_less, client_in, differs, each_less, each_of, live_in, node_in, once_less, parent_in, path_in}
 use Rattle.drf_tree.proofs.WayLemmas.{not_equal}
 
@@ -105,9 +105,10 @@ module _ (at now : ℕ → Option Place) (kids new : ℕ → List Child) (flag f
   kept_now i is =
       let was = shape.kept i (was_live i is) in
       let same : parent_in now i ≡ parent_in at i =
-      ap (λ (o : Option Place). option_map_or (λ p. p.parent) o 0) (rest i (now_other i is)) in
-      (ap (node_in now) same ∙ still_node (parent_in at i) (not_above i (was_live i is)) was.0,
-      ap (λ (k : ℕ). has_child i (new k)) same ∙ has_now (parent_in at i) i (now_other i is) was.1)
+      ap (λ (o : Option Place). option_map_or (λ p. p.parent) o 0) (rest i (now_other i is)) in (
+        ap (node_in now) same ∙ still_node (parent_in at i) (not_above i (was_live i is)) was.0,
+        ap (λ (k : ℕ). has_child i (new k)) same ∙ has_now (parent_in at i) i (now_other i is) was.1,
+      )
     where
       has_now : (k i : ℕ) → i ≢ node → has_child i (kids k) ≡ true → has_child i (new k) ≡ true
       has_now k i other some = elim (cases_eq k parent) [

@@ -1,5 +1,5 @@
 -- What changes along the nodes of a client.
-use Rattle.std.specs.Prelude.{◌≡◌, ◌≤◌, ◌<◌, ◌+◌, ◌-◌, ◌^◌, ◌==◌, ◌&&◌, ℕ, Bool, true, false, List, [], ◌∷◌, ◌++◌, Option, None, Some, length, slice_get}
+use Rattle.std.specs.Prelude.{◌≡◌, ◌≤◌, ◌<◌, ◌+◌, ◌-◌, ◌^◌, ◌==◌, ◌&&◌, ℕ, Bool, true, false, List, [], ◌∷◌, ◌++◌, Some, length, slice_get}
 use Rattle.std.specs.List.{AllByRecursion}
 use Rattle.std.specs.Option.{option_map_or}
 use Rattle.drf_bundle.specs.Quantities.{amount_of}
@@ -8,7 +8,6 @@ use Rattle.drf_role.specs.Text.{Text}
 use Rattle.drf_role.specs.Path.{Path, begins_with, same_path}
 use Rattle.drf_sorter.specs.Content.{Content, Holds, Ranked}
 use Rattle.drf_sorter.specs.Keys.{Key}
-use Rattle.drf_tree.specs.declared.node.Place.{Place}
 use Rattle.drf_tree.specs.declared.node.Sum.{Sum}
 use Rattle.drf_tree.specs.declared.tree.Tree.{Tree}
 use Rattle.drf_tree.specs.Nodes.{children_at, is_live, is_node, path_at}
@@ -61,10 +60,6 @@ pub record CanLower (quantities : List Entry) (offers : ℕ) (c : Ranked) : Type
 abbrev pub CanLowerAt : Content → Path → List Entry → ℕ → Type 0
 CanLowerAt content path quantities offers =
     AllByRecursion (λ c. same_path c.path path ≡ true → CanLower quantities offers c) content.clients
-
--- the nodes that were there stand as they did
-abbrev pub Stay : List (Option Place) → List (Option Place) → Type 0
-Stay old new = (i : ℕ) (place : Place) → slice_get old i ≡ Some (Some place) → slice_get new i ≡ Some (Some place)
 
 -- nothing that counts was changed
 pub record IsSameTree (old new : Tree) : Type 0 where

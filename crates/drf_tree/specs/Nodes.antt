@@ -1,5 +1,5 @@
 -- What stands at a number of the tree.
-use Rattle.std.specs.Prelude.{◌≡◌, ◌==◌, ℕ, Bool, ◌||◌, ◌&&◌, List, [], Option, None, length, map, slice_get, slice_index_or, ◌-◌}
+use Rattle.std.specs.Prelude.{◌==◌, ℕ, Bool, ◌||◌, ◌&&◌, List, [], Option, None, length, map, slice_get, slice_index_or, ◌-◌}
 use Rattle.std.specs.Option.{is_some, option_map_or}
 use Rattle.drf_role.specs.Path.{Path}
 use Rattle.drf_role.specs.Text.{Text, same_text}

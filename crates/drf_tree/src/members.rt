@@ -1,10 +1,10 @@
 //! Clients that come and go.
-ghost use Rattle.std.specs.Prelude.{◌≡◌, ◌≢◌, ◌≤◌, ◌+◌, ◌-◌, ◌<◌, ◌^◌, ℕ, Some, IfOk, false, length, take, true};
-ghost use Rattle.drf_role.specs.Path.{Path};
-ghost use Rattle.drf_sorter.specs.Content.{Content, activated, has_client, with_change, with_client, without_client};
+ghost use Rattle.std.specs.Prelude.{◌≡◌, ◌≢◌, ◌≤◌, ◌+◌, ◌<◌, ◌^◌, ℕ, Some, IfOk, IfSome, false, length, take, true};
+ghost use Rattle.drf_role.specs.Path.{IsClientPath, Path};
+ghost use Rattle.drf_sorter.specs.Content.{Content, activated, has_client, has_node, with_change, with_client, without_client};
 ghost use Rattle.drf_sorter.specs.Plain.{plain_content};
 ghost use Rattle.drf_sorter.specs.Work.{debt};
-ghost use Rattle.drf_tree.specs.Changes.{IsLeast, IsShapeOf, OnWay};
+ghost use Rattle.drf_tree.specs.Changes.{IsLeast, IsOneLonger, IsShapeOf, OnWay};
 ghost use Rattle.drf_tree.specs.Marks.{work_of};
 ghost use Rattle.drf_tree.specs.Nodes.{client_at, is_live, is_node, path_at};
 ghost use Rattle.drf_tree.specs.Tree.{IsTreeOf};
@@ -25,17 +25,39 @@ impl Tree {
     ) -> Result<usize, AllocError>
         requires tree { IsTreeOf (plain_content ledger.now) self.old }
         ensures tree { IsTreeOf (plain_content ledger.now) self.new }
+        ensures live { IfOk result (λ leaf. is_live self.new.places.items leaf ≡ true) }
         ensures client { IfOk result (λ leaf. client_at self.new.places.items leaf ≡ Some path.now) }
         ensures work { debt (work_of self.new.marks) ≤ debt (work_of self.old.marks) + length path.now }
     {
         let mut node = ROOT;
         for i in 0..path.len() {
-            node = match self.child(node, path.part(i)) {
-                Some(child) => child,
-                None => self.sprout_for(node, path, i + 1, ledger)?,
-            };
+            node = self.step(node, path, i, ledger)?;
         }
         Ok(node)
+    }
+
+    /// The node of one part more of a path, below that of the first `i`, made if it is missing.
+    fn step(
+        &mut self,
+        node: usize,
+        path: &ClientPath,
+        i: usize,
+        ledger: &PlainSorter,
+    ) -> Result<usize, AllocError>
+        requires tree { IsTreeOf (plain_content ledger.now) self.old }
+        requires right { IsClientPath path.now }
+        requires within { i < length path.now }
+        requires there { is_node self.old.places.items node ≡ true }
+        requires above { path_at self.old.places.items node ≡ take i path.now }
+        ensures tree { IsTreeOf (plain_content ledger.now) self.new }
+        ensures path { IfOk result (λ child. path_at self.new.places.items child ≡ take (i + 1) path.now) }
+        ensures live { IfOk result (λ child. is_live self.new.places.items child ≡ true) }
+        ensures work { debt (work_of self.new.marks) ≤ debt (work_of self.old.marks) + 1 }
+    {
+        if let Some(child) = self.child(node, path.part(i)) {
+            return Ok(child);
+        }
+        self.sprout_for(node, path, i + 1, ledger)
     }
 
     /// The node of the first parts of a path, `len` of them, below the one of one part less.
@@ -47,22 +69,20 @@ impl Tree {
         ledger: &PlainSorter,
     ) -> Result<usize, AllocError>
         requires tree { IsTreeOf (plain_content ledger.now) self.old }
+        requires right { IsClientPath path.now }
         requires some { 1 ≤ len }
         requires within { len ≤ length path.now }
         requires parent { is_node self.old.places.items parent ≡ true }
-        requires above { path_at self.old.places.items parent ≡ take (len - 1) path.now }
+        requires longer { IsOneLonger (path_at self.old.places.items parent) (take len path.now) }
         requires missing { (i : ℕ) → is_live self.old.places.items i ≡ true → path_at self.old.places.items i ≢ take len path.now }
+        requires nobody { has_node (plain_content ledger.now) (take len path.now) ≡ false }
         ensures tree { IsTreeOf (plain_content ledger.now) self.new }
         ensures path { IfOk result (λ node. path_at self.new.places.items node ≡ take len path.now) }
         ensures live { IfOk result (λ node. is_live self.new.places.items node ≡ true) }
         ensures work { debt (work_of self.new.marks) ≤ debt (work_of self.old.marks) + 1 }
     {
         let node = path.node(len)?;
-        let client = if len == path.len() {
-            Some(path.copy()?)
-        } else {
-            None
-        };
+        let client = client_of(path, len)?;
         let weight = ledger.weight_of(&node);
         self.sprout(parent, node, client, weight)
     }
@@ -149,4 +169,16 @@ impl Tree {
             node = parent;
         }
     }
+}
+
+/// The client that the node of the first parts of a path is, if it is one.
+fn client_of(path: &ClientPath, len: usize) -> Result<Option<ClientPath>, AllocError>
+    requires { len ≤ length path.now }
+    ensures client { IfOk result (λ client. IsClientPath (take len path.now) → client ≡ Some (take len path.now)) }
+    ensures only { IfOk result (λ client. IfSome client (λ c. (c ≡ take len path.now) × IsClientPath (take len path.now))) }
+{
+    if len < path.len() {
+        return Ok(None);
+    }
+    Ok(Some(path.copy()?))
 }

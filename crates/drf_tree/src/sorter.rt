@@ -71,11 +71,12 @@ impl Sorter for TreeSorter {
 
     fn remove(&mut self, path: &ClientPath) {
         self.walk.stop();
-        if let Some(node) = self.tree.find(path) {
-            self.tree.dismiss(node);
-            self.tree.prune(node);
-        }
         self.ledger.remove(path);
+        let Some(node) = self.tree.find(path) else {
+            return;
+        };
+        self.tree.dismiss(node);
+        self.tree.prune(node);
     }
 
     fn set_active(&mut self, path: &ClientPath, active: bool) {

@@ -8,7 +8,7 @@ ghost use Rattle.drf_rows.specs.Held.{weight_of};
 ghost use Rattle.drf_sorter.specs.Content.{Content, empty, has_node, with_weight};
 ghost use Rattle.drf_sorter.specs.Keys.{key_by};
 ghost use Rattle.drf_sorter.specs.Work.{debt};
-ghost use Rattle.drf_tree.specs.Changes.{IsKeyOfNothing, IsSameTree, IsOneLonger, IsShapeOf, IsVacant, Stay, is_bare_at};
+ghost use Rattle.drf_tree.specs.Changes.{IsKeyOfNothing, IsSameTree, IsOneLonger, IsShapeOf, IsVacant, is_bare_at};
 ghost use Rattle.drf_tree.specs.Family.{child_name};
 ghost use Rattle.drf_tree.specs.Marks.{work_of};
 ghost use Rattle.drf_tree.specs.Nodes.{children_at, is_live, is_named_at, is_node, parent_at, path_at, place_at};
@@ -120,8 +120,7 @@ impl Tree {
         requires shape { IsShapeOf self.old }
         ensures shape { IsShapeOf self.new }
         ensures free { IfOk result (λ node. IsVacant self.new node) }
-        ensures stay { Stay self.old.places.items self.new.places.items }
-        ensures nodes { (i : ℕ) → is_live self.new.places.items i ≡ is_live self.old.places.items i }
+        ensures places { (i : ℕ) → place_at self.new.places.items i ≡ place_at self.old.places.items i }
         ensures families { (i : ℕ) → children_at self.new.families.items i ≡ children_at self.old.families.items i }
         ensures tree { (content : Content) → IsTreeOf content self.old → IsTreeOf content self.new }
         ensures work { work_of self.new.marks ≡ work_of self.old.marks }
@@ -211,7 +210,6 @@ impl Tree {
         requires client { IsClientPath path → client ≡ Some path }
         requires other { IfSome client (λ c. (c ≡ path) × IsClientPath path) }
         ensures tree { (content : Content) → IsTreeOf content self.old → weight ≡ weight_of content.weights path → has_node content path ≡ false → IsTreeOf content self.new }
-        ensures stay { Stay self.old.places.items self.new.places.items }
         ensures path { IfOk result (λ node. path_at self.new.places.items node ≡ path) }
         ensures live { IfOk result (λ node. is_live self.new.places.items node ≡ true) }
         ensures work { debt (work_of self.new.marks) ≤ debt (work_of self.old.marks) + 1 }

@@ -1,7 +1,7 @@
 use Rattle.std.proofs.Common.{◌≡◌, true, not, is_ok, drop, take, ◌∙◌, ap}
 use Rattle.std.specs.List.{list_all}
 use Rattle.drf_tree.specs.declared.family.Child.{Child}
-use Rattle.drf_tree.specs.Family.{IsWith, are_sorted, is_before}
+use Rattle.drf_tree.specs.Family.{are_sorted, is_before}
 use Rattle.drf_tree.proofs.FamilyLemmas.{sorted_tried, with_child}
 use Rattle.drf_tree.proofs.family.Family.insert.Goals as goal
 

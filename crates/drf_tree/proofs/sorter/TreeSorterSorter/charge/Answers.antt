@@ -4,8 +4,9 @@ use Rattle.drf_sorter.specs.Content.{Content, IsSound, charged, active_paths, wi
 use Rattle.drf_sorter.specs.Plain.{plain_content}
 use Rattle.drf_sorter.specs.declared.plain.PlainSorter.{PlainSorter}
 use Rattle.drf_tree.specs.Sorter.{Sorted}
+use Rattle.drf_tree.proofs.FindLemmas.{client_below}
 use Rattle.drf_tree.proofs.KeptLemmas.{active_stays, kept_along, queue_stays}
-use Rattle.drf_tree.proofs.LeafLemmas.{known_in, leaf_of, node_of_client, room}
+use Rattle.drf_tree.proofs.LeafLemmas.{known_in, leaf_of, room}
 use Rattle.drf_tree.proofs.sorter.TreeSorterSorter.charge.Goals as goal
 
 pub returns-in_default-clause-ok : goal.returns-in_default-clause-ok
@@ -13,7 +14,7 @@ returns-in_default-clause-ok c =
     let content = plain_content c.self.inside.ledger in
     let known =
     known_in c.self.inside.ledger c.args.self.now.ledger c.args.path.now (ap (λ (s : Sorted). s.ledger) c.self.view_is) c.requires.known in
-    absurd (false≢true (c.in_default.ensures.every content c.self.invariant.of_ledger (node_of_client content c.args.path.now known)))
+    absurd (false≢true (c.in_default.ensures.every content c.self.invariant.of_ledger (client_below c.args.path.now content.clients known)))
 
 pub raised-requires-clause-room : goal.raised-requires-clause-room
 raised-requires-clause-room c =

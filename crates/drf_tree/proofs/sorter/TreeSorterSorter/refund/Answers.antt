@@ -5,8 +5,9 @@ use Rattle.drf_sorter.specs.Plain.{plain_content}
 use Rattle.drf_sorter.specs.declared.plain.PlainSorter.{PlainSorter}
 use Rattle.drf_tree.specs.Sorter.{Sorted}
 use Rattle.drf_tree.specs.Tree.{IsTreeOf}
+use Rattle.drf_tree.proofs.FindLemmas.{client_below}
 use Rattle.drf_tree.proofs.KeptLemmas.{active_stays, kept_along}
-use Rattle.drf_tree.proofs.LeafLemmas.{can_refund, known_in, leaf_of, lowerable, lowered_refunded, node_of_client}
+use Rattle.drf_tree.proofs.LeafLemmas.{can_refund, known_in, leaf_of, lowerable, lowered_refunded}
 use Rattle.drf_tree.proofs.sorter.TreeSorterSorter.refund.Goals as goal
 
 pub invariant_of-self : goal.invariant_of-self
@@ -14,7 +15,7 @@ invariant_of-self c =
     let content = plain_content c.self.inside.ledger in
     let known =
     known_in c.self.inside.ledger c.args.self.now.ledger c.args.path.now (ap (λ (s : Sorted). s.ledger) c.self.view_is) c.requires.known in
-    absurd (false≢true (c.in_default.ensures.every content c.self.invariant.of_ledger (node_of_client content c.args.path.now known)))
+    absurd (false≢true (c.in_default.ensures.every content c.self.invariant.of_ledger (client_below c.args.path.now content.clients known)))
 
 pub lower-requires-clause-lowerable : goal.lower-requires-clause-lowerable
 lower-requires-clause-lowerable c =

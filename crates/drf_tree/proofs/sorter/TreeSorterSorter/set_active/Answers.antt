@@ -4,8 +4,9 @@ use Rattle.drf_sorter.specs.Content.{Content}
 use Rattle.drf_sorter.specs.Plain.{plain_content}
 use Rattle.drf_tree.specs.Sorter.{Sorted}
 use Rattle.drf_tree.specs.Tree.{IsTreeOf}
+use Rattle.drf_tree.proofs.FindLemmas.{client_below}
 use Rattle.drf_tree.proofs.KeptLemmas.{stopped}
-use Rattle.drf_tree.proofs.LeafLemmas.{active_fits, few_clients, known_in, leaf_of, least, node_of_client}
+use Rattle.drf_tree.proofs.LeafLemmas.{active_fits, few_clients, known_in, leaf_of, least}
 use Rattle.drf_tree.proofs.sorter.TreeSorterSorter.set_active.Goals as goal
 
 pub invariant_of-self : goal.invariant_of-self
@@ -13,7 +14,7 @@ invariant_of-self c =
     let content = plain_content c.self.inside.ledger in
     let known =
     known_in c.self.inside.ledger c.args.self.now.ledger c.args.path.now (ap (λ (s : Sorted). s.ledger) c.self.view_is) c.requires in
-    absurd (false≢true (c.in_default.ensures.every content c.self.invariant.of_ledger (node_of_client content c.args.path.now known)))
+    absurd (false≢true (c.in_default.ensures.every content c.self.invariant.of_ledger (client_below c.args.path.now content.clients known)))
 
 pub set_active-requires-2-clause-least : goal.set_active-requires-2-clause-least
 set_active-requires-2-clause-least c =

@@ -6,9 +6,10 @@ use Rattle.drf_tree.proofs.ClimbLemmas.{climb_on, climb_was, marking_start, mark
 use Rattle.drf_tree.proofs.tree.Tree.charge.Goals as goal
 
 pub loop-held-init : goal.loop-held-init
-loop-held-init c =
-    (charging_start c.args.self.now c.args.self.now c.requires.shape c.args.leaf c.args.leaf c.args.raised.items c.requires.live c.requires.long,
-    marking_start c.args.self.now c.args.self.now c.requires.shape c.args.leaf c.args.leaf (IsReplaced c.args.self.now.places.items c.args.raised.items))
+loop-held-init c = (
+  charging_start c.args.self.now c.args.self.now c.requires.shape c.args.leaf c.args.leaf c.args.raised.items c.requires.live c.requires.long,
+  marking_start c.args.self.now c.args.self.now c.requires.shape c.args.leaf c.args.leaf (IsReplaced c.args.self.now.places.items c.args.raised.items),
+)
 
 pub overflow_add-sum : goal.overflow_add-sum
 overflow_add-sum c =
@@ -32,12 +33,13 @@ loop-held-preserved c =
     let above : c.parent-node.result ≡ parent_at old.places.items c.loop-held.node =
     c.parent-node.ensures ∙ ap (λ ps. parent_at ps.items c.loop-held.node) so.climb.places in
     let other = charging_node old c.loop-held.self c.requires.shape c.args.leaf c.loop-held.node c.args.raised.items
-    c.loop-held.raised.items c.pop.new.self.items c.in-Some.held so c.in-Some.ensures.items in
-    (charging_step old c.loop-held.self c.requires.shape c.args.leaf c.loop-held.node c.args.raised.items
-    c.loop-held.raised.items c.pop.new.self.items c.in-Some.held so c.in-Some.ensures.items _ c.parent-node.result s
-    above c.index_mut-sum.ensures.value refl refl refl,
-    marking_step old c.loop-held.self c.requires.shape c.args.leaf c.loop-held.node (IsReplaced old.places.items c.args.raised.items)
-    so.climb other marking _ c.parent-node.result above c.mark.ensures.flags c.mark.ensures.work)
+    c.loop-held.raised.items c.pop.new.self.items c.in-Some.held so c.in-Some.ensures.items in (
+      charging_step old c.loop-held.self c.requires.shape c.args.leaf c.loop-held.node c.args.raised.items
+          c.loop-held.raised.items c.pop.new.self.items c.in-Some.held so c.in-Some.ensures.items _ c.parent-node.result s
+          above c.index_mut-sum.ensures.value refl refl refl,
+      marking_step old c.loop-held.self c.requires.shape c.args.leaf c.loop-held.node (IsReplaced old.places.items c.args.raised.items)
+          so.climb other marking _ c.parent-node.result above c.mark.ensures.flags c.mark.ensures.work,
+    )
 
 pub returns-clause-tree : goal.returns-clause-tree
 returns-clause-tree c content path quantities tree at has all =

@@ -1,4 +1,4 @@
-use Rattle.std.proofs.Common.{◌≡◌, ◌≤◌, ◌+◌, ◌-◌, [], ℕ, refl, sym, ap, subst, ◌∙◌, arith}
+use Rattle.std.proofs.Common.{◌≡◌, ◌-◌, [], ℕ, refl, sym, ap, subst, ◌∙◌, arith}
 use Rattle.drf_bundle.specs.QuantitiesLaws.{covers_from}
 use Rattle.drf_tree.specs.declared.node.Sum.{Sum}
 use Rattle.drf_tree.specs.Nodes.{parent_at}
@@ -23,14 +23,15 @@ loop-node-init c =
     ∙ sym (same_read old.sums.items leaf c.requires.least.sum c.index.result.now c.requires.least.there c.index.ensures) in
     let put : c.replace-gone.new.dest ≡ left =
     c.replace-gone.ensures.after ∙ c.of_none-nothing.ensures
-    ∙ ap (λ (w : ℕ). record { held = []; count = 0; clients = 0; active = 0; weight = w }) (ap (λ (s : Sum). s.weight) (sym read)) in
-    (climb_step old old c.requires.shape leaf leaf (λ i. IsMoved (amounts_in gone) none) start other _ c.parent-node.result
-    c.index_mut.result.now c.replace-gone.new.dest c.parent-node.ensures c.index_mut.ensures.value
-    (subst (λ (s : Sum). IsMoved (amounts_in gone) none s c.replace-gone.new.dest) taken
-    (subst (λ (t : Sum). IsMoved (amounts_in gone) none gone t) (sym put) (is_emptied gone)))
-    refl refl refl,
-    marking_step old old c.requires.shape leaf leaf (λ i. IsMoved (amounts_in gone) none) start other marking _ c.parent-node.result
-    c.parent-node.ensures c.mark.ensures.flags c.mark.ensures.work)
+    ∙ ap (λ (w : ℕ). record { held = []; count = 0; clients = 0; active = 0; weight = w }) (ap (λ (s : Sum). s.weight) (sym read)) in (
+      climb_step old old c.requires.shape leaf leaf (λ i. IsMoved (amounts_in gone) none) start other _ c.parent-node.result
+          c.index_mut.result.now c.replace-gone.new.dest c.parent-node.ensures c.index_mut.ensures.value
+          (subst (λ (s : Sum). IsMoved (amounts_in gone) none s c.replace-gone.new.dest) taken
+          (subst (λ (t : Sum). IsMoved (amounts_in gone) none gone t) (sym put) (is_emptied gone)))
+          refl refl refl,
+      marking_step old old c.requires.shape leaf leaf (λ i. IsMoved (amounts_in gone) none) start other marking _ c.parent-node.result
+          c.parent-node.ensures c.mark.ensures.flags c.mark.ensures.work,
+    )
 
 pub lower-requires : goal.lower-requires
 lower-requires c =
@@ -99,15 +100,16 @@ loop-node-preserved c =
     let above : c.parent-node-in-loop-node.result ≡ parent_at old.places.items c.loop-node.node =
     c.parent-node-in-loop-node.ensures ∙ ap (λ ps. parent_at ps.items c.loop-node.node) so.places in
     let on = climb_on old c.loop-node.self c.requires.shape c.args.leaf c.loop-node.node (λ i. IsMoved (amounts_in gone) none) so c.loop-node-test.true in
-    let was = climb_was old c.loop-node.self c.requires.shape c.args.leaf c.loop-node.node (λ i. IsMoved (amounts_in gone) none) so c.loop-node-test.true s c.index_mut-sum.ensures.value in
-    (climb_step old c.loop-node.self c.requires.shape c.args.leaf c.loop-node.node (λ i. IsMoved (amounts_in gone) none) so c.loop-node-test.true
-    _ c.parent-node-in-loop-node.result s t above c.index_mut-sum.ensures.value
-    (is_gone gone s c.lower.new.self c.lower.ensures
-    (least.held c.loop-node.node s on was) (least.count c.loop-node.node s on was) (least.clients c.loop-node.node s on was)
-    (least.active c.loop-node.node s on was))
-    refl refl refl,
-    marking_step old c.loop-node.self c.requires.shape c.args.leaf c.loop-node.node (λ i. IsMoved (amounts_in gone) none) so c.loop-node-test.true marking
-    _ c.parent-node-in-loop-node.result above c.mark-in-loop-node.ensures.flags c.mark-in-loop-node.ensures.work)
+    let was = climb_was old c.loop-node.self c.requires.shape c.args.leaf c.loop-node.node (λ i. IsMoved (amounts_in gone) none) so c.loop-node-test.true s c.index_mut-sum.ensures.value in (
+      climb_step old c.loop-node.self c.requires.shape c.args.leaf c.loop-node.node (λ i. IsMoved (amounts_in gone) none) so c.loop-node-test.true
+          _ c.parent-node-in-loop-node.result s t above c.index_mut-sum.ensures.value
+          (is_gone gone s c.lower.new.self c.lower.ensures
+          (least.held c.loop-node.node s on was) (least.count c.loop-node.node s on was) (least.clients c.loop-node.node s on was)
+          (least.active c.loop-node.node s on was))
+          refl refl refl,
+      marking_step old c.loop-node.self c.requires.shape c.args.leaf c.loop-node.node (λ i. IsMoved (amounts_in gone) none) so c.loop-node-test.true marking
+          _ c.parent-node-in-loop-node.result above c.mark-in-loop-node.ensures.flags c.mark-in-loop-node.ensures.work,
+    )
 
 pub returns-clause-tree : goal.returns-clause-tree
 returns-clause-tree c content path tree at has =

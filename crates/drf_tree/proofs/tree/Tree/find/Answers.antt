@@ -23,14 +23,16 @@ returns-in_err-node-clause-missing g c none i live same =
 
 pub loop-i-preserved : goal.loop-i-preserved
 loop-i-preserved g c =
-    let t = c.args.self.now in
-    (node_from_live t.places.items c.in_ok-node.node c.in_ok-node.ensures.found.0,
-    c.in_ok-node.ensures.found.1
-    ∙ ap (λ (p : Path). p ++ c.part.result.now ∷ []) c.loop-i.invariant.1
-    ∙ sym (take_one_more (g.R.Route.parts c.args.route.now) c.loop-i.i c.part.result.now c.part.ensures))
+    let t = c.args.self.now in (
+      node_from_live t.places.items c.in_ok-node.node c.in_ok-node.ensures.found.0,
+      c.in_ok-node.ensures.found.1
+          ∙ ap (λ (p : Path). p ++ c.part.result.now ∷ []) c.loop-i.invariant.1
+          ∙ sym (take_one_more (g.R.Route.parts c.args.route.now) c.loop-i.i c.part.result.now c.part.ensures),
+    )
 
 pub returns-clause-found : goal.returns-clause-found
-returns-clause-found g c =
-    (c.loop-i.invariant.0,
-    c.loop-i.invariant.1
-    ∙ take_whole (g.R.Route.parts c.args.route.now) c.loop-i.i (omega (arith, c.len-i-end.ensures, c.loop-i-test.false)))
+returns-clause-found g c = (
+  c.loop-i.invariant.0,
+  c.loop-i.invariant.1
+      ∙ take_whole (g.R.Route.parts c.args.route.now) c.loop-i.i (omega (arith, c.len-i-end.ensures, c.loop-i-test.false)),
+)

@@ -8,11 +8,12 @@ use Rattle.drf_tree.proofs.MoveLemmas.{IsMoved, none}
 use Rattle.drf_tree.proofs.tree.Tree.lower.Goals as goal
 
 pub loop-node-init : goal.loop-node-init
-loop-node-init c =
-    (climb_start c.args.self.now c.args.self.now c.requires.shape c.args.leaf c.args.leaf
-    (λ i. IsMoved (of_lowered c.args.quantities.now c.args.offers) none) c.requires.lowerable.live,
-    marking_start c.args.self.now c.args.self.now c.requires.shape c.args.leaf c.args.leaf
-    (λ i. IsMoved (of_lowered c.args.quantities.now c.args.offers) none))
+loop-node-init c = (
+  climb_start c.args.self.now c.args.self.now c.requires.shape c.args.leaf c.args.leaf
+      (λ i. IsMoved (of_lowered c.args.quantities.now c.args.offers) none) c.requires.lowerable.live,
+  marking_start c.args.self.now c.args.self.now c.requires.shape c.args.leaf c.args.leaf
+      (λ i. IsMoved (of_lowered c.args.quantities.now c.args.offers) none),
+)
 
 pub lower-requires : goal.lower-requires
 lower-requires c =
@@ -59,16 +60,17 @@ loop-node-preserved c =
     let on = climb_on old c.loop-node.self c.requires.shape c.args.leaf c.loop-node.node
     (λ i. IsMoved (of_lowered c.args.quantities.now c.args.offers) none) so c.loop-node-test.true in
     let was = climb_was old c.loop-node.self c.requires.shape c.args.leaf c.loop-node.node
-    (λ i. IsMoved (of_lowered c.args.quantities.now c.args.offers) none) so c.loop-node-test.true s c.index_mut-sum.ensures.value in
-    (climb_step old c.loop-node.self c.requires.shape c.args.leaf c.loop-node.node
-    (λ i. IsMoved (of_lowered c.args.quantities.now c.args.offers) none) so c.loop-node-test.true
-    _ c.parent-node.result s t above c.index_mut-sum.ensures.value
-    (is_lowered c.args.quantities.now c.args.offers s c.lower.new.self c.lower.ensures
-    (c.requires.lowerable.held c.loop-node.node s on was) (c.requires.lowerable.count c.loop-node.node s on was))
-    refl refl refl,
-    marking_step old c.loop-node.self c.requires.shape c.args.leaf c.loop-node.node
-    (λ i. IsMoved (of_lowered c.args.quantities.now c.args.offers) none) so c.loop-node-test.true marking
-    _ c.parent-node.result above c.mark.ensures.flags c.mark.ensures.work)
+    (λ i. IsMoved (of_lowered c.args.quantities.now c.args.offers) none) so c.loop-node-test.true s c.index_mut-sum.ensures.value in (
+      climb_step old c.loop-node.self c.requires.shape c.args.leaf c.loop-node.node
+          (λ i. IsMoved (of_lowered c.args.quantities.now c.args.offers) none) so c.loop-node-test.true
+          _ c.parent-node.result s t above c.index_mut-sum.ensures.value
+          (is_lowered c.args.quantities.now c.args.offers s c.lower.new.self c.lower.ensures
+          (c.requires.lowerable.held c.loop-node.node s on was) (c.requires.lowerable.count c.loop-node.node s on was))
+          refl refl refl,
+      marking_step old c.loop-node.self c.requires.shape c.args.leaf c.loop-node.node
+          (λ i. IsMoved (of_lowered c.args.quantities.now c.args.offers) none) so c.loop-node-test.true marking
+          _ c.parent-node.result above c.mark.ensures.flags c.mark.ensures.work,
+    )
 
 pub returns-clause-tree : goal.returns-clause-tree
 returns-clause-tree c content path tree at has can =

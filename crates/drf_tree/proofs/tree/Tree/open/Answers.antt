@@ -1,11 +1,9 @@
-use Rattle.std.proofs.Common.{◌≡◌, ◌+◌, ◌++◌, ◌∷◌, [], ℕ, List, Option, None, false, length, length-append, refl, sym, ap, subst, ◌∙◌, arith}
-use Rattle.std.specs.Option.{option_map_or}
+use Rattle.std.proofs.Common.{◌++◌, ◌∷◌, [], List, Option, None, false, length, length-append, ap, ◌∙◌, arith}
 use Rattle.drf_tree.specs.declared.family.Family.{Family}
 use Rattle.drf_tree.specs.declared.node.Place.{Place}
 use Rattle.drf_tree.specs.declared.node.Sum.{Sum}
 use Rattle.drf_tree.specs.Nodes.{children_at}
 use Rattle.drf_tree.proofs.OpenLemmas.{opened}
-use Rattle.drf_tree.proofs.WitherLemmas.{withered}
 use Rattle.drf_tree.proofs.tree.Tree.open.Goals as goal
 
 pub returns-clause-tree : goal.returns-clause-tree

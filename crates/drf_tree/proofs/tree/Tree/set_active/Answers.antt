@@ -9,9 +9,11 @@ use Rattle.drf_tree.proofs.SliceLemmas.{same_read}
 use Rattle.drf_tree.proofs.tree.Tree.set_active.Goals as goal
 
 pub loop-node-init : goal.loop-node-init
-loop-node-init c =
-    (climb_start c.args.self.now c.args.self.now c.requires.shape c.args.leaf c.args.leaf
-    (λ i. IsMoved (of_active c.index.result.now.active) (of_active c.from-now.result)) c.requires.live, refl)
+loop-node-init c = (
+  climb_start c.args.self.now c.args.self.now c.requires.shape c.args.leaf c.args.leaf
+      (λ i. IsMoved (of_active c.index.result.now.active) (of_active c.from-now.result)) c.requires.live,
+  refl,
+)
 
 pub overflow_sub-sum : goal.overflow_sub-sum
 overflow_sub-sum c =
@@ -77,11 +79,13 @@ loop-node-preserved c =
     c.index_mut-sum.ensures.value) in
     let within : c.index.result.now.active ≤ s.active = omega (arith, least, ap (λ (x : Sum). x.active) same) in
     let above : c.parent-node.result ≡ parent_at old.places.items c.loop-node.node =
-    c.parent-node.ensures ∙ ap (λ ps. parent_at ps.items c.loop-node.node) so.places in
-    (climb_step old c.loop-node.self c.requires.shape c.args.leaf c.loop-node.node
-    (λ i. IsMoved (of_active c.index.result.now.active) (of_active c.from-now.result)) so c.loop-node-test.true
-    _ c.parent-node.result s t above c.index_mut-sum.ensures.value
-    (is_activated c.index.result.now.active c.from-now.result s within) refl refl refl, c.loop-node.invariant.1)
+    c.parent-node.ensures ∙ ap (λ ps. parent_at ps.items c.loop-node.node) so.places in (
+      climb_step old c.loop-node.self c.requires.shape c.args.leaf c.loop-node.node
+          (λ i. IsMoved (of_active c.index.result.now.active) (of_active c.from-now.result)) so c.loop-node-test.true
+          _ c.parent-node.result s t above c.index_mut-sum.ensures.value
+          (is_activated c.index.result.now.active c.from-now.result s within) refl refl refl,
+      c.loop-node.invariant.1,
+    )
 
 pub returns-clause-tree : goal.returns-clause-tree
 returns-clause-tree c content path tree at has =

@@ -1,6 +1,5 @@
-use Rattle.std.proofs.Common.{◌≡◌, ◌++◌, ◌∷◌, [], false, refl, sym, ap, ◌∙◌, arith}
-use Rattle.drf_tree.specs.declared.node.Sum.{Sum}
-use Rattle.drf_tree.proofs.VacantLemmas.{shape_more, stay_more, tree_more, tree_same}
+use Rattle.std.proofs.Common.{[]}
+use Rattle.drf_tree.proofs.VacantLemmas.{place_more, shape_more, tree_more, tree_same}
 use Rattle.drf_tree.proofs.tree.Tree.vacant.Goals as goal
 
 pub returns-in_err-push-clause-tree : goal.returns-in_err-push-clause-tree
@@ -13,10 +12,10 @@ returns-in_ok-push-clause-shape c =
     shape_more c.args.self.now c.push.new.self (record { held = []; count = 0; clients = 0; active = 0; weight = 0 })
     e.places e.families e.families_long (λ i. (e.marks i).stale) e.sums c.requires.shape
 
-pub returns-in_ok-push-clause-stay : goal.returns-in_ok-push-clause-stay
-returns-in_ok-push-clause-stay c =
+pub returns-in_ok-push-clause-places : goal.returns-in_ok-push-clause-places
+returns-in_ok-push-clause-places c =
     let e = c.in_ok-push.ensures in
-    stay_more c.args.self.now c.push.new.self (record { held = []; count = 0; clients = 0; active = 0; weight = 0 })
+    place_more c.args.self.now c.push.new.self (record { held = []; count = 0; clients = 0; active = 0; weight = 0 })
     e.places e.families e.families_long (λ i. (e.marks i).stale) e.sums c.requires.shape
 
 pub returns-in_ok-push-clause-tree : goal.returns-in_ok-push-clause-tree

@@ -392,6 +392,10 @@ pub fn refusal(limits: &Limits, tables: &Tables, event: &Event) -> Option<Refusa
         Event::Revive { framework, role } => refuse_unknown_client(limits, tables, framework, role),
         Event::SetWeight { role, weight } => refuse_weight(limits, tables, role, *weight),
         Event::Cycle { at } => refuse_cycle(limits, tables, *at),
+        Event::SetLimit { .. } => None,
+        Event::Reserve { .. } => None,
+        Event::Unreserve { .. } => None,
+        Event::SetAgent { .. } => None,
         Event::Report => first_case(&[(is_full(limits, tables), Refusal::HistoryFull)]),
     }
 }

@@ -1,14 +1,17 @@
 -- A cycle that is not ended: its offers are drafts, which the sorter knows and the tables do not.
-use Rattle.std.specs.Prelude.{◌≡◌, ℕ, ◌<◌, ◌≤◌, ◌^◌, ◌&&◌, Bool, true, false, List, length, filter, slice_get, Some, if◌then◌else◌}
+use Rattle.std.specs.Prelude.{◌≡◌, ℕ, ◌+◌, ◌<◌, ◌≤◌, ◌^◌, ◌&&◌, Bool, true, false, List, length, filter, slice_get, Option, Some, if◌then◌else◌}
 use Rattle.std.specs.List.{AllByRecursion}
-use Rattle.std.specs.Option.{option_map_or}
+use Rattle.std.specs.Option.{option_map_or, MatchOption}
+use Rattle.drf_role.specs.Text.{Text}
 use Rattle.drf_role.specs.Path.{Path}
+use Rattle.drf_gates.specs.Quota.{Allowance, used_where}
 use Rattle.drf_bundle.specs.declared.resource.Resource.{Resource}
 use Rattle.drf_rows.specs.Client.{Client, path_of}
 use Rattle.drf_rows.specs.Holdings.{of_offer}
 use Rattle.drf_rows.specs.Cycle.{free_of, is_allocatable, tried, turn, turns}
 use Rattle.drf_rows.specs.Consistent.{IsConsistent}
 use Rattle.drf_rows.specs.Held.{is_registered}
+use Rattle.drf_rows.specs.Quota.{unreserved_in}
 use Rattle.drf_rows.specs.declared.rows.AgentRow.{AgentRow}
 use Rattle.drf_rows.specs.declared.rows.OfferRow.{OfferRow}
 use Rattle.drf_rows.specs.declared.rows.Rows.{Rows}
@@ -24,6 +27,11 @@ pub record IsDrafting (content : Content) (rows : Rows) (offers : List OfferRow)
   pub clients : AllByRecursion (λ o. is_registered rows.frameworks (of_offer o).client ≡ true) offers
   pub few_agents : length rows.agents ≤ 4096
   pub low_number : rows.next_offer ≤ 2 ^ 57
+
+-- what one more offer consumes can be counted
+abbrev pub CanCount : Option Allowance → OfferRow → Type 0
+CanCount quota offer = MatchOption quota (Unit {0}) (λ a. (test : Path → Bool) (label : Text)
+    → used_where test a.used label + (if test offer.role then unreserved_in label offer.bundle else 0) < 2 ^ 64)
 
 -- the path is that of a registered client
 pub record IsRegisteredPath (rows : Rows) (path : Path) : Type 0 where

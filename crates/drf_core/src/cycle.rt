@@ -1,16 +1,21 @@
-//! The allocation cycle. Its offers are drafts until the last agent had its turn: the sorter is charged with them, while of
-//! the rows the clock alone has moved. Where memory ends, the charges are taken back and so is the clock, which needs none.
-ghost use Rattle.std.specs.Prelude.{◌≡◌, true, ◌<◌, ◌≤◌, ◌+◌, ◌*◌, None, [], length, map, slice_get, is_some, ◌&&◌, Some, IfOk, OnOk, OnErr};
+//! The allocation cycle. Its offers are drafts until the last agent had its turn: the sorter is charged with them, and a copy of
+//! the quota counts them, while of the rows the clock alone has moved. Where memory ends, the copy is dropped, the charges are
+//! taken back and so is the clock, which needs none.
+ghost use Rattle.std.specs.Prelude.{◌≡◌, true, ◌<◌, ◌≤◌, ◌+◌, ◌*◌, ◌^◌, None, [], length, map, slice_get, is_some, ◌&&◌, Some, IfOk, OnOk, OnErr, MatchOption, if◌then◌else◌};
 ghost use Rattle.std.specs.List.{AllByRecursion};
 ghost use Rattle.drf_role.specs.Path.{Path, role_part, framework_part};
-ghost use Rattle.drf_rows.specs.Cycle.{is_allocatable};
+ghost use Rattle.drf_role.specs.Text.{Text};
+ghost use Rattle.drf_gates.specs.Quota.{used_where};
+ghost use Rattle.drf_rows.specs.Cycle.{is_allocatable, with_offer};
+ghost use Rattle.drf_rows.specs.Quota.{unreserved_in};
 ghost use Rattle.drf_rows.specs.Step.{line_told, new_offers, refusal_of, effect};
 ghost use Rattle.drf_rows.specs.declared.event.Event.TheVariants.{Cycle};
 ghost use Rattle.drf_tables.specs.Drafts.{with_offers};
 ghost use Rattle.drf_core.specs.Content.{content_of};
 ghost use Rattle.drf_core.specs.Kept.{AreFew, IsKept};
-ghost use Rattle.drf_core.specs.Entitling.{IsEntitled};
-ghost use Rattle.drf_core.specs.Drafting.{IsDrafting, IsRegisteredPath, IsFreeAt, IsTried, HasLeft, is_open_at, turn_at, turns_of};
+ghost use Rattle.drf_core.specs.Entitling.{IsEntitled, IsQuotaOf};
+ghost use Rattle.drf_rows.specs.declared.rows.Rows.{Rows};
+ghost use Rattle.drf_core.specs.Drafting.{IsDrafting, CanCount, IsRegisteredPath, IsFreeAt, IsTried, HasLeft, is_open_at, turn_at, turns_of};
 ghost use Rattle.drf_core.specs.Kept.{StandAt};
 ghost use Rattle.drf_sorter.specs.Work.{Adds};
 ghost use Rattle.drf_core.specs.Working.{AddsDrafts, nodes_of, offered_to, touched};
@@ -18,6 +23,7 @@ ghost use Rattle.drf_core.specs.Working.{AddsDrafts, nodes_of, offered_to, touch
 use crate::free::{Free, grant, is_worth_an_offer};
 use drf_amount::Algebra;
 use drf_bundle::Bundle;
+use drf_gates::Quota;
 use drf_role::{ClientPath, Name};
 use drf_rows::{Limits, OfferLine, OfferRow};
 use drf_sorter::Sorter;
@@ -25,11 +31,13 @@ use drf_tables::{Left, Tables};
 use std::alloc::{AllocError, Global};
 use std::mem;
 
-/// The offers of a cycle that is not ended, and what the turns left free.
+/// The offers of a cycle that is not ended, what the turns left free, and, if any role has a limit, a quota that counts the
+/// offers.
 #[derive(Drop)]
 struct Drafts {
     offers: Vec<OfferRow>,
     lefts: Vec<Left>,
+    quota: Option<Quota>,
 }
 
 /// Whether the agent at a place is active, and what is free there is worth an offer.
@@ -65,41 +73,56 @@ fn offer_row(
     })
 }
 
+/// Counts what one more offer consumes, if any role has a limit.
+fn count_offer(quota: &mut Option<Quota>, offer: &OfferRow) -> Result<(), AllocError>
+    requires { CanCount quota.old offer.now }
+    ensures { OnOk result ((rows : Rows) → IsQuotaOf rows quota.old → IsQuotaOf (with_offer rows offer.now) quota.new) }
+{
+    match quota {
+        Some(quota) => quota.consume_unreserved(&offer.role, &offer.bundle),
+        None => Ok(()),
+    }
+}
+
 /// Offers to the client that is served next what it is granted of what is free on an agent.
 fn try_first<S: Sorter>(
     tables: &Tables,
     sorter: &mut S,
     place: usize,
     free: &mut Free,
-    offers: &mut Vec<OfferRow>,
+    drafts: &mut Drafts,
 ) -> Result<(), AllocError>
-    requires drafting { IsDrafting (S.content sorter.old) tables.now.rows offers.old.items }
+    requires drafting { IsDrafting (S.content sorter.old) tables.now.rows drafts.old.offers.items }
     requires place { place < length tables.now.rows.agents }
     requires client { (path : Path) → slice_get (S.queue sorter.old) 0 ≡ Some path → IsRegisteredPath tables.now.rows path }
-    requires free { IsFreeAt (with_offers tables.now.rows offers.old.items) place free.old.bundle }
-    requires entitled { IsEntitled free.old.bundle free.old.entitled }
-    ensures drafting { IsDrafting (S.content sorter.new) tables.now.rows offers.new.items }
+    requires free { IsFreeAt (with_offers tables.now.rows drafts.old.offers.items) place free.old.bundle }
+    requires quota { IsQuotaOf (with_offers tables.now.rows drafts.old.offers.items) drafts.old.quota }
+    requires entitled { IsEntitled drafts.old.quota free.old.bundle free.old.entitled }
+    ensures drafting { IsDrafting (S.content sorter.new) tables.now.rows drafts.new.offers.items }
     ensures queue { S.queue sorter.new ≡ S.queue sorter.old }
     ensures tried { OnOk result ((path : Path) → slice_get (S.queue sorter.old) 0 ≡ Some path
-        → IsTried (with_offers tables.now.rows offers.old.items) (with_offers tables.now.rows offers.new.items) place path) }
-    ensures free { OnOk result (IsFreeAt (with_offers tables.now.rows offers.new.items) place free.new.bundle) }
-    ensures entitled { OnOk result (IsEntitled free.new.bundle free.new.entitled) }
-    ensures work { OnOk result (AddsDrafts S.COUNTED (S.work sorter.old) (S.work sorter.new) offers.old.items offers.new.items) }
+        → IsTried (with_offers tables.now.rows drafts.old.offers.items) (with_offers tables.now.rows drafts.new.offers.items) place path) }
+    ensures free { OnOk result (IsFreeAt (with_offers tables.now.rows drafts.new.offers.items) place free.new.bundle) }
+    ensures quota { OnOk result (IsQuotaOf (with_offers tables.now.rows drafts.new.offers.items) drafts.new.quota) }
+    ensures entitled { OnOk result (IsEntitled drafts.new.quota free.new.bundle free.new.entitled) }
+    ensures lefts { drafts.new.lefts.items ≡ drafts.old.lefts.items }
+    ensures work { OnOk result (AddsDrafts S.COUNTED (S.work sorter.old) (S.work sorter.new) drafts.old.offers.items drafts.new.offers.items) }
 {
     let Some(client) = sorter.first() else {
         return Ok(());
     };
     let agent = tables.agent_name(place);
-    let granted = grant(tables, agent, client, free)?;
+    let granted = grant(tables, agent, client, drafts.quota.as_ref(), free)?;
     let Some(bundle) = granted else {
         return Ok(());
     };
     let client = client.copy()?;
-    let number = tables.next_offer() + offers.len() as u64;
+    let number = tables.next_offer() + drafts.offers.len() as u64;
     let offer = offer_row(number, agent, &client, bundle)?;
-    offers.reserve(1)?;
+    drafts.offers.reserve(1)?;
+    count_offer(&mut drafts.quota, &offer)?;
     sorter.charge(&client, offer.bundle.quantities())?;
-    offers.push_reserved(offer);
+    drafts.offers.push_reserved(offer);
     Ok(())
 }
 
@@ -121,10 +144,12 @@ fn turn<S: Sorter>(
     requires place { place < length tables.now.rows.agents }
     requires settled { tables.now.settled ≡ true }
     requires left { HasLeft tables.now.rows drafts.old.offers.items drafts.old.lefts.items place }
+    requires quota { IsQuotaOf (with_offers tables.now.rows drafts.old.offers.items) drafts.old.quota }
     ensures drafting { IsDrafting (S.content sorter.new) tables.now.rows drafts.new.offers.items }
     ensures turn { OnOk result (with_offers tables.now.rows drafts.new.offers.items
         ≡ turn_at (with_offers tables.now.rows drafts.old.offers.items) place) }
     ensures left { OnOk result (HasLeft tables.now.rows drafts.new.offers.items drafts.new.lefts.items (place + 1)) }
+    ensures quota { OnOk result (IsQuotaOf (with_offers tables.now.rows drafts.new.offers.items) drafts.new.quota) }
     ensures work { OnOk result (AddsDrafts S.COUNTED (S.work sorter.old) (S.work sorter.new) drafts.old.offers.items drafts.new.offers.items) }
 {
     if !is_open(tables, place) {
@@ -136,7 +161,7 @@ fn turn<S: Sorter>(
         entitled: None,
     };
     while goes_on(sorter, &free) {
-        try_first(tables, sorter, place, &mut free, &mut drafts.offers)?;
+        try_first(tables, sorter, place, &mut free, drafts)?;
         sorter.pass();
     }
     let Free {
@@ -156,6 +181,7 @@ fn turns<S: Sorter>(tables: &Tables, sorter: &mut S, drafts: &mut Drafts) -> Res
     requires none { drafts.old.offers.items ≡ [] }
     requires nothing_left { drafts.old.lefts.items ≡ [] }
     requires settled { tables.now.settled ≡ true }
+    requires quota { IsQuotaOf tables.now.rows drafts.old.quota }
     ensures drafting { IsDrafting (S.content sorter.new) tables.now.rows drafts.new.offers.items }
     ensures turns { OnOk result (with_offers tables.now.rows drafts.new.offers.items ≡ turns_of tables.now.rows) }
     ensures left { OnOk result (HasLeft tables.now.rows drafts.new.offers.items drafts.new.lefts.items (length tables.now.rows.agents)) }
@@ -202,6 +228,22 @@ fn take_back<S: Sorter>(tables: &Tables, sorter: &mut S, offers: &mut Vec<OfferR
     }
 }
 
+/// A quota with the limits and what is consumed before the first draft. Where no role has a limit, there is none, and nothing is
+/// counted.
+fn quota_of(tables: &mut Tables) -> Result<Option<Quota>, AllocError>
+    requires { length tables.old.rows.agents ≤ 4096 }
+    ensures quota { IfOk result (IsQuotaOf tables.old.rows) }
+    ensures same { tables.new.rows ≡ tables.old.rows }
+    ensures settled { tables.new.settled ≡ tables.old.settled }
+{
+    if !tables.has_limits() {
+        return Ok(None);
+    }
+    tables.count_consumption()?;
+    let quota = tables.quota().copy()?;
+    Ok(Some(quota))
+}
+
 /// The turns of all agents, whose offers are then put into the tables. Where memory ends, the drafts are left.
 fn offer_all<S: Sorter>(
     alloc: Global,
@@ -219,6 +261,7 @@ fn offer_all<S: Sorter>(
     ensures work { OnOk result (Adds S.COUNTED (S.work sorter.old) (S.work sorter.new) (nodes_of (offered_to (new_offers tables.old.rows (turns_of tables.old.rows))))) }
 {
     tables.settle()?;
+    drafts.quota = quota_of(tables)?;
     turns(tables, sorter, drafts)?;
     let lines = offer_lines(alloc, &drafts.offers)?;
     let lefts = mem::replace(&mut drafts.lefts, Vec::new(alloc));
@@ -247,6 +290,7 @@ pub fn cycle<S: Sorter>(
     let mut drafts = Drafts {
         offers: Vec::new(alloc),
         lefts: Vec::new(alloc),
+        quota: None,
     };
     match offer_all(alloc, tables, sorter, &mut drafts) {
         Ok(lines) => Ok(lines),

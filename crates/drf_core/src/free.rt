@@ -1,14 +1,16 @@
 //! What is free on an agent in its turn, and what a client is granted of it.
-ghost use Rattle.std.specs.Prelude.{◌≡◌, None, IfOk, OnOk, MatchOption};
-ghost use Rattle.drf_bundle.specs.Bundle.{IsBundle, part_for, rest};
+ghost use Rattle.std.specs.Prelude.{◌≡◌, None, IfOk, MatchOption};
+ghost use Rattle.std.specs.Option.{option_copied};
+ghost use Rattle.drf_bundle.specs.Bundle.{IsBundle, rest};
 ghost use Rattle.drf_rows.specs.Client.{Client, path_of};
 ghost use Rattle.drf_rows.specs.Cycle.{free_of, is_allocatable, grant};
 ghost use Rattle.drf_rows.specs.declared.rows.AgentRow.{AgentRow};
 ghost use Rattle.drf_rows.specs.declared.rows.Rows.{Rows};
-ghost use Rattle.drf_core.specs.Entitling.{IsEntitled, is_grantable_by};
+ghost use Rattle.drf_core.specs.Entitling.{IsEntitled, IsEntitlement, IsQuotaOf, is_grantable_by};
 
 use drf_amount::Algebra;
 use drf_bundle::Bundle;
+use drf_gates::Quota;
 use drf_role::{ClientPath, Name, Role};
 use drf_tables::Tables;
 use std::alloc::AllocError;
@@ -36,10 +38,33 @@ pub struct Free {
     pub entitled: Option<Entitled>,
 }
 
+/// The part of what is free that a role may use, cut to the headroom that limits leave it, if any role has a limit.
+fn part_within(
+    quota: Option<&Quota>,
+    free: &Bundle,
+    role: &Role,
+) -> Result<Bundle, AllocError>
+    ensures { IfOk result (IsEntitlement (option_copied quota) free.now role.now) }
+{
+    // The proof learns that it is a bundle by this call alone.
+    let _ = free.quantities();
+    let part = free.part_for(role)?;
+    let Some(quota) = quota else {
+        return Ok(part);
+    };
+    let headroom = quota.headroom(role)?;
+    part.clip(&headroom)
+}
+
 /// What a role may have of what is free. It is found once for clients of a role that are tried one after another.
-fn entitle(free: &mut Free, role: &Role) -> Result<Entitled, AllocError>
-    requires { IsEntitled free.old.bundle free.old.entitled }
-    ensures entitled { IfOk result (λ entitled. entitled ≡ record { role = role.now; bundle = part_for role.now free.old.bundle }) }
+fn entitle(
+    quota: Option<&Quota>,
+    free: &mut Free,
+    role: &Role,
+) -> Result<Entitled, AllocError>
+    requires { IsEntitled (option_copied quota) free.old.bundle free.old.entitled }
+    ensures role { IfOk result (λ entitled. entitled.role ≡ role.now) }
+    ensures entitled { IfOk result (λ entitled. IsEntitlement (option_copied quota) free.old.bundle role.now entitled.bundle) }
     ensures bundle { free.new.bundle ≡ free.old.bundle }
     ensures none { free.new.entitled ≡ None }
 {
@@ -50,7 +75,7 @@ fn entitle(free: &mut Free, role: &Role) -> Result<Entitled, AllocError>
     }
     Ok(Entitled {
         role: role.copy()?,
-        bundle: free.bundle.part_for(role)?,
+        bundle: part_within(quota, &free.bundle, role)?,
     })
 }
 
@@ -62,21 +87,24 @@ fn is_grantable(tables: &Tables, agent: &Name, client: &ClientPath, bundle: &Bun
         && !tables.is_held_back(client.role(), client.framework(), agent, bundle)
 }
 
-/// Takes from what is free on an agent what a client is granted: what its role may have, if it may be offered that.
+/// Takes from what is free on an agent what a client is granted: what its role may have, if it may be offered that. What the role
+/// may have is forgotten with a grant, which takes from the headroom too.
 pub fn grant(
     tables: &Tables,
     agent: &Name,
     client: &ClientPath,
+    quota: Option<&Quota>,
     free: &mut Free,
 ) -> Result<Option<Bundle>, AllocError>
-    requires { IsEntitled free.old.bundle free.old.entitled }
+    requires { IsEntitled (option_copied quota) free.old.bundle free.old.entitled }
     ensures granted { IfOk result (λ granted. (rows : Rows) (a : AgentRow) (of : Client)
         → free_of rows a ≡ free.old.bundle → a.name ≡ agent.now → rows.filters ≡ tables.now.rows.filters
-        → rows.clock ≡ tables.now.rows.clock → client.now ≡ path_of of → granted ≡ grant rows a of) }
+        → rows.clock ≡ tables.now.rows.clock → IsQuotaOf rows (option_copied quota) → client.now ≡ path_of of → granted ≡ grant rows a of) }
     ensures left { IfOk result (λ granted. MatchOption granted (free.new.bundle ≡ free.old.bundle) (λ bundle. free.new.bundle ≡ rest free.old.bundle bundle)) }
-    ensures entitled { OnOk result (IsEntitled free.new.bundle free.new.entitled) }
+    ensures entitled { IfOk result (λ granted. MatchOption granted
+        (IsEntitled (option_copied quota) free.new.bundle free.new.entitled) (λ _. free.new.entitled ≡ None)) }
 {
-    let entitled = entitle(free, client.role())?;
+    let entitled = entitle(quota, free, client.role())?;
     if !is_grantable(tables, agent, client, &entitled.bundle) {
         free.entitled = Some(entitled);
         return Ok(None);

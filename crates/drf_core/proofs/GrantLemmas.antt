@@ -1,6 +1,6 @@
 -- What a role may have, what is granted of it, and what a quota counts, by what the code reads.
-use Rattle.std.proofs.Common.{◌≡◌, ◌≤◌, Bool, ◌&&◌, List, [], Option, Some, None, length, sym, ap, ◌∙◌, cond, arith}
-use Rattle.std.specs.Prelude.{not}
+use Rattle.std.proofs.Common.{◌≡◌, ◌≢◌, ◌≤◌, Bool, true, false, ◌&&◌, List, [], ◌∷◌, Option, Some, None, length, refl, sym, ap, ◌∙◌, cond, arith}
+use Rattle.std.specs.Prelude.{not, IsTrue, ◌↔◌}
 use Rattle.drf_role.specs.Text.{Text}
 use Rattle.drf_role.specs.Path.{Path, role_part, framework_part}
 use Rattle.drf_role.specs.PathLaws.{role_part-client_path, framework_part-client_path}
@@ -60,6 +60,13 @@ module _ (tables : Rows) (name : Text) (path : Path) (quota : Option Allowance) 
       ∙ (λ i. cond (is_allocatable (bundle i) && not (held i)) (Some (bundle i)) None)
 
 -- ---- what a quota counts
+
+-- the test whether any role has a limit
+pub no_limits : (limits : List LimitRow) (some : Bool) → IsTrue some ↔ (limits ≢ []) → some ≡ false → limits ≡ []
+no_limits [] some told none = refl
+no_limits (l ∷ ls) some told none =
+    let limited : some ≡ true = told.1 (λ (same : l ∷ ls ≡ []). cc) in
+    absurd cc
 
 -- a copy counts the same
 pub allowance-copied : (rows : Rows) (a copy : Allowance) → IsAllowanceOf rows a → IsSame a copy → IsAllowanceOf rows copy

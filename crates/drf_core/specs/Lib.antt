@@ -7,3 +7,4 @@ pub mod Drafting
 pub mod Entitling
 pub mod Registering
 pub mod Accepting
+pub mod Refusing

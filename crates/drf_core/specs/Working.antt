@@ -10,7 +10,7 @@ use Rattle.drf_rows.specs.LimitNumbers.{LimitNumbers}
 use Rattle.drf_rows.specs.Members.{distinct}
 use Rattle.drf_rows.specs.Step.{effect, new_offers, refusal_of, rows_after}
 use Rattle.drf_rows.specs.declared.event.Event.{Event}
-use Rattle.drf_rows.specs.declared.event.Event.TheVariants.{AddAgent, RemoveAgent, ActivateAgent, DeactivateAgent, AddFramework, RemoveFramework, Accept, Decline, Rescind, Finish, Suppress, Revive, SetWeight, Cycle, Report}
+use Rattle.drf_rows.specs.declared.event.Event.TheVariants.{AddAgent, RemoveAgent, ActivateAgent, DeactivateAgent, SetAgent, AddFramework, RemoveFramework, Accept, Decline, Rescind, Finish, Suppress, Revive, Reserve, Unreserve, SetWeight, SetLimit, Cycle, Report}
 use Rattle.drf_rows.specs.declared.rows.OfferRow.{OfferRow}
 use Rattle.drf_rows.specs.declared.rows.Rows.{Rows}
 use Rattle.drf_sorter.specs.Work.{Work, debt}
@@ -35,6 +35,7 @@ touched rows (AddAgent agent total) = []
 touched rows (RemoveAgent agent) = []
 touched rows (ActivateAgent agent) = []
 touched rows (DeactivateAgent agent) = losers rows (offers_on agent)
+touched rows (SetAgent agent total) = []
 touched rows (AddFramework framework roles) = map (λ role. record { role = role; framework = framework }) (distinct roles)
 touched rows (RemoveFramework framework) =
     losers rows (all_of framework) ++ filter (λ c. same_text c.framework framework) (clients_of rows)
@@ -44,7 +45,10 @@ touched rows (Rescind offer) = losers rows (one_offer offer)
 touched rows (Finish framework task) = losers rows (one_task framework task)
 touched rows (Suppress framework role) = record { role = role; framework = framework } ∷ []
 touched rows (Revive framework role) = record { role = role; framework = framework } ∷ []
+touched rows (Reserve agent role resources) = []
+touched rows (Unreserve agent role resources) = []
 touched rows (SetWeight role weight) = []
+touched rows (SetLimit role limit) = []
 touched rows (Cycle at) = offered_to (new_offers rows (effect rows (Cycle at)))
 touched rows Report = []
 
@@ -52,6 +56,7 @@ touched rows Report = []
 abbrev pub allowed : Rows → Event → Option ℕ
 allowed rows (AddAgent agent total) = None
 allowed rows (RemoveAgent agent) = None
+allowed rows (SetAgent agent total) = None
 allowed rows (SetWeight role weight) = Some 1
 allowed rows event = Some (nodes_of (touched rows event))
 

@@ -1,7 +1,7 @@
 //! Agents register, take part or not, and leave.
 ghost use Rattle.std.specs.Prelude.{◌≡◌, None, IfOk, OnOk, OnErr};
 ghost use Rattle.drf_rows.specs.Step.{refusal_of, effect};
-ghost use Rattle.drf_rows.specs.declared.event.Event.TheVariants.{AddAgent, RemoveAgent, ActivateAgent, DeactivateAgent};
+ghost use Rattle.drf_rows.specs.declared.event.Event.TheVariants.{AddAgent, RemoveAgent, ActivateAgent, DeactivateAgent, SetAgent};
 ghost use Rattle.drf_rows.specs.declared.reply.Reply.TheVariants.{Done};
 ghost use Rattle.drf_core.specs.Content.{content_of};
 ghost use Rattle.drf_core.specs.Kept.{IsKept, StandAt};
@@ -75,4 +75,26 @@ pub fn deactivate_agent<S: Sorter>(tables: &mut Tables, sorter: &mut S, agent: &
     end(tables, sorter, Ending::OffersOn(agent));
     tables.set_active(agent, false);
     Reply::Done
+}
+
+/// An agent's total is another from now on. What is held there stays.
+pub fn set_agent<S: Sorter>(
+    limits: &Limits,
+    tables: &mut Tables,
+    sorter: &mut S,
+    agent: &Name,
+    total: Bundle,
+) -> Result<Reply, AllocError>
+    requires kept { IsKept (S.content sorter.old) limits.now tables.old.rows }
+    requires welcome { refusal_of limits.now tables.old.rows (SetAgent agent.now total) ≡ None }
+    ensures reply { IfOk result (λ reply. reply ≡ Done) }
+    ensures ok { OnOk result (StandAt (effect tables.old.rows (SetAgent agent.now total)) tables.new.rows (S.content sorter.new)) }
+    ensures err { OnErr result (StandAt tables.old.rows tables.new.rows (S.content sorter.new)) }
+{
+    let others = tables.total_without(agent)?;
+    let sum = others.plus(total.quantities())?;
+    let copy = sum.copy()?;
+    tables.set_total(agent, total, sum);
+    sorter.set_total(copy);
+    Ok(Reply::Done)
 }

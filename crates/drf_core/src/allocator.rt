@@ -36,7 +36,8 @@ impl<S: Sorter> Model for Core<S> {
 }
 
 impl<S: Sorter> Core<S> {
-    ghost use Rattle.drf_rows.specs.Step.{live_rows, reply_to, replies_to, refusal_of};
+    ghost use Rattle.drf_rows.specs.Step.{live_rows, reply_to, replies_to};
+    ghost use Rattle.drf_core.specs.Refusing.{early_refusal_of};
     ghost use Rattle.drf_rows.specs.Report.{report_of};
     ghost use Rattle.drf_core.specs.Content.{content_of};
 
@@ -55,19 +56,20 @@ impl<S: Sorter> Core<S> {
     }
 
     /// Takes one event, whole or not at all. A refusal is a reply; a refused event changes nothing, nor does want of
-    /// memory, which no refused event meets. However it ends, nothing is granted twice. At `Ok`, a sorter whose work is
+    /// memory, which no refused event meets but one that is refused for what is free, held or consumed: where resources move
+    /// between everyone and a role, or a total is another. However it ends, nothing is granted twice. At `Ok`, a sorter whose work is
     /// counted owes no more for it than the nodes of the clients that it touches, and one for a weight, but where the total
     /// of the cluster changes.
     pub fn step(&mut self, event: Event) -> Result<Reply, AllocError>
         ensures reply { IfOk result (λ reply. reply ≡ reply_to self.old.limits self.old.rows event) }
         ensures ok { OnOk result (IsAfter self.old self.new event) }
         ensures err { OnErr result (IsSame self.old self.new) }
-        ensures not_refused { OnErr result (refusal_of self.old.limits self.old.rows event ≡ None) }
+        ensures not_refused { OnErr result (early_refusal_of self.old.limits self.old.rows event ≡ None) }
         ensures safe { IsSafe (live_rows self.new.rows) }
         ensures work { OnOk result (MatchOption (allowance self.old.limits self.old.rows event) (Unit {0}) (Adds S.COUNTED self.old.work self.new.work)) }
     {
         self.tables.forget_spent();
-        if let Some(refusal) = refusal(&self.limits, &self.tables, &event) {
+        if let Some(refusal) = refusal(&self.limits, &mut self.tables, &event)? {
             return Ok(Reply::Refused(refusal));
         }
         let reply = apply(

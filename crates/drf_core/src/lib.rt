@@ -8,7 +8,9 @@ mod cycle;
 mod ending;
 mod frameworks;
 mod free;
+mod late;
 mod life;
+mod moving;
 mod refusal;
 mod report;
 

@@ -1,40 +1,43 @@
-//! Why an event is refused. No test needs memory.
-ghost use Rattle.std.specs.Prelude.{◌≡◌, ◌∷◌, [], ◌<◌, ◌≤◌, false, length, nat_lt, not, IfNone, IfSome};
-ghost use Rattle.std.specs.List.{list_all, list_any};
-ghost use Rattle.drf_bundle.specs.Bundle.{quantities_of};
-ghost use Rattle.drf_rows.specs.Step.{accept_is_too_much, decline_is_too_much, first_case, is_full, is_in_role, too_many_agents, too_many_frameworks, refusal_of};
-ghost use Rattle.drf_rows.specs.Members.{distinct, has_agent, has_framework, with_agent};
+//! Why an event is refused. But for the tests in `late`, none needs memory.
+ghost use Rattle.std.specs.Prelude.{◌≡◌, ◌∷◌, [], ◌<◌, ◌≤◌, false, length, not, None, IfNone, IfSome, IfOk, OnErr};
+ghost use Rattle.std.specs.List.{list_all};
+ghost use Rattle.drf_rows.specs.Consistent.{IsConsistent};
+ghost use Rattle.drf_rows.specs.Step.{accept_is_too_much, decline_is_too_much, first_case, is_full, is_in_role, is_too_large, too_many_agents, too_many_frameworks, too_many_limits, refusal_of};
+ghost use Rattle.drf_rows.specs.Members.{distinct, has_framework, with_agent};
 ghost use Rattle.drf_rows.specs.Offers.{are_many_filters, has_offer, has_task, is_anothers, is_beyond, is_task_known};
 ghost use Rattle.drf_rows.specs.Weights.{is_weight, too_many_weights};
-ghost use Rattle.drf_rows.specs.declared.event.Event.TheVariants.{AddAgent, AddFramework, Rescind, Finish, SetWeight, Cycle};
-ghost use Rattle.drf_rows.specs.declared.reply.Refusal.TheVariants.{HistoryFull, UnknownAgent, UnknownFramework, NotInRole, TooMany};
+ghost use Rattle.drf_rows.specs.declared.event.Event.TheVariants.{AddAgent, AddFramework, Rescind, Finish, SetWeight, SetLimit, Cycle};
+ghost use Rattle.drf_rows.specs.declared.reply.Refusal.TheVariants.{HistoryFull, UnknownFramework, NotInRole, TooMany};
 ghost use Rattle.drf_core.specs.Accepting.{cases_of_tasks, has_rest};
 ghost use Rattle.drf_core.specs.Kept.{AreFew};
+ghost use Rattle.drf_core.specs.Refusing.{cases_of_agent, cases_of_move, early_refusal_of};
 
-use drf_bundle::Bundle;
+use crate::late::refuse_late;
+use drf_bundle::{Bundle, Quantities};
 use drf_role::{Name, Role};
 use drf_rows::{
     Accept, Decline, Event, LARGEST_AMOUNT, LATEST_MOMENT, Limits, Refusal, Table, TaskList,
 };
 use drf_tables::Tables;
+use std::alloc::AllocError;
 
 /// The first of some cases that holds.
-fn first_case(cases: &[(bool, Refusal)]) -> Option<Refusal>
+pub(crate) fn first_case(cases: &[(bool, Refusal)]) -> Option<Refusal>
     ensures { result ≡ first_case cases.now }
 {
     cases.iter().find(|case| case.0).map(|case| case.1)
 }
 
 /// As many events as the limit were accepted.
-fn is_full(limits: &Limits, tables: &Tables) -> bool
+pub(crate) fn is_full(limits: &Limits, tables: &Tables) -> bool
     ensures { result ≡ is_full limits.now tables.now.rows }
 {
     limits.events() <= tables.accepted()
 }
 
 /// A scalar of the total is above the largest amount.
-fn is_too_large(total: &Bundle) -> bool
-    ensures { result ≡ list_any (λ e. nat_lt LARGEST_AMOUNT e.amount) (quantities_of total.now) }
+pub(crate) fn is_too_large(total: &Bundle) -> bool
+    ensures { result ≡ is_too_large total.now }
 {
     total
         .quantities()
@@ -105,6 +108,16 @@ fn too_many_weights(limits: &Limits, tables: &Tables, role: &Role) -> bool
 {
     let weights = tables.weight_count() as u64 + 1;
     !tables.has_weight(role) & (limits.weights() < weights)
+}
+
+/// The limit would get a row that is one too many, or names too many scalars.
+fn too_many_limits(limits: &Limits, tables: &Tables, role: &Role, limit: &Quantities) -> bool
+    ensures { result ≡ too_many_limits limits.now tables.now.rows role.now limit.now }
+{
+    let entries = limit.entries();
+    let is_new = !entries.is_empty() & !tables.has_limit(role);
+    let is_row_too_many = limits.limits() <= tables.limit_count() as u64;
+    (is_new & is_row_too_many) | (limits.scalar_names() < entries.len() as u64)
 }
 
 /// The offer stands.
@@ -208,8 +221,12 @@ fn refuse_agent(limits: &Limits, tables: &Tables, agent: &Name, total: &Bundle) 
 }
 
 /// Why an event of an agent is refused that has to be registered.
-fn refuse_unknown_agent(limits: &Limits, tables: &Tables, agent: &Name) -> Option<Refusal>
-    ensures { result ≡ first_case ((is_full limits.now tables.now.rows, HistoryFull) ∷ (not (has_agent tables.now.rows agent.now), UnknownAgent) ∷ []) }
+pub(crate) fn refuse_unknown_agent(
+    limits: &Limits,
+    tables: &Tables,
+    agent: &Name,
+) -> Option<Refusal>
+    ensures { result ≡ first_case (cases_of_agent limits.now tables.now.rows agent.now) }
 {
     first_case(&[
         (is_full(limits, tables), Refusal::HistoryFull),
@@ -346,6 +363,25 @@ fn refuse_finish(limits: &Limits, tables: &Tables, framework: &Name, task: &Name
     ])
 }
 
+/// Why resources do not move between everyone and a role, but for what is free and what limits admit.
+fn refuse_move(
+    limits: &Limits,
+    tables: &Tables,
+    agent: &Name,
+    role: &Role,
+    resources: &Bundle,
+) -> Option<Refusal>
+    ensures { result ≡ first_case (cases_of_move limits.now tables.now.rows agent.now role.now resources.now) }
+{
+    first_case(&[
+        (is_full(limits, tables), Refusal::HistoryFull),
+        (!tables.has_agent(agent), Refusal::UnknownAgent),
+        (role.is_default(), Refusal::DefaultRole),
+        (resources.entries().is_empty(), Refusal::Empty),
+        (!resources.is_unreserved(), Refusal::NotUnreserved),
+    ])
+}
+
 /// Why a weight is refused.
 fn refuse_weight(limits: &Limits, tables: &Tables, role: &Role, weight: u64) -> Option<Refusal>
     requires { AreFew limits.now tables.now.rows }
@@ -355,6 +391,25 @@ fn refuse_weight(limits: &Limits, tables: &Tables, role: &Role, weight: u64) -> 
         (is_full(limits, tables), Refusal::HistoryFull),
         (is_bad_weight(weight), Refusal::BadWeight),
         (too_many_weights(limits, tables, role), Refusal::TooMany),
+    ])
+}
+
+/// Why a limit is refused.
+fn refuse_limit(
+    limits: &Limits,
+    tables: &Tables,
+    role: &Role,
+    limit: &Quantities,
+) -> Option<Refusal>
+    ensures { result ≡ refusal_of limits.now tables.now.rows (SetLimit role.now limit.now) }
+{
+    first_case(&[
+        (is_full(limits, tables), Refusal::HistoryFull),
+        (role.is_default(), Refusal::DefaultRole),
+        (
+            too_many_limits(limits, tables, role, limit),
+            Refusal::TooMany,
+        ),
     ])
 }
 
@@ -368,16 +423,17 @@ fn refuse_cycle(limits: &Limits, tables: &Tables, at: u64) -> Option<Refusal>
     ])
 }
 
-/// Why an event is refused, if it is: of several cases the one of the least number.
-pub fn refusal(limits: &Limits, tables: &Tables, event: &Event) -> Option<Refusal>
+/// Why an event is refused, of the cases that are told whatever the memory.
+fn refuse_early(limits: &Limits, tables: &Tables, event: &Event) -> Option<Refusal>
     requires few { AreFew limits.now tables.now.rows }
-    ensures { result ≡ refusal_of limits.now tables.now.rows event.now }
+    ensures { result ≡ early_refusal_of limits.now tables.now.rows event.now }
 {
     match event {
         Event::AddAgent { agent, total } => refuse_agent(limits, tables, agent, total),
         Event::RemoveAgent { agent } => refuse_unknown_agent(limits, tables, agent),
         Event::ActivateAgent { agent } => refuse_unknown_agent(limits, tables, agent),
         Event::DeactivateAgent { agent } => refuse_unknown_agent(limits, tables, agent),
+        Event::SetAgent { agent, total: _ } => refuse_unknown_agent(limits, tables, agent),
         Event::AddFramework { framework, roles } => {
             refuse_framework(limits, tables, framework, roles)
         }
@@ -390,12 +446,42 @@ pub fn refusal(limits: &Limits, tables: &Tables, event: &Event) -> Option<Refusa
             limits, tables, framework, role,
         ),
         Event::Revive { framework, role } => refuse_unknown_client(limits, tables, framework, role),
+        Event::Reserve {
+            agent,
+            role,
+            resources,
+        } => refuse_move(limits, tables, agent, role, resources),
+        Event::Unreserve {
+            agent,
+            role,
+            resources,
+        } => refuse_move(limits, tables, agent, role, resources),
         Event::SetWeight { role, weight } => refuse_weight(limits, tables, role, *weight),
+        Event::SetLimit { role, limit } => refuse_limit(limits, tables, role, limit),
         Event::Cycle { at } => refuse_cycle(limits, tables, *at),
         Event::SetLimit { .. } => None,
         Event::Reserve { .. } => None,
         Event::Unreserve { .. } => None,
         Event::SetAgent { .. } => None,
         Event::Report => first_case(&[(is_full(limits, tables), Refusal::HistoryFull)]),
+    }
+}
+
+/// Why an event is refused, if it is: of several cases the one of the least number. No row changes. Where memory ends, no case
+/// holds that is told whatever the memory.
+pub fn refusal(
+    limits: &Limits,
+    tables: &mut Tables,
+    event: &Event,
+) -> Result<Option<Refusal>, AllocError>
+    requires few { AreFew limits.now tables.old.rows }
+    requires consistent { IsConsistent tables.old.rows }
+    ensures value { IfOk result (λ refusal. refusal ≡ refusal_of limits.now tables.old.rows event.now) }
+    ensures early { OnErr result (early_refusal_of limits.now tables.old.rows event.now ≡ None) }
+    ensures same { tables.new.rows ≡ tables.old.rows }
+{
+    match refuse_early(limits, tables, event) {
+        Some(refusal) => Ok(Some(refusal)),
+        None => refuse_late(limits, tables, event),
     }
 }

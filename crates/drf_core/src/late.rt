@@ -1,0 +1,186 @@
+//! Why resources are not reserved, not for everyone again, and why a total is not another. What is free, what limits admit
+//! and what is held is tested last, where there is memory.
+ghost use Rattle.std.specs.Prelude.{◌≡◌, ◌≢◌, ◌++◌, ◌<◌, ◌≤◌, [], true, length, Some, None, slice_get, IfOk, IfSome, IfNone};
+ghost use Rattle.drf_bundle.specs.Bundle.{is_unreserved, rest};
+ghost use Rattle.drf_rows.specs.Consistent.{IsConsistent};
+ghost use Rattle.drf_rows.specs.Cycle.{free_of};
+ghost use Rattle.drf_rows.specs.Members.{has_agent};
+ghost use Rattle.drf_rows.specs.Quota.{admits};
+ghost use Rattle.drf_rows.specs.Step.{first_case};
+ghost use Rattle.drf_rows.specs.Totals.{agent_at, is_not_free};
+ghost use Rattle.drf_rows.specs.declared.rows.AgentRow.{AgentRow};
+ghost use Rattle.drf_core.specs.Kept.{AreFew};
+ghost use Rattle.drf_core.specs.Refusing.{cases_of_names, cases_of_reserved, cases_of_total, cases_of_unreserved, early_refusal_of, late_cases_of};
+
+use crate::refusal::{first_case, is_too_large};
+use drf_amount::Algebra;
+use drf_bundle::{Bundle, Quantities};
+use drf_role::{Name, Role};
+use drf_rows::{Event, Limits, Refusal};
+use drf_tables::Tables;
+use std::alloc::AllocError;
+
+/// The place of an agent, by registration.
+fn place_of(tables: &Tables, agent: &Name) -> Option<usize>
+    ensures some { IfSome result (λ place. slice_get tables.now.rows.agents place ≡ agent_at tables.now.rows agent.now) }
+    ensures place { IfSome result (λ place. place < length tables.now.rows.agents) }
+    ensures none { IfNone result (agent_at tables.now.rows agent.now ≡ None) }
+{
+    for place in 0..tables.agent_count() {
+        if tables.agent_name(place) == agent {
+            return Some(place);
+        }
+    }
+    None
+}
+
+/// The agent is there, and what is free on it does not cover the resources.
+fn is_not_free(tables: &Tables, agent: &Name, resources: &Bundle) -> bool
+    requires { tables.now.settled ≡ true }
+    ensures { result ≡ is_not_free tables.now.rows agent.now resources.now }
+{
+    match place_of(tables, agent) {
+        Some(place) => !tables.free(place).covers(resources),
+        None => false,
+    }
+}
+
+/// No limit keeps a role from consuming so much more.
+fn admits(tables: &Tables, role: &Role, amounts: &Quantities) -> bool
+    requires { tables.now.rows.limits ≢ [] → tables.now.counted ≡ true }
+    ensures { result ≡ admits tables.now.rows role.now amounts.now }
+{
+    if !tables.has_limits() {
+        return true;
+    }
+    tables.quota().admits(role, amounts)
+}
+
+/// Why resources are not reserved for a role: they are not free, or a limit does not admit them.
+fn refuse_reserved(
+    tables: &mut Tables,
+    agent: &Name,
+    role: &Role,
+    resources: &Bundle,
+) -> Result<Option<Refusal>, AllocError>
+    requires { length tables.old.rows.agents ≤ 4096 }
+    ensures value { IfOk result (λ refusal. refusal ≡ first_case (cases_of_reserved tables.old.rows agent.now role.now resources.now)) }
+    ensures same { tables.new.rows ≡ tables.old.rows }
+{
+    tables.settle()?;
+    tables.count_consumption()?;
+    let amounts = resources.quantities();
+    Ok(first_case(&[
+        (is_not_free(tables, agent, resources), Refusal::NotCovered),
+        (!admits(tables, role, amounts), Refusal::OverLimit),
+    ]))
+}
+
+/// Why resources that were reserved are not for everyone again: they are not free.
+fn refuse_unreserved(
+    tables: &mut Tables,
+    agent: &Name,
+    role: &Role,
+    resources: &Bundle,
+) -> Result<Option<Refusal>, AllocError>
+    requires { is_unreserved resources.now ≡ true }
+    ensures value { IfOk result (λ refusal. refusal ≡ first_case (cases_of_unreserved tables.old.rows agent.now role.now resources.now)) }
+    ensures same { tables.new.rows ≡ tables.old.rows }
+{
+    let reserved = resources.relabel(role)?;
+    tables.settle()?;
+    Ok(first_case(&[(is_not_free(tables, agent, &reserved), Refusal::NotCovered)]))
+}
+
+/// What is held on an agent, offered or in tasks.
+fn held_on(tables: &Tables, agent: &Name) -> Result<Bundle, AllocError>
+    requires settled { tables.now.settled ≡ true }
+    requires known { has_agent tables.now.rows agent.now ≡ true }
+    ensures { IfOk result (λ held. (a : AgentRow) → agent_at tables.now.rows agent.now ≡ Some a → held ≡ rest a.total (free_of tables.now.rows a)) }
+{
+    let place = place_of(tables, agent).unwrap();
+    let rows = tables.rows()?;
+    rows.agents.as_slice()[place].total.rest(tables.free(place))
+}
+
+/// Why a total is not an agent's: it does not cover what is held there, or is too large.
+fn refuse_total(
+    tables: &mut Tables,
+    agent: &Name,
+    total: &Bundle,
+) -> Result<Option<Refusal>, AllocError>
+    requires known { has_agent tables.old.rows agent.now ≡ true }
+    requires consistent { IsConsistent tables.old.rows }
+    ensures value { IfOk result (λ refusal. refusal ≡ first_case (cases_of_total tables.old.rows agent.now total.now)) }
+    ensures same { tables.new.rows ≡ tables.old.rows }
+{
+    tables.settle()?;
+    let held = held_on(tables, agent)?;
+    Ok(first_case(&[
+        (!total.covers(&held), Refusal::NotCovered),
+        (is_too_large(total), Refusal::TooLarge),
+    ]))
+}
+
+/// Why an agent does not get a total that it could have: the names of scalars over all agents would be too many.
+fn refuse_names(
+    limits: &Limits,
+    tables: &Tables,
+    agent: &Name,
+    total: &Bundle,
+) -> Result<Option<Refusal>, AllocError>
+    requires known { has_agent tables.now.rows agent.now ≡ true }
+    requires consistent { IsConsistent tables.now.rows }
+    requires right { first_case (cases_of_total tables.now.rows agent.now total.now) ≡ None }
+    ensures { IfOk result (λ refusal. refusal ≡ first_case (cases_of_names limits.now tables.now.rows agent.now total.now)) }
+{
+    let others = tables.total_without(agent)?;
+    let names = others.count_with(total.quantities());
+    Ok(first_case(&[(limits.scalar_names() < names, Refusal::TooMany)]))
+}
+
+/// Why an agent that is there does not get another total.
+fn refuse_other_total(
+    limits: &Limits,
+    tables: &mut Tables,
+    agent: &Name,
+    total: &Bundle,
+) -> Result<Option<Refusal>, AllocError>
+    requires known { has_agent tables.old.rows agent.now ≡ true }
+    requires consistent { IsConsistent tables.old.rows }
+    ensures value { IfOk result (λ refusal. refusal ≡ first_case (cases_of_total tables.old.rows agent.now total.now ++ cases_of_names limits.now tables.old.rows agent.now total.now)) }
+    ensures same { tables.new.rows ≡ tables.old.rows }
+{
+    match refuse_total(tables, agent, total)? {
+        Some(refusal) => Ok(Some(refusal)),
+        None => refuse_names(limits, tables, agent, total),
+    }
+}
+
+/// Why an event is refused, of the cases that are told where there is memory.
+pub(crate) fn refuse_late(
+    limits: &Limits,
+    tables: &mut Tables,
+    event: &Event,
+) -> Result<Option<Refusal>, AllocError>
+    requires few { AreFew limits.now tables.old.rows }
+    requires consistent { IsConsistent tables.old.rows }
+    requires early { early_refusal_of limits.now tables.old.rows event.now ≡ None }
+    ensures value { IfOk result (λ refusal. refusal ≡ first_case (late_cases_of limits.now tables.old.rows event.now)) }
+    ensures same { tables.new.rows ≡ tables.old.rows }
+{
+    match event {
+        Event::SetAgent { agent, total } => refuse_other_total(limits, tables, agent, total),
+        Event::Reserve {
+            agent,
+            role,
+            resources,
+        } => refuse_reserved(tables, agent, role, resources),
+        Event::Unreserve {
+            agent,
+            role,
+            resources,
+        } => refuse_unreserved(tables, agent, role, resources),
+        _ => Ok(None),
+    }
+}

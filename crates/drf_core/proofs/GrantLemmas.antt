@@ -7,7 +7,7 @@ use Rattle.drf_role.specs.PathLaws.{role_part-client_path, framework_part-client
 use Rattle.drf_bundle.specs.Bundle.{IsBundle, part_for, clip}
 use Rattle.drf_bundle.specs.declared.quantities.Entry.{Entry}
 use Rattle.drf_bundle.specs.declared.resource.Resource.{Resource}
-use Rattle.drf_gates.specs.Quota.{Allowance, IsAllowanceOf, IsRaisedBy, IsSame}
+use Rattle.drf_gates.specs.Quota.{Allowance, IsAllowanceOf, IsRaisedBy}
 use Rattle.drf_rows.specs.Client.{Client, path_of}
 use Rattle.drf_rows.specs.Consistent.{IsConsistent}
 use Rattle.drf_rows.specs.Cycle.{free_of, grant, is_allocatable, with_offer}
@@ -68,13 +68,6 @@ no_limits (l ∷ ls) some told none =
     let limited : some ≡ true = told.1 (λ (same : l ∷ ls ≡ []). cc) in
     absurd cc
 
--- a copy counts the same
-pub allowance-copied : (rows : Rows) (a copy : Allowance) → IsAllowanceOf rows a → IsSame a copy → IsAllowanceOf rows copy
-allowance-copied rows a copy counted same = record {
-  limits = same.limits ∙ counted.limits;
-  used = λ test label. same.used test label ∙ counted.used test label;
-}
-
 -- one more offer is counted
 pub allowance-counted : (rows : Rows) (offer : OfferRow) (old new : Allowance) → IsAllowanceOf rows old
     → IsRaisedBy old new (λ test label. cond (test offer.role) (unreserved_in label offer.bundle) 0) → IsAllowanceOf (with_offer rows offer) new
@@ -83,6 +76,12 @@ allowance-counted rows offer old new counted raised = record {
   limits = raised.limits ∙ counted.limits;
   used = λ test label. omega (arith, raised.used test label, counted.used test label, consumption-with_offer test rows offer label);
 }
+
+pub unlimited-counted : (rows : Rows) (offer : OfferRow) (quota : Option Allowance) → quota ≡ None → IsQuotaOf rows quota
+    → IsQuotaOf (with_offer rows offer) quota
+unfolding with_offer
+unlimited-counted rows offer None none counted = counted
+unlimited-counted rows offer (Some a) none counted = cc
 
 -- there is room for it, since with it there is no more than in the cluster
 pub can_count : (rows : Rows) (offer : OfferRow) (quota : Option Allowance) → IsQuotaOf rows quota

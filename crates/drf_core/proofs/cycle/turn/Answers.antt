@@ -45,6 +45,7 @@ loop-sorter-init g c =
         free = c.in_ok-copy.ensures.same ∙ c.free.ensures agent.0 agent.1
             ∙ sym (free-before rows offers c.args.drafts.now.lefts.items c.args.place agent.0 c.requires.left agent.1);
       };
+      quota = c.requires.quota;
       entitled = tt;
       work = λ counted. omega (arith, c.fix_order.ensures.work counted);
       lefts = refl;
@@ -68,9 +69,10 @@ loop-sorter-preserved g c =
           (agents-with_offers rows c.loop-sorter.drafts.offers.items) first.1 (c.in_ok-try_first.ensures.tried first.0 first.1)
           (c.pass.ensures.queue ∙ ap (λ ps. drop 1 ps) c.try_first.ensures.queue);
       free = c.in_ok-try_first.ensures.free;
+      quota = c.in_ok-try_first.ensures.quota;
       entitled = c.in_ok-try_first.ensures.entitled;
       work = λ counted. omega (arith, c.loop-sorter.invariant.work counted, c.in_ok-try_first.ensures.work counted, ap debt c.pass.ensures.work);
-      lefts = c.loop-sorter.invariant.lefts;
+      lefts = c.try_first.ensures.lefts ∙ c.loop-sorter.invariant.lefts;
     }
 
 pub loop-sorter-smaller : goal.loop-sorter-smaller

@@ -12,7 +12,8 @@ fn add_event(alloc: Global, events: &mut Vec<Event>, line: &str) -> Result<(), L
     Ok(events.push(read_event(alloc, line.as_bytes())?)?)
 }
 
-fn events_of(alloc: Global, lines: &str) -> Result<Vec<Event>, LineError> {
+/// The events of some lines, each of which is one.
+pub fn events_of(alloc: Global, lines: &str) -> Result<Vec<Event>, LineError> {
     let mut events = Vec::new(alloc);
     for line in lines.lines() {
         add_event(alloc, &mut events, line)?;

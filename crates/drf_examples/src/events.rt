@@ -1,23 +1,19 @@
 //! The events of a day in one call of the core, and what its rows and its report then tell.
-use crate::rows::bytes;
 use crate::streams::tell;
-use anyhow::Result;
 use drf_core::Core;
-use drf_lines::{read_event, write_reply};
-use drf_rows::{Event, Limits, Reply};
+use drf_lines::{LineError, read_event, write_reply};
+use drf_rows::{Event, Limits, Reply, Report};
 use drf_sorter::PlainSorter;
-use std::alloc::Global;
-use std::fs;
+use std::alloc::{AllocError, Global};
 use std::rt::{Files, Runtime};
+use std::{fs, io};
 
-/// The example that is run: each of its lines is an event.
-const EXAMPLE: &str = "day";
-
-fn add_event(alloc: Global, events: &mut Vec<Event>, line: &str) -> Result<()> {
+fn add_event(alloc: Global, events: &mut Vec<Event>, line: &str) -> Result<(), LineError> {
     Ok(events.push(read_event(alloc, line.as_bytes())?)?)
 }
 
-fn events_of(alloc: Global, lines: &str) -> Result<Vec<Event>> {
+/// The events of some lines, each of which is one.
+pub fn events_of(alloc: Global, lines: &str) -> Result<Vec<Event>, LineError> {
     let mut events = Vec::new(alloc);
     for line in lines.lines() {
         add_event(alloc, &mut events, line)?;
@@ -25,12 +21,12 @@ fn events_of(alloc: Global, lines: &str) -> Result<Vec<Event>> {
     Ok(events)
 }
 
-fn add_reply(alloc: Global, text: &mut Vec<u8>, reply: &Reply) -> Result<()> {
+fn add_reply(alloc: Global, text: &mut Vec<u8>, reply: &Reply) -> Result<(), AllocError> {
     let line = write_reply(alloc, reply)?;
-    Ok(text.extend_from_slice(line.as_slice())?)
+    text.extend_from_slice(line.as_slice())
 }
 
-fn text_of(alloc: Global, replies: &[Reply]) -> Result<Vec<u8>> {
+fn text_of(alloc: Global, replies: &[Reply]) -> Result<Vec<u8>, AllocError> {
     let mut text = Vec::new(alloc);
     for reply in replies {
         add_reply(alloc, &mut text, reply)?;
@@ -39,51 +35,110 @@ fn text_of(alloc: Global, replies: &[Reply]) -> Result<Vec<u8>> {
 }
 
 /// The lines of the replies to events, of which the core takes all in one call.
-fn answered(alloc: Global, core: &mut Core<PlainSorter>, events: &[Event]) -> Result<Vec<u8>> {
+fn answered(
+    alloc: Global,
+    core: &mut Core<PlainSorter>,
+    events: &[Event],
+) -> Result<Vec<u8>, AllocError> {
     let mut replies = Vec::new(alloc);
     core.run(events, &mut replies)?;
     text_of(alloc, &replies)
 }
 
-fn run_lines(alloc: Global, core: &mut Core<PlainSorter>, lines: &str) -> Result<Vec<u8>> {
-    let events = events_of(alloc, lines)?;
-    answered(alloc, core, &events)
+fn is_answered(
+    alloc: Global,
+    core: &mut Core<PlainSorter>,
+    events: &[Event],
+    output: &[u8],
+) -> bool {
+    match answered(alloc, core, events) {
+        Ok(told) => told.as_slice() == output,
+        Err(_) => false,
+    }
 }
 
-fn is_exact<R: Files + AllocGlobal>(rt: &R, core: &mut Core<PlainSorter>) -> Result<bool> {
-    let path = format!(in rt.alloc(); "{EXAMPLE}.in")?;
-    let lines = fs::read_to_string(rt, path.as_str())?;
-    let told = run_lines(rt.alloc(), core, lines.as_str())?;
-    Ok(told.as_slice() == bytes(rt, EXAMPLE, "out")?.as_slice())
+/// Whether the core answers the lines, each of which is an event, by those bytes.
+fn answers(alloc: Global, core: &mut Core<PlainSorter>, lines: &str, output: &[u8]) -> bool {
+    match events_of(alloc, lines) {
+        Ok(events) => is_answered(alloc, core, &events, output),
+        Err(_) => false,
+    }
 }
 
-fn tell_rows(alloc: Global, core: &Core<PlainSorter>) -> Result<String> {
+fn is_exact<R: Files + AllocGlobal>(rt: &R, core: &mut Core<PlainSorter>) -> io::Result<bool> {
+    let (lines, output) = (fs::read_to_string(rt, "day.in")?, fs::read(rt, "day.out")?);
+    Ok(answers(rt.alloc(), core, lines.as_str(), &output))
+}
+
+/// How many rows of each kind there are, the clock, and how many events were accepted.
+#[derive(Clone, Copy)]
+struct Counts {
+    agents: usize,
+    frameworks: usize,
+    offers: usize,
+    tasks: usize,
+    filters: usize,
+    clock: u64,
+    accepted: u64,
+}
+
+fn counts_of(core: &Core<PlainSorter>) -> Result<Counts, AllocError> {
     let rows = core.rows()?;
-    let (agents, frameworks) = (rows.agents.len(), rows.frameworks.len());
-    let (offers, tasks, filters) = (rows.offers.len(), rows.tasks.len(), rows.filters.len());
-    let (clock, accepted) = (rows.clock, rows.accepted);
-    Ok(format!(in alloc;
-        "{agents} agents, {frameworks} frameworks, {offers} offers, {tasks} tasks, {filters} filters, clock {clock}, {accepted} accepted"
-    )?)
+    Ok(Counts {
+        agents: rows.agents.len(),
+        frameworks: rows.frameworks.len(),
+        offers: rows.offers.len(),
+        tasks: rows.tasks.len(),
+        filters: rows.filters.len(),
+        clock: rows.clock,
+        accepted: rows.accepted,
+    })
 }
 
-fn tell_report(alloc: Global, core: &Core<PlainSorter>) -> Result<String> {
-    let report = core.report()?;
+fn tell_rows(rt: &impl Print, counts: Counts) -> io::Result<()> {
+    let Counts {
+        agents,
+        frameworks,
+        offers,
+        tasks,
+        filters,
+        clock,
+        accepted,
+    } = counts;
+    println!(rt;
+        "rows: {agents} agents, {frameworks} frameworks, {offers} offers, {tasks} tasks, {filters} filters, clock {clock}, {accepted} accepted"
+    )
+}
+
+/// How many nodes a report has, and how many offers the first of them was made.
+fn nodes_of(report: &Report) -> (usize, u64) {
+    let offers = match report.nodes.as_slice() {
+        [first, ..] => first.count,
+        [] => 0,
+    };
+    (report.nodes.len(), offers)
+}
+
+fn copied_nodes_of(report: &Report) -> Result<(usize, u64), AllocError> {
     let copy = report.copy()?;
-    let (nodes, copied) = (report.nodes.len(), copy.nodes.len());
-    let offers = copy.nodes.as_slice().first().map_or(0, |node| node.count);
-    Ok(format!(in alloc; "{nodes} nodes, {copied} in a copy, {offers} offers to the first")?)
+    Ok(nodes_of(&copy))
 }
 
-fn tell_all<R: Runtime + AllocGlobal>(rt: &R, core: &mut Core<PlainSorter>) -> Result<()> {
+fn reported_nodes(core: &Core<PlainSorter>) -> Result<(usize, (usize, u64)), AllocError> {
+    let report = core.report()?;
+    let copied = copied_nodes_of(&report)?;
+    Ok((report.nodes.len(), copied))
+}
+
+fn tell_all<R: Runtime + AllocGlobal>(rt: &R, core: &mut Core<PlainSorter>) -> io::Result<()> {
     let is_exact = is_exact(rt, core)?;
     tell(rt, "a day at once", is_exact)?;
-    println!(rt; "rows: {}", tell_rows(rt.alloc(), core)?)?;
-    println!(rt; "report: {}", tell_report(rt.alloc(), core)?)?;
-    Ok(())
+    tell_rows(rt, counts_of(core)?)?;
+    let (nodes, (copied, offers)) = reported_nodes(core)?;
+    println!(rt; "report: {nodes} nodes, {copied} in a copy, {offers} offers to the first")
 }
 
-pub fn run_all<R: Runtime + AllocGlobal>(rt: &R) -> Result<()> {
+pub fn run_all<R: Runtime + AllocGlobal>(rt: &R) -> io::Result<()> {
     let mut core = Core::open(rt.alloc(), Limits::full())?;
     tell_all(rt, &mut core)
 }

@@ -8,9 +8,9 @@ mod lines;
 mod rows;
 mod streams;
 
-use anyhow::Result;
+use std::io;
 
-fn main(rt: HostRuntime) -> Result<()> {
+fn main(rt: HostRuntime) -> io::Result<()> {
     rows::run_all(&rt)?;
     streams::run_all(&rt)?;
     events::run_all(&rt)?;

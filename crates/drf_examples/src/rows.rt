@@ -1,6 +1,6 @@
 //! The worked examples: `rows` names each, behind it the word `echo`, or a limit that is not the greatest: `agents`,
 //! `filters`, `limits`, `scalar_names` or `events`, and its number. The lines of `NAME.in` are answered by those of `NAME.out`.
-use anyhow::{Context, Result};
+use crate::streams::tell;
 use drf_journal::{Device, run};
 use drf_rows::Limits;
 use std::alloc::Global;
@@ -14,7 +14,7 @@ pub fn bytes<R: Files + AllocGlobal>(rt: &R, name: &str, ending: &str) -> io::Re
 }
 
 /// How an example is run.
-#[derive(Drop)]
+#[derive(Clone, Copy)]
 struct Settings {
     limits: Limits,
     echo: bool,
@@ -46,36 +46,34 @@ fn settings_of(words: &str) -> Option<Settings> {
     Some(Settings { limits, echo })
 }
 
-fn answered(alloc: Global, settings: Settings, input: &[u8]) -> Result<Vec<u8>> {
+/// Whether the lines of an example are answered by those bytes.
+fn is_answered(alloc: Global, settings: Settings, input: &[u8], output: &[u8]) -> bool {
+    let Settings { limits, echo } = settings;
     let mut reader = Device::new(input);
     let mut writer = Device::new(Vec::new(alloc));
-    run(
-        alloc,
-        settings.limits,
-        &mut reader,
-        &mut writer,
-        settings.echo,
-    )?;
-    Ok(writer.into_inner())
+    let is_done = run(alloc, limits, &mut reader, &mut writer, echo).is_ok();
+    let told = writer.into_inner();
+    is_done && told.as_slice() == output
 }
 
-fn is_exact<R: Files + AllocGlobal>(rt: &R, row: &str) -> Result<bool> {
+fn is_exact<R: Files + AllocGlobal>(rt: &R, row: &str) -> io::Result<bool> {
     let (name, words) = row.split_once(' ').unwrap_or((row, ""));
-    let settings = settings_of(words).context("no settings")?;
-    let told = answered(rt.alloc(), settings, &bytes(rt, name, "in")?)?;
-    Ok(told.as_slice() == bytes(rt, name, "out")?.as_slice())
+    let Some(settings) = settings_of(words) else {
+        return Ok(false);
+    };
+    let (input, output) = (bytes(rt, name, "in")?, bytes(rt, name, "out")?);
+    Ok(is_answered(rt.alloc(), settings, &input, &output))
 }
 
-pub fn run_all<R: Runtime + AllocGlobal>(rt: &R) -> Result<()> {
+pub fn run_all<R: Runtime + AllocGlobal>(rt: &R) -> io::Result<()> {
     let list = fs::read_to_string(rt, "rows")?;
     let mut others = 0u64;
     for row in list.as_str().lines() {
         let is_exact = is_exact(rt, row)?;
-        println!(rt; "{row}: {}", if is_exact { "exact" } else { "OTHER" })?;
+        tell(rt, row, is_exact)?;
         if !is_exact {
             others = others.saturating_add(1);
         }
     }
-    println!(rt; "{others} examples are not exact")?;
-    Ok(())
+    println!(rt; "{others} examples are not exact")
 }

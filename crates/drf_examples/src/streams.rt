@@ -1,6 +1,5 @@
 //! Streams that are slow or fail: what was written when a run ends, and that a reply does not wait for more input.
 use crate::rows::bytes;
-use anyhow::Result;
 use drf_journal::{Device, RunFault, run};
 use drf_rows::Limits;
 use std::alloc::Global;
@@ -213,7 +212,7 @@ impl Write for Counting<'_> {
 }
 
 /// Whether each line is answered, and the answer flushed, before the next one is asked for.
-fn answers_at_once(alloc: Global, input: &[u8]) -> Result<bool> {
+fn answers_at_once(alloc: Global, input: &[u8]) -> bool {
     let flushed = Cell::new(0);
     let mut reader = Device::new(Asking {
         slow: Slow::new(input, NO_BOUNDS),
@@ -225,38 +224,41 @@ fn answers_at_once(alloc: Global, input: &[u8]) -> Result<bool> {
         written: 0,
         flushed: &flushed,
     });
-    run(alloc, Limits::full(), &mut reader, &mut writer, false)?;
-    Ok(!reader.into_inner().is_late)
+    let is_done = run(alloc, Limits::full(), &mut reader, &mut writer, false).is_ok();
+    is_done && !reader.into_inner().is_late
 }
 
 /// Tells whether something is exact.
-pub fn tell(rt: &impl Print, what: &str, is_exact: bool) -> Result<()> {
+pub fn tell(rt: &impl Print, what: &str, is_exact: bool) -> io::Result<()> {
     let verdict = if is_exact { "exact" } else { "OTHER" };
-    println!(rt; "{what}: {verdict}")?;
-    Ok(())
+    println!(rt; "{what}: {verdict}")
 }
 
-pub fn run_all<R: Runtime + AllocGlobal>(rt: &R) -> Result<()> {
+fn tell_all<R: Runtime + AllocGlobal>(rt: &R, input: &[u8], output: &[u8]) -> io::Result<()> {
     let alloc = rt.alloc();
-    let (input, output) = (bytes(rt, EXAMPLE, "in")?, bytes(rt, EXAMPLE, "out")?);
     tell(
         rt,
         "pieces of some bytes",
-        pieces_are_exact(alloc, &input, &output),
+        pieces_are_exact(alloc, input, output),
     )?;
     tell(
         rt,
         "reads that fail",
-        failing_reads_are_exact(alloc, &input, &output),
+        failing_reads_are_exact(alloc, input, output),
     )?;
     tell(
         rt,
         "writes that fail",
-        failing_writes_are_exact(alloc, &input, &output),
+        failing_writes_are_exact(alloc, input, output),
     )?;
     tell(
         rt,
         "answers before the next read",
-        answers_at_once(alloc, &input)?,
+        answers_at_once(alloc, input),
     )
+}
+
+pub fn run_all<R: Runtime + AllocGlobal>(rt: &R) -> io::Result<()> {
+    let (input, output) = (bytes(rt, EXAMPLE, "in")?, bytes(rt, EXAMPLE, "out")?);
+    tell_all(rt, &input, &output)
 }

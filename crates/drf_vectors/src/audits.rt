@@ -54,7 +54,7 @@ fn add(alloc: Global, cluster: &mut Cluster, text: &str) -> Result<()> {
     }
 }
 
-fn cluster(alloc: Global, text: &str) -> Result<Cluster> {
+fn read_cluster(alloc: Global, text: &str) -> Result<Cluster> {
     let mut cluster = Cluster {
         agents: Vec::new(alloc),
         offers: Vec::new(alloc),
@@ -98,7 +98,7 @@ fn text_of(alloc: Global, lines: &[AuditLine]) -> Result<String> {
 
 /// The lines of the audit.
 pub fn audited(rt: &(impl Threads + Sync), alloc: Global, text: &str) -> Result<String> {
-    let rows = rows(alloc, cluster(alloc, text)?);
+    let rows = rows(alloc, read_cluster(alloc, text)?);
     let lines = audit(rt, alloc, &rows)?;
     text_of(alloc, lines.as_slice())
 }

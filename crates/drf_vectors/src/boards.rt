@@ -76,7 +76,8 @@ where
 fn append_sheet<K: Naming>(alloc: Global, told: &mut String, viewer: &mut Viewer<K>) -> Result<()> {
     let sheet = viewer.read().ok().context("nothing is shown")?;
     let total = write_quantities(alloc, &sheet.report.total)?;
-    Ok(write!(told, "; {} {total}", sheet.events)?)
+    let events = sheet.events;
+    Ok(write!(told, "; {events} events ({total})")?)
 }
 
 fn append_sheets<K: Naming>(
@@ -120,6 +121,37 @@ where
 {
     let (mut board, mut viewers) = Board::<K, R>::open(rt, alloc, slate)?;
     watched(alloc, &mut board, viewers.as_mut_slice())
+}
+
+/// A board that nobody looks at takes an event, and shows none.
+fn unwatched<K: Naming, R: Wait + Drop>(alloc: Global, board: &mut Board<K, R>) -> Result<String>
+where
+    Pane<K>: Shows,
+    requires limits { K.slate.limits ≡ ceilings }
+    requires unseen { board.old.viewers ≡ 0 }
+    requires none { board.old.entries ≡ [] }
+{
+    let event = agent_added(alloc)?;
+    board.publish_unseen(&event, &Reply::Done);
+    let viewers = board.viewers();
+    Ok(format!(in alloc; "{viewers} viewers")?)
+}
+
+fn shown_to_none<K: Naming, R: Wait + Drop>(rt: R, alloc: Global, slate: Slate) -> Result<String>
+where
+    Pane<K>: Shows,
+    requires named { slate.name ≡ K.slate }
+    requires limits { slate.name.limits ≡ ceilings }
+    requires unseen { slate.viewers ≡ 0 }
+{
+    let (mut board, _) = Board::<K, R>::open(rt, alloc, slate)?;
+    unwatched(alloc, &mut board)
+}
+
+/// A board that nobody looks at.
+pub fn hidden<R: Wait>(rt: &R, alloc: Global) -> Result<String> {
+    let slate = Slate::open(0, Limits::full())?;
+    shown_to_none::<Brand, &R>(rt, alloc, slate)
 }
 
 /// What two viewers read.

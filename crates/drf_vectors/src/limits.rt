@@ -93,7 +93,7 @@ fn ask(alloc: Global, quota: &Quota, call: &str, text: &str) -> Result<String> {
 }
 
 fn ask_copy(alloc: Global, quota: &Quota, text: &str) -> Result<String> {
-    let (call, text) = halves(text, ' ')?;
+    let (call, text) = text.split_once(' ').unwrap_or((text, ""));
     let copy = quota.copy()?;
     ask(alloc, &copy, call, text)
 }

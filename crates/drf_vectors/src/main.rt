@@ -100,6 +100,7 @@ fn answer_by_threads<R: Threads + Wait + Sync>(
     match kind {
         "audit" => audits::audited(rt, alloc, text),
         "board" => boards::shown(rt, alloc),
+        "hidden_board" => boards::hidden(rt, alloc),
         _ => answer(alloc, question),
     }
 }

@@ -55,7 +55,8 @@ where
 {
     let event = agent_added(alloc)?;
     let sheet = sheet_after(alloc, 1)?;
-    Ok(board.publish(sheet, &event, &Reply::Done)?)
+    let reply = Reply::Done;
+    Ok(board.publish(sheet, &event, &reply)?)
 }
 
 fn publish_again<K: Naming, R: Wait + Drop>(

@@ -115,8 +115,6 @@ where
 }
 
 fn shown_to<K: Naming, R: Wait + Drop>(rt: R, alloc: Global, slate: Slate) -> Result<String>
-where
-    Pane<K>: Shows,
     requires named { slate.name ≡ K.slate }
     requires limits { slate.name.limits ≡ ceilings }
 {
@@ -139,8 +137,6 @@ where
 }
 
 fn shown_to_none<K: Naming, R: Wait + Drop>(rt: R, alloc: Global, slate: Slate) -> Result<String>
-where
-    Pane<K>: Shows,
     requires named { slate.name ≡ K.slate }
     requires limits { slate.name.limits ≡ ceilings }
     requires unseen { slate.viewers ≡ 0 }

@@ -1,7 +1,11 @@
-//! Answers questions about names, roles, paths, sets, amounts and pools, one a line: the vectors of the libraries.
+//! Answers questions about names, roles, paths, sets, amounts, pools, limits, audits and boards, one a line: the vectors of the
+//! libraries.
 #![tactic(auto)]
 
 mod amounts;
+mod audits;
+mod boards;
+mod limits;
 mod paths;
 mod pools;
 mod quantities;
@@ -16,6 +20,8 @@ use drf_kinds::{Items, Ranges};
 use drf_role::{Label, Name, NodePath, Role};
 use std::alloc::Global;
 use std::io;
+use std::sync::Wait;
+use std::thread::Threads;
 
 /// The two texts before and after the first `mark`.
 fn halves(text: &str, mark: char) -> Result<(&str, &str)> {
@@ -79,14 +85,30 @@ fn answer(alloc: Global, question: &str) -> Result<String> {
         "pool_of_bundles" => pools::answers::<Bundle>(alloc, text),
         "quantities" => quantities::compared(alloc, text),
         "shares" => shares::compared(alloc, text),
+        "quota" => limits::answers(alloc, text),
+        "consumed_of" => limits::of_bundle(alloc, text),
         _ => answer_of_texts(alloc, kind, text),
+    }
+}
+
+fn answer_by_threads<R: Threads + Wait + Sync>(
+    rt: &R,
+    alloc: Global,
+    question: &str,
+) -> Result<String> {
+    let (kind, text) = question.split_once(' ').unwrap_or((question, ""));
+    match kind {
+        "audit" => audits::audited(rt, alloc, text),
+        "board" => boards::shown(rt, alloc),
+        "hidden_board" => boards::hidden(rt, alloc),
+        _ => answer(alloc, question),
     }
 }
 
 fn main(rt: HostRuntime) -> io::Result<()> {
     for line in rt.lines(rt.alloc()) {
         let question = line?;
-        match answer(rt.alloc(), question.as_str()) {
+        match answer_by_threads(&rt, rt.alloc(), question.as_str()) {
             Ok(text) => println!(rt; "{question} -> {text}")?,
             Err(fault) => println!(rt; "{question} -> {fault}")?,
         }

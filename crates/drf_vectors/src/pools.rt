@@ -23,6 +23,31 @@ fn replace_free<A: Amount>(alloc: Global, pool: &mut Pool<A>, text: &str) -> Res
     Ok(String::from_str(alloc, "done")?)
 }
 
+fn read_all<A: Amount>(alloc: Global, text: &str) -> Result<Vec<A>> {
+    let mut amounts = Vec::new(alloc);
+    for text in text.split_whitespace() {
+        amounts.push(read(alloc, text)?)?;
+    }
+    Ok(amounts)
+}
+
+fn split<A: Amount>(alloc: Global, pool: &mut Pool<A>, text: &str) -> Result<String> {
+    let (number, text) = text.split_once(' ').unwrap_or((text, ""));
+    let parts = read_all::<A>(alloc, text)?;
+    let numbers = pool.split(number.parse::<u64>()?, parts.as_slice())?;
+    Ok(format!(in alloc; "parts {numbers:?}")?)
+}
+
+/// A part of a copy, and what is free there.
+fn copied<A: Amount>(alloc: Global, pool: &Pool<A>, text: &str) -> Result<String> {
+    let copy = pool.copy()?;
+    let part = copy.part(text.parse::<u64>()?).context("no part")?;
+    let mut told = show(alloc, part)?;
+    told.push_str(" beside ")?;
+    append_state(alloc, &mut told, &copy)?;
+    Ok(told)
+}
+
 fn call<A: Amount>(alloc: Global, pool: &mut Pool<A>, text: &str) -> Result<String> {
     let (call, text) = halves(text, ' ')?;
     match call {
@@ -30,6 +55,8 @@ fn call<A: Amount>(alloc: Global, pool: &mut Pool<A>, text: &str) -> Result<Stri
         "shrink" => shrink(alloc, pool, text),
         "replace_free" => replace_free(alloc, pool, text),
         "give_back" => show(alloc, &pool.give_back(text.parse::<u64>()?)?),
+        "split" => split(alloc, pool, text),
+        "copy" => copied(alloc, pool, text),
         "part" => show(alloc, pool.part(text.parse::<u64>()?).context("no part")?),
         _ => bail!("no call"),
     }

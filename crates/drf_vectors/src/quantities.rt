@@ -9,7 +9,7 @@ use std::alloc::Global;
 use std::fmt::Write;
 
 // Small amounts, so that any two of them add up.
-fn read(alloc: Global, text: &str) -> Result<Quantities>
+pub fn read(alloc: Global, text: &str) -> Result<Quantities>
     ensures { IfOk result (λ q. (label : List ℕ) → amount_of q label < 2 ^ 32) }
 {
     let mut amounts = Quantities::empty(alloc);
@@ -21,7 +21,7 @@ fn read(alloc: Global, text: &str) -> Result<Quantities>
     Ok(amounts)
 }
 
-fn append(told: &mut String, what: &str, amounts: &Quantities) -> Result<()> {
+pub fn append(told: &mut String, what: &str, amounts: &Quantities) -> Result<()> {
     told.push_str(what)?;
     for (i, entry) in amounts.entries().iter().enumerate() {
         if i > 0 {

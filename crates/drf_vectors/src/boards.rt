@@ -1,0 +1,158 @@
+//! A board on which one agent registers, and then tries it again; its viewers, and one without viewers.
+ghost use Rattle.std.specs.Prelude.{◌≡◌, [], IfOk, OnOk};
+ghost use Rattle.drf_rows.specs.LimitNumbers.{ceilings};
+ghost use Rattle.drf_vectors.specs.OneAgent.{agent_added, one_cpu, once, twice, sheet_after};
+
+use anyhow::{Context, Result};
+use drf_amount::Scalar;
+use drf_board::{Board, Brand, Naming, Pane, Sheet, Shows, Slate, Told, Viewer};
+use drf_bundle::{Bundle, Value};
+use drf_role::{Label, Name, Role};
+use drf_rows::{Event, Limits, Refusal, Reply, Report, Table};
+use drf_text::write_quantities;
+use std::alloc::Global;
+use std::fmt::Write;
+use std::sync::Wait;
+
+fn one_cpu(alloc: Global) -> Result<Bundle>
+    ensures { IfOk result (λ bundle. bundle ≡ one_cpu) }
+{
+    let label = Label::read(alloc, "cpus")?;
+    let everyone = Role::default_role(alloc)?;
+    let amount = Value::Scalar(Scalar::new(1000));
+    Ok(Bundle::one(alloc, &label, &everyone, amount)?)
+}
+
+fn agent_added(alloc: Global) -> Result<Event>
+    ensures { IfOk result (λ event. event ≡ agent_added) }
+{
+    let total = one_cpu(alloc)?;
+    let agent = Name::read(alloc, "n1")?;
+    Ok(Event::AddAgent { agent, total })
+}
+
+fn sheet_after(alloc: Global, events: u64) -> Result<Sheet>
+    ensures { IfOk result (λ sheet. sheet ≡ sheet_after events) }
+{
+    let bundle = one_cpu(alloc)?;
+    let total = bundle.quantities().copy()?;
+    let nodes = Table::from_vec(Vec::new(alloc));
+    Ok(Sheet {
+        events,
+        report: Report { total, nodes },
+    })
+}
+
+fn publish_once<K: Naming, R: Wait + Drop>(
+    alloc: Global,
+    board: &mut Board<K, R>,
+) -> Result<Told<K>>
+where
+    Pane<K>: Shows,
+    requires limits { K.slate.limits ≡ ceilings }
+    requires none { board.old.entries ≡ [] }
+    ensures { OnOk result (board.new.entries ≡ once) }
+{
+    let event = agent_added(alloc)?;
+    let sheet = sheet_after(alloc, 1)?;
+    let reply = Reply::Done;
+    Ok(board.publish(sheet, &event, &reply)?)
+}
+
+fn publish_again<K: Naming, R: Wait + Drop>(
+    alloc: Global,
+    board: &mut Board<K, R>,
+) -> Result<Told<K>>
+where
+    Pane<K>: Shows,
+    requires limits { K.slate.limits ≡ ceilings }
+    requires once { board.old.entries ≡ once }
+{
+    let event = agent_added(alloc)?;
+    let sheet = sheet_after(alloc, 2)?;
+    let reply = Reply::Refused(Refusal::KnownAgent);
+    Ok(board.publish(sheet, &event, &reply)?)
+}
+
+fn append_sheet<K: Naming>(alloc: Global, told: &mut String, viewer: &mut Viewer<K>) -> Result<()> {
+    let sheet = viewer.read().ok().context("nothing is shown")?;
+    let total = write_quantities(alloc, &sheet.report.total)?;
+    let events = sheet.events;
+    Ok(write!(told, "; {events} events ({total})")?)
+}
+
+fn append_sheets<K: Naming>(
+    alloc: Global,
+    told: &mut String,
+    viewers: &mut [Viewer<K>],
+) -> Result<()> {
+    for viewer in viewers.iter_mut() {
+        append_sheet(alloc, told, viewer)?;
+    }
+    Ok(())
+}
+
+/// What the viewers read at first, and after both calls, of which the first viewer learns the second.
+fn watched<K: Naming, R: Wait + Drop>(
+    alloc: Global,
+    board: &mut Board<K, R>,
+    viewers: &mut [Viewer<K>],
+) -> Result<String>
+where
+    Pane<K>: Shows,
+    requires limits { K.slate.limits ≡ ceilings }
+    requires none { board.old.entries ≡ [] }
+{
+    let mut told = format!(in alloc; "{} viewers", board.viewers())?;
+    append_sheets(alloc, &mut told, viewers)?;
+    publish_once(alloc, board)?;
+    let told_again = publish_again(alloc, board)?;
+    if let Some(first) = viewers.first_mut() {
+        first.learn(&told_again);
+    }
+    append_sheets(alloc, &mut told, viewers)?;
+    Ok(told)
+}
+
+fn shown_to<K: Naming, R: Wait + Drop>(rt: R, alloc: Global, slate: Slate) -> Result<String>
+    requires named { slate.name ≡ K.slate }
+    requires limits { slate.name.limits ≡ ceilings }
+{
+    let (mut board, mut viewers) = Board::<K, R>::open(rt, alloc, slate)?;
+    watched(alloc, &mut board, viewers.as_mut_slice())
+}
+
+/// A board that nobody looks at takes an event, and shows none.
+fn unwatched<K: Naming, R: Wait + Drop>(alloc: Global, board: &mut Board<K, R>) -> Result<String>
+where
+    Pane<K>: Shows,
+    requires limits { K.slate.limits ≡ ceilings }
+    requires unseen { board.old.viewers ≡ 0 }
+    requires none { board.old.entries ≡ [] }
+{
+    let event = agent_added(alloc)?;
+    board.publish_unseen(&event, &Reply::Done);
+    let viewers = board.viewers();
+    Ok(format!(in alloc; "{viewers} viewers")?)
+}
+
+fn shown_to_none<K: Naming, R: Wait + Drop>(rt: R, alloc: Global, slate: Slate) -> Result<String>
+    requires named { slate.name ≡ K.slate }
+    requires limits { slate.name.limits ≡ ceilings }
+    requires unseen { slate.viewers ≡ 0 }
+{
+    let (mut board, _) = Board::<K, R>::open(rt, alloc, slate)?;
+    unwatched(alloc, &mut board)
+}
+
+/// A board that nobody looks at.
+pub fn hidden<R: Wait>(rt: &R, alloc: Global) -> Result<String> {
+    let slate = Slate::open(0, Limits::full())?;
+    shown_to_none::<Brand, &R>(rt, alloc, slate)
+}
+
+/// What two viewers read.
+pub fn shown<R: Wait>(rt: &R, alloc: Global) -> Result<String> {
+    let slate = Slate::open(2, Limits::full())?;
+    shown_to::<Brand, &R>(rt, alloc, slate)
+}

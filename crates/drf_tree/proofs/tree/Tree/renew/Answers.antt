@@ -1,4 +1,4 @@
-use Rattle.std.specs.Prelude.{◌≡◌, ◌<◌, ◌≤◌, ℕ, List, length, slice_index_or, slice_set, true}
+use Rattle.std.specs.Prelude.{◌≡◌, ◌<◌, ◌≤◌, ℕ, Bool, List, length, slice_index_or, slice_set, true}
 use Rattle.std.proofs.Common.{ap, arith, refl, subst, sym, ◌∙◌}
 use Rattle.std.proofs.lemmas.Option.{slice_get_read}
 use Rattle.drf_bundle.specs.declared.quantities.Entry.{Entry}
@@ -11,7 +11,7 @@ use Rattle.drf_tree.specs.declared.tree.Tree.{Tree}
 use Rattle.drf_tree.specs.Changes.{IsShapeOf}
 use Rattle.drf_tree.specs.Family.{IsRenewed}
 use Rattle.drf_tree.specs.Nodes.{children_at, is_live, parent_at, path_at}
-use Rattle.drf_tree.specs.Tree.{AreSums, IsSumOf}
+use Rattle.drf_tree.specs.Tree.{AreRight, AreSums, IsShape, IsSumOf}
 use Rattle.drf_tree.proofs.NodeLemmas.{family_read, live_within, node_within}
 use Rattle.drf_tree.proofs.RenewLemmas.{IsRenewedTree, plain_weighs, renewed, sum_within, weighs_within}
 use Rattle.drf_tree.proofs.tree.Tree.renew.Goals as goal
@@ -73,16 +73,17 @@ returns-clause-tree c =
     let r =
     subst (λ (old : List Child). IsRenewed c.args.node content.total sum old new.children.items) old_is
     (subst (λ (total : List Entry). IsRenewed c.args.node total sum c.index_mut-family.result.now.children.items new.children.items)
-    c.total.ensures c.renew.ensures) in
+    c.total.ensures c.renew.ensures.renewed) in
     let all =
     subst (λ (p : ℕ). IsRenewedTree content tree (slice_set families p new)) (sym c.parent-parent.ensures)
     (renewed content tree c.args.node of c.requires.live (plain_weighs c.args.ledger.now) sum
     (sum_read content tree of.shape of.sums c.args.node sum c.requires.live c.index.ensures) new r) in
+    let families = slice_set families parent new in
     record {
       paths = of.paths;
       distinct = of.distinct;
-      shape = all.shape;
+      shape = subst (λ (flags : List Bool). IsShape tree.places.items families flags tree.sums.items) (sym c.renew.ensures.stale) all.shape;
       sums = of.sums;
       complete = all.complete;
-      right = all.right;
+      right = subst (AreRight content tree.places.items families) (sym c.renew.ensures.stale) all.right;
     }

@@ -1,6 +1,5 @@
-use Rattle.std.proofs.Common.{◌≡◌, true, not, is_ok, drop, take, refl, sym, ap, ◌∙◌}
+use Rattle.std.proofs.Common.{◌≡◌, true, not, is_ok, drop, take, refl, ap, ◌∙◌}
 use Rattle.std.specs.List.{list_all}
-use Rattle.std.specs.String.{string_bytes}
 use Rattle.drf_tree.specs.declared.family.Child.{Child}
 use Rattle.drf_tree.specs.Family.{are_sorted, is_before, key_for}
 use Rattle.drf_tree.proofs.FamilyLemmas.{sorted_tried, with_child}

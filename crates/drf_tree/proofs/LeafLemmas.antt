@@ -1,5 +1,5 @@
 -- What the nodes on the way to a client have room for, and what they have at least.
-use Rattle.std.specs.Prelude.{◌≡◌, ◌≤◌, ◌<◌, ◌+◌, ◌^◌, ℕ, Bool, true, cond, ◌||◌, List, [], ◌∷◌, Some, filter, length, map, slice_get, sum_by}
+use Rattle.std.specs.Prelude.{◌≡◌, ◌≤◌, ◌<◌, ◌+◌, ◌-◌, ◌^◌, ℕ, Bool, true, cond, ◌||◌, List, [], ◌∷◌, Some, filter, length, map, slice_get, sum_by}
 use Rattle.std.specs.List.{AllByRecursion, list_any}
 use Rattle.std.proofs.Common.{refl, sym, ap, subst, ◌∙◌, inl, inr, arith, get_or}
 use Rattle.std.proofs.lemmas.Bool.{false≢true, cases_Bool, or_cases}
@@ -11,12 +11,12 @@ use Rattle.drf_bundle.specs.declared.quantities.Entry.{Entry}
 use Rattle.drf_role.specs.Path.{Path, IsClientPath, begins_with, same_path}
 use Rattle.drf_role.specs.PathLaws.{same_path-true}
 use Rattle.drf_rows.specs.ListLaws.{each_from, length-filter_le}
-use Rattle.drf_sorter.specs.Content.{Content, HasCharge, HasChargeAt, Holds, HoldsAt, IsSound, Ranked, charged, clients_under, has_client, standing_in, with_change}
+use Rattle.drf_sorter.specs.Content.{Content, HasCharge, HasChargeAt, Holds, HoldsAt, IsSound, Ranked, charged, clients_under, has_client, refunded, standing_in, with_change}
 use Rattle.drf_sorter.specs.Plain.{plain_content, ranked}
 use Rattle.drf_sorter.specs.declared.plain.PlainSorter.{PlainSorter}
 use Rattle.drf_tree.specs.declared.node.Sum.{Sum}
 use Rattle.drf_tree.specs.declared.tree.Tree.{Tree}
-use Rattle.drf_tree.specs.Changes.{CanLower, CanLowerAt, HasRoomFor, IsLeast, IsLowerable, OnWay}
+use Rattle.drf_tree.specs.Changes.{CanLower, CanLowerAt, HasRoomFor, IsLeast, IsLowerable, OnWay, lowered}
 use Rattle.drf_tree.specs.Nodes.{client_at, is_live, path_at}
 use Rattle.drf_tree.specs.Tree.{IsSumOf, IsTreeOf}
 use Rattle.drf_tree.proofs.ChargeLemmas.{of_charged}
@@ -43,6 +43,11 @@ pub leaf_of : (content : Content) (tree : Tree) (leaf : ℕ) (path : Path) → I
 leaf_of content tree leaf path of has live at =
     of.shape.clients leaf live (subst IsClientPath (sym at) (right_path path content.clients of.paths has))
     ∙ ap (λ (p : Path). Some p) at
+
+-- a client of a ledger is one of what contracts see
+pub known_in : (inside seen : PlainSorter) (path : Path) → inside ≡ seen → has_client (plain_content seen) path ≡ true
+    → has_client (plain_content inside) path ≡ true
+known_in inside seen path is known = ap (λ (l : PlainSorter). has_client (plain_content l) path) is ∙ known
 
 -- what the client of that path has, the clients of a node above it have together
 client_within : (f : Ranked → ℕ) (n : ℕ) (path node : Path) → begins_with path node ≡ true → (cs : List Ranked)
@@ -82,6 +87,18 @@ can_refund content path quantities has =
     each_from (λ (c : Ranked). same_path c.path path ≡ true → Holds quantities c)
     (λ (c : Ranked). same_path c.path path ≡ true → CanLower quantities 0 c) content.clients
     (λ c so same. record { held = so same; count = omega arith }) has
+
+-- where no offer is taken back, what is given back is all that changes
+pub lowered_refunded : (quantities : List Entry) → lowered quantities 0 ≡ refunded quantities
+lowered_refunded quantities = λ i c. record {
+  path = c.path;
+  active = c.active;
+  held = λ label. c.held label - amount_of quantities label;
+  count = none_less c.count i;
+}
+  where
+    none_less : (n : ℕ) → n - 0 ≡ n
+    none_less n = omega arith
 
 -- clients are a list in memory
 pub few_clients : (ledger : PlainSorter) → length (plain_content ledger).clients < 2 ^ 63

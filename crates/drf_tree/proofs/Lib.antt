@@ -42,3 +42,4 @@ pub mod SproutLemmas
 pub mod GrowLemmas
 pub mod LeafLemmas
 pub mod WeighLemmas
+pub mod ShareLemmas

@@ -96,13 +96,7 @@ impl Family {
     }
 
     /// Computes the key of a child from its sum, and puts the child into its place.
-    pub(crate) fn renew(
-        &mut self,
-        marks: &mut Marks,
-        node: usize,
-        total: &Quantities,
-        sum: &Sum,
-    )
+    pub(crate) fn renew(&mut self, marks: &mut Marks, node: usize, total: &Quantities, sum: &Sum)
         requires known { has_child node self.old.children.items ≡ true }
         requires within { (label : Text) → amount_of sum.now.held label ≤ amount_of total.now label }
         requires fits { (label : Text) → amount_of total.now label < 2 ^ 52 }

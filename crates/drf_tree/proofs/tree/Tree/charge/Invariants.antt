@@ -1,8 +1,4 @@
-use Rattle.std.proofs.Common.{◌≡◌, ◌≤◌, ℕ, List, length, take}
-use Rattle.drf_bundle.specs.declared.quantities.Entry.{Entry}
-use Rattle.drf_tree.specs.Changes.{AreRaised}
-use Rattle.drf_tree.specs.Nodes.{path_at}
-use Rattle.drf_tree.proofs.ClimbLemmas.{IsClimbing, IsMarking}
+use Rattle.drf_tree.proofs.ClimbLemmas.{IsMarking}
 use Rattle.drf_tree.proofs.ChargeLemmas.{IsCharging}
 use Rattle.drf_tree.proofs.tree.Tree.charge.Given as goal
 

@@ -1,6 +1,4 @@
-use Rattle.std.proofs.Common.{◌≡◌, ◌≤◌, ◌+◌, ℕ, length}
-use Rattle.drf_sorter.specs.Work.{debt}
-use Rattle.drf_tree.specs.Marks.{work_of}
+use Rattle.std.proofs.Common.{length}
 use Rattle.drf_tree.specs.Nodes.{path_at}
 use Rattle.drf_tree.proofs.ClimbLemmas.{IsClimbing, IsMarking}
 use Rattle.drf_tree.proofs.LowerLemmas.{of_lowered}

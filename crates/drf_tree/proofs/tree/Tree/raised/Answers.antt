@@ -1,4 +1,4 @@
-use Rattle.std.proofs.Common.{◌≡◌, ◌+◌, ap, ◌∙◌, arith}
+use Rattle.std.proofs.Common.{arith}
 use Rattle.drf_tree.proofs.ChargeLemmas.{raising_less, raising_start, raising_step, raising_sum}
 use Rattle.drf_tree.proofs.tree.Tree.raised.Goals as goal
 

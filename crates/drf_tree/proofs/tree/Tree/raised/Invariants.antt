@@ -1,4 +1,4 @@
-use Rattle.std.proofs.Common.{◌≡◌, ℕ, length}
+use Rattle.std.proofs.Common.{length}
 use Rattle.drf_tree.specs.Nodes.{path_at}
 use Rattle.drf_tree.proofs.ChargeLemmas.{IsRaising}
 use Rattle.drf_tree.proofs.tree.Tree.raised.Given as goal

@@ -1,4 +1,4 @@
-use Rattle.std.proofs.Common.{◌≡◌, ℕ, length}
+use Rattle.std.proofs.Common.{◌≡◌, length}
 use Rattle.drf_tree.specs.Nodes.{path_at}
 use Rattle.drf_tree.proofs.ClimbLemmas.{IsClimbing}
 use Rattle.drf_tree.proofs.ActiveLemmas.{of_active}

@@ -20,7 +20,8 @@ use Rattle.drf_tree.specs.Changes.{CanLower, CanLowerAt, HasRoomFor, IsLeast, Is
 use Rattle.drf_tree.specs.Nodes.{client_at, is_live, path_at}
 use Rattle.drf_tree.specs.Tree.{IsSumOf, IsTreeOf}
 use Rattle.drf_tree.proofs.ChargeLemmas.{of_charged}
-use Rattle.drf_tree.proofs.ClimbLemmas.{live_on_way, live_within}
+use Rattle.drf_tree.proofs.ClimbLemmas.{live_on_way}
+use Rattle.drf_tree.proofs.NodeLemmas.{live_within}
 use Rattle.drf_tree.proofs.ContentLemmas.{below, sum_below}
 use Rattle.drf_tree.proofs.FitLemmas.{below_less, part_less}
 use Rattle.drf_tree.proofs.MoveLemmas.{AreMoved, IsChange, active_is, changed_below, is_served, length_is, none, one}

@@ -130,7 +130,7 @@ module _ (content : Content) (tree : Tree) (node : ℕ) (of : IsTreeBut node con
   below =
       omega (
         arith,
-        node_within places families stale tree.sums.items of.shape parent (of.shape.kept node live).0,
+        node_within tree of.shape parent (of.shape.kept node live).0,
         of.shape.families_long,
       )
 

@@ -394,16 +394,6 @@ module _ (tree : Tree) (shape : IsShapeOf tree) (front : List Frame) (f : Frame)
 abbrev pub top : Frame
 top = record { node = 0; next = 0 }
 
-pub top_frames : (tree : Tree) → IsShapeOf tree → AreFrames tree.places.items (top ∷ [])
-top_frames tree shape =
-    frames_more tree.places.items [] top
-    (record { few = omega arith; nodes = tt; deep = λ k f none. absurd cc })
-    (record {
-      node = refl;
-      deep = ap (λ (o : Option Place). length (option_map_or (λ p. p.path) o [])) shape.root;
-      few = omega arith;
-    })
-
 -- the root is no client
 pub top_queue : (tree : Tree) → IsShapeOf tree → (content : Content) → IsTreeOf content tree
     → frames_queue content tree (top ∷ []) ≡ order_in content tree.places.items tree.families.items

@@ -18,7 +18,7 @@ use Rattle.drf_tree.specs.declared.tree.Tree.{Tree}
 use Rattle.drf_tree.specs.Family.{IsSameKey, child_name}
 use Rattle.drf_tree.specs.Nodes.{children_at, is_live, path_at}
 use Rattle.drf_tree.specs.Tree.{AreRight, AreSums, IsChildOf, IsMarkedOrRight, IsRight, IsSumOf, IsTreeOf}
-use Rattle.drf_tree.proofs.ClimbLemmas.{live_within}
+use Rattle.drf_tree.proofs.NodeLemmas.{live_within}
 use Rattle.drf_tree.proofs.MoveLemmas.{key_again}
 use Rattle.drf_tree.proofs.SliceLemmas.{get_set_same, get_set_other}
 use Rattle.drf_tree.proofs.TreeLemmas.{shape_again, tree_from}

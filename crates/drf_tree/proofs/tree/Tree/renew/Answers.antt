@@ -30,7 +30,7 @@ parent_within : (tree : Tree) → IsShapeOf tree → (node parent : ℕ) → is_
 parent_within tree shape node parent live is =
     omega (
       arith,
-      node_within tree.places.items tree.families.items tree.marks.stale tree.sums.items shape (parent_at tree.places.items node) (shape.kept node live).0,
+      node_within tree shape (parent_at tree.places.items node) (shape.kept node live).0,
       shape.families_long,
       is,
     )

@@ -7,8 +7,7 @@ use Rattle.drf_tree.specs.declared.tree.Tree.{Tree}
 use Rattle.drf_tree.specs.Changes.{IsOneLonger, IsShapeOf}
 use Rattle.drf_tree.specs.Family.{IsWith}
 use Rattle.drf_tree.specs.Nodes.{is_live, is_node, path_at, place_at}
-use Rattle.drf_tree.proofs.ClimbLemmas.{node_within}
-use Rattle.drf_tree.proofs.NodeLemmas.{family_read}
+use Rattle.drf_tree.proofs.NodeLemmas.{family_read, node_within}
 use Rattle.drf_tree.proofs.SproutLemmas.{IsReady, counted_shape, counted_tree, kept_tree, ready_seen, sprout_tree}
 use Rattle.drf_tree.proofs.tree.Tree.sprout.Goals as goal
 

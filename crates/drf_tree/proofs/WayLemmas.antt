@@ -1,12 +1,10 @@
 -- A node and the one above it.
-use Rattle.std.specs.Prelude.{◌≡◌, ◌≢◌, ◌<◌, ◌+◌, ◌==◌, ℕ, Bool, true, false, List, [], ◌∷◌, ◌++◌, Option, ◌⊎◌, drop, length}
+use Rattle.std.specs.Prelude.{◌≡◌, ◌≢◌, ◌<◌, ◌+◌, ◌==◌, ℕ, Bool, true, false, List, [], ◌∷◌, Option, length}
 use Rattle.std.specs.List.{AllByRecursion}
 use Rattle.std.specs.Option.{option_map_or}
 use Rattle.std.proofs.Common.{sym, ap, ◌∙◌, inl, inr, arith, length-append}
 use Rattle.std.proofs.lemmas.Bool.{false≢true, cases_Bool, or_cases}
 use Rattle.std.proofs.lemmas.Bool.Decides.{nat_tests}
-use Rattle.std.proofs.lemmas.List.{append-nil}
-use Rattle.drf_role.specs.Path.{Path, begins_with}
 use Rattle.drf_tree.specs.declared.family.Child.{Child}
 use Rattle.drf_tree.specs.declared.family.Family.{Family}
 use Rattle.drf_tree.specs.declared.node.Place.{Place}
@@ -15,7 +13,6 @@ use Rattle.drf_tree.specs.Changes.{IsOneLonger}
 use Rattle.drf_tree.specs.Family.{child_name, has_child}
 use Rattle.drf_tree.specs.Nodes.{children_at, is_live, is_node, parent_at, path_at}
 use Rattle.drf_tree.specs.Tree.{IsChildOf, IsShape}
-use Rattle.drf_tree.proofs.PathLemmas.{begins_by, begins_front, begins_to, begins_trans}
 
 pub equal : (m i : ℕ) → (m == i) ≡ true → m ≡ i
 equal m i same = grind (arith, nat_tests)

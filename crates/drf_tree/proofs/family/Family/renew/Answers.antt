@@ -1,4 +1,4 @@
-use Rattle.std.proofs.Common.{◌≡◌, true, not, is_ok, drop, take, refl, ap, ◌∙◌}
+use Rattle.std.proofs.Common.{◌≡◌, true, not, is_ok, drop, take, ap, ◌∙◌}
 use Rattle.std.specs.List.{list_all}
 use Rattle.drf_tree.specs.declared.family.Child.{Child}
 use Rattle.drf_tree.specs.Family.{are_sorted, is_before, key_for}

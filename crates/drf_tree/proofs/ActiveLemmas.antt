@@ -1,13 +1,13 @@
 -- A client is to be served or not.
-use Rattle.std.specs.Prelude.{◌≡◌, ◌≤◌, ◌+◌, ◌-◌, ℕ, Bool, true, false, cond, List, [], ◌∷◌, Some, filter, length, map, slice_get, sum_by}
-use Rattle.std.specs.List.{AllByRecursion, IsDistinct, list_any}
+use Rattle.std.specs.Prelude.{◌≡◌, ◌≤◌, ◌+◌, ◌-◌, ℕ, Bool, true, false, cond, List, [], ◌∷◌, Some, map, slice_get, sum_by}
+use Rattle.std.specs.List.{AllByRecursion, IsDistinct}
 use Rattle.std.proofs.Common.{refl, sym, ap, subst, ◌∙◌, inl, inr, arith}
-use Rattle.std.proofs.lemmas.Bool.{true≢false, false≢true, cases_Bool}
+use Rattle.std.proofs.lemmas.Bool.{true≢false, cases_Bool}
 use Rattle.std.proofs.lemmas.List.Sums.{sum_by-cons}
 use Rattle.std.proofs.lemmas.Map.Keys.{IsDistinct-head, IsDistinct-tail}
 use Rattle.drf_role.specs.Path.{Path, IsClientPath, begins_with, same_path}
 use Rattle.drf_role.specs.PathLaws.{client_paths-apart, path_decides, same_path-swap, same_path-true}
-use Rattle.drf_rows.specs.ListLaws.{each_from, each_from_both}
+use Rattle.drf_rows.specs.ListLaws.{each_from}
 use Rattle.drf_sorter.specs.Content.{Content, Ranked, activated, clients_under, has_client, with_change}
 use Rattle.drf_tree.specs.declared.node.Sum.{Sum}
 use Rattle.drf_tree.specs.declared.tree.Tree.{Tree}
@@ -16,7 +16,7 @@ use Rattle.drf_tree.specs.Tree.{IsTreeOf}
 use Rattle.drf_tree.proofs.ChangeLemmas.{changed_kept}
 use Rattle.drf_tree.proofs.ClimbLemmas.{IsClimbing, climb_end}
 use Rattle.drf_tree.proofs.ContentLemmas.{below, sum_below}
-use Rattle.drf_tree.proofs.MoveLemmas.{Amounts, IsChange, IsMoved, active_is, is_served, none, total_under}
+use Rattle.drf_tree.proofs.MoveLemmas.{Amounts, IsChange, IsMoved, active_is, is_served, total_under}
 use Rattle.drf_tree.proofs.PathLemmas.{begins_itself}
 
 -- the only client of a path is all that is below it

@@ -23,7 +23,8 @@ use Rattle.drf_tree.specs.Family.{IsGone, IsSameKey, child_name}
 use Rattle.drf_tree.specs.Marks.{work_of}
 use Rattle.drf_tree.specs.Nodes.{children_at, is_live, is_node, parent_at, path_at, place_at}
 use Rattle.drf_tree.specs.Tree.{IsChildOf, IsMarkedOrRight, IsSumOf, IsTreeOf}
-use Rattle.drf_tree.proofs.ClimbLemmas.{leaf_other, live_within, node_within}
+use Rattle.drf_tree.proofs.ClimbLemmas.{leaf_other}
+use Rattle.drf_tree.proofs.NodeLemmas.{live_within, node_within}
 use Rattle.drf_tree.proofs.PathLemmas.{begins_by}
 use Rattle.drf_tree.proofs.ShapeLemmas.{shape_from, shape_in}
 use Rattle.drf_tree.proofs.WayLemmas.{equal, not_equal, shorter_above}

@@ -18,7 +18,8 @@ use Rattle.drf_tree.specs.Changes.{AreRaised, IsShapeOf}
 use Rattle.drf_tree.specs.Nodes.{client_at, is_live, parent_at, path_at}
 use Rattle.drf_tree.specs.Tree.{IsTreeOf}
 use Rattle.drf_tree.proofs.ChangeLemmas.{changed_marked}
-use Rattle.drf_tree.proofs.ClimbLemmas.{AreChanged, IsAt, IsClimbing, IsMarking, at_above, at_leaf, climb_end, climb_less, climb_start, climb_step, live_at, live_within, marking_end, on_at, on_way, one_so_deep}
+use Rattle.drf_tree.proofs.ClimbLemmas.{AreChanged, IsAt, IsClimbing, IsMarking, at_above, at_leaf, climb_end, climb_less, climb_start, climb_step, live_at, marking_end, on_at, on_way, one_so_deep}
+use Rattle.drf_tree.proofs.NodeLemmas.{live_within}
 use Rattle.drf_tree.proofs.WayLemmas.{shorter_above, top_is}
 use Rattle.drf_tree.proofs.MoveLemmas.{Amounts, IsChange, IsMoved, none}
 

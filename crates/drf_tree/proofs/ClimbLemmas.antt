@@ -1,5 +1,5 @@
 -- A climb from a leaf to the root, which changes the sum of each node on the way and may mark it.
-use Rattle.std.specs.Prelude.{◌≡◌, ◌≢◌, ◌≤◌, ◌<◌, ◌+◌, ℕ, zero, suc, Bool, true, false, ◌&&◌, ◌||◌, ◌==◌, List, [], ◌∷◌, ◌++◌, Option, Some, drop, length, slice_get, slice_index_or, slice_set}
+use Rattle.std.specs.Prelude.{◌≡◌, ◌≢◌, ◌≤◌, ◌<◌, ◌+◌, ℕ, Bool, true, false, ◌&&◌, ◌||◌, ◌==◌, List, [], ◌∷◌, ◌++◌, Option, Some, drop, length, slice_get, slice_index_or, slice_set}
 use Rattle.std.specs.Option.{is_some}
 use Rattle.std.proofs.Common.{refl, sym, ap, subst, ◌∙◌, inl, inr, arith, length-set, get_or-set_same, get_or-set_other}
 use Rattle.std.proofs.lemmas.Bool.{true≢false, false≢true, and_parts, cases_eq, or_cases}
@@ -14,6 +14,7 @@ use Rattle.drf_sorter.specs.Work.{debt}
 use Rattle.drf_tree.specs.Changes.{IsShapeOf}
 use Rattle.drf_tree.specs.Marks.{work_of}
 use Rattle.drf_tree.specs.Tree.{IsShape}
+use Rattle.drf_tree.proofs.NodeLemmas.{live_within}
 use Rattle.drf_tree.proofs.PathLemmas.{begins_by, begins_itself, begins_long, begins_to, begins_trans}
 use Rattle.drf_tree.proofs.SliceLemmas.{get_set_same, get_set_other}
 use Rattle.drf_tree.proofs.WayLemmas.{above_of, equal, shorter_above, top_is}
@@ -207,12 +208,6 @@ pub record IsClimbing (old now : Tree) (leaf node : ℕ) (R : ℕ → Sum → Su
   pub families : now.families ≡ old.families
   pub sums : AreChanged old.places.items leaf (length (path_at old.places.items node)) R old.sums.items now.sums.items
 
--- within the list there is something, and past it nothing
-pub live_within : (places : List (Option Place)) (i : ℕ) → is_live places i ≡ true → i < length places
-live_within [] i live = absurd (false≢true live)
-live_within (p ∷ places) zero live = omega arith
-live_within (p ∷ places) (suc i) live = omega (arith, live_within places i live)
-
 module _ (old now : Tree) (shape : IsShapeOf old) (leaf node : ℕ) (R : ℕ → Sum → Sum → Type 0) where
   pub climb_start : is_live old.places.items leaf ≡ true → IsClimbing old old leaf leaf R
   climb_start live = record {
@@ -313,9 +308,3 @@ module _ (old now : Tree) (shape : IsShapeOf old) (leaf node : ℕ) (R : ℕ →
 pub leaf_other : (tree : Tree) → IsShapeOf tree → (leaf : ℕ) → is_live tree.places.items leaf ≡ true → leaf ≢ 0
 leaf_other tree shape leaf live root =
     true≢false (sym live ∙ ap (is_live tree.places.items) root ∙ ap (λ (p : Option Place). is_some p) shape.root)
-
-pub node_within : (tree : Tree) → IsShapeOf tree → (i : ℕ) → is_node tree.places.items i ≡ true → i < length tree.places.items
-node_within tree shape i node = elim (or_cases (i == 0) (is_live tree.places.items i) node) [
-  | inl root ↦ omega (arith, equal i 0 root, shape.some)
-  | inr live ↦ live_within tree.places.items i live
-]

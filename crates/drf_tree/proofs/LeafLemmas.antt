@@ -11,7 +11,7 @@ use Rattle.drf_bundle.specs.declared.quantities.Entry.{Entry}
 use Rattle.drf_role.specs.Path.{Path, IsClientPath, begins_with, same_path}
 use Rattle.drf_role.specs.PathLaws.{same_path-true}
 use Rattle.drf_rows.specs.ListLaws.{each_from, length-filter_le}
-use Rattle.drf_sorter.specs.Content.{Content, HasCharge, HasChargeAt, Holds, HoldsAt, IsSound, Ranked, charged, clients_under, has_client, has_node, refunded, standing_in, with_change}
+use Rattle.drf_sorter.specs.Content.{Content, HasCharge, HasChargeAt, Holds, HoldsAt, IsSound, Ranked, charged, clients_under, has_client, refunded, standing_in, with_change}
 use Rattle.drf_sorter.specs.Plain.{plain_content, ranked}
 use Rattle.drf_sorter.specs.declared.plain.PlainSorter.{PlainSorter}
 use Rattle.drf_tree.specs.declared.node.Sum.{Sum}
@@ -20,7 +20,8 @@ use Rattle.drf_tree.specs.Changes.{CanLower, CanLowerAt, HasRoomFor, IsLeast, Is
 use Rattle.drf_tree.specs.Nodes.{client_at, is_live, path_at}
 use Rattle.drf_tree.specs.Tree.{IsSumOf, IsTreeOf}
 use Rattle.drf_tree.proofs.ChargeLemmas.{of_charged}
-use Rattle.drf_tree.proofs.ClimbLemmas.{live_on_way, live_within}
+use Rattle.drf_tree.proofs.ClimbLemmas.{live_on_way}
+use Rattle.drf_tree.proofs.NodeLemmas.{live_within}
 use Rattle.drf_tree.proofs.ContentLemmas.{below, sum_below}
 use Rattle.drf_tree.proofs.FitLemmas.{below_less, part_less}
 use Rattle.drf_tree.proofs.MoveLemmas.{AreMoved, IsChange, active_is, changed_below, is_served, length_is, none, one}

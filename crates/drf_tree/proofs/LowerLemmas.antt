@@ -1,6 +1,5 @@
 -- A client gives back.
-use Rattle.std.specs.Prelude.{◌≡◌, ◌≤◌, ◌+◌, ◌-◌, ℕ, true, List, Some}
-use Rattle.std.specs.List.{AllByRecursion}
+use Rattle.std.specs.Prelude.{◌≡◌, ◌≤◌, ◌-◌, ℕ, true, List, Some}
 use Rattle.std.proofs.Common.{refl, ap, ◌∙◌, arith}
 use Rattle.drf_bundle.specs.Quantities.{amount_of, minus}
 use Rattle.drf_bundle.specs.QuantitiesLaws.{amount-minus}

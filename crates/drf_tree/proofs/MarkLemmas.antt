@@ -1,11 +1,13 @@
 -- Marks that are set and taken back, one at a time.
-use Rattle.std.specs.Prelude.{◌≡◌, ◌≤◌, ◌<◌, ◌+◌, ℕ, zero, suc, Bool, true, false, List, [], ◌∷◌, cond, length, slice_index_or, slice_set}
+use Rattle.std.specs.Prelude.{◌≡◌, ◌≤◌, ◌<◌, ◌+◌, ◌-◌, ◌^◌, ℕ, min, zero, suc, Bool, true, false, List, [], ◌∷◌, cond, length, slice_index_or, slice_set}
 use Rattle.std.proofs.Common.{refl, sym, ap, ◌∙◌, inl, inr, arith}
+use Rattle.std.proofs.Math.Nat.{min-le_left}
 use Rattle.std.proofs.lemmas.Bool.{cases_eq}
 use Rattle.std.proofs.lemmas.List.{get_or-set_other, set-get_or}
 use Rattle.std.proofs.lemmas.List.Sums.{count_by-le-length, sum_by-set}
 use Rattle.drf_rows.specs.ListLaws.{count_by-cons}
-use Rattle.drf_tree.specs.Marks.{marked_in}
+use Rattle.drf_sorter.specs.Work.{debt}
+use Rattle.drf_tree.specs.Marks.{Flags, marked_in, work_of}
 
 abbrev one_if : Bool → ℕ
 one_if flag = cond flag 1 0
@@ -64,3 +66,9 @@ down_to stale node done i below = elim (cases_eq i node) [
   | inl same ↦ down_at stale node i same
   | inr other ↦ get_or-set_other stale node i false false other ∙ done i (omega (arith, below, other))
 ]
+
+-- a key more is one unit of work at most
+pub one_more : (old new : Flags) → new.made ≡ min (old.made + 1) (2 ^ 64 - 1) → new.stale ≡ old.stale
+    → debt (work_of new) ≤ debt (work_of old) + 1
+one_more old new made stale =
+    omega (arith, made, min-le_left (old.made + 1) (2 ^ 64 - 1), ap marked_in stale)

@@ -119,9 +119,6 @@ key_again old new parent name held count weight total =
 
 -- ---- one client is changed
 
-abbrev pub changed_paths : (Ranked → Ranked) → Type 0
-changed_paths change = (c : Ranked) → (change c).path ≡ c.path
-
 -- what the change takes from the client of that path, and gives it
 pub record IsChange (less more : Amounts) (c d : Ranked) : Type 0 where
   pub held : (label : Text) → d.held label + less.held label ≡ c.held label + more.held label

@@ -1,16 +1,15 @@
 -- A child by its name.
-use Rattle.std.specs.Prelude.{◌≡◌, ◌≢◌, ◌≤◌, ◌<◌, ◌+◌, ◌-◌, ◌==◌, ℕ, Bool, true, false, ◌&&◌, ◌||◌, List, [], ◌∷◌, ◌++◌, Option, None, Some, length, map, slice_get, slice_index_or, nat_lt}
+use Rattle.std.specs.Prelude.{◌≡◌, ◌≢◌, ◌≤◌, ◌==◌, ℕ, Bool, true, false, ◌&&◌, ◌||◌, List, [], ◌∷◌, ◌++◌, Option, None, Some, length, map, slice_get, slice_index_or, nat_lt}
 use Rattle.std.specs.List.{AllByRecursion, list_any, position, position_or_len}
 use Rattle.std.specs.Option.{option_map_or}
 use Rattle.std.specs.Cmp.Lexicographic.{bytes_decides}
-use Rattle.std.proofs.Common.{refl, sym, ap, ◌∙◌, inl, inr, arith, length-append}
+use Rattle.std.proofs.Common.{refl, sym, ap, ◌∙◌, inl, inr, arith}
 use Rattle.std.proofs.lemmas.Bool.{cases_Bool, ltb-false}
 use Rattle.std.proofs.lemmas.Bool.Decides.{same_from_decides, Decides-like}
-use Rattle.std.proofs.lemmas.List.{get_or-append-add}
 use Rattle.std.proofs.lemmas.List.Folds.{list_any_none}
 use Rattle.std.proofs.lemmas.List.Quantifiers.{position-Some}
 use Rattle.std.proofs.lemmas.List.Sums.{fails_before_first}
-use Rattle.std.proofs.lemmas.Option.{slice_get-get_or, slice_get_read}
+use Rattle.std.proofs.lemmas.Option.{slice_get-get_or}
 use Rattle.drf_role.specs.Text.{Text, same_text}
 use Rattle.drf_role.specs.Path.{Path}
 use Rattle.drf_rows.specs.ListLaws.{each_at}
@@ -23,17 +22,13 @@ use Rattle.drf_tree.specs.Changes.{is_bare_at}
 use Rattle.drf_tree.specs.Family.{child_name}
 use Rattle.drf_tree.specs.Nodes.{children_at, is_live, is_named_at, last_part, path_at}
 use Rattle.drf_tree.specs.Tree.{IsChildOf}
+use Rattle.drf_tree.proofs.NodeLemmas.{last_is}
 use Rattle.drf_tree.proofs.WayLemmas.{not_equal}
 
 pub same_text-swap : (a b : Text) → same_text a b ≡ same_text b a
 same_text-swap a b =
     same_from_decides (same_text a b) (same_text b a) (bytes_decides a b)
     (Decides-like (same_text b a) sym sym (bytes_decides b a))
-
-pub last_is : (path : Path) (name : Text) → last_part (path ++ name ∷ []) ≡ name
-last_is path name =
-    let e : length (path ++ name ∷ []) - 1 ≡ length path + 0 = omega (arith, length-append path (name ∷ [])) in
-    rw e (get_or-append-add path (name ∷ []) 0 [])
 
 module _ (places : List (Option Place)) (node : ℕ) (name : Text) where
   named_is : (c : Child) → IsChildOf places node c → is_named_at places c.node name ≡ same_text name (child_name c)
@@ -92,11 +87,3 @@ bare_out tree node s at some =
     let rest : Bool = length (children_at tree.families.items node) == 0 in
     out ∙ sym (bare_else (s.clients == 0) rest out)
     ∙ sym (ap (λ (o : Option Sum). (option_map_or (λ s. s.clients) o 0 == 0) && rest) at)
-
--- ---- the children at a node
-
-pub children_read : (families : List Family) (i : ℕ) (f : Family) → i < length families → f ≡ slice_index_or families i f
-    → children_at families i ≡ f.children.items
-children_read families i f within is =
-    ap (λ (o : Option Family). option_map_or (λ f. f.children.items) o [])
-    (slice_get_read families (length families) i f refl within is)

@@ -72,7 +72,7 @@ member_at places node (c ∷ cs) all zero i some =
     (record { live = all.0.live; above = all.0.above; part = child_name c; path = all.0.path })
 member_at places node (c ∷ cs) all (suc k) i some = member_at places node cs all.1 k i some
 
-last_is : (p : Path) (name : Text) → last_part (p ++ name ∷ []) ≡ name
+pub last_is : (p : Path) (name : Text) → last_part (p ++ name ∷ []) ≡ name
 last_is p name =
     let place : length (p ++ name ∷ []) - 1 ≡ length p + 0 = omega (arith, length-append p (name ∷ [])) in
     rw place (get_or-append-add p (name ∷ []) 0 [])
@@ -100,12 +100,6 @@ module _ (places : List (Option Place)) (node : ℕ) where
 
 module _ (places : List (Option Place)) (families : List Family) (stale : List Bool) (sums : List Sum)
     (shape : IsShape places families stale sums) where
-  pub node_within : (i : ℕ) → is_node places i ≡ true → i < length places
-  node_within i node = elim (or_cases (i == 0) (is_live places i) node) [
-    | inl root ↦ omega (arith, eqb-true i 0 root, shape.some)
-    | inr live ↦ live_within places i live
-  ]
-
   pub member : (node k i : ℕ) → slice_get (family_at families node) k ≡ Some i → IsMember places node i
   member node = member_at places node (children_at families node) (shape.children node)
 
@@ -120,12 +114,19 @@ module _ (places : List (Option Place)) (families : List Family) (stale : List B
   pub leaf : (i : ℕ) → IsClientPath (path_at places i) → family_at families i ≡ []
   leaf i client = leaf_at i (children_at families i) (shape.children i) client
 
+-- a node has a number of its own
+pub node_within : (tree : Tree) → IsShapeOf tree → (i : ℕ) → is_node tree.places.items i ≡ true → i < length tree.places.items
+node_within tree shape i node = elim (or_cases (i == 0) (is_live tree.places.items i) node) [
+  | inl root ↦ omega (arith, eqb-true i 0 root, shape.some)
+  | inr live ↦ live_within tree.places.items i live
+]
+
 -- what a family that was read has at a place
 pub read_at : (tree : Tree) → IsShapeOf tree → (node place : ℕ) (family : Family) → is_node tree.places.items node ≡ true
     → family ≡ slice_index_or tree.families.items node family → (o : Option ℕ)
     → o ≡ slice_get (numbers_of family.children.items) place → slice_get (family_at tree.families.items node) place ≡ o
 read_at tree shape node place family live at o is =
-    let below = node_within tree.places.items tree.families.items tree.marks.stale tree.sums.items shape node live in
+    let below = node_within tree shape node live in
     ap (λ cs. slice_get (numbers_of cs) place) (family_read tree.families.items node family (omega (arith, shape.families_long)) at)
     ∙ sym is
 

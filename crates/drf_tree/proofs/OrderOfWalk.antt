@@ -1,24 +1,22 @@
 -- The walk of a tree without marks is the order of its active clients.
-use Rattle.std.specs.Prelude.{◌≡◌, ◌-◌, ◌+◌, ◌≤◌, ℕ, Bool, true, false, ◌==◌, List, [], ◌∷◌, ◌++◌, Option, None, Some, ◌⊎◌, length, map, slice_get}
+use Rattle.std.specs.Prelude.{◌≡◌, ◌≤◌, ℕ, true, List, [], ◌∷◌, ◌++◌, Option, None, Some, length, slice_get}
 use Rattle.std.specs.List.{AllByRecursion, list_any}
 use Rattle.std.specs.Option.{option_map_or}
-use Rattle.std.proofs.Common.{refl, sym, ap, ◌∙◌, inl, inr, arith, length-append}
-use Rattle.std.proofs.lemmas.Bool.{true≢false, or_right}
-use Rattle.std.proofs.lemmas.List.{get_or-append-add}
-use Rattle.drf_role.specs.Text.{Text, same_text}
-use Rattle.drf_role.specs.Path.{Path, IsClientPath, same_path}
+use Rattle.std.proofs.Common.{refl, sym, ap, ◌∙◌, inl, inr}
+use Rattle.std.proofs.lemmas.Bool.{true≢false}
+use Rattle.drf_role.specs.Text.{same_text}
+use Rattle.drf_role.specs.Path.{IsClientPath, same_path}
 use Rattle.drf_rows.specs.ListLaws.{each_from}
 use Rattle.drf_sorter.specs.Content.{Content, IsOrderOf, active_paths, standing_in}
 use Rattle.drf_sorter.specs.Served.{Weighs}
-use Rattle.drf_tree.specs.declared.family.Child.{Child}
 use Rattle.drf_tree.specs.declared.family.Family.{Family}
 use Rattle.drf_tree.specs.declared.node.Place.{Place}
 use Rattle.drf_tree.specs.declared.tree.Tree.{Tree}
-use Rattle.drf_tree.specs.Family.{are_sorted, child_name, numbers_of}
+use Rattle.drf_tree.specs.Family.{are_sorted}
 use Rattle.drf_tree.specs.Marks.{marked_in}
-use Rattle.drf_tree.specs.Nodes.{children_at, family_at, is_live, is_node, last_part, path_at}
+use Rattle.drf_tree.specs.Nodes.{children_at, family_at, is_node, last_part, path_at}
 use Rattle.drf_tree.specs.Queue.{most_parts, order_in}
-use Rattle.drf_tree.specs.Tree.{IsChildOf, IsMarkedOrRight, IsTreeOf}
+use Rattle.drf_tree.specs.Tree.{IsMarkedOrRight, IsTreeOf}
 use Rattle.drf_tree.specs.Walk.{AreFamilies, are_ahead}
 use Rattle.drf_tree.proofs.ClientLemmas.{any_active, distinct_active, each_any, kept_active, short}
 use Rattle.drf_tree.proofs.KeyLemmas.{IsRightAt, ordered_names}

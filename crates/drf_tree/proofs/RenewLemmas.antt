@@ -1,11 +1,10 @@
 -- A key that is computed anew is right, and nothing else is touched.
-use Rattle.std.specs.Prelude.{◌≡◌, ◌≤◌, ◌<◌, ◌*◌, ◌==◌, ℕ, Bool, true, false, ◌||◌, IsTrue, List, [], ◌∷◌, ◌++◌, Option, None, Some, ◌⊎◌, find, length, map, slice_get, slice_index_or, slice_set, sum_by}
-use Rattle.std.specs.declared.cmp.Ordering.TheVariants.{Equal}
+use Rattle.std.specs.Prelude.{◌≡◌, ◌≤◌, ◌<◌, ◌*◌, ◌==◌, ℕ, Bool, true, false, ◌||◌, IsTrue, List, [], ◌∷◌, ◌++◌, Option, None, Some, ◌⊎◌, find, length, map, slice_set}
 use Rattle.std.specs.List.{AllByRecursion, IsDistinct, list_any}
 use Rattle.std.specs.Cmp.{nat_cmp_total}
 use Rattle.std.specs.Option.{option_map_or}
 use Rattle.std.proofs.Common.{◌≢◌, refl, sym, ap, subst, ◌∙◌, inl, inr, arith}
-use Rattle.std.proofs.lemmas.Bool.{true≢false, false≢true, cases_eq}
+use Rattle.std.proofs.lemmas.Bool.{true≢false}
 use Rattle.std.proofs.lemmas.Cmp.{tied_itself}
 use Rattle.std.proofs.lemmas.List.{length-set, same_from_push}
 use Rattle.std.proofs.lemmas.Map.Keys.{IsDistinct-head}
@@ -14,11 +13,10 @@ use Rattle.drf_role.specs.Text.{Text, same_text}
 use Rattle.drf_role.specs.TextLaws.{same_itself}
 use Rattle.drf_role.specs.Path.{Path, begins_with, same_path}
 use Rattle.drf_rows.specs.Held.{weight_of}
-use Rattle.drf_rows.specs.ListLaws.{each_from_both, each_parts}
-use Rattle.drf_rows.specs.Share.{Fraction, Standing, weighted_share_of}
+use Rattle.drf_rows.specs.ListLaws.{each_from_both}
 use Rattle.drf_rows.specs.Weights.{are_weights}
 use Rattle.drf_rows.specs.declared.rows.WeightRow.{WeightRow}
-use Rattle.drf_sorter.specs.Content.{Content, IsSound, clients_under, standing_in}
+use Rattle.drf_sorter.specs.Content.{Content, IsSound, standing_in}
 use Rattle.drf_sorter.specs.Fractions.{dominant_of, fraction_cmp, weigh}
 use Rattle.drf_sorter.specs.Keys.{Key, key_by, key_of}
 use Rattle.drf_sorter.specs.OrderLaws.{weighted_share-above}
@@ -31,11 +29,11 @@ use Rattle.drf_tree.specs.declared.family.Family.{Family}
 use Rattle.drf_tree.specs.declared.node.Place.{Place}
 use Rattle.drf_tree.specs.declared.node.Sum.{Sum}
 use Rattle.drf_tree.specs.declared.tree.Tree.{Tree}
-use Rattle.drf_tree.specs.Family.{IsRenewed, IsSameKey, IsWith, child_name, has_child, key_for}
+use Rattle.drf_tree.specs.Family.{IsRenewed, IsSameKey, child_name, has_child, key_for}
 use Rattle.drf_tree.specs.Nodes.{children_at, is_live, is_node, parent_at, path_at}
-use Rattle.drf_tree.specs.Tree.{AreRight, IsChildOf, IsComplete, IsMarkedOrRight, IsRight, IsShape, IsSumOf, IsTreeBut, IsTreeOf}
+use Rattle.drf_tree.specs.Tree.{AreRight, IsChildOf, IsComplete, IsMarkedOrRight, IsRight, IsShape, IsSumOf, IsTreeBut}
 use Rattle.drf_tree.proofs.FitLemmas.{part_less}
-use Rattle.drf_tree.proofs.NodeLemmas.{live_within, node_within}
+use Rattle.drf_tree.proofs.NodeLemmas.{node_within}
 use Rattle.drf_tree.proofs.WithLemmas.{any_with, each_family, each_with, each_without, has_with, once_with, once_without}
 
 -- ---- weights
@@ -132,7 +130,7 @@ module _ (content : Content) (tree : Tree) (node : ℕ) (of : IsTreeBut node con
   below =
       omega (
         arith,
-        node_within places families stale tree.sums.items of.shape parent (of.shape.kept node live).0,
+        node_within tree of.shape parent (of.shape.kept node live).0,
         of.shape.families_long,
       )
 

@@ -28,8 +28,7 @@ use Rattle.drf_tree.specs.Family.{IsSameKey, IsWith, child_name}
 use Rattle.drf_tree.specs.Nodes.{children_at, is_live, is_node, last_part, path_at, place_at}
 use Rattle.drf_tree.specs.Tree.{IsMarkedOrRight, IsSumOf, IsTreeOf}
 use Rattle.drf_tree.proofs.BareLemmas.{none_under}
-use Rattle.drf_tree.proofs.ClimbLemmas.{node_within}
-use Rattle.drf_tree.proofs.NameLemmas.{last_is}
+use Rattle.drf_tree.proofs.NodeLemmas.{last_is, node_within}
 use Rattle.drf_tree.proofs.ShapeLemmas.{IsShapeIn, shape_from, shape_in, sprouted}
 use Rattle.drf_tree.proofs.SliceLemmas.{get_set_other, get_set_same}
 use Rattle.drf_tree.proofs.VacantLemmas.{shape_same, tree_seen}
@@ -241,11 +240,8 @@ module _ (old new : Tree) (shape : IsShapeOf old) (node parent : ℕ) (place : P
       (shape_in old.places.items old.families.items old.marks.stale old.sums.items shape) node parent place child vacant there
       put rest with_now others number above joined right ready.missing client other_client))
 
-  pub sprout_path : path_at new.places.items node ≡ place.path
+  sprout_path : path_at new.places.items node ≡ place.path
   sprout_path = ap (λ (o : Option Place). option_map_or (λ p. p.path) o []) put
-
-  pub sprout_live : is_live new.places.items node ≡ true
-  sprout_live = ap (λ (o : Option Place). is_some o) put
 
   path_now : (i : ℕ) → i ≢ node → path_at new.places.items i ≡ path_at old.places.items i
   path_now i other = ap (λ (o : Option Place). option_map_or (λ p. p.path) o []) (rest i other)

@@ -1,9 +1,9 @@
 -- A step of a walk along a tree: it keeps what the walk comes to.
-use Rattle.std.specs.Prelude.{◌≡◌, ◌≤◌, ◌<◌, ◌+◌, ◌-◌, ◌^◌, ◌==◌, ℕ, zero, suc, min, Bool, true, false, ◌||◌, nat_lt, List, [], ◌∷◌, ◌++◌, Option, None, Some, ◌⊎◌, codes, drop, flat_map, length, slice_get, sum_by}
+use Rattle.std.specs.Prelude.{◌≡◌, ◌≤◌, ◌<◌, ◌+◌, ◌-◌, ◌==◌, ℕ, zero, suc, Bool, true, false, nat_lt, List, [], ◌∷◌, ◌++◌, Option, None, Some, ◌⊎◌, codes, drop, flat_map, length, slice_get, sum_by}
 use Rattle.std.specs.List.{AllByRecursion, list_any}
 use Rattle.std.specs.Option.{is_some, option_map_or}
 use Rattle.std.proofs.Common.{refl, sym, ap, subst, ◌∙◌, inl, inr, append_assoc, arith, length-append}
-use Rattle.std.proofs.lemmas.Bool.{true≢false, false≢true, lt-ltb, or_right}
+use Rattle.std.proofs.lemmas.Bool.{false≢true, lt-ltb, or_right}
 use Rattle.std.proofs.lemmas.List.{append-nil}
 use Rattle.std.proofs.lemmas.List.Sums.{sum_by-cons}
 use Rattle.std.proofs.lemmas.Option.{same_Some, slice_get_cases}
@@ -393,16 +393,6 @@ module _ (tree : Tree) (shape : IsShapeOf tree) (front : List Frame) (f : Frame)
 
 abbrev pub top : Frame
 top = record { node = 0; next = 0 }
-
-pub top_frames : (tree : Tree) → IsShapeOf tree → AreFrames tree.places.items (top ∷ [])
-top_frames tree shape =
-    frames_more tree.places.items [] top
-    (record { few = omega arith; nodes = tt; deep = λ k f none. absurd cc })
-    (record {
-      node = refl;
-      deep = ap (λ (o : Option Place). length (option_map_or (λ p. p.path) o [])) shape.root;
-      few = omega arith;
-    })
 
 -- the root is no client
 pub top_queue : (tree : Tree) → IsShapeOf tree → (content : Content) → IsTreeOf content tree

@@ -1,98 +1,14 @@
--- The sums of nodes where a client comes or goes.
-use Rattle.std.specs.Prelude.{◌≡◌, ◌≢◌, ◌+◌, ℕ, Bool, true, false, not, cond, List, [], ◌∷◌, ◌++◌, filter, length, map, sum_by}
+-- What a node has is what the others have, and what the client that goes has.
+use Rattle.std.specs.Prelude.{◌≡◌, ◌≢◌, ◌+◌, ℕ, Bool, true, false, not, cond, List, [], ◌∷◌, filter, map, sum_by}
 use Rattle.std.specs.List.{AllByRecursion}
-use Rattle.std.proofs.Common.{refl, sym, ap, subst, ◌∙◌, inl, inr, arith, length-append}
+use Rattle.std.proofs.Common.{refl, sym, ap, subst, ◌∙◌, inl, inr, arith}
 use Rattle.std.proofs.lemmas.Bool.{false≢true, cases_Bool}
-use Rattle.std.proofs.lemmas.List.{append-nil}
-use Rattle.std.proofs.lemmas.List.Elements.{filter-append}
-use Rattle.std.proofs.lemmas.List.Sums.{sum_by-append, sum_by-cons}
+use Rattle.std.proofs.lemmas.List.Sums.{sum_by-cons}
 use Rattle.drf_role.specs.Path.{Path, IsClientPath, begins_with, same_path}
 use Rattle.drf_role.specs.PathLaws.{client_paths-apart, path_decides, same_path-true}
-use Rattle.drf_sorter.specs.Content.{Content, Ranked, clients_under, standing_in, with_client}
-use Rattle.drf_tree.specs.declared.node.Sum.{Sum}
-use Rattle.drf_tree.specs.Tree.{IsSumOf}
+use Rattle.drf_sorter.specs.Content.{Ranked}
 use Rattle.drf_tree.proofs.ContentLemmas.{below}
 use Rattle.drf_tree.proofs.PathLemmas.{begins_itself}
-
-abbrev under : Path → Ranked → Bool
-under node c = begins_with c.path node
-
-abbrev newcomer : Path → Ranked
-newcomer path = record { path = path; active = true; held = λ _. 0; count = 0 }
-
-sum_last : (f : Ranked → ℕ) (cs : List Ranked) (c : Ranked) → sum_by f (cs ++ c ∷ []) ≡ sum_by f cs + f c
-sum_last f cs c =
-    let one : sum_by f (c ∷ []) ≡ f c + sum_by f [] = sum_by-cons f c [] in
-    omega (arith, sum_by-append f cs (c ∷ []), one)
-
--- ---- a client that holds nothing comes
-
-under_more : (cs : List Ranked) (path node : Path) → begins_with path node ≡ true
-    → filter (under node) (cs ++ newcomer path ∷ []) ≡ filter (under node) cs ++ newcomer path ∷ []
-under_more cs path node begins =
-    filter-append (under node) cs (newcomer path ∷ [])
-    ∙ ap (λ (b : Bool). filter (under node) cs ++ cond b (newcomer path ∷ []) []) begins
-
-under_same : (cs : List Ranked) (path node : Path) → begins_with path node ≡ false
-    → filter (under node) (cs ++ newcomer path ∷ []) ≡ filter (under node) cs
-under_same cs path node other =
-    filter-append (under node) cs (newcomer path ∷ [])
-    ∙ ap (λ (b : Bool). filter (under node) cs ++ cond b (newcomer path ∷ []) []) other
-    ∙ append-nil (filter (under node) cs)
-
-active_more : (cs : List Ranked) (path : Path)
-    → length (filter (λ c. c.active) (cs ++ newcomer path ∷ [])) ≡ length (filter (λ c. c.active) cs) + 1
-active_more cs path =
-    omega (
-      arith,
-      ap length (filter-append (λ (c : Ranked). c.active) cs (newcomer path ∷ [])),
-      length-append (filter (λ (c : Ranked). c.active) cs) (newcomer path ∷ []),
-    )
-
-pub sum_with : (content : Content) (path node : Path) (sum : Sum) → begins_with path node ≡ true
-    → IsSumOf content node sum
-    → IsSumOf (with_client content path) node (record sum { clients = sum.clients + 1; active = sum.active + 1 })
-unfolding standing_in
-sum_with content path node sum begins of =
-    let cs : List Ranked = clients_under content node in
-    let more : clients_under (with_client content path) node ≡ cs ++ newcomer path ∷ [] =
-    under_more content.clients path node begins in
-    record {
-      held = λ label.
-          omega (
-            arith,
-            of.held label,
-            ap (sum_by (λ (c : Ranked). c.held label)) more,
-            sum_last (λ (c : Ranked). c.held label) cs (newcomer path),
-          );
-      count =
-          omega (
-            arith,
-            of.count,
-            ap (sum_by (λ (c : Ranked). c.count)) more,
-            sum_last (λ (c : Ranked). c.count) cs (newcomer path),
-          );
-      clients = omega (arith, of.clients, ap length more, length-append cs (newcomer path ∷ []));
-      active =
-          omega (arith, of.active, ap (λ (ds : List Ranked). length (filter (λ c. c.active) ds)) more, active_more cs path);
-      weight = of.weight;
-    }
-
-pub sum_beside : (content : Content) (path node : Path) (sum : Sum) → begins_with path node ≡ false
-    → IsSumOf content node sum → IsSumOf (with_client content path) node sum
-unfolding standing_in
-sum_beside content path node sum other of =
-    let same : clients_under (with_client content path) node ≡ clients_under content node =
-    under_same content.clients path node other in
-    record {
-      held = λ label. of.held label ∙ ap (sum_by (λ (c : Ranked). c.held label)) (sym same);
-      count = of.count ∙ ap (sum_by (λ (c : Ranked). c.count)) (sym same);
-      clients = of.clients ∙ ap length (sym same);
-      active = of.active ∙ ap (λ (ds : List Ranked). length (filter (λ c. c.active) ds)) (sym same);
-      weight = of.weight;
-    }
-
--- ---- a client goes: what a node has is what the others have, and what the client has
 
 abbrev pub stays : Path → Ranked → Bool
 stays path c = not (same_path c.path path)

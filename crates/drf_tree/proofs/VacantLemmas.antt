@@ -16,7 +16,7 @@ use Rattle.drf_tree.specs.Changes.{IsSameTree, IsShapeOf}
 use Rattle.drf_tree.specs.Family.{IsSameKey, child_name}
 use Rattle.drf_tree.specs.Nodes.{children_at, is_live, path_at, place_at}
 use Rattle.drf_tree.specs.Tree.{IsMarkedOrRight, IsSumOf, IsTreeOf}
-use Rattle.drf_tree.proofs.ClimbLemmas.{live_within}
+use Rattle.drf_tree.proofs.NodeLemmas.{live_within}
 use Rattle.drf_tree.proofs.ShapeLemmas.{shape_from, shape_in, shape_seen}
 
 -- a default that is added changes no read

@@ -1,9 +1,8 @@
 -- What the walk comes to below one node: nobody where no client is, and one where it is a client.
 use Rattle.std.specs.Prelude.{◌≡◌, ℕ, zero, suc, Bool, true, false, ◌||◌, List, [], ◌∷◌, ◌++◌, flat_map}
 use Rattle.std.specs.List.{AllByRecursion, list_any}
-use Rattle.std.proofs.Common.{◌≢◌, refl, sym, ap, subst, ◌∙◌, inl, inr}
+use Rattle.std.proofs.Common.{◌≢◌, refl, sym, subst, ◌∙◌, inl, inr}
 use Rattle.std.proofs.lemmas.Bool.{true≢false, false≢true, cases_Bool, false_from_ne_true, or_cases, or_left, or_right}
-use Rattle.std.proofs.lemmas.List.{append-nil}
 use Rattle.drf_role.specs.Text.{Text}
 use Rattle.drf_role.specs.Path.{Path, IsClientPath, begins_with, same_path}
 use Rattle.drf_role.specs.PathLaws.{client_paths-apart, path_decides}

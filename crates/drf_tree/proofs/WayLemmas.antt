@@ -1,12 +1,10 @@
--- The nodes on the way to a leaf: the leaf, and those on the way to the node above it.
-use Rattle.std.specs.Prelude.{◌≡◌, ◌≢◌, ◌<◌, ◌+◌, ◌==◌, ℕ, Bool, true, false, List, [], ◌∷◌, ◌++◌, Option, ◌⊎◌, drop, length}
+-- A node and the one above it.
+use Rattle.std.specs.Prelude.{◌≡◌, ◌≢◌, ◌<◌, ◌+◌, ◌==◌, ℕ, Bool, true, false, List, [], ◌∷◌, Option, length}
 use Rattle.std.specs.List.{AllByRecursion}
 use Rattle.std.specs.Option.{option_map_or}
 use Rattle.std.proofs.Common.{sym, ap, ◌∙◌, inl, inr, arith, length-append}
 use Rattle.std.proofs.lemmas.Bool.{false≢true, cases_Bool, or_cases}
 use Rattle.std.proofs.lemmas.Bool.Decides.{nat_tests}
-use Rattle.std.proofs.lemmas.List.{append-nil}
-use Rattle.drf_role.specs.Path.{Path, begins_with}
 use Rattle.drf_tree.specs.declared.family.Child.{Child}
 use Rattle.drf_tree.specs.declared.family.Family.{Family}
 use Rattle.drf_tree.specs.declared.node.Place.{Place}
@@ -15,7 +13,6 @@ use Rattle.drf_tree.specs.Changes.{IsOneLonger}
 use Rattle.drf_tree.specs.Family.{child_name, has_child}
 use Rattle.drf_tree.specs.Nodes.{children_at, is_live, is_node, parent_at, path_at}
 use Rattle.drf_tree.specs.Tree.{IsChildOf, IsShape}
-use Rattle.drf_tree.proofs.PathLemmas.{begins_by, begins_front, begins_to, begins_trans}
 
 pub equal : (m i : ℕ) → (m == i) ≡ true → m ≡ i
 equal m i same = grind (arith, nat_tests)
@@ -65,30 +62,6 @@ module _ (places : List (Option Place)) (families : List Family) (stale : List B
         absurd (omega (arith, some, ap length at))
     | inr live ↦ live
   ]
-
-  -- who is on the way to the node above is on the way
-  pub way_up : (leaf i : ℕ) → is_live places leaf ≡ true
-      → begins_with (path_at places (parent_at places leaf)) (path_at places i) ≡ true
-      → begins_with (path_at places leaf) (path_at places i) ≡ true
-  way_up leaf i live begins =
-      let longer = above_of leaf live in
-      begins_trans (path_at places leaf) (path_at places (parent_at places leaf)) (path_at places i)
-      (begins_by (path_at places leaf) (path_at places (parent_at places leaf)) (longer.part ∷ []) longer.joined) begins
-
-  -- who is on the way is the leaf, or on the way to the node above
-  pub way_down : (leaf i : ℕ) → is_live places leaf ≡ true → is_live places i ≡ true
-      → begins_with (path_at places leaf) (path_at places i) ≡ true
-      → (i ≡ leaf) ⊎ (begins_with (path_at places (parent_at places leaf)) (path_at places i) ≡ true)
-  way_down leaf i live_leaf live begins =
-      by (drop (length (path_at places i)) (path_at places leaf)) (begins_to (path_at places leaf) (path_at places i) begins)
-    where
-      by : (rest : Path) → path_at places leaf ≡ path_at places i ++ rest
-          → (i ≡ leaf) ⊎ (begins_with (path_at places (parent_at places leaf)) (path_at places i) ≡ true)
-      by [] whole = inl (shape.distinct i leaf live live_leaf (sym (whole ∙ append-nil (path_at places i))))
-      by (part ∷ rest) whole =
-          let longer = above_of leaf live_leaf in
-          inr (begins_front (path_at places i) rest (path_at places (parent_at places leaf)) part longer.part
-          (sym whole ∙ longer.joined))
 
 pub not_equal : (m i : ℕ) → m ≢ i → (m == i) ≡ false
 not_equal m i other = elim (cases_Bool (m == i)) [

@@ -1,10 +1,10 @@
 -- What holds of a family holds of it with a child more, and with one less.
-use Rattle.std.specs.Prelude.{◌≡◌, ◌<◌, ◌==◌, ℕ, zero, suc, Bool, ◌||◌, List, [], ◌∷◌, ◌++◌, Option, Some, length, map, slice_get, slice_set}
+use Rattle.std.specs.Prelude.{◌≡◌, ◌<◌, ◌==◌, ℕ, Bool, ◌||◌, List, [], ◌∷◌, ◌++◌, Option, length, map, slice_set}
 use Rattle.std.specs.List.{AllByRecursion, IsDistinct, list_any}
 use Rattle.std.specs.List.Sorted.{IsPermutation}
 use Rattle.std.specs.Cmp.Lexicographic.{nat_list_eq_equiv}
 use Rattle.std.specs.Option.{option_map_or}
-use Rattle.std.proofs.Common.{◌≢◌, refl, sym, ap, subst, inl, inr, arith}
+use Rattle.std.proofs.Common.{◌≢◌, sym, ap, subst, inl, inr}
 use Rattle.std.proofs.lemmas.Bool.{cases_eq}
 use Rattle.std.proofs.lemmas.List.Sorted.{IsPermutation-map, IsPermutation-middle, IsPermutation-sym, list_any-IsPermutation}
 use Rattle.std.proofs.lemmas.Map.Keys.{IsDistinct-IsPermutation}
@@ -14,6 +14,7 @@ use Rattle.drf_tree.specs.declared.family.Child.{Child}
 use Rattle.drf_tree.specs.declared.family.Family.{Family}
 use Rattle.drf_tree.specs.Family.{IsWith, child_name, has_child}
 use Rattle.drf_tree.specs.Nodes.{children_at}
+use Rattle.drf_tree.proofs.SliceLemmas.{get_set_other, get_set_same}
 
 -- ---- a child more
 
@@ -55,18 +56,6 @@ module _ (child : Child) (less more : List Child) (with : IsWith child less more
       (IsPermutation-map child_name more (child ∷ less) moved_to_front) distinct
 
 -- ---- one family is another
-
-get_set_same : {X : Type 0} (xs : List X) (i : ℕ) (x : X) → i < length xs → slice_get (slice_set xs i x) i ≡ Some x
-get_set_same [] i x below = absurd (omega (arith, below))
-get_set_same (y ∷ ys) zero x below = refl
-get_set_same (y ∷ ys) (suc i) x below = get_set_same ys i x (omega (arith, below))
-
-get_set_other : {X : Type 0} (xs : List X) (i j : ℕ) (x : X) → j ≢ i → slice_get (slice_set xs i x) j ≡ slice_get xs j
-get_set_other [] i j x other = refl
-get_set_other (y ∷ ys) zero zero x other = absurd (other refl)
-get_set_other (y ∷ ys) zero (suc j) x other = refl
-get_set_other (y ∷ ys) (suc i) zero x other = refl
-get_set_other (y ∷ ys) (suc i) (suc j) x other = get_set_other ys i j x (λ e. other (omega (arith, e)))
 
 pub set_family_same : (families : List Family) (i : ℕ) (f : Family) → i < length families
     → children_at (slice_set families i f) i ≡ f.children.items

@@ -1,12 +1,14 @@
 //! The children of a node, in the order of their keys.
-ghost use Rattle.std.specs.Prelude.{◌≡◌, ◌==◌, ◌≤◌, ◌<◌, ◌^◌, [], true, not, IfOk, IsTrue, OnOk, OnErr, drop, length, slice_get, take};
+ghost use Rattle.std.specs.Prelude.{◌≡◌, ◌==◌, ◌≤◌, ◌<◌, ◌+◌, ◌-◌, ◌^◌, [], true, not, min, IfOk, IsTrue, OnOk, OnErr, drop, length, slice_get, take};
 ghost use Rattle.std.specs.List.{list_all, position};
+ghost use Rattle.std.specs.String.{string_bytes};
 ghost use Rattle.std.specs.Vec.{vec_capacity, vec_len};
 ghost use Rattle.drf_bundle.specs.Quantities.{amount_of};
 ghost use Rattle.drf_role.specs.Text.{Text};
 ghost use Rattle.drf_sorter.specs.Keys.{key_by};
-ghost use Rattle.drf_tree.specs.Family.{AreCopies, are_sorted, is_before};
+ghost use Rattle.drf_tree.specs.Family.{AreCopies, are_sorted, is_before, key_for};
 
+use crate::marks::Marks;
 use crate::node::Sum;
 use drf_bundle::Quantities;
 use drf_sorter::Key;
@@ -15,9 +17,33 @@ use std::alloc::{AllocError, Global};
 /// A child of a node, with the key that was last computed for it.
 #[derive(Debug, Drop)]
 pub(crate) struct Child {
-    pub key: Key,
+    key: Key,
     /// The number of the child.
     pub node: usize,
+}
+
+impl Child {
+    /// A child with the key of its sum, which counts as computed. Every key of a tree is made here.
+    pub(crate) fn new(
+        marks: &mut Marks,
+        node: usize,
+        name: String,
+        total: &Quantities,
+        sum: &Sum,
+    ) -> Child
+        requires within { (label : Text) → amount_of sum.now.held label ≤ amount_of total.now label }
+        requires fits { (label : Text) → amount_of total.now label < 2 ^ 52 }
+        requires weighs { 1 ≤ sum.now.weight }
+        requires light { sum.now.weight ≤ 1000000 }
+        ensures node { result.node ≡ node }
+        ensures key { key_by result.key ≡ key_for total.now sum.now (string_bytes name) }
+        ensures made { marks.new.made ≡ min (marks.old.made + 1) (2 ^ 64 - 1) }
+        ensures stale { marks.new.stale ≡ marks.old.stale }
+    {
+        marks.count();
+        let key = Key::new(total, sum.weight, &sum.held, sum.count, name);
+        Child { key, node }
+    }
 }
 
 /// Siblings in the order of their keys, be these stale or not.
@@ -70,19 +96,21 @@ impl Family {
     }
 
     /// Computes the key of a child from its sum, and puts the child into its place.
-    pub(crate) fn renew(&mut self, node: usize, total: &Quantities, sum: &Sum)
+    pub(crate) fn renew(&mut self, marks: &mut Marks, node: usize, total: &Quantities, sum: &Sum)
         requires known { has_child node self.old.children.items ≡ true }
         requires within { (label : Text) → amount_of sum.now.held label ≤ amount_of total.now label }
         requires fits { (label : Text) → amount_of total.now label < 2 ^ 52 }
         requires weighs { 1 ≤ sum.now.weight }
         requires light { sum.now.weight ≤ 1000000 }
-        ensures { IsRenewed node total.now sum.now self.old.children.items self.new.children.items }
+        ensures renewed { IsRenewed node total.now sum.now self.old.children.items self.new.children.items }
+        ensures made { marks.new.made ≡ min (marks.old.made + 1) (2 ^ 64 - 1) }
+        ensures stale { marks.new.stale ≡ marks.old.stale }
     {
         let name = self.take(node).key.into_name();
-        let key = Key::new(total, sum.weight, &sum.held, sum.count, name);
-        let place = place_for(&self.children, &key);
+        let child = Child::new(marks, node, name, total, sum);
+        let place = place_for(&self.children, &child.key);
         // The child that was taken out left its room.
-        self.children.insert(place, Child { key, node }).unwrap();
+        self.children.insert(place, child).unwrap();
     }
 
     /// Takes a child out. Its room stays.

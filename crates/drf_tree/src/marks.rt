@@ -1,5 +1,5 @@
 //! Which keys may be stale, and how many were computed.
-ghost use Rattle.std.specs.Prelude.{◌≡◌, ◌≤◌, ◌<◌, ◌+◌, ◌↔◌, [], ◌∷◌, ◌++◌, ℕ, false, true, IfOk, IsTrue, OnOk, OnErr, length, slice_index_or, slice_set};
+ghost use Rattle.std.specs.Prelude.{◌≡◌, ◌≤◌, ◌<◌, ◌+◌, ◌-◌, ◌^◌, ◌↔◌, [], ◌∷◌, ◌++◌, ℕ, cond, false, min, true, IfOk, IsTrue, OnOk, OnErr, length, slice_index_or, slice_set};
 ghost use Rattle.drf_sorter.specs.Work.{debt};
 ghost use Rattle.drf_tree.specs.Marks.{marked_in, work_of};
 ghost use Rattle.drf_tree.specs.Nodes.{is_live};
@@ -46,8 +46,8 @@ impl Marks {
 
     /// One more key was computed.
     pub(crate) fn count(&mut self)
+        ensures made { self.new.made ≡ min (self.old.made + 1) (2 ^ 64 - 1) }
         ensures stale { self.new.stale ≡ self.old.stale }
-        ensures work { debt (work_of self.new) ≤ debt (work_of self.old) + 1 }
     {
         self.made = self.made.saturating_add(1);
     }
@@ -93,20 +93,19 @@ impl Marks {
         }
     }
 
-    /// Whether the key of a node is to be computed, which then counts as done.
+    /// Whether the key of a node may be stale. Its mark is taken away.
     #[tactic(auto, using(crate::proofs::MarkLemmas::marked_less, crate::proofs::MarkLemmas::set_again))]
     pub(crate) fn take(&mut self, node: usize) -> bool
         requires { node < length self.old.stale }
         ensures marked { result ≡ slice_index_or self.old.stale node false }
         ensures flags { self.new.stale ≡ slice_set self.old.stale node false }
-        ensures work { debt (work_of self.new) ≤ debt (work_of self.old) }
+        ensures work { debt (work_of self.new) + cond result 1 0 ≤ debt (work_of self.old) }
     {
         if !self.stale[node] {
             return false;
         }
         self.stale[node] = false;
         self.marked -= 1;
-        self.count();
         true
     }
 

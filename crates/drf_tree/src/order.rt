@@ -1,5 +1,5 @@
 //! Families put into order where keys are stale.
-ghost use Rattle.std.specs.Prelude.{◌≡◌, ◌≤◌, length, true};
+ghost use Rattle.std.specs.Prelude.{◌≡◌, ◌≤◌, ◌+◌, ◌-◌, ◌^◌, length, min, true};
 ghost use Rattle.drf_sorter.specs.Content.{IsSound};
 ghost use Rattle.drf_sorter.specs.Plain.{plain_content};
 ghost use Rattle.drf_sorter.specs.Work.{debt};
@@ -37,10 +37,11 @@ impl Tree {
         ensures tree { IsTreeOf (plain_content ledger.now) self.new }
         ensures places { self.new.places ≡ self.old.places }
         ensures sums { self.new.sums ≡ self.old.sums }
-        ensures marks { self.new.marks ≡ self.old.marks }
+        ensures made { self.new.marks.made ≡ min (self.old.marks.made + 1) (2 ^ 64 - 1) }
+        ensures stale { self.new.marks.stale ≡ self.old.marks.stale }
     {
         let parent = self.parent(node);
         let family = &mut self.families[parent];
-        family.renew(node, ledger.total(), &self.sums[node]);
+        family.renew(&mut self.marks, node, ledger.total(), &self.sums[node]);
     }
 }

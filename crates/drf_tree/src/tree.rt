@@ -20,7 +20,7 @@ use crate::node::{Place, Sum};
 use crate::route::Route;
 use drf_bundle::Quantities;
 use drf_role::{ClientPath, NodePath};
-use drf_sorter::{DEFAULT_WEIGHT, Key};
+use drf_sorter::DEFAULT_WEIGHT;
 use std::alloc::{AllocError, Global};
 
 /// The number of what stands above the nodes of one part. It has a family, and is no node itself.
@@ -214,9 +214,9 @@ impl Tree {
         ensures live { IfOk result (λ node. is_live self.new.places.items node ≡ true) }
         ensures work { debt (work_of self.new.marks) ≤ debt (work_of self.old.marks) + 1 }
     {
-        let key = self.first_key(&path)?;
         let node = self.vacant()?;
-        self.families[parent].insert(Child { key, node })?;
+        let child = self.first_child(node, &path)?;
+        self.families[parent].insert(child)?;
         self.sums[node] = Sum::of_none(self.alloc(), weight);
         self.places[node] = Some(Place {
             path,
@@ -226,9 +226,10 @@ impl Tree {
         Ok(node)
     }
 
-    /// The key of a node whose clients hold nothing. It is the same whatever the total is, and the weight.
-    fn first_key(&mut self, path: &NodePath) -> Result<Key, AllocError>
-        ensures key { IfOk result (λ key. IsKeyOfNothing path.now (key_by key)) }
+    /// A child whose clients hold nothing. Its key is the same whatever the total is, and the weight.
+    fn first_child(&mut self, node: usize, path: &NodePath) -> Result<Child, AllocError>
+        ensures node { IfOk result (λ child. child.node ≡ node) }
+        ensures key { IfOk result (λ child. IsKeyOfNothing path.now (key_by child.key)) }
         ensures places { self.new.places ≡ self.old.places }
         ensures sums { self.new.sums ≡ self.old.sums }
         ensures families { self.new.families ≡ self.old.families }
@@ -238,8 +239,8 @@ impl Tree {
         let alloc = self.alloc();
         let name = String::from_str(alloc, path.part(path.len() - 1))?;
         let nothing = Quantities::empty(alloc);
-        self.marks.count();
-        Ok(Key::new(&nothing, DEFAULT_WEIGHT, &nothing, 0, name))
+        let none = Sum::of_none(alloc, DEFAULT_WEIGHT);
+        Ok(Child::new(&mut self.marks, node, name, &nothing, &none))
     }
 
     /// Whether a node has neither clients nor children.

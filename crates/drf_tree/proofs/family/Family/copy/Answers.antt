@@ -1,4 +1,4 @@
-use Rattle.std.proofs.Common.{ap, map, sym, ◌∙◌}
+use Rattle.std.proofs.Common.{ap, map, ◌∙◌}
 use Rattle.std.proofs.lemmas.List.{take_all}
 use Rattle.drf_tree.specs.Family.{seen}
 use Rattle.drf_tree.proofs.FamilyLemmas.{sorted_seen}

@@ -1,12 +1,10 @@
-use Rattle.std.specs.Prelude.{◌≡◌, ◌≤◌, ◌<◌, List}
+use Rattle.std.specs.Prelude.{◌≤◌, List}
 use Rattle.std.proofs.Common.{ap, arith, refl, subst, sym, ◌∙◌}
 use Rattle.std.proofs.lemmas.Bool.{false≢true}
 use Rattle.drf_bundle.specs.Quantities.{amount_of}
 use Rattle.drf_bundle.specs.declared.quantities.Entry.{Entry}
-use Rattle.drf_sorter.specs.Content.{Content, IsSound}
 use Rattle.drf_sorter.specs.Fractions.{dominant_of, weigh}
 use Rattle.drf_sorter.specs.Plain.{plain_content}
-use Rattle.drf_sorter.specs.Share.{IsShareOf}
 use Rattle.drf_sorter.specs.declared.plain.PlainSorter.{PlainSorter}
 use Rattle.drf_tree.specs.Sorter.{Sorted}
 use Rattle.drf_tree.specs.Tree.{IsTreeOf}

@@ -3,7 +3,7 @@ use Rattle.std.specs.Bool.{◌==◌}
 use Rattle.std.proofs.lemmas.Option.{slice_get_read}
 use Rattle.drf_tree.specs.declared.family.Family.{Family}
 use Rattle.drf_tree.specs.declared.node.Sum.{Sum}
-use Rattle.drf_tree.proofs.ClimbLemmas.{live_within}
+use Rattle.drf_tree.proofs.NodeLemmas.{live_within}
 use Rattle.drf_tree.proofs.NameLemmas.{bare_is, bare_out, bare_then}
 use Rattle.drf_tree.proofs.tree.Tree.is_bare.Goals as goal
 

@@ -1,11 +1,10 @@
-use Rattle.std.specs.Prelude.{◌≡◌, ℕ, Bool, List, false, slice_index_or, true}
-use Rattle.std.proofs.Common.{sym, ap, ◌∙◌, inl, inr}
+use Rattle.std.specs.Prelude.{List}
+use Rattle.std.proofs.Common.{sym, ◌∙◌, inl, inr}
 use Rattle.std.proofs.lemmas.Bool.{cases_Bool}
 use Rattle.drf_bundle.specs.declared.quantities.Entry.{Entry}
 use Rattle.drf_role.specs.Path.{Path}
 use Rattle.drf_rows.specs.ListLaws.{each_from}
 use Rattle.drf_sorter.specs.Content.{Content, standing_in}
-use Rattle.drf_tree.specs.declared.family.Child.{Child}
 use Rattle.drf_tree.specs.declared.node.Sum.{Sum}
 use Rattle.drf_tree.specs.Nodes.{children_at, is_live}
 use Rattle.drf_tree.specs.Tree.{IsChildOf, IsMarkedOrRight, IsSumOf}

@@ -1,8 +1,7 @@
-use Rattle.std.specs.Prelude.{◌≡◌, ◌<◌, ◌≤◌, ℕ, List, length, slice_index_or, slice_set, true}
+use Rattle.std.specs.Prelude.{◌≡◌, ◌<◌, ℕ, Bool, List, length, slice_index_or, slice_set, true}
 use Rattle.std.proofs.Common.{ap, arith, refl, subst, sym, ◌∙◌}
 use Rattle.std.proofs.lemmas.Option.{slice_get_read}
 use Rattle.drf_bundle.specs.declared.quantities.Entry.{Entry}
-use Rattle.drf_bundle.specs.Quantities.{amount_of}
 use Rattle.drf_sorter.specs.Content.{Content}
 use Rattle.drf_sorter.specs.Plain.{plain_content}
 use Rattle.drf_tree.specs.declared.family.Child.{Child}
@@ -11,7 +10,7 @@ use Rattle.drf_tree.specs.declared.tree.Tree.{Tree}
 use Rattle.drf_tree.specs.Changes.{IsShapeOf}
 use Rattle.drf_tree.specs.Family.{IsRenewed}
 use Rattle.drf_tree.specs.Nodes.{children_at, is_live, parent_at, path_at}
-use Rattle.drf_tree.specs.Tree.{AreSums, IsSumOf}
+use Rattle.drf_tree.specs.Tree.{AreRight, AreSums, IsShape, IsSumOf}
 use Rattle.drf_tree.proofs.NodeLemmas.{family_read, live_within, node_within}
 use Rattle.drf_tree.proofs.RenewLemmas.{IsRenewedTree, plain_weighs, renewed, sum_within, weighs_within}
 use Rattle.drf_tree.proofs.tree.Tree.renew.Goals as goal
@@ -31,7 +30,7 @@ parent_within : (tree : Tree) → IsShapeOf tree → (node parent : ℕ) → is_
 parent_within tree shape node parent live is =
     omega (
       arith,
-      node_within tree.places.items tree.families.items tree.marks.stale tree.sums.items shape (parent_at tree.places.items node) (shape.kept node live).0,
+      node_within tree shape (parent_at tree.places.items node) (shape.kept node live).0,
       shape.families_long,
       is,
     )
@@ -73,16 +72,17 @@ returns-clause-tree c =
     let r =
     subst (λ (old : List Child). IsRenewed c.args.node content.total sum old new.children.items) old_is
     (subst (λ (total : List Entry). IsRenewed c.args.node total sum c.index_mut-family.result.now.children.items new.children.items)
-    c.total.ensures c.renew.ensures) in
+    c.total.ensures c.renew.ensures.renewed) in
     let all =
     subst (λ (p : ℕ). IsRenewedTree content tree (slice_set families p new)) (sym c.parent-parent.ensures)
     (renewed content tree c.args.node of c.requires.live (plain_weighs c.args.ledger.now) sum
     (sum_read content tree of.shape of.sums c.args.node sum c.requires.live c.index.ensures) new r) in
+    let families = slice_set families parent new in
     record {
       paths = of.paths;
       distinct = of.distinct;
-      shape = all.shape;
+      shape = subst (λ (flags : List Bool). IsShape tree.places.items families flags tree.sums.items) (sym c.renew.ensures.stale) all.shape;
       sums = of.sums;
       complete = all.complete;
-      right = all.right;
+      right = subst (AreRight content tree.places.items families) (sym c.renew.ensures.stale) all.right;
     }

@@ -1,5 +1,4 @@
-use Rattle.std.specs.Prelude.{◌≡◌, ◌≢◌, ◌≤◌, ◌<◌, ◌+◌, ℕ, Bool, false, true, List, ◌⊎◌, length, slice_index_or, slice_set}
-use Rattle.std.specs.List.{AllByRecursion}
+use Rattle.std.specs.Prelude.{◌≡◌, ◌≤◌, ◌<◌, ◌+◌, ℕ, Bool, cond, false, List, ◌⊎◌, length, slice_index_or, slice_set}
 use Rattle.std.proofs.Common.{ap, arith, inl, inr, subst, sym, ◌∙◌}
 use Rattle.std.proofs.lemmas.Bool.{cases_eq, cases_lt, false≢true}
 use Rattle.std.proofs.lemmas.List.{get_or-set_other, get_or_past, length-set}
@@ -7,12 +6,11 @@ use Rattle.drf_rows.specs.ListLaws.{each_from}
 use Rattle.drf_sorter.specs.Content.{Content}
 use Rattle.drf_sorter.specs.Plain.{plain_content}
 use Rattle.drf_sorter.specs.Work.{debt}
-use Rattle.drf_tree.specs.declared.family.Child.{Child}
 use Rattle.drf_tree.specs.declared.tree.Tree.{Tree}
 use Rattle.drf_tree.specs.Marks.{Flags, work_of}
 use Rattle.drf_tree.specs.Nodes.{children_at}
 use Rattle.drf_tree.specs.Tree.{AreRight, IsMarkedOrRight, IsShape, IsTreeBut, IsTreeOf}
-use Rattle.drf_tree.proofs.MarkLemmas.{all_clear, down_at, down_to, set_again}
+use Rattle.drf_tree.proofs.MarkLemmas.{all_clear, down_at, down_to, one_more, set_again}
 use Rattle.drf_tree.proofs.NodeLemmas.{flags_changed}
 use Rattle.drf_tree.proofs.tree.Tree.repair.Goals.{else-take, then-take}
 use Rattle.drf_tree.proofs.tree.Tree.repair.Goals as goal
@@ -88,12 +86,12 @@ loop-node-preserved c =
             tree = w.renew.ensures.tree;
             places = w.renew.ensures.places ∙ c.loop-node.invariant.places;
             done = λ i below.
-                ap (λ (m : Flags). slice_index_or m.stale i false) w.renew.ensures.marks
-                ∙ ap (λ (fs : List Bool). slice_index_or fs i false) c.take.ensures.flags ∙ down i below;
+                ap (λ (fs : List Bool). slice_index_or fs i false) (w.renew.ensures.stale ∙ c.take.ensures.flags) ∙ down i below;
             work = omega (
               arith,
-              ap (λ (m : Flags). debt (work_of m)) w.renew.ensures.marks,
+              one_more c.take.new.self w.renew.new.self.marks w.renew.ensures.made w.renew.ensures.stale,
               c.take.ensures.work,
+              ap {B = ℕ} (λ (b : Bool). cond b 1 0) w.if-take.true,
               c.loop-node.invariant.work,
             );
           })

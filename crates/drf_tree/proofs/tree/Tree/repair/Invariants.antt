@@ -1,4 +1,4 @@
-use Rattle.std.proofs.Common.{◌≡◌, ◌≤◌, ◌<◌, ℕ, false, length}
+use Rattle.std.proofs.Common.{◌≡◌, ◌≤◌, ◌<◌, ℕ, false}
 use Rattle.std.specs.Prelude.{slice_index_or}
 use Rattle.drf_sorter.specs.Plain.{plain_content}
 use Rattle.drf_sorter.specs.Work.{debt}

@@ -8,8 +8,7 @@ use Rattle.drf_tree.specs.declared.tree.Tree.{Tree}
 use Rattle.drf_tree.specs.Changes.{IsShapeOf}
 use Rattle.drf_tree.specs.Nodes.{children_at, is_live, parent_at}
 use Rattle.drf_tree.proofs.BareLemmas.{wither_shape, wither_tree}
-use Rattle.drf_tree.proofs.ClimbLemmas.{node_within}
-use Rattle.drf_tree.proofs.NodeLemmas.{family_read}
+use Rattle.drf_tree.proofs.NodeLemmas.{family_read, node_within}
 use Rattle.drf_tree.proofs.tree.Tree.wither.Goals as goal
 
 pub index_mut-requires : goal.index_mut-requires

@@ -1,4 +1,4 @@
-use Rattle.std.specs.Prelude.{◌≡◌, ◌<◌, ◌-◌, ◌∷◌, ◌++◌, [], ℕ, List, Option, None, Some, drop, length, option_copied, slice_get, slice_index_or, suc, take}
+use Rattle.std.specs.Prelude.{◌≡◌, ◌<◌, ◌-◌, ◌∷◌, ◌++◌, [], ℕ, List, Option, None, Some, length, option_copied, slice_get, slice_index_or, suc, take}
 use Rattle.std.specs.Option.{option_map_or}
 use Rattle.std.proofs.Common.{ap, arith, refl, subst, sym, ◌∙◌}
 use Rattle.std.proofs.lemmas.List.{drop_all, nil_from_length}
@@ -12,7 +12,7 @@ use Rattle.drf_tree.specs.declared.tree.Tree.{Tree}
 use Rattle.drf_tree.specs.declared.walk.Frame.{Frame}
 use Rattle.drf_tree.specs.Changes.{IsShapeOf}
 use Rattle.drf_tree.specs.Family.{numbers_of}
-use Rattle.drf_tree.specs.Nodes.{client_at, family_at, is_node, path_at, place_at}
+use Rattle.drf_tree.specs.Nodes.{client_at, path_at, place_at}
 use Rattle.drf_tree.specs.Queue.{AreFrames, IsAtClient, IsSettled, frames_queue}
 use Rattle.drf_tree.specs.Tree.{IsTreeOf}
 use Rattle.drf_tree.proofs.NodeLemmas.{read_at}

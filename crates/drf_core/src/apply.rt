@@ -106,13 +106,6 @@ pub fn apply<S: Sorter>(
             let lines = cycle(alloc, limits, tables, sorter, at)?;
             Ok(Reply::Offers(Table::from_vec(lines)))
         }
-        Event::SetLimit { role, limit } => {
-            tables.set_limit(role, limit)?;
-            Ok(Reply::Done)
-        }
-        Event::Reserve { .. } => Ok(Reply::Done),
-        Event::Unreserve { .. } => Ok(Reply::Done),
-        Event::SetAgent { .. } => Ok(Reply::Done),
         Event::Report => Ok(Reply::Report(report(alloc, tables)?)),
     }
 }

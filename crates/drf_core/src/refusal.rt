@@ -459,10 +459,6 @@ fn refuse_early(limits: &Limits, tables: &Tables, event: &Event) -> Option<Refus
         Event::SetWeight { role, weight } => refuse_weight(limits, tables, role, *weight),
         Event::SetLimit { role, limit } => refuse_limit(limits, tables, role, limit),
         Event::Cycle { at } => refuse_cycle(limits, tables, *at),
-        Event::SetLimit { .. } => None,
-        Event::Reserve { .. } => None,
-        Event::Unreserve { .. } => None,
-        Event::SetAgent { .. } => None,
         Event::Report => first_case(&[(is_full(limits, tables), Refusal::HistoryFull)]),
     }
 }

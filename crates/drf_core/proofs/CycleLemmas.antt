@@ -156,6 +156,7 @@ consistent-clock rows clock right early = record {
   covered = right.covered;
   tasks = right.tasks;
   weights = right.weights;
+  limits = right.limits;
   filters = right.filters;
   early = early;
   counted = right.counted;

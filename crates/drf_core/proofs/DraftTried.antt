@@ -8,23 +8,26 @@ use Rattle.drf_role.specs.TextLaws.{same_itself}
 use Rattle.drf_role.specs.Path.{Path, role_part, framework_part}
 use Rattle.drf_role.specs.PathLaws.{role_part-client_path, framework_part-client_path}
 use Rattle.drf_bundle.specs.Value.{Point}
-use Rattle.drf_bundle.specs.Bundle.{Key, same_key, IsBundle, units, rest, is_for, part_for, quantities_of}
-use Rattle.drf_bundle.specs.PartLaws.{where-some, bundle-part_for}
+use Rattle.drf_bundle.specs.Bundle.{Key, IsBundle, units, rest, quantities_of}
 use Rattle.drf_bundle.specs.declared.resource.Resource.{Resource}
+use Rattle.drf_gates.specs.Quota.{Allowance}
 use Rattle.drf_rows.specs.ListLaws.{each_at}
 use Rattle.drf_rows.specs.Client.{Client, path_of}
 use Rattle.drf_rows.specs.Holdings.{of_offer}
 use Rattle.drf_rows.specs.Cycle.{free_of, grant, is_grantable, new_offer, with_offer, tried}
-use Rattle.drf_rows.specs.CycleLaws.{bundle-free_of, free_of-with_offer}
+use Rattle.drf_rows.specs.CycleLaws.{bundle-free_of, free_of-with_offer, bundle-entitlement, units-entitlement}
 use Rattle.drf_rows.specs.Consistent.{IsAgent, IsConsistent}
 use Rattle.drf_rows.specs.Held.{is_registered}
+use Rattle.drf_rows.specs.Quota.{entitlement}
 use Rattle.drf_rows.specs.declared.rows.AgentRow.{AgentRow}
 use Rattle.drf_rows.specs.declared.rows.OfferRow.{OfferRow}
 use Rattle.drf_rows.specs.declared.rows.Rows.{Rows}
 use Rattle.drf_sorter.specs.Content.{Content, with_change, charged, has_client, IsSound}
 use Rattle.drf_tables.specs.Drafts.{with_offers}
 use Rattle.drf_core.specs.Content.{content_of}
-use Rattle.drf_core.specs.Drafting.{IsDrafting, IsRegisteredPath, IsFreeAt, IsTried}
+use Rattle.drf_core.specs.Drafting.{IsDrafting, CanCount, IsRegisteredPath, IsFreeAt, IsTried}
+use Rattle.drf_core.specs.Entitling.{IsQuotaOf}
+use Rattle.drf_core.proofs.GrantLemmas.{can_count}
 use Rattle.drf_tables.specs.DraftLaws.{agents-with_offers, next-with_offers}
 use Rattle.drf_core.proofs.DraftLemmas.{with_offers-push, is_registered-with_offers}
 use Rattle.drf_core.proofs.ContentOffer.{content_of-with_offer}
@@ -52,14 +55,14 @@ grant-part rows agent client bundle total granted = by (is_grantable rows agent 
     free = free_of rows agent
 
     part : List Resource
-    part = part_for client.role free
+    part = entitlement rows free client
 
     by : (b : Bool) → cond b (Some part) None ≡ Some bundle → IsPart bundle free
     by true e =
         let same : part ≡ bundle = cc in
         subst (λ (b : List Resource). IsPart b free) same (record {
-          bundle_is = bundle-part_for client.role free (bundle-free_of rows agent total);
-          small = λ key p. where-some (is_for client.role) (same_key key) p free;
+          bundle_is = bundle-entitlement rows free client (bundle-free_of rows agent total);
+          small = λ key p. units-entitlement rows free client key p;
         })
     by false e = cc
 
@@ -98,6 +101,10 @@ module _ (content : Content) (rows : Rows) (offers : List OfferRow) (drafting : 
   early_after : (with_offer (with_offers rows offers) (next_draft rows offers agent client bundle)).next_offer < 2 ^ 64
   unfolding with_offer
   early_after = omega (arith, next-with_offers rows offers, fits)
+
+  pub can_count_after : (quota : Option Allowance) → IsQuotaOf (with_offers rows offers) quota → CanCount quota (next_draft rows offers agent client bundle)
+  can_count_after quota counted =
+      can_count (with_offers rows offers) (next_draft rows offers agent client bundle) quota counted consistent_after few_after
 
   pub has_client-now : has_client content (path_of client) ≡ true
   has_client-now =
@@ -148,11 +155,11 @@ unfolding with_offer
 filters-with_offers rows [] = (refl, refl)
 filters-with_offers rows (o ∷ os) = filters-with_offers (with_offer rows o) os
 
--- that is granted of what is free on the agent of that name, in all rows with the filters and the clock of these
-abbrev pub IsGrantedBy : Rows → Text → List Resource → Path → Option (List Resource) → Type 0
-IsGrantedBy tables name free path granted = (rows : Rows) (agent : AgentRow) (client : Client)
+-- that is granted of what is free on the agent of that name, in all rows with that quota, and with the filters and the clock of these
+abbrev pub IsGrantedBy : Rows → Text → Option Allowance → List Resource → Path → Option (List Resource) → Type 0
+IsGrantedBy tables name quota free path granted = (rows : Rows) (agent : AgentRow) (client : Client)
     → free_of rows agent ≡ free → agent.name ≡ name → rows.filters ≡ tables.filters → rows.clock ≡ tables.clock
-    → path ≡ path_of client → granted ≡ grant rows agent client
+    → IsQuotaOf rows quota → path ≡ path_of client → granted ≡ grant rows agent client
 
 -- ---- what the code makes is the next draft
 
@@ -166,15 +173,16 @@ pub record IsNext (rows : Rows) (offers : List OfferRow) (place : ℕ) (path : P
   pub granted : grant (with_offers rows offers) agent client ≡ Some bundle
   pub made : row ≡ next_draft rows offers agent client bundle
 
-pub next_from : (rows : Rows) (offers : List OfferRow) (place : ℕ) (path : Path) (free bundle : List Resource) (row : OfferRow) (number : ℕ) (name : Text)
+pub next_from : (rows : Rows) (offers : List OfferRow) (place : ℕ) (path : Path) (quota : Option Allowance) (free bundle : List Resource) (row : OfferRow) (number : ℕ) (name : Text)
     → IsFreeAt (with_offers rows offers) place free
+    → IsQuotaOf (with_offers rows offers) quota
     → IsRegisteredPath rows path
-    → IsGrantedBy rows name free path (Some bundle)
+    → IsGrantedBy rows name quota free path (Some bundle)
     → ((a : AgentRow) → slice_get rows.agents place ≡ Some a → name ≡ a.name)
     → number ≡ rows.next_offer + length offers
     → row ≡ record { number = number; agent = name; framework = framework_part path; role = role_part path; bundle = bundle }
     → IsNext rows offers place path free bundle row
-next_from rows offers place path free bundle row number name is_free registered granted named numbered row_is =
+next_from rows offers place path quota free bundle row number name is_free counted registered granted named numbered row_is =
     let agent : AgentRow = is_free.agent in
     let client : Client = registered.client in
     let at : slice_get rows.agents place ≡ Some agent =
@@ -190,7 +198,7 @@ next_from rows offers place path free bundle row number name is_free registered 
       known = registered.registered;
       is_free = is_free.free;
       granted = sym (granted (with_offers rows offers) agent client (sym is_free.free) (sym (named agent at))
-          (filters-with_offers rows offers).0 (filters-with_offers rows offers).1 registered.joined);
+          (filters-with_offers rows offers).0 (filters-with_offers rows offers).1 counted registered.joined);
       made = row_is ∙ (λ i. record { number = next i; agent = named agent at i; framework = framework i; role = role i; bundle = bundle });
     }
 
@@ -208,6 +216,11 @@ module _ (content : Content) (rows : Rows) (offers : List OfferRow) (drafting : 
       rw next.made
       (drafting_after content rows offers drafting place next.agent next.at next.client next.known bundle next.granted fits after
       (charge ∙ ap (λ (p : Path). with_change content p (charged (quantities_of bundle))) next.joined))
+
+  pub can_count_next : (quota : Option Allowance) → IsQuotaOf (with_offers rows offers) quota → CanCount quota row
+  can_count_next quota counted =
+      rw next.made
+      (can_count_after content rows offers drafting place next.agent next.at next.client next.known bundle next.granted fits quota counted)
 
   pub tried_next : IsTried (with_offers rows offers) (with_offers rows (offers ++ row ∷ [])) place path
   tried_next agent client at joined =
@@ -232,14 +245,15 @@ module _ (content : Content) (rows : Rows) (offers : List OfferRow) (drafting : 
       }
 
 -- where nothing is granted
-pub tried_nothing : (rows : Rows) (offers : List OfferRow) (place : ℕ) (path : Path) (free : List Resource) (name : Text)
+pub tried_nothing : (rows : Rows) (offers : List OfferRow) (place : ℕ) (path : Path) (quota : Option Allowance) (free : List Resource) (name : Text)
     → IsFreeAt (with_offers rows offers) place free
-    → IsGrantedBy rows name free path None
+    → IsQuotaOf (with_offers rows offers) quota
+    → IsGrantedBy rows name quota free path None
     → ((a : AgentRow) → slice_get rows.agents place ≡ Some a → name ≡ a.name)
     → IsTried (with_offers rows offers) (with_offers rows offers) place path
-tried_nothing rows offers place path free name is_free granted named agent client at joined =
+tried_nothing rows offers place path quota free name is_free counted granted named agent client at joined =
     let now : Rows = with_offers rows offers in
     let same : is_free.agent ≡ agent = let e : Some is_free.agent ≡ Some agent = sym is_free.at ∙ at in cc in
     let before : slice_get rows.agents place ≡ Some agent = ap (λ (as' : List AgentRow). slice_get as' place) (sym (agents-with_offers rows offers)) ∙ at in
     tried_none now agent client (sym (granted now agent client (ap (free_of now) (sym same) ∙ sym is_free.free) (sym (named agent before))
-    (filters-with_offers rows offers).0 (filters-with_offers rows offers).1 joined))
+    (filters-with_offers rows offers).0 (filters-with_offers rows offers).1 counted joined))

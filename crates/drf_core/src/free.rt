@@ -39,12 +39,8 @@ pub struct Free {
 }
 
 /// The part of what is free that a role may use, cut to the headroom that limits leave it, if any role has a limit.
-fn part_within(
-    quota: Option<&Quota>,
-    free: &Bundle,
-    role: &Role,
-) -> Result<Bundle, AllocError>
-    ensures { IfOk result (IsEntitlement (option_copied quota) free.now role.now) }
+fn part_within(quota: Option<&Quota>, free: &Bundle, role: &Role) -> Result<Bundle, AllocError>
+    ensures { IfOk result (IsEntitlement (option_copied quota.entry) free.now role.now) }
 {
     // The proof learns that it is a bundle by this call alone.
     let _ = free.quantities();
@@ -57,14 +53,10 @@ fn part_within(
 }
 
 /// What a role may have of what is free. It is found once for clients of a role that are tried one after another.
-fn entitle(
-    quota: Option<&Quota>,
-    free: &mut Free,
-    role: &Role,
-) -> Result<Entitled, AllocError>
+fn entitle(quota: Option<&Quota>, free: &mut Free, role: &Role) -> Result<Entitled, AllocError>
     requires { IsEntitled (option_copied quota) free.old.bundle free.old.entitled }
     ensures role { IfOk result (λ entitled. entitled.role ≡ role.now) }
-    ensures entitled { IfOk result (λ entitled. IsEntitlement (option_copied quota) free.old.bundle role.now entitled.bundle) }
+    ensures entitled { IfOk result (λ entitled. IsEntitlement (option_copied quota.entry) free.old.bundle role.now entitled.bundle) }
     ensures bundle { free.new.bundle ≡ free.old.bundle }
     ensures none { free.new.entitled ≡ None }
 {
@@ -99,10 +91,10 @@ pub fn grant(
     requires { IsEntitled (option_copied quota) free.old.bundle free.old.entitled }
     ensures granted { IfOk result (λ granted. (rows : Rows) (a : AgentRow) (of : Client)
         → free_of rows a ≡ free.old.bundle → a.name ≡ agent.now → rows.filters ≡ tables.now.rows.filters
-        → rows.clock ≡ tables.now.rows.clock → IsQuotaOf rows (option_copied quota) → client.now ≡ path_of of → granted ≡ grant rows a of) }
+        → rows.clock ≡ tables.now.rows.clock → IsQuotaOf rows (option_copied quota.entry) → client.now ≡ path_of of → granted ≡ grant rows a of) }
     ensures left { IfOk result (λ granted. MatchOption granted (free.new.bundle ≡ free.old.bundle) (λ bundle. free.new.bundle ≡ rest free.old.bundle bundle)) }
     ensures entitled { IfOk result (λ granted. MatchOption granted
-        (IsEntitled (option_copied quota) free.new.bundle free.new.entitled) (λ _. free.new.entitled ≡ None)) }
+        (IsEntitled (option_copied quota.entry) free.new.bundle free.new.entitled) (λ _. free.new.entitled ≡ None)) }
 {
     let entitled = entitle(quota, free, client.role())?;
     if !is_grantable(tables, agent, client, &entitled.bundle) {

@@ -1,6 +1,6 @@
 use Rattle.std.proofs.Common.{Some, None, sym, subst, ◌≡◌, ◌+◌, ◌<◌, ◌^◌, ◌∷◌, ◌++◌, [], List, length, ap, ◌∙◌, arith}
 use Rattle.std.specs.Prelude.{slice_get}
-use Rattle.std.specs.Option.{MatchOption}
+use Rattle.std.specs.Option.{MatchOption, option_copied}
 use Rattle.drf_role.specs.Path.{Path}
 use Rattle.drf_bundle.specs.Bundle.{rest, quantities_of}
 use Rattle.drf_rows.specs.Client.{path_of}
@@ -10,86 +10,123 @@ use Rattle.drf_rows.specs.declared.rows.Rows.{Rows}
 use Rattle.drf_sorter.specs.Content.{with_change, charged}
 use Rattle.drf_tables.specs.Drafts.{with_offers}
 use Rattle.drf_core.specs.Drafting.{IsTried}
+use Rattle.drf_core.specs.Entitling.{IsEntitled}
 use Rattle.drf_core.specs.Working.{nodes_of, offered_to}
 use Rattle.drf_core.proofs.WorkLemmas.{nodes_of-drafted}
-use Rattle.drf_core.proofs.DraftTried.{IsNext, next_from, known_next, sound_next, drafting_next, tried_next, free_next, tried_nothing}
+use Rattle.drf_core.proofs.DraftLemmas.{with_offers-push}
+use Rattle.drf_core.proofs.DraftTried.{IsNext, next_from, can_count_next, known_next, sound_next, drafting_next, tried_next, free_next, tried_nothing}
 use Rattle.drf_core.proofs.cycle.try_first.Given as given
-use Rattle.drf_core.proofs.cycle.try_first.Goals.{After-quantities}
+use Rattle.drf_core.proofs.cycle.try_first.Goals.{After-reserve, After-quantities}
 use Rattle.drf_core.proofs.cycle.try_first.Goals as goal
 
 -- the client is the first that is still to be served
-first_at : (g : given.Over) (c : After-quantities g) → slice_get (g.S.Sorter.queue c.args.sorter.now) 0 ≡ Some c.in_ok-client.client
+first_at : (g : given.Over) (c : After-reserve g) → slice_get (g.S.Sorter.queue c.args.sorter.now) 0 ≡ Some c.in_ok-client.client
 first_at g c =
     let told : Some c.in-Some.client.now ≡ slice_get (g.S.Sorter.queue c.args.sorter.now) 0 = rw c.in-Some.is at c.first.ensures in
     sym told ∙ ap Some (sym c.in_ok-client.ensures)
 
 -- the row that is made is that of the next draft
-next_at : (g : given.Over) (c : After-quantities g)
-    → IsNext c.args.tables.now.rows c.args.offers.now.items c.args.place c.in_ok-client.client c.args.free.now.bundle c.in-Some-granted.bundle c.in_ok-offer.offer
+next_at : (g : given.Over) (c : After-reserve g)
+    → IsNext c.args.tables.now.rows c.args.drafts.now.offers.items c.args.place c.in_ok-client.client c.args.free.now.bundle c.in-Some-granted.bundle c.in_ok-offer.offer
 next_at g c =
-    next_from c.args.tables.now.rows c.args.offers.now.items c.args.place c.in_ok-client.client c.args.free.now.bundle c.in-Some-granted.bundle c.in_ok-offer.offer
+    next_from c.args.tables.now.rows c.args.drafts.now.offers.items c.args.place c.in_ok-client.client c.args.drafts.now.quota c.args.free.now.bundle c.in-Some-granted.bundle c.in_ok-offer.offer
     (c.next_offer.result + c.len.result) c.agent_name-agent.result.now
-    c.requires.free (c.requires.client c.in_ok-client.client (first_at g c))
-    (λ rows agent client free name filters clock joined. sym c.in-Some-granted.is ∙ c.in_ok-granted.ensures.granted rows agent client free name filters clock (sym c.in_ok-client.ensures ∙ joined))
+    c.requires.free c.requires.quota (c.requires.client c.in_ok-client.client (first_at g c))
+    (λ rows agent client free name filters clock counted joined. sym c.in-Some-granted.is
+    ∙ c.in_ok-granted.ensures.granted rows agent client free name filters clock (rw c.as_ref.ensures.value counted) (sym c.in_ok-client.ensures ∙ joined))
     c.agent_name-agent.ensures
-    (omega (arith, c.next_offer.ensures, c.len.ensures, c.args.offers.now.ok.0)) c.in_ok-offer.ensures
+    (omega (arith, c.next_offer.ensures, c.len.ensures, c.args.drafts.now.offers.ok.0)) c.in_ok-offer.ensures
 
-fits_at : (g : given.Over) (c : After-quantities g) → c.args.tables.now.rows.next_offer + length c.args.offers.now.items + 1 < 2 ^ 64
+fits_at : (g : given.Over) (c : After-reserve g) → c.args.tables.now.rows.next_offer + length c.args.drafts.now.offers.items + 1 < 2 ^ 64
 fits_at g c = omega arith
 
 bundle_at : (g : given.Over) (c : After-quantities g) → c.quantities.result.now ≡ quantities_of c.in-Some-granted.bundle
 bundle_at g c = c.quantities.ensures.value ∙ ap (λ (o : OfferRow). quantities_of o.bundle) (c.in_ok-offer.ensures)
 
+pub grant-requires : goal.grant-requires
+grant-requires g c = rw c.as_ref.ensures.value c.requires.entitled
+
+pub count_offer-requires : goal.count_offer-requires
+count_offer-requires g c =
+    let b = (goal.at.count_offer-requires g c).After-reserve in
+    can_count_next (g.S.Sorter.content c.args.sorter.now) c.args.tables.now.rows c.args.drafts.now.offers.items c.requires.drafting c.args.place c.in_ok-client.client
+    c.args.free.now.bundle c.in-Some-granted.bundle c.in_ok-offer.offer (next_at g b) (fits_at g b) c.args.drafts.now.quota c.requires.quota
+
 pub charge-requires-clause-known : goal.charge-requires-clause-known
 charge-requires-clause-known g c =
-    known_next (g.S.Sorter.content c.args.sorter.now) c.args.tables.now.rows c.args.offers.now.items c.requires.drafting c.args.place c.in_ok-client.client
-    c.args.free.now.bundle c.in-Some-granted.bundle c.in_ok-offer.offer (next_at g c) (fits_at g c)
+    let b = (goal.at.charge-requires-clause-known g c).After-reserve in
+    known_next (g.S.Sorter.content c.args.sorter.now) c.args.tables.now.rows c.args.drafts.now.offers.items c.requires.drafting c.args.place c.in_ok-client.client
+    c.args.free.now.bundle c.in-Some-granted.bundle c.in_ok-offer.offer (next_at g b) (fits_at g b)
 
 pub charge-requires-clause-sound : goal.charge-requires-clause-sound
 charge-requires-clause-sound g c =
+    let b = (goal.at.charge-requires-clause-sound g c).After-reserve in
     rw (bundle_at g c)
-    (sound_next (g.S.Sorter.content c.args.sorter.now) c.args.tables.now.rows c.args.offers.now.items c.requires.drafting c.args.place c.in_ok-client.client
-    c.args.free.now.bundle c.in-Some-granted.bundle c.in_ok-offer.offer (next_at g c) (fits_at g c))
+    (sound_next (g.S.Sorter.content c.args.sorter.now) c.args.tables.now.rows c.args.drafts.now.offers.items c.requires.drafting c.args.place c.in_ok-client.client
+    c.args.free.now.bundle c.in-Some-granted.bundle c.in_ok-offer.offer (next_at g b) (fits_at g b))
 
 pub returns-clause-drafting : goal.returns-clause-drafting
 returns-clause-drafting g c =
-    let b = (goal.at.returns-clause-drafting g c).After-quantities in
+    let b = (goal.at.returns-clause-drafting g c).After-reserve in
     let content = g.S.Sorter.content c.args.sorter.now in
-    let items : c.push_reserved.new.self.items ≡ c.args.offers.now.items ++ c.in_ok-offer.offer ∷ [] =
+    let items : c.push_reserved.new.self.items ≡ c.args.drafts.now.offers.items ++ c.in_ok-offer.offer ∷ [] =
     c.push_reserved.ensures.items ∙ ap (λ os. os ++ c.in_ok-offer.offer ∷ []) c.reserve.ensures.items in
     let charge : g.S.Sorter.content c.charge.new.self ≡ with_change content c.in_ok-client.client (charged (quantities_of c.in-Some-granted.bundle)) =
-    c.in_ok-charge.ensures.ok ∙ ap (λ q. with_change content c.in_ok-client.client (charged q)) (bundle_at g b) in
+    c.in_ok-charge.ensures.ok ∙ ap (λ q. with_change content c.in_ok-client.client (charged q)) (bundle_at g (goal.at.returns-clause-drafting g c).After-quantities) in
     rw items
-    (drafting_next content c.args.tables.now.rows c.args.offers.now.items c.requires.drafting c.args.place c.in_ok-client.client
+    (drafting_next content c.args.tables.now.rows c.args.drafts.now.offers.items c.requires.drafting c.args.place c.in_ok-client.client
     c.args.free.now.bundle c.in-Some-granted.bundle c.in_ok-offer.offer (next_at g b) (fits_at g b) (g.S.Sorter.content c.charge.new.self) charge)
 
 pub returns-clause-tried : goal.returns-clause-tried
 returns-clause-tried g c = λ path first.
-    let b = (goal.at.returns-clause-tried g c).After-quantities in
-    let items : c.push_reserved.new.self.items ≡ c.args.offers.now.items ++ c.in_ok-offer.offer ∷ [] =
+    let b = (goal.at.returns-clause-tried g c).After-reserve in
+    let items : c.push_reserved.new.self.items ≡ c.args.drafts.now.offers.items ++ c.in_ok-offer.offer ∷ [] =
     c.push_reserved.ensures.items ∙ ap (λ os. os ++ c.in_ok-offer.offer ∷ []) c.reserve.ensures.items in
     let same : c.in_ok-client.client ≡ path = let e : Some c.in_ok-client.client ≡ Some path = sym (first_at g b) ∙ first in cc in
-    subst (λ (p : Path). IsTried (with_offers c.args.tables.now.rows c.args.offers.now.items) (with_offers c.args.tables.now.rows c.push_reserved.new.self.items) c.args.place p) same
+    subst (λ (p : Path). IsTried (with_offers c.args.tables.now.rows c.args.drafts.now.offers.items) (with_offers c.args.tables.now.rows c.push_reserved.new.self.items) c.args.place p) same
     (rw items
-    (tried_next (g.S.Sorter.content c.args.sorter.now) c.args.tables.now.rows c.args.offers.now.items c.requires.drafting c.args.place c.in_ok-client.client
+    (tried_next (g.S.Sorter.content c.args.sorter.now) c.args.tables.now.rows c.args.drafts.now.offers.items c.requires.drafting c.args.place c.in_ok-client.client
     c.args.free.now.bundle c.in-Some-granted.bundle c.in_ok-offer.offer (next_at g b) (fits_at g b)))
 
 pub returns-clause-free : goal.returns-clause-free
 returns-clause-free g c =
-    let b = (goal.at.returns-clause-free g c).After-quantities in
-    let items : c.push_reserved.new.self.items ≡ c.args.offers.now.items ++ c.in_ok-offer.offer ∷ [] =
+    let b = (goal.at.returns-clause-free g c).After-reserve in
+    let items : c.push_reserved.new.self.items ≡ c.args.drafts.now.offers.items ++ c.in_ok-offer.offer ∷ [] =
     c.push_reserved.ensures.items ∙ ap (λ os. os ++ c.in_ok-offer.offer ∷ []) c.reserve.ensures.items in
     rw items
-    (free_next (g.S.Sorter.content c.args.sorter.now) c.args.tables.now.rows c.args.offers.now.items c.requires.drafting c.args.place c.in_ok-client.client
+    (free_next (g.S.Sorter.content c.args.sorter.now) c.args.tables.now.rows c.args.drafts.now.offers.items c.requires.drafting c.args.place c.in_ok-client.client
     c.args.free.now.bundle c.in-Some-granted.bundle c.in_ok-offer.offer (next_at g b) (fits_at g b) c.grant.new.free.bundle
     (subst (λ o. MatchOption o (c.grant.new.free.bundle ≡ c.args.free.now.bundle) (λ bundle. c.grant.new.free.bundle ≡ rest c.args.free.now.bundle bundle)) c.in-Some-granted.is c.in_ok-granted.ensures.left))
+
+pub returns-clause-quota : goal.returns-clause-quota
+returns-clause-quota g c =
+    let rows : Rows = c.args.tables.now.rows in
+    let offers = c.args.drafts.now.offers.items in
+    let items : c.push_reserved.new.self.items ≡ offers ++ c.in_ok-offer.offer ∷ [] =
+    c.push_reserved.ensures.items ∙ ap (λ os. os ++ c.in_ok-offer.offer ∷ []) c.reserve.ensures.items in
+    rw (items, with_offers-push rows offers c.in_ok-offer.offer) (c.in_ok-count_offer.ensures (with_offers rows offers) c.requires.quota)
+
+pub returns-clause-entitled : goal.returns-clause-entitled
+returns-clause-entitled g c =
+    let none : c.grant.new.free.entitled ≡ None =
+    subst (λ o. MatchOption o (IsEntitled (option_copied c.as_ref.result) c.grant.new.free.bundle c.grant.new.free.entitled) (λ _. c.grant.new.free.entitled ≡ None))
+    c.in-Some-granted.is c.in_ok-granted.ensures.entitled in
+    rw none tt
+
+pub returns-in_default-granted-clause-entitled : goal.returns-in_default-granted-clause-entitled
+returns-in_default-granted-clause-entitled g c =
+    let kept : IsEntitled (option_copied c.as_ref.result) c.grant.new.free.bundle c.grant.new.free.entitled =
+    subst (λ o. MatchOption o (IsEntitled (option_copied c.as_ref.result) c.grant.new.free.bundle c.grant.new.free.entitled) (λ _. c.grant.new.free.entitled ≡ None))
+    c.in_default-granted.is c.in_ok-granted.ensures.entitled in
+    subst (λ q. IsEntitled q c.grant.new.free.bundle c.grant.new.free.entitled) c.as_ref.ensures.value kept
 
 pub returns-in_default-granted-clause-tried : goal.returns-in_default-granted-clause-tried
 returns-in_default-granted-clause-tried g c = λ path first.
     let rows : Rows = c.args.tables.now.rows in
     let same : c.in-Some.client.now ≡ path = let e : Some c.in-Some.client.now ≡ Some path = (rw c.in-Some.is at c.first.ensures) ∙ first in cc in
-    tried_nothing rows c.args.offers.now.items c.args.place path c.args.free.now.bundle c.agent_name-agent.result.now c.requires.free
-    (λ after agent client free name filters clock joined. sym c.in_default-granted.is ∙ c.in_ok-granted.ensures.granted after agent client free name filters clock (same ∙ joined))
+    tried_nothing rows c.args.drafts.now.offers.items c.args.place path c.args.drafts.now.quota c.args.free.now.bundle c.agent_name-agent.result.now c.requires.free c.requires.quota
+    (λ after agent client free name filters clock counted joined. sym c.in_default-granted.is
+    ∙ c.in_ok-granted.ensures.granted after agent client free name filters clock (rw c.as_ref.ensures.value counted) (same ∙ joined))
     c.agent_name-agent.ensures
 
 pub returns-in_default-granted-clause-free : goal.returns-in_default-granted-clause-free
@@ -106,9 +143,9 @@ returns-in_default-clause-tried g c = λ path first.
 
 pub returns-clause-work : goal.returns-clause-work
 returns-clause-work g c = λ counted.
-    let b = (goal.at.returns-clause-work g c).After-quantities in
+    let b = (goal.at.returns-clause-work g c).After-reserve in
     let offer : OfferRow = c.in_ok-offer.offer in
-    let items : c.push_reserved.new.self.items ≡ c.args.offers.now.items ++ offer ∷ [] =
+    let items : c.push_reserved.new.self.items ≡ c.args.drafts.now.offers.items ++ offer ∷ [] =
     c.push_reserved.ensures.items ∙ ap (λ os. os ++ offer ∷ []) c.reserve.ensures.items in
     let next = next_at g b in
     let path : length c.in_ok-client.client ≡ length (path_of (of_offer offer).client) =
@@ -117,6 +154,6 @@ returns-clause-work g c = λ counted.
       arith,
       c.in_ok-charge.ensures.work counted,
       path,
-      nodes_of-drafted c.args.offers.now.items offer,
+      nodes_of-drafted c.args.drafts.now.offers.items offer,
       ap (λ (os : List OfferRow). nodes_of (offered_to os)) items,
     )

@@ -45,6 +45,7 @@ loop-sorter-init g c =
         free = c.in_ok-copy.ensures.same ∙ c.free.ensures agent.0 agent.1
             ∙ sym (free-before rows offers c.args.drafts.now.lefts.items c.args.place agent.0 c.requires.left agent.1);
       };
+      quota = c.requires.quota;
       entitled = tt;
       work = λ counted. omega (arith, c.fix_order.ensures.work counted);
       lefts = refl;
@@ -62,15 +63,16 @@ loop-sorter-preserved g c =
     let some : (is_some (slice_get queue 0) && is_allocatable c.loop-sorter.free.bundle) ≡ true = sym c.goes_on.ensures ∙ c.loop-sorter-test.true in
     let first = first_of_queue queue (is_allocatable c.loop-sorter.free.bundle) some in
     record {
-      drafting = subst (λ (k : Content). IsDrafting k rows c.try_first.new.offers.items) (sym c.pass.ensures.content) c.try_first.ensures.drafting;
+      drafting = subst (λ (k : Content). IsDrafting k rows c.try_first.new.drafts.offers.items) (sym c.pass.ensures.content) c.try_first.ensures.drafting;
       waiting = waiting-passed rows c.args.place (with_offers rows c.args.drafts.now.offers.items) (with_offers rows c.loop-sorter.drafts.offers.items) queue c.loop-sorter.invariant.waiting
-          (with_offers rows c.try_first.new.offers.items) (g.S.Sorter.queue c.pass.new.self) first.0
+          (with_offers rows c.try_first.new.drafts.offers.items) (g.S.Sorter.queue c.pass.new.self) first.0
           (agents-with_offers rows c.loop-sorter.drafts.offers.items) first.1 (c.in_ok-try_first.ensures.tried first.0 first.1)
           (c.pass.ensures.queue ∙ ap (λ ps. drop 1 ps) c.try_first.ensures.queue);
       free = c.in_ok-try_first.ensures.free;
+      quota = c.in_ok-try_first.ensures.quota;
       entitled = c.in_ok-try_first.ensures.entitled;
       work = λ counted. omega (arith, c.loop-sorter.invariant.work counted, c.in_ok-try_first.ensures.work counted, ap debt c.pass.ensures.work);
-      lefts = c.loop-sorter.invariant.lefts;
+      lefts = c.try_first.ensures.lefts ∙ c.loop-sorter.invariant.lefts;
     }
 
 pub loop-sorter-smaller : goal.loop-sorter-smaller

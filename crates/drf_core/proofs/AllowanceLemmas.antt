@@ -6,7 +6,7 @@ use Rattle.drf_rows.specs.LimitNumbers.{LimitNumbers}
 use Rattle.drf_rows.specs.Step.{live_rows, refusal_of, effect, rows_after, rows_after_all, new_offers}
 use Rattle.drf_rows.specs.StepLaws.{rows_after-accepted}
 use Rattle.drf_rows.specs.declared.event.Event.{Event}
-use Rattle.drf_rows.specs.declared.event.Event.TheVariants.{AddAgent, RemoveAgent, ActivateAgent, DeactivateAgent, AddFramework, RemoveFramework, Accept, Decline, Rescind, Finish, Suppress, Revive, SetWeight, Cycle, Report}
+use Rattle.drf_rows.specs.declared.event.Event.TheVariants.{AddAgent, RemoveAgent, ActivateAgent, DeactivateAgent, SetAgent, AddFramework, RemoveFramework, Accept, Decline, Rescind, Finish, Suppress, Revive, Reserve, Unreserve, SetWeight, SetLimit, Cycle, Report}
 use Rattle.drf_rows.specs.declared.reply.Refusal.{Refusal}
 use Rattle.drf_rows.specs.declared.rows.OfferRow.{OfferRow}
 use Rattle.drf_rows.specs.declared.rows.Rows.{Rows}
@@ -49,6 +49,7 @@ module _ (rows old : Rows) (live : live_rows rows ≡ live_rows old) where
   allowed-same (RemoveAgent agent) new = refl
   allowed-same (ActivateAgent agent) new = refl
   allowed-same (DeactivateAgent agent) new = touched-same (DeactivateAgent agent)
+  allowed-same (SetAgent agent total) new = refl
   allowed-same (AddFramework framework roles) new = refl
   allowed-same (RemoveFramework framework) new = touched-same (RemoveFramework framework)
   allowed-same (Accept a) new = touched-same (Accept a)
@@ -57,7 +58,10 @@ module _ (rows old : Rows) (live : live_rows rows ≡ live_rows old) where
   allowed-same (Finish framework task) new = touched-same (Finish framework task)
   allowed-same (Suppress framework role) new = refl
   allowed-same (Revive framework role) new = refl
+  allowed-same (Reserve agent role resources) new = refl
+  allowed-same (Unreserve agent role resources) new = refl
   allowed-same (SetWeight role weight) new = refl
+  allowed-same (SetLimit role limit) new = refl
   allowed-same (Cycle at) new = ap (λ (os : List OfferRow). Some (nodes_of (offered_to os))) new
   allowed-same Report new = refl
 

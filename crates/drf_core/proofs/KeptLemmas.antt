@@ -17,12 +17,16 @@ use Rattle.drf_rows.specs.Step.{live_rows, refusal_of, effect}
 use Rattle.drf_rows.specs.Members.{active_at, suppressed_at, suppressed_in, with_activity, with_agent, with_framework, with_suppression, new_client, distinct, agent_deactivated, revived, agent_removed, framework_removed}
 use Rattle.drf_rows.specs.Offers.{offer_at, offer_accepted, offer_declined}
 use Rattle.drf_rows.specs.Endings.{without_ended, one_offer, one_task}
+use Rattle.drf_rows.specs.Totals.{total_at, with_total, exchanged, with_reserved, with_unreserved, with_other_total}
+use Rattle.drf_rows.specs.Quota.{limits_with}
+use Rattle.drf_bundle.specs.Bundle.{relabel}
+use Rattle.drf_rows.specs.declared.rows.LimitRow.{LimitRow}
 use Rattle.drf_rows.specs.Weights.{weights_with}
 use Rattle.drf_rows.specs.RegistrationLaws.{framework_added, length-clients_of-framework_added}
 use Rattle.drf_rows.specs.Consistent.{IsConsistent, IsFilter, IsNumberedByEvents}
 use Rattle.drf_rows.specs.ConsistentLaws.{conserved-consistent, conserved-live, numbers_within}
 use Rattle.drf_rows.specs.declared.event.Event.{Event}
-use Rattle.drf_rows.specs.declared.event.Event.TheVariants.{AddAgent, RemoveAgent, ActivateAgent, DeactivateAgent, AddFramework, RemoveFramework, Accept, Decline, Rescind, Finish, Suppress, Revive, SetWeight, Cycle, Report}
+use Rattle.drf_rows.specs.declared.event.Event.TheVariants.{AddAgent, RemoveAgent, ActivateAgent, DeactivateAgent, SetAgent, AddFramework, RemoveFramework, Accept, Decline, Rescind, Finish, Suppress, Revive, Reserve, Unreserve, SetWeight, SetLimit, Cycle, Report}
 use Rattle.drf_rows.specs.declared.rows.AgentRow.{AgentRow}
 use Rattle.drf_rows.specs.Filters.{is_in_force}
 use Rattle.drf_rows.specs.ListLaws.{each_from, each_filter, length-filter_le}
@@ -109,6 +113,26 @@ no_more-suppression rows client suppressed = record {
 no_more-activity : (rows : Rows) (name : Text) (active : Bool) → IsNoMore rows (record rows { agents = with_activity rows name active })
 no_more-activity rows name active = record {
   agents = omega (arith, length-map rows.agents (active_at name active));
+  frameworks = omega arith;
+  clients = omega arith;
+  weights = omega arith;
+  next_offer = refl;
+  accepted = refl;
+}
+
+no_more-total : (rows : Rows) (name : Text) (made : List Resource → List Resource) → IsNoMore rows (record rows { agents = with_total rows name made })
+no_more-total rows name made = record {
+  agents = omega (arith, length-map rows.agents (total_at name made));
+  frameworks = omega arith;
+  clients = omega arith;
+  weights = omega arith;
+  next_offer = refl;
+  accepted = refl;
+}
+
+no_more-limits : (rows : Rows) (limits : List LimitRow) → IsNoMore rows (record rows { limits = limits })
+no_more-limits rows limits = record {
+  agents = omega arith;
   frameworks = omega arith;
   clients = omega arith;
   weights = omega arith;
@@ -281,6 +305,8 @@ module _ (limits : LimitNumbers) (rows : Rows) (few : AreFew limits rows) (numbe
         next_offer = refl;
         accepted = refl;
       })
+  countable_after (SetAgent agent total) none =
+      countable (record rows { agents = with_other_total rows agent total }) (SetAgent agent total) none (no_more-total rows agent (λ old. total))
   countable_after (AddFramework framework roles) none = countable-framework framework roles none
   countable_after (RemoveFramework framework) none =
       countable (framework_removed rows framework) (RemoveFramework framework) none (no_more-framework_removed rows framework)
@@ -312,7 +338,15 @@ module _ (limits : LimitNumbers) (rows : Rows) (few : AreFew limits rows) (numbe
         next_offer = refl;
         accepted = refl;
       })
+  countable_after (Reserve agent role resources) none =
+      countable (record rows { agents = with_reserved rows agent role resources }) (Reserve agent role resources) none
+      (no_more-total rows agent (exchanged resources (relabel role resources)))
+  countable_after (Unreserve agent role resources) none =
+      countable (record rows { agents = with_unreserved rows agent role resources }) (Unreserve agent role resources) none
+      (no_more-total rows agent (exchanged (relabel role resources) resources))
   countable_after (SetWeight role weight) none = countable-weight role weight none
+  countable_after (SetLimit role limit) none =
+      countable (record rows { limits = limits_with rows.limits role limit }) (SetLimit role limit) none (no_more-limits rows (limits_with rows.limits role limit))
   countable_after (Cycle at) none = countable-cycle at none
   countable_after Report none = countable rows Report none (no_more-others rows rows refl)
 

@@ -13,6 +13,7 @@ pub mod GrantLemmas
 pub mod TurnLemmas
 pub mod CycleLemmas
 pub mod RegisterLemmas
+pub mod MovedLemmas
 pub mod WeightLemmas
 pub mod Welcome
 pub mod KeptLemmas

@@ -9,7 +9,7 @@ use Rattle.drf_rows.specs.RunLaws.{rows_after_all-append, replies_to-append}
 use Rattle.drf_rows.specs.LiveLaws.{reply_to-same_live, rows_after-same_live}
 use Rattle.drf_rows.specs.RegistrationLaws.{IsConsistent-opening}
 use Rattle.drf_rows.specs.declared.event.Event.{Event}
-use Rattle.drf_rows.specs.declared.event.Event.TheVariants.{AddAgent, RemoveAgent, ActivateAgent, DeactivateAgent, AddFramework, RemoveFramework, Accept, Decline, Rescind, Finish, Suppress, Revive, SetWeight, Cycle, Report}
+use Rattle.drf_rows.specs.declared.event.Event.TheVariants.{AddAgent, RemoveAgent, ActivateAgent, DeactivateAgent, SetAgent, AddFramework, RemoveFramework, Accept, Decline, Rescind, Finish, Suppress, Revive, Reserve, Unreserve, SetWeight, SetLimit, Cycle, Report}
 use Rattle.drf_rows.specs.declared.reply.Refusal.{Refusal}
 use Rattle.drf_rows.specs.declared.reply.Reply.{Reply}
 use Rattle.drf_rows.specs.declared.reply.Reply.TheVariants.{Refused}
@@ -61,6 +61,7 @@ answer_told before after (AddAgent agent total) refusal told = cc
 answer_told before after (RemoveAgent agent) refusal told = cc
 answer_told before after (ActivateAgent agent) refusal told = cc
 answer_told before after (DeactivateAgent agent) refusal told = cc
+answer_told before after (SetAgent agent total) refusal told = cc
 answer_told before after (AddFramework framework roles) refusal told = cc
 answer_told before after (RemoveFramework framework) refusal told = cc
 answer_told before after (Accept a) refusal told = cc
@@ -69,7 +70,10 @@ answer_told before after (Rescind offer) refusal told = cc
 answer_told before after (Finish framework task) refusal told = cc
 answer_told before after (Suppress framework role) refusal told = cc
 answer_told before after (Revive framework role) refusal told = cc
+answer_told before after (Reserve agent role resources) refusal told = cc
+answer_told before after (Unreserve agent role resources) refusal told = cc
 answer_told before after (SetWeight role weight) refusal told = cc
+answer_told before after (SetLimit role limit) refusal told = cc
 answer_told before after (Cycle at) refusal told = cc
 answer_told before after Report refusal told = cc
 

@@ -17,7 +17,7 @@ use Rattle.drf_rows.specs.declared.limits.TheConstants.{LARGEST_AMOUNT, LATEST_M
 use Rattle.drf_rows.specs.declared.event.Accept as accepting
 use Rattle.drf_rows.specs.declared.event.Decline as declining
 use Rattle.drf_rows.specs.declared.event.Event.{Event}
-use Rattle.drf_rows.specs.declared.event.Event.TheVariants.{AddAgent, RemoveAgent, ActivateAgent, DeactivateAgent, AddFramework, RemoveFramework, Accept, Decline, Rescind, Finish, Suppress, Revive, SetWeight, Cycle, Report}
+use Rattle.drf_rows.specs.declared.event.Event.TheVariants.{AddAgent, RemoveAgent, ActivateAgent, DeactivateAgent, SetAgent, AddFramework, RemoveFramework, Accept, Decline, Rescind, Finish, Suppress, Revive, Reserve, Unreserve, SetWeight, SetLimit, Cycle, Report}
 use Rattle.drf_rows.specs.declared.reply.Refusal.{Refusal}
 use Rattle.drf_rows.specs.declared.rows.Rows.{Rows}
 
@@ -37,6 +37,7 @@ not_full limits rows (AddAgent agent total) none = (no_case_of limits rows (AddA
 not_full limits rows (RemoveAgent agent) none = (no_case_of limits rows (RemoveAgent agent) none).0
 not_full limits rows (ActivateAgent agent) none = (no_case_of limits rows (ActivateAgent agent) none).0
 not_full limits rows (DeactivateAgent agent) none = (no_case_of limits rows (DeactivateAgent agent) none).0
+not_full limits rows (SetAgent agent total) none = (no_case_of limits rows (SetAgent agent total) none).0
 not_full limits rows (AddFramework framework roles) none = (no_case_of limits rows (AddFramework framework roles) none).0
 not_full limits rows (RemoveFramework framework) none = (no_case_of limits rows (RemoveFramework framework) none).0
 not_full limits rows (Accept a) none = (no_case_of limits rows (Accept a) none).0
@@ -45,7 +46,10 @@ not_full limits rows (Rescind offer) none = (no_case_of limits rows (Rescind off
 not_full limits rows (Finish framework task) none = (no_case_of limits rows (Finish framework task) none).0
 not_full limits rows (Suppress framework role) none = (no_case_of limits rows (Suppress framework role) none).0
 not_full limits rows (Revive framework role) none = (no_case_of limits rows (Revive framework role) none).0
+not_full limits rows (Reserve agent role resources) none = (no_case_of limits rows (Reserve agent role resources) none).0
+not_full limits rows (Unreserve agent role resources) none = (no_case_of limits rows (Unreserve agent role resources) none).0
 not_full limits rows (SetWeight role weight) none = (no_case_of limits rows (SetWeight role weight) none).0
+not_full limits rows (SetLimit role limit) none = (no_case_of limits rows (SetLimit role limit) none).0
 not_full limits rows (Cycle at) none = (no_case_of limits rows (Cycle at) none).0
 not_full limits rows Report none = (no_case_of limits rows Report none).0
 

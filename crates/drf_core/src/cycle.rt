@@ -1,13 +1,10 @@
 //! The allocation cycle. Its offers are drafts until the last agent had its turn: the sorter is charged with them, and a copy of
 //! the quota counts them, while of the rows the clock alone has moved. Where memory ends, the copy is dropped, the charges are
 //! taken back and so is the clock, which needs none.
-ghost use Rattle.std.specs.Prelude.{◌≡◌, true, ◌<◌, ◌≤◌, ◌+◌, ◌*◌, ◌^◌, None, [], length, map, slice_get, is_some, ◌&&◌, Some, IfOk, OnOk, OnErr, MatchOption, if◌then◌else◌};
+ghost use Rattle.std.specs.Prelude.{◌≡◌, true, ◌<◌, ◌≤◌, ◌+◌, ◌*◌, None, [], length, map, slice_get, is_some, ◌&&◌, Some, IfOk, OnOk, OnErr};
 ghost use Rattle.std.specs.List.{AllByRecursion};
 ghost use Rattle.drf_role.specs.Path.{Path, role_part, framework_part};
-ghost use Rattle.drf_role.specs.Text.{Text};
-ghost use Rattle.drf_gates.specs.Quota.{used_where};
 ghost use Rattle.drf_rows.specs.Cycle.{is_allocatable, with_offer};
-ghost use Rattle.drf_rows.specs.Quota.{unreserved_in};
 ghost use Rattle.drf_rows.specs.Step.{line_told, new_offers, refusal_of, effect};
 ghost use Rattle.drf_rows.specs.declared.event.Event.TheVariants.{Cycle};
 ghost use Rattle.drf_tables.specs.Drafts.{with_offers};

@@ -39,11 +39,7 @@ pub struct Free {
 }
 
 /// The part of what is free that a role may use, cut to the headroom that limits leave it, if any role has a limit.
-fn part_within(
-    quota: Option<&Quota>,
-    free: &Bundle,
-    role: &Role,
-) -> Result<Bundle, AllocError>
+fn part_within(quota: Option<&Quota>, free: &Bundle, role: &Role) -> Result<Bundle, AllocError>
     ensures { IfOk result (IsEntitlement (option_copied quota.entry) free.now role.now) }
 {
     // The proof learns that it is a bundle by this call alone.
@@ -57,11 +53,7 @@ fn part_within(
 }
 
 /// What a role may have of what is free. It is found once for clients of a role that are tried one after another.
-fn entitle(
-    quota: Option<&Quota>,
-    free: &mut Free,
-    role: &Role,
-) -> Result<Entitled, AllocError>
+fn entitle(quota: Option<&Quota>, free: &mut Free, role: &Role) -> Result<Entitled, AllocError>
     requires { IsEntitled (option_copied quota) free.old.bundle free.old.entitled }
     ensures role { IfOk result (λ entitled. entitled.role ≡ role.now) }
     ensures entitled { IfOk result (λ entitled. IsEntitlement (option_copied quota.entry) free.old.bundle role.now entitled.bundle) }

@@ -10,24 +10,26 @@ use Rattle.drf_core.proofs.cycle.offer_all.Goals as goal
 
 pub commit-requires-clause-fits : goal.commit-requires-clause-fits
 commit-requires-clause-fits g c =
-    let rows : Rows = c.settle.new.self.rows in
+    let rows : Rows = c.quota_of.new.tables.rows in
     let offers = c.turns.new.drafts.offers in
     let low_number : c.args.tables.now.rows.next_offer ≤ 2 ^ 57 = c.requires.drafting.low_number in
-    let same : rows.next_offer ≡ c.args.tables.now.rows.next_offer = ap (λ (r : Rows). r.next_offer) c.settle.ensures.same in
+    let same : rows.next_offer ≡ c.args.tables.now.rows.next_offer = ap (λ (r : Rows). r.next_offer) (c.quota_of.ensures.same ∙ c.settle.ensures.same) in
     omega (arith, next-with_offers rows offers.items, low_number, same, offers.ok.0, offers.ok.1, offers.small)
 
 pub returns-clause-lines : goal.returns-clause-lines
 returns-clause-lines g c =
+    let same = c.quota_of.ensures.same ∙ c.settle.ensures.same in
     c.in_ok-lines.ensures
     ∙ ap (map line_told) (c.deref.ensures.value
-    ∙ sym (new_offers-drafts c.settle.new.self.rows c.turns.new.drafts.offers.items c.in_ok-turns.ensures.turns)
-    ∙ (λ i. new_offers (c.settle.ensures.same i) (turns_of (c.settle.ensures.same i))))
+    ∙ sym (new_offers-drafts c.quota_of.new.tables.rows c.turns.new.drafts.offers.items c.in_ok-turns.ensures.turns)
+    ∙ (λ i. new_offers (same i) (turns_of (same i))))
 
 pub returns-clause-work : goal.returns-clause-work
 returns-clause-work g c = λ counted.
     let Nodes : List OfferRow → ℕ = λ os. nodes_of (offered_to os) in
     let drafts = c.turns.new.drafts.offers.items in
+    let same = c.quota_of.ensures.same ∙ c.settle.ensures.same in
     let new : drafts ≡ new_offers c.args.tables.now.rows (turns_of c.args.tables.now.rows) =
-    sym (new_offers-drafts c.settle.new.self.rows drafts c.in_ok-turns.ensures.turns)
-    ∙ (λ i. new_offers (c.settle.ensures.same i) (turns_of (c.settle.ensures.same i))) in
+    sym (new_offers-drafts c.quota_of.new.tables.rows drafts c.in_ok-turns.ensures.turns)
+    ∙ (λ i. new_offers (same i) (turns_of (same i))) in
     omega (arith, c.in_ok-turns.ensures.work counted, ap Nodes c.requires.none, ap Nodes new)

@@ -48,21 +48,22 @@ grant-requires g c = rw c.as_ref.ensures.value c.requires.entitled
 
 pub count_offer-requires : goal.count_offer-requires
 count_offer-requires g c =
+    let b = (goal.at.count_offer-requires g c).After-reserve in
     can_count_next (g.S.Sorter.content c.args.sorter.now) c.args.tables.now.rows c.args.drafts.now.offers.items c.requires.drafting c.args.place c.in_ok-client.client
-    c.args.free.now.bundle c.in-Some-granted.bundle c.in_ok-offer.offer (next_at g c) (fits_at g c) c.args.drafts.now.quota c.requires.quota
+    c.args.free.now.bundle c.in-Some-granted.bundle c.in_ok-offer.offer (next_at g b) (fits_at g b) c.args.drafts.now.quota c.requires.quota
 
 pub charge-requires-clause-known : goal.charge-requires-clause-known
 charge-requires-clause-known g c =
     let b = (goal.at.charge-requires-clause-known g c).After-reserve in
     known_next (g.S.Sorter.content c.args.sorter.now) c.args.tables.now.rows c.args.drafts.now.offers.items c.requires.drafting c.args.place c.in_ok-client.client
-    c.args.free.now.bundle c.in-Some-granted.bundle c.in_ok-offer.offer (next_at g c) (fits_at g c)
+    c.args.free.now.bundle c.in-Some-granted.bundle c.in_ok-offer.offer (next_at g b) (fits_at g b)
 
 pub charge-requires-clause-sound : goal.charge-requires-clause-sound
 charge-requires-clause-sound g c =
     let b = (goal.at.charge-requires-clause-sound g c).After-reserve in
     rw (bundle_at g c)
     (sound_next (g.S.Sorter.content c.args.sorter.now) c.args.tables.now.rows c.args.drafts.now.offers.items c.requires.drafting c.args.place c.in_ok-client.client
-    c.args.free.now.bundle c.in-Some-granted.bundle c.in_ok-offer.offer (next_at g c) (fits_at g c))
+    c.args.free.now.bundle c.in-Some-granted.bundle c.in_ok-offer.offer (next_at g b) (fits_at g b))
 
 pub returns-clause-drafting : goal.returns-clause-drafting
 returns-clause-drafting g c =
@@ -71,7 +72,7 @@ returns-clause-drafting g c =
     let items : c.push_reserved.new.self.items ≡ c.args.drafts.now.offers.items ++ c.in_ok-offer.offer ∷ [] =
     c.push_reserved.ensures.items ∙ ap (λ os. os ++ c.in_ok-offer.offer ∷ []) c.reserve.ensures.items in
     let charge : g.S.Sorter.content c.charge.new.self ≡ with_change content c.in_ok-client.client (charged (quantities_of c.in-Some-granted.bundle)) =
-    c.in_ok-charge.ensures.ok ∙ ap (λ q. with_change content c.in_ok-client.client (charged q)) (bundle_at g b) in
+    c.in_ok-charge.ensures.ok ∙ ap (λ q. with_change content c.in_ok-client.client (charged q)) (bundle_at g (goal.at.returns-clause-drafting g c).After-quantities) in
     rw items
     (drafting_next content c.args.tables.now.rows c.args.drafts.now.offers.items c.requires.drafting c.args.place c.in_ok-client.client
     c.args.free.now.bundle c.in-Some-granted.bundle c.in_ok-offer.offer (next_at g b) (fits_at g b) (g.S.Sorter.content c.charge.new.self) charge)

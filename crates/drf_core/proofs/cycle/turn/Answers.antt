@@ -63,9 +63,9 @@ loop-sorter-preserved g c =
     let some : (is_some (slice_get queue 0) && is_allocatable c.loop-sorter.free.bundle) ≡ true = sym c.goes_on.ensures ∙ c.loop-sorter-test.true in
     let first = first_of_queue queue (is_allocatable c.loop-sorter.free.bundle) some in
     record {
-      drafting = subst (λ (k : Content). IsDrafting k rows c.try_first.new.offers.items) (sym c.pass.ensures.content) c.try_first.ensures.drafting;
+      drafting = subst (λ (k : Content). IsDrafting k rows c.try_first.new.drafts.offers.items) (sym c.pass.ensures.content) c.try_first.ensures.drafting;
       waiting = waiting-passed rows c.args.place (with_offers rows c.args.drafts.now.offers.items) (with_offers rows c.loop-sorter.drafts.offers.items) queue c.loop-sorter.invariant.waiting
-          (with_offers rows c.try_first.new.offers.items) (g.S.Sorter.queue c.pass.new.self) first.0
+          (with_offers rows c.try_first.new.drafts.offers.items) (g.S.Sorter.queue c.pass.new.self) first.0
           (agents-with_offers rows c.loop-sorter.drafts.offers.items) first.1 (c.in_ok-try_first.ensures.tried first.0 first.1)
           (c.pass.ensures.queue ∙ ap (λ ps. drop 1 ps) c.try_first.ensures.queue);
       free = c.in_ok-try_first.ensures.free;

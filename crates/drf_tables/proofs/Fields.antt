@@ -45,6 +45,15 @@ active_at (e ∷ agents) zero v a value row =
     (λ i. (sym same i).active) ∙ (λ i. (read i).active)
 active_at (e ∷ agents) (suc i) v a value row = active_at agents i v a value row
 
+pub total_at : (agents : List (Text × Agent)) (i : ℕ) (v : Agent) (a : AgentRow)
+    → slice_get (values_of agents) i ≡ Some v → slice_get (map agent_row agents) i ≡ Some a → v.total ≡ a.total
+total_at [] i v a value row = cc
+total_at (e ∷ agents) zero v a value row =
+    let same : e.1 ≡ v = cc in
+    let read : agent_row e ≡ a = cc in
+    (λ i. (sym same i).total) ∙ (λ i. (read i).total)
+total_at (e ∷ agents) (suc i) v a value row = total_at agents i v a value row
+
 pub agent_at : (agents : List (Text × Agent)) (i : ℕ) (v : Agent) (a : AgentRow)
     → slice_get (values_of agents) i ≡ Some v → slice_get (map agent_row agents) i ≡ Some a
     → (key : Text) × (slice_get agents i ≡ Some (key, v)) × (agent_row (key, v) ≡ a)

@@ -1,6 +1,6 @@
 #![tactic(auto, unfolding(crate::specs::Inside::rows_of))]
 
-ghost use Rattle.std.specs.Prelude.{◌≡◌, ◌+◌, ◌<◌, ◌≤◌, ◌^◌, ℕ, List, [], ◌∷◌, ◌++◌, true, false, length, map, slice_get, Some, All, IfOk, OnOk, OnErr};
+ghost use Rattle.std.specs.Prelude.{◌≡◌, ◌+◌, ◌<◌, ◌≤◌, ◌^◌, ℕ, List, [], ◌∷◌, ◌++◌, true, false, length, map, slice_get, Some, is_some, All, IfOk, IfSome, OnOk, OnErr};
 ghost use Rattle.std.specs.List.{AllByRecursion};
 ghost use Rattle.drf_role.specs.Text.{Text};
 ghost use Rattle.drf_bundle.specs.Quantities.{amount_of};
@@ -8,6 +8,7 @@ ghost use Rattle.drf_bundle.specs.Bundle.{quantities_of};
 ghost use Rattle.drf_rows.specs.Held.{clients_of, cluster_total};
 ghost use Rattle.drf_rows.specs.Cycle.{free_of};
 ghost use Rattle.drf_rows.specs.Step.{opening, live_rows};
+ghost use Rattle.drf_rows.specs.Totals.{agent_at};
 ghost use Rattle.drf_rows.specs.Members.{has_agent, has_framework, with_agent};
 ghost use Rattle.drf_rows.specs.Weights.{has_weight, is_weight, weights_with};
 ghost use Rattle.drf_rows.specs.Consistent.{IsConsistent, are_distinct_roles};
@@ -176,6 +177,15 @@ impl Tables {
         &self.total
     }
 
+    /// The place of the agent of a name, by registration.
+    pub fn place_of(&self, name: &Name) -> Option<usize>
+        ensures known { is_some result ≡ has_agent self.now.rows name.now }
+        ensures within { IfSome result (λ place. place < length self.now.rows.agents) }
+        ensures row { IfSome result (λ place. slice_get self.now.rows.agents place ≡ agent_at self.now.rows name.now) }
+    {
+        self.agents.get_index_of(name)
+    }
+
     /// The name of the agent at a place, by registration.
     pub fn agent_name(&self, place: usize) -> &Name
         requires { place < length self.now.rows.agents }
@@ -183,6 +193,14 @@ impl Tables {
     {
         let (name, _) = self.agents.get_index(place).unwrap();
         name
+    }
+
+    /// What the agent at a place has in all.
+    pub fn agent_total(&self, place: usize) -> &Bundle
+        requires { place < length self.now.rows.agents }
+        ensures { (a : AgentRow) → slice_get self.now.rows.agents place ≡ Some a → result.now ≡ a.total }
+    {
+        &self.agents[place].total
     }
 
     /// Whether the agent at a place is active.

@@ -43,6 +43,7 @@ pub mod ReportExamples
 pub mod LifeExamples
 pub mod FilterExamples
 pub mod QuotaExamples
+pub mod PortExamples
 pub mod QuotaLaws
 pub mod Laws
 pub mod LifeLaws

@@ -4,7 +4,7 @@
 ghost use Rattle.std.specs.Prelude.{◌≡◌};
 ghost use Rattle.drf_rows.specs.LimitNumbers.{ceilings};
 ghost use Rattle.drf_rows.specs.Step.{opening, replies_to};
-ghost use Rattle.drf_rows.specs.QuotaExamples.{no_cpus, no_cpus_replies, limit_in_cycle, limit_in_cycle_replies, reserved_below, reserved_below_replies, two_limits, two_limits_replies, moved_twice, moved_twice_replies, other_totals, other_totals_replies, limits_refused, limits_refused_replies, one_limit, more_limits, more_limits_replies};
+ghost use Rattle.drf_rows.specs.QuotaExamples.{no_cpus, no_cpus_replies, limit_in_cycle, limit_in_cycle_replies, reserved_below, reserved_below_replies, two_limits, two_limits_replies, cut_and_declined, cut_and_declined_replies, beyond_limit, beyond_limit_replies, moved_twice, moved_twice_replies, other_totals, other_totals_replies, limits_refused, limits_refused_replies, one_limit, more_limits, more_limits_replies};
 ghost use Rattle.drf_rows.specs.QuotaLaws.{GrantKeepsLimits, CycleKeepsLimits, SpentLimitLeavesNothing, ConsumptionIsPartOfTotal};
 ghost use Rattle.drf_rows.specs.ReservationLaws.{ReservedIsGivenBack, ReservingKeepsLimits, MovedIsConsumed, ChangedAgentKeepsAll};
 ghost use Rattle.drf_rows.specs.LimitLaws.{RoleHasItsLimit, OthersKeepTheirLimit, LimitTakesNothing};
@@ -39,11 +39,13 @@ pub fn set_agent_law()
 {}
 
 /// What a role is granted counts against its limit at the next grant of the same cycle, and other roles are not bound by it. The
-/// least of the limits of a role and of the roles above it counts, and one that is lowered takes nothing away.
+/// least of the limits of a role and of the roles above it counts, and one that is lowered takes nothing away. What was cut and
+/// declined is held back while it is cut no less.
 pub fn limited_example()
     ensures none { replies_to ceilings opening no_cpus ≡ no_cpus_replies }
     ensures cycle { replies_to ceilings opening limit_in_cycle ≡ limit_in_cycle_replies }
     ensures two { replies_to ceilings opening two_limits ≡ two_limits_replies }
+    ensures declined { replies_to ceilings opening cut_and_declined ≡ cut_and_declined_replies }
 {}
 
 /// What is reserved for a role counts against its limit and those of the roles above it, and only what is free moves.
@@ -52,9 +54,10 @@ pub fn reserved_example()
     ensures twice { replies_to ceilings opening moved_twice ≡ moved_twice_replies }
 {}
 
-/// An agent's total changes round what is held there.
+/// An agent's total changes round what is held there, and is not refused for a limit.
 pub fn other_totals_example()
-    ensures { replies_to ceilings opening other_totals ≡ other_totals_replies }
+    ensures totals { replies_to ceilings opening other_totals ≡ other_totals_replies }
+    ensures beyond { replies_to ceilings opening beyond_limit ≡ beyond_limit_replies }
 {}
 
 /// Each refusal of an event that reserves, gives back or sets a limit is told; a limit that is replaced or taken away is not one

@@ -45,6 +45,9 @@ pub mod FilterExamples
 pub mod QuotaExamples
 pub mod PortExamples
 pub mod QuotaLaws
+pub mod EntitlementLaws
+pub mod ConsumptionLaws
+pub mod MovingLaws
 pub mod Laws
 pub mod LifeLaws
 pub mod EndedLaws

@@ -5,8 +5,12 @@ ghost use Rattle.std.specs.Prelude.{◌≡◌};
 ghost use Rattle.drf_rows.specs.LimitNumbers.{ceilings};
 ghost use Rattle.drf_rows.specs.Step.{opening, replies_to};
 ghost use Rattle.drf_rows.specs.QuotaExamples.{no_cpus, no_cpus_replies, limit_in_cycle, limit_in_cycle_replies, reserved_below, reserved_below_replies, two_limits, two_limits_replies, cut_and_declined, cut_and_declined_replies, beyond_limit, beyond_limit_replies, moved_twice, moved_twice_replies, other_totals, other_totals_replies, limits_refused, limits_refused_replies, one_limit, more_limits, more_limits_replies};
+ghost use Rattle.drf_rows.specs.PortExamples.{AnyPorts};
 ghost use Rattle.drf_rows.specs.QuotaLaws.{GrantKeepsLimits, CycleKeepsLimits, SpentLimitLeavesNothing, ConsumptionIsPartOfTotal};
 ghost use Rattle.drf_rows.specs.ReservationLaws.{ReservedIsGivenBack, ReservingKeepsLimits, MovedIsConsumed, ChangedAgentKeepsAll};
+ghost use Rattle.drf_rows.specs.EntitlementLaws.{EntitledByUnits};
+ghost use Rattle.drf_rows.specs.ConsumptionLaws.{RolesAboveConsumeMore, RestIsConsumedNoLonger, ConsumptionIsSmall};
+ghost use Rattle.drf_rows.specs.MovingLaws.{MovedOnly, ReservedCanBeGivenBack, GivenBackCanBeReserved, WithinLimitsItIsAdmitted, RefusedWouldPass, LimitsRefuseNothingElse};
 ghost use Rattle.drf_rows.specs.LimitLaws.{RoleHasItsLimit, OthersKeepTheirLimit, LimitTakesNothing};
 
 /// An offer of what a client may have of a bundle takes neither its role nor a role above it over a limit, and so no cycle does.
@@ -18,11 +22,40 @@ pub fn limits_law()
     ensures part { ConsumptionIsPartOfTotal }
 {}
 
+/// Of what is free a client may have what is reserved for its role or one above it, nothing else that is reserved, and of what is for
+/// everyone all but the scalars that the headroom cuts.
+pub fn entitlement_law()
+    ensures { EntitledByUnits }
+{}
+
 /// An event that sets a limit changes the limit of its role, and nothing else: what is consumed above it stays where it is.
 pub fn set_limit_law()
     ensures set { RoleHasItsLimit }
     ensures others { OthersKeepTheirLimit }
     ensures nothing { LimitTakesNothing }
+{}
+
+/// A role consumes at least what each role below it consumes, less than 2^52 thousandths, and of an offer that was accepted no more
+/// than its tasks.
+pub fn consumption_law()
+    ensures above { RolesAboveConsumeMore }
+    ensures rest { RestIsConsumedNoLonger }
+    ensures small { ConsumptionIsSmall }
+{}
+
+/// An event that reserves or gives back moves that part of one agent alone, and can be taken back at once: what was reserved always,
+/// and what was given back as far as limits admit it.
+pub fn moving_law()
+    ensures only { MovedOnly }
+    ensures back { ReservedCanBeGivenBack }
+    ensures again { GivenBackCanBeReserved }
+    ensures admitted { WithinLimitsItIsAdmitted }
+{}
+
+/// Limits refuse nothing but what is to be reserved, where a role would consume more than its limit with it, and limits themselves.
+pub fn limit_refusals_law()
+    ensures passed { RefusedWouldPass }
+    ensures nothing { LimitsRefuseNothingElse }
 {}
 
 /// What is reserved is consumed by its role and the roles above it, takes none of them over a limit, and once it is given back
@@ -65,4 +98,9 @@ pub fn other_totals_example()
 pub fn limits_refused_example()
     ensures refused { replies_to ceilings opening limits_refused ≡ limits_refused_replies }
     ensures many { replies_to one_limit opening more_limits ≡ more_limits_replies }
+{}
+
+/// Numbers of ports are no scalars.
+pub fn ports_example()
+    ensures { AnyPorts }
 {}

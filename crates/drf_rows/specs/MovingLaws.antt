@@ -265,10 +265,10 @@ moved_rows rows agent old new =
 
 module _ (rows : Rows) (agent : Text) (row : AgentRow) (consistent : IsConsistent rows) (found : agent_at rows agent ≡ Some row)
     (old new : List Resource) (can : CanExchange (free_of rows row) old new) where
-  abbrev then : Rows
-  then = moved_rows rows agent old new
+  abbrev once_moved : Rows
+  once_moved = moved_rows rows agent old new
 
-  still_movable : (role : Path) (resources : List Resource) → IsMovable rows agent role resources → IsMovable then agent role resources
+  still_movable : (role : Path) (resources : List Resource) → IsMovable rows agent role resources → IsMovable once_moved agent role resources
   still_movable role resources is = record {
     known = has_agent-with_total rows agent (exchanged old new) agent ∙ is.known;
     other = is.other;
@@ -276,11 +276,11 @@ module _ (rows : Rows) (agent : Text) (row : AgentRow) (consistent : IsConsisten
     unreserved = is.unreserved;
   }
 
-  free_then : is_not_free then agent new ≡ false
+  free_then : is_not_free once_moved agent new ≡ false
   unfolding free_of
   free_then = free_again rows agent row consistent found old new can
 
-  all_as_before : moved_rows then agent new old ≡ record rows { accepted = rows.accepted + 1 + 1 }
+  all_as_before : moved_rows once_moved agent new old ≡ record rows { accepted = rows.accepted + 1 + 1 }
   all_as_before = λ i. record rows { agents = as_before rows agent row consistent found old new can i; accepted = rows.accepted + 1 + 1 }
 
 module _ (limits : LimitNumbers) (rows : Rows) (agent : Text) (role : Path) (resources : List Resource) where
@@ -470,29 +470,47 @@ record IsOverLimit (rows : Rows) (agent : Text) (role : Path) (resources : List 
   free : is_not_free rows agent resources ≡ false
   beyond : admits rows role (quantities_of resources) ≡ false
 
-over_limit : (limits : LimitNumbers) (rows : Rows) (agent : Text) (role : Path) (resources : List Resource)
-    → refusal_of limits rows (Reserve agent role resources) ≡ Some OverLimit
-    → (is_full limits rows ≡ false) × IsOverLimit rows agent role resources
-unfolding refusal_of
-over_limit limits rows agent role resources told =
-    let full = later_case (is_full limits rows) HistoryFull OverLimit _ (λ e. cc) told in
-    let known = later_case (not (has_agent rows agent)) UnknownAgent OverLimit _ (λ e. cc) full.1 in
-    let other = later_case (is_default role) DefaultRole OverLimit _ (λ e. cc) known.1 in
-    let some = later_case (is_empty resources) Empty OverLimit _ (λ e. cc) other.1 in
-    let unreserved = later_case (not (is_unreserved resources)) NotUnreserved OverLimit _ (λ e. cc) some.1 in
-    let free = later_case (is_not_free rows agent resources) NotCovered OverLimit _ (λ e. cc) unreserved.1 in (
-      full.0,
-      record {
-        movable = record {
-          known = not-false (has_agent rows agent) known.0;
-          other = other.0;
-          some = some.0;
-          unreserved = not-false (is_unreserved resources) unreserved.0;
-        };
-        free = free.0;
-        beyond = not-true (admits rows role (quantities_of resources)) (last_case (not (admits rows role (quantities_of resources))) OverLimit free.1);
-      },
-    )
+module _ (rows : Rows) (agent : Text) (role : Path) (resources : List Resource) where
+  abbrev from_limit : List (Bool × Refusal)
+  from_limit = (not (admits rows role (quantities_of resources)), OverLimit) ∷ []
+
+  abbrev from_free : List (Bool × Refusal)
+  from_free = (is_not_free rows agent resources, NotCovered) ∷ from_limit
+
+  abbrev from_unreserved : List (Bool × Refusal)
+  from_unreserved = (not (is_unreserved resources), NotUnreserved) ∷ from_free
+
+  abbrev from_some : List (Bool × Refusal)
+  from_some = (is_empty resources, Empty) ∷ from_unreserved
+
+  abbrev from_role : List (Bool × Refusal)
+  from_role = (is_default role, DefaultRole) ∷ from_some
+
+  abbrev from_known : List (Bool × Refusal)
+  from_known = (not (has_agent rows agent), UnknownAgent) ∷ from_role
+
+  over_limit : (limits : LimitNumbers) → refusal_of limits rows (Reserve agent role resources) ≡ Some OverLimit
+      → (is_full limits rows ≡ false) × IsOverLimit rows agent role resources
+  unfolding refusal_of
+  over_limit limits told =
+      let full = later_case (is_full limits rows) HistoryFull OverLimit from_known (λ e. cc) told in
+      let known = later_case (not (has_agent rows agent)) UnknownAgent OverLimit from_role (λ e. cc) full.1 in
+      let other = later_case (is_default role) DefaultRole OverLimit from_some (λ e. cc) known.1 in
+      let some = later_case (is_empty resources) Empty OverLimit from_unreserved (λ e. cc) other.1 in
+      let unreserved = later_case (not (is_unreserved resources)) NotUnreserved OverLimit from_free (λ e. cc) some.1 in
+      let free = later_case (is_not_free rows agent resources) NotCovered OverLimit from_limit (λ e. cc) unreserved.1 in (
+        full.0,
+        record {
+          movable = record {
+            known = not-false (has_agent rows agent) known.0;
+            other = other.0;
+            some = some.0;
+            unreserved = not-false (is_unreserved resources) unreserved.0;
+          };
+          free = free.0;
+          beyond = not-true (admits rows role (quantities_of resources)) (last_case (not (admits rows role (quantities_of resources))) OverLimit free.1);
+        },
+      )
 
 -- without limits all is admitted
 without_limits : (consumed : Consumed) (role : Path) (es : List Entry) → list_all (all_stay consumed role []) es ≡ true
@@ -518,7 +536,7 @@ pub refused_would_pass : RefusedWouldPass
 unfolding effect free_of
 refused_would_pass limits rows agent role resources consistent asked told =
     let amounts : List Entry = quantities_of resources in
-    let over = over_limit limits rows agent role resources told in
+    let over = over_limit rows agent role resources limits told in
     let free_rows : Rows = record rows { limits = [] } in
     let accepted : refusal_of limits free_rows (Reserve agent role resources) ≡ None =
     reserve-decided limits free_rows agent role resources

@@ -78,7 +78,7 @@ more_pass true true n so = omega arith
 more_pass true false n so = absurd (false≢true (so refl))
 more_pass false c n so = omega arith
 
-every : {X : Type 0} (P : X → Type 0) → ((x : X) → P x) → (xs : List X) → AllByRecursion P xs
+pub every : {X : Type 0} (P : X → Type 0) → ((x : X) → P x) → (xs : List X) → AllByRecursion P xs
 every P all [] = tt
 every P all (x ∷ xs) = (all x, every P all xs)
 

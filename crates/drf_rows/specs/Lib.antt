@@ -57,3 +57,4 @@ pub mod OthersLaws
 pub mod LowestLaws
 pub mod ReportedShares
 pub mod ReportLaws
+pub mod KeptLimitLaws

@@ -11,6 +11,7 @@ ghost use Rattle.drf_rows.specs.ReservationLaws.{ReservedIsGivenBack, ReservingK
 ghost use Rattle.drf_rows.specs.EntitlementLaws.{EntitledByUnits};
 ghost use Rattle.drf_rows.specs.ConsumptionLaws.{RolesAboveConsumeMore, RestIsConsumedNoLonger, ConsumptionIsSmall};
 ghost use Rattle.drf_rows.specs.MovingLaws.{MovedOnly, ReservedCanBeGivenBack, GivenBackCanBeReserved, WithinLimitsItIsAdmitted, RefusedWouldPass, LimitsRefuseNothingElse};
+ghost use Rattle.drf_rows.specs.KeptLimitLaws.{ChangedAgentIsConsumed, RunsKeepLimits};
 ghost use Rattle.drf_rows.specs.LimitLaws.{RoleHasItsLimit, OthersKeepTheirLimit, LimitTakesNothing};
 
 /// An offer of what a client may have of a bundle takes neither its role nor a role above it over a limit, and so no cycle does.
@@ -66,9 +67,16 @@ pub fn reservations_law()
     ensures consumed { MovedIsConsumed }
 {}
 
-/// An agent whose total changes keeps all that is held there, and nothing else of the rows changes.
+/// An agent whose total changes keeps all that is held there, and nothing else of the rows changes. What the new total reserves is
+/// consumed in place of what the old one did.
 pub fn set_agent_law()
-    ensures { ChangedAgentKeepsAll }
+    ensures kept { ChangedAgentKeepsAll }
+    ensures consumed { ChangedAgentIsConsumed }
+{}
+
+/// Over events that add no agent, change no total and set no limit, no role comes to consume more than its limit, or than it did.
+pub fn limited_runs_law()
+    ensures { RunsKeepLimits }
 {}
 
 /// What a role is granted counts against its limit at the next grant of the same cycle, and other roles are not bound by it. The

@@ -1,9 +1,9 @@
 -- What roles consume: those above at least as much, an accept all but the rest, and never as much as 2^52 thousandths.
-use Rattle.std.specs.Prelude.{◌≡◌, ℕ, ◌+◌, ◌≤◌, ◌<◌, ◌^◌, ◌==◌, Bool, true, false, not, ◌&&◌, List, [], ◌∷◌, ◌++◌, length, map, filter, drop, sum_by, Option, Some, None, IsTrue, nat_lt}
+use Rattle.std.specs.Prelude.{◌≡◌, ℕ, ◌+◌, ◌≤◌, ◌<◌, ◌^◌, Bool, true, false, not, ◌&&◌, List, [], ◌∷◌, ◌++◌, length, drop, sum_by, Option, Some, None, IsTrue, nat_lt}
 use Rattle.std.specs.List.{list_any, AllByRecursion}
 use Rattle.std.specs.Option.{option_map_or}
 use Rattle.std.specs.Cmp.Lexicographic.{bytes_decides}
-use Rattle.std.proofs.Common.{refl, sym, ap, ◌∙◌, inl, inr, cond, arith, append_assoc}
+use Rattle.std.proofs.Common.{refl, sym, ap, ◌∙◌, cond, arith, append_assoc}
 use Rattle.std.proofs.lemmas.Bool.{and_parts, and_from, or_parts, not-false, false≢true}
 use Rattle.std.proofs.lemmas.List.Sums.{sum_by-cons, sum_by-append}
 use Rattle.std.proofs.lemmas.Slice.Eq.{starts_is}
@@ -11,8 +11,8 @@ use Rattle.drf_role.specs.Text.{Text, same_text}
 use Rattle.drf_role.specs.Path.{Path, begins_with}
 use Rattle.drf_role.specs.Parts.{parts_of}
 use Rattle.drf_bundle.specs.Value.{Thousandths, units_in}
-use Rattle.drf_bundle.specs.Bundle.{Key, IsBundle, key_of, units, units_where}
-use Rattle.drf_bundle.specs.Taken.{rest_of_all, units_of_all, units-rest_of_all}
+use Rattle.drf_bundle.specs.Bundle.{Key, IsBundle, key_of}
+use Rattle.drf_bundle.specs.Taken.{units-rest_of_all}
 use Rattle.drf_bundle.specs.declared.resource.Resource.{Resource}
 use Rattle.drf_rows.specs.LimitNumbers.{LimitNumbers, ceilings}
 use Rattle.drf_rows.specs.Holdings.{Holding, of_offer, of_task, holdings_of}
@@ -22,17 +22,16 @@ use Rattle.drf_rows.specs.EndingLaws.{sum_by-out, started_by, accepted_in, betwe
 use Rattle.drf_rows.specs.ListLaws.{sum_by_each_le}
 use Rattle.drf_rows.specs.Members.{has_framework}
 use Rattle.drf_rows.specs.Offers.{offer_at, has_offer, is_anothers, is_beyond, is_task_known, is_empty, left_of_offer, task_of, offer_accepted}
-use Rattle.drf_rows.specs.Quota.{unreserved_in, reserves, reserved_in, held_unreserved, reserved_for, consumption_where, consumption, is_within}
+use Rattle.drf_rows.specs.Quota.{unreserved_in, reserves, reserved_in, consumption_where, consumption, is_within}
 use Rattle.drf_rows.specs.QuotaLaws.{consumption_is_part_of_total}
 use Rattle.drf_rows.specs.ReportedShares.{small_total}
-use Rattle.drf_rows.specs.Step.{refusal_of, effect, is_full, accept_is_too_much}
+use Rattle.drf_rows.specs.Step.{refusal_of, effect, is_full}
 use Rattle.drf_rows.specs.StepLaws.{least_is_told}
 use Rattle.drf_rows.specs.TaskLaws.{units-covers_all}
 use Rattle.drf_rows.specs.Tasks.{Start, uses, covers_all}
 use Rattle.drf_rows.specs.declared.limits.TheConstants.{LATEST_MOMENT}
 use Rattle.drf_rows.specs.declared.event.Accept as accepting
 use Rattle.drf_rows.specs.declared.event.Event.TheVariants.{Accept}
-use Rattle.drf_rows.specs.declared.rows.AgentRow.{AgentRow}
 use Rattle.drf_rows.specs.declared.rows.OfferRow.{OfferRow}
 use Rattle.drf_rows.specs.declared.rows.Rows.{Rows}
 

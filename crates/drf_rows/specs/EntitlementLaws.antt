@@ -1,19 +1,19 @@
 -- What a client may have of a free bundle, by its units: what is reserved goes to its role and the roles below it alone, and of
 -- what is for everyone each scalar is cut to the headroom, if a limit names it.
-use Rattle.std.specs.Prelude.{◌≡◌, ℕ, ◌+◌, ◌≤◌, min, Bool, true, false, ◌&&◌, ◌||◌, List, [], ◌∷◌, ◌++◌, map, fold, filter, flat_map, Option, Some, None, is_some, IsTrue, All, if◌then◌else◌}
+use Rattle.std.specs.Prelude.{◌≡◌, ℕ, min, Bool, true, false, ◌&&◌, ◌||◌, List, [], ◌∷◌, fold, filter, flat_map, Option, Some, None, is_some, IsTrue, All, if◌then◌else◌}
 use Rattle.std.specs.List.{list_any, reduce}
 use Rattle.std.specs.Option.{option_map_or}
 use Rattle.std.proofs.Common.{refl, sym, ap, ◌∙◌, inl, inr, cond, arith}
-use Rattle.std.proofs.lemmas.Bool.{cases_Bool, and_parts, or_cases, false≢true}
+use Rattle.std.proofs.lemmas.Bool.{cases_Bool, and_parts}
 use Rattle.std.proofs.lemmas.List.Elements.{All-head, All-tail}
 use Rattle.drf_role.specs.Text.{Text, same_text}
 use Rattle.drf_role.specs.Path.{Path, begins_with}
 use Rattle.drf_role.specs.Parts.{parts_of, text_of}
 use Rattle.drf_bundle.specs.Value.{Point, Thousandths, Number, Member, units_in}
-use Rattle.drf_bundle.specs.Quantities.{amount_of, is_named, names_of, with_amount}
+use Rattle.drf_bundle.specs.Quantities.{amount_of, is_named, names_of}
 use Rattle.drf_bundle.specs.QuantitiesLaws.{named-with}
-use Rattle.drf_bundle.specs.Bundle.{Key, IsResource, IsBundle, is_default, reservation, key_of, is_in_order, same_key, units, is_for, part_for, clip, clipped, cut}
-use Rattle.drf_bundle.specs.KeyLaws.{stands_first, unit_of, where-cons, unit-here, unit-none, units_first, same_key_true, same_key_itself}
+use Rattle.drf_bundle.specs.Bundle.{Key, IsResource, IsBundle, is_default, key_of, is_in_order, same_key, units, is_for, part_for, clip, clipped, cut}
+use Rattle.drf_bundle.specs.KeyLaws.{stands_first, unit_of, where-cons, unit-here, unit-none, units_first, same_key_true}
 use Rattle.drf_bundle.specs.PartLaws.{bundle-part_for, keeps-clipped, cut-falls}
 use Rattle.drf_bundle.specs.RestLaws.{where-changed-cons, where-changed-le}
 use Rattle.drf_bundle.specs.declared.quantities.Entry.{Entry}

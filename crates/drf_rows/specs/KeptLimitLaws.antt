@@ -1,23 +1,23 @@
 -- Over events that add no agent and change no total and no limit, no role comes to consume more than its limit, or than it did.
-use Rattle.std.specs.Prelude.{◌≡◌, ℕ, ◌+◌, ◌≤◌, max, Bool, true, false, not, ◌&&◌, List, [], ◌∷◌, ◌++◌, map, filter, sum_by, slice_get, Option, Some, None, IsTrue}
+use Rattle.std.specs.Prelude.{◌≡◌, ℕ, ◌+◌, ◌≤◌, max, Bool, true, false, not, List, [], ◌∷◌, ◌++◌, map, filter, sum_by, slice_get, Option, Some, None, IsTrue}
 use Rattle.std.specs.List.{list_all, AllByRecursion}
 use Rattle.std.specs.Option.{option_map_or}
-use Rattle.std.proofs.Common.{refl, sym, ap, ◌∙◌, inl, inr, cond, arith}
+use Rattle.std.proofs.Common.{refl, ap, ◌∙◌, inl, inr, cond, arith}
 use Rattle.std.proofs.lemmas.Bool.{cases_Bool, and_parts, not-true}
 use Rattle.std.proofs.lemmas.List.Sums.{sum_by-append}
 use Rattle.drf_role.specs.Text.{Text, same_text}
 use Rattle.drf_role.specs.Path.{Path}
 use Rattle.drf_bundle.specs.Quantities.{amount_of, is_named}
-use Rattle.drf_bundle.specs.Bundle.{IsBundle, quantities_of}
+use Rattle.drf_bundle.specs.Bundle.{IsBundle}
 use Rattle.drf_bundle.specs.declared.resource.Resource.{Resource}
 use Rattle.drf_rows.specs.LimitNumbers.{LimitNumbers}
 use Rattle.drf_rows.specs.Holdings.{Holding, of_offer, of_task, holdings_of}
-use Rattle.drf_rows.specs.Cycle.{at_moment, cycle}
+use Rattle.drf_rows.specs.Cycle.{at_moment}
 use Rattle.drf_rows.specs.Consistent.{IsConsistent}
 use Rattle.drf_rows.specs.Endings.{Ending, ends_offer, ends_task, without_ended, one_offer, one_task, offers_on, all_on, all_of}
 use Rattle.drf_rows.specs.ListLaws.{sum_by-map, sum_by-filter, sum_by_each_le, cond_le}
-use Rattle.drf_rows.specs.Members.{active_at, with_activity}
-use Rattle.drf_rows.specs.Offers.{offer_at, offer_accepted, offer_declined, left_of_offer}
+use Rattle.drf_rows.specs.Members.{active_at}
+use Rattle.drf_rows.specs.Offers.{offer_at, offer_accepted, offer_declined}
 use Rattle.drf_rows.specs.OthersLaws.{cycle_only_offers}
 use Rattle.drf_rows.specs.Quota.{unreserved_in, reserved_in, held_unreserved, reserved_for, consumption_where, consumption, is_within}
 use Rattle.drf_rows.specs.QuotaLaws.{cycle_keeps_limits}

@@ -54,7 +54,7 @@ pub mod EndedLaws
 pub mod SuppressionLaws
 pub mod OfferedLaws
 pub mod OthersLaws
+pub mod KeptLimitLaws
 pub mod LowestLaws
 pub mod ReportedShares
 pub mod ReportLaws
-pub mod KeptLimitLaws

@@ -1,8 +1,8 @@
 -- What an event moves that reserves resources or gives them back: that part of one agent alone, and whole steps there and back.
-use Rattle.std.specs.Prelude.{◌≡◌, ℕ, ◌+◌, ◌≤◌, ◌<◌, Bool, true, false, not, ◌&&◌, ◌||◌, List, [], ◌∷◌, map, find, filter, slice_get, Option, Some, None, IsTrue, Contains, if◌then◌else◌, nat_le}
-use Rattle.std.specs.List.{list_any, list_all, AllByRecursion}
+use Rattle.std.specs.Prelude.{◌≡◌, ℕ, ◌+◌, ◌≤◌, ◌<◌, Bool, true, false, not, ◌&&◌, List, [], ◌∷◌, map, find, filter, slice_get, Option, Some, None, IsTrue, if◌then◌else◌, nat_le}
+use Rattle.std.specs.List.{list_all}
 use Rattle.std.specs.Option.{option_map_or}
-use Rattle.std.proofs.Common.{refl, sym, ap, subst, ◌∙◌, inl, inr, cond, arith, zero, suc}
+use Rattle.std.proofs.Common.{refl, sym, ap, subst, ◌∙◌, inl, inr, cond, arith, suc}
 use Rattle.std.proofs.lemmas.Bool.{cases_Bool, and_parts, and_from, or_parts, not-true, not-false, leb-true, leb-false, le-leb, false≢true}
 use Rattle.drf_role.specs.Text.{Text, same_text}
 use Rattle.drf_role.specs.TextLaws.{same_from_test}
@@ -10,7 +10,7 @@ use Rattle.drf_role.specs.Path.{Path}
 use Rattle.drf_bundle.specs.Quantities.{amount_of, is_in_order, covers as covers_amounts}
 use Rattle.drf_bundle.specs.QuantitiesLaws.{covers_from}
 use Rattle.drf_bundle.specs.UnitProofs.{covers_by_units, quantities_no_zeros}
-use Rattle.drf_bundle.specs.Bundle.{IsBundle, quantities_of, covers, is_default, is_unreserved, relabel, join, rest}
+use Rattle.drf_bundle.specs.Bundle.{quantities_of, covers, is_default, is_unreserved, relabel, join, rest}
 use Rattle.drf_bundle.specs.declared.quantities.Entry.{Entry}
 use Rattle.drf_bundle.specs.declared.resource.Resource.{Resource}
 use Rattle.drf_rows.specs.LimitNumbers.{LimitNumbers}
@@ -24,7 +24,7 @@ use Rattle.drf_rows.specs.ReservationLaws.{IsAsked, CanMove, can_move-reserve, c
 use Rattle.drf_rows.specs.Step.{first_case, refusal_of, effect, rows_after, is_full}
 use Rattle.drf_rows.specs.StepLaws.{least_is_told, rows_after-accepted}
 use Rattle.drf_rows.specs.Totals.{CanExchange, agent_at, total_at, with_total, exchanged, is_not_free}
-use Rattle.drf_rows.specs.TotalsLaws.{joined-exchanged, exchanged-back, bundle-exchanged, can_exchange-back, bundle_free, can_in_total, if_named, names-with_total, activity-with_total, has_agent-with_total, free_of-exchanged, cluster_total-exchanged, IsConsistent-exchanged}
+use Rattle.drf_rows.specs.TotalsLaws.{joined-exchanged, exchanged-back, bundle-exchanged, can_exchange-back, can_in_total, if_named, names-with_total, activity-with_total, has_agent-with_total, free_of-exchanged, cluster_total-exchanged}
 use Rattle.drf_rows.specs.declared.event.Event.{Event}
 use Rattle.drf_rows.specs.declared.event.Event.TheVariants.{AddAgent, RemoveAgent, ActivateAgent, DeactivateAgent, SetAgent, AddFramework, RemoveFramework, Accept, Decline, Rescind, Finish, Suppress, Revive, Reserve, Unreserve, SetWeight, SetLimit, Cycle, Report}
 use Rattle.drf_rows.specs.declared.reply.Refusal.{Refusal}

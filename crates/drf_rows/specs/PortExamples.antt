@@ -8,10 +8,9 @@ use Rattle.std.proofs.lemmas.Bool.{lt-ltb, eq-eqb, ne_eqb}
 use Rattle.drf_role.specs.Text.{Text}
 use Rattle.drf_role.specs.Path.{Path}
 use Rattle.drf_role.specs.Role.{default_role}
-use Rattle.drf_bundle.specs.declared.quantities.Entry.{Entry}
 use Rattle.drf_bundle.specs.declared.resource.Resource.{Resource}
 use Rattle.drf_bundle.specs.declared.value.Value.TheVariants.{Ranges}
-use Rattle.drf_rows.specs.LimitNumbers.{LimitNumbers, ceilings}
+use Rattle.drf_rows.specs.LimitNumbers.{ceilings}
 use Rattle.drf_rows.specs.Share.{is_ahead}
 use Rattle.drf_rows.specs.Held.{standing_of}
 use Rattle.drf_rows.specs.Cycle.{free_of, with_offer, turn, cycle}

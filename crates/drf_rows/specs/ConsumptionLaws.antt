@@ -162,27 +162,29 @@ module _ (test : Path → Bool) (label : Text) where
         parted (test o.role) (unreserved_in label o.bundle) (used (uses starts)) (unreserved_in label (left_of_offer o starts)) (omega (arith, has, rest)),
       )
 
+-- an accept that is not refused uses parts that the offer covers
+pub covered-accept : (limits : LimitNumbers) (rows : Rows) (a : accepting.Accept) (o : OfferRow) → offer_at rows a.offer ≡ Some o
+    → refusal_of limits rows (Accept a) ≡ None → covers_all o.bundle (uses a.tasks) ≡ true
+covered-accept limits rows a o found accepted =
+    let none = (least_is_told limits rows (Accept a)).1 accepted in
+    let one = or_parts (is_full limits rows) _ none in
+    let two = or_parts (nat_lt LATEST_MOMENT a.at) _ one.1 in
+    let three = or_parts (not (has_framework rows a.framework)) _ two.1 in
+    let four = or_parts (not (has_offer rows a.offer)) _ three.1 in
+    let five = or_parts (is_anothers rows a.framework a.offer) _ four.1 in
+    let six = or_parts (is_task_known rows a.framework a.tasks) _ five.1 in
+    let seven = or_parts (list_any is_empty (uses a.tasks)) _ six.1 in
+    let eight = or_parts (is_beyond rows a.offer a.tasks) _ seven.1 in
+    not-false (covers_all o.bundle (uses a.tasks))
+    (sym (ap (λ (f : Option OfferRow). option_map_or (λ o. not (covers_all o.bundle (uses a.tasks))) f false) found) ∙ eight.0)
+
 pub rest_is_consumed_no_longer : RestIsConsumedNoLonger
 unfolding effect
 rest_is_consumed_no_longer limits rows a o test label consistent each found accepted =
-    consumption-accepted test label rows a.offer o a.tasks consistent found each covered
+    consumption-accepted test label rows a.offer o a.tasks consistent found each (covered-accept limits rows a o found accepted)
     ∙ ap (λ (n : ℕ). n + cond (test o.role) (unreserved_in label (left_of_offer o a.tasks)) 0)
     (sym (ap (λ (f : Option OfferRow).
     consumption_where test (option_map_or (λ o. offer_accepted (at_moment rows a.at) o a.tasks a.refuse_ms) f rows) label) found))
-  where
-    covered : covers_all o.bundle (uses a.tasks) ≡ true
-    covered =
-        let none = (least_is_told limits rows (Accept a)).1 accepted in
-        let one = or_parts (is_full limits rows) _ none in
-        let two = or_parts (nat_lt LATEST_MOMENT a.at) _ one.1 in
-        let three = or_parts (not (has_framework rows a.framework)) _ two.1 in
-        let four = or_parts (not (has_offer rows a.offer)) _ three.1 in
-        let five = or_parts (is_anothers rows a.framework a.offer) _ four.1 in
-        let six = or_parts (is_task_known rows a.framework a.tasks) _ five.1 in
-        let seven = or_parts (list_any is_empty (uses a.tasks)) _ six.1 in
-        let eight = or_parts (is_beyond rows a.offer a.tasks) _ seven.1 in
-        not-false (covers_all o.bundle (uses a.tasks))
-        (sym (ap (λ (f : Option OfferRow). option_map_or (λ o. not (covers_all o.bundle (uses a.tasks))) f false) found) ∙ eight.0)
 
 -- ---- no more than there is
 

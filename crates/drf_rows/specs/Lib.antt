@@ -55,6 +55,7 @@ pub mod SuppressionLaws
 pub mod OfferedLaws
 pub mod OthersLaws
 pub mod KeptLimitLaws
+pub mod HeldForLaws
 pub mod LowestLaws
 pub mod ReportedShares
 pub mod ReportLaws

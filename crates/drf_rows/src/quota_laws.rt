@@ -11,6 +11,7 @@ ghost use Rattle.drf_rows.specs.ReservationLaws.{ReservedIsGivenBack, ReservingK
 ghost use Rattle.drf_rows.specs.EntitlementLaws.{EntitledByUnits};
 ghost use Rattle.drf_rows.specs.ConsumptionLaws.{RolesAboveConsumeMore, RestIsConsumedNoLonger, ConsumptionIsSmall};
 ghost use Rattle.drf_rows.specs.MovingLaws.{MovedOnly, ReservedCanBeGivenBack, GivenBackCanBeReserved, WithinLimitsItIsAdmitted, RefusedWouldPass, LimitsRefuseNothingElse};
+ghost use Rattle.drf_rows.specs.HeldForLaws.{ReservedIsHeldByItsRole};
 ghost use Rattle.drf_rows.specs.KeptLimitLaws.{ChangedAgentIsConsumed, RunsKeepLimits};
 ghost use Rattle.drf_rows.specs.LimitLaws.{RoleHasItsLimit, OthersKeepTheirLimit, LimitTakesNothing};
 
@@ -24,9 +25,10 @@ pub fn limits_law()
 {}
 
 /// Of what is free a client may have what is reserved for its role or one above it, nothing else that is reserved, and of what is for
-/// everyone all but the scalars that the headroom cuts.
+/// everyone all but the scalars that the headroom cuts. So what is reserved is held by clients of its role and of roles below alone.
 pub fn entitlement_law()
-    ensures { EntitledByUnits }
+    ensures units { EntitledByUnits }
+    ensures held { ReservedIsHeldByItsRole }
 {}
 
 /// An event that sets a limit changes the limit of its role, and nothing else: what is consumed above it stays where it is.

@@ -1,11 +1,10 @@
 -- What is reserved is held by clients of its role and of the roles below it alone, whatever happens.
-use Rattle.std.specs.Prelude.{◌≡◌, ℕ, ◌+◌, ◌≤◌, Bool, true, false, not, List, [], ◌∷◌, ◌++◌, map, filter, Option, Some, None, sum_by, if◌then◌else◌}
+use Rattle.std.specs.Prelude.{◌≡◌, ℕ, ◌≤◌, Bool, true, false, not, List, [], ◌∷◌, map, filter, Option, Some, None, if◌then◌else◌}
 use Rattle.std.specs.List.{AllByRecursion}
 use Rattle.std.specs.Option.{option_map_or}
 use Rattle.std.proofs.Common.{refl, sym, ap, subst, ◌∙◌, cond, arith}
 use Rattle.std.proofs.lemmas.List.Sums.{sum_by-cons}
 use Rattle.drf_role.specs.Text.{Text}
-use Rattle.drf_role.specs.Path.{Path}
 use Rattle.drf_role.specs.Parts.{parts_of}
 use Rattle.drf_bundle.specs.Value.{Point}
 use Rattle.drf_bundle.specs.Bundle.{Key, IsBundle, units}
@@ -24,7 +23,7 @@ use Rattle.drf_rows.specs.EntitlementLaws.{entitled_by_units}
 use Rattle.drf_rows.specs.ConsumptionLaws.{covered-accept}
 use Rattle.drf_rows.specs.ListLaws.{each_from, each_append, each_parts, each_map, each_filter}
 use Rattle.drf_rows.specs.KeptLimitLaws.{IsGivenBundles}
-use Rattle.drf_rows.specs.Offers.{offer_at, offer_accepted, offer_declined, task_of}
+use Rattle.drf_rows.specs.Offers.{offer_at, offer_accepted, offer_declined}
 use Rattle.drf_rows.specs.Quota.{is_within, entitlement}
 use Rattle.drf_rows.specs.Step.{refusal_of, effect}
 use Rattle.drf_rows.specs.TaskLaws.{units-covers_all}

@@ -559,17 +559,17 @@ new_starts rows o starts can =
 
 module _ (rows : Rows) (number : ℕ) (o : OfferRow) (starts : List Start) (filters : List FilterRow)
     (consistent : IsConsistent rows) (found : offer_at rows number ≡ Some o) where
-  abbrev left : List OfferRow
+  abbrev pub left : List OfferRow
   left = filter (λ p. not (p.number == o.number)) rows.offers
 
-  abbrev after : Rows
+  abbrev pub after : Rows
   after = accepted_in rows o starts filters
 
   -- neither the offer nor the tasks are held yet
-  abbrev between : List Holding
+  abbrev pub between : List Holding
   between = map of_offer left ++ map of_task rows.tasks
 
-  offer_out : IsOneLess (holdings_of rows) between (of_offer o)
+  pub offer_out : IsOneLess (holdings_of rows) between (of_offer o)
   offer_out =
       let at = (offer_at-place rows number o found).0 in
       let less = one_less-offer rows at.before at.after o at.stands in
@@ -582,12 +582,12 @@ module _ (rows : Rows) (number : ℕ) (o : OfferRow) (starts : List Start) (filt
       }
 
   -- the tasks stand last
-  tasks_last : holdings_of after ≡ between ++ started_by o starts
+  pub tasks_last : holdings_of after ≡ between ++ started_by o starts
   tasks_last =
       ap (λ (hs : List Holding). map of_offer left ++ hs) (map-append of_task rows.tasks (map (task_of o) starts))
       ∙ sym (append_assoc (map of_offer left) (map of_task rows.tasks) (started_by o starts))
 
-  offer_held : IsHeld rows.agents rows.frameworks (of_offer o)
+  pub offer_held : IsHeld rows.agents rows.frameworks (of_offer o)
   offer_held = held-offer_at rows number o consistent found
 
   -- where the tasks pass the same test as the offer did, the rest is no longer held

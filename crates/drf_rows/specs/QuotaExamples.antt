@@ -10,7 +10,7 @@ use Rattle.drf_rows.specs.LimitNumbers.{LimitNumbers, ceilings}
 use Rattle.drf_rows.specs.Examples.{cpus, cpus_for, mem, gpus, framework_in, offer}
 use Rattle.drf_rows.specs.OrderExamples.{eng, eng_web, role_a, role_b}
 use Rattle.drf_rows.specs.ReportExamples.{told_cpus, line, dot}
-use Rattle.drf_rows.specs.LifeExamples.{one, accept, decline}
+use Rattle.drf_rows.specs.LifeExamples.{one, none, accept, decline, decline_for, offer_of_n1}
 use Rattle.drf_rows.specs.declared.event.Event.{Event}
 use Rattle.drf_rows.specs.declared.event.Event.TheVariants as event
 use Rattle.drf_rows.specs.declared.event.Event.TheVariants.{AddAgent, SetAgent, AddFramework, Reserve, Unreserve, SetLimit, Cycle}
@@ -33,6 +33,9 @@ offer_in number framework role agent resources =
 -- so many thousandths of `cpus`, for a role of any depth
 abbrev pub cpus_in : Path → ℕ → Resource
 cpus_in role amount = record { label = codes "cpus"; role = role; value = Scalar amount }
+
+abbrev pub mem_in : Path → ℕ → Resource
+mem_in role amount = record { label = codes "mem"; role = role; value = Scalar amount }
 
 -- a limit of nothing holds all `cpus` back, until it is taken away
 abbrev pub no_cpus : List Event
@@ -184,6 +187,45 @@ moved_twice_replies =
     ∷ one (offer_in 1 (codes "f1") eng_web (codes "n1") (cpus_for (codes "eng") 4000 ∷ []))
     ∷ []
 
+-- an agent's total is never too much for a limit, as it registers or later; limits above a role bind what is reserved for it, and
+-- limits below it do not
+abbrev pub beyond_limit : List Event
+beyond_limit =
+    cpus_limit eng 1000
+    ∷ AddAgent (codes "n1") (cpus_for (codes "eng") 3000 ∷ mem 64000 ∷ [])
+    ∷ SetAgent (codes "n1") (cpus 1000 ∷ cpus_for (codes "eng") 4000 ∷ mem 128000 ∷ [])
+    ∷ SetLimit eng_web (record { label = codes "mem"; amount = 0 } ∷ [])
+    ∷ Reserve (codes "n1") eng (mem 64000 ∷ [])
+    ∷ framework_in (codes "f1") (codes "eng")
+    ∷ Cycle 0
+    ∷ []
+
+abbrev pub beyond_limit_replies : List Reply
+beyond_limit_replies =
+    Done
+    ∷ Done
+    ∷ Done
+    ∷ Done
+    ∷ Done
+    ∷ Done
+    ∷ one (offer 1 (codes "f1") (codes "eng") (codes "n1") (cpus_for (codes "eng") 4000 ∷ mem 64000 ∷ mem_in eng 64000 ∷ []))
+    ∷ []
+
+-- a filter of what was cut holds back what is cut again
+abbrev pub cut_and_declined : List Event
+cut_and_declined =
+    AddAgent (codes "n1") (cpus 4000 ∷ [])
+    ∷ framework_in (codes "f1") (codes "a")
+    ∷ cpus_limit role_a 1000
+    ∷ Cycle 0
+    ∷ decline_for (codes "f1") 1 0 5000
+    ∷ Cycle 0
+    ∷ Cycle 5000
+    ∷ []
+
+abbrev pub cut_and_declined_replies : List Reply
+cut_and_declined_replies = Done ∷ Done ∷ Done ∷ one (offer_of_n1 1) ∷ Done ∷ none ∷ one (offer_of_n1 2) ∷ []
+
 -- an agent's total changes round what is held there, and shares with it
 abbrev pub other_totals : List Event
 other_totals =
@@ -282,6 +324,7 @@ more_limits =
     ∷ cpus_limit role_a 2000
     ∷ SetLimit role_b []
     ∷ SetLimit role_a (told_cpus 0 ++ record { label = codes "gpus"; amount = 0 } ∷ told_mem 0)
+    ∷ SetLimit role_a (told_cpus 1000 ++ told_mem 1000)
     ∷ SetLimit role_a []
     ∷ cpus_limit role_b 1000
     ∷ AddAgent (codes "n1") (cpus 1000 ∷ mem 1000 ∷ [])
@@ -296,6 +339,7 @@ more_limits_replies =
     ∷ Done
     ∷ Done
     ∷ Refused TooMany
+    ∷ Done
     ∷ Done
     ∷ Done
     ∷ Done

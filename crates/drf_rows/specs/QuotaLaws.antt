@@ -100,14 +100,14 @@ fold_le n [] = omega arith
 fold_le n (m ∷ ns) = omega (arith, fold_le (min n m) ns)
 
 module _ (consumed : Consumed) (role : Path) (label : Text) where
-  abbrev rooms : List LimitRow → List ℕ
+  abbrev pub rooms : List LimitRow → List ℕ
   rooms ls = map (room_under consumed label) (filter (binds role label) ls)
 
-  rooms-here : (l : LimitRow) (ls : List LimitRow) → binds role label l ≡ true → rooms (l ∷ ls) ≡ room_under consumed label l ∷ rooms ls
+  pub rooms-here : (l : LimitRow) (ls : List LimitRow) → binds role label l ≡ true → rooms (l ∷ ls) ≡ room_under consumed label l ∷ rooms ls
   rooms-here l ls here =
       ap (λ (b : Bool). map (room_under consumed label) (cond b (l ∷ filter (binds role label) ls) (filter (binds role label) ls))) here
 
-  rooms-past : (l : LimitRow) (ls : List LimitRow) → binds role label l ≡ false → rooms (l ∷ ls) ≡ rooms ls
+  pub rooms-past : (l : LimitRow) (ls : List LimitRow) → binds role label l ≡ false → rooms (l ∷ ls) ≡ rooms ls
   rooms-past l ls past =
       ap (λ (b : Bool). map (room_under consumed label) (cond b (l ∷ filter (binds role label) ls) (filter (binds role label) ls))) past
 
@@ -159,11 +159,11 @@ spent_limit_leaves_nothing rows role label place l at here spent =
 -- ---- the headroom of a name
 
 module _ (v : Text → ℕ) (label : Text) where
-  abbrev put : List Entry → Text → List Entry
+  abbrev pub put : List Entry → Text → List Entry
   put room n = with_amount room n (v n)
 
   -- the label is named, with its value
-  abbrev IsPut : List Entry → Type 0
+  abbrev pub IsPut : List Entry → Type 0
   IsPut room = (is_named room label ≡ true) × (amount_of room label ≡ v label)
 
   put_here : (room : List Entry) (n : Text) → same_text n label ≡ true → IsPut (put room n)
@@ -185,14 +185,14 @@ module _ (v : Text → ℕ) (label : Text) where
   all_put room [] is = is
   all_put room (n ∷ ns) is = all_put (put room n) ns (put_more room n is)
 
-  named_put : (room : List Entry) (ns : List Text) → list_any (λ n. same_text n label) ns ≡ true → IsPut (fold put room ns)
+  pub named_put : (room : List Entry) (ns : List Text) → list_any (λ n. same_text n label) ns ≡ true → IsPut (fold put room ns)
   named_put room [] among = absurd (false≢true among)
   named_put room (n ∷ ns) among = elim (or_cases (same_text n label) (list_any (λ n. same_text n label) ns) among) [
     | inl here ↦ all_put (put room n) ns (put_here room n here)
     | inr later ↦ named_put (put room n) ns later
   ]
 
-any_append : (p : Text → Bool) (xs ys : List Text) → list_any p (xs ++ ys) ≡ (list_any p xs || list_any p ys)
+pub any_append : (p : Text → Bool) (xs ys : List Text) → list_any p (xs ++ ys) ≡ (list_any p xs || list_any p ys)
 any_append p [] ys = refl
 any_append p (x ∷ xs) ys = elim (cases_Bool (p x)) [ inl here ↦ rw here refl | inr past ↦ rw past (any_append p xs ys) ]
 
@@ -243,7 +243,7 @@ no_text role (inr path) other = by role path
     by ((b ∷ bs) ∷ p ∷ ps) path = refl
 
 -- what has no reservation is for everyone
-for_everyone : (role : Path) → IsRole role → reservation role ≡ [] → is_default role ≡ true
+pub for_everyone : (role : Path) → IsRole role → reservation role ≡ [] → is_default role ≡ true
 for_everyone role right none = elim (cases_Bool (is_default role)) [
   | inl default ↦ default
   | inr other ↦

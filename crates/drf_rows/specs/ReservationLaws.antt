@@ -121,7 +121,7 @@ pub record CanMove (rows : Rows) (agent : Text) (role : Path) (resources moved :
   pub unreserved : is_unreserved resources ≡ true
   pub free : covers (free_of rows row) moved ≡ true
 
-can_move : (rows : Rows) (agent : Text) (role : Path) (resources moved : List Resource)
+pub can_move : (rows : Rows) (agent : Text) (role : Path) (resources moved : List Resource)
     → has_agent rows agent ≡ true → is_default role ≡ false → is_unreserved resources ≡ true → is_not_free rows agent moved ≡ false
     → CanMove rows agent role resources moved
 can_move rows agent role resources moved known other unreserved free =
@@ -175,7 +175,7 @@ module _ (rows : Rows) (agent : Text) (role : Path) (resources : List Resource) 
       (bundle_free rows agent can.row consistent can.found) can.free
 
 -- two changes of which the second takes the first back
-changed_back : (name : Text) (f g : List Resource → List Resource) (agents : List AgentRow)
+pub changed_back : (name : Text) (f g : List Resource → List Resource) (agents : List AgentRow)
     → AllByRecursion (λ a. same_text a.name name ≡ true → g (f a.total) ≡ a.total) agents
     → map (total_at name g) (map (total_at name f) agents) ≡ agents
 changed_back name f g [] back = refl
@@ -396,7 +396,7 @@ module _ (rows : Rows) (name : Text) (a : AgentRow) (total : List Resource) (con
       (each_part a.name (holdings_of rows) (bundles-consistent rows consistent)) covered-other_total
 
 -- the agent of the name is the first of the name still
-found-with_total : (name : Text) (made : List Resource → List Resource) (agents : List AgentRow) (a : AgentRow)
+pub found-with_total : (name : Text) (made : List Resource → List Resource) (agents : List AgentRow) (a : AgentRow)
     → find (λ b. same_text b.name name) agents ≡ Some a
     → find (λ b. same_text b.name name) (map (total_at name made) agents) ≡ Some (record a { total = made a.total })
 found-with_total name made [] a found = cc

@@ -1,5 +1,5 @@
 -- The rows once a part of an agent moves between everyone and a role, or its total is another; and that they stay consistent.
-use Rattle.std.specs.Prelude.{◌≡◌, ◌+◌, ◌≤◌, Bool, true, false, List, [], ◌∷◌, ◌++◌, map, fold, Option, Some, if◌then◌else◌, IsTrue, not, filter}
+use Rattle.std.specs.Prelude.{◌≡◌, ◌+◌, Bool, true, false, List, [], ◌∷◌, ◌++◌, map, fold, Option, Some, if◌then◌else◌, IsTrue, not, filter}
 use Rattle.std.specs.List.{list_any, AllByRecursion}
 use Rattle.std.specs.Option.{option_map_or}
 use Rattle.std.proofs.Common.{refl, sym, ap, subst, ◌∙◌, inl, inr, arith}

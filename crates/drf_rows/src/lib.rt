@@ -25,8 +25,9 @@ pub use laws::{
 };
 pub use limits::{LARGEST_AMOUNT, LATEST_MOMENT, LONGEST_FILTER, Limits};
 pub use quota_laws::{
-    limited_example, limits_law, limits_refused_example, other_totals_example, reservations_law,
-    reserved_example, set_agent_law, set_limit_law,
+    consumption_law, entitlement_law, limit_refusals_law, limited_example, limited_runs_law,
+    limits_law, limits_refused_example, moving_law, other_totals_example, ports_example,
+    reservations_law, reserved_example, set_agent_law, set_limit_law,
 };
 pub use reply::{OfferLine, Refusal, Reply};
 pub use report::{NodeLine, Report};

@@ -175,9 +175,10 @@ content_of-limit rows role limit = content_of-limits rows (limits_with rows.limi
 -- ---- what leaves the sorter alone
 
 pub stand_alone : {T E : Type 0} (r : Result T E) (rows tables after : Rows) (content : Content) → content ≡ content_of rows
-    → content_of after ≡ content_of rows → OnOk r (tables ≡ after) → OnOk r (StandAt after tables content)
-stand_alone (Ok t) rows tables after content sorted alike same = record { same = same; sorted = sorted ∙ sym alike }
-stand_alone (Err e) rows tables after content sorted alike same = tt
+    → OnOk r (tables ≡ after) → OnOk r (content_of tables ≡ content_of rows) → OnOk r (StandAt after tables content)
+stand_alone (Ok t) rows tables after content sorted same alike =
+    record { same = same; sorted = sorted ∙ sym alike ∙ ap content_of same }
+stand_alone (Err e) rows tables after content sorted same alike = tt
 
 pub stand_still : {T E : Type 0} (r : Result T E) (rows tables : Rows) (content : Content) → content ≡ content_of rows
     → OnErr r (tables ≡ rows) → OnErr r (StandAt rows tables content)

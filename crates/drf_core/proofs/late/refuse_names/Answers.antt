@@ -1,4 +1,4 @@
-use Rattle.std.proofs.Common.{◌≡◌, ℕ, List, ◌∷◌, [], length, nat_lt, sym, ap, ◌∙◌}
+use Rattle.std.proofs.Common.{◌≡◌, ◌∷◌, [], length, nat_lt, ◌∙◌}
 use Rattle.drf_bundle.specs.Quantities.{plus}
 use Rattle.drf_rows.specs.Step.{first_case, too_many_names}
 use Rattle.drf_rows.specs.Totals.{with_other_total}

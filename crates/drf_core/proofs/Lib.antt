@@ -18,6 +18,7 @@ pub mod WeightLemmas
 pub mod Welcome
 pub mod KeptLemmas
 pub mod ApplyLemmas
+pub mod LateLemmas
 pub mod RefusalLemmas
 pub mod RemovalLemmas
 pub mod EndedLemmas

@@ -1,7 +1,13 @@
 -- Tests of refusal, and what the code asks in their stead.
-use Rattle.std.proofs.Common.{◌≡◌, Bool, true, false, List, [], ◌∷◌, ◌++◌, Some, None, refl, ap, ◌∙◌}
-use Rattle.std.specs.Prelude.{not, ◌&&◌, ◌||◌}
+use Rattle.std.proofs.Common.{◌≡◌, ℕ, ◌+◌, Bool, true, false, List, [], ◌∷◌, ◌++◌, Some, None, length, refl, ap, ◌∙◌, arith, nat_lt}
+use Rattle.std.specs.Prelude.{not, ◌&&◌, ◌||◌, nat_le, ◌==◌, IsTrue, ◌↔◌}
+use Rattle.std.specs.Cmp.{both_ways}
+use Rattle.std.proofs.lemmas.Bool.{leb-true, le-leb, ltb_from_iff}
 use Rattle.std.specs.List.{list_all, list_any}
+use Rattle.drf_role.specs.Path.{Path}
+use Rattle.drf_role.specs.PathLaws.{path_decides}
+use Rattle.drf_role.specs.Role.{default_role}
+use Rattle.drf_bundle.specs.Bundle.{is_default}
 use Rattle.drf_rows.specs.Offers.{is_empty}
 use Rattle.drf_rows.specs.Step.{first_case}
 use Rattle.drf_rows.specs.declared.reply.Refusal.{Refusal}
@@ -31,3 +37,23 @@ pub first_rest : (front rest : List (Bool × Refusal)) → first_case front ≡ 
 first_rest [] rest none = refl
 first_rest ((true, r) ∷ front) rest none = cc
 first_rest ((false, r) ∷ front) rest none = first_rest front rest none
+
+-- a list without length is empty
+pub no_length : {A : Type 0} (xs : List A) → (length xs == 0) ≡ is_empty xs
+no_length [] = refl
+no_length (x ∷ xs) = refl
+
+-- the test whether a role is `*`
+pub default_from : (role : Path) (b : Bool) → IsTrue b ↔ (role ≡ default_role) → b ≡ is_default role
+default_from role b told =
+    both_ways b (is_default role)
+    (λ yes. (path_decides role default_role).1 (told.0 yes)) (λ yes. told.1 ((path_decides role default_role).0 yes))
+
+-- one row too many, by the number before
+pub too_many_rows : (empty known more : Bool) (most count : ℕ)
+    → (((not empty && not known) && nat_le most count) || more) ≡ ((not empty && (not known && nat_lt most (count + 1))) || more)
+too_many_rows true known more most count = refl
+too_many_rows false true more most count = refl
+too_many_rows false false more most count =
+    ap (λ (b : Bool). b || more)
+    (ltb_from_iff ((λ yes. let at_most = leb-true most count yes in omega (arith, at_most)), (λ below. le-leb most count (omega (arith, below)))))

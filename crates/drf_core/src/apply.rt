@@ -3,6 +3,7 @@ ghost use Rattle.std.specs.Prelude.{◌≡◌, None, IfOk, OnOk, OnErr, MatchOpt
 ghost use Rattle.drf_rows.specs.Step.{refusal_of, effect, answer};
 ghost use Rattle.drf_rows.specs.declared.event.Event.TheVariants.{SetWeight, SetLimit};
 ghost use Rattle.drf_rows.specs.declared.reply.Reply.TheVariants.{Done};
+ghost use Rattle.drf_core.specs.Content.{content_of};
 ghost use Rattle.drf_core.specs.Kept.{IsKept, StandAt};
 ghost use Rattle.drf_sorter.specs.Work.{Adds};
 ghost use Rattle.drf_core.specs.Working.{allowed};
@@ -51,6 +52,7 @@ fn set_limit(
     requires welcome { refusal_of limits.now tables.old.rows (SetLimit role limit) ≡ None }
     ensures reply { IfOk result (λ reply. reply ≡ Done) }
     ensures ok { OnOk result (tables.new.rows ≡ effect tables.old.rows (SetLimit role limit)) }
+    ensures content { OnOk result (content_of tables.new.rows ≡ content_of tables.old.rows) }
     ensures err { OnErr result (tables.new.rows ≡ tables.old.rows) }
 {
     tables.set_limit(role, limit)?;

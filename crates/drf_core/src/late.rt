@@ -1,6 +1,6 @@
 //! Why resources are not reserved, not for everyone again, and why a total is not another. What is free, what limits admit
 //! and what is held is tested last, where there is memory.
-ghost use Rattle.std.specs.Prelude.{◌≡◌, ◌≢◌, ◌++◌, ◌<◌, ◌≤◌, [], true, length, Some, None, slice_get, IfOk, IfSome, IfNone};
+ghost use Rattle.std.specs.Prelude.{◌≡◌, ◌≢◌, ◌++◌, ◌≤◌, [], true, length, Some, None, IfOk};
 ghost use Rattle.drf_bundle.specs.Bundle.{is_unreserved, rest};
 ghost use Rattle.drf_rows.specs.Consistent.{IsConsistent};
 ghost use Rattle.drf_rows.specs.Cycle.{free_of};
@@ -20,26 +20,12 @@ use drf_rows::{Event, Limits, Refusal};
 use drf_tables::Tables;
 use std::alloc::AllocError;
 
-/// The place of an agent, by registration.
-fn place_of(tables: &Tables, agent: &Name) -> Option<usize>
-    ensures some { IfSome result (λ place. slice_get tables.now.rows.agents place ≡ agent_at tables.now.rows agent.now) }
-    ensures place { IfSome result (λ place. place < length tables.now.rows.agents) }
-    ensures none { IfNone result (agent_at tables.now.rows agent.now ≡ None) }
-{
-    for place in 0..tables.agent_count() {
-        if tables.agent_name(place) == agent {
-            return Some(place);
-        }
-    }
-    None
-}
-
 /// The agent is there, and what is free on it does not cover the resources.
 fn is_not_free(tables: &Tables, agent: &Name, resources: &Bundle) -> bool
     requires { tables.now.settled ≡ true }
     ensures { result ≡ is_not_free tables.now.rows agent.now resources.now }
 {
-    match place_of(tables, agent) {
+    match tables.place_of(agent) {
         Some(place) => !tables.free(place).covers(resources),
         None => false,
     }
@@ -98,9 +84,8 @@ fn held_on(tables: &Tables, agent: &Name) -> Result<Bundle, AllocError>
     requires known { has_agent tables.now.rows agent.now ≡ true }
     ensures { IfOk result (λ held. (a : AgentRow) → agent_at tables.now.rows agent.now ≡ Some a → held ≡ rest a.total (free_of tables.now.rows a)) }
 {
-    let place = place_of(tables, agent).unwrap();
-    let rows = tables.rows()?;
-    rows.agents.as_slice()[place].total.rest(tables.free(place))
+    let place = tables.place_of(agent).unwrap();
+    tables.agent_total(place).rest(tables.free(place))
 }
 
 /// Why a total is not an agent's: it does not cover what is held there, or is too large.

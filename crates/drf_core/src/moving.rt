@@ -1,6 +1,8 @@
 //! What is free moves between everyone and a role.
-ghost use Rattle.std.specs.Prelude.{◌≡◌, None, IfOk, OnOk, OnErr};
+ghost use Rattle.std.specs.Prelude.{◌≡◌, None, IfOk, OnOk, OnErr, IsTrue};
+ghost use Rattle.drf_bundle.specs.Bundle.{is_unreserved, relabel};
 ghost use Rattle.drf_rows.specs.Consistent.{IsConsistent};
+ghost use Rattle.drf_rows.specs.ReservationLaws.{IsAsked};
 ghost use Rattle.drf_rows.specs.Step.{refusal_of, effect};
 ghost use Rattle.drf_rows.specs.declared.event.Event.TheVariants.{Reserve, Unreserve};
 ghost use Rattle.drf_rows.specs.declared.reply.Reply.TheVariants.{Done};
@@ -11,6 +13,18 @@ use drf_role::{Name, Role};
 use drf_rows::{Limits, Reply};
 use drf_tables::Tables;
 use std::alloc::AllocError;
+
+/// The resources with all of them reserved for the role.
+fn reserved(role: &Role, resources: &Bundle) -> Result<Bundle, AllocError>
+    requires { IsTrue (is_unreserved resources.now) }
+    ensures asked { IsAsked role.now resources.now }
+    ensures moved { IfOk result (λ moved. moved ≡ relabel role.now resources.now) }
+{
+    // The proof learns that these are a role and a bundle by these calls alone.
+    let _ = role.text();
+    let _ = resources.quantities();
+    resources.relabel(role)
+}
 
 /// What is free for everyone is reserved for a role.
 pub fn reserve(
@@ -27,8 +41,8 @@ pub fn reserve(
     ensures content { OnOk result (content_of tables.new.rows ≡ content_of tables.old.rows) }
     ensures err { OnErr result (tables.new.rows ≡ tables.old.rows) }
 {
-    let reserved = resources.relabel(role)?;
-    tables.exchange(agent, resources, &reserved)?;
+    let moved = reserved(role, resources)?;
+    tables.exchange(agent, resources, &moved)?;
     Ok(Reply::Done)
 }
 
@@ -47,7 +61,7 @@ pub fn unreserve(
     ensures content { OnOk result (content_of tables.new.rows ≡ content_of tables.old.rows) }
     ensures err { OnErr result (tables.new.rows ≡ tables.old.rows) }
 {
-    let reserved = resources.relabel(role)?;
-    tables.exchange(agent, &reserved, resources)?;
+    let moved = reserved(role, resources)?;
+    tables.exchange(agent, &moved, resources)?;
     Ok(Reply::Done)
 }

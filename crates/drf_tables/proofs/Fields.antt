@@ -1,10 +1,12 @@
 -- The rows that the fields of tables stand for, before and after each change.
-use Rattle.std.specs.Prelude.{◌≡◌, ℕ, ◌+◌, ◌*◌, ◌<◌, ◌≤◌, ◌^◌, Bool, true, false, List, [], ◌∷◌, ◌++◌, length, map, fold, slice_get, Some, is_some}
-use Rattle.std.specs.List.{AllByRecursion}
+use Rattle.std.specs.Prelude.{◌≡◌, ℕ, ◌+◌, ◌*◌, ◌<◌, ◌≤◌, ◌^◌, Bool, true, false, cond, List, [], ◌∷◌, ◌++◌, length, map, fold, slice_get, Option, Some, None, is_some, IfSome, nat_lt}
+use Rattle.std.specs.List.{AllByRecursion, position, position_or_len}
 use Rattle.std.specs.Global.{Vec}
-use Rattle.std.specs.Map.{lookup, values_of}
-use Rattle.std.proofs.Common.{refl, sym, ap, ◌∙◌, zero, suc, arith}
+use Rattle.std.specs.Map.{lookup, keys_of, values_of}
+use Rattle.std.proofs.Common.{refl, sym, ap, ◌∙◌, zero, suc, inl, inr, arith}
+use Rattle.std.proofs.lemmas.Bool.{cases_Bool}
 use Rattle.std.proofs.lemmas.List.{map-append}
+use Rattle.std.proofs.lemmas.List.Folds.{find_at}
 use Rattle.indexmap.specs.IndexMap.{insert_entry}
 use Rattle.drf_role.specs.Text.{Text, same_text}
 use Rattle.drf_bundle.specs.Quantities.{amount_of, plus}
@@ -16,6 +18,8 @@ use Rattle.drf_rows.specs.Held.{cluster_total}
 use Rattle.drf_rows.specs.Cycle.{free_of}
 use Rattle.drf_rows.specs.Members.{has_agent, has_framework}
 use Rattle.drf_rows.specs.Consistent.{IsAgent}
+use Rattle.drf_rows.specs.ConsistentLaws.{same_text-swap}
+use Rattle.drf_rows.specs.Totals.{agent_at as found_agent}
 use Rattle.drf_rows.specs.RegistrationLaws.{agent_added, framework_added}
 use Rattle.drf_rows.specs.declared.limits.TheConstants.{LARGEST_AMOUNT}
 use Rattle.drf_rows.specs.declared.rows.AgentRow.{AgentRow}
@@ -53,6 +57,39 @@ total_at (e ∷ agents) zero v a value row =
     let read : agent_row e ≡ a = cc in
     (λ i. (sym same i).total) ∙ (λ i. (read i).total)
 total_at (e ∷ agents) (suc i) v a value row = total_at agents i v a value row
+
+-- the rows come in the order of the entries
+first_row : (name : Text) (agents : List (Text × Agent))
+    → position_or_len (same_text name) (keys_of agents) ≡ position_or_len (λ a. same_text a.name name) (map agent_row agents)
+first_row name [] = refl
+first_row name (e ∷ agents) = elim (cases_Bool (same_text name e.0)) [
+  | inl here ↦ rw (same_text-swap e.0 name ∙ here, here) refl
+  | inr past ↦ rw (same_text-swap e.0 name ∙ past, past) (ap (λ n. 1 + n) (first_row name agents))
+]
+
+position-first : {X : Type 0} (test : X → Bool) (xs : List X) (i : ℕ) → position test xs ≡ Some i → position_or_len test xs ≡ i
+position-first test xs i found = elim (cases_Bool (nat_lt (position_or_len test xs) (length xs))) [
+  | inl inside ↦
+      let first : ◌≡◌ {A = Option ℕ} (Some (position_or_len test xs)) (Some i) =
+      sym (ap (λ (b : Bool). cond b (Some (position_or_len test xs)) None) inside) ∙ found in
+      cc
+  | inr outside ↦
+      let none : ◌≡◌ {A = Option ℕ} None (Some i) =
+      sym (ap (λ (b : Bool). cond b (Some (position_or_len test xs)) None) outside) ∙ found in
+      cc
+]
+
+-- the row at the place of a name is the agent's
+pub row_at_place : (rows : Rows) (name : Text) (agents : List (Text × Agent)) (place : Option ℕ) → rows.agents ≡ map agent_row agents
+    → place ≡ position (same_text name) (keys_of agents)
+    → IfSome place (λ i. slice_get rows.agents i ≡ found_agent rows name)
+row_at_place rows name agents None same is = tt
+row_at_place rows name agents (Some i) same is =
+    let test : AgentRow → Bool = λ a. same_text a.name name in
+    let first = position-first (same_text name) (keys_of agents) i (sym is) in
+    let place : i ≡ position_or_len test rows.agents =
+    sym first ∙ first_row name agents ∙ ap (position_or_len test) (sym same) in
+    ap (slice_get rows.agents) place ∙ sym (find_at test rows.agents)
 
 pub agent_at : (agents : List (Text × Agent)) (i : ℕ) (v : Agent) (a : AgentRow)
     → slice_get (values_of agents) i ≡ Some v → slice_get (map agent_row agents) i ≡ Some a

@@ -1,11 +1,14 @@
 use Rattle.std.proofs.Common.{◌≡◌, None, subst, sym, arith}
+use Rattle.std.specs.Prelude.{OnOk}
 use Rattle.std.proofs.lemmas.Result.{on_ok_weaker}
 use Rattle.drf_rows.specs.Step.{refusal_of, effect}
 use Rattle.drf_rows.specs.declared.event.Event.{Event}
+use Rattle.drf_rows.specs.declared.rows.Rows.{Rows}
 use Rattle.drf_core.specs.Kept.{StandAt}
 use Rattle.drf_core.proofs.AcceptLemmas.{enough_of, effect-accept, effect-decline}
 use Rattle.drf_core.proofs.ApplyLemmas.{applied_report}
 use Rattle.drf_core.proofs.KeptLemmas.{few_agents_kept, few_offers_kept}
+use Rattle.drf_core.proofs.MovedLemmas.{stand_alone, stand_still}
 use Rattle.drf_core.proofs.Welcome.{known_framework, known_suppressed, known_reviving, welcome_accept, welcome_decline}
 use Rattle.drf_core.proofs.apply.apply.Goals as goal
 
@@ -83,3 +86,39 @@ returns-in_ok-report-in-Report-clause-ok g c =
     subst (λ (e : Event). StandAt (effect c.args.tables.now.rows e) c.args.tables.now.rows (g.S.Sorter.content c.args.sorter.now))
     (sym c.in-Report.is)
     (applied_report c.args.tables.now.rows (g.S.Sorter.content c.args.sorter.now) c.requires.kept.sorted)
+
+pub returns-in-Reserve-clause-ok : goal.returns-in-Reserve-clause-ok
+returns-in-Reserve-clause-ok g c =
+    let rows : Rows = c.args.tables.now.rows in
+    let content = g.S.Sorter.content c.args.sorter.now in
+    let after : Rows → Type 0 = λ r. OnOk c.reserve.result (StandAt r c.reserve.new.tables.rows content) in
+    subst (λ (e : Event). after (effect rows e)) (sym c.in-Reserve.is)
+    (stand_alone c.reserve.result rows c.reserve.new.tables.rows _ content c.requires.kept.sorted c.reserve.ensures.ok c.reserve.ensures.content)
+
+pub returns-in-Reserve-clause-err : goal.returns-in-Reserve-clause-err
+returns-in-Reserve-clause-err g c =
+    stand_still c.reserve.result c.args.tables.now.rows c.reserve.new.tables.rows (g.S.Sorter.content c.args.sorter.now) c.requires.kept.sorted c.reserve.ensures.err
+
+pub returns-in-Unreserve-clause-ok : goal.returns-in-Unreserve-clause-ok
+returns-in-Unreserve-clause-ok g c =
+    let rows : Rows = c.args.tables.now.rows in
+    let content = g.S.Sorter.content c.args.sorter.now in
+    let after : Rows → Type 0 = λ r. OnOk c.unreserve.result (StandAt r c.unreserve.new.tables.rows content) in
+    subst (λ (e : Event). after (effect rows e)) (sym c.in-Unreserve.is)
+    (stand_alone c.unreserve.result rows c.unreserve.new.tables.rows _ content c.requires.kept.sorted c.unreserve.ensures.ok c.unreserve.ensures.content)
+
+pub returns-in-Unreserve-clause-err : goal.returns-in-Unreserve-clause-err
+returns-in-Unreserve-clause-err g c =
+    stand_still c.unreserve.result c.args.tables.now.rows c.unreserve.new.tables.rows (g.S.Sorter.content c.args.sorter.now) c.requires.kept.sorted c.unreserve.ensures.err
+
+pub returns-in-SetLimit-clause-ok : goal.returns-in-SetLimit-clause-ok
+returns-in-SetLimit-clause-ok g c =
+    let rows : Rows = c.args.tables.now.rows in
+    let content = g.S.Sorter.content c.args.sorter.now in
+    let after : Rows → Type 0 = λ r. OnOk c.set_limit.result (StandAt r c.set_limit.new.tables.rows content) in
+    subst (λ (e : Event). after (effect rows e)) (sym c.in-SetLimit.is)
+    (stand_alone c.set_limit.result rows c.set_limit.new.tables.rows _ content c.requires.kept.sorted c.set_limit.ensures.ok c.set_limit.ensures.content)
+
+pub returns-in-SetLimit-clause-err : goal.returns-in-SetLimit-clause-err
+returns-in-SetLimit-clause-err g c =
+    stand_still c.set_limit.result c.args.tables.now.rows c.set_limit.new.tables.rows (g.S.Sorter.content c.args.sorter.now) c.requires.kept.sorted c.set_limit.ensures.err

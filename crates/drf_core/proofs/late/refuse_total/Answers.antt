@@ -1,0 +1,37 @@
+use Rattle.std.proofs.Common.{◌≡◌, Bool, List, ◌∷◌, [], not, sym, ap, ◌∙◌}
+use Rattle.drf_bundle.specs.Bundle.{covers, rest}
+use Rattle.drf_bundle.specs.declared.resource.Resource.{Resource}
+use Rattle.drf_rows.specs.Cycle.{free_of}
+use Rattle.drf_rows.specs.ReservationLaws.{found_known}
+use Rattle.drf_rows.specs.Step.{first_case, is_too_large}
+use Rattle.drf_rows.specs.TaskLaws.{covers_from}
+use Rattle.drf_rows.specs.Totals.{is_below_held}
+use Rattle.drf_rows.specs.declared.reply.Refusal.TheVariants.{NotCovered, TooLarge}
+use Rattle.drf_rows.specs.declared.rows.AgentRow.{AgentRow}
+use Rattle.drf_rows.specs.declared.rows.Rows.{Rows}
+use Rattle.drf_core.specs.Refusing.{cases_of_total}
+use Rattle.drf_core.proofs.LateLemmas.{below_held}
+use Rattle.drf_core.proofs.late.refuse_total.Goals as goal
+
+pub held_on-requires-clause-settled : goal.held_on-requires-clause-settled
+held_on-requires-clause-settled c = c.in_ok-settle.ensures.settled
+
+pub held_on-requires-clause-known : goal.held_on-requires-clause-known
+held_on-requires-clause-known c = rw c.settle.ensures.same c.requires.known
+
+pub returns-clause-value : goal.returns-clause-value
+returns-clause-value c =
+    let rows : Rows = c.args.tables.now.rows in
+    let agent = c.args.agent.now in
+    let total = c.args.total.now in
+    let held = c.in_ok-held.held in
+    let at = found_known rows agent c.requires.known in
+    let same = c.settle.ensures.same in
+    let is : held ≡ rest at.0.total (free_of rows at.0) =
+    c.in_ok-held.ensures at.0 (rw same at.1) ∙ ap (λ (r : Rows). rest at.0.total (free_of r at.0)) same in
+    let below : not c.covers.result ≡ is_below_held rows agent total =
+    ap not (covers_from c.covers.result total held c.covers.ensures.given.0 c.covers.ensures.given.1 c.covers.ensures.covers)
+    ∙ ap (λ (rs : List Resource). not (covers total rs)) is
+    ∙ below_held rows agent at.0 total c.requires.consistent at.1 c.covers.ensures.given.0 in
+    c.first_case.ensures
+    ∙ (λ i. first_case ((below i, NotCovered) ∷ (c.is_too_large.ensures i, TooLarge) ∷ []))

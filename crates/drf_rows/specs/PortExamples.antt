@@ -1,10 +1,10 @@
 -- Runs over numbers of ports, which are no scalars: limits leave them whole, and tasks and reservations share no number.
-use Rattle.std.specs.Prelude.{◌≡◌, ℕ, ◌<◌, ◌==◌, Bool, true, false, not, ◌&&◌, IsTrue, List, [], ◌∷◌, ◌++◌, codes, nat_lt}
+use Rattle.std.specs.Prelude.{◌≡◌, ℕ, eqb, ◌<◌, ◌==◌, Bool, true, false, not, ◌&&◌, IsTrue, List, [], ◌∷◌, ◌++◌, codes, nat_lt, ◌||◌}
 use Rattle.std.specs.Ordering.{nat_cmp}
 use Rattle.std.specs.FinSet as set
 use Rattle.std.specs.Cmp.{nat_cmp_total}
-use Rattle.std.proofs.Common.{refl, sym, ap, ◌∙◌, arith}
-use Rattle.std.proofs.lemmas.Bool.{lt-ltb, eq-eqb, ne_eqb}
+use Rattle.std.proofs.Common.{refl, sym, ap, ◌∙◌, arith, zero, suc}
+use Rattle.std.proofs.lemmas.Bool.{lt-ltb, eq-eqb, ne_eqb, eqb-true, false≢true}
 use Rattle.drf_role.specs.Text.{Text}
 use Rattle.drf_role.specs.Path.{Path}
 use Rattle.drf_role.specs.Role.{default_role}
@@ -618,3 +618,89 @@ pub no_port_is_shared : NoPortIsShared
 no_port_is_shared all first second within left shared some =
     ports_shared_run all first second (set.difference all first) (is_some all some) (is_some (set.difference all first) left) within refl
     (ne_eqb (set.len (set.intersection first second)) 0 (λ none. omega (arith, shared, none)))
+
+-- ---- some numbers
+
+abbrev pub four_ports : List ℕ
+four_ports = 31000 ∷ 31001 ∷ 31002 ∷ 31003 ∷ []
+
+abbrev pub numbered : List ℕ → Numbers
+numbered ns = set.from_list ns
+
+-- of 31000 to 31003 two tasks cannot both use 31001, and one that uses the first two leaves the last two
+abbrev pub SomePortIsShared : Type 0
+SomePortIsShared =
+    replies_to ceilings opening
+    (ports_shared (numbered four_ports) (numbered (31000 ∷ 31001 ∷ [])) (numbered (31001 ∷ 31002 ∷ [])))
+    ≡ ports_shared_replies (numbered four_ports) (numbered (31002 ∷ 31003 ∷ []))
+
+-- what has a member is not empty
+has_some : (a : Numbers) (n : ℕ) → set.contains a n ≡ true → 0 < set.len a
+has_some a n has = by (set.len a) refl
+  where
+    by : (m : ℕ) → set.len a ≡ m → 0 < set.len a
+    by zero none =
+        absurd (false≢true (sym (set.contains-empty nat_cmp n) ∙ ap (λ (s : Numbers). set.contains s n) (sym (set.empty_of_len a none)) ∙ has))
+    by (suc m) is = omega (arith, is)
+
+first_of_four : (a b c d : Bool) → (a || (b || false)) ≡ true → (a || (b || (c || (d || false)))) ≡ true
+first_of_four true b c d has = refl
+first_of_four false true c d has = refl
+first_of_four false false c d has = absurd (false≢true has)
+
+last_of_four : (a b c d : Bool) → (a ≡ true → (c || (d || false)) ≡ false) → (b ≡ true → (c || (d || false)) ≡ false)
+    → ((a || (b || (c || (d || false)))) && not (a || (b || false))) ≡ (c || (d || false))
+last_of_four true b c d one two = sym (one refl)
+last_of_four false true c d one two = sym (two refl)
+last_of_four false false true d one two = refl
+last_of_four false false false true one two = refl
+last_of_four false false false false one two = refl
+
+pub some_port_is_shared : SomePortIsShared
+some_port_is_shared =
+    no_port_is_shared (numbered four_ports) (numbered (31000 ∷ 31001 ∷ [])) (numbered (31001 ∷ 31002 ∷ [])) within left shared some
+    ∙ ap (λ (others : Numbers). ports_shared_replies (numbered four_ports) others) rest
+  where
+    in_all : (n : ℕ) → set.contains (numbered four_ports) n
+        ≡ (eqb 31000 n || (eqb 31001 n || (eqb 31002 n || (eqb 31003 n || false))))
+    in_all n = set.contains-from_list_nat four_ports n
+
+    in_first : (n : ℕ) → set.contains (numbered (31000 ∷ 31001 ∷ [])) n ≡ (eqb 31000 n || (eqb 31001 n || false))
+    in_first n = set.contains-from_list_nat (31000 ∷ 31001 ∷ []) n
+
+    in_second : (n : ℕ) → set.contains (numbered (31001 ∷ 31002 ∷ [])) n ≡ (eqb 31001 n || (eqb 31002 n || false))
+    in_second n = set.contains-from_list_nat (31001 ∷ 31002 ∷ []) n
+
+    in_last : (n : ℕ) → set.contains (numbered (31002 ∷ 31003 ∷ [])) n ≡ (eqb 31002 n || (eqb 31003 n || false))
+    in_last n = set.contains-from_list_nat (31002 ∷ 31003 ∷ []) n
+
+    within : set.is_subset (numbered (31000 ∷ 31001 ∷ [])) (numbered four_ports) ≡ true
+    within =
+        set.contains-is_subset nat_cmp_total (numbered (31000 ∷ 31001 ∷ [])) (numbered four_ports)
+        (λ n has. in_all n ∙ first_of_four (eqb 31000 n) (eqb 31001 n) (eqb 31002 n) (eqb 31003 n) (sym (in_first n) ∙ has))
+
+    some : 0 < set.len (numbered four_ports)
+    some = has_some (numbered four_ports) 31000 (in_all 31000)
+
+    left : 0 < set.len (set.difference (numbered four_ports) (numbered (31000 ∷ 31001 ∷ [])))
+    left =
+        has_some (set.difference (numbered four_ports) (numbered (31000 ∷ 31001 ∷ []))) 31002
+        (set.contains-difference nat_cmp_total (numbered four_ports) (numbered (31000 ∷ 31001 ∷ [])) 31002
+        ∙ (λ i. in_all 31002 i && not (in_first 31002 i)))
+
+    shared : 0 < set.len (set.intersection (numbered (31000 ∷ 31001 ∷ [])) (numbered (31001 ∷ 31002 ∷ [])))
+    shared =
+        has_some (set.intersection (numbered (31000 ∷ 31001 ∷ [])) (numbered (31001 ∷ 31002 ∷ []))) 31001
+        (set.contains-intersection nat_cmp_total (numbered (31000 ∷ 31001 ∷ [])) (numbered (31001 ∷ 31002 ∷ [])) 31001
+        ∙ (λ i. in_first 31001 i && in_second 31001 i))
+
+    rest : set.difference (numbered four_ports) (numbered (31000 ∷ 31001 ∷ [])) ≡ numbered (31002 ∷ 31003 ∷ [])
+    rest =
+        same_members (set.difference (numbered four_ports) (numbered (31000 ∷ 31001 ∷ []))) (numbered (31002 ∷ 31003 ∷ []))
+        (λ n.
+        set.contains-difference nat_cmp_total (numbered four_ports) (numbered (31000 ∷ 31001 ∷ [])) n
+        ∙ (λ i. in_all n i && not (in_first n i))
+        ∙ last_of_four (eqb 31000 n) (eqb 31001 n) (eqb 31002 n) (eqb 31003 n)
+        (λ is. ap (λ (m : ℕ). eqb 31002 m || (eqb 31003 m || false)) (sym (eqb-true 31000 n is)))
+        (λ is. ap (λ (m : ℕ). eqb 31002 m || (eqb 31003 m || false)) (sym (eqb-true 31001 n is)))
+        ∙ sym (in_last n))

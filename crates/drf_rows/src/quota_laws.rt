@@ -5,7 +5,7 @@ ghost use Rattle.std.specs.Prelude.{◌≡◌};
 ghost use Rattle.drf_rows.specs.LimitNumbers.{ceilings};
 ghost use Rattle.drf_rows.specs.Step.{opening, replies_to};
 ghost use Rattle.drf_rows.specs.QuotaExamples.{no_cpus, no_cpus_replies, limit_in_cycle, limit_in_cycle_replies, reserved_below, reserved_below_replies, two_limits, two_limits_replies, cut_and_declined, cut_and_declined_replies, beyond_limit, beyond_limit_replies, moved_twice, moved_twice_replies, other_totals, other_totals_replies, limits_refused, limits_refused_replies, one_limit, more_limits, more_limits_replies};
-ghost use Rattle.drf_rows.specs.PortExamples.{PortsAreNotLimited, SomePortsAreReserved, NoPortIsShared};
+ghost use Rattle.drf_rows.specs.PortExamples.{PortsAreNotLimited, SomePortsAreReserved, NoPortIsShared, SomePortIsShared};
 ghost use Rattle.drf_rows.specs.QuotaLaws.{GrantKeepsLimits, CycleKeepsLimits, SpentLimitLeavesNothing, ConsumptionIsPartOfTotal};
 ghost use Rattle.drf_rows.specs.ReservationLaws.{ReservedIsGivenBack, ReservingKeepsLimits, MovedIsConsumed, ChangedAgentKeepsAll};
 ghost use Rattle.drf_rows.specs.EntitlementLaws.{EntitledByUnits};
@@ -116,4 +116,5 @@ pub fn ports_example()
     ensures limited { PortsAreNotLimited }
     ensures reserved { SomePortsAreReserved }
     ensures shared { NoPortIsShared }
+    ensures four { SomePortIsShared }
 {}

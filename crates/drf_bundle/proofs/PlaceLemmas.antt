@@ -1,5 +1,5 @@
 -- What a search by label finds, and what an edit at that place does.
-use Rattle.std.proofs.Common.{◌≡◌, ℕ, zero, suc, ◌+◌, ◌<◌, true, false, List, [], ◌∷◌, length, get_or, set, Result, Ok, Err, IfOk, IfErr, is_ok, Equal, inl, inr, refl, sym, ap, ◌∙◌, subst, arith}
+use Rattle.std.proofs.Common.{◌≡◌, ℕ, zero, suc, ◌+◌, ◌-◌, ◌<◌, ◌≤◌, Bool, cond, true, false, List, [], ◌∷◌, length, get_or, set, Result, Ok, Err, IfOk, IfErr, is_ok, Equal, inl, inr, refl, sym, ap, ◌∙◌, subst, arith}
 use Rattle.std.specs.Prelude.{IsTrue}
 use Rattle.std.specs.List.{insert}
 use Rattle.std.specs.List.Sorted.{IsSearchInRange, IsBinarySearchResult, IsNonDecreasingBy}
@@ -9,9 +9,9 @@ use Rattle.std.proofs.lemmas.Bool.{and_parts, cases_lt}
 use Rattle.std.proofs.lemmas.List.Recursion.{and_at, found_at, found_nowhere, or_at, or_from_places}
 use Rattle.std.proofs.lemmas.List.Sorted.{searchable_from_sorted}
 use Rattle.drf_role.specs.Text.{same_text, text_below}
-use Rattle.drf_role.specs.TextLaws.{same_from_cmp, test_from_same, cmp_below, cmp_above, cmp_itself, above_from_cmp, below_other, above_other}
+use Rattle.drf_role.specs.TextLaws.{same_from_cmp, same_from_test, test_from_same, cmp_below, cmp_above, cmp_itself, above_from_cmp, below_other, above_other}
 use Rattle.drf_bundle.specs.Quantities.{amount_of, is_named, is_in_order, with_amount}
-use Rattle.drf_bundle.specs.QuantitiesLaws.{stands_first}
+use Rattle.drf_bundle.specs.QuantitiesLaws.{stands_first, amount-with}
 use Rattle.drf_bundle.specs.Places.{IsAt, IsGapFor}
 use Rattle.drf_bundle.specs.declared.quantities.Entry.{Entry}
 
@@ -118,3 +118,26 @@ pub added_here : (items es new : List Entry) (text label : List ℕ) (x a i : �
 added_here items es new text label x a i view same amount gap made =
     let written = with_in_gap es text x i gap in
     cc
+
+-- so much less of one label, and as much of each other
+pub reduced : (es new : List Entry) (label : List ℕ) (n : ℕ) → new ≡ with_amount es label (amount_of es label - n) → n ≤ amount_of es label
+    → (other : List ℕ) → amount_of new other + cond (same_text label other) n 0 ≡ amount_of es other
+reduced es new label n is fits other =
+    let its : amount_of new other ≡ cond (same_text label other) (amount_of es label - n) (amount_of es other) =
+    ap (λ (l : List Entry). amount_of l other) is ∙ amount-with es label (amount_of es label - n) other in
+    by (same_text label other) (same_from_test label other) its
+  where
+    by : (b : Bool) → (b ≡ true → label ≡ other)
+        → amount_of new other ≡ cond b (amount_of es label - n) (amount_of es other)
+        → amount_of new other + cond b n 0 ≡ amount_of es other
+    by true same its = omega (arith, its, fits, ap (amount_of es) (same refl))
+    by false same its = omega (arith, its)
+
+-- nothing less of a label that is not there
+pub reduced_none : (es : List Entry) (label : List ℕ) (n : ℕ) → amount_of es label ≡ 0 → n ≤ amount_of es label
+    → (other : List ℕ) → amount_of es other + cond (same_text label other) n 0 ≡ amount_of es other
+reduced_none es label n none fits other = by (same_text label other)
+  where
+    by : (b : Bool) → amount_of es other + cond b n 0 ≡ amount_of es other
+    by true = omega (arith, none, fits)
+    by false = omega arith

@@ -1,6 +1,7 @@
-ghost use Rattle.std.specs.Prelude.{◌≡◌, ℕ, List, [], length, ◌^◌, ◌<◌, IsTrue, ◌+◌, ◌↔◌, IfOk, IfErr, OnOk, OnErr, IsOk};
+ghost use Rattle.std.specs.Prelude.{◌≡◌, ℕ, List, [], length, ◌^◌, ◌<◌, IsTrue, ◌+◌, ◌≤◌, ◌↔◌, if◌then◌else◌, IfOk, IfErr, OnOk, OnErr, IsOk};
 ghost use Rattle.drf_bundle.specs.Quantities.{HasNoZeros, amount_of, is_named, is_in_order, with_amount, plus, minus, covers, without_zeros, names_of};
 ghost use Rattle.drf_bundle.specs.Places.{IsAt, IsGapFor};
+ghost use Rattle.drf_role.specs.Text.{same_text};
 
 use crate::names::Names;
 use drf_amount::Scalar;
@@ -173,6 +174,19 @@ impl Quantities {
             let part = other.get(entry.label.text());
             entry.amount = Scalar::new(entry.amount.thousandths() - part);
         }
+    }
+
+    /// Takes so much of a label away, which stays named. It needs no memory.
+    pub fn reduce(&mut self, label: &str, thousandths: u64)
+        requires { thousandths ≤ amount_of self.old label.now }
+        ensures { (other : List ℕ) → amount_of self.new other + (if same_text label.now other then thousandths else 0) ≡ amount_of self.old other }
+    {
+        let Ok(at) = self.place(label) else {
+            return;
+        };
+        let entry = &mut self.entries[at];
+        let left = entry.amount.thousandths() - thousandths;
+        entry.amount = Scalar::new(left);
     }
 
     pub(crate) fn alloc(&self) -> Global {

@@ -6,10 +6,9 @@ ghost use Rattle.drf_bundle.specs.Bundle.{IsBundle, IsResource};
 ghost use Rattle.drf_bundle.specs.Quantities.{amount_of};
 ghost use Rattle.drf_bundle.specs.Value.{Thousandths, units_in};
 ghost use Rattle.drf_rows.specs.Quota.{unreserved_in, reserved_in};
-ghost use Rattle.drf_gates.specs.Quota.{IsRaisedBy, amount_in_one, unreserved_one, reserved_one, used_by, used_where};
+ghost use Rattle.drf_gates.specs.Quota.{IsRaisedBy, amount_in_one, unreserved_one, reserved_one, used_where};
 
 use crate::quota::Quota;
-use crate::usage::reduce;
 use drf_bundle::{Bundle, Quantities, Resource, Value};
 use drf_role::Role;
 use std::alloc::{AllocError, Global};
@@ -67,27 +66,6 @@ impl Quota {
     {
         let amounts = unreserved(*self.limits.allocator(), bundle)?;
         self.consume(role, &amounts)
-    }
-
-    /// A client of the role holds the resource no longer: it is released, if it is unreserved.
-    fn release_one(&mut self, role: &Role, resource: &Resource)
-        requires right { IsResource resource.now }
-        requires fits { unreserved_one resource.now.label resource.now ≤ used_by self.old.used role.now resource.now.label }
-        ensures { IsRaisedBy self.new self.old (λ test label. if test role.now then unreserved_one label resource.now else 0) }
-    {
-        if resource.is_unreserved() {
-            reduce(&mut self.used, role, resource.label.text(), thousandths(resource));
-        }
-    }
-
-    /// A client of the role holds the bundle no longer: what is unreserved of it is released. It needs no memory.
-    pub fn release_unreserved(&mut self, role: &Role, bundle: &Bundle)
-        requires { (label : Text) → unreserved_in label bundle.now ≤ used_by self.old.used role.now label }
-        ensures { IsRaisedBy self.new self.old (λ test label. if test role.now then unreserved_in label bundle.now else 0) }
-    {
-        for resource in bundle.entries() {
-            self.release_one(role, resource);
-        }
     }
 
     /// What a resource has reserved is consumed by its role. An `Err` changes nothing.

@@ -101,32 +101,6 @@ pub(crate) fn lower(used: &mut IndexMap<Role, Quantities>, role: &Role, amounts:
     }
 }
 
-/// Takes so much of a label away, and forgets the labels that come to 0. Whether nothing is left.
-fn reduce_row(row: &mut Quantities, label: &str, thousandths: u64) -> bool
-    requires { thousandths ≤ amount_of row.old label.now }
-    ensures left { (other : Text) → amount_of row.new other + amount_of (record { label = label.now; amount = thousandths } ∷ []) other ≡ amount_of row.old other }
-    ensures empty { result ≡ true → row.new ≡ [] }
-{
-    row.reduce(label, thousandths);
-    // The proof learns that the labels are in order by this call alone.
-    let _ = row.entries();
-    row.remove_zeros();
-    row.entries().is_empty()
-}
-
-/// Takes so much of a scalar away from what a role consumes. A role that consumes nothing more leaves. It needs no memory.
-pub(crate) fn reduce(used: &mut IndexMap<Role, Quantities>, role: &Role, label: &str, thousandths: u64)
-    requires { thousandths ≤ used_by used.old.entries role.now label.now }
-    ensures { AreRaised used.new.entries used.old.entries role.now (record { label = label.now; amount = thousandths } ∷ []) }
-{
-    let Some(row) = used.get_mut(role) else {
-        return;
-    };
-    if reduce_row(row, label, thousandths) {
-        used.shift_remove(role);
-    }
-}
-
 /// What each role consumes, copied.
 pub(crate) fn copy_used(
     used: &IndexMap<Role, Quantities>,

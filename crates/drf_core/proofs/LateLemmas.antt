@@ -47,9 +47,9 @@ if_ok P Q (Err fault) more told = tt
 
 pub not_there : (agents : List AgentRow) (name : Text) → list_any (λ a. same_text a.name name) agents ≡ false
     → find (λ a. same_text a.name name) agents ≡ None
-not_there [] name no = refl
-not_there (a ∷ agents) name no =
-    let both = or_parts (same_text a.name name) (list_any (λ a. same_text a.name name) agents) no in
+not_there [] name absent = refl
+not_there (a ∷ agents) name absent =
+    let both = or_parts (same_text a.name name) (list_any (λ a. same_text a.name name) agents) absent in
     rw both.0 (not_there agents name both.1)
 
 module _ (rows : Rows) (name : Text) (resources : List Resource) where
@@ -57,7 +57,7 @@ module _ (rows : Rows) (name : Text) (resources : List Resource) where
   tested found = option_map_or (λ a. not (covers (free_of rows a) resources)) found false
 
   pub not_free-unknown : has_agent rows name ≡ false → false ≡ is_not_free rows name resources
-  not_free-unknown no = sym (ap tested (not_there rows.agents name no))
+  not_free-unknown absent = sym (ap tested (not_there rows.agents name absent))
 
   pub not_free-known : (free : List Resource) → has_agent rows name ≡ true
       → ((a : AgentRow) → agent_at rows name ≡ Some a → free ≡ free_of rows a)

@@ -1,5 +1,6 @@
 -- Tests of refusal, and what the code asks in their stead.
-use Rattle.std.proofs.Common.{◌≡◌, ℕ, ◌+◌, Bool, true, false, List, [], ◌∷◌, ◌++◌, Some, None, length, refl, ap, ◌∙◌, arith, nat_lt}
+use Rattle.std.proofs.Common.{◌≡◌, ℕ, ◌+◌, Bool, true, false, List, [], ◌∷◌, ◌++◌, Option, Some, None, length, refl, sym, ap, ◌∙◌, arith, nat_lt}
+use Rattle.std.proofs.Math.Dec.{eqb-suc-zero}
 use Rattle.std.specs.Prelude.{not, ◌&&◌, ◌||◌, nat_le, ◌==◌, IsTrue, ◌↔◌}
 use Rattle.std.specs.Cmp.{both_ways}
 use Rattle.std.proofs.lemmas.Bool.{leb-true, le-leb, ltb_from_iff}
@@ -9,8 +10,13 @@ use Rattle.drf_role.specs.PathLaws.{path_decides}
 use Rattle.drf_role.specs.Role.{default_role}
 use Rattle.drf_bundle.specs.Bundle.{is_default}
 use Rattle.drf_rows.specs.Offers.{is_empty}
-use Rattle.drf_rows.specs.Step.{first_case}
+use Rattle.drf_rows.specs.LimitNumbers.{LimitNumbers}
+use Rattle.drf_rows.specs.Step.{first_case, refusal_of}
+use Rattle.drf_rows.specs.declared.event.Event.{Event}
 use Rattle.drf_rows.specs.declared.reply.Refusal.{Refusal}
+use Rattle.drf_rows.specs.declared.rows.Rows.{Rows}
+use Rattle.drf_core.specs.Refusing.{early_cases_of, late_cases_of, early_refusal_of}
+use Rattle.drf_core.proofs.MovedLemmas.{early_and_late}
 
 pub empty_from : {A : Type 0} (xs : List A) (b : Bool) → (b ≡ true → xs ≡ []) × (xs ≡ [] → b ≡ true) → b ≡ is_empty xs
 empty_from [] b both = both.1 refl
@@ -38,10 +44,26 @@ first_rest [] rest none = refl
 first_rest ((true, r) ∷ front) rest none = cc
 first_rest ((false, r) ∷ front) rest none = first_rest front rest none
 
+-- an early case that holds is told
+pub told_early : (limits : LimitNumbers) (rows : Rows) (event : Event) (refusal : Refusal) → early_refusal_of limits rows event ≡ Some refusal
+    → refusal_of limits rows event ≡ Some refusal
+unfolding early_refusal_of refusal_of
+told_early limits rows event refusal holds =
+    ap first_case (early_and_late limits rows event)
+    ∙ first_front (early_cases_of limits rows event) (late_cases_of limits rows event) refusal holds
+
+-- or else the first late one
+pub told_late : (limits : LimitNumbers) (rows : Rows) (event : Event) → early_refusal_of limits rows event ≡ None
+    → first_case (late_cases_of limits rows event) ≡ refusal_of limits rows event
+unfolding early_refusal_of refusal_of
+told_late limits rows event none =
+    sym (ap first_case (early_and_late limits rows event)
+    ∙ first_rest (early_cases_of limits rows event) (late_cases_of limits rows event) none)
+
 -- a list without length is empty
 pub no_length : {A : Type 0} (xs : List A) → (length xs == 0) ≡ is_empty xs
 no_length [] = refl
-no_length (x ∷ xs) = refl
+no_length (x ∷ xs) = eqb-suc-zero (length xs)
 
 -- the test whether a role is `*`
 pub default_from : (role : Path) (b : Bool) → IsTrue b ↔ (role ≡ default_role) → b ≡ is_default role

@@ -2,7 +2,7 @@
 use Rattle.std.proofs.Common.{◌≡◌, ℕ, zero, suc, ◌+◌, Option, List, [], ◌∷◌, ◌++◌, Some, None, take, refl, sym, ap, subst, ◌∙◌, arith, add-one}
 use Rattle.std.specs.Prelude.{slice_get}
 use Rattle.drf_rows.specs.LimitNumbers.{LimitNumbers, IsWithinCeilings}
-use Rattle.drf_rows.specs.Step.{opening, live_rows, refusal_of, effect, answer, rows_after, rows_after_all, reply_to, replies_to}
+use Rattle.drf_rows.specs.Step.{opening, live_rows, first_case, refusal_of, effect, answer, rows_after, rows_after_all, reply_to, replies_to}
 use Rattle.drf_rows.specs.Consistent.{IsConsistent, IsNumberedByEvents}
 use Rattle.drf_rows.specs.StepLaws.{reply_to-refused, reply_to-accepted, rows_after-refused, rows_after-accepted}
 use Rattle.drf_rows.specs.RunLaws.{rows_after_all-append, replies_to-append}
@@ -18,8 +18,10 @@ use Rattle.drf_sorter.specs.Content.{Content, empty}
 use Rattle.drf_core.specs.Machine.{Engine, IsAfter, IsAfterAll}
 use Rattle.drf_core.specs.Content.{content_of}
 use Rattle.drf_core.specs.Kept.{AreFew, IsKept}
+use Rattle.drf_core.specs.Refusing.{cases_of_agent, cases_of_move, early_refusal_of}
 use Rattle.drf_core.proofs.ContentMembers.{content_of-filters}
 use Rattle.drf_core.proofs.KeptLemmas.{IsCountable, countable_after}
+use Rattle.drf_core.proofs.RefusalLemmas.{told_early}
 
 -- the elements up to one, and that one
 pub take_one_more : {X : Type 0} (xs : List X) (i : ℕ) (x : X) → slice_get xs i ≡ Some x → take (i + 1) xs ≡ take i xs ++ x ∷ []
@@ -54,6 +56,18 @@ IsKept-forgot content limits rows new kept same right = record {
   });
   numbered = rw same kept.numbered;
 }
+
+-- rows that stand for old ones: kept, and with the same live rows
+pub record IsReady (content : Content) (limits : LimitNumbers) (old rows : Rows) : Type 0 where
+  pub kept : IsKept content limits rows
+  pub live : live_rows rows ≡ live_rows old
+
+-- filters were forgotten, and then a test of refusal left the rows alone
+pub IsReady-tested : (content : Content) (limits : LimitNumbers) (old forgot tested : Rows) → IsKept content limits old
+    → live_rows forgot ≡ live_rows old → forgot ≡ record old { filters = forgot.filters } → IsConsistent forgot → tested ≡ forgot
+    → IsReady content limits old tested
+IsReady-tested content limits old forgot tested kept live others right same =
+    subst (IsReady content limits old) (sym same) (record { kept = IsKept-forgot content limits old forgot kept others right; live = live })
 
 -- what is answered to an event that is not refused is no refusal
 answer_told : (before after : Rows) (event : Event) (refusal : Refusal) → answer before after event ≡ Refused refusal → Some refusal ≡ None
@@ -104,6 +118,40 @@ module _ (limits : LimitNumbers) (rows old : Rows) (event : Event) (live : live_
     sym (reply_to-accepted limits rows event none) ∙ reply_to-same_live limits rows old live event,
     rows_after-same_live limits rows old live event,
   )
+
+-- no early case holds of rows with the same live rows
+pub early_from : (limits : LimitNumbers) (rows old : Rows) (event : Event) → live_rows rows ≡ live_rows old
+    → early_refusal_of limits rows event ≡ None → early_refusal_of limits old event ≡ None
+unfolding early_refusal_of refusal_of
+early_from limits rows old (AddAgent agent total) live none = welcome_from limits rows old (AddAgent agent total) live none
+early_from limits rows old (RemoveAgent agent) live none = welcome_from limits rows old (RemoveAgent agent) live none
+early_from limits rows old (ActivateAgent agent) live none = welcome_from limits rows old (ActivateAgent agent) live none
+early_from limits rows old (DeactivateAgent agent) live none = welcome_from limits rows old (DeactivateAgent agent) live none
+early_from limits rows old (SetAgent agent total) live none = subst (λ (r : Rows). first_case (cases_of_agent limits r agent) ≡ None) live none
+early_from limits rows old (AddFramework framework roles) live none = welcome_from limits rows old (AddFramework framework roles) live none
+early_from limits rows old (RemoveFramework framework) live none = welcome_from limits rows old (RemoveFramework framework) live none
+early_from limits rows old (Accept a) live none = welcome_from limits rows old (Accept a) live none
+early_from limits rows old (Decline d) live none = welcome_from limits rows old (Decline d) live none
+early_from limits rows old (Rescind offer) live none = welcome_from limits rows old (Rescind offer) live none
+early_from limits rows old (Finish framework task) live none = welcome_from limits rows old (Finish framework task) live none
+early_from limits rows old (Suppress framework role) live none = welcome_from limits rows old (Suppress framework role) live none
+early_from limits rows old (Revive framework role) live none = welcome_from limits rows old (Revive framework role) live none
+early_from limits rows old (Reserve agent role resources) live none = subst (λ (r : Rows). first_case (cases_of_move limits r agent role resources) ≡ None) live none
+early_from limits rows old (Unreserve agent role resources) live none = subst (λ (r : Rows). first_case (cases_of_move limits r agent role resources) ≡ None) live none
+early_from limits rows old (SetWeight role weight) live none = welcome_from limits rows old (SetWeight role weight) live none
+early_from limits rows old (SetLimit role limit) live none = welcome_from limits rows old (SetLimit role limit) live none
+early_from limits rows old (Cycle at) live none = welcome_from limits rows old (Cycle at) live none
+early_from limits rows old Report live none = welcome_from limits rows old Report live none
+
+-- nor of an event that is not refused
+pub early_none : (limits : LimitNumbers) (rows : Rows) (event : Event) → refusal_of limits rows event ≡ None → early_refusal_of limits rows event ≡ None
+early_none limits rows event none = by (early_refusal_of limits rows event) refl
+  where
+    by : (found : Option Refusal) → early_refusal_of limits rows event ≡ found → early_refusal_of limits rows event ≡ None
+    by None case = case
+    by (Some refusal) case =
+        let told : Some refusal ≡ None = sym (told_early limits rows event refusal case) ∙ none in
+        case ∙ told
 
 -- an event that was applied and counted
 module _ (limits : LimitNumbers) (rows tables counted : Rows) (event : Event) (before : Content) (kept : IsKept before limits rows)

@@ -1,4 +1,5 @@
-use Rattle.std.proofs.Common.{◌≡◌, List, Some, sym, ap, ◌∙◌}
+use Rattle.std.proofs.Common.{◌≡◌, ℕ, List, Option, Some, subst, ◌∙◌}
+use Rattle.std.specs.Prelude.{slice_get, IfSome}
 use Rattle.drf_bundle.specs.Bundle.{rest}
 use Rattle.drf_bundle.specs.declared.resource.Resource.{Resource}
 use Rattle.drf_rows.specs.Cycle.{free_of}
@@ -11,8 +12,10 @@ use Rattle.drf_core.proofs.late.held_on.Goals as goal
 pub returns : goal.returns
 returns c =
     let rows : Rows = c.args.tables.now.rows in
+    let row : slice_get rows.agents c.unwrap-place.result ≡ agent_at rows c.args.agent.now =
+    subst (λ (found : Option ℕ). IfSome found (λ place. slice_get rows.agents place ≡ agent_at rows c.args.agent.now)) c.unwrap-place.ensures c.place_of.ensures.row in
     if_ok (λ (left : List Resource). left ≡ rest c.agent_total.result.now c.free.result.now)
     (λ (left : List Resource). (a : AgentRow) → agent_at rows c.args.agent.now ≡ Some a → left ≡ rest a.total (free_of rows a))
     c.rest.result
-    (λ left is a found. is ∙ (λ i. rest (c.agent_total.ensures a (c.place_of.ensures.row ∙ found) i) (c.free.ensures a (c.place_of.ensures.row ∙ found) i)))
+    (λ left is a found. is ∙ (λ i. rest (c.agent_total.ensures a (row ∙ found) i) (c.free.ensures a (row ∙ found) i)))
     c.rest.ensures

@@ -1,0 +1,13 @@
+mod OrderOne
+mod WalkOrder
+mod WalkMembers
+mod WalkLemmas
+pub mod MarkLemmas
+pub mod FamilyLemmas
+pub mod KeyLemmas
+pub mod OrderOfWalk
+pub mod ContentLemmas
+pub mod PathLemmas
+pub mod WayLemmas
+pub mod FitLemmas
+pub mod SumLemmas

@@ -1,0 +1,92 @@
+-- The nodes on the way to a leaf: the leaf, and those on the way to the node above it.
+use Rattle.std.specs.Prelude.{◌≡◌, ◌≤◌, ◌<◌, ◌+◌, ◌==◌, ℕ, Bool, true, false, ◌||◌, List, [], ◌∷◌, ◌++◌, Option, None, ◌⊎◌, drop, length, slice_index_or}
+use Rattle.std.specs.List.{AllByRecursion, list_any}
+use Rattle.std.specs.Option.{is_some, option_map_or}
+use Rattle.std.proofs.Common.{refl, sym, ap, subst, ◌∙◌, inl, inr, arith, length-append}
+use Rattle.std.proofs.lemmas.Bool.{true≢false, false≢true, cases_Bool, or_cases}
+use Rattle.std.proofs.lemmas.Bool.Decides.{nat_tests}
+use Rattle.std.proofs.lemmas.List.{append-nil}
+use Rattle.drf_role.specs.Text.{Text}
+use Rattle.drf_role.specs.Path.{Path, begins_with}
+use Rattle.drf_tree.specs.declared.family.Child.{Child}
+use Rattle.drf_tree.specs.declared.family.Family.{Family}
+use Rattle.drf_tree.specs.declared.node.Place.{Place}
+use Rattle.drf_tree.specs.declared.node.Sum.{Sum}
+use Rattle.drf_tree.specs.Changes.{IsOneLonger}
+use Rattle.drf_tree.specs.Family.{child_name, has_child}
+use Rattle.drf_tree.specs.Nodes.{children_at, is_live, is_node, parent_at, path_at}
+use Rattle.drf_tree.specs.Tree.{IsChildOf, IsShape}
+use Rattle.drf_tree.proofs.PathLemmas.{begins_by, begins_front, begins_itself, begins_to, begins_trans}
+
+equal : (m i : ℕ) → (m == i) ≡ true → m ≡ i
+equal m i same = grind (arith, nat_tests)
+
+-- a child of that number, with what holds of all children
+pub record IsThere (P : Child → Type 0) (node : ℕ) : Type 0 where
+  pub child : Child
+  pub number : child.node ≡ node
+  pub holds : P child
+
+pub child_there : (P : Child → Type 0) (node : ℕ) (cs : List Child) → AllByRecursion P cs → has_child node cs ≡ true
+    → IsThere P node
+child_there P node [] all some = absurd (false≢true some)
+child_there P node (c ∷ cs) all some = elim (or_cases (c.node == node) (has_child node cs) some) [
+  | inl here ↦ record { child = c; number = equal c.node node here; holds = all.0 }
+  | inr past ↦ child_there P node cs all.1 past
+]
+
+module _ (places : List (Option Place)) (families : List Family) (stale : List Bool) (sums : List Sum)
+    (shape : IsShape places families stale sums) where
+  pub above_of : (i : ℕ) → is_live places i ≡ true
+      → IsOneLonger (path_at places (parent_at places i)) (path_at places i)
+  above_of i live =
+      let parent : ℕ = parent_at places i in
+      let there =
+      child_there (IsChildOf places parent) i (children_at families parent) (shape.children parent) (shape.kept i live).1 in
+      record {
+        part = child_name there.child;
+        joined = ap (path_at places) (sym there.number) ∙ there.holds.path;
+      }
+
+  -- a node stands below its parent
+  pub shorter_above : (i : ℕ) → is_live places i ≡ true
+      → length (path_at places i) ≡ length (path_at places (parent_at places i)) + 1
+  shorter_above i live =
+      let longer = above_of i live in
+      omega (arith, ap length longer.joined, length-append (path_at places (parent_at places i)) (longer.part ∷ []))
+
+  pub top_is : path_at places 0 ≡ []
+  top_is = ap (λ (o : Option Place). option_map_or (λ p. p.path) o []) shape.root
+
+  -- a number that is a node but not the root is live
+  pub live_from : (i : ℕ) → is_node places i ≡ true → 0 < length (path_at places i) → is_live places i ≡ true
+  live_from i node some = elim (or_cases (i == 0) (is_live places i) node) [
+    | inl root ↦
+        let at : path_at places i ≡ [] = ap (path_at places) (equal i 0 root) ∙ top_is in
+        absurd (omega (arith, some, ap length at))
+    | inr live ↦ live
+  ]
+
+  -- who is on the way to the node above is on the way
+  pub way_up : (leaf i : ℕ) → is_live places leaf ≡ true
+      → begins_with (path_at places (parent_at places leaf)) (path_at places i) ≡ true
+      → begins_with (path_at places leaf) (path_at places i) ≡ true
+  way_up leaf i live begins =
+      let longer = above_of leaf live in
+      begins_trans (path_at places leaf) (path_at places (parent_at places leaf)) (path_at places i)
+      (begins_by (path_at places leaf) (path_at places (parent_at places leaf)) (longer.part ∷ []) longer.joined) begins
+
+  -- who is on the way is the leaf, or on the way to the node above
+  pub way_down : (leaf i : ℕ) → is_live places leaf ≡ true → is_live places i ≡ true
+      → begins_with (path_at places leaf) (path_at places i) ≡ true
+      → (i ≡ leaf) ⊎ (begins_with (path_at places (parent_at places leaf)) (path_at places i) ≡ true)
+  way_down leaf i live_leaf live begins =
+      by (drop (length (path_at places i)) (path_at places leaf)) (begins_to (path_at places leaf) (path_at places i) begins)
+    where
+      by : (rest : Path) → path_at places leaf ≡ path_at places i ++ rest
+          → (i ≡ leaf) ⊎ (begins_with (path_at places (parent_at places leaf)) (path_at places i) ≡ true)
+      by [] whole = inl (shape.distinct i leaf live live_leaf (sym (whole ∙ append-nil (path_at places i))))
+      by (part ∷ rest) whole =
+          let longer = above_of leaf live_leaf in
+          inr (begins_front (path_at places i) rest (path_at places (parent_at places leaf)) part longer.part
+          (sym whole ∙ longer.joined))

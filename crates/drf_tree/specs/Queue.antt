@@ -1,0 +1,52 @@
+-- The clients that a walk still comes to.
+use Rattle.std.specs.Prelude.{◌≡◌, ◌≤◌, ◌<◌, ℕ, zero, suc, Bool, true, List, [], ◌∷◌, ◌++◌, Option, None, Some, drop, filter, flat_map, length, map, slice_get}
+use Rattle.std.specs.List.{AllByRecursion}
+use Rattle.drf_role.specs.Path.{Path}
+use Rattle.drf_sorter.specs.Content.{Content, active_paths}
+use Rattle.drf_tree.specs.declared.node.Place.{Place}
+use Rattle.drf_tree.specs.declared.node.Sum.{Sum}
+use Rattle.drf_tree.specs.declared.family.Family.{Family}
+use Rattle.drf_tree.specs.declared.walk.Frame.{Frame}
+use Rattle.drf_tree.specs.declared.tree.Tree.{Tree}
+use Rattle.drf_tree.specs.Nodes.{path_at, family_at, client_at, is_node}
+use Rattle.drf_tree.specs.Walk.{walk, own}
+
+-- what is left of a family, and then what is left above it; the root's family is the first frame
+abbrev pub pending : List Path → (ℕ → Path) → (ℕ → List ℕ) → ℕ → List Frame → List Path
+pending clients path family depth [] = []
+pending clients path family zero (frame ∷ frames) = []
+pending clients path family (suc n) (frame ∷ frames) =
+    pending clients path family n frames
+    ++ flat_map (walk clients path family n) (drop frame.next (family frame.node))
+
+-- the parts of a client's path at most
+abbrev pub most_parts : ℕ
+most_parts = 10
+
+-- the clients that these frames still come to
+unfoldable pub queue_in : Content → List (Option Place) → List Family → List Frame → List Path
+queue_in content places families frames =
+    pending (active_paths content) (path_at places) (family_at families) most_parts frames
+
+-- those of a tree
+abbrev pub frames_queue : Content → Tree → List Frame → List Path
+frames_queue content tree frames = queue_in content tree.places.items tree.families.items frames
+
+-- frame by frame one part deeper, each at a node
+pub record AreFrames (places : List (Option Place)) (frames : List Frame) : Type 0 where
+  pub few : length frames ≤ most_parts
+  pub nodes : AllByRecursion (λ f. is_node places f.node ≡ true) frames
+  pub deep : (k : ℕ) (frame : Frame) → slice_get frames k ≡ Some frame → length (path_at places frame.node) ≡ k
+
+-- a frame stands at a client that is to be served
+pub record IsAtClient (content : Content) (places : List (Option Place)) (families : List Family) (frame : Frame) : Type 0 where
+  pub node : ℕ
+  pub next : slice_get (family_at families frame.node) frame.next ≡ Some node
+  pub client : client_at places node ≡ Some (path_at places node)
+  pub active : own (active_paths content) (path_at places node) ≡ path_at places node ∷ []
+
+-- the last frame does, if there is any
+abbrev pub IsSettled : Content → List (Option Place) → List Family → List Frame → Type 0
+IsSettled content places families [] = Unit {0}
+IsSettled content places families (frame ∷ []) = IsAtClient content places families frame
+IsSettled content places families (frame ∷ other ∷ frames) = IsSettled content places families (other ∷ frames)

@@ -92,7 +92,7 @@ parted (x ∷ xs) key sorted zero (suc j) d order below before =
     let parts = and_parts (list_all (is_not_behind x) xs) (are_sorted xs) sorted in
     let y : Child = slice_index_or xs j d in
     elim (cases_Bool (is_before x.key key)) [
-      | inl yes ↦ yes
+      | inl ahead ↦ ahead
       | inr other ↦
           let apart : not (is_before y.key x.key) ≡ true = list_all-at (is_not_behind x) xs j d (omega (arith, below)) parts.0 in
           let far = keys_rank.chain y.key x.key key (not-true (is_before y.key x.key) apart) other in

@@ -11,3 +11,8 @@ pub mod PathLemmas
 pub mod WayLemmas
 pub mod FitLemmas
 pub mod SumLemmas
+pub mod ClientLemmas
+pub mod WalkBelow
+pub mod FrameLemmas
+pub mod NodeLemmas
+pub mod StepLemmas

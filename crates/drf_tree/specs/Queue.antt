@@ -1,15 +1,22 @@
 -- The clients that a walk still comes to.
-use Rattle.std.specs.Prelude.{◌≡◌, ◌≤◌, ◌<◌, ℕ, zero, suc, Bool, true, List, [], ◌∷◌, ◌++◌, Option, None, Some, drop, filter, flat_map, length, map, slice_get}
+use Rattle.std.specs.Prelude.{◌≡◌, ◌≤◌, ◌<◌, ◌+◌, ◌-◌, ◌^◌, ℕ, min, zero, suc, Bool, true, false, List, [], ◌∷◌, ◌++◌, Option, None, Some, drop, filter, flat_map, length, map, slice_get}
 use Rattle.std.specs.List.{AllByRecursion}
+use Rattle.std.specs.Option.{is_some, option_map_or}
 use Rattle.drf_role.specs.Path.{Path}
 use Rattle.drf_sorter.specs.Content.{Content, active_paths}
 use Rattle.drf_tree.specs.declared.node.Place.{Place}
 use Rattle.drf_tree.specs.declared.node.Sum.{Sum}
 use Rattle.drf_tree.specs.declared.family.Family.{Family}
 use Rattle.drf_tree.specs.declared.walk.Frame.{Frame}
+use Rattle.drf_tree.specs.declared.walk.Next.{Next}
+use Rattle.drf_tree.specs.declared.walk.Next.TheVariants.{Client, End, Nobody, Node}
 use Rattle.drf_tree.specs.declared.tree.Tree.{Tree}
 use Rattle.drf_tree.specs.Nodes.{path_at, family_at, client_at, is_node}
 use Rattle.drf_tree.specs.Walk.{walk, own}
+
+-- one place on; no family is so long that the number ends
+abbrev pub onward : Frame → Frame
+onward frame = record frame { next = min (frame.next + 1) (2 ^ 64 - 1) }
 
 -- what is left of a family, and then what is left above it; the root's family is the first frame
 abbrev pub pending : List Path → (ℕ → Path) → (ℕ → List ℕ) → ℕ → List Frame → List Path
@@ -50,3 +57,19 @@ abbrev pub IsSettled : Content → List (Option Place) → List Family → List 
 IsSettled content places families [] = Unit {0}
 IsSettled content places families (frame ∷ []) = IsAtClient content places families frame
 IsSettled content places families (frame ∷ other ∷ frames) = IsSettled content places families (other ∷ frames)
+
+-- how many clients at and below a number are to be served
+abbrev pub active_at : List Sum → ℕ → ℕ
+active_at sums i = option_map_or (λ s. s.active) (slice_get sums i) 0
+
+-- what comes at the place of a frame
+abbrev pub IsNext : Tree → Frame → Next → Type 0
+IsNext tree frame End = slice_get (family_at tree.families.items frame.node) frame.next ≡ None
+IsNext tree frame Nobody =
+    (i : ℕ) × (slice_get (family_at tree.families.items frame.node) frame.next ≡ Some i) × (active_at tree.sums.items i ≡ 0)
+IsNext tree frame Client =
+    (i : ℕ) × (slice_get (family_at tree.families.items frame.node) frame.next ≡ Some i) × (0 < active_at tree.sums.items i)
+    × (is_some (client_at tree.places.items i) ≡ true)
+IsNext tree frame (Node i) =
+    (slice_get (family_at tree.families.items frame.node) frame.next ≡ Some i) × (0 < active_at tree.sums.items i)
+    × (is_some (client_at tree.places.items i) ≡ false)

@@ -1,10 +1,11 @@
 //! The active clients of the tree one by one, depth first.
-ghost use Rattle.std.specs.Prelude.{◌≡◌, ◌<◌, ◌≤◌, ◌+◌, [], ℕ, Some, IfOk, drop, length, option_copied, slice_get};
+ghost use Rattle.std.specs.Prelude.{◌≡◌, ◌<◌, ◌≤◌, ◌+◌, ◌++◌, ◌∷◌, [], ℕ, Some, IfOk, drop, length, option_copied, slice_get, true};
+ghost use Rattle.std.specs.Option.{is_some};
 ghost use Rattle.std.specs.Vec.{vec_capacity};
 ghost use Rattle.drf_sorter.specs.Content.{Content, active_paths};
 ghost use Rattle.drf_tree.specs.Changes.{IsShapeOf};
-ghost use Rattle.drf_tree.specs.Nodes.{family_at, is_node, path_at};
-ghost use Rattle.drf_tree.specs.Queue.{AreFrames, IsSettled, frames_queue, most_parts};
+ghost use Rattle.drf_tree.specs.Nodes.{client_at, family_at, is_node, path_at};
+ghost use Rattle.drf_tree.specs.Queue.{AreFrames, IsNext, IsSettled, frames_queue, most_parts, onward};
 ghost use Rattle.drf_tree.specs.Tree.{IsTreeOf};
 ghost use Rattle.drf_tree.specs.Walk.{walk};
 
@@ -20,6 +21,18 @@ const MOST_FRAMES: usize = 11;
 pub(crate) struct Frame {
     pub node: usize,
     pub next: usize,
+}
+
+impl Frame {
+    /// The place after that. No family is so long that the number ends.
+    fn onward(self) -> Frame
+        ensures { result ≡ onward self }
+    {
+        Frame {
+            node: self.node,
+            next: self.next.saturating_add(1),
+        }
+    }
 }
 
 /// How far a tree was gone along. The last frame stands at the client that is next, if there is any.
@@ -66,7 +79,10 @@ impl Walk {
         ensures queue { (content : Content) → IsTreeOf content tree.now → frames_queue content tree.now self.new.frames.items ≡ walk (active_paths content) (path_at tree.now.places.items) (family_at tree.now.families.items) most_parts 0 }
     {
         self.frames.clear();
-        self.enter(ROOT);
+        self.push(Frame {
+            node: ROOT,
+            next: 0,
+        });
         self.settle(tree);
     }
 
@@ -89,7 +105,9 @@ impl Walk {
         ensures settled { (content : Content) → IsTreeOf content tree.now → IsSettled content tree.now.places.items tree.now.families.items self.new.frames.items }
         ensures queue { (content : Content) → IsTreeOf content tree.now → IsSettled content tree.now.places.items tree.now.families.items self.old.frames.items → frames_queue content tree.now self.new.frames.items ≡ drop 1 (frames_queue content tree.now self.old.frames.items) }
     {
-        self.go_on();
+        if let Some(frame) = self.frames.pop() {
+            self.push(frame.onward());
+        }
         self.settle(tree);
     }
 
@@ -101,14 +119,17 @@ impl Walk {
         ensures settled { (content : Content) → IsTreeOf content tree.now → IsSettled content tree.now.places.items tree.now.families.items self.new.frames.items }
         ensures queue { (content : Content) → IsTreeOf content tree.now → frames_queue content tree.now self.new.frames.items ≡ frames_queue content tree.now self.old.frames.items }
     {
-        while let Some(frame) = self.frames.last() {
+        while let Some(frame) = self.frames.pop() {
             match next_at(tree, frame) {
-                Next::Client => return,
-                Next::Nobody => self.go_on(),
-                Next::End => self.leave(),
+                Next::End => {}
+                Next::Nobody => self.push(frame.onward()),
+                Next::Client => {
+                    self.push(frame);
+                    return;
+                }
                 Next::Node(node) => {
-                    self.go_on();
-                    self.enter(node);
+                    self.push(frame.onward());
+                    self.push(Frame { node, next: 0 });
                 }
             }
         }
@@ -125,34 +146,37 @@ impl Walk {
         Ok(walk)
     }
 
-    fn enter(&mut self, node: usize) {
-        self.frames.push_reserved(Frame { node, next: 0 });
-    }
-
-    fn leave(&mut self) {
-        let _ = self.frames.pop();
-    }
-
-    fn go_on(&mut self) {
-        if let Some(frame) = self.frames.last_mut() {
-            frame.next += 1;
-        }
+    fn push(&mut self, frame: Frame)
+        requires { length self.old.frames.items ≤ 10 }
+        ensures { self.new.frames.items ≡ self.old.frames.items ++ frame ∷ [] }
+    {
+        self.frames.push_reserved(frame);
     }
 }
 
-/// What stands at the place that a frame is at.
-fn next_at(tree: &Tree, frame: &Frame) -> Next {
+/// What comes at the place of a frame.
+fn next_at(tree: &Tree, frame: Frame) -> Next
+    requires shape { IsShapeOf tree.now }
+    requires node { is_node tree.now.places.items frame.node ≡ true }
+    ensures { IsNext tree.now frame result }
+{
     let Some(node) = tree.families[frame.node].child(frame.next) else {
         return Next::End;
     };
-    let Some(place) = tree.place(node) else {
-        return Next::Nobody;
-    };
     if tree.sums[node].active == 0 {
         Next::Nobody
-    } else if place.client.is_some() {
+    } else if is_client(tree, node) {
         Next::Client
     } else {
         Next::Node(node)
+    }
+}
+
+fn is_client(tree: &Tree, node: usize) -> bool
+    ensures { result ≡ is_some (client_at tree.now.places.items node) }
+{
+    match tree.place(node) {
+        Some(place) => place.client.is_some(),
+        None => false,
     }
 }

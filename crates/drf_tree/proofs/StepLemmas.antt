@@ -14,9 +14,10 @@ use Rattle.drf_tree.specs.declared.node.Place.{Place}
 use Rattle.drf_tree.specs.declared.node.Sum.{Sum}
 use Rattle.drf_tree.specs.declared.tree.Tree.{Tree}
 use Rattle.drf_tree.specs.declared.walk.Frame.{Frame}
+use Rattle.drf_tree.specs.declared.walk.Next.TheVariants.{Client, End, Nobody, Node}
 use Rattle.drf_tree.specs.Changes.{IsShapeOf}
 use Rattle.drf_tree.specs.Nodes.{children_at, client_at, family_at, is_live, is_node, last_part, path_at}
-use Rattle.drf_tree.specs.Queue.{AreFrames, IsAtClient, IsSettled, active_at, most_parts, onward, pending, queue_in}
+use Rattle.drf_tree.specs.Queue.{AreFrames, IsAtClient, IsNext, IsSettled, active_at, frames_queue, most_parts, onward, pending, queue_in}
 use Rattle.drf_tree.specs.Tree.{IsTreeOf}
 use Rattle.drf_tree.specs.Walk.{own, walk}
 use Rattle.drf_tree.proofs.ClientLemmas.{active_in, any_below, kept_active, node_short}
@@ -252,3 +253,114 @@ module _ (tree : Tree) (shape : IsShapeOf tree) where
         ∙ sym (pending_at front f (suc k) deep
         ∙ ap (λ (is : List ℕ). flat_map (Walked (suc k)) is ++ Pending front) (rest_of f i some)
         ∙ ap (λ (ps : List Path). ((ps ++ below) ++ after) ++ Pending front) own_is)
+
+    -- ---- a client that is next
+
+    some_client : (o : Option Path) → is_some o ≡ true → (p : Path) × (o ≡ Some p)
+    some_client (Some p) some = (p, refl)
+    some_client None some = absurd (false≢true some)
+
+    pub at_client : (f : Frame) (i : ℕ) → slice_get (kin f.node) f.next ≡ Some i → 0 < active_at tree.sums.items i
+        → is_some (client_at places i) ≡ true → IsAtClient content places families f
+    at_client f i some active named =
+        let child = child_at f.node f.next i some in
+        let found = some_client (client_at places i) named in
+        let client = shape.others i found.0 found.1 in
+        record {
+          node = i;
+          next = some;
+          client = found.1 ∙ ap Some (sym client.0);
+          active = own_client clients (path_at places i) (subst IsClientPath (sym client.0) client.1) right_paths
+              (any_served i child.live ∙ lt-ltb 0 (active_at tree.sums.items i) active);
+        }
+
+    pub queue_client : (front : List Frame) (f : Frame) → length front < most_parts
+        → (at : IsAtClient content places families f)
+        → Pending (front ++ f ∷ []) ≡ path_at places at.node ∷ Pending (front ++ onward f ∷ [])
+    queue_client front f few at =
+        let m : ℕ = most_parts - 1 - length front in
+        let deep : most_parts ≡ length front + suc m = omega (arith, few) in
+        let rest : List ℕ = drop (onward f).next (kin f.node) in
+        let client : IsClientPath (path_at places at.node) = (shape.others at.node (path_at places at.node) at.client).1 in
+        let alone : Walked m at.node ≡ path_at places at.node ∷ [] =
+        walk_client clients (path_at places) kin m at.node at.active
+        (leaf places families tree.marks.stale tree.sums.items shape at.node client) in
+        pending_at front f m deep
+        ∙ ap (λ (is : List ℕ). flat_map (Walked m) is ++ Pending front) (rest_of f at.node at.next)
+        ∙ ap (λ (ps : List Path). (ps ++ flat_map (Walked m) rest) ++ Pending front) alone
+        ∙ ap (λ (ps : List Path). path_at places at.node ∷ ps) (sym (pending_at front (onward f) m deep))
+
+-- ---- the last frame
+
+module _ (content : Content) (places : List (Option Place)) (families : List Family) where
+  pub settled_last : (front : List Frame) (f : Frame) → IsSettled content places families (front ++ f ∷ [])
+      → IsAtClient content places families f
+  settled_last [] f settled = settled
+  settled_last (g ∷ []) f settled = settled
+  settled_last (g ∷ h ∷ front) f settled = settled_last (h ∷ front) f settled
+
+  pub settled_by : (front : List Frame) (f : Frame) → IsAtClient content places families f
+      → IsSettled content places families (front ++ f ∷ [])
+  settled_by [] f at = at
+  settled_by (g ∷ []) f at = at
+  settled_by (g ∷ h ∷ front) f at = settled_by (h ∷ front) f at
+
+  pub queue_is : (frames : List Frame)
+      → queue_in content places families frames ≡ pending (active_paths content) (path_at places) (family_at families) most_parts frames
+  unfolding queue_in
+  queue_is frames = refl
+
+-- ---- what one step does
+
+pub record IsStep (tree : Tree) (old new : List Frame) : Type 0 where
+  pub frames : AreFrames tree.places.items new
+  pub queue : (content : Content) → IsTreeOf content tree → frames_queue content tree new ≡ frames_queue content tree old
+  pub smaller : left (family_at tree.families.items) most_parts new < left (family_at tree.families.items) most_parts old
+
+module _ (tree : Tree) (shape : IsShapeOf tree) (front : List Frame) (f : Frame)
+    (are : AreFrames tree.places.items (front ++ f ∷ [])) where
+  same_queue : (content : Content) (old new : List Frame)
+      → pending (active_paths content) (path_at tree.places.items) (family_at tree.families.items) most_parts new
+      ≡ pending (active_paths content) (path_at tree.places.items) (family_at tree.families.items) most_parts old
+      → frames_queue content tree new ≡ frames_queue content tree old
+  same_queue content old new same =
+      queue_is content tree.places.items tree.families.items new ∙ same
+      ∙ sym (queue_is content tree.places.items tree.families.items old)
+
+  few : length front < most_parts
+  few = (frames_last tree.places.items front f are).few
+
+  pub step_end : IsNext tree f End → IsStep tree (front ++ f ∷ []) front
+  step_end none = record {
+    frames = frames_front tree.places.items front f are;
+    queue = λ content of. same_queue content (front ++ f ∷ []) front (queue_end tree shape content of front f few none);
+    smaller = left_end tree shape front f few;
+  }
+
+  pub step_nobody : IsNext tree f Nobody → IsStep tree (front ++ f ∷ []) (front ++ onward f ∷ [])
+  step_nobody next = record {
+    frames = frames_onward tree.places.items front f are;
+    queue = λ content of.
+        same_queue content (front ++ f ∷ []) (front ++ onward f ∷ []) (queue_nobody tree shape content of front f next.0 few next.1 next.2);
+    smaller = left_onward tree shape front f next.0 few next.1;
+  }
+
+  pub step_down : (i : ℕ) → IsNext tree f (Node i)
+      → IsStep tree (front ++ f ∷ []) ((front ++ onward f ∷ []) ++ record { node = i; next = 0 } ∷ [])
+  step_down i next =
+      let down = frames_down tree shape front f i are next.0 next.2 in
+      let both : length (front ++ onward f ∷ []) < most_parts =
+      (frames_last tree.places.items (front ++ onward f ∷ []) (record { node = i; next = 0 }) down).few in
+      let deep : length front + 1 < most_parts = omega (arith, both, length-append front (onward f ∷ [])) in
+      record {
+        frames = down;
+        queue = λ content of.
+            same_queue content (front ++ f ∷ []) ((front ++ onward f ∷ []) ++ record { node = i; next = 0 } ∷ [])
+            (queue_down tree shape content of front f i deep next.0 next.2);
+        smaller = left_down tree shape front f i deep next.0;
+      }
+
+  pub settled_at : IsNext tree f Client → (content : Content) → IsTreeOf content tree
+      → IsSettled content tree.places.items tree.families.items (front ++ f ∷ [])
+  settled_at next content of =
+      settled_by content tree.places.items tree.families.items front f (at_client tree shape content of f next.0 next.1 next.2 next.3)

@@ -12,6 +12,8 @@ use Rattle.drf_tree.specs.declared.family.Child.{Child}
 use Rattle.drf_tree.specs.declared.family.Family.{Family}
 use Rattle.drf_tree.specs.declared.node.Place.{Place}
 use Rattle.drf_tree.specs.declared.node.Sum.{Sum}
+use Rattle.drf_tree.specs.declared.tree.Tree.{Tree}
+use Rattle.drf_tree.specs.Changes.{IsShapeOf}
 use Rattle.drf_tree.specs.Family.{child_name, numbers_of}
 use Rattle.drf_tree.specs.Nodes.{children_at, family_at, is_live, is_node, last_part, parent_at, path_at}
 use Rattle.drf_tree.specs.Queue.{active_at}
@@ -117,3 +119,20 @@ module _ (places : List (Option Place)) (families : List Family) (stale : List B
   -- a client has no children
   pub leaf : (i : ℕ) → IsClientPath (path_at places i) → family_at families i ≡ []
   leaf i client = leaf_at i (children_at families i) (shape.children i) client
+
+-- what a family that was read has at a place
+pub read_at : (tree : Tree) → IsShapeOf tree → (node place : ℕ) (family : Family) → is_node tree.places.items node ≡ true
+    → family ≡ slice_index_or tree.families.items node family → (o : Option ℕ)
+    → o ≡ slice_get (numbers_of family.children.items) place → slice_get (family_at tree.families.items node) place ≡ o
+read_at tree shape node place family live at o is =
+    let below = node_within tree.places.items tree.families.items tree.marks.stale tree.sums.items shape node live in
+    ap (λ cs. slice_get (numbers_of cs) place) (family_read tree.families.items node family (omega (arith, shape.families_long)) at)
+    ∙ sym is
+
+-- and its number has a sum
+pub sum_within : (tree : Tree) → IsShapeOf tree → (node place i : ℕ) → slice_get (family_at tree.families.items node) place ≡ Some i
+    → i < length tree.sums.items
+sum_within tree shape node place i some =
+    let child : IsMember tree.places.items node i =
+    member tree.places.items tree.families.items tree.marks.stale tree.sums.items shape node place i some in
+    omega (arith, live_within tree.places.items i child.live, shape.sums_long)

@@ -17,9 +17,9 @@ use Rattle.drf_tree.specs.declared.tree.Tree.{Tree}
 use Rattle.drf_tree.specs.Family.{are_sorted, child_name, numbers_of}
 use Rattle.drf_tree.specs.Marks.{marked_in}
 use Rattle.drf_tree.specs.Nodes.{children_at, family_at, is_live, is_node, last_part, path_at}
-use Rattle.drf_tree.specs.Queue.{most_parts}
+use Rattle.drf_tree.specs.Queue.{most_parts, order_in}
 use Rattle.drf_tree.specs.Tree.{IsChildOf, IsMarkedOrRight, IsTreeOf}
-use Rattle.drf_tree.specs.Walk.{AreFamilies, IsChild, are_ahead, walk}
+use Rattle.drf_tree.specs.Walk.{AreFamilies, are_ahead}
 use Rattle.drf_tree.proofs.ClientLemmas.{any_active, distinct_active, each_any, kept_active, short}
 use Rattle.drf_tree.proofs.KeyLemmas.{IsRightAt, ordered_names}
 use Rattle.drf_tree.proofs.MarkLemmas.{none_marked}
@@ -70,7 +70,8 @@ module _ (content : Content) (tree : Tree) (of : IsTreeOf content tree) (clear :
         (each_any IsClientPath (path_at places x) (active_paths content) right_paths some);
   }
 
-  pub order_of_walk : IsOrderOf content (walk (active_paths content) (path_at places) (family_at families) most_parts 0)
+  pub order_of_walk : IsOrderOf content (order_in content places families)
+  unfolding order_in
   order_of_walk =
       let top : path_at places 0 ≡ [] = ap (λ (o : Option Place). option_map_or (λ p. p.path) o []) of.shape.root in
       let both =

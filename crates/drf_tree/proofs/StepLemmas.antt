@@ -1,9 +1,10 @@
 -- A step of a walk along a tree: it keeps what the walk comes to.
-use Rattle.std.specs.Prelude.{◌≡◌, ◌≤◌, ◌<◌, ◌+◌, ◌-◌, ◌^◌, ◌==◌, ℕ, zero, suc, min, Bool, true, false, ◌||◌, nat_lt, List, [], ◌∷◌, ◌++◌, Option, None, Some, ◌⊎◌, drop, flat_map, length, slice_get, sum_by}
+use Rattle.std.specs.Prelude.{◌≡◌, ◌≤◌, ◌<◌, ◌+◌, ◌-◌, ◌^◌, ◌==◌, ℕ, zero, suc, min, Bool, true, false, ◌||◌, nat_lt, List, [], ◌∷◌, ◌++◌, Option, None, Some, ◌⊎◌, codes, drop, flat_map, length, slice_get, sum_by}
 use Rattle.std.specs.List.{AllByRecursion, list_any}
 use Rattle.std.specs.Option.{is_some, option_map_or}
 use Rattle.std.proofs.Common.{refl, sym, ap, subst, ◌∙◌, inl, inr, append_assoc, arith, length-append}
 use Rattle.std.proofs.lemmas.Bool.{true≢false, false≢true, lt-ltb, or_right}
+use Rattle.std.proofs.lemmas.List.{append-nil}
 use Rattle.std.proofs.lemmas.List.Sums.{sum_by-cons}
 use Rattle.std.proofs.lemmas.Option.{same_Some, slice_get_cases}
 use Rattle.drf_role.specs.Path.{Path, IsClientPath, begins_with}
@@ -17,7 +18,7 @@ use Rattle.drf_tree.specs.declared.walk.Frame.{Frame}
 use Rattle.drf_tree.specs.declared.walk.Next.TheVariants.{Client, End, Nobody, Node}
 use Rattle.drf_tree.specs.Changes.{IsShapeOf}
 use Rattle.drf_tree.specs.Nodes.{children_at, client_at, family_at, is_live, is_node, last_part, path_at}
-use Rattle.drf_tree.specs.Queue.{AreFrames, IsAtClient, IsNext, IsSettled, active_at, frames_queue, most_parts, onward, pending, queue_in}
+use Rattle.drf_tree.specs.Queue.{AreFrames, IsAtClient, IsNext, IsSettled, active_at, frames_queue, most_parts, onward, order_in, pending, queue_in}
 use Rattle.drf_tree.specs.Tree.{IsTreeOf}
 use Rattle.drf_tree.specs.Walk.{own, walk}
 use Rattle.drf_tree.proofs.ClientLemmas.{active_in, any_below, kept_active, node_short}
@@ -310,6 +311,9 @@ module _ (content : Content) (places : List (Option Place)) (families : List Fam
   unfolding queue_in
   queue_is frames = refl
 
+pub nobody_left : (content : Content) (tree : Tree) → frames_queue content tree [] ≡ []
+nobody_left content tree = queue_is content tree.places.items tree.families.items []
+
 -- ---- what one step does
 
 pub record IsStep (tree : Tree) (old new : List Frame) : Type 0 where
@@ -360,7 +364,64 @@ module _ (tree : Tree) (shape : IsShapeOf tree) (front : List Frame) (f : Frame)
         smaller = left_down tree shape front f i deep next.0;
       }
 
+  -- the client that is next is passed
+  pub passed_on : (content : Content) → IsTreeOf content tree
+      → IsSettled content tree.places.items tree.families.items (front ++ f ∷ [])
+      → frames_queue content tree (front ++ onward f ∷ []) ≡ drop 1 (frames_queue content tree (front ++ f ∷ []))
+  passed_on content of settled =
+      let at = settled_last content tree.places.items tree.families.items front f settled in
+      queue_is content tree.places.items tree.families.items (front ++ onward f ∷ [])
+      ∙ ap (drop 1)
+      (sym (queue_is content tree.places.items tree.families.items (front ++ f ∷ []) ∙ queue_client tree shape content of front f few at))
+
+  -- it is the first that the walk comes to
+  pub first_is : (content : Content) → IsTreeOf content tree
+      → (settled : IsSettled content tree.places.items tree.families.items (front ++ f ∷ []))
+      → slice_get (frames_queue content tree (front ++ f ∷ [])) 0
+      ≡ Some (path_at tree.places.items (settled_last content tree.places.items tree.families.items front f settled).node)
+  first_is content of settled =
+      let at = settled_last content tree.places.items tree.families.items front f settled in
+      ap (λ (ps : List Path). slice_get ps 0)
+      (queue_is content tree.places.items tree.families.items (front ++ f ∷ []) ∙ queue_client tree shape content of front f few at)
+
   pub settled_at : IsNext tree f Client → (content : Content) → IsTreeOf content tree
       → IsSettled content tree.places.items tree.families.items (front ++ f ∷ [])
   settled_at next content of =
       settled_by content tree.places.items tree.families.items front f (at_client tree shape content of f next.0 next.1 next.2 next.3)
+
+-- ---- where a walk begins
+
+abbrev pub top : Frame
+top = record { node = 0; next = 0 }
+
+pub top_frames : (tree : Tree) → IsShapeOf tree → AreFrames tree.places.items (top ∷ [])
+top_frames tree shape =
+    frames_more tree.places.items [] top
+    (record { few = omega arith; nodes = tt; deep = λ k f none. absurd cc })
+    (record {
+      node = refl;
+      deep = ap (λ (o : Option Place). length (option_map_or (λ p. p.path) o [])) shape.root;
+      few = omega arith;
+    })
+
+-- the root is no client
+pub top_queue : (tree : Tree) → IsShapeOf tree → (content : Content) → IsTreeOf content tree
+    → frames_queue content tree (top ∷ []) ≡ order_in content tree.places.items tree.families.items
+unfolding order_in
+top_queue tree shape content of =
+    let places = tree.places.items in
+    let clients = active_paths content in
+    let below = flat_map (walk clients (path_at places) (family_at tree.families.items) 9) (family_at tree.families.items 0) in
+    let path_is : path_at places 0 ≡ [] = ap (λ (o : Option Place). option_map_or (λ p. p.path) o []) shape.root in
+    let nobody : own clients (path_at places 0) ≡ [] =
+    own_no_client clients (path_at places 0) (kept_active IsClientPath content.clients of.paths)
+    (λ client. absurd (omega (
+      arith,
+      ap length path_is,
+      ap length client.joined,
+      length-append client.role (codes "." ∷ client.framework ∷ []),
+    ))) in
+    queue_is content places tree.families.items (top ∷ [])
+    ∙ pending_last clients (path_at places) (family_at tree.families.items) [] top 9 most_parts refl
+    ∙ append-nil below
+    ∙ ap (λ (ps : List Path). ps ++ below) (sym nobody)

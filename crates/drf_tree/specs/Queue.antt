@@ -35,6 +35,10 @@ unfoldable pub queue_in : Content → List (Option Place) → List Family → Li
 queue_in content places families frames =
     pending (active_paths content) (path_at places) (family_at families) most_parts frames
 
+-- all of them, in the order of the families
+unfoldable pub order_in : Content → List (Option Place) → List Family → List Path
+order_in content places families = walk (active_paths content) (path_at places) (family_at families) most_parts 0
+
 -- those of a tree
 abbrev pub frames_queue : Content → Tree → List Frame → List Path
 frames_queue content tree frames = queue_in content tree.places.items tree.families.items frames

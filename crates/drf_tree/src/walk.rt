@@ -2,12 +2,11 @@
 ghost use Rattle.std.specs.Prelude.{◌≡◌, ◌<◌, ◌≤◌, ◌+◌, ◌++◌, ◌∷◌, [], ℕ, Some, IfOk, drop, length, option_copied, slice_get, true};
 ghost use Rattle.std.specs.Option.{is_some};
 ghost use Rattle.std.specs.Vec.{vec_capacity};
-ghost use Rattle.drf_sorter.specs.Content.{Content, active_paths};
+ghost use Rattle.drf_sorter.specs.Content.{Content};
 ghost use Rattle.drf_tree.specs.Changes.{IsShapeOf};
-ghost use Rattle.drf_tree.specs.Nodes.{client_at, family_at, is_node, path_at};
-ghost use Rattle.drf_tree.specs.Queue.{AreFrames, IsNext, IsSettled, frames_queue, most_parts, onward};
+ghost use Rattle.drf_tree.specs.Nodes.{client_at, is_node};
+ghost use Rattle.drf_tree.specs.Queue.{AreFrames, IsNext, IsSettled, frames_queue, onward, order_in};
 ghost use Rattle.drf_tree.specs.Tree.{IsTreeOf};
-ghost use Rattle.drf_tree.specs.Walk.{walk};
 
 use crate::tree::{ROOT, Tree};
 use drf_role::ClientPath;
@@ -76,7 +75,7 @@ impl Walk {
         requires { IsShapeOf tree.now }
         ensures frames { AreFrames tree.now.places.items self.new.frames.items }
         ensures settled { (content : Content) → IsTreeOf content tree.now → IsSettled content tree.now.places.items tree.now.families.items self.new.frames.items }
-        ensures queue { (content : Content) → IsTreeOf content tree.now → frames_queue content tree.now self.new.frames.items ≡ walk (active_paths content) (path_at tree.now.places.items) (family_at tree.now.families.items) most_parts 0 }
+        ensures queue { (content : Content) → IsTreeOf content tree.now → frames_queue content tree.now self.new.frames.items ≡ order_in content tree.now.places.items tree.now.families.items }
     {
         self.frames.clear();
         self.push(Frame {

@@ -138,11 +138,12 @@ impl Walk {
         requires { length self.now.frames.items ≤ 10 }
         ensures { IfOk result (λ walk. walk.frames.items ≡ self.now.frames.items) }
     {
-        let mut walk = Walk::open(*self.frames.allocator())?;
+        let alloc = *self.frames.allocator();
+        let mut frames = Vec::with_capacity(alloc, MOST_FRAMES)?;
         for frame in &self.frames {
-            walk.frames.push_reserved(*frame);
+            frames.push_reserved(*frame);
         }
-        Ok(walk)
+        Ok(Walk { frames })
     }
 
     fn push(&mut self, frame: Frame)

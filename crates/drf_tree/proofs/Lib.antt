@@ -16,3 +16,5 @@ pub mod WalkBelow
 pub mod FrameLemmas
 pub mod NodeLemmas
 pub mod StepLemmas
+pub mod WithLemmas
+pub mod RenewLemmas

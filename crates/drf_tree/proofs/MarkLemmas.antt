@@ -1,7 +1,8 @@
 -- Marks that are set and taken back, one at a time.
 use Rattle.std.specs.Prelude.{◌≡◌, ◌≤◌, ◌<◌, ◌+◌, ℕ, zero, suc, Bool, true, false, List, [], ◌∷◌, cond, length, slice_index_or, slice_set}
-use Rattle.std.proofs.Common.{refl, sym, ap, ◌∙◌, arith}
-use Rattle.std.proofs.lemmas.List.{set-get_or}
+use Rattle.std.proofs.Common.{refl, sym, ap, ◌∙◌, inl, inr, arith}
+use Rattle.std.proofs.lemmas.Bool.{cases_eq}
+use Rattle.std.proofs.lemmas.List.{get_or-set_other, set-get_or}
 use Rattle.std.proofs.lemmas.List.Sums.{count_by-le-length, sum_by-set}
 use Rattle.drf_rows.specs.ListLaws.{count_by-cons}
 use Rattle.drf_tree.specs.Marks.{marked_in}
@@ -36,3 +37,30 @@ none_marked (false ∷ stale) none zero = refl
 none_marked (flag ∷ stale) none (suc i) =
     let fewer : marked_in stale ≡ 0 = omega (arith, none, count_by-cons (λ (f : Bool). f) flag stale) in
     none_marked stale fewer i
+
+-- where no flag is up, none is counted
+pub all_clear : (stale : List Bool) → ((i : ℕ) → slice_index_or stale i false ≡ false) → marked_in stale ≡ 0
+all_clear [] none = refl
+all_clear (flag ∷ stale) none =
+    omega (
+      arith,
+      count_by-cons (λ (f : Bool). f) flag stale,
+      ap one_if (none zero),
+      all_clear stale (λ i. none (suc i)),
+    )
+
+-- a flag that was taken down, and the others
+pub down_at : (stale : List Bool) (node i : ℕ) → i ≡ node → slice_index_or (slice_set stale node false) i false ≡ false
+down_at [] node i same = refl
+down_at (flag ∷ stale) zero zero same = refl
+down_at (flag ∷ stale) zero (suc i) same = absurd (omega (arith, same))
+down_at (flag ∷ stale) (suc node) zero same = absurd (omega (arith, same))
+down_at (flag ∷ stale) (suc node) (suc i) same = down_at stale node i (omega (arith, same))
+
+-- each number up to this one has no flag
+pub down_to : (stale : List Bool) (node : ℕ) → ((i : ℕ) → i < node → slice_index_or stale i false ≡ false) → (i : ℕ)
+    → i < node + 1 → slice_index_or (slice_set stale node false) i false ≡ false
+down_to stale node done i below = elim (cases_eq i node) [
+  | inl same ↦ down_at stale node i same
+  | inr other ↦ get_or-set_other stale node i false false other ∙ done i (omega (arith, below, other))
+]

@@ -136,3 +136,24 @@ sum_within tree shape node place i some =
     let child : IsMember tree.places.items node i =
     member tree.places.items tree.families.items tree.marks.stale tree.sums.items shape node place i some in
     omega (arith, live_within tree.places.items i child.live, shape.sums_long)
+
+-- the same nodes with other flags
+pub flags_changed : (tree : Tree) → IsShapeOf tree → (stale : List Bool) → length stale ≡ length tree.places.items
+    → ((i : ℕ) → slice_index_or stale i false ≡ true → is_live tree.places.items i ≡ true)
+    → IsShape tree.places.items tree.families.items stale tree.sums.items
+flags_changed tree shape stale long live = record {
+  some = shape.some;
+  sums_long = shape.sums_long;
+  families_long = shape.families_long;
+  stale_long = long;
+  root = shape.root;
+  children = shape.children;
+  kept = shape.kept;
+  once = shape.once;
+  distinct = shape.distinct;
+  right = shape.right;
+  clients = shape.clients;
+  others = shape.others;
+  free = shape.free;
+  unmarked = live;
+}

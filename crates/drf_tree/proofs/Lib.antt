@@ -18,3 +18,4 @@ pub mod NodeLemmas
 pub mod StepLemmas
 pub mod WithLemmas
 pub mod RenewLemmas
+pub mod CopyLemmas

@@ -11,3 +11,9 @@ pub mod PathLemmas
 pub mod WayLemmas
 pub mod FitLemmas
 pub mod SumLemmas
+pub mod SliceLemmas
+pub mod ClimbLemmas
+pub mod MoveLemmas
+pub mod TreeLemmas
+pub mod CompleteLemmas
+pub mod AdmitLemmas

@@ -18,7 +18,7 @@ use Rattle.drf_tree.specs.Nodes.{children_at, is_live, is_node, parent_at, path_
 use Rattle.drf_tree.specs.Tree.{IsChildOf, IsShape}
 use Rattle.drf_tree.proofs.PathLemmas.{begins_by, begins_front, begins_itself, begins_to, begins_trans}
 
-equal : (m i : ℕ) → (m == i) ≡ true → m ≡ i
+pub equal : (m i : ℕ) → (m == i) ≡ true → m ≡ i
 equal m i same = grind (arith, nat_tests)
 
 -- a child of that number, with what holds of all children

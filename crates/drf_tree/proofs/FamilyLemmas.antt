@@ -1,5 +1,5 @@
 -- Siblings stay in order when one is put in, or taken out.
-use Rattle.std.specs.Prelude.{◌≡◌, ◌≤◌, ◌<◌, ◌+◌, ℕ, zero, suc, Bool, true, false, not, ◌&&◌, cond, List, [], ◌∷◌, ◌++◌, Option, None, Some, ◌==◌, length, take, drop, slice_get, slice_index_or}
+use Rattle.std.specs.Prelude.{◌≡◌, ◌≤◌, ◌<◌, ◌+◌, ℕ, zero, suc, Bool, true, false, not, ◌&&◌, cond, List, [], ◌∷◌, ◌++◌, Option, None, Some, ◌==◌, length, map, take, drop, slice_get, slice_index_or}
 use Rattle.std.specs.declared.cmp.Ordering.{Ordering}
 use Rattle.std.specs.Cmp.{IsTotalOrder, IsStrictWeakOrder, nat_cmp_total}
 use Rattle.std.specs.Cmp.Lexicographic.{nat_list_cmp_total}
@@ -11,15 +11,17 @@ use Rattle.std.specs.String.{string_bytes}
 use Rattle.std.proofs.Common.{refl, sym, ap, ◌∙◌, inl, inr, arith}
 use Rattle.std.proofs.lemmas.List.{take-append-drop}
 use Rattle.drf_rows.specs.EndingLaws.{split_at}
-use Rattle.std.proofs.lemmas.Bool.{true≢false, cases_Bool, and_from, and_parts, not-true}
+use Rattle.std.proofs.lemmas.Bool.{true≢false, cases_Bool, and_from, and_parts, eqb-true, not-true}
 use Rattle.std.proofs.lemmas.Cmp.{then_total, on_total}
 use Rattle.std.proofs.lemmas.List.MinMax.{ranks_by}
+use Rattle.std.proofs.lemmas.List.Quantifiers.{position-Some}
+use Rattle.std.proofs.lemmas.Option.{slice_get_read}
 use Rattle.drf_sorter.specs.declared.key.Key as made
 use Rattle.drf_sorter.specs.Keys.{key_by, key_cmp}
 use Rattle.drf_sorter.proofs.ChangeLemmas.{position-none}
 use Rattle.drf_sorter.specs.ShareLaws.{share_total}
 use Rattle.drf_tree.specs.declared.family.Child.{Child}
-use Rattle.drf_tree.specs.Family.{IsWith, are_sorted, has_child, is_before, is_not_behind}
+use Rattle.drf_tree.specs.Family.{IsWith, are_sorted, has_child, is_before, is_not_behind, seen}
 
 -- ---- the order of keys
 
@@ -92,7 +94,7 @@ parted (x ∷ xs) key sorted zero (suc j) d order below before =
     let parts = and_parts (list_all (is_not_behind x) xs) (are_sorted xs) sorted in
     let y : Child = slice_index_or xs j d in
     elim (cases_Bool (is_before x.key key)) [
-      | inl yes ↦ yes
+      | inl ahead ↦ ahead
       | inr other ↦
           let apart : not (is_before y.key x.key) ≡ true = list_all-at (is_not_behind x) xs j d (omega (arith, below)) parts.0 in
           let far = keys_rank.chain y.key x.key key (not-true (is_before y.key x.key) apart) other in
@@ -175,3 +177,34 @@ pub found_place : (node : ℕ) (children : List Child) → has_child node childr
 found_place node children some (Some i) is = refl
 found_place node children some None is =
     absurd (true≢false (sym some ∙ position-none (λ (c : Child). c.node == node) children is))
+
+-- what stands at that place is the child
+pub child_found : (node : ℕ) (children : List Child) (o : Option ℕ) (place : ℕ) (child : Child)
+    → o ≡ position (λ c. c.node == node) children → o ≡ Some place → child ≡ slice_index_or children place child
+    → (slice_get children place ≡ Some child) × (child.node ≡ node)
+child_found node children o place child is some at =
+    let found = position-Some (λ (c : Child). c.node == node) children place child (sym is ∙ some) in
+    let here : (child.node == node) ≡ true = ap (λ (c : Child). c.node == node) at ∙ found.1 in
+    (slice_get_read children (length children) place child refl found.0 at, eqb-true child.node node here)
+
+-- ---- copies
+
+-- the order of a family is told by its keys
+not_behind_seen : (a b : Child) (old new : List Child) → seen a ≡ seen b → map seen old ≡ map seen new
+    → list_all (is_not_behind a) old ≡ list_all (is_not_behind b) new
+not_behind_seen a b [] [] here later = refl
+not_behind_seen a b [] (d ∷ new) here later = absurd cc
+not_behind_seen a b (c ∷ old) [] here later = absurd cc
+not_behind_seen a b (c ∷ old) (d ∷ new) here later =
+    let first : seen c ≡ seen d = cc in
+    let rest : map seen old ≡ map seen new = cc in
+    λ i. not (is_lt (key_cmp (first i).0 (here i).0)) && not_behind_seen a b old new here rest i
+
+pub sorted_seen : (old new : List Child) → map seen old ≡ map seen new → are_sorted old ≡ are_sorted new
+sorted_seen [] [] same = refl
+sorted_seen [] (b ∷ new) same = absurd cc
+sorted_seen (a ∷ old) [] same = absurd cc
+sorted_seen (a ∷ old) (b ∷ new) same =
+    let first : seen a ≡ seen b = cc in
+    let rest : map seen old ≡ map seen new = cc in
+    λ i. not_behind_seen a b old new first rest i && sorted_seen old new rest i

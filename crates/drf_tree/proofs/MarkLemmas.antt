@@ -6,24 +6,21 @@ use Rattle.std.proofs.lemmas.List.Sums.{count_by-le-length, sum_by-set}
 use Rattle.drf_rows.specs.ListLaws.{count_by-cons}
 use Rattle.drf_tree.specs.Marks.{marked_in}
 
+abbrev one_if : Bool → ℕ
+one_if flag = cond flag 1 0
+
 pub few_marked : (stale : List Bool) → marked_in stale ≤ length stale
 few_marked stale = count_by-le-length (λ flag. flag) stale
 
 pub marked_once : (stale : List Bool) (i : ℕ) → i < length stale → slice_index_or stale i false ≡ false
     → marked_in (slice_set stale i true) ≡ marked_in stale + 1
 marked_once stale i below clear =
-    let adds : marked_in (slice_set stale i true) + cond (slice_index_or stale i false) 1 0 ≡ marked_in stale + 1 =
-    sum_by-set (λ flag. cond flag 1 0) stale i true false below in
-    let none : cond (slice_index_or stale i false) 1 0 ≡ 0 = ap (λ (b : Bool). cond b 1 0) clear in
-    omega arith
+    omega (arith, sum_by-set one_if stale i true false below, ap one_if clear)
 
 pub marked_less : (stale : List Bool) (i : ℕ) → i < length stale → slice_index_or stale i false ≡ true
     → marked_in (slice_set stale i false) + 1 ≡ marked_in stale
 marked_less stale i below marked =
-    let adds : marked_in (slice_set stale i false) + cond (slice_index_or stale i false) 1 0 ≡ marked_in stale + 0 =
-    sum_by-set (λ flag. cond flag 1 0) stale i false false below in
-    let one : cond (slice_index_or stale i false) 1 0 ≡ 1 = ap (λ (b : Bool). cond b 1 0) marked in
-    omega arith
+    omega (arith, sum_by-set one_if stale i false false below, ap one_if marked)
 
 -- a flag that is there already
 pub set_again : (stale : List Bool) (i : ℕ) (flag : Bool) → slice_index_or stale i false ≡ flag

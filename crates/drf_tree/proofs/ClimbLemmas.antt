@@ -10,7 +10,9 @@ use Rattle.drf_tree.specs.declared.node.Place.{Place}
 use Rattle.drf_tree.specs.declared.node.Sum.{Sum}
 use Rattle.drf_tree.specs.declared.tree.Tree.{Tree}
 use Rattle.drf_tree.specs.Nodes.{is_live, is_node, parent_at, path_at}
+use Rattle.drf_sorter.specs.Work.{debt}
 use Rattle.drf_tree.specs.Changes.{IsShapeOf}
+use Rattle.drf_tree.specs.Marks.{work_of}
 use Rattle.drf_tree.specs.Tree.{IsShape}
 use Rattle.drf_tree.proofs.PathLemmas.{begins_by, begins_itself, begins_long, begins_to, begins_trans}
 use Rattle.drf_tree.proofs.SliceLemmas.{get_set_same, get_set_other}
@@ -265,3 +267,44 @@ module _ (old now : Tree) (shape : IsShapeOf old) (leaf node : ℕ) (R : ℕ →
       ap (λ (k : ℕ). length (path_at old.places.items k)) root
       ∙ ap length (top_is old.places.items old.families.items old.marks.stale old.sums.items shape) in
       subst (λ (k : ℕ). AreChanged old.places.items leaf k R old.sums.items now.sums.items) none so.sums
+
+-- and with its marks
+pub record IsMarking (old now : Tree) (leaf node : ℕ) : Type 0 where
+  pub marks : AreMarked old.places.items leaf (length (path_at old.places.items node)) old.marks.stale now.marks.stale
+  pub work : debt (work_of now.marks) + length (path_at old.places.items node)
+      ≤ debt (work_of old.marks) + length (path_at old.places.items leaf)
+
+module _ (old now : Tree) (shape : IsShapeOf old) (leaf node : ℕ) (R : ℕ → Sum → Sum → Type 0) where
+  pub marking_start : IsMarking old old leaf leaf
+  marking_start = record {
+    marks = marked_none old.places.items old.families.items old.marks.stale old.sums.items shape leaf old.marks.stale;
+    work = omega arith;
+  }
+
+  pub marking_within : IsClimbing old now leaf node R → node ≢ 0 → IsMarking old now leaf node → node < length now.marks.stale
+  marking_within so other marking =
+      omega (arith, live_within old.places.items node (climb_live old now shape leaf node R so other), marking.marks.long, shape.stale_long)
+
+  pub marking_step : IsClimbing old now leaf node R → node ≢ 0 → IsMarking old now leaf node → (new : Tree) (above : ℕ)
+      → above ≡ parent_at old.places.items node → new.marks ≡ record now.marks { stale = slice_set now.marks.stale node true }
+      → debt (work_of new.marks) ≤ debt (work_of now.marks) + 1 → IsMarking old new leaf above
+  marking_step so other marking new above above_is marks work =
+      let less = climb_less old now shape leaf node R so other in
+      let work_so = marking.work in
+      subst (λ (k : ℕ). IsMarking old new leaf k) (sym above_is)
+      record {
+        marks =
+            subst (λ (flags : List Bool). AreMarked old.places.items leaf (length (path_at old.places.items (parent_at old.places.items node))) old.marks.stale flags)
+            (sym (λ i. (marks i).stale))
+            (marked_step old.places.items old.families.items old.marks.stale old.sums.items shape leaf node
+            (length (path_at old.places.items (parent_at old.places.items node))) (climb_on old now shape leaf node R so other) (sym less)
+            old.marks.stale now.marks.stale (marking_within so other marking) marking.marks);
+        work = omega (arith, less, work, work_so);
+      }
+
+  pub marking_end : IsMarking old now leaf node → node ≡ 0 → AreMarked old.places.items leaf 0 old.marks.stale now.marks.stale
+  marking_end marking root =
+      let none : length (path_at old.places.items node) ≡ 0 =
+      ap (λ (k : ℕ). length (path_at old.places.items k)) root
+      ∙ ap length (top_is old.places.items old.families.items old.marks.stale old.sums.items shape) in
+      subst (λ (k : ℕ). AreMarked old.places.items leaf k old.marks.stale now.marks.stale) none marking.marks

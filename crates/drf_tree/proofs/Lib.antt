@@ -17,3 +17,7 @@ pub mod MoveLemmas
 pub mod TreeLemmas
 pub mod CompleteLemmas
 pub mod AdmitLemmas
+pub mod ChangeLemmas
+pub mod LowerLemmas
+pub mod ActiveLemmas
+pub mod ChargeLemmas

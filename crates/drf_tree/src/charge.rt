@@ -4,7 +4,7 @@ ghost use Rattle.drf_bundle.specs.declared.quantities.Entry.{Entry};
 ghost use Rattle.drf_role.specs.Path.{Path};
 ghost use Rattle.drf_sorter.specs.Content.{Content, charged, has_client, with_change};
 ghost use Rattle.drf_sorter.specs.Work.{debt};
-ghost use Rattle.drf_tree.specs.Changes.{AreRaised, HasRoomFor, IsLowerable, IsShapeOf, OnWay, lowered};
+ghost use Rattle.drf_tree.specs.Changes.{AreRaised, CanLowerAt, HasRoomFor, IsLowerable, IsShapeOf, OnWay, lowered};
 ghost use Rattle.drf_tree.specs.Marks.{work_of};
 ghost use Rattle.drf_tree.specs.Nodes.{client_at, path_at};
 ghost use Rattle.drf_tree.specs.Tree.{IsTreeOf};
@@ -59,7 +59,7 @@ impl Tree {
     pub(crate) fn lower(&mut self, leaf: usize, quantities: &Quantities, offers: u64)
         requires shape { IsShapeOf self.old }
         requires lowerable { IsLowerable self.old leaf quantities.now offers }
-        ensures tree { (content : Content) (path : Path) → IsTreeOf content self.old → client_at self.old.places.items leaf ≡ Some path → has_client content path ≡ true → IsTreeOf (with_change content path (lowered quantities.now offers)) self.new }
+        ensures tree { (content : Content) (path : Path) → IsTreeOf content self.old → client_at self.old.places.items leaf ≡ Some path → has_client content path ≡ true → CanLowerAt content path quantities.now offers → IsTreeOf (with_change content path (lowered quantities.now offers)) self.new }
         ensures places { self.new.places ≡ self.old.places }
         ensures families { self.new.families ≡ self.old.families }
         ensures work { debt (work_of self.new.marks) ≤ debt (work_of self.old.marks) + length (path_at self.old.places.items leaf) }

@@ -8,7 +8,7 @@ use Rattle.std.proofs.lemmas.Map.Keys.{IsDistinct-head, IsDistinct-tail}
 use Rattle.drf_role.specs.Path.{Path, IsClientPath, begins_with, same_path}
 use Rattle.drf_role.specs.PathLaws.{client_paths-apart, path_decides, same_path-swap, same_path-true}
 use Rattle.drf_rows.specs.ListLaws.{each_from, each_from_both}
-use Rattle.drf_sorter.specs.Content.{Content, Ranked, activated, has_client, with_change}
+use Rattle.drf_sorter.specs.Content.{Content, Ranked, activated, clients_under, has_client, with_change}
 use Rattle.drf_tree.specs.declared.node.Sum.{Sum}
 use Rattle.drf_tree.specs.declared.tree.Tree.{Tree}
 use Rattle.drf_tree.specs.Nodes.{client_at, is_live, path_at}
@@ -90,7 +90,7 @@ activated_tree content path active now before old new leaf node sum tree live at
     all : before ≡ sum_by (below path is_served) content.clients
     all =
         before_is ∙ (tree.sums leaf sum live there).active
-        ∙ active_is _
+        ∙ active_is (clients_under content (path_at old.places.items leaf))
         ∙ ap (λ p. total_under is_served content p) is.0
         ∙ sum_below path is_served content.clients
     here : (c : Ranked) → (same_path c.path path ≡ true → is_served c ≡ sum_by (below path is_served) content.clients)

@@ -21,3 +21,4 @@ pub mod ChangeLemmas
 pub mod LowerLemmas
 pub mod ActiveLemmas
 pub mod ChargeLemmas
+pub mod DismissLemmas

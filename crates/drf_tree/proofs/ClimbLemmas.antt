@@ -1,5 +1,6 @@
 -- A climb from a leaf to the root, which changes the sum of each node on the way and may mark it.
 use Rattle.std.specs.Prelude.{◌≡◌, ◌≢◌, ◌≤◌, ◌<◌, ◌+◌, ℕ, zero, suc, Bool, true, false, ◌&&◌, ◌||◌, ◌==◌, List, [], ◌∷◌, ◌++◌, Option, None, Some, ◌⊎◌, drop, length, slice_get, slice_index_or, slice_set}
+use Rattle.std.specs.Option.{is_some}
 use Rattle.std.proofs.Common.{refl, sym, ap, subst, ◌∙◌, inl, inr, arith, length-append, length-set, get_or-set_same, get_or-set_other}
 use Rattle.std.proofs.lemmas.Bool.{true≢false, false≢true, and_parts, cases_eq, or_cases}
 use Rattle.std.proofs.lemmas.Option.{slice_get_within, slice_get_read}
@@ -308,3 +309,8 @@ module _ (old now : Tree) (shape : IsShapeOf old) (leaf node : ℕ) (R : ℕ →
       ap (λ (k : ℕ). length (path_at old.places.items k)) root
       ∙ ap length (top_is old.places.items old.families.items old.marks.stale old.sums.items shape) in
       subst (λ (k : ℕ). AreMarked old.places.items leaf k old.marks.stale now.marks.stale) none marking.marks
+
+-- a node is not the root
+pub leaf_other : (tree : Tree) → IsShapeOf tree → (leaf : ℕ) → is_live tree.places.items leaf ≡ true → leaf ≢ 0
+leaf_other tree shape leaf live root =
+    true≢false (sym live ∙ ap (is_live tree.places.items) root ∙ ap (λ (p : Option Place). is_some p) shape.root)

@@ -1,5 +1,5 @@
 -- A client is gone, with all that it held.
-use Rattle.std.specs.Prelude.{◌≡◌, ◌≢◌, ◌≤◌, ◌+◌, ◌-◌, ℕ, Bool, true, false, not, ◌||◌, cond, List, [], ◌∷◌, Some, filter, length, map, slice_get, sum_by}
+use Rattle.std.specs.Prelude.{◌≡◌, ◌≢◌, ◌≤◌, ◌+◌, ◌-◌, ℕ, Bool, true, false, not, ◌||◌, cond, List, [], ◌∷◌, Some, filter, length, map, slice_get, slice_index_or, sum_by}
 use Rattle.std.specs.List.{AllByRecursion, IsDistinct, list_any}
 use Rattle.std.proofs.Common.{refl, sym, ap, subst, ◌∙◌, inl, inr, arith}
 use Rattle.std.proofs.lemmas.Bool.{true≢false, false≢true, cases_Bool}
@@ -14,12 +14,14 @@ use Rattle.drf_role.specs.PathLaws.{same_path-true}
 use Rattle.drf_sorter.specs.Content.{Content, Ranked, clients_under, has_client, standing_in, without_client}
 use Rattle.drf_tree.specs.declared.node.Sum.{Sum}
 use Rattle.drf_tree.specs.declared.tree.Tree.{Tree}
+use Rattle.drf_tree.specs.Changes.{IsLeast, OnWay}
 use Rattle.drf_tree.specs.Nodes.{client_at, is_live, path_at}
 use Rattle.drf_tree.specs.Tree.{IsComplete, IsSumOf, IsTreeOf}
 use Rattle.drf_tree.proofs.ChangeLemmas.{unmarked_after}
 use Rattle.drf_tree.proofs.ClimbLemmas.{AreChanged, AreMarked, IsClimbing, IsMarking, climb_end, marking_end}
 use Rattle.drf_tree.proofs.ContentLemmas.{below, sum_below}
 use Rattle.drf_tree.proofs.MoveLemmas.{Amounts, AreMoved, IsMoved, active_is, amounts_in, is_served, length_is, none, one, total_under}
+use Rattle.drf_tree.proofs.SliceLemmas.{same_read}
 use Rattle.drf_tree.proofs.SumLemmas.{stays, sum_parted}
 use Rattle.drf_tree.proofs.TreeLemmas.{right_marked, shape_again, sums_after, tree_from}
 
@@ -46,6 +48,20 @@ pub is_emptied : (gone : Sum)
     → IsMoved (amounts_in gone) none gone (record { held = []; count = 0; clients = 0; active = 0; weight = gone.weight })
 is_emptied gone =
     record { held = λ label. omega arith; count = omega arith; clients = omega arith; active = omega arith; weight = refl }
+
+-- what a leaf has, of which no node on the way has less
+pub record IsLeastSum (tree : Tree) (leaf : ℕ) (gone : Sum) : Type 0 where
+  pub there : slice_get tree.sums.items leaf ≡ Some gone
+  pub held : OnWay tree leaf (λ s. (label : Text) → amount_of gone.held label ≤ amount_of s.held label)
+  pub count : OnWay tree leaf (λ s. gone.count ≤ s.count)
+  pub clients : OnWay tree leaf (λ s. gone.clients ≤ s.clients)
+  pub active : OnWay tree leaf (λ s. gone.active ≤ s.active)
+
+pub least_read : (tree : Tree) (leaf : ℕ) (least : IsLeast tree leaf) (gone read : Sum)
+    → gone ≡ read → read ≡ slice_index_or tree.sums.items leaf read → IsLeastSum tree leaf gone
+least_read tree leaf least gone read taken is =
+    subst (IsLeastSum tree leaf) (sym (taken ∙ same_read tree.sums.items leaf least.sum read least.there is))
+    record { there = least.there; held = least.held; count = least.count; clients = least.clients; active = least.active }
 
 -- ---- the clients
 
@@ -149,6 +165,7 @@ module _ (keep : Ranked → Bool) where
 
   paths_once : (cs : List Ranked) → IsDistinct same_path (map (λ (c : Ranked). c.path) cs)
       → IsDistinct same_path (map (λ (c : Ranked). c.path) (filter keep cs))
+  unfolding IsDistinct
   paths_once [] distinct = tt
   paths_once (c ∷ cs) distinct =
       by (keep c) (paths_once cs (IsDistinct-tail same_path c.path (map (λ (c : Ranked). c.path) cs) distinct))

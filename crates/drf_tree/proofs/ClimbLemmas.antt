@@ -314,3 +314,9 @@ module _ (old now : Tree) (shape : IsShapeOf old) (leaf node : ℕ) (R : ℕ →
 pub leaf_other : (tree : Tree) → IsShapeOf tree → (leaf : ℕ) → is_live tree.places.items leaf ≡ true → leaf ≢ 0
 leaf_other tree shape leaf live root =
     true≢false (sym live ∙ ap (is_live tree.places.items) root ∙ ap (λ (p : Option Place). is_some p) shape.root)
+
+pub node_within : (tree : Tree) → IsShapeOf tree → (i : ℕ) → is_node tree.places.items i ≡ true → i < length tree.places.items
+node_within tree shape i node = elim (or_cases (i == 0) (is_live tree.places.items i) node) [
+  | inl root ↦ omega (arith, equal i 0 root, shape.some)
+  | inr live ↦ live_within tree.places.items i live
+]

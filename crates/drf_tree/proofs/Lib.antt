@@ -22,3 +22,4 @@ pub mod LowerLemmas
 pub mod ActiveLemmas
 pub mod ChargeLemmas
 pub mod DismissLemmas
+pub mod NameLemmas

@@ -1,0 +1,6 @@
+use Rattle.std.proofs.Common.{◌≡◌, true, take}
+use Rattle.drf_tree.specs.Nodes.{is_node, path_at}
+use Rattle.drf_tree.proofs.tree.Tree.find.Given as goal
+
+abbrev pub invariant-loop-i : goal.invariant-loop-i
+invariant-loop-i g l = ?

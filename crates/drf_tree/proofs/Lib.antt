@@ -23,3 +23,4 @@ pub mod ActiveLemmas
 pub mod ChargeLemmas
 pub mod DismissLemmas
 pub mod NameLemmas
+pub mod FindLemmas

@@ -24,3 +24,4 @@ pub mod ChargeLemmas
 pub mod DismissLemmas
 pub mod NameLemmas
 pub mod FindLemmas
+pub mod ShapeLemmas

@@ -25,7 +25,7 @@ use Rattle.drf_tree.specs.Nodes.{children_at, is_live, is_named_at, last_part, p
 use Rattle.drf_tree.specs.Tree.{IsChildOf}
 use Rattle.drf_tree.proofs.WayLemmas.{not_equal}
 
-same_text-swap : (a b : Text) → same_text a b ≡ same_text b a
+pub same_text-swap : (a b : Text) → same_text a b ≡ same_text b a
 same_text-swap a b =
     same_from_decides (same_text a b) (same_text b a) (bytes_decides a b)
     (Decides-like (same_text b a) sym sym (bytes_decides b a))

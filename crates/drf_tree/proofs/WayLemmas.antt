@@ -96,3 +96,6 @@ not_equal m i other = elim (cases_Bool (m == i)) [
   | inl same ↦ absurd (other (equal m i same))
   | inr past ↦ past
 ]
+
+pub equal_self : (n : ℕ) → (n == n) ≡ true
+equal_self n = grind (arith, nat_tests)

@@ -28,13 +28,14 @@ module _ (path : Path) (change : Ranked → Ranked) where
   others_stay [] all = refl
   others_stay (c ∷ cs) all = rw (same_path-swap c.path path ∙ all.0) (ap (λ (ds : List Ranked). c ∷ ds) (others_stay cs all.1))
 
-  -- where a value changes by one step from `old` to `new` at the client of that path, so does its sum
-  module _ (g : Ranked → ℕ) (less more : ℕ)
-      (at : (c : Ranked) → same_path c.path path ≡ true → g (change c) + less ≡ g c + more) where
+  -- where a value changes by one step at the client of that path, so does its sum
+  module _ (g : Ranked → ℕ) (less more : ℕ) where
     pub sum_moved : (cs : List Ranked) → IsDistinct same_path (map (λ (c : Ranked). c.path) cs)
-        → list_any (λ c. same_path c.path path) cs ≡ true → sum_by g (map step cs) + less ≡ sum_by g cs + more
-    sum_moved [] distinct some = absurd (false≢true some)
-    sum_moved (c ∷ cs) distinct some = elim (cases_Bool (same_path c.path path)) [
+        → list_any (λ c. same_path c.path path) cs ≡ true
+        → AllByRecursion (λ c. same_path c.path path ≡ true → g (change c) + less ≡ g c + more) cs
+        → sum_by g (map step cs) + less ≡ sum_by g cs + more
+    sum_moved [] distinct some at = absurd (false≢true some)
+    sum_moved (c ∷ cs) distinct some at = elim (cases_Bool (same_path c.path path)) [
       | inl here ↦
           let far : AllByRecursion (λ p. same_path path p ≡ false) (map (λ (c : Ranked). c.path) cs) =
           subst (λ (q : Path). AllByRecursion (λ p. same_path q p ≡ false) (map (λ (c : Ranked). c.path) cs))
@@ -43,14 +44,14 @@ module _ (path : Path) (change : Ranked → Ranked) where
           let new : sum_by g (map step (c ∷ cs)) ≡ g (change c) + sum_by g cs =
           sum_by-cons g (step c) (map step cs) ∙ (λ i. g (first i) + sum_by g (others_stay cs far i)) in
           let old : sum_by g (c ∷ cs) ≡ g c + sum_by g cs = sum_by-cons g c cs in
-          let one : g (change c) + less ≡ g c + more = at c here in
+          let one : g (change c) + less ≡ g c + more = at.0 here in
           omega (arith, new, old, one)
       | inr past ↦
           let first : step c ≡ c = ap (λ (b : Bool). if b then change c else c) past in
           let later : list_any (λ c. same_path c.path path) cs ≡ true =
           subst (λ (b : Bool). (b || list_any (λ c. same_path c.path path) cs) ≡ true) past some in
           let rest : sum_by g (map step cs) + less ≡ sum_by g cs + more =
-          sum_moved cs (IsDistinct-tail same_path c.path (map (λ (c : Ranked). c.path) cs) distinct) later in
+          sum_moved cs (IsDistinct-tail same_path c.path (map (λ (c : Ranked). c.path) cs) distinct) later at.1 in
           let new : sum_by g (map step (c ∷ cs)) ≡ g c + sum_by g (map step cs) =
           sum_by-cons g (step c) (map step cs) ∙ ap (λ (d : Ranked). g d + sum_by g (map step cs)) first in
           let old : sum_by g (c ∷ cs) ≡ g c + sum_by g cs = sum_by-cons g c cs in

@@ -19,3 +19,17 @@ pub mod StepLemmas
 pub mod WithLemmas
 pub mod RenewLemmas
 pub mod CopyLemmas
+pub mod SliceLemmas
+pub mod ClimbLemmas
+pub mod MoveLemmas
+pub mod TreeLemmas
+pub mod CompleteLemmas
+pub mod AdmitLemmas
+pub mod ChangeLemmas
+pub mod LowerLemmas
+pub mod ActiveLemmas
+pub mod ChargeLemmas
+pub mod DismissLemmas
+pub mod NameLemmas
+pub mod FindLemmas
+pub mod ShapeLemmas

@@ -96,7 +96,7 @@ sum_beside content path node sum other of =
 
 -- ---- a client goes: what a node has is what the others have, and what the client has
 
-abbrev stays : Path → Ranked → Bool
+abbrev pub stays : Path → Ranked → Bool
 stays path c = not (same_path c.path path)
 
 parted_at : (f : Ranked → ℕ) (path node : Path) → IsClientPath path → begins_with path node ≡ true → (c : Ranked)

@@ -1,5 +1,5 @@
 -- The nodes on the way to a leaf: the leaf, and those on the way to the node above it.
-use Rattle.std.specs.Prelude.{◌≡◌, ◌≤◌, ◌<◌, ◌+◌, ◌==◌, ℕ, Bool, true, false, ◌||◌, List, [], ◌∷◌, ◌++◌, Option, None, ◌⊎◌, drop, length, slice_index_or}
+use Rattle.std.specs.Prelude.{◌≡◌, ◌≢◌, ◌≤◌, ◌<◌, ◌+◌, ◌==◌, ℕ, Bool, true, false, ◌||◌, List, [], ◌∷◌, ◌++◌, Option, None, ◌⊎◌, drop, length, slice_index_or}
 use Rattle.std.specs.List.{AllByRecursion, list_any}
 use Rattle.std.specs.Option.{is_some, option_map_or}
 use Rattle.std.proofs.Common.{refl, sym, ap, subst, ◌∙◌, inl, inr, arith, length-append}
@@ -18,7 +18,7 @@ use Rattle.drf_tree.specs.Nodes.{children_at, is_live, is_node, parent_at, path_
 use Rattle.drf_tree.specs.Tree.{IsChildOf, IsShape}
 use Rattle.drf_tree.proofs.PathLemmas.{begins_by, begins_front, begins_itself, begins_to, begins_trans}
 
-equal : (m i : ℕ) → (m == i) ≡ true → m ≡ i
+pub equal : (m i : ℕ) → (m == i) ≡ true → m ≡ i
 equal m i same = grind (arith, nat_tests)
 
 -- a child of that number, with what holds of all children
@@ -90,3 +90,12 @@ module _ (places : List (Option Place)) (families : List Family) (stale : List B
           let longer = above_of leaf live_leaf in
           inr (begins_front (path_at places i) rest (path_at places (parent_at places leaf)) part longer.part
           (sym whole ∙ longer.joined))
+
+pub not_equal : (m i : ℕ) → m ≢ i → (m == i) ≡ false
+not_equal m i other = elim (cases_Bool (m == i)) [
+  | inl same ↦ absurd (other (equal m i same))
+  | inr past ↦ past
+]
+
+pub equal_self : (n : ℕ) → (n == n) ≡ true
+equal_self n = grind (arith, nat_tests)

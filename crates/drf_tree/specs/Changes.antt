@@ -1,11 +1,12 @@
 -- What changes along the nodes of a client.
 use Rattle.std.specs.Prelude.{◌≡◌, ◌≤◌, ◌<◌, ◌+◌, ◌-◌, ◌^◌, ◌==◌, ◌&&◌, ℕ, Bool, true, false, List, [], ◌∷◌, ◌++◌, Option, None, Some, length, slice_get}
+use Rattle.std.specs.List.{AllByRecursion}
 use Rattle.std.specs.Option.{option_map_or}
 use Rattle.drf_bundle.specs.Quantities.{amount_of}
 use Rattle.drf_bundle.specs.declared.quantities.Entry.{Entry}
 use Rattle.drf_role.specs.Text.{Text}
-use Rattle.drf_role.specs.Path.{Path, begins_with}
-use Rattle.drf_sorter.specs.Content.{Ranked}
+use Rattle.drf_role.specs.Path.{Path, begins_with, same_path}
+use Rattle.drf_sorter.specs.Content.{Content, Holds, Ranked}
 use Rattle.drf_sorter.specs.Keys.{Key}
 use Rattle.drf_tree.specs.declared.node.Place.{Place}
 use Rattle.drf_tree.specs.declared.node.Sum.{Sum}
@@ -51,6 +52,15 @@ pub record AreRaised (tree : Tree) (leaf : ℕ) (quantities : List Entry) (raise
 abbrev pub lowered : List Entry → ℕ → Ranked → Ranked
 lowered quantities offers c =
     record c { held = λ label. c.held label - amount_of quantities label; count = c.count - offers }
+
+-- the client of that path holds so much, and was made so many offers
+pub record CanLower (quantities : List Entry) (offers : ℕ) (c : Ranked) : Type 0 where
+  pub held : Holds quantities c
+  pub count : offers ≤ c.count
+
+abbrev pub CanLowerAt : Content → Path → List Entry → ℕ → Type 0
+CanLowerAt content path quantities offers =
+    AllByRecursion (λ c. same_path c.path path ≡ true → CanLower quantities offers c) content.clients
 
 -- the nodes that were there stand as they did
 abbrev pub Stay : List (Option Place) → List (Option Place) → Type 0

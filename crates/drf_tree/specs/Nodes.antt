@@ -1,8 +1,8 @@
 -- What stands at a number of the tree.
-use Rattle.std.specs.Prelude.{◌≡◌, ◌==◌, ℕ, Bool, ◌||◌, List, [], Option, None, length, map, slice_get, slice_index_or, ◌-◌}
+use Rattle.std.specs.Prelude.{◌≡◌, ◌==◌, ℕ, Bool, ◌||◌, ◌&&◌, List, [], Option, None, length, map, slice_get, slice_index_or, ◌-◌}
 use Rattle.std.specs.Option.{is_some, option_map_or}
 use Rattle.drf_role.specs.Path.{Path}
-use Rattle.drf_role.specs.Text.{Text}
+use Rattle.drf_role.specs.Text.{Text, same_text}
 use Rattle.drf_tree.specs.declared.node.Place.{Place}
 use Rattle.drf_tree.specs.declared.family.Child.{Child}
 use Rattle.drf_tree.specs.declared.family.Family.{Family}
@@ -28,6 +28,10 @@ path_at places i = option_map_or (λ p. p.path) (place_at places i) []
 -- the last part of a path
 abbrev pub last_part : Path → Text
 last_part path = slice_index_or path (length path - 1) []
+
+-- a node stands at that number, and its path ends with that name
+abbrev pub is_named_at : List (Option Place) → ℕ → Text → Bool
+is_named_at places i name = is_live places i && same_text (last_part (path_at places i)) name
 
 -- the number above a node
 abbrev pub parent_at : List (Option Place) → ℕ → ℕ

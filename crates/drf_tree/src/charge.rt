@@ -4,9 +4,9 @@ ghost use Rattle.drf_bundle.specs.declared.quantities.Entry.{Entry};
 ghost use Rattle.drf_role.specs.Path.{Path};
 ghost use Rattle.drf_sorter.specs.Content.{Content, charged, has_client, with_change};
 ghost use Rattle.drf_sorter.specs.Work.{debt};
-ghost use Rattle.drf_tree.specs.Changes.{AreRaised, HasRoomFor, IsLowerable, IsShapeOf, OnWay, lowered};
+ghost use Rattle.drf_tree.specs.Changes.{AreRaised, CanLowerAt, HasRoomFor, IsLowerable, IsShapeOf, OnWay, lowered};
 ghost use Rattle.drf_tree.specs.Marks.{work_of};
-ghost use Rattle.drf_tree.specs.Nodes.{client_at, path_at};
+ghost use Rattle.drf_tree.specs.Nodes.{client_at, is_live, path_at};
 ghost use Rattle.drf_tree.specs.Tree.{IsTreeOf};
 
 use crate::tree::{ROOT, Tree};
@@ -38,6 +38,7 @@ impl Tree {
     /// The nodes from this one up hold this, the upmost first, and were made one more offer.
     pub(crate) fn charge(&mut self, leaf: usize, mut raised: Vec<Quantities>)
         requires shape { IsShapeOf self.old }
+        requires live { is_live self.old.places.items leaf ≡ true }
         requires long { length raised.items ≡ length (path_at self.old.places.items leaf) }
         requires count { OnWay self.old leaf (λ s. s.count + 1 < 2 ^ 64) }
         ensures tree { (content : Content) (path : Path) (quantities : List Entry) → IsTreeOf content self.old → client_at self.old.places.items leaf ≡ Some path → has_client content path ≡ true → AreRaised self.old leaf quantities raised.items → IsTreeOf (with_change content path (charged quantities)) self.new }
@@ -59,7 +60,7 @@ impl Tree {
     pub(crate) fn lower(&mut self, leaf: usize, quantities: &Quantities, offers: u64)
         requires shape { IsShapeOf self.old }
         requires lowerable { IsLowerable self.old leaf quantities.now offers }
-        ensures tree { (content : Content) (path : Path) → IsTreeOf content self.old → client_at self.old.places.items leaf ≡ Some path → has_client content path ≡ true → IsTreeOf (with_change content path (lowered quantities.now offers)) self.new }
+        ensures tree { (content : Content) (path : Path) → IsTreeOf content self.old → client_at self.old.places.items leaf ≡ Some path → has_client content path ≡ true → CanLowerAt content path quantities.now offers → IsTreeOf (with_change content path (lowered quantities.now offers)) self.new }
         ensures places { self.new.places ≡ self.old.places }
         ensures families { self.new.families ≡ self.old.families }
         ensures work { debt (work_of self.new.marks) ≤ debt (work_of self.old.marks) + length (path_at self.old.places.items leaf) }

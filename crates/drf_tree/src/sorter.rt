@@ -20,12 +20,14 @@ impl Model for TreeSorter {
     ghost use Rattle.drf_sorter.specs.Plain.{plain_content};
     ghost use Rattle.drf_tree.specs.Marks.{work_of};
     ghost use Rattle.drf_tree.specs.Queue.{frames_queue};
-    ghost use Rattle.drf_tree.specs.Sorter.{IsKept, Sorted};
+    ghost use Rattle.drf_tree.specs.Sorter.{IsKept, Sorted, sorted_code};
 
     ghost Value = { Sorted };
 
+    ghost coded = { sorted_code };
+
     ghost view = { λ s. record {
-      content = plain_content s.ledger;
+      ledger = s.ledger;
       queue = frames_queue (plain_content s.ledger) s.tree s.walk.frames.items;
       work = work_of s.tree.marks;
     } };
@@ -35,8 +37,9 @@ impl Model for TreeSorter {
 
 impl Sorter for TreeSorter {
     ghost use Rattle.std.specs.Prelude.{true};
+    ghost use Rattle.drf_sorter.specs.Plain.{plain_content};
 
-    ghost content = { λ s. s.content };
+    ghost content = { λ s. plain_content s.ledger };
 
     ghost queue = { λ s. s.queue };
 

@@ -1,6 +1,6 @@
 //! Numbered nodes in parallel lists: their places, their sums, their families and their marks.
 ghost use Rattle.std.specs.Prelude.{◌≡◌, ◌≢◌, ◌≤◌, ◌<◌, ◌+◌, ◌-◌, ◌++◌, ◌∷◌, [], ℕ, false, true, IfOk, IfSome, IsSome, List, None, OnErr, OnOk, Some, length, map, option_copied, slice_get, slice_set};
-ghost use Rattle.std.specs.List.{list_any};
+ghost use Rattle.std.specs.List.{list_any, position};
 ghost use Rattle.drf_bundle.specs.declared.quantities.Entry.{Entry};
 ghost use Rattle.drf_role.specs.Path.{IsClientPath, IsNodePath};
 ghost use Rattle.drf_role.specs.Text.{same_text};
@@ -11,7 +11,7 @@ ghost use Rattle.drf_sorter.specs.Work.{debt};
 ghost use Rattle.drf_tree.specs.Changes.{IsKeyOfNothing, IsSameTree, IsOneLonger, IsShapeOf, IsVacant, Stay, is_bare_at};
 ghost use Rattle.drf_tree.specs.Family.{child_name};
 ghost use Rattle.drf_tree.specs.Marks.{work_of};
-ghost use Rattle.drf_tree.specs.Nodes.{children_at, is_live, is_node, parent_at, path_at, place_at};
+ghost use Rattle.drf_tree.specs.Nodes.{children_at, is_live, is_named_at, is_node, parent_at, path_at, place_at};
 ghost use Rattle.drf_tree.specs.Tree.{IsTreeOf};
 
 use crate::family::{Child, Family};
@@ -101,7 +101,7 @@ impl Tree {
         ensures families { (i : ℕ) → children_at self.new.families.items i ≡ children_at self.old.families.items i }
         ensures families_long { OnOk result (length self.new.families.items ≡ length self.old.families.items + 1) }
         ensures marks { OnOk result (self.new.marks ≡ record self.old.marks { stale = self.old.marks.stale ++ false ∷ [] }) }
-        ensures sums { OnOk result (length self.new.sums.items ≡ length self.old.sums.items + 1) }
+        ensures sums { OnOk result (self.new.sums.items ≡ self.old.sums.items ++ record { held = []; count = 0; clients = 0; active = 0; weight = 0 } ∷ []) }
         ensures err { OnErr result (IsSameTree self.old self.new) }
     {
         let alloc = self.alloc();
@@ -158,11 +158,22 @@ impl Tree {
         ensures missing { result ≡ None → list_any (same_text name.now) (map child_name (children_at self.now.families.items node)) ≡ false }
     {
         let family = self.families[node].children();
-        let child = family.iter().find(|child| self.has_name(child.node, name))?;
-        Some(child.node)
+        let place = self.place_named(family, name)?;
+        Some(family[place].node)
     }
 
-    fn has_name(&self, node: usize, name: &str) -> bool {
+    /// Where the child of that name stands among its siblings.
+    fn place_named(&self, children: &[Child], name: &str) -> Option<usize>
+        ensures { result ≡ position (λ c. is_named_at self.now.places.items c.node name.now) children.now }
+    {
+        children
+            .iter()
+            .position(|child| self.has_name(child.node, name))
+    }
+
+    fn has_name(&self, node: usize, name: &str) -> bool
+        ensures { result ≡ is_named_at self.now.places.items node name.now }
+    {
         match self.place(node) {
             Some(place) => place.name() == name,
             None => false,

@@ -15,9 +15,11 @@ use Rattle.drf_tree.specs.declared.family.Family.{Family}
 use Rattle.drf_tree.specs.declared.node.Place.{Place}
 use Rattle.drf_tree.specs.declared.node.Sum.{Sum}
 use Rattle.drf_tree.specs.declared.tree.Tree.{Tree}
+use Rattle.drf_tree.specs.declared.walk.Frame.{Frame}
 use Rattle.drf_tree.specs.Family.{IsSameKey, child_name, has_child, seen}
 use Rattle.drf_tree.specs.Marks.{Flags}
-use Rattle.drf_tree.specs.Nodes.{children_at, is_live, parent_at, path_at, seen_in}
+use Rattle.drf_tree.specs.Nodes.{children_at, family_at, is_live, parent_at, path_at, seen_in}
+use Rattle.drf_tree.specs.Queue.{IsSettled}
 use Rattle.drf_tree.specs.Tree.{AreRight, AreSums, IsChildOf, IsComplete, IsMarkedOrRight, IsShape, IsTreeOf}
 use Rattle.drf_tree.proofs.RenewLemmas.{IsRenewedTree}
 
@@ -143,3 +145,22 @@ copied_lists content old new places sums same marks of =
       complete = subst (λ (x : Lists). IsComplete content x.0 families) lists all.complete;
       right = subst (λ (x : Lists). AreRight content x.0 families x.2.stale) lists all.right;
     }
+
+-- ---- the walk
+
+numbers_seen : (old new : List Family) → map seen_in new ≡ map seen_in old → (i : ℕ) → family_at old i ≡ family_at new i
+numbers_seen old new same i =
+    sym (map-map (λ (s : Key × ℕ). s.1) seen (children_at old i))
+    ∙ ap (map (λ (s : Key × ℕ). s.1)) (seen_alike old new same i)
+    ∙ map-map (λ (s : Key × ℕ). s.1) seen (children_at new i)
+
+pub settled_copied : (content : Content) (places : List (Option Place)) (old new : List Family) → map seen_in new ≡ map seen_in old
+    → (frames : List Frame) → IsSettled content places old frames → IsSettled content places new frames
+settled_copied content places old new same [] settled = tt
+settled_copied content places old new same (f ∷ []) at = record {
+  node = at.node;
+  next = ap (λ (is : List ℕ). slice_get is f.next) (sym (numbers_seen old new same f.node)) ∙ at.next;
+  client = at.client;
+  active = at.active;
+}
+settled_copied content places old new same (f ∷ g ∷ frames) settled = settled_copied content places old new same (g ∷ frames) settled

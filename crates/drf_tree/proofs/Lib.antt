@@ -19,6 +19,7 @@ pub mod StepLemmas
 pub mod WithLemmas
 pub mod RenewLemmas
 pub mod CopyLemmas
+pub mod KeptLemmas
 pub mod SliceLemmas
 pub mod ClimbLemmas
 pub mod MoveLemmas

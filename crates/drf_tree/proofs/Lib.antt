@@ -34,3 +34,6 @@ pub mod DismissLemmas
 pub mod NameLemmas
 pub mod FindLemmas
 pub mod ShapeLemmas
+pub mod OpenLemmas
+pub mod VacantLemmas
+pub mod WitherLemmas

@@ -16,4 +16,4 @@ returns-clause-tree c =
     (λ i. e.families i ∙ ap (λ (fs : List Family). children_at fs i) c.new-3.ensures.items)
     (omega (arith, e.families_long, ap length c.new-3.ensures.items))
     ((λ i. (e.marks i).stale) ∙ (λ i. (c.new-4.ensures i).stale ++ false ∷ []))
-    (omega (arith, ap length e.sums, length-append c.new-2.result.items _, ap length c.new-2.ensures.items))
+    (omega (arith, ap (λ (ss : List Sum). length ss) e.sums, length-append {A = Sum}, ap (λ (ss : List Sum). length ss) c.new-2.ensures.items))

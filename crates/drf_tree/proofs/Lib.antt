@@ -25,3 +25,6 @@ pub mod DismissLemmas
 pub mod NameLemmas
 pub mod FindLemmas
 pub mod ShapeLemmas
+pub mod WitherLemmas
+pub mod OpenLemmas
+pub mod VacantLemmas

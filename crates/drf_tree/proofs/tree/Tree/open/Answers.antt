@@ -5,7 +5,6 @@ use Rattle.drf_tree.specs.declared.node.Place.{Place}
 use Rattle.drf_tree.specs.declared.node.Sum.{Sum}
 use Rattle.drf_tree.specs.Nodes.{children_at}
 use Rattle.drf_tree.proofs.OpenLemmas.{opened}
-use Rattle.drf_tree.proofs.WitherLemmas.{withered}
 use Rattle.drf_tree.proofs.tree.Tree.open.Goals as goal
 
 pub returns-clause-tree : goal.returns-clause-tree

@@ -3,6 +3,7 @@ use Rattle.std.proofs.Common.{◌≡◌, ℕ, ◌+◌, ◌<◌, ◌≤◌, Bool,
 use Rattle.std.specs.List.{flat_map}
 use Rattle.std.specs.Io.KnownBytes.{Appends, Consumes, Keeps, IsAtEnd}
 use Rattle.std.proofs.KnownBytes.{Appends-nil, Appends-trans, Consumes-nil, Consumes-trans, Consumes-kept}
+use Rattle.std.proofs.lemmas.Bool.{false≢true}
 use Rattle.std.proofs.lemmas.List.{at_drop_more, drop_all}
 use Rattle.drf_audit.specs.Audit.{line_of}
 use Rattle.drf_audit.specs.AuditText.{audit_text}
@@ -21,7 +22,7 @@ use Rattle.drf_journal.specs.declared.fault.RunFault.{RunFault}
 use Rattle.drf_journal.specs.declared.fault.RunFault.TheVariants.{Read, Write, Memory}
 use Rattle.drf_journal.specs.Audited.{rows_after_lines, agents_text, audit_of, IsAudited, HasAudited, HasTakenLines}
 use Rattle.drf_journal.specs.Device.{AppendsFrontOf}
-use Rattle.drf_journal.specs.Ended.{HasCause}
+use Rattle.drf_journal.specs.Ended.{HasCause, HasFlushed}
 use Rattle.drf_journal.specs.Lines.{lines_of}
 use Rattle.drf_journal.specs.Output.{rows_after_line}
 use Rattle.drf_journal.specs.State.{State, begun, IsBegun, machine_after, machine_after_lines, at_end}
@@ -140,83 +141,95 @@ cause-written (Err e) failed same fault = subst (λ (e : RunFault). HasCause (Er
 
 -- ---- how an audit ends
 
-module _ (limits : LimitNumbers) (unread_before unread_after written_before written_after : Option (List ℕ)) where
-  -- nothing is written where not all lines were taken
-  pub audit-unread : (fault : RunFault) (reads : ℕ) (reader_failed : Bool) (old new : Machine) → HasCause {T = Unit {0}} (Err fault) reader_failed reads false
-      → HasTakenLines old unread_before unread_after new (Err fault)
-      → HasAudited limits unread_before unread_after written_before written_before (Err fault)
-  audit-unread Read reads reader_failed old new cause taken = record {
-    read = taken.read;
-    written = [];
-    consumed = taken.consumed;
-    appended = Appends-nil written_before;
-    audited = refl;
-    whole = tt;
-    late = λ some. absurd (omega arith);
-  }
-  audit-unread Write reads reader_failed old new cause taken = let bad : false ≡ true = cause.1 in cc
-  audit-unread Memory reads reader_failed old new cause taken = record {
-    read = taken.read;
-    written = [];
-    consumed = taken.consumed;
-    appended = Appends-nil written_before;
-    audited = (0, refl);
-    whole = tt;
-    late = λ some. absurd (omega arith);
-  }
+-- nothing is written where not all lines were taken
+pub audit-unread : (limits : LimitNumbers) (unread_before unread_after written : Option (List ℕ)) (fault : RunFault) (reads : ℕ)
+    (reader_failed : Bool) (old new : Machine) → HasCause {T = Unit {0}} (Err fault) reader_failed reads false
+    → HasTakenLines old unread_before unread_after new (Err fault)
+    → HasAudited limits unread_before unread_after written written (Err fault)
+audit-unread limits unread_before unread_after written Read reads reader_failed old new cause taken = record {
+  read = taken.read;
+  written = [];
+  consumed = taken.consumed;
+  appended = Appends-nil written;
+  audited = refl;
+  whole = tt;
+  late = λ some. absurd (omega arith);
+}
+audit-unread limits unread_before unread_after written Write reads reader_failed old new cause taken =
+    let bad : false ≡ true = cause.1 in absurd (false≢true bad)
+audit-unread limits unread_before unread_after written Memory reads reader_failed old new cause taken = record {
+  read = taken.read;
+  written = [];
+  consumed = taken.consumed;
+  appended = Appends-nil written;
+  audited = (0, refl);
+  whole = tt;
+  late = λ some. absurd (omega arith);
+}
 
-  -- nor where memory ran out while the agents were looked at
-  pub audit-forgotten : (new : Machine) → HasTakenLines (opened limits) unread_before unread_after new (Ok tt)
-      → HasAudited limits unread_before unread_after written_before written_before (Err Memory)
-  audit-forgotten new taken = record {
-    read = taken.read;
-    written = [];
-    consumed = taken.consumed;
-    appended = Appends-nil written_before;
-    audited = (0, refl);
-    whole = tt;
-    late = λ some. absurd (omega arith);
-  }
+-- nor where memory ran out while the agents were looked at
+pub audit-forgotten : (limits : LimitNumbers) (unread_before unread_after written : Option (List ℕ)) (new : Machine)
+    → HasTakenLines (opened limits) unread_before unread_after new (Ok tt)
+    → HasAudited limits unread_before unread_after written written (Err Memory)
+audit-forgotten limits unread_before unread_after written new taken = record {
+  read = taken.read;
+  written = [];
+  consumed = taken.consumed;
+  appended = Appends-nil written;
+  audited = (0, refl);
+  whole = tt;
+  late = λ some. absurd (omega arith);
+}
 
-  pub audit-ends : (new : Machine) (lines : List AuditLine) (r : Result (Unit {0}) RunFault) (failed : Bool)
-      → HasTakenLines (opened limits) unread_before unread_after new (Ok tt)
-      → lines ≡ map (line_of new.rows) new.rows.agents → HasCause r false 0 failed
-      → OnOk r (Appends written_before written_after (flat_map audit_text lines))
-      → OnErr r (AppendsFrontOf written_before written_after (flat_map audit_text lines))
-      → HasAudited limits unread_before unread_after written_before written_after r
-  audit-ends new lines (Ok done) failed taken told cause all front = record {
-    read = taken.read;
-    written = flat_map audit_text lines;
-    consumed = taken.consumed;
-    appended = all;
-    audited = text_due limits taken.read new lines taken.machine told;
-    whole = taken.whole;
-    late = λ some. taken.whole;
-  }
-  audit-ends new lines (Err Read) failed taken told cause all front = absurd (⊎_elim (λ e. cc) (λ e. omega arith) cause.0)
-  audit-ends new lines (Err Write) failed taken told cause all front = record {
-    read = taken.read;
-    written = take front.0 (flat_map audit_text lines);
-    consumed = taken.consumed;
-    appended = front.1;
-    audited = (front.0, ap (take front.0) (text_due limits taken.read new lines taken.machine told));
-    whole = tt;
-    late = λ some. taken.whole;
-  }
-  audit-ends new lines (Err Memory) failed taken told cause all front = record {
-    read = taken.read;
-    written = take front.0 (flat_map audit_text lines);
-    consumed = taken.consumed;
-    appended = front.1;
-    audited = (front.0, ap (take front.0) (text_due limits taken.read new lines taken.machine told));
-    whole = tt;
-    late = λ some. taken.whole;
-  }
+-- the lines of the agents were written, or a front of them
+pub audit-ends : (limits : LimitNumbers) (unread_before unread_after written written_next : Option (List ℕ)) (new : Machine)
+    (lines : List AuditLine) (r : Result (Unit {0}) RunFault) (failed : Bool)
+    → HasTakenLines (opened limits) unread_before unread_after new (Ok tt)
+    → lines ≡ map (line_of new.rows) new.rows.agents → HasCause r false 0 failed
+    → OnOk r (Appends written written_next (flat_map audit_text lines))
+    → OnErr r (AppendsFrontOf written written_next (flat_map audit_text lines))
+    → HasAudited limits unread_before unread_after written written_next r
+audit-ends limits unread_before unread_after written written_next new lines (Ok done) failed taken told cause all front = record {
+  read = taken.read;
+  written = flat_map audit_text lines;
+  consumed = taken.consumed;
+  appended = all;
+  audited = text_due limits taken.read new lines taken.machine told;
+  whole = taken.whole;
+  late = λ some. taken.whole;
+}
+audit-ends limits unread_before unread_after written written_next new lines (Err Read) failed taken told cause all front =
+    absurd (⊎_elim (λ e. false≢true e) (λ e. omega arith) cause.0)
+audit-ends limits unread_before unread_after written written_next new lines (Err Write) failed taken told cause all front = record {
+  read = taken.read;
+  written = take front.0 (flat_map audit_text lines);
+  consumed = taken.consumed;
+  appended = front.1;
+  audited = (front.0, ap (take front.0) (text_due limits taken.read new lines taken.machine told));
+  whole = tt;
+  late = λ some. taken.whole;
+}
+audit-ends limits unread_before unread_after written written_next new lines (Err Memory) failed taken told cause all front = record {
+  read = taken.read;
+  written = take front.0 (flat_map audit_text lines);
+  consumed = taken.consumed;
+  appended = front.1;
+  audited = (front.0, ap (take front.0) (text_due limits taken.read new lines taken.machine told));
+  whole = tt;
+  late = λ some. taken.whole;
+}
 
 -- a fault of the writer is none of the reader
 pub cause-ended : (r : Result (Unit {0}) RunFault) (reader_failed : Bool) (reads : ℕ) (writer_failed : Bool) → reader_failed ≡ false
     → HasCause r false 0 writer_failed → HasCause r reader_failed reads writer_failed
 cause-ended (Ok done) reader_failed reads writer_failed sound cause = (sound, cause.1)
-cause-ended (Err Read) reader_failed reads writer_failed sound cause = absurd (⊎_elim (λ e. cc) (λ e. omega arith) cause.0)
+cause-ended (Err Read) reader_failed reads writer_failed sound cause = absurd (⊎_elim (λ e. false≢true e) (λ e. omega arith) cause.0)
 cause-ended (Err Write) reader_failed reads writer_failed sound cause = (sound, cause.1)
 cause-ended (Err Memory) reader_failed reads writer_failed sound cause = (sound, cause.1)
+
+-- what was flushed stays so
+pub flushed-still : {T : Type 0} (r : Result T RunFault) (flushed : Bool) → flushed ≡ true → HasFlushed r flushed
+flushed-still (Ok done) flushed is = is
+flushed-still (Err Read) flushed is = is
+flushed-still (Err Write) flushed is = tt
+flushed-still (Err Memory) flushed is = is

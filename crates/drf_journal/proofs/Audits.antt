@@ -94,6 +94,12 @@ module _ (old : State) (begins : IsBegun old) (unread_first unread unread_next :
     whole = end;
   }
 
+-- the allocator that took them is known by another name
+pub taken_as : (old other : Machine) (unread_before unread_after : Option (List ℕ)) (new : Machine) → old ≡ other
+    → HasTakenLines old unread_before unread_after new (Ok tt) → HasTakenLines other unread_before unread_after new (Ok tt)
+taken_as old other unread_before unread_after new same taken =
+    subst (λ (m : Machine). HasTakenLines m unread_before unread_after new (Ok tt)) same taken
+
 -- ---- text that is written part by part
 
 pub wrote-begins : (written : Option (List ℕ)) (text : List ℕ) → WroteFront written written text text
@@ -137,7 +143,7 @@ wrote-all f xs i old now text past wrote =
 pub cause-written : {T : Type 0} (r : Result T RunFault) (failed : Bool) → failed ≡ is_err r → IfErr r (λ fault. fault ≡ Write)
     → HasCause r false 0 failed
 cause-written (Ok done) failed same fault = (refl, same)
-cause-written (Err e) failed same fault = subst (λ (e : RunFault). HasCause (Err e) false 0 failed) (sym fault) (refl, same)
+cause-written {T} (Err e) failed same fault = subst (λ (e : RunFault). HasCause {T = T} (Err e) false 0 failed) (sym fault) (refl, same)
 
 -- ---- how an audit ends
 

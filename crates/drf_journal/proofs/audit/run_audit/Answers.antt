@@ -4,7 +4,7 @@ use Rattle.drf_core.specs.Machine.{Machine, opened}
 use Rattle.drf_journal.specs.Audited.{HasTakenLines}
 use Rattle.drf_journal.specs.declared.fault.RunFault.TheVariants.{Memory}
 use Rattle.drf_journal.specs.State.{State}
-use Rattle.drf_journal.proofs.Audits.{lines-untaken, audit-unread, audit-forgotten, audit-ends, cause-ended, flushed-still}
+use Rattle.drf_journal.proofs.Audits.{lines-untaken, audit-unread, audit-forgotten, audit-ends, cause-ended, flushed-still, taken_as}
 use Rattle.drf_journal.proofs.audit.run_audit.Goals as goal
 
 pub returns-in_err-session-clause-audited : goal.returns-in_err-session-clause-audited
@@ -30,7 +30,7 @@ pub returns-in_err-lines-clause-audited : goal.returns-in_err-lines-clause-audit
 returns-in_err-lines-clause-audited g c =
     let p = err_from_is_err_and c.from_residual-in_err-lines.result c.from_residual-in_err-lines.ensures.1 in
     let start = ap (λ (s : State). s.machine) c.in_ok-session.ensures in
-    let taken = subst (λ (m : Machine). HasTakenLines m _ _ c.take_lines.new.session.machine (Ok tt)) start c.in_ok-take_lines.ensures.taken in
+    let taken = taken_as _ _ _ _ _ start c.in_ok-take_lines.ensures.taken in
     rw (p.1, p.2) (audit-forgotten c.args.limits _ _ _ _ taken)
 
 pub returns-in_err-lines-clause-cause : goal.returns-in_err-lines-clause-cause
@@ -44,7 +44,7 @@ returns-in_err-lines-clause-flushed g c = λ begun. flushed-still _ _ begun
 pub returns-clause-audited : goal.returns-clause-audited
 returns-clause-audited g c =
     let start = ap (λ (s : State). s.machine) c.in_ok-session.ensures in
-    let taken = subst (λ (m : Machine). HasTakenLines m _ _ c.take_lines.new.session.machine (Ok tt)) start c.in_ok-take_lines.ensures.taken in
+    let taken = taken_as _ _ _ _ _ start c.in_ok-take_lines.ensures.taken in
     audit-ends c.args.limits _ _ _ _ _ c.deref.result.now c.write_lines.result _ taken
     (c.deref.ensures.value ∙ c.in_ok-lines.ensures) (c.write_lines.ensures.cause c.requires.writer.1) c.write_lines.ensures.ok c.write_lines.ensures.err
 

@@ -1,2 +1,4 @@
 pub mod Tallying
 pub mod Shuffles
+pub mod Runs
+pub mod Scripts

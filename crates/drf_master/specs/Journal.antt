@@ -44,3 +44,7 @@ pub record IsNext (given : LimitNumbers) (entries : List Entry) (engine : Engine
 pub record HasTaken (given : LimitNumbers) (entries : List Entry) (engine : Engine) (taken : ℕ) : Type 0 where
   pub few : taken ≤ length entries
   pub run : IsRunOf given (take taken entries) engine
+
+abbrev pub HasTakenIfAny : LimitNumbers → List Entry → Option Engine → ℕ → Type 0
+HasTakenIfAny given entries None taken = Unit {0}
+HasTakenIfAny given entries (Some engine) taken = HasTaken given entries engine taken

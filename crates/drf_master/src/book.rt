@@ -6,7 +6,7 @@ ghost use Rattle.drf_master.specs.Matching.{IsShuffle, IsFault, receipts_of};
 ghost use Rattle.drf_master.specs.declared.matching.CloseFault.TheVariants.{Memory};
 ghost use Rattle.drf_rows.specs.Report.{report_of};
 
-use crate::follower::Follower;
+use crate::follower::Second;
 use crate::matching::{CloseFault, matches};
 use crate::pass::Pass;
 use drf_board::Entry;
@@ -23,15 +23,15 @@ use std::mem::replace;
 pub struct Book<S: Sorter> {
     limits: Limits,
     core: Core<S>,
-    // A second core, behind the first, which works out what comes next. There is none while a prepared event has it.
-    follower: Option<Follower<S>>,
+    // Another core, behind that one, which works out what comes next.
+    second: Second<S>,
     entries: Vec<Entry>,
 }
 
 impl<S: Sorter> Model for Book<S> {
-    ghost use Rattle.std.specs.Prelude.{◌-◌, vec_len, vec_capacity, MatchOption};
+    ghost use Rattle.std.specs.Prelude.{◌-◌, vec_len, vec_capacity};
     ghost use Rattle.drf_board.specs.History.{IsLegal};
-    ghost use Rattle.drf_master.specs.Journal.{Journal, journal_code, IsRunOf, HasTaken};
+    ghost use Rattle.drf_master.specs.Journal.{Journal, journal_code, IsRunOf, HasTakenIfAny};
 
     ghost Value = { Journal };
 
@@ -39,7 +39,7 @@ impl<S: Sorter> Model for Book<S> {
 
     ghost view = { λ b. record { limits = b.limits; entries = b.entries.items; room = vec_capacity b.entries - vec_len b.entries } };
 
-    ghost invariant = { λ b. IsLegal b.limits b.entries.items × IsRunOf b.limits b.entries.items b.core × MatchOption b.follower (Unit {0}) (λ f. HasTaken b.limits b.entries.items f.core f.taken) };
+    ghost invariant = { λ b. IsLegal b.limits b.entries.items × IsRunOf b.limits b.entries.items b.core × HasTakenIfAny b.limits b.entries.items b.second.core b.second.taken };
 }
 
 /// The core after one event more, and the entry that is to be added.
@@ -80,7 +80,7 @@ impl<S: Sorter> Book<S> {
         Ok(Book {
             limits,
             core: Core::open(alloc, limits)?,
-            follower: None,
+            second: Second::empty(),
             entries: Vec::new(alloc),
         })
     }
@@ -108,23 +108,6 @@ impl<S: Sorter> Book<S> {
         &self.core
     }
 
-    // A second core that has taken the whole journal. It is then the caller's.
-    fn caught_up(&mut self) -> Result<Core<S>, AllocError>
-        ensures same { self.new ≡ self.old }
-        ensures run { IfOk result (IsRunOf self.new.limits self.new.entries) }
-    {
-        let mut follower = match self.follower.take() {
-            Some(follower) => follower,
-            None => Follower::open(*self.entries.allocator(), self.limits)?,
-        };
-        if let Err(error) = follower.catch_up(self.entries.as_slice()) {
-            self.follower = Some(follower);
-            return Err(error);
-        }
-        let Follower { core, taken: _ } = follower;
-        Ok(core)
-    }
-
     /// Works out what comes of an event, and makes room for its entry. The journal stays as it is.
     pub fn prepare(&mut self, event: Event) -> Result<Next<S>, AllocError>
         ensures same { IsSameJournal self.old self.new }
@@ -134,15 +117,15 @@ impl<S: Sorter> Book<S> {
     {
         self.entries.reserve(1)?;
         let kept = event.copy()?;
-        let mut core = self.caught_up()?;
+        let alloc = *self.entries.allocator();
+        let mut core = self.second.caught_up(alloc, self.limits, self.entries.as_slice())?;
         match core.step(event) {
             Ok(reply) => Ok(Next {
                 core,
                 entry: Entry { event: kept, reply },
             }),
             Err(error) => {
-                let taken = self.entries.len();
-                self.follower = Some(Follower { core, taken });
+                self.second.keep(core, self.entries.len());
                 Err(error)
             }
         }
@@ -157,11 +140,10 @@ impl<S: Sorter> Book<S> {
         ensures added { Adds self.old self.new next.entry }
     {
         let Next { core, entry } = next;
-        let taken = self.entries.len();
-        let core = replace(&mut self.core, core);
-        self.follower = Some(Follower { core, taken });
+        let place = self.entries.len();
+        self.second.keep(replace(&mut self.core, core), place);
         self.entries.push_reserved(entry);
-        taken as u64
+        place as u64
     }
 
     /// Takes an event, and answers its reply and its place. Where it finds no memory the journal stays as it is.

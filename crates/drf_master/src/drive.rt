@@ -1,7 +1,7 @@
 //! Scripts of events that threads run on one master, each on a pass of its own.
-ghost use Rattle.std.specs.Prelude.{◌≡◌, ◌<◌, ℕ, length, IfOk, slice_index_or};
+ghost use Rattle.std.specs.Prelude.{◌≡◌, length, map, IfOk};
 ghost use Rattle.drf_board.specs.History.{IsLegal};
-ghost use Rattle.drf_master.specs.Scripts.{AreJobs, DidJob, DidJobs, HasDriven, HasRun};
+ghost use Rattle.drf_master.specs.Scripts.{AreDone, DidJob, DidJobs, HasDriven, HasRun};
 
 use crate::book::Book;
 use crate::desk::{Answer, MasterSorter};
@@ -72,7 +72,7 @@ fn run_script<K: Naming, R: Wait + Drop, W: Wait, G: Gate>(
     gate: &G,
     job: Job,
 ) -> Result<Done, DriveFault>
-    ensures { IfOk result (λ done. HasRun job.pass done.pass job.script.items done.replies.items) }
+    ensures { IfOk result (λ done. HasRun job.pass.receipts job.script.items done.replies.items done.pass.receipts) }
 {
     let Job {
         worker,
@@ -107,8 +107,7 @@ fn run_all<
     gate: &G,
     jobs: Vec<Job>,
 ) -> Result<Vec<Result<Done, DriveFault>>, AllocError>
-    ensures count { IfOk result (λ done. length done.items ≡ length jobs.items) }
-    ensures each { IfOk result (λ done. (i : ℕ) (d : _) (e : _) → i < length jobs.items → DidJob (slice_index_or jobs.items i e) (slice_index_or done.items i d)) }
+    ensures { IfOk result (λ results. DidJobs jobs.items results.items) }
 {
     thread::map_vec(
         rt,
@@ -126,7 +125,8 @@ fn jobs_of(
     scripts: Vec<Vec<Event>>,
 ) -> Result<Vec<Job>, AllocError>
     requires { length scripts.items ≡ length passes.items }
-    ensures { IfOk result (λ jobs. AreJobs passes.items scripts.items jobs.items) }
+    ensures passes { IfOk result (λ jobs. map (λ job. job.pass) jobs.items ≡ passes.items) }
+    ensures scripts { IfOk result (λ jobs. map (λ job. job.script) jobs.items ≡ scripts.items) }
 {
     let mut jobs = Vec::with_capacity(alloc, passes.len())?;
     let mut worker = 0u64;
@@ -180,7 +180,7 @@ pub fn drive<
 ) -> Result<Driven, DriveFault>
     requires { length scripts.items ≡ length passes.items }
     ensures legal { IfOk result (λ driven. IsLegal K.slate.limits driven.book.entries) }
-    ensures driven { IfOk result (λ driven. HasDriven passes.items scripts.items driven.book.entries driven.replies.items) }
+    ensures driven { IfOk result (λ driven. HasDriven passes.items scripts.items driven.replies.items driven.book.entries) }
 {
     if !are_of(master.key(), &passes) {
         return Err(DriveFault::Close(CloseFault::Stranger));

@@ -9,11 +9,11 @@ use Rattle.drf_amount.specs.Algebra.{AlgebraLaws}
 use Rattle.drf_amount.specs.Pool.{joined_with}
 
 -- one step of a chain after another
-and_then-and_then : {A B C : Type 0} (f : A → Option B) (g : B → Option C) (o : Option A) → option_and_then (λ a. option_and_then g (f a)) o ≡ option_and_then g (option_and_then f o)
+pub and_then-and_then : {A B C : Type 0} (f : A → Option B) (g : B → Option C) (o : Option A) → option_and_then (λ a. option_and_then g (f a)) o ≡ option_and_then g (option_and_then f o)
 and_then-and_then f g None = refl
 and_then-and_then f g (Some a) = refl
 
-and_then-Some : {A : Type 0} (o : Option A) → option_and_then Some o ≡ o
+pub and_then-Some : {A : Type 0} (o : Option A) → option_and_then Some o ≡ o
 and_then-Some None = refl
 and_then-Some (Some a) = refl
 

@@ -13,7 +13,7 @@ use Rattle.drf_amount.proofs.Joined.{joined_with-push, IfSome-joined_with, given
 use Rattle.drf_amount.proofs.Numbered.{insert_entry-last, NumbersRise-push, NumbersRise-without, NumbersRise-with}
 
 -- both steps of a chain that ends in a value
-both_steps : {A B : Type 0} (f : A → Option B) (o : Option A) (b : B) → option_and_then f o ≡ Some b → (a : A) × (o ≡ Some a) × (f a ≡ Some b)
+pub both_steps : {A B : Type 0} (f : A → Option B) (o : Option A) (b : B) → option_and_then f o ≡ Some b → (a : A) × (o ≡ Some a) × (f a ≡ Some b)
 both_steps f o b chain = option_and_then_some f o b chain (λ a first second. (a, first, second))
 
 -- a part that was replaced is found, and leaves the same others

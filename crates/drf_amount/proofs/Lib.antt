@@ -2,3 +2,4 @@ mod Examples
 pub mod Joined
 pub mod Kept
 pub mod Numbered
+pub mod Split

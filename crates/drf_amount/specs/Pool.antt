@@ -19,6 +19,16 @@ abbrev pub joined_with : {A : Type 0} → (A → A → Option A) → A → List 
 joined_with join base [] = Some base
 joined_with join base (part ∷ parts) = option_and_then (λ rest. join rest part.1) (joined_with join base parts)
 
+-- base, joined with each amount, from the left
+abbrev pub joined_all : {A : Type 0} → (A → A → Option A) → A → List A → Option A
+joined_all join base [] = Some base
+joined_all join base (amount ∷ amounts) = option_and_then (λ more. joined_all join more amounts) (join base amount)
+
+-- amounts with numbers, from first on
+abbrev pub numbered : {A : Type 0} → ℕ → List A → List (ℕ × A)
+numbered first [] = []
+numbered first (amount ∷ amounts) = (first, amount) ∷ numbered (first + 1) amounts
+
 -- the total is the free part joined with each part that is out
 abbrev pub IsWhole : {A : Type 0} → (A → A → Option A) → PoolContent A → Type 0
 IsWhole join pool = joined_with join pool.free pool.parts ≡ Some pool.total

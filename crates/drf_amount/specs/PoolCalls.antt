@@ -1,11 +1,12 @@
 -- What the calls of a pool do, and when they refuse.
-use Rattle.std.specs.Prelude.{◌≡◌, ℕ, ◌+◌, ◌-◌, ◌<◌, ◌^◌, [], ◌∷◌, ◌++◌, Option, Some, None, IsSome, IsSomeAnd}
+use Rattle.std.specs.Prelude.{◌≡◌, ℕ, ◌+◌, ◌-◌, ◌<◌, ◌≤◌, ◌^◌, List, [], ◌∷◌, ◌++◌, length, Option, Some, None, IsSome, IsSomeAnd}
+use Rattle.std.specs.Map.{keys_of}
 use Rattle.drf_amount.specs.declared.algebra.AlgebraFault.{AlgebraFault}
 use Rattle.drf_amount.specs.declared.algebra.AlgebraFault.TheVariants as algebra
 use Rattle.drf_amount.specs.declared.pool.PoolFault.{PoolFault}
 use Rattle.drf_amount.specs.declared.pool.PoolFault.TheVariants.{UnknownPart, NotCovered, Kind, Overlap, TooLarge, Full, Memory}
 use Rattle.drf_amount.specs.Algebra.{IsRest, Covers}
-use Rattle.drf_amount.specs.Pool.{PoolContent, part_at, parts_without, parts_with}
+use Rattle.drf_amount.specs.Pool.{PoolContent, joined_all, numbered, part_at, parts_without, parts_with}
 
 -- the fault of a pool for a fault of an amount
 abbrev pub pool_fault : AlgebraFault → PoolFault
@@ -14,6 +15,24 @@ pool_fault algebra.Overlap = Overlap
 pool_fault algebra.TooLarge = TooLarge
 pool_fault algebra.NotCovered = NotCovered
 pool_fault algebra.Memory = Memory
+
+-- the first amount, from the left, that has no join with those before it, has none for that fault
+pub record StopsAt {A : Type 0} (join : A → A → Option A) (refusal : A → A → Option AlgebraFault) (empty : A) (amounts : List A) (fault : AlgebraFault) : Type 0 where
+  pub before : List A
+  pub amount : A
+  pub after : List A
+  pub amounts_are : amounts ≡ before ++ amount ∷ after
+  pub joined : A
+  pub joined_is : joined_all join empty before ≡ Some joined
+  pub refused : refusal joined amount ≡ Some fault
+
+-- what may be answered in place of the join of all
+abbrev pub IsJoinAllFault : {A : Type 0} → (A → A → Option A) → (A → A → Option AlgebraFault) → A → List A → AlgebraFault → Type 0
+IsJoinAllFault join refusal empty amounts algebra.Kind = StopsAt join refusal empty amounts algebra.Kind
+IsJoinAllFault join refusal empty amounts algebra.Overlap = StopsAt join refusal empty amounts algebra.Overlap
+IsJoinAllFault join refusal empty amounts algebra.TooLarge = StopsAt join refusal empty amounts algebra.TooLarge
+IsJoinAllFault join refusal empty amounts algebra.NotCovered = ⊥
+IsJoinAllFault join refusal empty amounts algebra.Memory = Unit {0}
 
 -- when `give_back` answers each fault
 abbrev pub IsGiveBackFault : {A : Type 0} → PoolContent A → ℕ → PoolFault → Type 0
@@ -50,6 +69,21 @@ module _ {A : Type 0} (is_given : A → Type 0) (join : A → A → Option A) wh
     pub next : new.next ≡ old.next
     pub total : new.total ≡ old.total
 
+  -- in place of the part with that number all that are wanted are out, under the next numbers, and the rest of it is free
+  pub record Splits (empty : A) (old new : PoolContent A) (number : ℕ) (wanted : List A) (numbers : List ℕ) : Type 0 where
+    pub part : A
+    pub part_is : part_at old.parts number ≡ Some part
+    pub whole : A
+    pub whole_is : joined_all join empty wanted ≡ Some whole
+    pub rest : A
+    pub rest_is : IsRest is_given join part whole rest
+    pub freed : IsRest is_given join new.free rest old.free
+    pub numbers_are : numbers ≡ keys_of (numbered old.next wanted)
+    pub numbers_left : old.next + length wanted ≤ 2 ^ 64 - 1
+    pub parts : new.parts ≡ parts_without old.parts number ++ numbered old.next wanted
+    pub next : new.next ≡ old.next + length wanted
+    pub total : new.total ≡ old.total
+
   -- after is before, with new in the place of old
   pub record IsReplaced (before after old new : A) : Type 0 where
     pub rest : A
@@ -83,6 +117,16 @@ module _ {A : Type 0} (is_given : A → Type 0) (join : A → A → Option A) wh
   IsShrinkFault pool number smaller NotCovered = PartLacks pool number smaller
   IsShrinkFault pool number smaller Memory = PartCovers pool number smaller
   IsShrinkFault pool number smaller _ = ⊥
+
+  -- when `split` answers each fault: want of memory may come before all but an unknown part
+  abbrev pub IsSplitFault : (A → A → Option AlgebraFault) → A → PoolContent A → ℕ → List A → PoolFault → Type 0
+  IsSplitFault refusal empty pool number wanted UnknownPart = part_at pool.parts number ≡ None
+  IsSplitFault refusal empty pool number wanted Kind = IsSome (part_at pool.parts number) × StopsAt join refusal empty wanted algebra.Kind
+  IsSplitFault refusal empty pool number wanted Overlap = IsSome (part_at pool.parts number) × StopsAt join refusal empty wanted algebra.Overlap
+  IsSplitFault refusal empty pool number wanted TooLarge = IsSome (part_at pool.parts number) × StopsAt join refusal empty wanted algebra.TooLarge
+  IsSplitFault refusal empty pool number wanted NotCovered = IsSomeAnd (joined_all join empty wanted) (PartLacks pool number)
+  IsSplitFault refusal empty pool number wanted Full = IsSomeAnd (joined_all join empty wanted) (PartCovers pool number) × (2 ^ 64 - 1 < pool.next + length wanted)
+  IsSplitFault refusal empty pool number wanted Memory = IsSome (part_at pool.parts number)
 
   -- the free part covers old, and the rest of the total has no join with new, for that fault
   pub record Refuses (refusal : A → A → Option AlgebraFault) (pool : PoolContent A) (old new : A) (fault : AlgebraFault) : Type 0 where

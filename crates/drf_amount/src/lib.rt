@@ -3,6 +3,7 @@
 #![tactic(auto)]
 
 mod algebra;
+mod parts;
 mod pool;
 mod scalar;
 

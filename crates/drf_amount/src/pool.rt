@@ -1,12 +1,13 @@
-ghost use Rattle.std.specs.Prelude.{◌≡◌, [], IsSome, IfOk, IfErr, OnOk, OnErr};
+ghost use Rattle.std.specs.Prelude.{◌≡◌, [], All, IsSome, IfOk, IfErr, OnOk, OnErr};
 ghost use Rattle.std.specs.Option.{option_copied};
 ghost use Rattle.drf_amount.specs.Algebra.{Covers};
 ghost use Rattle.drf_amount.specs.Pool.{pool_of, IsPool, part_at};
-ghost use Rattle.drf_amount.specs.PoolCalls.{pool_fault, Takes, GivesBack, Shrinks, Replaces, IsTakeFault, IsGiveBackFault, IsShrinkFault, IsReplaceFault};
+ghost use Rattle.drf_amount.specs.PoolCalls.{pool_fault, Takes, GivesBack, Shrinks, Splits, Replaces, IsTakeFault, IsGiveBackFault, IsShrinkFault, IsSplitFault, IsReplaceFault};
 ghost use Rattle.drf_amount.specs.declared.pool.PoolFault.{PoolFault};
 ghost use Rattle.drf_amount.specs.declared.pool.PoolFault.TheVariants.{Memory};
 
 use super::algebra::{Algebra, AlgebraFault};
+use super::parts::{copy_parts, join_all, put_all};
 use std::alloc::{AllocError, AllocFailed, Global};
 use std::collections::BTreeMap;
 use std::marker::Model;
@@ -71,6 +72,7 @@ impl<T: Drop> From<AllocFailed<T>> for PoolFault {
 /// A total, of which a part is free and numbered parts are out.
 #[derive(Drop)]
 pub struct Pool<A: Algebra> {
+    alloc: Global,
     total: A,
     free: A,
     parts: BTreeMap<u64, A>,
@@ -94,6 +96,7 @@ impl<A: Algebra> Pool<A> {
         ensures { IfOk result (λ pool. pool ≡ pool_of total total [] 0) }
     {
         Ok(Pool {
+            alloc,
             free: total.copy()?,
             total,
             parts: BTreeMap::new(alloc),
@@ -178,6 +181,33 @@ impl<A: Algebra> Pool<A> {
         Ok(())
     }
 
+    /// Puts several parts in the place of one: it goes, they are out under new numbers, in order, and its rest is free. Faults:
+    /// `UnknownPart`; what keeps the first of them, from the left, from those before it, `Kind`, `Overlap` or `TooLarge`;
+    /// `NotCovered`; `Full`; and `Memory`, which may come before all but the first.
+    pub fn split(&mut self, number: u64, parts: &[A]) -> Result<Vec<u64>, PoolFault>
+        ensures given { OnOk result (All A.is_given parts.now) }
+        ensures ok { IfOk result (λ numbers.
+            Splits A.is_given A.join A.empty self.old self.new number parts.now numbers.items) }
+        ensures fault { IfErr result
+            (IsSplitFault A.is_given A.join A.refusal A.empty self.old number parts.now) }
+        ensures err { OnErr result (self.new ≡ self.old) }
+    {
+        let Some(part) = self.parts.get(&number) else {
+            return Err(PoolFault::UnknownPart);
+        };
+        let wanted = join_all(self.alloc, parts)?;
+        let rest = part.try_minus(&wanted)?;
+        let free = self.free.try_join(&rest)?;
+        let Some(next) = self.next.checked_add(parts.len() as u64) else {
+            return Err(PoolFault::Full);
+        };
+        let numbers = put_all(self.alloc, &mut self.parts, self.next, parts)?;
+        self.parts.remove(&number);
+        self.free = free;
+        self.next = next;
+        Ok(numbers)
+    }
+
     /// Puts `new` for `old`, in the total and in the free part. Faults: `NotCovered`; what keeps
     /// `new` from the rest of the total, `Kind`, `Overlap` or `TooLarge`; and `Memory`, which may
     /// come before these three.
@@ -195,5 +225,18 @@ impl<A: Algebra> Pool<A> {
         self.total = total;
         self.free = free_joined;
         Ok(())
+    }
+
+    /// A pool of equal content.
+    pub fn copy(&self) -> Result<Pool<A>, AllocError>
+        ensures { IfOk result (λ copy. copy ≡ self.now) }
+    {
+        Ok(Pool {
+            alloc: self.alloc,
+            total: self.total.copy()?,
+            free: self.free.copy()?,
+            parts: copy_parts(self.alloc, &self.parts)?,
+            next: self.next,
+        })
     }
 }

@@ -1,5 +1,5 @@
 //! What decides between siblings.
-ghost use Rattle.std.specs.Prelude.{◌≡◌, ◌≤◌, ◌<◌, ◌^◌, ℕ};
+ghost use Rattle.std.specs.Prelude.{◌≡◌, ◌≤◌, ◌<◌, ◌^◌, ℕ, IfOk};
 ghost use Rattle.std.specs.String.{string_bytes};
 ghost use Rattle.drf_bundle.specs.Quantities.{amount_of};
 ghost use Rattle.drf_role.specs.Text.{Text};
@@ -8,6 +8,7 @@ ghost use Rattle.drf_sorter.specs.Share.{fraction_of};
 
 use crate::share::Share;
 use drf_bundle::Quantities;
+use std::alloc::AllocError;
 
 /// What holds amounts of scalars.
 pub trait Holding {
@@ -96,6 +97,16 @@ impl Key {
             count,
             name,
         }
+    }
+
+    pub fn copy(&self) -> Result<Key, AllocError>
+        ensures { IfOk result (λ key. key_by key ≡ key_by self.now) }
+    {
+        Ok(Key {
+            share: self.share,
+            count: self.count,
+            name: self.name.clone()?,
+        })
     }
 
     /// The name of the node, given out again without memory.

@@ -110,8 +110,15 @@ impl PlainSorter {
     ghost use Rattle.drf_sorter.specs.Plain.{plain_content, plain_standing};
     ghost use Rattle.drf_sorter.specs.Candidates.{HasKeys};
 
+    /// The total of the cluster.
+    pub fn total(&self) -> &Quantities
+        ensures { result.now ≡ self.now.total }
+    {
+        &self.total
+    }
+
     /// The weight of a node, in thousandths.
-    fn weight_of(&self, node: &NodePath) -> u64
+    pub fn weight_of(&self, node: &NodePath) -> u64
         ensures value { result ≡ weight_of self.now.weights.items node.now }
         ensures weighs { 1 ≤ result }
         ensures light { result ≤ 1000000 }

@@ -1,0 +1,68 @@
+-- A walk by frames, step by step: what it still comes to stays, and the steps that are left are fewer.
+use Rattle.std.specs.Prelude.{◌≡◌, ◌+◌, ℕ, zero, suc, List, [], ◌∷◌, ◌++◌, None, Some, drop, flat_map, length, slice_get, sum_by}
+use Rattle.std.proofs.Common.{refl, sym, ap, ◌∙◌, append_assoc, arith}
+use Rattle.std.proofs.lemmas.List.{append-nil}
+use Rattle.std.proofs.lemmas.Option.{same_Some}
+use Rattle.drf_role.specs.Path.{Path}
+use Rattle.drf_tree.specs.declared.walk.Frame.{Frame}
+use Rattle.drf_tree.specs.Queue.{pending}
+use Rattle.drf_tree.specs.Walk.{walk}
+
+-- ---- lists by place
+
+pub drop_past : {X : Type 0} (xs : List X) (i : ℕ) → slice_get xs i ≡ None → drop i xs ≡ []
+drop_past [] zero none = refl
+drop_past [] (suc i) none = refl
+drop_past (x ∷ xs) zero none = absurd cc
+drop_past (x ∷ xs) (suc i) none = drop_past xs i none
+
+pub drop_next : {X : Type 0} (xs : List X) (i : ℕ) (x : X) → slice_get xs i ≡ Some x → drop i xs ≡ x ∷ drop (i + 1) xs
+drop_next [] i x some = absurd cc
+drop_next (y ∷ ys) zero x some = ap (λ (z : _). z ∷ ys) (same_Some y x some)
+drop_next (y ∷ ys) (suc i) x some = let next : suc i + 1 ≡ suc (i + 1) = omega arith in rw next (drop_next ys i x some)
+
+-- ---- what frames still come to
+
+module _ (clients : List Path) (path : ℕ → Path) (family : ℕ → List ℕ) where
+  abbrev pub Walked : ℕ → ℕ → List Path
+  Walked m x = walk clients path family m x
+
+  abbrev pub Pending : ℕ → List Frame → List Path
+  Pending n frames = pending clients path family n frames
+
+  -- what is left of the last family comes first
+  pub pending_last : (front : List Frame) (f : Frame) (m n : ℕ) → n ≡ length front + suc m
+      → Pending n (front ++ f ∷ []) ≡ flat_map (Walked m) (drop f.next (family f.node)) ++ Pending n front
+  pending_last [] f m zero deep = absurd (omega (arith, deep))
+  pending_last [] f m (suc n) deep =
+      let same : n ≡ m = omega (arith, deep) in
+      ap (λ (k : ℕ). flat_map (Walked k) (drop f.next (family f.node))) same
+      ∙ sym (append-nil (flat_map (Walked m) (drop f.next (family f.node))))
+  pending_last (g ∷ front) f m zero deep = absurd (omega (arith, deep))
+  pending_last (g ∷ front) f m (suc n) deep =
+      let above : List Path = flat_map (Walked n) (drop g.next (family g.node)) in
+      ap (λ (ps : List Path). ps ++ above) (pending_last front f m n (omega (arith, deep)))
+      ∙ append_assoc (flat_map (Walked m) (drop f.next (family f.node))) (Pending n front) above
+
+-- ---- the steps that are left
+
+-- to go along a node and all below it, at most so many parts deeper
+abbrev pub size : (ℕ → List ℕ) → ℕ → ℕ → ℕ
+size family zero x = 2
+size family (suc n) x = 2 + sum_by (size family n) (family x)
+
+-- to go along what is left of each frame, the root's first
+abbrev pub left : (ℕ → List ℕ) → ℕ → List Frame → ℕ
+left family depth [] = 0
+left family zero (f ∷ frames) = 0
+left family (suc n) (f ∷ frames) = 1 + sum_by (size family n) (drop f.next (family f.node)) + left family n frames
+
+pub left_last : (family : ℕ → List ℕ) (front : List Frame) (f : Frame) (m n : ℕ) → n ≡ length front + suc m
+    → left family n (front ++ f ∷ []) ≡ 1 + sum_by (size family m) (drop f.next (family f.node)) + left family n front
+left_last family [] f m zero deep = absurd (omega (arith, deep))
+left_last family [] f m (suc n) deep =
+    let same : n ≡ m = omega (arith, deep) in
+    ap (λ (k : ℕ). 1 + sum_by (size family k) (drop f.next (family f.node)) + 0) same
+left_last family (g ∷ front) f m zero deep = absurd (omega (arith, deep))
+left_last family (g ∷ front) f m (suc n) deep =
+    omega (arith, left_last family front f m n (omega (arith, deep)))

@@ -1,0 +1,74 @@
+-- Marks that are set and taken back, one at a time.
+use Rattle.std.specs.Prelude.{◌≡◌, ◌≤◌, ◌<◌, ◌+◌, ◌-◌, ◌^◌, ℕ, min, zero, suc, Bool, true, false, List, [], ◌∷◌, cond, length, slice_index_or, slice_set}
+use Rattle.std.proofs.Common.{refl, sym, ap, ◌∙◌, inl, inr, arith}
+use Rattle.std.proofs.Math.Nat.{min-le_left}
+use Rattle.std.proofs.lemmas.Bool.{cases_eq}
+use Rattle.std.proofs.lemmas.List.{get_or-set_other, set-get_or}
+use Rattle.std.proofs.lemmas.List.Sums.{count_by-le-length, sum_by-set}
+use Rattle.drf_rows.specs.ListLaws.{count_by-cons}
+use Rattle.drf_sorter.specs.Work.{debt}
+use Rattle.drf_tree.specs.Marks.{Flags, marked_in, work_of}
+
+abbrev one_if : Bool → ℕ
+one_if flag = cond flag 1 0
+
+pub few_marked : (stale : List Bool) → marked_in stale ≤ length stale
+few_marked stale = count_by-le-length (λ flag. flag) stale
+
+pub marked_once : (stale : List Bool) (i : ℕ) → i < length stale → slice_index_or stale i false ≡ false
+    → marked_in (slice_set stale i true) ≡ marked_in stale + 1
+marked_once stale i below clear =
+    omega (arith, sum_by-set one_if stale i true false below, ap one_if clear)
+
+pub marked_less : (stale : List Bool) (i : ℕ) → i < length stale → slice_index_or stale i false ≡ true
+    → marked_in (slice_set stale i false) + 1 ≡ marked_in stale
+marked_less stale i below marked =
+    omega (arith, sum_by-set one_if stale i false false below, ap one_if marked)
+
+-- a flag that is there already
+pub set_again : (stale : List Bool) (i : ℕ) (flag : Bool) → slice_index_or stale i false ≡ flag
+    → slice_set stale i flag ≡ stale
+set_again stale i flag is = ap (slice_set stale i) (sym is) ∙ set-get_or stale i false
+
+-- where none is counted, no flag is up
+pub none_marked : (stale : List Bool) → marked_in stale ≡ 0 → (i : ℕ) → slice_index_or stale i false ≡ false
+none_marked [] none zero = refl
+none_marked [] none (suc i) = refl
+none_marked (true ∷ stale) none zero = absurd (omega (arith, none, count_by-cons (λ (flag : Bool). flag) true stale))
+none_marked (false ∷ stale) none zero = refl
+none_marked (flag ∷ stale) none (suc i) =
+    let fewer : marked_in stale ≡ 0 = omega (arith, none, count_by-cons (λ (f : Bool). f) flag stale) in
+    none_marked stale fewer i
+
+-- where no flag is up, none is counted
+pub all_clear : (stale : List Bool) → ((i : ℕ) → slice_index_or stale i false ≡ false) → marked_in stale ≡ 0
+all_clear [] none = refl
+all_clear (flag ∷ stale) none =
+    omega (
+      arith,
+      count_by-cons (λ (f : Bool). f) flag stale,
+      ap one_if (none zero),
+      all_clear stale (λ i. none (suc i)),
+    )
+
+-- a flag that was taken down, and the others
+pub down_at : (stale : List Bool) (node i : ℕ) → i ≡ node → slice_index_or (slice_set stale node false) i false ≡ false
+down_at [] node i same = refl
+down_at (flag ∷ stale) zero zero same = refl
+down_at (flag ∷ stale) zero (suc i) same = absurd (omega (arith, same))
+down_at (flag ∷ stale) (suc node) zero same = absurd (omega (arith, same))
+down_at (flag ∷ stale) (suc node) (suc i) same = down_at stale node i (omega (arith, same))
+
+-- each number up to this one has no flag
+pub down_to : (stale : List Bool) (node : ℕ) → ((i : ℕ) → i < node → slice_index_or stale i false ≡ false) → (i : ℕ)
+    → i < node + 1 → slice_index_or (slice_set stale node false) i false ≡ false
+down_to stale node done i below = elim (cases_eq i node) [
+  | inl same ↦ down_at stale node i same
+  | inr other ↦ get_or-set_other stale node i false false other ∙ done i (omega (arith, below, other))
+]
+
+-- a key more is one unit of work at most
+pub one_more : (old new : Flags) → new.made ≡ min (old.made + 1) (2 ^ 64 - 1) → new.stale ≡ old.stale
+    → debt (work_of new) ≤ debt (work_of old) + 1
+one_more old new made stale =
+    omega (arith, made, min-le_left (old.made + 1) (2 ^ 64 - 1), ap marked_in stale)

@@ -1,0 +1,89 @@
+-- A child by its name.
+use Rattle.std.specs.Prelude.{◌≡◌, ◌≢◌, ◌≤◌, ◌==◌, ℕ, Bool, true, false, ◌&&◌, ◌||◌, List, [], ◌∷◌, ◌++◌, Option, None, Some, length, map, slice_get, slice_index_or, nat_lt}
+use Rattle.std.specs.List.{AllByRecursion, list_any, position, position_or_len}
+use Rattle.std.specs.Option.{option_map_or}
+use Rattle.std.specs.Cmp.Lexicographic.{bytes_decides}
+use Rattle.std.proofs.Common.{refl, sym, ap, ◌∙◌, inl, inr, arith}
+use Rattle.std.proofs.lemmas.Bool.{cases_Bool, ltb-false}
+use Rattle.std.proofs.lemmas.Bool.Decides.{same_from_decides, Decides-like}
+use Rattle.std.proofs.lemmas.List.Folds.{list_any_none}
+use Rattle.std.proofs.lemmas.List.Quantifiers.{position-Some}
+use Rattle.std.proofs.lemmas.List.Sums.{fails_before_first}
+use Rattle.std.proofs.lemmas.Option.{slice_get-get_or}
+use Rattle.drf_role.specs.Text.{Text, same_text}
+use Rattle.drf_role.specs.Path.{Path}
+use Rattle.drf_rows.specs.ListLaws.{each_at}
+use Rattle.drf_tree.specs.declared.family.Child.{Child}
+use Rattle.drf_tree.specs.declared.family.Family.{Family}
+use Rattle.drf_tree.specs.declared.node.Place.{Place}
+use Rattle.drf_tree.specs.declared.node.Sum.{Sum}
+use Rattle.drf_tree.specs.declared.tree.Tree.{Tree}
+use Rattle.drf_tree.specs.Changes.{is_bare_at}
+use Rattle.drf_tree.specs.Family.{child_name}
+use Rattle.drf_tree.specs.Nodes.{children_at, is_live, is_named_at, last_part, path_at}
+use Rattle.drf_tree.specs.Tree.{IsChildOf}
+use Rattle.drf_tree.proofs.NodeLemmas.{last_is}
+use Rattle.drf_tree.proofs.WayLemmas.{not_equal}
+
+pub same_text-swap : (a b : Text) → same_text a b ≡ same_text b a
+same_text-swap a b =
+    same_from_decides (same_text a b) (same_text b a) (bytes_decides a b)
+    (Decides-like (same_text b a) sym sym (bytes_decides b a))
+
+module _ (places : List (Option Place)) (node : ℕ) (name : Text) where
+  named_is : (c : Child) → IsChildOf places node c → is_named_at places c.node name ≡ same_text name (child_name c)
+  named_is c child =
+      ap (λ (b : Bool). b && same_text (last_part (path_at places c.node)) name) child.live
+      ∙ ap (λ (p : Path). same_text (last_part p) name) child.path
+      ∙ ap (λ (t : Text). same_text t name) (last_is (path_at places node) (child_name c))
+      ∙ same_text-swap (child_name c) name
+
+  named_any : (cs : List Child) → AllByRecursion (IsChildOf places node) cs
+      → list_any (λ c. is_named_at places c.node name) cs ≡ list_any (same_text name) (map child_name cs)
+  named_any [] all = refl
+  named_any (c ∷ cs) all = λ i. named_is c all.0 i || named_any cs all.1 i
+
+  no_position : {X : Type 0} (p : X → Bool) (xs : List X) → position p xs ≡ None → list_any p xs ≡ false
+  no_position p xs is = elim (cases_Bool (nat_lt (position_or_len p xs) (length xs))) [
+    | inl within ↦ absurd (let bad = rw within at is in cc)
+    | inr past ↦
+        let end : length xs ≤ position_or_len p xs = ltb-false (position_or_len p xs) (length xs) past in
+        list_any_none p xs (λ k d inside. fails_before_first p xs k d (omega arith))
+  ]
+
+  pub none_named : (cs : List Child) → AllByRecursion (IsChildOf places node) cs
+      → position (λ c. is_named_at places c.node name) cs ≡ None → list_any (same_text name) (map child_name cs) ≡ false
+  none_named cs all none = sym (named_any cs all) ∙ no_position (λ c. is_named_at places c.node name) cs none
+
+  pub one_named : (cs : List Child) → AllByRecursion (IsChildOf places node) cs → (k : ℕ) (c : Child)
+      → position (λ c. is_named_at places c.node name) cs ≡ Some k → c ≡ slice_index_or cs k c
+      → (is_live places c.node ≡ true) × (path_at places c.node ≡ path_at places node ++ name ∷ [])
+  one_named cs all k c at is =
+      let found = position-Some (λ (c : Child). is_named_at places c.node name) cs k c at in
+      let there : slice_get cs k ≡ Some c = slice_get-get_or cs k c found.0 ∙ ap (λ (x : Child). Some x) (sym is) in
+      let child = each_at (IsChildOf places node) cs k c all there in
+      let named : is_named_at places c.node name ≡ true = ap (λ (x : Child). is_named_at places x.node name) is ∙ found.1 in
+      let same : name ≡ child_name c = (bytes_decides name (child_name c)).0 (sym (named_is c child) ∙ named) in
+      (child.live, child.path ∙ ap (λ (t : Text). path_at places node ++ t ∷ []) (sym same))
+
+-- ---- whether a node is bare
+
+pub bare_is : (tree : Tree) (node : ℕ) (s : Sum) (f : Family) → slice_get tree.sums.items node ≡ Some s
+    → slice_get tree.families.items node ≡ Some f
+    → is_bare_at tree node ≡ ((s.clients == 0) && (length f.children.items == 0))
+bare_is tree node s f at of =
+    λ i. (option_map_or (λ s. s.clients) (at i) 0 == 0) && (length (option_map_or (λ f. f.children.items) (of i) []) == 0)
+
+pub bare_then : (a b : Bool) → a ≡ true → (a && b) ≡ b
+bare_then a b is = ap (λ (x : Bool). x && b) is
+
+pub bare_else : (a b : Bool) → a ≡ false → (a && b) ≡ false
+bare_else a b is = ap (λ (x : Bool). x && b) is
+
+pub bare_out : (tree : Tree) (node : ℕ) (s : Sum) → slice_get tree.sums.items node ≡ Some s → s.clients ≢ 0
+    → (s.clients == 0) ≡ is_bare_at tree node
+bare_out tree node s at some =
+    let out : (s.clients == 0) ≡ false = not_equal s.clients 0 some in
+    let rest : Bool = length (children_at tree.families.items node) == 0 in
+    out ∙ sym (bare_else (s.clients == 0) rest out)
+    ∙ sym (ap (λ (o : Option Sum). (option_map_or (λ s. s.clients) o 0 == 0) && rest) at)

@@ -1,0 +1,38 @@
+use Rattle.std.proofs.Common.{◌==◌, ap, ◌∙◌}
+use Rattle.std.specs.List.{position}
+use Rattle.drf_tree.specs.declared.family.Child.{Child}
+use Rattle.drf_tree.specs.Family.{are_sorted}
+use Rattle.drf_tree.proofs.FamilyLemmas.{child_found, found_place, sorted_remove, without_child}
+use Rattle.drf_tree.proofs.family.Family.take.Goals as goal
+
+pub unwrap-place-requires : goal.unwrap-place-requires
+unwrap-place-requires c =
+    found_place c.args.node c.args.self.now.children.items c.requires c.place_of.result
+    (c.place_of.ensures ∙ ap (position (λ (x : Child). x.node == c.args.node)) c.deref.ensures.value)
+
+pub invariant_of-self : goal.invariant_of-self
+invariant_of-self c =
+    let children = c.args.self.now.children.items in
+    let found =
+    child_found c.args.node children c.place_of.result c.unwrap-place.result c.remove.result
+    (c.place_of.ensures ∙ ap (position (λ (x : Child). x.node == c.args.node)) c.deref.ensures.value)
+    c.unwrap-place.ensures c.remove.ensures.value in
+    record {
+      sorted = ap are_sorted c.remove.ensures.items
+          ∙ sorted_remove children c.remove.result c.unwrap-place.result found.0 c.args.self.now.sorted;
+    }
+
+pub returns-clause-node : goal.returns-clause-node
+returns-clause-node c =
+    (child_found c.args.node c.args.self.now.children.items c.place_of.result c.unwrap-place.result c.remove.result
+    (c.place_of.ensures ∙ ap (position (λ (x : Child). x.node == c.args.node)) c.deref.ensures.value)
+    c.unwrap-place.ensures c.remove.ensures.value).1
+
+pub returns-clause-gone : goal.returns-clause-gone
+returns-clause-gone c =
+    let children = c.args.self.now.children.items in
+    let found =
+    child_found c.args.node children c.place_of.result c.unwrap-place.result c.remove.result
+    (c.place_of.ensures ∙ ap (position (λ (x : Child). x.node == c.args.node)) c.deref.ensures.value)
+    c.unwrap-place.ensures c.remove.ensures.value in
+    rw c.remove.ensures.items (without_child children c.remove.result c.unwrap-place.result found.0)

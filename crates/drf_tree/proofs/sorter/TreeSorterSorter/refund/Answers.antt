@@ -1,0 +1,47 @@
+use Rattle.std.proofs.Common.{ap, refl, subst, sym}
+use Rattle.std.proofs.lemmas.Bool.{false≢true}
+use Rattle.drf_sorter.specs.Content.{Content, Ranked, refunded, HoldsAt, with_change}
+use Rattle.drf_sorter.specs.Plain.{plain_content}
+use Rattle.drf_sorter.specs.declared.plain.PlainSorter.{PlainSorter}
+use Rattle.drf_tree.specs.Sorter.{Sorted}
+use Rattle.drf_tree.specs.Tree.{IsTreeOf}
+use Rattle.drf_tree.proofs.FindLemmas.{client_below}
+use Rattle.drf_tree.proofs.KeptLemmas.{active_stays, kept_along}
+use Rattle.drf_tree.proofs.LeafLemmas.{can_refund, known_in, leaf_of, lowerable, lowered_refunded}
+use Rattle.drf_tree.proofs.sorter.TreeSorterSorter.refund.Goals as goal
+
+pub invariant_of-self : goal.invariant_of-self
+invariant_of-self c =
+    let content = plain_content c.self.inside.ledger in
+    let known =
+    known_in c.self.inside.ledger c.args.self.now.ledger c.args.path.now (ap (λ (s : Sorted). s.ledger) c.self.view_is) c.requires.known in
+    absurd (false≢true (c.in_default.ensures.every content c.self.invariant.of_ledger (client_below c.args.path.now content.clients known)))
+
+pub lower-requires-clause-lowerable : goal.lower-requires-clause-lowerable
+lower-requires-clause-lowerable c =
+    let content = plain_content c.self.inside.ledger in
+    let path = c.args.path.now in
+    let ledger = ap (λ (s : Sorted). s.ledger) c.self.view_is in
+    lowerable content c.self.inside.tree c.in-Some.node c.self.invariant.of_ledger c.in-Some.ensures.live
+    path c.in-Some.ensures.found.1
+    (known_in c.self.inside.ledger c.args.self.now.ledger path ledger c.requires.known) c.args.quantities.now 0
+    (can_refund content path c.args.quantities.now
+    (subst (λ (l : PlainSorter). HoldsAt (plain_content l) path c.args.quantities.now) (sym ledger) c.requires.held))
+
+pub invariant_of-self-2 : goal.invariant_of-self-2
+invariant_of-self-2 c =
+    let content = plain_content c.self.inside.ledger in
+    let tree = c.self.inside.tree in
+    let path = c.args.path.now in
+    let ledger = ap (λ (s : Sorted). s.ledger) c.self.view_is in
+    let now : Content = with_change content path (refunded c.args.quantities.now) in
+    let known = known_in c.self.inside.ledger c.args.self.now.ledger path ledger c.requires.known in
+    kept_along c.refund.new.self content now c.refund.ensures.content
+    (active_stays path (refunded c.args.quantities.now) (λ d. refl) (λ d. refl) content) tree c.lower.new.self c.self.inside.walk
+    (subst (λ (change : Ranked → Ranked). IsTreeOf (with_change content path change) c.lower.new.self)
+    (lowered_refunded c.args.quantities.now)
+    (c.lower.ensures.tree content path c.self.invariant.of_ledger
+    (leaf_of content tree c.in-Some.node path c.self.invariant.of_ledger known c.in-Some.ensures.live c.in-Some.ensures.found.1) known
+    (can_refund content path c.args.quantities.now
+    (subst (λ (l : PlainSorter). HoldsAt (plain_content l) path c.args.quantities.now) (sym ledger) c.requires.held))))
+    c.lower.ensures.places c.lower.ensures.families c.self.invariant.frames c.self.invariant.settled

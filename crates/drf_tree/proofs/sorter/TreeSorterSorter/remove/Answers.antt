@@ -1,0 +1,47 @@
+use Rattle.std.proofs.Common.{ap, subst, sym, ◌∙◌}
+use Rattle.std.proofs.lemmas.Bool.{false≢true}
+use Rattle.drf_sorter.specs.Content.{Content, has_client, without_client}
+use Rattle.drf_sorter.specs.Plain.{plain_content}
+use Rattle.drf_tree.specs.Sorter.{Sorted}
+use Rattle.drf_tree.specs.Tree.{IsTreeOf}
+use Rattle.drf_tree.proofs.FindLemmas.{client_below}
+use Rattle.drf_tree.proofs.KeptLemmas.{stopped}
+use Rattle.drf_tree.proofs.LeafLemmas.{leaf_of, least}
+use Rattle.drf_tree.proofs.sorter.TreeSorterSorter.remove.Goals as goal
+
+pub remove-requires : goal.remove-requires
+remove-requires c = ap (λ (s : Sorted). has_client (plain_content s.ledger) c.args.path.now) c.self.view_is ∙ c.requires
+
+pub dismiss-requires-clause-least : goal.dismiss-requires-clause-least
+dismiss-requires-clause-least c =
+    least (plain_content c.self.inside.ledger) c.self.inside.tree c.in-Some.node c.self.invariant.of_ledger c.in-Some.ensures.live
+
+pub prune-requires-clause-shape : goal.prune-requires-clause-shape
+prune-requires-clause-shape c =
+    let content = plain_content c.self.inside.ledger in
+    let path = c.args.path.now in
+    let of = c.self.invariant.of_ledger in
+    let has = ap (λ (s : Sorted). has_client (plain_content s.ledger) path) c.self.view_is ∙ c.requires in
+    (c.dismiss.ensures.tree content path of
+    (leaf_of content c.self.inside.tree c.in-Some.node path of has c.in-Some.ensures.live c.in-Some.ensures.found.1) has).shape
+
+-- a client has a node
+pub invariant_of-self : goal.invariant_of-self
+invariant_of-self c =
+    let content = plain_content c.self.inside.ledger in
+    let has = ap (λ (s : Sorted). has_client (plain_content s.ledger) c.args.path.now) c.self.view_is ∙ c.requires in
+    absurd (false≢true
+    (c.in_default.ensures.every content c.self.invariant.of_ledger (client_below c.args.path.now content.clients has)))
+
+pub invariant_of-self-2 : goal.invariant_of-self-2
+invariant_of-self-2 c =
+    let content = plain_content c.self.inside.ledger in
+    let path = c.args.path.now in
+    let of = c.self.invariant.of_ledger in
+    let has = ap (λ (s : Sorted). has_client (plain_content s.ledger) path) c.self.view_is ∙ c.requires in
+    let dismissed =
+    c.dismiss.ensures.tree content path of
+    (leaf_of content c.self.inside.tree c.in-Some.node path of has c.in-Some.ensures.live c.in-Some.ensures.found.1) has in
+    stopped c.remove.new.self c.prune.new.self c.stop.new.self c.stop.ensures
+    (subst (λ (k : Content). IsTreeOf k c.prune.new.self) (sym c.remove.ensures.content)
+    (c.prune.ensures.tree (without_client content path) dismissed))

@@ -1,0 +1,37 @@
+use Rattle.std.proofs.Common.{ap, subst, sym}
+use Rattle.std.proofs.lemmas.Bool.{false≢true}
+use Rattle.drf_sorter.specs.Content.{Content}
+use Rattle.drf_sorter.specs.Plain.{plain_content}
+use Rattle.drf_tree.specs.Sorter.{Sorted}
+use Rattle.drf_tree.specs.Tree.{IsTreeOf}
+use Rattle.drf_tree.proofs.FindLemmas.{client_below}
+use Rattle.drf_tree.proofs.KeptLemmas.{stopped}
+use Rattle.drf_tree.proofs.LeafLemmas.{active_fits, few_clients, known_in, leaf_of, least}
+use Rattle.drf_tree.proofs.sorter.TreeSorterSorter.set_active.Goals as goal
+
+pub invariant_of-self : goal.invariant_of-self
+invariant_of-self c =
+    let content = plain_content c.self.inside.ledger in
+    let known =
+    known_in c.self.inside.ledger c.args.self.now.ledger c.args.path.now (ap (λ (s : Sorted). s.ledger) c.self.view_is) c.requires in
+    absurd (false≢true (c.in_default.ensures.every content c.self.invariant.of_ledger (client_below c.args.path.now content.clients known)))
+
+pub set_active-requires-2-clause-least : goal.set_active-requires-2-clause-least
+set_active-requires-2-clause-least c =
+    least (plain_content c.self.inside.ledger) c.self.inside.tree c.in-Some.node c.self.invariant.of_ledger c.in-Some.ensures.live
+
+pub set_active-requires-2-clause-fits : goal.set_active-requires-2-clause-fits
+set_active-requires-2-clause-fits c =
+    active_fits (plain_content c.self.inside.ledger) c.self.inside.tree c.in-Some.node c.self.invariant.of_ledger c.in-Some.ensures.live
+    (few_clients c.self.inside.ledger)
+
+pub invariant_of-self-2 : goal.invariant_of-self-2
+invariant_of-self-2 c =
+    let content = plain_content c.self.inside.ledger in
+    let tree = c.self.inside.tree in
+    let path = c.args.path.now in
+    let known = known_in c.self.inside.ledger c.args.self.now.ledger path (ap (λ (s : Sorted). s.ledger) c.self.view_is) c.requires in
+    stopped c.set_active.new.self c.set_active-2.new.self c.stop.new.self c.stop.ensures
+    (subst (λ (k : Content). IsTreeOf k c.set_active-2.new.self) (sym c.set_active.ensures.content)
+    (c.set_active-2.ensures.tree content path c.self.invariant.of_ledger
+    (leaf_of content tree c.in-Some.node path c.self.invariant.of_ledger known c.in-Some.ensures.live c.in-Some.ensures.found.1) known))

@@ -1,0 +1,13 @@
+use Rattle.std.proofs.Common.{length}
+use Rattle.drf_tree.specs.Nodes.{path_at}
+use Rattle.drf_tree.proofs.ClimbLemmas.{IsClimbing, IsMarking}
+use Rattle.drf_tree.proofs.MoveLemmas.{IsMoved, amounts_in, none}
+use Rattle.drf_tree.proofs.tree.Tree.dismiss.Given as goal
+
+abbrev pub invariant-loop-node : goal.invariant-loop-node
+invariant-loop-node l =
+    IsClimbing l.fn.self l.self l.leaf l.node (λ i. IsMoved (amounts_in l.gone) none)
+    × IsMarking l.fn.self l.self l.leaf l.node
+
+abbrev pub decreases-loop-node : goal.decreases-loop-node
+decreases-loop-node l = length (path_at l.fn.self.places.items l.node)

@@ -1,0 +1,26 @@
+use Rattle.std.proofs.Common.{arith}
+use Rattle.drf_sorter.specs.Plain.{plain_content}
+use Rattle.drf_tree.proofs.GrowLemmas.{grow_start, grow_step, grown_client, grown_live}
+use Rattle.drf_tree.proofs.tree.Tree.grow.Goals as goal
+
+pub loop-i-init : goal.loop-i-init
+loop-i-init c = grow_start (plain_content c.args.ledger.now) c.args.self.now c.args.path.now c.requires.tree
+
+pub loop-i-preserved : goal.loop-i-preserved
+loop-i-preserved c =
+    let e = c.in_ok-node.ensures in
+    grow_step (plain_content c.args.ledger.now) c.args.self.now c.loop-i.self c.step.new.self c.args.path.now c.loop-i.node c.loop-i.i
+    c.in_ok-node.node c.loop-i.invariant e.tree e.live e.path e.work
+
+pub returns-clause-live : goal.returns-clause-live
+returns-clause-live c =
+    grown_live (plain_content c.args.ledger.now) c.args.self.now c.loop-i.self c.args.path.now c.loop-i.node c.loop-i.i c.loop-i.invariant
+    c.len-i-end.ensures.right (omega (arith, c.len-i-end.ensures.len, c.loop-i-test.false))
+
+pub returns-clause-client : goal.returns-clause-client
+returns-clause-client c =
+    grown_client (plain_content c.args.ledger.now) c.args.self.now c.loop-i.self c.args.path.now c.loop-i.node c.loop-i.i c.loop-i.invariant
+    c.len-i-end.ensures.right (omega (arith, c.len-i-end.ensures.len, c.loop-i-test.false))
+
+pub returns-clause-work : goal.returns-clause-work
+returns-clause-work c = omega (arith, c.loop-i.invariant.work, c.loop-i.auto.i-end, c.len-i-end.ensures.len)

@@ -1,0 +1,78 @@
+use Rattle.std.proofs.Common.{◌≡◌, ◌-◌, refl, ap, ◌∙◌, arith}
+use Rattle.drf_bundle.specs.QuantitiesLaws.{covers_from}
+use Rattle.drf_tree.specs.declared.node.Sum.{Sum}
+use Rattle.drf_tree.specs.Nodes.{parent_at}
+use Rattle.drf_tree.proofs.ClimbLemmas.{climb_less, climb_on, climb_start, climb_step, climb_was, marking_start, marking_step}
+use Rattle.drf_tree.proofs.LowerLemmas.{is_lowered, lowered_tree, of_lowered}
+use Rattle.drf_tree.proofs.MoveLemmas.{IsMoved, none}
+use Rattle.drf_tree.proofs.tree.Tree.lower.Goals as goal
+
+pub loop-node-init : goal.loop-node-init
+loop-node-init c = (
+  climb_start c.args.self.now c.args.self.now c.requires.shape c.args.leaf c.args.leaf
+      (λ i. IsMoved (of_lowered c.args.quantities.now c.args.offers) none) c.requires.lowerable.live,
+  marking_start c.args.self.now c.args.self.now c.requires.shape c.args.leaf c.args.leaf
+      (λ i. IsMoved (of_lowered c.args.quantities.now c.args.offers) none),
+)
+
+pub lower-requires : goal.lower-requires
+lower-requires c =
+    let old = c.args.self.now in
+    let so = c.loop-node.invariant.0 in
+    let s = c.index_mut-sum.result.now in
+    covers_from s.held c.args.quantities.now c.entries.ensures.in_order
+    (c.requires.lowerable.held c.loop-node.node s
+    (climb_on old c.loop-node.self c.requires.shape c.args.leaf c.loop-node.node
+    (λ i. IsMoved (of_lowered c.args.quantities.now c.args.offers) none) so c.loop-node-test.true)
+    (climb_was old c.loop-node.self c.requires.shape c.args.leaf c.loop-node.node
+    (λ i. IsMoved (of_lowered c.args.quantities.now c.args.offers) none) so c.loop-node-test.true s c.index_mut-sum.ensures.value))
+
+pub overflow_sub-sum : goal.overflow_sub-sum
+overflow_sub-sum c =
+    let old = c.args.self.now in
+    let so = c.loop-node.invariant.0 in
+    let s = c.index_mut-sum.result.now in
+    c.requires.lowerable.count c.loop-node.node s
+    (climb_on old c.loop-node.self c.requires.shape c.args.leaf c.loop-node.node
+    (λ i. IsMoved (of_lowered c.args.quantities.now c.args.offers) none) so c.loop-node-test.true)
+    (climb_was old c.loop-node.self c.requires.shape c.args.leaf c.loop-node.node
+    (λ i. IsMoved (of_lowered c.args.quantities.now c.args.offers) none) so c.loop-node-test.true s c.index_mut-sum.ensures.value)
+
+pub loop-node-smaller : goal.loop-node-smaller
+loop-node-smaller c =
+    let old = c.args.self.now in
+    let so = c.loop-node.invariant.0 in
+    let above : c.parent-node.result ≡ parent_at old.places.items c.loop-node.node =
+    c.parent-node.ensures ∙ ap (λ ps. parent_at ps.items c.loop-node.node) so.places in
+    let less = climb_less old c.loop-node.self c.requires.shape c.args.leaf c.loop-node.node
+    (λ i. IsMoved (of_lowered c.args.quantities.now c.args.offers) none) so c.loop-node-test.true in
+    rw above (omega (arith, less))
+
+pub loop-node-preserved : goal.loop-node-preserved
+loop-node-preserved c =
+    let old = c.args.self.now in
+    let so = c.loop-node.invariant.0 in
+    let marking = c.loop-node.invariant.1 in
+    let s : Sum = c.index_mut-sum.result.now in
+    let t : Sum = record s { held = c.lower.new.self; count = s.count - c.args.offers } in
+    let above : c.parent-node.result ≡ parent_at old.places.items c.loop-node.node =
+    c.parent-node.ensures ∙ ap (λ ps. parent_at ps.items c.loop-node.node) so.places in
+    let on = climb_on old c.loop-node.self c.requires.shape c.args.leaf c.loop-node.node
+    (λ i. IsMoved (of_lowered c.args.quantities.now c.args.offers) none) so c.loop-node-test.true in
+    let was = climb_was old c.loop-node.self c.requires.shape c.args.leaf c.loop-node.node
+    (λ i. IsMoved (of_lowered c.args.quantities.now c.args.offers) none) so c.loop-node-test.true s c.index_mut-sum.ensures.value in (
+      climb_step old c.loop-node.self c.requires.shape c.args.leaf c.loop-node.node
+          (λ i. IsMoved (of_lowered c.args.quantities.now c.args.offers) none) so c.loop-node-test.true
+          _ c.parent-node.result s t above c.index_mut-sum.ensures.value
+          (is_lowered c.args.quantities.now c.args.offers s c.lower.new.self c.lower.ensures
+          (c.requires.lowerable.held c.loop-node.node s on was) (c.requires.lowerable.count c.loop-node.node s on was))
+          refl refl refl,
+      marking_step old c.loop-node.self c.requires.shape c.args.leaf c.loop-node.node
+          (λ i. IsMoved (of_lowered c.args.quantities.now c.args.offers) none) so c.loop-node-test.true marking
+          _ c.parent-node.result above c.mark.ensures.flags c.mark.ensures.work,
+    )
+
+pub returns-clause-tree : goal.returns-clause-tree
+returns-clause-tree c content path tree at has can =
+    lowered_tree content path c.args.quantities.now c.args.offers c.args.self.now c.loop-node.self c.args.leaf c.loop-node.node
+    tree at has can c.loop-node.invariant.0 c.loop-node.invariant.1 c.loop-node-test.false

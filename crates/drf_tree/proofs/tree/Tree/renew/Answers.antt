@@ -1,0 +1,88 @@
+use Rattle.std.specs.Prelude.{◌≡◌, ◌<◌, ℕ, Bool, List, length, slice_index_or, slice_set, true}
+use Rattle.std.proofs.Common.{ap, arith, refl, subst, sym, ◌∙◌}
+use Rattle.std.proofs.lemmas.Option.{slice_get_read}
+use Rattle.drf_bundle.specs.declared.quantities.Entry.{Entry}
+use Rattle.drf_sorter.specs.Content.{Content}
+use Rattle.drf_sorter.specs.Plain.{plain_content}
+use Rattle.drf_tree.specs.declared.family.Child.{Child}
+use Rattle.drf_tree.specs.declared.node.Sum.{Sum}
+use Rattle.drf_tree.specs.declared.tree.Tree.{Tree}
+use Rattle.drf_tree.specs.Changes.{IsShapeOf}
+use Rattle.drf_tree.specs.Family.{IsRenewed}
+use Rattle.drf_tree.specs.Nodes.{children_at, is_live, parent_at, path_at}
+use Rattle.drf_tree.specs.Tree.{AreRight, AreSums, IsShape, IsSumOf}
+use Rattle.drf_tree.proofs.NodeLemmas.{family_read, live_within, node_within}
+use Rattle.drf_tree.proofs.RenewLemmas.{IsRenewedTree, plain_weighs, renewed, sum_within, weighs_within}
+use Rattle.drf_tree.proofs.tree.Tree.renew.Goals as goal
+
+-- the sum that was read is that of the node
+sum_read : (content : Content) (tree : Tree) → IsShapeOf tree → AreSums content tree.places.items tree.sums.items → (node : ℕ) (sum : Sum)
+    → is_live tree.places.items node ≡ true → sum ≡ slice_index_or tree.sums.items node sum
+    → IsSumOf content (path_at tree.places.items node) sum
+sum_read content tree shape sums node sum live at =
+    sums node sum live
+    (slice_get_read tree.sums.items (length tree.sums.items) node sum refl
+    (omega (arith, live_within tree.places.items node live, shape.sums_long)) at)
+
+-- the number above a node has a family
+parent_within : (tree : Tree) → IsShapeOf tree → (node parent : ℕ) → is_live tree.places.items node ≡ true
+    → parent ≡ parent_at tree.places.items node → parent < length tree.families.items
+parent_within tree shape node parent live is =
+    omega (
+      arith,
+      node_within tree shape (parent_at tree.places.items node) (shape.kept node live).0,
+      shape.families_long,
+      is,
+    )
+
+pub renew-requires-clause-within : goal.renew-requires-clause-within
+renew-requires-clause-within c label =
+    let content = plain_content c.args.ledger.now in
+    let sum = c.index.result.now in
+    let of = sum_read content c.args.self.now c.requires.tree.shape c.requires.tree.sums c.args.node sum c.requires.live c.index.ensures in
+    rw c.total.ensures (sum_within content (path_at c.args.self.now.places.items c.args.node) sum c.requires.sound of label)
+
+pub renew-requires-clause-weighs : goal.renew-requires-clause-weighs
+renew-requires-clause-weighs c =
+    let content = plain_content c.args.ledger.now in
+    let of = sum_read content c.args.self.now c.requires.tree.shape c.requires.tree.sums c.args.node c.index.result.now c.requires.live c.index.ensures in
+    let range = weighs_within c.args.ledger.now (path_at c.args.self.now.places.items c.args.node) in
+    omega (arith, of.weight, range.0)
+
+pub renew-requires-clause-light : goal.renew-requires-clause-light
+renew-requires-clause-light c =
+    let content = plain_content c.args.ledger.now in
+    let of = sum_read content c.args.self.now c.requires.tree.shape c.requires.tree.sums c.args.node c.index.result.now c.requires.live c.index.ensures in
+    let range = weighs_within c.args.ledger.now (path_at c.args.self.now.places.items c.args.node) in
+    omega (arith, of.weight, range.1)
+
+pub returns-clause-tree : goal.returns-clause-tree
+returns-clause-tree c =
+    let content = plain_content c.args.ledger.now in
+    let tree = c.args.self.now in
+    let of = c.requires.tree in
+    let families = tree.families.items in
+    let sum = c.index.result.now in
+    let parent = c.parent-parent.result in
+    let new = c.renew.new.self in
+    let old_is =
+    sym (family_read families parent c.index_mut-family.result.now
+    (parent_within tree of.shape c.args.node parent c.requires.live c.parent-parent.ensures) c.index_mut-family.ensures.value)
+    ∙ ap (children_at families) c.parent-parent.ensures in
+    let r =
+    subst (λ (old : List Child). IsRenewed c.args.node content.total sum old new.children.items) old_is
+    (subst (λ (total : List Entry). IsRenewed c.args.node total sum c.index_mut-family.result.now.children.items new.children.items)
+    c.total.ensures c.renew.ensures.renewed) in
+    let all =
+    subst (λ (p : ℕ). IsRenewedTree content tree (slice_set families p new)) (sym c.parent-parent.ensures)
+    (renewed content tree c.args.node of c.requires.live (plain_weighs c.args.ledger.now) sum
+    (sum_read content tree of.shape of.sums c.args.node sum c.requires.live c.index.ensures) new r) in
+    let families = slice_set families parent new in
+    record {
+      paths = of.paths;
+      distinct = of.distinct;
+      shape = subst (λ (flags : List Bool). IsShape tree.places.items families flags tree.sums.items) (sym c.renew.ensures.stale) all.shape;
+      sums = of.sums;
+      complete = all.complete;
+      right = subst (AreRight content tree.places.items families) (sym c.renew.ensures.stale) all.right;
+    }

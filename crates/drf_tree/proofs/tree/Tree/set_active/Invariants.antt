@@ -1,0 +1,14 @@
+use Rattle.std.proofs.Common.{◌≡◌, length}
+use Rattle.drf_tree.specs.Nodes.{path_at}
+use Rattle.drf_tree.proofs.ClimbLemmas.{IsClimbing}
+use Rattle.drf_tree.proofs.ActiveLemmas.{of_active}
+use Rattle.drf_tree.proofs.MoveLemmas.{IsMoved}
+use Rattle.drf_tree.proofs.tree.Tree.set_active.Given as goal
+
+abbrev pub invariant-loop-node : goal.invariant-loop-node
+invariant-loop-node l =
+    IsClimbing l.fn.self l.self l.leaf l.node (λ i. IsMoved (of_active l.before) (of_active l.now))
+    × (l.self.marks ≡ l.fn.self.marks)
+
+abbrev pub decreases-loop-node : goal.decreases-loop-node
+decreases-loop-node l = length (path_at l.fn.self.places.items l.node)

@@ -1,0 +1,17 @@
+use Rattle.std.proofs.Common.{ap, subst, sym, ◌∙◌}
+use Rattle.drf_role.specs.Path.{IsNodePath}
+use Rattle.drf_sorter.specs.Content.{has_node}
+use Rattle.drf_sorter.specs.Plain.{plain_content}
+use Rattle.drf_tree.proofs.GrowLemmas.{front_right}
+use Rattle.drf_tree.proofs.tree.Tree.sprout_for.Goals as goal
+
+pub sprout-requires-clause-right : goal.sprout-requires-clause-right
+sprout-requires-clause-right c =
+    subst IsNodePath (sym c.in_ok-node.ensures)
+    (front_right c.args.path.now c.args.len c.requires.right c.requires.some c.requires.within)
+
+pub returns-clause-tree : goal.returns-clause-tree
+returns-clause-tree c =
+    let content = plain_content c.args.ledger.now in
+    c.sprout.ensures.tree content c.requires.tree c.weight_of-weight.ensures.value
+    (ap (has_node content) c.in_ok-node.ensures ∙ c.requires.nobody)

@@ -1,0 +1,25 @@
+use Rattle.std.proofs.Common.{[]}
+use Rattle.drf_tree.proofs.VacantLemmas.{place_more, shape_more, tree_more, tree_same}
+use Rattle.drf_tree.proofs.tree.Tree.vacant.Goals as goal
+
+pub returns-in_err-push-clause-tree : goal.returns-in_err-push-clause-tree
+returns-in_err-push-clause-tree c content tree =
+    tree_same content c.args.self.now c.push.new.self c.in_err-push.ensures.err tree
+
+pub returns-in_ok-push-clause-shape : goal.returns-in_ok-push-clause-shape
+returns-in_ok-push-clause-shape c =
+    let e = c.in_ok-push.ensures in
+    shape_more c.args.self.now c.push.new.self (record { held = []; count = 0; clients = 0; active = 0; weight = 0 })
+    e.places e.families e.families_long (λ i. (e.marks i).stale) e.sums c.requires.shape
+
+pub returns-in_ok-push-clause-places : goal.returns-in_ok-push-clause-places
+returns-in_ok-push-clause-places c =
+    let e = c.in_ok-push.ensures in
+    place_more c.args.self.now c.push.new.self (record { held = []; count = 0; clients = 0; active = 0; weight = 0 })
+    e.places e.families e.families_long (λ i. (e.marks i).stale) e.sums c.requires.shape
+
+pub returns-in_ok-push-clause-tree : goal.returns-in_ok-push-clause-tree
+returns-in_ok-push-clause-tree c content tree =
+    let e = c.in_ok-push.ensures in
+    tree_more c.args.self.now c.push.new.self (record { held = []; count = 0; clients = 0; active = 0; weight = 0 })
+    e.places e.families e.families_long (λ i. (e.marks i).stale) e.sums c.requires.shape content tree

@@ -1,0 +1,12 @@
+use Rattle.std.specs.Prelude.{◌∷◌, ◌++◌, [], List}
+use Rattle.std.proofs.Common.{ap, ◌∙◌}
+use Rattle.drf_tree.specs.declared.walk.Frame.{Frame}
+use Rattle.drf_tree.specs.Queue.{frames_queue}
+use Rattle.drf_tree.proofs.StepLemmas.{top, top_queue}
+use Rattle.drf_tree.proofs.walk.Walk.start.Goals as goal
+
+pub returns-clause-queue : goal.returns-clause-queue
+returns-clause-queue c content of =
+    c.settle.ensures.queue content of
+    ∙ ap (frames_queue content c.args.tree.now) (c.push.ensures ∙ ap (λ (fs : List Frame). fs ++ top ∷ []) c.clear.ensures.items)
+    ∙ top_queue c.args.tree.now c.requires content of

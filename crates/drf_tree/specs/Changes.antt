@@ -1,0 +1,101 @@
+-- What changes along the nodes of a client.
+use Rattle.std.specs.Prelude.{◌≡◌, ◌≤◌, ◌<◌, ◌+◌, ◌-◌, ◌^◌, ◌==◌, ◌&&◌, ℕ, Bool, true, false, List, [], ◌∷◌, ◌++◌, Some, length, slice_get}
+use Rattle.std.specs.List.{AllByRecursion}
+use Rattle.std.specs.Option.{option_map_or}
+use Rattle.drf_bundle.specs.Quantities.{amount_of}
+use Rattle.drf_bundle.specs.declared.quantities.Entry.{Entry}
+use Rattle.drf_role.specs.Text.{Text}
+use Rattle.drf_role.specs.Path.{Path, begins_with, same_path}
+use Rattle.drf_sorter.specs.Content.{Content, Holds, Ranked}
+use Rattle.drf_sorter.specs.Keys.{Key}
+use Rattle.drf_tree.specs.declared.node.Sum.{Sum}
+use Rattle.drf_tree.specs.declared.tree.Tree.{Tree}
+use Rattle.drf_tree.specs.Nodes.{children_at, is_live, is_node, path_at}
+use Rattle.drf_tree.specs.Tree.{IsShape}
+
+-- the rules that hold of a tree whatever its clients
+abbrev pub IsShapeOf : Tree → Type 0
+IsShapeOf tree = IsShape tree.places.items tree.families.items tree.marks.stale tree.sums.items
+
+-- a node on the way to a leaf, the leaf included
+abbrev pub is_on_way : Tree → ℕ → ℕ → Bool
+is_on_way tree leaf i =
+    is_live tree.places.items i && begins_with (path_at tree.places.items leaf) (path_at tree.places.items i)
+
+-- each sum on the way
+abbrev pub OnWay : Tree → ℕ → (Sum → Type 0) → Type 0
+OnWay tree leaf P =
+    (i : ℕ) (sum : Sum) → is_on_way tree leaf i ≡ true → slice_get tree.sums.items i ≡ Some sum → P sum
+
+-- so much more, and one offer more, fit into each of them
+pub record HasRoomFor (tree : Tree) (leaf : ℕ) (quantities : List Entry) : Type 0 where
+  pub live : is_live tree.places.items leaf ≡ true
+  pub held : OnWay tree leaf (λ s. (label : Text) → amount_of s.held label + amount_of quantities label < 2 ^ 64)
+  pub count : OnWay tree leaf (λ s. s.count + 1 < 2 ^ 64)
+
+-- each of them holds so much, and was made so many offers
+pub record IsLowerable (tree : Tree) (leaf : ℕ) (quantities : List Entry) (offers : ℕ) : Type 0 where
+  pub live : is_live tree.places.items leaf ≡ true
+  pub held : OnWay tree leaf (λ s. (label : Text) → amount_of quantities label ≤ amount_of s.held label)
+  pub count : OnWay tree leaf (λ s. offers ≤ s.count)
+
+-- what the nodes on the way would hold with so much more, the upmost first: that of a node of `k + 1` parts at `k`
+pub record AreRaised (tree : Tree) (leaf : ℕ) (quantities : List Entry) (raised : List (List Entry)) : Type 0 where
+  pub long : length raised ≡ length (path_at tree.places.items leaf)
+  pub each : (i k : ℕ) (sum : Sum) (held : List Entry) → is_on_way tree leaf i ≡ true
+      → length (path_at tree.places.items i) ≡ k + 1 → slice_get tree.sums.items i ≡ Some sum
+      → slice_get raised k ≡ Some held
+      → (label : Text) → amount_of held label ≡ amount_of sum.held label + amount_of quantities label
+
+-- a client that gave so much back, with so many offers taken back
+abbrev pub lowered : List Entry → ℕ → Ranked → Ranked
+lowered quantities offers c =
+    record c { held = λ label. c.held label - amount_of quantities label; count = c.count - offers }
+
+-- the client of that path holds so much, and was made so many offers
+pub record CanLower (quantities : List Entry) (offers : ℕ) (c : Ranked) : Type 0 where
+  pub held : Holds quantities c
+  pub count : offers ≤ c.count
+
+abbrev pub CanLowerAt : Content → Path → List Entry → ℕ → Type 0
+CanLowerAt content path quantities offers =
+    AllByRecursion (λ c. same_path c.path path ≡ true → CanLower quantities offers c) content.clients
+
+-- nothing that counts was changed
+pub record IsSameTree (old new : Tree) : Type 0 where
+  pub places : new.places.items ≡ old.places.items
+  pub sums : new.sums.items ≡ old.sums.items
+  pub families : new.families.items ≡ old.families.items
+  pub marks : new.marks ≡ old.marks
+
+-- a number that is no node, and may become one
+pub record IsVacant (tree : Tree) (node : ℕ) : Type 0 where
+  pub there : node < length tree.places.items
+  pub free : is_node tree.places.items node ≡ false
+
+-- a path of one part more
+pub record IsOneLonger (path longer : Path) : Type 0 where
+  pub part : Text
+  pub joined : longer ≡ path ++ part ∷ []
+
+-- the key of a node of that path with no more than 0 of anything, and no offers
+pub record IsKeyOfNothing (path : Path) (key : Key) : Type 0 where
+  pub whole : 0 < key.share.whole
+  pub part : key.share.part ≡ 0
+  pub count : key.count ≡ 0
+  pub name : slice_get path (length path - 1) ≡ Some key.name
+
+-- a node with neither clients nor children
+abbrev pub is_bare_at : Tree → ℕ → Bool
+is_bare_at tree node =
+    (option_map_or (λ s. s.clients) (slice_get tree.sums.items node) 0 == 0)
+    && (length (children_at tree.families.items node) == 0)
+
+-- no node on the way to a leaf has less than the leaf
+pub record IsLeast (tree : Tree) (leaf : ℕ) : Type 0 where
+  pub sum : Sum
+  pub there : slice_get tree.sums.items leaf ≡ Some sum
+  pub held : OnWay tree leaf (λ s. (label : Text) → amount_of sum.held label ≤ amount_of s.held label)
+  pub count : OnWay tree leaf (λ s. sum.count ≤ s.count)
+  pub clients : OnWay tree leaf (λ s. sum.clients ≤ s.clients)
+  pub active : OnWay tree leaf (λ s. sum.active ≤ s.active)

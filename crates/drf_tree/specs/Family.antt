@@ -1,0 +1,85 @@
+-- Siblings in the order of their keys.
+use Rattle.std.specs.Prelude.{◌≡◌, ◌<◌, ℕ, ◌==◌, Bool, true, not, ◌&&◌, List, [], ◌∷◌, ◌++◌, map}
+use Rattle.std.specs.declared.cmp.Ordering.TheVariants.{Equal}
+use Rattle.std.specs.List.{list_all, list_any}
+use Rattle.std.specs.Ordering.{is_lt}
+use Rattle.drf_role.specs.Text.{Text}
+use Rattle.drf_bundle.specs.Quantities.{amount_of}
+use Rattle.drf_bundle.specs.declared.quantities.Entry.{Entry}
+use Rattle.drf_sorter.specs.Fractions.{fraction_cmp, weigh, dominant_of}
+use Rattle.drf_sorter.specs.declared.key.Key as made
+use Rattle.drf_sorter.specs.Keys.{Key, key_by, key_cmp}
+use Rattle.drf_tree.specs.declared.node.Sum.{Sum}
+use Rattle.drf_tree.specs.declared.family.Child.{Child}
+
+-- the name of a child, which its key keeps
+abbrev pub child_name : Child → Text
+child_name child = (key_by child.key).name
+
+-- the order of keys as they were made
+abbrev pub is_before : made.Key → made.Key → Bool
+is_before a b = is_lt (key_cmp (key_by a) (key_by b))
+
+-- the second child is not ahead of the first
+abbrev pub is_not_behind : Child → Child → Bool
+is_not_behind a b = not (is_before b.key a.key)
+
+-- none of them is ahead of an earlier one
+abbrev pub are_sorted : List Child → Bool
+are_sorted [] = true
+are_sorted (child ∷ children) = list_all (is_not_behind child) children && are_sorted children
+
+-- the numbers of the children
+abbrev pub numbers_of : List Child → List ℕ
+numbers_of children = map (λ c. c.node) children
+
+-- the number is that of a child
+abbrev pub has_child : ℕ → List Child → Bool
+has_child node children = list_any (λ c. c.node == node) children
+
+-- a family, and the same with one child more, wherever it stands
+pub record IsWith (child : Child) (less more : List Child) : Type 0 where
+  pub before : List Child
+  pub after : List Child
+  pub less_is : less ≡ before ++ after
+  pub more_is : more ≡ before ++ child ∷ after
+
+-- a child of that number is gone
+pub record IsGone (node : ℕ) (old new : List Child) : Type 0 where
+  pub child : Child
+  pub node_is : child.node ≡ node
+  pub gone : IsWith child new old
+
+-- the first key stands where the second does: its share may be another fraction of the same value
+pub record IsSameKey (a b : Key) : Type 0 where
+  pub some : 0 < a.share.whole
+  pub share : fraction_cmp a.share b.share ≡ Equal
+  pub count : a.count ≡ b.count
+  pub name : a.name ≡ b.name
+
+-- the key that belongs to a sum
+abbrev pub key_for : List Entry → Sum → Text → Key
+key_for total sum name = record {
+  share = weigh (dominant_of (amount_of sum.held) total) sum.weight;
+  count = sum.count;
+  name = name;
+}
+
+-- a child of that number has the key of its sum now, in its place
+pub record IsRenewed (node : ℕ) (total : List Entry) (sum : Sum) (old new : List Child) : Type 0 where
+  pub was : Child
+  pub now : Child
+  pub rest : List Child
+  pub was_is : was.node ≡ node
+  pub now_is : now.node ≡ node
+  pub gone : IsWith was rest old
+  pub put : IsWith now rest new
+  pub key : key_by now.key ≡ key_for total sum (child_name was)
+
+-- a child as contracts see it
+abbrev pub seen : Child → Key × ℕ
+seen child = (key_by child.key, child.node)
+
+-- the same keys and numbers
+abbrev pub AreCopies : List Child → List Child → Type 0
+AreCopies old new = map seen old ≡ map seen new

@@ -1,0 +1,54 @@
+-- What stands at a number of the tree.
+use Rattle.std.specs.Prelude.{◌==◌, ℕ, Bool, ◌||◌, ◌&&◌, List, [], Option, None, length, map, slice_get, slice_index_or, ◌-◌}
+use Rattle.std.specs.Option.{is_some, option_map_or}
+use Rattle.drf_role.specs.Path.{Path}
+use Rattle.drf_role.specs.Text.{Text, same_text}
+use Rattle.drf_tree.specs.declared.node.Place.{Place}
+use Rattle.drf_tree.specs.declared.family.Child.{Child}
+use Rattle.drf_tree.specs.declared.family.Family.{Family}
+use Rattle.drf_sorter.specs.Keys.{Key}
+use Rattle.drf_tree.specs.Family.{numbers_of, seen}
+
+-- the place at a number, where there is one
+abbrev pub place_at : List (Option Place) → ℕ → Option Place
+place_at places i = slice_index_or places i None
+
+-- a node stands at that number
+abbrev pub is_live : List (Option Place) → ℕ → Bool
+is_live places i = is_some (place_at places i)
+
+-- a node does, or the root
+abbrev pub is_node : List (Option Place) → ℕ → Bool
+is_node places i = (i == 0) || is_live places i
+
+-- the path of a node; the root's is empty
+abbrev pub path_at : List (Option Place) → ℕ → Path
+path_at places i = option_map_or (λ p. p.path) (place_at places i) []
+
+-- the last part of a path
+abbrev pub last_part : Path → Text
+last_part path = slice_index_or path (length path - 1) []
+
+-- a node stands at that number, and its path ends with that name
+abbrev pub is_named_at : List (Option Place) → ℕ → Text → Bool
+is_named_at places i name = is_live places i && same_text (last_part (path_at places i)) name
+
+-- the number above a node
+abbrev pub parent_at : List (Option Place) → ℕ → ℕ
+parent_at places i = option_map_or (λ p. p.parent) (place_at places i) 0
+
+-- the client that a node is
+abbrev pub client_at : List (Option Place) → ℕ → Option Path
+client_at places i = option_map_or (λ p. p.client) (place_at places i) None
+
+-- the children at a number, in their order
+abbrev pub children_at : List Family → ℕ → List Child
+children_at families i = option_map_or (λ f. f.children.items) (slice_get families i) []
+
+-- their numbers
+abbrev pub family_at : List Family → ℕ → List ℕ
+family_at families i = numbers_of (children_at families i)
+
+-- a family as contracts see it
+abbrev pub seen_in : Family → List (Key × ℕ)
+seen_in family = map seen family.children.items

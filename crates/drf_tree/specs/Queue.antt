@@ -1,0 +1,79 @@
+-- The clients that a walk still comes to.
+use Rattle.std.specs.Prelude.{◌≡◌, ◌≤◌, ◌<◌, ◌+◌, ◌-◌, ◌^◌, ℕ, min, zero, suc, true, false, List, [], ◌∷◌, ◌++◌, Option, None, Some, drop, flat_map, length, slice_get}
+use Rattle.std.specs.List.{AllByRecursion}
+use Rattle.std.specs.Option.{is_some, option_map_or}
+use Rattle.drf_role.specs.Path.{Path}
+use Rattle.drf_sorter.specs.Content.{Content, active_paths}
+use Rattle.drf_tree.specs.declared.node.Place.{Place}
+use Rattle.drf_tree.specs.declared.node.Sum.{Sum}
+use Rattle.drf_tree.specs.declared.family.Family.{Family}
+use Rattle.drf_tree.specs.declared.walk.Frame.{Frame}
+use Rattle.drf_tree.specs.declared.walk.Next.{Next}
+use Rattle.drf_tree.specs.declared.walk.Next.TheVariants.{Client, End, Nobody, Node}
+use Rattle.drf_tree.specs.declared.tree.Tree.{Tree}
+use Rattle.drf_tree.specs.Nodes.{path_at, family_at, client_at, is_node}
+use Rattle.drf_tree.specs.Walk.{walk, own}
+
+-- one place on; no family is so long that the number ends
+abbrev pub onward : Frame → Frame
+onward frame = record frame { next = min (frame.next + 1) (2 ^ 64 - 1) }
+
+-- what is left of a family, and then what is left above it; the root's family is the first frame
+abbrev pub pending : List Path → (ℕ → Path) → (ℕ → List ℕ) → ℕ → List Frame → List Path
+pending clients path family depth [] = []
+pending clients path family zero (frame ∷ frames) = []
+pending clients path family (suc n) (frame ∷ frames) =
+    pending clients path family n frames
+    ++ flat_map (walk clients path family n) (drop frame.next (family frame.node))
+
+-- the parts of a client's path at most
+abbrev pub most_parts : ℕ
+most_parts = 10
+
+-- the clients that these frames still come to
+unfoldable pub queue_in : Content → List (Option Place) → List Family → List Frame → List Path
+queue_in content places families frames =
+    pending (active_paths content) (path_at places) (family_at families) most_parts frames
+
+-- all of them, in the order of the families
+unfoldable pub order_in : Content → List (Option Place) → List Family → List Path
+order_in content places families = walk (active_paths content) (path_at places) (family_at families) most_parts 0
+
+-- those of a tree
+abbrev pub frames_queue : Content → Tree → List Frame → List Path
+frames_queue content tree frames = queue_in content tree.places.items tree.families.items frames
+
+-- frame by frame one part deeper, each at a node
+pub record AreFrames (places : List (Option Place)) (frames : List Frame) : Type 0 where
+  pub few : length frames ≤ most_parts
+  pub nodes : AllByRecursion (λ f. is_node places f.node ≡ true) frames
+  pub deep : (k : ℕ) (frame : Frame) → slice_get frames k ≡ Some frame → length (path_at places frame.node) ≡ k
+
+-- a frame stands at a client that is to be served
+pub record IsAtClient (content : Content) (places : List (Option Place)) (families : List Family) (frame : Frame) : Type 0 where
+  pub node : ℕ
+  pub next : slice_get (family_at families frame.node) frame.next ≡ Some node
+  pub client : client_at places node ≡ Some (path_at places node)
+  pub active : own (active_paths content) (path_at places node) ≡ path_at places node ∷ []
+
+-- the last frame does, if there is any
+abbrev pub IsSettled : Content → List (Option Place) → List Family → List Frame → Type 0
+IsSettled content places families [] = Unit {0}
+IsSettled content places families (frame ∷ []) = IsAtClient content places families frame
+IsSettled content places families (frame ∷ other ∷ frames) = IsSettled content places families (other ∷ frames)
+
+-- how many clients at and below a number are to be served
+abbrev pub active_at : List Sum → ℕ → ℕ
+active_at sums i = option_map_or (λ s. s.active) (slice_get sums i) 0
+
+-- what comes at the place of a frame
+abbrev pub IsNext : Tree → Frame → Next → Type 0
+IsNext tree frame End = slice_get (family_at tree.families.items frame.node) frame.next ≡ None
+IsNext tree frame Nobody =
+    (i : ℕ) × (slice_get (family_at tree.families.items frame.node) frame.next ≡ Some i) × (active_at tree.sums.items i ≡ 0)
+IsNext tree frame Client =
+    (i : ℕ) × (slice_get (family_at tree.families.items frame.node) frame.next ≡ Some i) × (0 < active_at tree.sums.items i)
+    × (is_some (client_at tree.places.items i) ≡ true)
+IsNext tree frame (Node i) =
+    (slice_get (family_at tree.families.items frame.node) frame.next ≡ Some i) × (0 < active_at tree.sums.items i)
+    × (is_some (client_at tree.places.items i) ≡ false)

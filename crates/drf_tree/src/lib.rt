@@ -1,0 +1,18 @@
+//! The order of clients, kept in a tree of roles with running sums and repaired where it changed.
+#![tactic(auto)]
+
+mod charge;
+mod copied;
+mod family;
+mod laws;
+mod marks;
+mod members;
+mod node;
+mod order;
+mod route;
+mod sorter;
+mod tree;
+mod walk;
+
+pub use laws::walk_law;
+pub use sorter::TreeSorter;

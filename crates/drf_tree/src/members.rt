@@ -1,0 +1,184 @@
+//! Clients that come and go.
+ghost use Rattle.std.specs.Prelude.{◌≡◌, ◌≢◌, ◌≤◌, ◌+◌, ◌<◌, ◌^◌, ℕ, Some, IfOk, IfSome, false, length, take, true};
+ghost use Rattle.drf_role.specs.Path.{IsClientPath, Path};
+ghost use Rattle.drf_sorter.specs.Content.{Content, activated, has_client, has_node, with_change, with_client, without_client};
+ghost use Rattle.drf_sorter.specs.Plain.{plain_content};
+ghost use Rattle.drf_sorter.specs.Work.{debt};
+ghost use Rattle.drf_tree.specs.Changes.{IsLeast, IsOneLonger, IsShapeOf, OnWay};
+ghost use Rattle.drf_tree.specs.Marks.{work_of};
+ghost use Rattle.drf_tree.specs.Nodes.{client_at, is_live, is_node, path_at};
+ghost use Rattle.drf_tree.specs.Tree.{IsTreeOf};
+
+use crate::node::Sum;
+use crate::tree::{ROOT, Tree};
+use drf_role::ClientPath;
+use drf_sorter::PlainSorter;
+use std::alloc::AllocError;
+use std::mem;
+
+impl Tree {
+    /// The node of a client, made with all nodes above it that are missing.
+    pub(crate) fn grow(
+        &mut self,
+        path: &ClientPath,
+        ledger: &PlainSorter,
+    ) -> Result<usize, AllocError>
+        requires tree { IsTreeOf (plain_content ledger.now) self.old }
+        ensures tree { IsTreeOf (plain_content ledger.now) self.new }
+        ensures live { IfOk result (λ leaf. is_live self.new.places.items leaf ≡ true) }
+        ensures client { IfOk result (λ leaf. client_at self.new.places.items leaf ≡ Some path.now) }
+        ensures work { debt (work_of self.new.marks) ≤ debt (work_of self.old.marks) + length path.now }
+    {
+        let mut node = ROOT;
+        for i in 0..path.len() {
+            node = self.step(node, path, i, ledger)?;
+        }
+        Ok(node)
+    }
+
+    /// The node of one part more of a path, below that of the first `i`, made if it is missing.
+    fn step(
+        &mut self,
+        node: usize,
+        path: &ClientPath,
+        i: usize,
+        ledger: &PlainSorter,
+    ) -> Result<usize, AllocError>
+        requires tree { IsTreeOf (plain_content ledger.now) self.old }
+        requires right { IsClientPath path.now }
+        requires within { i < length path.now }
+        requires there { is_node self.old.places.items node ≡ true }
+        requires above { path_at self.old.places.items node ≡ take i path.now }
+        ensures tree { IsTreeOf (plain_content ledger.now) self.new }
+        ensures path { IfOk result (λ child. path_at self.new.places.items child ≡ take (i + 1) path.now) }
+        ensures live { IfOk result (λ child. is_live self.new.places.items child ≡ true) }
+        ensures work { debt (work_of self.new.marks) ≤ debt (work_of self.old.marks) + 1 }
+    {
+        if let Some(child) = self.child(node, path.part(i)) {
+            return Ok(child);
+        }
+        self.sprout_for(node, path, i + 1, ledger)
+    }
+
+    /// The node of the first parts of a path, `len` of them, below the one of one part less.
+    fn sprout_for(
+        &mut self,
+        parent: usize,
+        path: &ClientPath,
+        len: usize,
+        ledger: &PlainSorter,
+    ) -> Result<usize, AllocError>
+        requires tree { IsTreeOf (plain_content ledger.now) self.old }
+        requires right { IsClientPath path.now }
+        requires some { 1 ≤ len }
+        requires within { len ≤ length path.now }
+        requires parent { is_node self.old.places.items parent ≡ true }
+        requires longer { IsOneLonger (path_at self.old.places.items parent) (take len path.now) }
+        requires missing { (i : ℕ) → is_live self.old.places.items i ≡ true → path_at self.old.places.items i ≢ take len path.now }
+        requires nobody { has_node (plain_content ledger.now) (take len path.now) ≡ false }
+        ensures tree { IsTreeOf (plain_content ledger.now) self.new }
+        ensures path { IfOk result (λ node. path_at self.new.places.items node ≡ take len path.now) }
+        ensures live { IfOk result (λ node. is_live self.new.places.items node ≡ true) }
+        ensures work { debt (work_of self.new.marks) ≤ debt (work_of self.old.marks) + 1 }
+    {
+        let node = path.node(len)?;
+        let client = client_of(path, len)?;
+        let weight = ledger.weight_of(&node);
+        self.sprout(parent, node, client, weight)
+    }
+
+    /// One more client, that is active, from this node up.
+    pub(crate) fn admit(&mut self, leaf: usize)
+        requires shape { IsShapeOf self.old }
+        requires live { is_live self.old.places.items leaf ≡ true }
+        requires fits { OnWay self.old leaf (λ s. (s.clients + 1 < 2 ^ 64) × (s.active + 1 < 2 ^ 64)) }
+        ensures tree { (content : Content) (path : Path) → IsTreeOf content self.old → client_at self.old.places.items leaf ≡ Some path → has_client content path ≡ false → IsTreeOf (with_client content path) self.new }
+        ensures places { self.new.places ≡ self.old.places }
+        ensures families { self.new.families ≡ self.old.families }
+        ensures marks { self.new.marks ≡ self.old.marks }
+    {
+        let mut node = leaf;
+        while node != ROOT {
+            let sum = &mut self.sums[node];
+            sum.clients += 1;
+            sum.active += 1;
+            node = self.parent(node);
+        }
+    }
+
+    /// The client at this node is gone, and so is what it held from all nodes above.
+    pub(crate) fn dismiss(&mut self, leaf: usize)
+        requires shape { IsShapeOf self.old }
+        requires live { is_live self.old.places.items leaf ≡ true }
+        requires least { IsLeast self.old leaf }
+        ensures tree { (content : Content) (path : Path) → IsTreeOf content self.old → client_at self.old.places.items leaf ≡ Some path → has_client content path ≡ true → IsTreeOf (without_client content path) self.new }
+        ensures places { self.new.places ≡ self.old.places }
+        ensures families { self.new.families ≡ self.old.families }
+        ensures work { debt (work_of self.new.marks) ≤ debt (work_of self.old.marks) + length (path_at self.old.places.items leaf) }
+    {
+        let nothing = Sum::of_none(self.alloc(), self.sums[leaf].weight);
+        let gone = mem::replace(&mut self.sums[leaf], nothing);
+        // Its labels are in order.
+        let _ = gone.held.entries();
+        self.marks.mark(leaf);
+        let mut node = self.parent(leaf);
+        while node != ROOT {
+            let sum = &mut self.sums[node];
+            sum.held.lower(&gone.held);
+            sum.count -= gone.count;
+            sum.clients -= gone.clients;
+            sum.active -= gone.active;
+            self.marks.mark(node);
+            node = self.parent(node);
+        }
+    }
+
+    /// The client at this node is to be served or not, for all nodes from there up.
+    pub(crate) fn set_active(&mut self, leaf: usize, active: bool)
+        requires shape { IsShapeOf self.old }
+        requires live { is_live self.old.places.items leaf ≡ true }
+        requires least { IsLeast self.old leaf }
+        requires fits { OnWay self.old leaf (λ s. s.active + 1 < 2 ^ 64) }
+        ensures tree { (content : Content) (path : Path) → IsTreeOf content self.old → client_at self.old.places.items leaf ≡ Some path → has_client content path ≡ true → IsTreeOf (with_change content path (activated active)) self.new }
+        ensures places { self.new.places ≡ self.old.places }
+        ensures families { self.new.families ≡ self.old.families }
+        ensures marks { self.new.marks ≡ self.old.marks }
+    {
+        let now = u64::from(active);
+        let before = self.sums[leaf].active;
+        let mut node = leaf;
+        while node != ROOT {
+            let sum = &mut self.sums[node];
+            sum.active = sum.active - before + now;
+            node = self.parent(node);
+        }
+    }
+
+    /// The bare nodes from this one up are gone.
+    pub(crate) fn prune(&mut self, leaf: usize)
+        requires shape { IsShapeOf self.old }
+        requires node { is_node self.old.places.items leaf ≡ true }
+        ensures shape { IsShapeOf self.new }
+        ensures tree { (content : Content) → IsTreeOf content self.old → IsTreeOf content self.new }
+        ensures work { debt (work_of self.new.marks) ≤ debt (work_of self.old.marks) }
+    {
+        let mut node = leaf;
+        while node != ROOT && self.is_bare(node) {
+            let parent = self.parent(node);
+            self.wither(node);
+            node = parent;
+        }
+    }
+}
+
+/// The client that the node of the first parts of a path is, if it is one.
+fn client_of(path: &ClientPath, len: usize) -> Result<Option<ClientPath>, AllocError>
+    requires { len ≤ length path.now }
+    ensures client { IfOk result (λ client. IsClientPath (take len path.now) → client ≡ Some (take len path.now)) }
+    ensures only { IfOk result (λ client. IfSome client (λ c. (c ≡ take len path.now) × IsClientPath (take len path.now))) }
+{
+    if len < path.len() {
+        return Ok(None);
+    }
+    Ok(Some(path.copy()?))
+}

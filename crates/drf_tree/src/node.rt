@@ -1,0 +1,85 @@
+//! What the tree knows of a node: its place, and its sums.
+ghost use Rattle.std.specs.Prelude.{◌≡◌, ◌-◌, [], IfOk, Some, length, slice_get};
+
+use drf_bundle::Quantities;
+use drf_role::{ClientPath, NodePath};
+use std::alloc::{AllocError, Global};
+
+/// Where a node stands.
+#[derive(Debug, Drop)]
+pub(crate) struct Place {
+    pub path: NodePath,
+    /// The number of the node above it.
+    pub parent: usize,
+    /// The client that the node is, if it is one.
+    pub client: Option<ClientPath>,
+}
+
+impl Place {
+    /// The last part of the path.
+    pub(crate) fn name(&self) -> &str
+        ensures { slice_get self.now.path (length self.now.path - 1) ≡ Some result.now }
+    {
+        self.path.part(self.path.len() - 1)
+    }
+
+    pub(crate) fn copy(&self) -> Result<Place, AllocError>
+        ensures { IfOk result (λ place. place ≡ self.now) }
+    {
+        Ok(Place {
+            path: self.path.copy()?,
+            parent: self.parent,
+            client: copy_of_client(&self.client)?,
+        })
+    }
+}
+
+fn copy_of_client(client: &Option<ClientPath>) -> Result<Option<ClientPath>, AllocError>
+    ensures { IfOk result (λ path. path ≡ client.now) }
+{
+    match client {
+        Some(path) => Ok(Some(path.copy()?)),
+        None => Ok(None),
+    }
+}
+
+/// What the clients of a node come to together.
+#[derive(Debug, Drop)]
+pub(crate) struct Sum {
+    pub held: Quantities,
+    /// The offers that were made to them.
+    pub count: u64,
+    /// How many they are.
+    pub clients: u64,
+    /// How many of them are to be served.
+    pub active: u64,
+    /// The weight of the node, in thousandths.
+    pub weight: u64,
+}
+
+impl Sum {
+    /// The sum of no clients.
+    pub(crate) fn of_none(alloc: Global, weight: u64) -> Sum
+        ensures { result ≡ record { held = []; count = 0; clients = 0; active = 0; weight = weight } }
+    {
+        Sum {
+            held: Quantities::empty(alloc),
+            count: 0,
+            clients: 0,
+            active: 0,
+            weight,
+        }
+    }
+
+    pub(crate) fn copy(&self) -> Result<Sum, AllocError>
+        ensures { IfOk result (λ sum. sum ≡ self.now) }
+    {
+        Ok(Sum {
+            held: self.held.copy()?,
+            count: self.count,
+            clients: self.clients,
+            active: self.active,
+            weight: self.weight,
+        })
+    }
+}

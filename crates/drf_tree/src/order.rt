@@ -1,0 +1,47 @@
+//! Families put into order where keys are stale.
+ghost use Rattle.std.specs.Prelude.{◌≡◌, ◌≤◌, ◌+◌, ◌-◌, ◌^◌, length, min, true};
+ghost use Rattle.drf_sorter.specs.Content.{IsSound};
+ghost use Rattle.drf_sorter.specs.Plain.{plain_content};
+ghost use Rattle.drf_sorter.specs.Work.{debt};
+ghost use Rattle.drf_tree.specs.Marks.{marked_in, work_of};
+ghost use Rattle.drf_tree.specs.Nodes.{is_live};
+ghost use Rattle.drf_tree.specs.Tree.{IsTreeOf, IsTreeBut};
+
+use crate::tree::Tree;
+use drf_sorter::PlainSorter;
+
+impl Tree {
+    /// Computes each key that is stale, and puts its node into its place.
+    pub(crate) fn repair(&mut self, ledger: &PlainSorter)
+        requires sound { IsSound (plain_content ledger.now) }
+        requires tree { IsTreeOf (plain_content ledger.now) self.old }
+        ensures tree { IsTreeOf (plain_content ledger.now) self.new }
+        ensures repaired { marked_in self.new.marks.stale ≡ 0 }
+        ensures work { debt (work_of self.new.marks) ≤ debt (work_of self.old.marks) }
+    {
+        if self.marks.is_clear() {
+            return;
+        }
+        for node in 0..self.places.len() {
+            if self.marks.take(node) {
+                self.renew(node, ledger);
+            }
+        }
+    }
+
+    /// Computes the key of a node, and puts it into its place among its siblings.
+    fn renew(&mut self, node: usize, ledger: &PlainSorter)
+        requires sound { IsSound (plain_content ledger.now) }
+        requires live { is_live self.old.places.items node ≡ true }
+        requires tree { IsTreeBut node (plain_content ledger.now) self.old }
+        ensures tree { IsTreeOf (plain_content ledger.now) self.new }
+        ensures places { self.new.places ≡ self.old.places }
+        ensures sums { self.new.sums ≡ self.old.sums }
+        ensures made { self.new.marks.made ≡ min (self.old.marks.made + 1) (2 ^ 64 - 1) }
+        ensures stale { self.new.marks.stale ≡ self.old.marks.stale }
+    {
+        let parent = self.parent(node);
+        let family = &mut self.families[parent];
+        family.renew(&mut self.marks, node, ledger.total(), &self.sums[node]);
+    }
+}

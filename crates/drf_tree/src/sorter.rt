@@ -1,0 +1,166 @@
+//! A sorter over a tree of nodes.
+use crate::tree::Tree;
+use crate::walk::Walk;
+use drf_bundle::Quantities;
+use drf_role::{ClientPath, NodePath, Role};
+use drf_sorter::{DEFAULT_WEIGHT, PlainSorter, Share, Sorter};
+use std::alloc::{AllocError, Global};
+use std::marker::Model;
+
+/// A sorter that keeps its clients in a list, and their order in a tree, where a change costs one key for each node on
+/// the way to the client.
+#[derive(Debug, Drop)]
+pub struct TreeSorter {
+    ledger: PlainSorter,
+    tree: Tree,
+    walk: Walk,
+}
+
+impl Model for TreeSorter {
+    ghost use Rattle.drf_sorter.specs.Plain.{plain_content};
+    ghost use Rattle.drf_tree.specs.Marks.{work_of};
+    ghost use Rattle.drf_tree.specs.Queue.{frames_queue};
+    ghost use Rattle.drf_tree.specs.Sorter.{IsKept, Sorted, sorted_code};
+
+    ghost Value = { Sorted };
+
+    ghost coded = { sorted_code };
+
+    ghost view = { λ s. record {
+      ledger = s.ledger;
+      queue = frames_queue (plain_content s.ledger) s.tree s.walk.frames.items;
+      work = work_of s.tree.marks;
+    } };
+
+    ghost invariant = { λ s. IsKept s.ledger s.tree s.walk };
+}
+
+impl Sorter for TreeSorter {
+    ghost use Rattle.std.specs.Prelude.{true};
+    ghost use Rattle.drf_sorter.specs.Plain.{plain_content};
+
+    ghost content = { λ s. plain_content s.ledger };
+
+    ghost queue = { λ s. s.queue };
+
+    ghost work = { λ s. s.work };
+
+    ghost COUNTED = { true };
+
+    const COUNTED: bool = true;
+
+    fn open(alloc: Global) -> Result<Self, AllocError> {
+        Ok(TreeSorter {
+            ledger: PlainSorter::open(alloc)?,
+            tree: Tree::open(alloc)?,
+            walk: Walk::open(alloc)?,
+        })
+    }
+
+    fn alloc(&self) -> Global {
+        self.ledger.alloc()
+    }
+
+    fn add(&mut self, path: ClientPath) -> Result<(), AllocError> {
+        self.walk.stop();
+        let node = self.tree.grow(&path, &self.ledger)?;
+        self.ledger.add(path)?;
+        self.tree.admit(node);
+        Ok(())
+    }
+
+    fn remove(&mut self, path: &ClientPath) {
+        self.walk.stop();
+        self.ledger.remove(path);
+        let Some(node) = self.tree.find(path) else {
+            return;
+        };
+        self.tree.dismiss(node);
+        self.tree.prune(node);
+    }
+
+    fn set_active(&mut self, path: &ClientPath, active: bool) {
+        self.walk.stop();
+        self.ledger.set_active(path, active);
+        let Some(node) = self.tree.find(path) else {
+            return;
+        };
+        self.tree.set_active(node, active);
+    }
+
+    fn charge(&mut self, path: &ClientPath, quantities: &Quantities) -> Result<(), AllocError> {
+        let Some(node) = self.tree.find(path) else {
+            return Ok(());
+        };
+        let raised = self.tree.raised(node, quantities)?;
+        self.ledger.charge(path, quantities)?;
+        self.tree.charge(node, raised);
+        Ok(())
+    }
+
+    fn undo_charge(&mut self, path: &ClientPath, quantities: &Quantities) {
+        self.ledger.undo_charge(path, quantities);
+        let Some(node) = self.tree.find(path) else {
+            return;
+        };
+        self.tree.lower(node, quantities, 1);
+    }
+
+    fn refund(&mut self, path: &ClientPath, quantities: &Quantities) {
+        self.ledger.refund(path, quantities);
+        let Some(node) = self.tree.find(path) else {
+            return;
+        };
+        self.tree.lower(node, quantities, 0);
+    }
+
+    fn set_total(&mut self, total: Quantities) {
+        self.ledger.set_total(total);
+        self.tree.mark_all();
+    }
+
+    fn set_weight(&mut self, role: &Role, weight: u64) -> Result<(), AllocError> {
+        self.ledger.set_weight(role, weight)?;
+        let Some(node) = self.tree.find(role) else {
+            return Ok(());
+        };
+        self.tree.weigh(node, weight);
+        Ok(())
+    }
+
+    fn fix_order(&mut self) -> Result<(), AllocError> {
+        self.tree.repair(&self.ledger);
+        self.walk.start(&self.tree);
+        Ok(())
+    }
+
+    fn first(&self) -> Option<&ClientPath> {
+        self.walk.first(&self.tree)
+    }
+
+    fn pass(&mut self) {
+        self.walk.pass(&self.tree);
+    }
+
+    fn keys_made(&self) -> u64 {
+        self.tree.keys_made()
+    }
+
+    fn share(&self, node: &NodePath) -> Option<(Share, Share, u64)> {
+        let sum = self.tree.sum(self.tree.find(node)?);
+        if sum.clients == 0 {
+            return None;
+        }
+        let share = Share::of(self.ledger.total(), DEFAULT_WEIGHT, &sum.held);
+        let weighted = Share::of(self.ledger.total(), sum.weight, &sum.held);
+        Some((share, weighted, sum.count))
+    }
+
+    fn copy(&self) -> Result<Self, AllocError> {
+        Ok(TreeSorter {
+            ledger: self.ledger.copy()?,
+            tree: self.tree.copy()?,
+            walk: self.walk.copy()?,
+        })
+    }
+}

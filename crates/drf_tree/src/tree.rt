@@ -1,0 +1,284 @@
+//! Numbered nodes in parallel lists: their places, their sums, their families and their marks.
+ghost use Rattle.std.specs.Prelude.{◌≡◌, ◌≢◌, ◌≤◌, ◌<◌, ◌+◌, ◌-◌, ◌++◌, ◌∷◌, [], ℕ, false, true, IfOk, IfSome, IsSome, List, None, OnErr, OnOk, Some, length, map, option_copied, slice_get, slice_set};
+ghost use Rattle.std.specs.List.{list_any, position};
+ghost use Rattle.drf_bundle.specs.declared.quantities.Entry.{Entry};
+ghost use Rattle.drf_role.specs.Path.{IsClientPath, IsNodePath};
+ghost use Rattle.drf_role.specs.Text.{same_text};
+ghost use Rattle.drf_rows.specs.Held.{weight_of};
+ghost use Rattle.drf_sorter.specs.Content.{Content, empty, has_node, with_weight};
+ghost use Rattle.drf_sorter.specs.Keys.{key_by};
+ghost use Rattle.drf_sorter.specs.Work.{debt};
+ghost use Rattle.drf_tree.specs.Changes.{IsKeyOfNothing, IsSameTree, IsOneLonger, IsShapeOf, IsVacant, is_bare_at};
+ghost use Rattle.drf_tree.specs.Family.{child_name};
+ghost use Rattle.drf_tree.specs.Marks.{work_of};
+ghost use Rattle.drf_tree.specs.Nodes.{children_at, is_live, is_named_at, is_node, parent_at, path_at, place_at};
+ghost use Rattle.drf_tree.specs.Tree.{IsTreeOf};
+
+use crate::family::{Child, Family};
+use crate::marks::Marks;
+use crate::node::{Place, Sum};
+use crate::route::Route;
+use drf_bundle::Quantities;
+use drf_role::{ClientPath, NodePath};
+use drf_sorter::DEFAULT_WEIGHT;
+use std::alloc::{AllocError, Global};
+
+/// The number of what stands above the nodes of one part. It has a family, and is no node itself.
+pub(crate) const ROOT: usize = 0;
+
+/// The nodes by number. A number without a place is free.
+#[derive(Debug, Drop)]
+pub(crate) struct Tree {
+    pub places: Vec<Option<Place>>,
+    pub sums: Vec<Sum>,
+    pub families: Vec<Family>,
+    pub marks: Marks,
+}
+
+impl Tree {
+    /// The root alone.
+    pub(crate) fn open(alloc: Global) -> Result<Tree, AllocError>
+        ensures tree { IfOk result (IsTreeOf empty) }
+        ensures work { IfOk result (λ tree. work_of tree.marks ≡ record { made = 0; marked = 0 }) }
+    {
+        let mut tree = Tree {
+            places: Vec::new(alloc),
+            sums: Vec::new(alloc),
+            families: Vec::new(alloc),
+            marks: Marks::new(alloc),
+        };
+        tree.push()?;
+        Ok(tree)
+    }
+
+    pub(crate) fn alloc(&self) -> Global {
+        *self.places.allocator()
+    }
+
+    /// The keys that were computed.
+    pub(crate) fn keys_made(&self) -> u64
+        ensures { result ≡ self.now.marks.made }
+    {
+        self.marks.made()
+    }
+
+    /// What the clients of a node come to.
+    pub(crate) fn sum(&self, node: usize) -> &Sum
+        requires { node < length self.now.sums.items }
+        ensures { slice_get self.now.sums.items node ≡ Some result.now }
+    {
+        &self.sums[node]
+    }
+
+    /// Each key may be stale.
+    pub(crate) fn mark_all(&mut self)
+        requires shape { IsShapeOf self.old }
+        ensures tree { (content : Content) (total : List Entry) → IsTreeOf content self.old → IsTreeOf (record content { total = total }) self.new }
+        ensures made { self.new.marks.made ≡ self.old.marks.made }
+        ensures places { self.new.places ≡ self.old.places }
+        ensures families { self.new.families ≡ self.old.families }
+    {
+        self.marks.mark_all(self.places.as_slice());
+    }
+
+    /// Gives a node a weight, in thousandths.
+    pub(crate) fn weigh(&mut self, node: usize, weight: u64)
+        requires shape { IsShapeOf self.old }
+        requires live { is_live self.old.places.items node ≡ true }
+        ensures tree { (content : Content) → IsTreeOf content self.old → IsTreeOf (with_weight content (path_at self.old.places.items node) weight) self.new }
+        ensures places { self.new.places ≡ self.old.places }
+        ensures families { self.new.families ≡ self.old.families }
+        ensures work { debt (work_of self.new.marks) ≤ debt (work_of self.old.marks) + 1 }
+    {
+        let sum = &mut self.sums[node];
+        sum.weight = weight;
+        self.marks.mark(node);
+    }
+
+    /// One more number, that is free. An `Err` changes nothing.
+    fn push(&mut self) -> Result<(), AllocError>
+        ensures places { OnOk result (self.new.places.items ≡ self.old.places.items ++ None ∷ []) }
+        ensures families { (i : ℕ) → children_at self.new.families.items i ≡ children_at self.old.families.items i }
+        ensures families_long { OnOk result (length self.new.families.items ≡ length self.old.families.items + 1) }
+        ensures marks { OnOk result (self.new.marks ≡ record self.old.marks { stale = self.old.marks.stale ++ false ∷ [] }) }
+        ensures sums { OnOk result (self.new.sums.items ≡ self.old.sums.items ++ record { held = []; count = 0; clients = 0; active = 0; weight = 0 } ∷ []) }
+        ensures err { OnErr result (IsSameTree self.old self.new) }
+    {
+        let alloc = self.alloc();
+        self.places.reserve(1)?;
+        self.sums.reserve(1)?;
+        self.families.reserve(1)?;
+        self.marks.push()?;
+        self.sums.push_reserved(Sum::of_none(alloc, 0));
+        self.families.push_reserved(Family::new(alloc));
+        self.places.push_reserved(None);
+        Ok(())
+    }
+
+    /// A free number.
+    pub(crate) fn vacant(&mut self) -> Result<usize, AllocError>
+        requires shape { IsShapeOf self.old }
+        ensures shape { IsShapeOf self.new }
+        ensures free { IfOk result (λ node. IsVacant self.new node) }
+        ensures places { (i : ℕ) → place_at self.new.places.items i ≡ place_at self.old.places.items i }
+        ensures families { (i : ℕ) → children_at self.new.families.items i ≡ children_at self.old.families.items i }
+        ensures tree { (content : Content) → IsTreeOf content self.old → IsTreeOf content self.new }
+        ensures work { work_of self.new.marks ≡ work_of self.old.marks }
+    {
+        let free = free_place(&self.places);
+        if free == self.places.len() {
+            self.push()?;
+        }
+        Ok(free)
+    }
+
+    /// The place of a node.
+    pub(crate) fn place(&self, node: usize) -> Option<&Place>
+        ensures { option_copied result ≡ place_at self.now.places.items node }
+    {
+        self.places.get(node)?.as_ref()
+    }
+
+    /// The number of the node above a node, which is the root for a number without a place.
+    pub(crate) fn parent(&self, node: usize) -> usize
+        ensures { result ≡ parent_at self.now.places.items node }
+    {
+        match self.place(node) {
+            Some(place) => place.parent,
+            None => ROOT,
+        }
+    }
+
+    /// The child of that name.
+    pub(crate) fn child(&self, node: usize, name: &str) -> Option<usize>
+        requires shape { IsShapeOf self.now }
+        requires node { is_node self.now.places.items node ≡ true }
+        ensures found { IfSome result (λ child. (is_live self.now.places.items child ≡ true) × (path_at self.now.places.items child ≡ path_at self.now.places.items node ++ name.now ∷ [])) }
+        ensures missing { result ≡ None → list_any (same_text name.now) (map child_name (children_at self.now.families.items node)) ≡ false }
+    {
+        let family = self.families[node].children();
+        let place = self.place_named(family, name)?;
+        Some(family[place].node)
+    }
+
+    /// Where the child of that name stands among its siblings.
+    fn place_named(&self, children: &[Child], name: &str) -> Option<usize>
+        ensures { result ≡ position (λ c. is_named_at self.now.places.items c.node name.now) children.now }
+    {
+        children
+            .iter()
+            .position(|child| self.has_name(child.node, name))
+    }
+
+    fn has_name(&self, node: usize, name: &str) -> bool
+        ensures { result ≡ is_named_at self.now.places.items node name.now }
+    {
+        match self.place(node) {
+            Some(place) => place.name() == name,
+            None => false,
+        }
+    }
+
+    /// The node that a route leads to.
+    pub(crate) fn find<R: Route>(&self, route: &R) -> Option<usize>
+        requires { IsShapeOf self.now }
+        ensures found { IfSome result (λ node. (is_node self.now.places.items node ≡ true) × (path_at self.now.places.items node ≡ R.parts route.now)) }
+        ensures live { IfSome result (λ node. is_live self.now.places.items node ≡ true) }
+        ensures every { (content : Content) → IsTreeOf content self.now → has_node content (R.parts route.now) ≡ true → IsSome result }
+        ensures missing { result ≡ None → (i : ℕ) → is_live self.now.places.items i ≡ true → path_at self.now.places.items i ≢ R.parts route.now }
+    {
+        let mut node = ROOT;
+        for i in 0..route.len() {
+            node = self.child(node, route.part(i))?;
+        }
+        Some(node)
+    }
+
+    /// A node without clients, below another, with its key.
+    pub(crate) fn sprout(
+        &mut self,
+        parent: usize,
+        path: NodePath,
+        client: Option<ClientPath>,
+        weight: u64,
+    ) -> Result<usize, AllocError>
+        requires shape { IsShapeOf self.old }
+        requires parent { is_node self.old.places.items parent ≡ true }
+        requires path { IsOneLonger (path_at self.old.places.items parent) path }
+        requires right { IsNodePath path }
+        requires missing { (i : ℕ) → is_live self.old.places.items i ≡ true → path_at self.old.places.items i ≢ path }
+        requires client { IsClientPath path → client ≡ Some path }
+        requires other { IfSome client (λ c. (c ≡ path) × IsClientPath path) }
+        ensures tree { (content : Content) → IsTreeOf content self.old → weight ≡ weight_of content.weights path → has_node content path ≡ false → IsTreeOf content self.new }
+        ensures path { IfOk result (λ node. path_at self.new.places.items node ≡ path) }
+        ensures live { IfOk result (λ node. is_live self.new.places.items node ≡ true) }
+        ensures work { debt (work_of self.new.marks) ≤ debt (work_of self.old.marks) + 1 }
+    {
+        let node = self.vacant()?;
+        let child = self.first_child(node, &path)?;
+        self.families[parent].insert(child)?;
+        self.sums[node] = Sum::of_none(self.alloc(), weight);
+        self.places[node] = Some(Place {
+            path,
+            parent,
+            client,
+        });
+        Ok(node)
+    }
+
+    /// A child whose clients hold nothing. Its key is the same whatever the total is, and the weight.
+    fn first_child(&mut self, node: usize, path: &NodePath) -> Result<Child, AllocError>
+        ensures node { IfOk result (λ child. child.node ≡ node) }
+        ensures key { IfOk result (λ child. IsKeyOfNothing path.now (key_by child.key)) }
+        ensures places { self.new.places ≡ self.old.places }
+        ensures sums { self.new.sums ≡ self.old.sums }
+        ensures families { self.new.families ≡ self.old.families }
+        ensures stale { self.new.marks.stale ≡ self.old.marks.stale }
+        ensures work { debt (work_of self.new.marks) ≤ debt (work_of self.old.marks) + 1 }
+    {
+        let alloc = self.alloc();
+        let name = String::from_str(alloc, path.part(path.len() - 1))?;
+        let nothing = Quantities::empty(alloc);
+        let none = Sum::of_none(alloc, DEFAULT_WEIGHT);
+        Ok(Child::new(&mut self.marks, node, name, &nothing, &none))
+    }
+
+    /// Whether a node has neither clients nor children.
+    pub(crate) fn is_bare(&self, node: usize) -> bool
+        requires shape { IsShapeOf self.now }
+        requires node { is_live self.now.places.items node ≡ true }
+        ensures { result ≡ is_bare_at self.now node }
+    {
+        self.sums[node].clients == 0 && self.families[node].children().is_empty()
+    }
+
+    /// A node that is bare leaves its parent's family, and its number is free.
+    pub(crate) fn wither(&mut self, node: usize)
+        requires shape { IsShapeOf self.old }
+        requires node { is_live self.old.places.items node ≡ true }
+        requires bare { is_bare_at self.old node ≡ true }
+        ensures shape { IsShapeOf self.new }
+        ensures tree { (content : Content) → IsTreeOf content self.old → IsTreeOf content self.new }
+        ensures places { self.new.places.items ≡ slice_set self.old.places.items node None }
+        ensures work { debt (work_of self.new.marks) ≤ debt (work_of self.old.marks) }
+    {
+        let parent = self.parent(node);
+        self.families[parent].remove(node);
+        self.marks.forget(node);
+        self.places[node] = None;
+    }
+}
+
+/// The first free number but the root's, or that of one more.
+fn free_place(places: &[Option<Place>]) -> usize
+    requires { 0 < length places.now }
+    ensures within { result ≤ length places.now }
+    ensures free { is_node places.now result ≡ false }
+{
+    for node in 1..places.len() {
+        if places[node].is_none() {
+            return node;
+        }
+    }
+    places.len()
+}

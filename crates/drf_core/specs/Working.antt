@@ -8,7 +8,7 @@ use Rattle.drf_rows.specs.Held.{clients_of}
 use Rattle.drf_rows.specs.Holdings.{of_offer, of_task}
 use Rattle.drf_rows.specs.LimitNumbers.{LimitNumbers}
 use Rattle.drf_rows.specs.Members.{distinct}
-use Rattle.drf_rows.specs.Step.{effect, new_offers, refusal_of}
+use Rattle.drf_rows.specs.Step.{effect, new_offers, refusal_of, rows_after}
 use Rattle.drf_rows.specs.declared.event.Event.{Event}
 use Rattle.drf_rows.specs.declared.event.Event.TheVariants.{AddAgent, RemoveAgent, ActivateAgent, DeactivateAgent, AddFramework, RemoveFramework, Accept, Decline, Rescind, Finish, Suppress, Revive, SetWeight, Cycle, Report}
 use Rattle.drf_rows.specs.declared.rows.OfferRow.{OfferRow}
@@ -58,6 +58,18 @@ allowed rows event = Some (nodes_of (touched rows event))
 -- what an event may add
 abbrev pub allowance : LimitNumbers → Rows → Event → Option ℕ
 allowance limits rows event = option_map_or (λ refusal. Some 0) (refusal_of limits rows event) (allowed rows event)
+
+-- the sum of two amounts, where both are bounded
+abbrev pub bounded_sum : Option ℕ → Option ℕ → Option ℕ
+bounded_sum None other = None
+bounded_sum (Some n) None = None
+bounded_sum (Some n) (Some m) = Some (n + m)
+
+-- what a list of events may add: each event on the rows that it finds
+abbrev pub allowance_of_all : LimitNumbers → Rows → List Event → Option ℕ
+allowance_of_all limits rows [] = Some 0
+allowance_of_all limits rows (event ∷ events) =
+    bounded_sum (allowance limits rows event) (allowance_of_all limits (rows_after limits rows event) events)
 
 -- where work is counted, what is owed grew by no more than the nodes of the clients of new drafts
 abbrev pub AddsDrafts : Bool → Work → Work → List OfferRow → List OfferRow → Type 0

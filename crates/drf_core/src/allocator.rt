@@ -1,6 +1,6 @@
 ghost use Rattle.std.specs.Prelude.{◌≡◌, ◌++◌, None, IfOk, OnOk, OnErr, MatchOption};
 ghost use Rattle.drf_sorter.specs.Work.{Adds};
-ghost use Rattle.drf_core.specs.Working.{allowance};
+ghost use Rattle.drf_core.specs.Working.{allowance, allowance_of_all};
 ghost use Rattle.drf_core.specs.Machine.{IsOpened, IsSafe, IsSame, IsAfter, IsAfterAll, HasRun};
 
 use crate::apply::apply;
@@ -95,6 +95,7 @@ impl<S: Sorter> Core<S> {
         ensures ok { OnOk result (IsAfterAll self.old self.new events.now) }
         ensures replies { OnOk result (replies.new.items ≡ replies.old.items ++ replies_to self.old.limits self.old.rows events.now) }
         ensures safe { IsSafe (live_rows self.new.rows) }
+        ensures work { OnOk result (MatchOption (allowance_of_all self.old.limits self.old.rows events.now) (Unit {0}) (Adds S.COUNTED self.old.work self.new.work)) }
     {
         self.tell_safe();
         for event in events {

@@ -1,8 +1,13 @@
-use Rattle.std.proofs.Common.{◌≡◌, ◌+◌, List, ◌++◌, ◌∷◌, [], refl, ap, ◌∙◌, sym, length, take, append_assoc}
+use Rattle.std.proofs.Common.{◌≡◌, ◌+◌, List, ◌++◌, ◌∷◌, [], refl, ap, subst, ◌∙◌, sym, length, take, append_assoc}
 use Rattle.std.proofs.lemmas.Option.{slice_get_read}
 use Rattle.drf_rows.specs.Step.{replies_to}
 use Rattle.drf_rows.specs.declared.event.Event.{Event}
 use Rattle.drf_rows.specs.declared.reply.Reply.{Reply}
+use Rattle.std.specs.Option.{MatchOption}
+use Rattle.drf_rows.specs.LimitNumbers.{LimitNumbers}
+use Rattle.drf_sorter.specs.Work.{Adds}
+use Rattle.drf_core.specs.Working.{allowance}
+use Rattle.drf_core.proofs.AllowanceLemmas.{work-more}
 use Rattle.drf_core.proofs.StepLemmas.{IsAfterAll-more, reply-more, take_one_more}
 use Rattle.drf_core.proofs.allocator.Core.run.Goals as goal
 
@@ -16,9 +21,14 @@ loop-event-preserved g c =
     take_one_more events i c.event-item.result at ∙ ap (λ (e : Event). before ++ e ∷ []) (sym c.in_ok-event.ensures) in
     let told : c.push_reserved.new.self.items ≡ (c.args.replies.now.items ++ replies_to c.args.self.now.limits c.args.self.now.rows before) ++ c.in_ok-reply.reply ∷ [] =
     c.push_reserved.ensures.items ∙ ap (λ (rs : List Reply). rs ++ c.in_ok-reply.reply ∷ []) (c.reserve.ensures.items ∙ c.loop-event.invariant.told) in
+    let work = work-more g.S.Sorter.COUNTED c.args.self.now.work c.loop-event.self.work c.step.new.self.work
+      c.args.self.now.limits c.args.self.now.rows c.loop-event.self.rows before c.in_ok-event.event c.loop-event.invariant.after.rows c.loop-event.invariant.work
+      (subst (λ (l : LimitNumbers). MatchOption (allowance l c.loop-event.self.rows c.in_ok-event.event) (Unit {0})
+        (Adds g.S.Sorter.COUNTED c.loop-event.self.work c.step.new.self.work)) c.loop-event.invariant.after.limits c.in_ok-reply.ensures.work) in
     rw more (record {
       after = IsAfterAll-more c.args.self.now c.loop-event.self c.step.new.self before c.in_ok-event.event c.loop-event.invariant.after c.in_ok-reply.ensures.ok;
       safe = c.step.ensures.safe;
+      work = work;
       told = told
           ∙ append_assoc c.args.replies.now.items (replies_to c.args.self.now.limits c.args.self.now.rows before) (c.in_ok-reply.reply ∷ [])
           ∙ ap (λ (rs : List Reply). c.args.replies.now.items ++ rs)

@@ -1,6 +1,9 @@
+use Rattle.std.specs.Option.{MatchOption}
 use Rattle.std.proofs.Common.{◌≡◌, ◌++◌, take}
 use Rattle.drf_rows.specs.Step.{live_rows, replies_to}
+use Rattle.drf_sorter.specs.Work.{Adds}
 use Rattle.drf_core.specs.Machine.{IsAfterAll, IsSafe}
+use Rattle.drf_core.specs.Working.{allowance_of_all}
 use Rattle.drf_core.proofs.allocator.Core.run.Given as goal
 
 -- the events before this one were taken, and replied to
@@ -8,5 +11,7 @@ abbrev pub invariant-loop-event : goal.invariant-loop-event
 invariant-loop-event g l = record {
   after : IsAfterAll l.initial.self l.self (take l.event-index l.events);
   safe : IsSafe (live_rows l.self.rows);
+  work : MatchOption (allowance_of_all l.initial.self.limits l.initial.self.rows (take l.event-index l.events)) (Unit {0})
+      (Adds g.S.Sorter.COUNTED l.initial.self.work l.self.work);
   told : l.replies.items ≡ l.initial.replies.items ++ replies_to l.initial.self.limits l.initial.self.rows (take l.event-index l.events);
 }

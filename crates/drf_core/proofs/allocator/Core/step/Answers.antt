@@ -129,6 +129,6 @@ pub returns-clause-work : goal.returns-clause-work
 returns-clause-work g c =
     let work = g.S.Sorter.work c.apply.new.sorter in
     let same : allowed c.forget_spent.new.self.rows c.args.event ≡ allowance c.self.inside.limits c.self.inside.tables.rows c.args.event =
-    allowance-accepted c.self.inside.limits c.forget_spent.new.self.rows c.self.inside.tables.rows c.args.event c.forget_spent.ensures.live (sym c.in_default.ensures) c.forget_spent.ensures.others in
+    allowance-accepted c.self.inside.limits c.forget_spent.new.self.rows c.self.inside.tables.rows c.args.event c.forget_spent.ensures.live (sym c.in_default.ensures) in
     subst (λ (m : Engine). MatchOption (allowance m.limits m.rows c.args.event) (Unit {0}) (Adds g.S.Sorter.COUNTED m.work work)) c.self.view_is
     (subst (λ (o : Option ℕ). MatchOption o (Unit {0}) (Adds g.S.Sorter.COUNTED (g.S.Sorter.work c.self.inside.sorter) work)) same c.in_ok-reply.ensures.work)

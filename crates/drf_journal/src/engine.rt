@@ -9,12 +9,13 @@ use crate::device::Device;
 use crate::fault::RunFault;
 use crate::session::Session;
 use drf_rows::Limits;
-use drf_sorter::{PlainSorter, Sorter};
+use drf_sorter::Sorter;
+use drf_tree::TreeSorter;
 use std::alloc::Global;
 use std::io::{Read, Write};
 
 /// The sorter that the program uses.
-pub(crate) type ProgramSorter = PlainSorter;
+pub(crate) type ProgramSorter = TreeSorter;
 
 /// How many bytes a read asks for.
 pub(crate) const CHUNK: usize = 65_536;

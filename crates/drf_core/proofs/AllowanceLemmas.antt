@@ -102,7 +102,7 @@ allowance_of_all-more limits rows [] event = bounded_sum-nothing (allowance limi
 allowance_of_all-more limits rows (first ∷ events) event =
     ap (bounded_sum (allowance limits rows first)) (allowance_of_all-more limits (rows_after limits rows first) events event)
     ∙ sym (bounded_sum-assoc (allowance limits rows first) (allowance_of_all limits (rows_after limits rows first) events)
-      (allowance limits (rows_after_all limits (rows_after limits rows first) events) event))
+    (allowance limits (rows_after_all limits (rows_after limits rows first) events) event))
 
 -- what is owed after one event more
 module _ (counted : Bool) (first middle last : Work) where

@@ -22,9 +22,9 @@ loop-event-preserved g c =
     let told : c.push_reserved.new.self.items ≡ (c.args.replies.now.items ++ replies_to c.args.self.now.limits c.args.self.now.rows before) ++ c.in_ok-reply.reply ∷ [] =
     c.push_reserved.ensures.items ∙ ap (λ (rs : List Reply). rs ++ c.in_ok-reply.reply ∷ []) (c.reserve.ensures.items ∙ c.loop-event.invariant.told) in
     let work = work-more g.S.Sorter.COUNTED c.args.self.now.work c.loop-event.self.work c.step.new.self.work
-      c.args.self.now.limits c.args.self.now.rows c.loop-event.self.rows before c.in_ok-event.event c.loop-event.invariant.after.rows c.loop-event.invariant.work
-      (subst (λ (l : LimitNumbers). MatchOption (allowance l c.loop-event.self.rows c.in_ok-event.event) (Unit {0})
-        (Adds g.S.Sorter.COUNTED c.loop-event.self.work c.step.new.self.work)) c.loop-event.invariant.after.limits c.in_ok-reply.ensures.work) in
+    c.args.self.now.limits c.args.self.now.rows c.loop-event.self.rows before c.in_ok-event.event c.loop-event.invariant.after.rows c.loop-event.invariant.work
+    (subst (λ (l : LimitNumbers). MatchOption (allowance l c.loop-event.self.rows c.in_ok-event.event) (Unit {0})
+    (Adds g.S.Sorter.COUNTED c.loop-event.self.work c.step.new.self.work)) c.loop-event.invariant.after.limits c.in_ok-reply.ensures.work) in
     rw more (record {
       after = IsAfterAll-more c.args.self.now c.loop-event.self c.step.new.self before c.in_ok-event.event c.loop-event.invariant.after c.in_ok-reply.ensures.ok;
       safe = c.step.ensures.safe;

@@ -27,7 +27,7 @@ invariant_of-self-2 c =
     let taken = c.in_ok-taken.taken in
     let lost : HasTaken ending t.holdings c.take.new.self (Some taken) = c.in_ok-taken.ensures in
     record {
-      kept = ended-kept t c.forget_free.new.agents.entries c.take.new.self ending taken c.self.invariant.kept c.forget_free.ensures lost;
+      kept = ended-kept t c.give_back.new.agents.entries c.take.new.self ending taken c.self.invariant.kept c.give_back.ensures lost;
       consumed = none_counted _ _;
     }
 
@@ -37,11 +37,11 @@ returns-clause-some c =
     let ending = ending_of c.args.ending in
     let taken = c.in_ok-taken.taken in
     let lost : HasTaken ending t.holdings c.take.new.self (Some taken) = c.in_ok-taken.ensures in
-    let entries = c.forget_free.new.agents.entries in
+    let entries = c.give_back.new.agents.entries in
     let told : Held = record { client = c.from_parts.result; bundle = taken.bundle } in
-    let new : Rows = rows_ended t entries c.take.new.self ending taken c.self.invariant.kept c.forget_free.ensures lost in
+    let new : Rows = rows_ended t entries c.take.new.self ending taken c.self.invariant.kept c.give_back.ensures lost in
     subst (λ (s : Stored). HasEnded s.rows new ending told) c.self.view_is
-    (ended-one t entries c.take.new.self ending taken c.self.invariant.kept c.forget_free.ensures lost told c.from_parts.ensures refl)
+    (ended-one t entries c.take.new.self ending taken c.self.invariant.kept c.give_back.ensures lost told c.from_parts.ensures refl)
 
 pub returns-clause-consistent : goal.returns-clause-consistent
 returns-clause-consistent c =
@@ -49,4 +49,4 @@ returns-clause-consistent c =
     let ending = ending_of c.args.ending in
     let taken = c.in_ok-taken.taken in
     let lost : HasTaken ending t.holdings c.take.new.self (Some taken) = c.in_ok-taken.ensures in
-    (ended-kept t c.forget_free.new.agents.entries c.take.new.self ending taken c.self.invariant.kept c.forget_free.ensures lost).consistent
+    (ended-kept t c.give_back.new.agents.entries c.take.new.self ending taken c.self.invariant.kept c.give_back.ensures lost).consistent

@@ -1,5 +1,5 @@
 -- What an event may add to what a sorter owes, from rows that have the same live rows.
-use Rattle.std.proofs.Common.{◌≡◌, ℕ, ◌+◌, Bool, List, [], ◌∷◌, ◌++◌, Option, Some, None, length, refl, sym, ap, ◌∙◌, arith}
+use Rattle.std.proofs.Common.{◌≡◌, ℕ, Bool, List, [], ◌∷◌, ◌++◌, Option, Some, None, length, refl, sym, ap, ◌∙◌, arith}
 use Rattle.std.specs.Prelude.{drop}
 use Rattle.std.specs.Option.{option_map_or, MatchOption}
 use Rattle.drf_rows.specs.LimitNumbers.{LimitNumbers}

@@ -1,6 +1,6 @@
 -- What is tested where there is memory: what is free and what is held on an agent, what limits admit, and the names of scalars.
-use Rattle.std.proofs.Common.{◌≡◌, ℕ, ◌+◌, ◌≤◌, Bool, true, false, List, [], ◌∷◌, Option, Some, None, Result, Ok, Err, length, refl, sym, ap, ◌∙◌, arith, nat_lt}
-use Rattle.std.specs.Prelude.{not, filter, IsTrue, ◌↔◌}
+use Rattle.std.proofs.Common.{◌≡◌, Bool, true, false, List, [], ◌∷◌, Option, Some, None, Result, Ok, Err, length, refl, sym, ap, ◌∙◌, arith, nat_lt}
+use Rattle.std.specs.Prelude.{not, filter}
 use Rattle.std.specs.Cmp.{both_ways}
 use Rattle.std.specs.List.{list_any, find}
 use Rattle.std.specs.Option.{option_map_or}
@@ -10,14 +10,14 @@ use Rattle.drf_role.specs.Text.{Text, same_text}
 use Rattle.drf_role.specs.Path.{Path}
 use Rattle.drf_bundle.specs.Value.{Point}
 use Rattle.drf_bundle.specs.Quantities.{plus}
-use Rattle.drf_bundle.specs.Bundle.{Key, IsBundle, units, join, rest, covers, quantities_of}
+use Rattle.drf_bundle.specs.Bundle.{Key, IsBundle, units, rest, covers, quantities_of}
 use Rattle.drf_bundle.specs.RestLaws.{bundle-rest}
 use Rattle.drf_bundle.specs.Taken.{units_of_all}
 use Rattle.drf_bundle.specs.UnitProofs.{covers_by_units, rest_by_units}
 use Rattle.drf_bundle.specs.declared.quantities.Entry.{Entry}
 use Rattle.drf_bundle.specs.declared.resource.Resource.{Resource}
 use Rattle.drf_rows.specs.LimitNumbers.{LimitNumbers}
-use Rattle.drf_rows.specs.Consistent.{IsConsistent, IsAgent}
+use Rattle.drf_rows.specs.Consistent.{IsConsistent}
 use Rattle.drf_rows.specs.ConsistentLaws.{bundles-consistent}
 use Rattle.drf_rows.specs.Cycle.{free_of}
 use Rattle.drf_rows.specs.Held.{cluster_total}
@@ -26,7 +26,7 @@ use Rattle.drf_rows.specs.HoldingsLaws.{each_part}
 use Rattle.drf_rows.specs.Members.{has_agent}
 use Rattle.drf_rows.specs.Quota.{admits, admits_under, consumption}
 use Rattle.drf_rows.specs.ReservationLaws.{found_known}
-use Rattle.drf_rows.specs.Step.{first_case, is_too_large, too_many_names}
+use Rattle.drf_rows.specs.Step.{first_case, too_many_names}
 use Rattle.drf_rows.specs.TaskLaws.{covers_all-units, units-covers_all}
 use Rattle.drf_rows.specs.Tasks.{covers_all}
 use Rattle.drf_rows.specs.Totals.{agent_at, is_not_free, is_below_held, with_other_total}

@@ -1,5 +1,5 @@
 -- Tests of refusal, and what the code asks in their stead.
-use Rattle.std.proofs.Common.{◌≡◌, ℕ, ◌+◌, Bool, true, false, List, [], ◌∷◌, ◌++◌, Option, Some, None, length, refl, sym, ap, ◌∙◌, arith, nat_lt}
+use Rattle.std.proofs.Common.{◌≡◌, ℕ, ◌+◌, Bool, true, false, List, [], ◌∷◌, ◌++◌, Some, None, length, refl, sym, ap, ◌∙◌, arith, nat_lt}
 use Rattle.std.proofs.Math.Dec.{eqb-suc-zero}
 use Rattle.std.specs.Prelude.{not, ◌&&◌, ◌||◌, nat_le, ◌==◌, IsTrue, ◌↔◌}
 use Rattle.std.specs.Cmp.{both_ways}

@@ -1,4 +1,4 @@
-use Rattle.std.proofs.Common.{◌≡◌, ap, ◌∙◌, arith, not}
+use Rattle.std.proofs.Common.{◌≡◌, ◌∙◌, arith, not}
 use Rattle.std.specs.Prelude.{filter}
 use Rattle.drf_role.specs.Text.{same_text}
 use Rattle.drf_bundle.specs.Quantities.{plus}

@@ -1,6 +1,6 @@
-use Rattle.std.proofs.Common.{◌≡◌, Bool, true, false, Some, None, List, cond, ap, ◌∙◌, sym, subst}
+use Rattle.std.proofs.Common.{Bool, Some, None, List, cond, ap, sym, subst}
 use Rattle.std.specs.Option.{option_copied}
-use Rattle.drf_role.specs.Path.{Path, role_part}
+use Rattle.drf_role.specs.Path.{Path}
 use Rattle.drf_bundle.specs.declared.resource.Resource.{Resource}
 use Rattle.drf_core.specs.Entitling.{IsEntitlement}
 use Rattle.drf_core.proofs.GrantLemmas.{granted-is}

@@ -1,4 +1,4 @@
-use Rattle.std.proofs.Common.{◌≡◌, List, ◌∷◌, [], not, sym, ap, ◌∙◌}
+use Rattle.std.proofs.Common.{List, ◌∷◌, [], not, ap, ◌∙◌}
 use Rattle.drf_bundle.specs.declared.quantities.Entry.{Entry}
 use Rattle.drf_rows.specs.Quota.{admits}
 use Rattle.drf_rows.specs.Step.{first_case}

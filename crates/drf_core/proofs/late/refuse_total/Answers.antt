@@ -1,15 +1,13 @@
-use Rattle.std.proofs.Common.{◌≡◌, Bool, List, ◌∷◌, [], not, sym, ap, ◌∙◌}
+use Rattle.std.proofs.Common.{◌≡◌, List, ◌∷◌, [], not, ap, ◌∙◌}
 use Rattle.drf_bundle.specs.Bundle.{covers, rest}
 use Rattle.drf_bundle.specs.declared.resource.Resource.{Resource}
 use Rattle.drf_rows.specs.Cycle.{free_of}
 use Rattle.drf_rows.specs.ReservationLaws.{found_known}
-use Rattle.drf_rows.specs.Step.{first_case, is_too_large}
+use Rattle.drf_rows.specs.Step.{first_case}
 use Rattle.drf_rows.specs.TaskLaws.{covers_from}
 use Rattle.drf_rows.specs.Totals.{is_below_held}
 use Rattle.drf_rows.specs.declared.reply.Refusal.TheVariants.{NotCovered, TooLarge}
-use Rattle.drf_rows.specs.declared.rows.AgentRow.{AgentRow}
 use Rattle.drf_rows.specs.declared.rows.Rows.{Rows}
-use Rattle.drf_core.specs.Refusing.{cases_of_total}
 use Rattle.drf_core.proofs.LateLemmas.{below_held}
 use Rattle.drf_core.proofs.late.refuse_total.Goals as goal
 

@@ -1,4 +1,4 @@
-use Rattle.std.proofs.Common.{◌≡◌, List, ◌∷◌, [], not, sym, ap, ◌∙◌}
+use Rattle.std.proofs.Common.{List, ◌∷◌, [], ap, ◌∙◌}
 use Rattle.drf_bundle.specs.declared.resource.Resource.{Resource}
 use Rattle.drf_rows.specs.Step.{first_case}
 use Rattle.drf_rows.specs.Totals.{is_not_free}

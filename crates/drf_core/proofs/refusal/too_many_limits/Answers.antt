@@ -1,4 +1,4 @@
-use Rattle.std.proofs.Common.{◌≡◌, Bool, ℕ, List, not, nat_lt, length, ◌&&◌, ◌||◌, sym, ap, ◌∙◌}
+use Rattle.std.proofs.Common.{◌≡◌, List, not, nat_lt, length, ◌&&◌, ◌||◌, ap, ◌∙◌}
 use Rattle.std.specs.Prelude.{nat_le}
 use Rattle.drf_bundle.specs.declared.quantities.Entry.{Entry}
 use Rattle.drf_rows.specs.Offers.{is_empty}

@@ -11,14 +11,14 @@ use Rattle.drf_role.specs.Parts.{parts_of, text_of}
 use Rattle.drf_bundle.specs.Value.{Thousandths, units_in}
 use Rattle.drf_bundle.specs.Quantities.{amount_of, with_amount}
 use Rattle.drf_bundle.specs.QuantitiesLaws.{amount-with}
-use Rattle.drf_bundle.specs.Bundle.{IsResource, IsBundle, is_default, same_key}
+use Rattle.drf_bundle.specs.Bundle.{IsResource, IsBundle, is_default, key_of, same_key}
 use Rattle.drf_bundle.specs.KeyLaws.{where-cons}
 use Rattle.drf_bundle.specs.declared.quantities.Entry.{Entry}
 use Rattle.drf_bundle.specs.declared.resource.Resource.{Resource}
 use Rattle.drf_rows.specs.ConsistentLaws.{same_text-swap}
 use Rattle.drf_rows.specs.Quota.{reserves, unreserved_in, reserved_in}
 use Rattle.drf_rows.specs.QuotaLaws.{no_text, parts_le}
-use Rattle.drf_gates.specs.Quota.{Allowance, AreRaised, IsRaised, IsRaisedBy, amount_in_one, one_entry, unreserved_one, reserved_one, counted, used_where}
+use Rattle.drf_gates.specs.Quota.{Allowance, AreRaised, IsRaised, IsRaisedBy, IsSame, amount_in_one, one_entry, unreserved_one, reserved_one, counted, used_where}
 
 -- the element that is read is the first of those that are left
 pub next_of : {A : Type 0} (xs : List A) (i : ℕ) (x : A) → i < length xs → x ≡ get_or xs i x → drop i xs ≡ x ∷ drop (i + 1) xs
@@ -252,3 +252,20 @@ module _ (old new : Allowance) (role : Path) (name : Text) (amount : ℕ) (more 
 pub stays_by : (a : Allowance) (more : (Path → Bool) → Text → ℕ) → ((test : Path → Bool) (label : Text) → more test label ≡ 0)
     → IsRaisedBy a a more
 stays_by a more none = record { limits = refl; used = λ test label. omega (arith, none test label) }
+
+pub nothing_by : (b : Bool) → ◌≡◌ {A = ℕ} (cond b 0 0) 0
+nothing_by true = refl
+nothing_by false = refl
+
+-- ---- a front that was consumed, and is given back
+
+module _ (bundle : List Resource) (old mid : Allowance) (i : ℕ) (consumed : IsConsumed bundle old mid (drop i bundle)) where
+  -- it is among what is consumed
+  pub front_fits : (test : Path → Bool) (label : Text) → reserved_in test label (take i bundle) ≤ used_where test mid.used label
+  front_fits test label = omega (arith, consumed.used test label, reserved_parts test label bundle i)
+
+  pub front_back : (new : Allowance) → IsRaisedBy new mid (λ test label. reserved_in test label (take i bundle)) → IsSame old new
+  front_back new raised = record {
+    limits = sym raised.limits ∙ consumed.limits;
+    used = λ test label. omega (arith, raised.used test label, consumed.used test label, reserved_parts test label bundle i);
+  }

@@ -113,7 +113,12 @@ impl Quota {
     {
         if !resource.is_unreserved() {
             let amount = thousandths(resource);
-            reduce(&mut self.used, &resource.role, resource.label.text(), amount);
+            reduce(
+                &mut self.used,
+                &resource.role,
+                resource.label.text(),
+                amount,
+            );
         }
     }
 
@@ -145,9 +150,9 @@ impl Quota {
     {
         let resources = total.entries();
         for place in 0..resources.len() {
-            if self.consume_resource(&resources[place]).is_err() {
+            if let Err(error) = self.consume_resource(&resources[place]) {
                 self.release_each(&resources[..place]);
-                return Err(AllocError);
+                return Err(error);
             }
         }
         Ok(())

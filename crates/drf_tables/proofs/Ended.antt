@@ -94,6 +94,7 @@ IsKept-ended old new agents sum number ending h kept one = record {
       (parts_on-one_less (holdings_of old) (holdings_of new) h one.less) agents kept.free;
   total = kept.total ∙ sym (ap (λ (r : Rows). cluster_total r.agents) one.others);
   clients = kept.clients ∙ sym (ap (λ (r : Rows). length (clients_of r)) one.others);
+  few = subst (λ (as : List AgentRow). length as ≤ 4096) (sym (ap (λ (r : Rows). r.agents) one.others)) kept.few;
 }
 
 pub ended_from : (old new : Rows) (ending : Ending) (h : Holding) (held : Held)
@@ -149,7 +150,7 @@ module _ (t : Inside) (entries : List (Text × Agent)) (held : Standing) (filter
   abbrev pub rows_accepted : Rows
   rows_accepted = rows_of entries t.frameworks.entries held filters t.weights.entries t.quota.limits t.clock t.next_offer t.accepted
 
-  same_offer : x ≡ o
+  pub same_offer : x ≡ o
   unfolding rows_of
   same_offer =
       let both : ◌≡◌ {A = Option OfferRow} (Some x) (Some o) = sym started.found ∙ found in
@@ -185,6 +186,7 @@ module _ (t : Inside) (entries : List (Text × Agent)) (held : Standing) (filter
         free = known;
         total = kept.total;
         clients = kept.clients;
+        few = kept.few;
       })
 
 -- ---- as the fields stand
@@ -204,7 +206,7 @@ module _ (t : Inside) (entries : List (Text × Agent)) (held : Standing) (ending
       ap (map agent_row) forgot ∙ rows-forgotten taken.agent t.agents.entries in
       λ i. record (rows_with t held) { agents = sym agents i }
 
-  without_it : IsWithoutOne (rows_in t) rows_ended ending (holding_of taken)
+  pub without_it : IsWithoutOne (rows_in t) rows_ended ending (holding_of taken)
   without_it =
       subst (λ (r : Rows). IsWithoutOne (rows_in t) r ending (holding_of taken)) same_rows
       (without_taken t held ending taken kept.consistent lost)

@@ -11,3 +11,4 @@ pub mod Fields
 pub mod Weighed
 pub mod Counts
 pub mod Moved
+pub mod Recounted

@@ -1,5 +1,5 @@
 use Rattle.std.proofs.Common.{drop}
-use Rattle.drf_gates.proofs.ConsumedLemmas.{IsReleased, unreserved_by, reserved_by}
+use Rattle.drf_gates.proofs.ConsumedLemmas.{IsReleased, reserved_by}
 use Rattle.drf_gates.proofs.quota.Quota.release_each.Given as goal
 
 abbrev pub invariant-loop-resource : goal.invariant-loop-resource

@@ -12,3 +12,4 @@ pub mod Weighed
 pub mod Counts
 pub mod Moved
 pub mod Recounted
+pub mod Running

@@ -123,6 +123,30 @@ module _ (counts : Bool) (old : Rows) (before : Allowance) (counted : CountsIf c
   replaces_fit new mid less more released is moved fits test label =
       omega (arith, (counted is).used test label, released.used is test label, moved test label, fits test label)
 
+  -- more was counted, and released again
+  pub counts-back : (mid after : Allowance) (more : Amounts) → IsRaisedIf counts before mid more → IsRaisedIf counts after mid more
+      → CountsIf counts old after
+  counts-back mid after more raised released is = record {
+    limits = sym released.limits ∙ raised.limits ∙ (counted is).limits;
+    used = λ test label. omega (arith, (counted is).used test label, raised.used is test label, released.used is test label);
+  }
+
+  -- so much more can be counted
+  pub adds_counted : counts ≡ true → (test : Path → Bool) (label : Text) (more : ℕ)
+      → IsConsistent old → length old.agents ≤ 4096 → more ≤ LARGEST_AMOUNT → used_where test before.used label + more < 2 ^ 64
+  adds_counted is test label more consistent few small =
+      omega (
+        arith,
+        (counted is).used test label,
+        consumption_is_part_of_total test old label consistent,
+        sums_fit old.agents label more consistent.agents.each few small,
+      )
+
+-- what was counted can be released
+pub raised_fits : (counts : Bool) (before mid : Allowance) (more : Amounts) → IsRaisedIf counts before mid more → counts ≡ true
+    → (test : Path → Bool) (label : Text) → more test label ≤ used_where test mid.used label
+raised_fits counts before mid more raised is test label = omega (arith, raised.used is test label)
+
 -- ---- a holding ends
 
 pub consumption-one_less : (old new : Rows) (h : Holding) → IsOneLess (holdings_of old) (holdings_of new) h → old.agents ≡ new.agents
@@ -327,12 +351,6 @@ module _ (whole old new : List Resource) (can : CanExchange whole old new) (test
         amount-quantities_of whole label,
         small,
       )
-
--- what is consumed with what comes is below 2^64, be it that what goes was released or not
-pub adds_fit : (rows : Rows) (test : Path → Bool) (label : Text) (more : ℕ) → IsConsistent rows → length rows.agents ≤ 4096 → more ≤ LARGEST_AMOUNT
-    → consumption_where test rows label + more < 2 ^ 64
-adds_fit rows test label more consistent few small =
-    omega (arith, consumption_is_part_of_total test rows label consistent, sums_fit rows.agents label more consistent.agents.each few small)
 
 -- ---- changes of a quota that counts or not
 

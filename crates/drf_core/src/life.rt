@@ -87,7 +87,7 @@ pub fn accept<S: Sorter>(
     let rest = accept.tasks.rest_of(&offer.bundle)?;
     let client = ClientPath::new(alloc, &offer.role, &offer.framework)?;
     let filter = filter_rest(offer, &rest, moment, accept.refuse_ms)?;
-    tables.accept(accept.offer, accept.tasks, filter)?;
+    tables.accept(accept.offer, accept.tasks, &rest, filter)?;
     tables.set_clock(moment);
     sorter.refund(&client, rest.quantities());
     Ok(Reply::Done)

@@ -173,7 +173,7 @@ fn is_beyond(tables: &Tables, number: u64, tasks: &TaskList) -> bool
 fn are_many_filters(limits: &Limits, tables: &Tables, at: u64) -> bool
     ensures { result ≡ are_many_filters limits.now tables.now.rows at }
 {
-    limits.filters() <= tables.filters_in_force(tables.clock().max(at))
+    tables.are_in_force(limits.filters(), tables.clock().max(at))
 }
 
 /// Something is left of an offer, if it stands. It needs no memory.

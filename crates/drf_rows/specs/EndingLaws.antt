@@ -12,7 +12,7 @@ use Rattle.drf_bundle.specs.Quantities.{amount_of}
 use Rattle.drf_bundle.specs.Bundle.{Key, IsBundle, units, quantities_of}
 use Rattle.drf_bundle.specs.SumLaws.{amount-quantities_of}
 use Rattle.drf_bundle.specs.UnitProofs.{stocks_add}
-use Rattle.drf_bundle.specs.Taken.{units_of_all, rest_of_all, bundle-rest_of_all, joined-rest_of_all, AddsUp, sum-joined}
+use Rattle.drf_bundle.specs.Taken.{units_of_all, rest_of_all, bundle-rest_of_all, units-rest_of_all, joined-rest_of_all, AddsUp, sum-joined}
 use Rattle.drf_bundle.specs.declared.resource.Resource.{Resource}
 use Rattle.drf_rows.specs.Holdings.{Holding, of_offer, of_task, holdings_of, amount_in, held_where, is_on, parts_on}
 use Rattle.drf_rows.specs.HoldingsLaws.{held_where-append, held_where-cons, parts_on-append, units_on, units_on-append, units_on-cons}
@@ -617,6 +617,28 @@ module _ (rows : Rows) (number : ℕ) (o : OfferRow) (starts : List Start) (filt
       ∙ ap (λ (ps : List (List Resource)). parts_on agent between ++ ps) (parts_on-started agent o starts past)
       ∙ append-nil (parts_on agent between)
       ∙ parts_on-one_less (holdings_of rows) between (of_offer o) offer_out agent past
+
+  -- and on its agent less, by what is left of it
+  pub units-left : HasAll o.bundle (uses starts) → AllByRecursion IsBundle (uses starts) → (agent : Text) → same_text o.agent agent ≡ true
+      → (key : Key) (p : Point)
+      → units_of_all (parts_on agent (holdings_of rows)) key p
+      ≡ units_of_all (parts_on agent (holdings_of (accepted_in rows o starts filters))) key p + units (rest_of_all o.bundle (uses starts)) key p
+  units-left has each agent here key p =
+      let offered : cond (same_text o.agent agent) (units o.bundle key p) 0 ≡ units o.bundle key p =
+      ap (λ (b : Bool). cond b (units o.bundle key p) 0) here in
+      let used : cond (same_text o.agent agent) (units_of_all (uses starts) key p) 0 ≡ units_of_all (uses starts) key p =
+      ap (λ (b : Bool). cond b (units_of_all (uses starts) key p) 0) here in
+      omega (
+        arith,
+        units-one_less (holdings_of rows) between (of_offer o) offer_out agent key p,
+        offered,
+        ap (λ (hs : List Holding). units_on agent hs key p) tasks_last,
+        units_on-append agent key p between (started_by o starts),
+        units-started agent key p o starts,
+        used,
+        units-rest_of_all o.bundle (uses starts) key p offer_held.bundle each,
+        has key p,
+      )
 
   -- and on no agent more
   pub units-accepted : HasAll o.bundle (uses starts) → (agent : Text) (key : Key) (p : Point)

@@ -3,29 +3,35 @@ use Rattle.std.specs.Prelude.{◌≡◌, ℕ, ◌+◌, ◌==◌, ◌||◌, Bool,
 use Rattle.std.specs.List.{list_any, AllByRecursion}
 use Rattle.std.specs.Option.{option_map_or}
 use Rattle.std.proofs.Common.{refl, sym, ap, ◌∙◌, subst, inl, inr}
-use Rattle.drf_role.specs.Text.{Text}
+use Rattle.drf_role.specs.Text.{Text, same_text}
+use Rattle.drf_bundle.specs.Value.{Point}
+use Rattle.drf_bundle.specs.Bundle.{Key, units}
+use Rattle.drf_bundle.specs.Taken.{units_of_all, bundle-rest_of_all}
+use Rattle.drf_bundle.specs.declared.resource.Resource.{Resource}
 use Rattle.drf_bundle.specs.declared.quantities.Entry.{Entry}
 use Rattle.drf_rows.specs.Client.{path_of}
-use Rattle.drf_rows.specs.Consistent.{IsConsistent, IsHeld, IsFilter}
+use Rattle.drf_rows.specs.Consistent.{IsAgent, IsConsistent, IsCovered, IsHeld, IsFilter}
+use Rattle.drf_rows.specs.ConsistentLaws.{bundles-consistent}
 use Rattle.drf_rows.specs.Endings.{Ending, without_ended}
-use Rattle.drf_rows.specs.EndingLaws.{IsOneLess, held_where-one_less, parts_on-one_less, one-one_less, one_less-offer, IsConsistent-offer_out, without_ended-offer, left-offer, one_less-task, IsConsistent-task_out, without_ended-task, left-task, without_ended-none, parts_on-accepted, IsConsistent-accepted, without_offer-place}
+use Rattle.drf_rows.specs.EndingLaws.{IsOneLess, held_where-one_less, parts_on-one_less, units-one_less, one-one_less, one_less-offer, IsConsistent-offer_out, without_ended-offer, left-offer, one_less-task, IsConsistent-task_out, without_ended-task, left-task, without_ended-none, parts_on-accepted, units-left, offer_held, IsConsistent-accepted, without_offer-place}
 use Rattle.drf_rows.specs.Held.{clients_of, cluster_total}
-use Rattle.drf_rows.specs.Holdings.{Holding, of_offer, of_task, holdings_of}
-use Rattle.drf_rows.specs.Offers.{CanStart, offer_at, task_of}
-use Rattle.drf_rows.specs.Tasks.{Start}
+use Rattle.drf_rows.specs.Holdings.{Holding, of_offer, of_task, holdings_of, parts_on}
+use Rattle.drf_rows.specs.Offers.{CanStart, left_of_offer, offer_at, task_of}
+use Rattle.drf_rows.specs.TaskLaws.{units-covers_all}
+use Rattle.drf_rows.specs.Tasks.{Start, uses}
 use Rattle.drf_rows.specs.declared.rows.FilterRow.{FilterRow}
 use Rattle.drf_rows.specs.declared.rows.OfferRow.{OfferRow}
 use Rattle.drf_rows.specs.declared.rows.TaskRow.{TaskRow}
 use Rattle.drf_rows.specs.declared.rows.Rows.{Rows}
 use Rattle.drf_holdings.specs.Stored.{Standing, HasLostOffer, HasLostTask, HasLostNone, HasStarted, holding_of}
 use Rattle.drf_holdings.specs.declared.holdings.Taken.{Taken}
-use Rattle.drf_tables.specs.Changing.{changed, forgotten}
+use Rattle.drf_tables.specs.Changing.{changed, freed, HasFreed}
 use Rattle.drf_tables.specs.Ended.{left_to_end, IsOfferOut, IsTaskOut, HasEnded, with_accepted}
 use Rattle.drf_tables.specs.Inside.{agent_row, rows_of, rows_in, IsKnown, IsKept}
 use Rattle.drf_tables.specs.declared.ending.Held.{Held}
 use Rattle.drf_tables.specs.declared.tables.Agent.{Agent}
 use Rattle.drf_tables.specs.declared.tables.Tables.TheInside.{Inside}
-use Rattle.drf_tables.proofs.Known.{known-forgotten, rows-forgotten}
+use Rattle.drf_tables.proofs.Freed.{known-freed, rows-freed}
 
 -- ---- one holding ends
 
@@ -85,13 +91,26 @@ module _ (t : Inside) (held : Standing) (ending : Ending) (taken : Taken) (consi
     | inr task ↦ lost_task task
   ]
 
-pub IsKept-ended : (old new : Rows) (agents : List (Text × Agent)) (sum : List Entry) (number : ℕ) (ending : Ending) (h : Holding)
-    → IsKept old agents sum number → IsWithoutOne old new ending h
-    → IsKept new (map (changed h.agent forgotten) agents) sum number
-IsKept-ended old new agents sum number ending h kept one = record {
+-- it is held there no longer
+less_there : (old new : List Holding) (h : Holding) → IsOneLess old new h → (agent : Text) → same_text h.agent agent ≡ true
+    → (key : Key) (p : Point)
+    → units_of_all (parts_on agent old) key p ≡ units_of_all (parts_on agent new) key p + units h.bundle key p
+less_there old new h less agent here key p =
+    units-one_less old new h less agent key p
+    ∙ ap (λ (b : Bool). units_of_all (parts_on agent new) key p + cond b (units h.bundle key p) 0) here
+
+pub IsKept-ended : (old new : Rows) (agents : List (Text × Agent)) (sum : List Entry) (number : ℕ) (ending : Ending) (h : Holding) (back : Bool)
+    → old.agents ≡ map agent_row agents → IsKept old agents sum number → IsWithoutOne old new ending h
+    → IsKept new (map (changed h.agent (freed back h.bundle)) agents) sum number
+IsKept-ended old new agents sum number ending h back stand kept one = record {
   consistent = one.consistent;
-  free = known-forgotten (holdings_of old) (holdings_of new) h.agent
-      (parts_on-one_less (holdings_of old) (holdings_of new) h one.less) agents kept.free;
+  free = known-freed (holdings_of old) (holdings_of new) h.agent h.bundle
+      (one-one_less (holdings_of old) (holdings_of new) h one.less (IsHeld old.agents old.frameworks) kept.consistent.holdings).bundle
+      (bundles-consistent old kept.consistent) (bundles-consistent new one.consistent)
+      (parts_on-one_less (holdings_of old) (holdings_of new) h one.less)
+      (less_there (holdings_of old) (holdings_of new) h one.less) back agents kept.free
+      (subst (AllByRecursion IsAgent) stand kept.consistent.agents.each)
+      (subst (AllByRecursion (IsCovered (holdings_of old))) stand kept.consistent.covered);
   total = kept.total ∙ sym (ap (λ (r : Rows). cluster_total r.agents) one.others);
   clients = kept.clients ∙ sym (ap (λ (r : Rows). length (clients_of r)) one.others);
   few = subst (λ (as : List AgentRow). length as ≤ 4096) (sym (ap (λ (r : Rows). r.agents) one.others)) kept.few;
@@ -144,7 +163,7 @@ module _ (t : Inside) (entries : List (Text × Agent)) (held : Standing) (filter
     (kept : IsKept (rows_in t) t.agents.entries t.total t.clients)
     (found : offer_at (rows_in t) number ≡ Some o)
     (started : HasStarted number starts t.holdings held x)
-    (forgot : entries ≡ map (changed x.agent forgotten) t.agents.entries)
+    (freed_there : HasFreed x.agent (left_of_offer o starts) t.agents.entries entries)
     (added : filters ≡ t.filters ++ option_map_or (λ f. f ∷ []) refused []) where
   -- the rows with all that changed
   abbrev pub rows_accepted : Rows
@@ -166,20 +185,29 @@ module _ (t : Inside) (entries : List (Text × Agent)) (held : Standing) (filter
       let runs : held.tasks ≡ (rows_in t).tasks ++ map (task_of o) starts =
       started.started ∙ (λ i. (rows_in t).tasks ++ map (task_of (same_offer i)) starts) in
       let agents : map agent_row entries ≡ map agent_row t.agents.entries =
-      ap (map agent_row) forgot ∙ rows-forgotten x.agent t.agents.entries in
+      ap (map agent_row) freed_there.same ∙ rows-freed freed_there.kept x.agent (left_of_offer o starts) t.agents.entries in
       λ i. record (rows_in t) { agents = agents i; offers = left i; tasks = runs i; filters = added i }
 
   pub accepted-kept : CanStart (rows_in t) o starts
       → ((f : FilterRow) → refused ≡ Some f → IsFilter (rows_in t).agents (rows_in t).frameworks f)
       → IsKept rows_accepted entries t.total t.clients
+  unfolding rows_of
   accepted-kept can each =
       let rows : Rows = with_accepted (rows_in t) o starts refused in
       let more : List FilterRow = option_map_or (λ f. f ∷ []) refused [] in
+      let left : List Resource = left_of_offer o starts in
+      let held : IsHeld (rows_in t).agents (rows_in t).frameworks (of_offer o) = offer_held (rows_in t) number o starts more kept.consistent found in
+      let has = units-covers_all o.bundle (uses starts) held.bundle can.bundles can.covered in
       let known : AllByRecursion (IsKnown (holdings_of rows)) entries =
       subst (λ (es : List (Text × Agent)). AllByRecursion (IsKnown (holdings_of rows)) es)
-      (sym (forgot ∙ (λ i. map (changed (same_offer i).agent forgotten) t.agents.entries)))
-      (known-forgotten (holdings_of (rows_in t)) (holdings_of rows) o.agent
-      (parts_on-accepted (rows_in t) number o starts more kept.consistent found) t.agents.entries kept.free) in
+      (sym (freed_there.same ∙ (λ i. map (changed (same_offer i).agent (freed freed_there.kept left)) t.agents.entries)))
+      (known-freed (holdings_of (rows_in t)) (holdings_of rows) o.agent left (bundle-rest_of_all o.bundle (uses starts) held.bundle)
+      (bundles-consistent (rows_in t) kept.consistent)
+      (bundles-consistent rows (IsConsistent-accepted (rows_in t) number o starts more kept.consistent found can
+      (each_filter (IsFilter (rows_in t).agents (rows_in t).frameworks) refused each)))
+      (parts_on-accepted (rows_in t) number o starts more kept.consistent found)
+      (units-left (rows_in t) number o starts more kept.consistent found has can.bundles)
+      freed_there.kept t.agents.entries kept.free kept.consistent.agents.each kept.consistent.covered) in
       subst (λ (r : Rows). IsKept r entries t.total t.clients) (sym accepted-rows) (record {
         consistent = IsConsistent-accepted (rows_in t) number o starts more kept.consistent found can
             (each_filter (IsFilter (rows_in t).agents (rows_in t).frameworks) refused each);
@@ -193,7 +221,7 @@ module _ (t : Inside) (entries : List (Text × Agent)) (held : Standing) (filter
 
 module _ (t : Inside) (entries : List (Text × Agent)) (held : Standing) (ending : Ending) (taken : Taken)
     (kept : IsKept (rows_in t) t.agents.entries t.total t.clients)
-    (forgot : entries ≡ map (changed taken.agent forgotten) t.agents.entries)
+    (freed_there : HasFreed taken.agent taken.bundle t.agents.entries entries)
     (lost : HasLostOffer ending t.holdings held taken ⊎ HasLostTask ending t.holdings held taken) where
   -- the rows without it
   abbrev pub rows_ended : Rows
@@ -203,7 +231,7 @@ module _ (t : Inside) (entries : List (Text × Agent)) (held : Standing) (ending
   unfolding rows_of
   same_rows =
       let agents : map agent_row entries ≡ map agent_row t.agents.entries =
-      ap (map agent_row) forgot ∙ rows-forgotten taken.agent t.agents.entries in
+      ap (map agent_row) freed_there.same ∙ rows-freed freed_there.kept taken.agent taken.bundle t.agents.entries in
       λ i. record (rows_with t held) { agents = sym agents i }
 
   pub without_it : IsWithoutOne (rows_in t) rows_ended ending (holding_of taken)
@@ -212,9 +240,10 @@ module _ (t : Inside) (entries : List (Text × Agent)) (held : Standing) (ending
       (without_taken t held ending taken kept.consistent lost)
 
   pub ended-kept : IsKept rows_ended entries t.total t.clients
+  unfolding rows_of
   ended-kept =
-      subst (λ (es : List (Text × Agent)). IsKept rows_ended es t.total t.clients) (sym forgot)
-      (IsKept-ended (rows_in t) rows_ended t.agents.entries t.total t.clients ending (holding_of taken) kept without_it)
+      subst (λ (es : List (Text × Agent)). IsKept rows_ended es t.total t.clients) (sym freed_there.same)
+      (IsKept-ended (rows_in t) rows_ended t.agents.entries t.total t.clients ending (holding_of taken) freed_there.kept refl kept without_it)
 
   pub ended-one : (told : Held) → told.client ≡ path_of (holding_of taken).client → told.bundle ≡ taken.bundle
       → HasEnded (rows_in t) rows_ended ending told

@@ -18,7 +18,7 @@ use Rattle.drf_rows.specs.ListLaws.{each_from, each_map}
 use Rattle.drf_rows.specs.Members.{active_at}
 use Rattle.drf_rows.specs.declared.rows.AgentRow.{AgentRow}
 use Rattle.drf_rows.specs.declared.rows.Rows.{Rows}
-use Rattle.drf_tables.specs.Changing.{changed, forgotten, with_active, are_settled}
+use Rattle.drf_tables.specs.Changing.{changed, with_active, are_settled}
 use Rattle.drf_tables.specs.Drafts.{frees_after}
 use Rattle.drf_tables.specs.Inside.{agent_row, frees_in, known_after, is_settled, IsKnown}
 use Rattle.drf_tables.specs.declared.tables.Agent.{Agent}
@@ -71,15 +71,6 @@ pub rows-each : (f : Text × Agent → Text × Agent) (g : AgentRow → AgentRow
 rows-each f g same [] = refl
 rows-each f g same (e ∷ es) = λ i. same e i ∷ rows-each f g same es i
 
--- what is forgotten shows in no row
-pub rows-forgotten : (name : Text) (es : List (Text × Agent)) → map agent_row (map (changed name forgotten) es) ≡ map agent_row es
-rows-forgotten name es =
-    rows-each (changed name forgotten) (λ a. a) (λ e. by e (same_text e.0 name)) es ∙ map-id (map agent_row es)
-  where
-    by : (e : Text × Agent) (b : Bool) → agent_row (if b then (e.0, forgotten e.1) else e) ≡ agent_row e
-    by e true = refl
-    by e false = refl
-
 pub rows-with_active : (name : Text) (active : Bool) (es : List (Text × Agent))
     → map agent_row (map (changed name (with_active active)) es) ≡ map (active_at name active) (map agent_row es)
 rows-with_active name active = rows-each (changed name (with_active active)) (active_at name active) (λ e. by e (same_text e.0 name))
@@ -90,17 +81,6 @@ rows-with_active name active = rows-each (changed name (with_active active)) (ac
     by e false = refl
 
 -- ---- what is known of them
-
-pub known-forgotten : (old new : List Holding) (name : Text)
-    → ((agent : Text) → same_text name agent ≡ false → parts_on agent new ≡ parts_on agent old)
-    → (es : List (Text × Agent)) → AllByRecursion (IsKnown old) es → AllByRecursion (IsKnown new) (map (changed name forgotten) es)
-known-forgotten old new name same es known =
-    each_map (IsKnown new) (changed name forgotten) es
-    (each_from (IsKnown old) (λ e. IsKnown new (changed name forgotten e)) es (λ e was. by e was (same_text e.0 name) refl) known)
-  where
-    by : (e : Text × Agent) → IsKnown old e → (b : Bool) → same_text e.0 name ≡ b → IsKnown new (if b then (e.0, forgotten e.1) else e)
-    by e was true here = λ free is. cc
-    by e was false past = λ free is. was free is ∙ sym (ap (rest_of_all e.1.total) (same e.0 (same_text-swap name e.0 ∙ past)))
 
 pub known-with_active : (hs : List Holding) (name : Text) (active : Bool) (es : List (Text × Agent))
     → AllByRecursion (IsKnown hs) es → AllByRecursion (IsKnown hs) (map (changed name (with_active active)) es)

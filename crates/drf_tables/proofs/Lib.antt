@@ -1,5 +1,6 @@
 pub mod Entries
 pub mod Known
+pub mod Freed
 pub mod Suppressed
 pub mod Ended
 pub mod Changes

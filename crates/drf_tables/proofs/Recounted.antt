@@ -1,5 +1,5 @@
 -- What roles consume, kept through each change of the rows.
-use Rattle.std.specs.Prelude.{◌≡◌, ℕ, ◌+◌, ◌-◌, ◌<◌, ◌≤◌, ◌^◌, Bool, true, false, List, [], ◌∷◌, ◌++◌, filter, find, map, not, sum_by, Option, Some, None, Result, Ok, Err, IfOk, OnOk, OnErr, length}
+use Rattle.std.specs.Prelude.{◌≡◌, ℕ, ◌+◌, ◌-◌, ◌<◌, ◌≤◌, ◌^◌, Bool, true, false, List, [], ◌∷◌, ◌++◌, filter, find, map, not, sum_by, Option, Some, None, Result, Ok, Err, OnOk, OnErr, length}
 use Rattle.std.specs.Map.{remove_entry}
 use Rattle.std.specs.Option.{option_map_or}
 use Rattle.std.specs.Result.{is_ok}
@@ -233,13 +233,13 @@ module _ (rows : Rows) (number : ℕ) (o : OfferRow) (starts : List Start) (filt
 module _ (counts : Bool) (rows : Rows) (before : Allowance) (counted : CountsIf counts rows before)
     (number : ℕ) (o x : OfferRow) (starts : List Start) (left : List Resource)
     (consistent : IsConsistent rows) (found : offer_at rows number ≡ Some o) (can : CanStart rows o starts)
-    (same : x ≡ o) (rest_is : counts ≡ true → left ≡ rest_of_all o.bundle (uses starts)) where
+    (same : x ≡ o) (rest_is : left ≡ rest_of_all o.bundle (uses starts)) where
   abbrev less_held : Amounts
   less_held test label = cond (test x.role) (unreserved_in label left) 0
 
-  told_as : counts ≡ true → (test : Path → Bool) (label : Text)
+  told_as : (test : Path → Bool) (label : Text)
       → less_held test label ≡ cond (test o.role) (unreserved_in label (rest_of_all o.bundle (uses starts))) 0
-  told_as is test label = λ i. cond (test (same i).role) (unreserved_in label (rest_is is i)) 0
+  told_as test label = λ i. cond (test (same i).role) (unreserved_in label (rest_is i)) 0
 
   pub accept_fits : counts ≡ true → (label : Text) → unreserved_in label left ≤ used_by before.used x.role label
   accept_fits is label =
@@ -248,18 +248,15 @@ module _ (counts : Bool) (rows : Rows) (before : Allowance) (counted : CountsIf 
       (omega (
         arith,
         consumption-accepted rows number o starts [] consistent found can test label,
-        told_as is test label,
+        told_as test label,
         ap (λ b. cond b (unreserved_in label left) 0) (same_path_itself x.role),
       ))
 
   pub counts-accepted : (filters : List FilterRow) (after : Allowance) → IsRaisedIf counts after before less_held
       → CountsIf counts (accepted_in rows o starts filters) after
-  counts-accepted filters after raised is =
-      counts-released counts rows before counted (accepted_in rows o starts filters) after
-      (λ test label. cond (test o.role) (unreserved_in label (rest_of_all o.bundle (uses starts))) 0)
-      (record { limits = raised.limits; used = λ is test label. raised.used is test label ∙ ap (λ n. used_where test after.used label + n) (told_as is test label) })
-      refl
-      (consumption-accepted rows number o starts filters consistent found can) is
+  counts-accepted filters after raised =
+      counts-released counts rows before counted (accepted_in rows o starts filters) after less_held raised refl
+      (λ test label. omega (arith, consumption-accepted rows number o starts filters consistent found can test label, told_as test label))
 
 -- ---- agents come and go
 
@@ -370,11 +367,6 @@ raised_ok (Err e) old new more raised same = record { limits = same.limits; used
 pub reserved_le : (total : List Resource) (test : Path → Bool) (label : Text) (most : ℕ) → amount_of (quantities_of total) label ≤ most
     → reserved_in test label total ≤ most
 reserved_le total test label most small = omega (arith, parts_le test label total, amount-quantities_of total label, small)
-
--- on success, whatever is asked beside it
-pub if_asked : {T E : Type 0} (r : Result T E) (A : Type 0) (P : T → Type 0) → IfOk r P → IfOk r (λ x. A → P x)
-if_asked (Ok x) A P holds = λ asked. holds
-if_asked (Err e) A P holds = tt
 
 pub raised_on : {T E : Type 0} (r : Result T E) (counts : Bool) (old new : Allowance) (more : Amounts)
     → OnOk r (IsRaisedBy old new more) → OnOk r (IsRaisedIf counts old new more)

@@ -1,7 +1,7 @@
 -- Agents whose entries change.
-use Rattle.std.specs.Prelude.{◌≡◌, ℕ, ◌≤◌, Bool, false, List, Some, None, take, if◌then◌else◌}
+use Rattle.std.specs.Prelude.{◌≡◌, ℕ, ◌≤◌, Bool, false, List, map, Option, Some, None, take, if◌then◌else◌}
 use Rattle.std.specs.Option.{option_map}
-use Rattle.drf_bundle.specs.Bundle.{IsBundle, quantities_of}
+use Rattle.drf_bundle.specs.Bundle.{IsBundle, join, quantities_of}
 use Rattle.drf_bundle.specs.Quantities.{amount_of}
 use Rattle.drf_bundle.specs.declared.resource.Resource.{Resource}
 use Rattle.drf_rows.specs.Cycle.{free_of}
@@ -17,9 +17,19 @@ use Rattle.drf_tables.specs.declared.tables.Agent.{Agent}
 abbrev pub changed : Text → (Agent → Agent) → Text × Agent → Text × Agent
 changed name change e = if same_text e.0 name then (e.0, change e.1) else e
 
--- what is free there is not known
-abbrev pub forgotten : Agent → Agent
-forgotten a = record a { free = None }
+-- what was free and a part that comes back, together
+abbrev pub joined_free : Option (List Resource) → List Resource → Option (List Resource)
+joined_free None part = None
+joined_free (Some known) part = join known part
+
+-- a part comes back, or what is free there is not known any more
+abbrev pub freed : Bool → List Resource → Agent → Agent
+freed kept part a = record a { free = if kept then joined_free a.free part else None }
+
+-- the agent of a name got a part back, or what is free there is not known any more
+pub record HasFreed (name : Text) (part : List Resource) (old new : List (Text × Agent)) : Type 0 where
+  pub kept : Bool
+  pub same : new ≡ map (changed name (freed kept part)) old
 
 -- it is active, or not
 abbrev pub with_active : Bool → Agent → Agent

@@ -5,13 +5,13 @@ ghost use Rattle.std.specs.Prelude.{◌≡◌, ◌++◌, ◌∷◌, [], true, So
 ghost use Rattle.std.specs.Option.{option_map_or};
 ghost use Rattle.drf_rows.specs.Consistent.{IsConsistent};
 ghost use Rattle.drf_rows.specs.Endings.{without_ended};
-ghost use Rattle.drf_rows.specs.Offers.{offer_at, has_task};
+ghost use Rattle.drf_rows.specs.Offers.{left_of_offer, offer_at, has_task};
 ghost use Rattle.drf_rows.specs.declared.rows.OfferRow.{OfferRow};
 ghost use Rattle.drf_rows.specs.Ended.{ending_of};
 ghost use Rattle.drf_tables.specs.Ended.{HasEnded, CanAccept, with_accepted};
 
-use crate::members::forget_free;
-use crate::recounting::{left_of, release_held};
+use crate::members::give_back;
+use crate::recounting::release_held;
 use crate::settling::settle_all;
 use crate::tables::Tables;
 use drf_bundle::Bundle;
@@ -69,7 +69,7 @@ impl Tables {
         ensures counted { self.new.counted ≡ self.old.counted }
     {
         let taken = self.holdings.take(ending)?;
-        forget_free(&mut self.agents, &taken.agent);
+        give_back(&mut self.agents, &taken.agent, &taken.bundle);
         release_held(
             &mut self.quota,
             self.is_counted,
@@ -82,28 +82,28 @@ impl Tables {
         })
     }
 
-    /// A framework starts tasks with parts of an offer, and a filter stands last, if one is given. An `Err` changes no row.
+    /// A framework starts tasks with parts of an offer, of which the rest is free, and a filter stands last, if one is given. An
+    /// `Err` changes no row.
     pub fn accept(
         &mut self,
         number: u64,
         tasks: TaskList,
+        rest: &Bundle,
         filter: Option<FilterRow>,
     ) -> Result<(), AllocError>
-        requires { CanAccept self.old.rows number tasks filter }
+        requires can { CanAccept self.old.rows number tasks filter }
+        requires rest { (o : OfferRow) → offer_at self.old.rows number ≡ Some o → rest.now ≡ left_of_offer o tasks }
         ensures ok { OnOk result ((o : OfferRow) → offer_at self.old.rows number ≡ Some o
             → self.new.rows ≡ with_accepted self.old.rows o tasks filter) }
         ensures err { OnErr result (self.new.rows ≡ self.old.rows) }
         ensures counted { self.new.counted ≡ self.old.counted }
     {
-        let alloc = *self.agents.allocator();
-        let offer = self.holdings.offer(number).unwrap();
-        let left = left_of(alloc, self.is_counted, &offer.bundle, &tasks)?;
         let filters = self.filters.len();
         add_if(&mut self.filters, filter)?;
         match self.holdings.start(number, tasks) {
             Ok(offer) => {
-                forget_free(&mut self.agents, &offer.agent);
-                release_held(&mut self.quota, self.is_counted, &offer.role, &left);
+                give_back(&mut self.agents, &offer.agent, rest);
+                release_held(&mut self.quota, self.is_counted, &offer.role, rest);
                 Ok(())
             }
             Err(error) => {

@@ -1,7 +1,7 @@
 //! The filters of declined offers, and of what is left of accepted ones.
 #![tactic(auto, unfolding(crate::specs::Inside::rows_of))]
 
-ghost use Rattle.std.specs.Prelude.{◌≡◌, ◌++◌, ◌∷◌, [], OnOk, OnErr};
+ghost use Rattle.std.specs.Prelude.{◌≡◌, ◌++◌, ◌∷◌, [], nat_le, OnOk, OnErr};
 ghost use Rattle.drf_rows.specs.Consistent.{IsConsistent, IsFilter};
 ghost use Rattle.drf_rows.specs.Filters.{is_held_back, number_in_force};
 ghost use Rattle.drf_rows.specs.Step.{live_rows};
@@ -13,11 +13,11 @@ use drf_rows::FilterRow;
 use std::alloc::AllocError;
 
 impl Tables {
-    /// How many filters are in force at a moment, in milliseconds.
-    pub fn filters_in_force(&self, moment: u64) -> u64
-        ensures { result ≡ number_in_force moment self.now.rows.filters }
+    /// Whether at least so many filters are in force at a moment, in milliseconds. They are looked at only where so many stand.
+    pub fn are_in_force(&self, number: u64, moment: u64) -> bool
+        ensures { result ≡ nat_le number (number_in_force moment self.now.rows.filters) }
     {
-        self.filters.in_force(moment)
+        number <= self.filters.len() as u64 && number <= self.filters.in_force(moment)
     }
 
     /// Whether a filter in force holds the bundle back from the client on the agent.

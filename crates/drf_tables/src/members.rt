@@ -1,27 +1,37 @@
 //! Agents and frameworks that change, found by name.
-ghost use Rattle.std.specs.Prelude.{◌≡◌, ◌+◌, filter, map, not, true, if◌then◌else◌};
+ghost use Rattle.std.specs.Prelude.{◌≡◌, ◌+◌, ◌⊎◌, None, filter, map, not, true, if◌then◌else◌};
 ghost use Rattle.std.specs.List.{list_any};
 ghost use Rattle.drf_role.specs.Path.{same_path};
 ghost use Rattle.drf_role.specs.Text.{same_text};
 ghost use Rattle.drf_rows.specs.Consistent.{are_distinct};
 ghost use Rattle.drf_rows.specs.Members.{suppressed_in};
 ghost use Rattle.drf_rows.specs.declared.rows.ClientRow.{ClientRow};
-ghost use Rattle.drf_tables.specs.Changing.{changed, forgotten, with_active};
+ghost use Rattle.drf_tables.specs.Changing.{changed, joined_free, with_active, HasFreed};
 ghost use Rattle.drf_tables.specs.Counting.{count_clients};
 ghost use Rattle.drf_tables.specs.Inside.{agent_row, framework_rows};
 
 use crate::tables::Agent;
+use drf_amount::Algebra;
+use drf_bundle::Bundle;
 use drf_role::{Name, Role};
 use drf_rows::ClientRow;
 use indexmap::IndexMap;
 
-/// Forgets what is free on an agent.
-pub(crate) fn forget_free(agents: &mut IndexMap<Name, Agent>, name: &Name)
+/// What was free with a part that comes back. Where memory ends, it is not known.
+fn freed(free: &Option<Bundle>, part: &Bundle) -> Option<Bundle>
+    ensures { (result ≡ joined_free free.now part.now) ⊎ (result ≡ None) }
+{
+    free.as_ref()?.try_join(part).ok()
+}
+
+/// Gives an agent a part back that is held there no longer. Where memory ends, what is free there is not known any more.
+pub(crate) fn give_back(agents: &mut IndexMap<Name, Agent>, name: &Name, part: &Bundle)
     requires { are_distinct (map (λ a. a.name) (map agent_row agents.old.entries)) ≡ true }
-    ensures { agents.new.entries ≡ map (changed name.now forgotten) agents.old.entries }
+    ensures { HasFreed name.now part.now agents.old.entries agents.new.entries }
 {
     if let Some(place) = agents.get_index_of(name) {
-        agents[place].free = None;
+        let agent = &mut agents[place];
+        agent.free = freed(&agent.free, part);
     }
 }
 

@@ -1,24 +1,20 @@
 //! What roles consume, kept through changes of the rows: where the quota counts it, what goes is released without memory,
 //! and what comes is consumed.
-ghost use Rattle.std.specs.Prelude.{◌≡◌, ◌+◌, ◌<◌, ◌≤◌, ◌^◌, Bool, true, map, is_some, IfOk, OnOk, OnErr, if◌then◌else◌};
+ghost use Rattle.std.specs.Prelude.{◌≡◌, ◌+◌, ◌<◌, ◌≤◌, ◌^◌, Bool, true, map, is_some, OnOk, OnErr, if◌then◌else◌};
 ghost use Rattle.drf_role.specs.Text.{Text};
 ghost use Rattle.drf_role.specs.Path.{Path, same_path};
-ghost use Rattle.drf_bundle.specs.Taken.{rest_of_all};
 ghost use Rattle.drf_rows.specs.Quota.{unreserved_in, reserved_in};
-ghost use Rattle.drf_rows.specs.Tasks.{uses};
 ghost use Rattle.drf_rows.specs.declared.rows.Rows.{Rows};
 ghost use Rattle.drf_gates.specs.Quota.{IsSame, used_by, used_where};
 ghost use Rattle.drf_tables.specs.Inside.{agent_row, CountsIf};
 ghost use Rattle.drf_tables.specs.Recounting.{CountsAll, IsRaisedIf, reserved_at};
 
 use crate::tables::Agent;
-use drf_amount::Algebra;
 use drf_bundle::Bundle;
 use drf_gates::Quota;
 use drf_role::{Name, Role};
-use drf_rows::TaskList;
 use indexmap::IndexMap;
-use std::alloc::{AllocError, Global};
+use std::alloc::AllocError;
 
 /// A client of the role holds the bundle no longer. It needs no memory.
 pub(crate) fn release_held(quota: &mut Quota, counts: bool, role: &Role, bundle: &Bundle)
@@ -28,21 +24,6 @@ pub(crate) fn release_held(quota: &mut Quota, counts: bool, role: &Role, bundle:
     if counts {
         quota.release_unreserved(role, bundle);
     }
-}
-
-/// What tasks leave of a bundle, if that is asked for, and else nothing.
-pub(crate) fn left_of(
-    alloc: Global,
-    asked: bool,
-    whole: &Bundle,
-    tasks: &TaskList,
-) -> Result<Bundle, AllocError>
-    ensures { IfOk result (λ left. asked ≡ true → left ≡ rest_of_all whole.now (uses tasks.now)) }
-{
-    if !asked {
-        return Ok(Bundle::empty(alloc));
-    }
-    tasks.rest_of(whole)
 }
 
 /// An agent has the bundle no longer. It needs no memory.

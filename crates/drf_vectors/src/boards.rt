@@ -1,6 +1,8 @@
 //! A board on which one agent registers, and then tries it again; its viewers, and one without viewers.
 ghost use Rattle.std.specs.Prelude.{◌≡◌, [], IfOk, OnOk};
 ghost use Rattle.drf_rows.specs.LimitNumbers.{ceilings};
+ghost use Rattle.drf_rows.specs.declared.reply.Refusal.TheVariants.{KnownAgent};
+ghost use Rattle.drf_rows.specs.declared.reply.Reply.TheVariants.{Done, Refused};
 ghost use Rattle.drf_vectors.specs.OneAgent.{agent_added, one_cpu, once, twice, sheet_after};
 
 use anyhow::{Context, Result};
@@ -46,32 +48,36 @@ fn sheet_after(alloc: Global, events: u64) -> Result<Sheet>
 fn publish_once<K: Naming, R: Wait + Drop>(
     alloc: Global,
     board: &mut Board<K, R>,
+    event: &Event,
+    reply: &Reply,
 ) -> Result<Told<K>>
 where
     Pane<K>: Shows,
     requires limits { K.slate.limits ≡ ceilings }
     requires none { board.old.entries ≡ [] }
+    requires event { event.now ≡ agent_added }
+    requires reply { reply.now ≡ Done }
     ensures { OnOk result (board.new.entries ≡ once) }
 {
-    let event = agent_added(alloc)?;
     let sheet = sheet_after(alloc, 1)?;
-    let reply = Reply::Done;
-    Ok(board.publish(sheet, &event, &reply)?)
+    Ok(board.publish(sheet, event, reply)?)
 }
 
 fn publish_again<K: Naming, R: Wait + Drop>(
     alloc: Global,
     board: &mut Board<K, R>,
+    event: &Event,
+    reply: &Reply,
 ) -> Result<Told<K>>
 where
     Pane<K>: Shows,
     requires limits { K.slate.limits ≡ ceilings }
     requires once { board.old.entries ≡ once }
+    requires event { event.now ≡ agent_added }
+    requires reply { reply.now ≡ Refused KnownAgent }
 {
-    let event = agent_added(alloc)?;
     let sheet = sheet_after(alloc, 2)?;
-    let reply = Reply::Refused(Refusal::KnownAgent);
-    Ok(board.publish(sheet, &event, &reply)?)
+    Ok(board.publish(sheet, event, reply)?)
 }
 
 fn append_sheet<K: Naming>(alloc: Global, told: &mut String, viewer: &mut Viewer<K>) -> Result<()> {
@@ -97,16 +103,21 @@ fn watched<K: Naming, R: Wait + Drop>(
     alloc: Global,
     board: &mut Board<K, R>,
     viewers: &mut [Viewer<K>],
+    event: &Event,
+    replies: (&Reply, &Reply),
 ) -> Result<String>
 where
     Pane<K>: Shows,
     requires limits { K.slate.limits ≡ ceilings }
     requires none { board.old.entries ≡ [] }
+    requires event { event.now ≡ agent_added }
+    requires first { replies.0.now ≡ Done }
+    requires second { replies.1.now ≡ Refused KnownAgent }
 {
     let mut told = format!(in alloc; "{} viewers", board.viewers())?;
     append_sheets(alloc, &mut told, viewers)?;
-    publish_once(alloc, board)?;
-    let told_again = publish_again(alloc, board)?;
+    publish_once(alloc, board, event, replies.0)?;
+    let told_again = publish_again(alloc, board, event, replies.1)?;
     if let Some(first) = viewers.first_mut() {
         first.learn(&told_again);
     }
@@ -114,26 +125,57 @@ where
     Ok(told)
 }
 
+/// The event and the replies are lent: who owns one proves for each `?` behind it how it is dropped.
+fn replied<K: Naming, R: Wait + Drop>(
+    alloc: Global,
+    board: &mut Board<K, R>,
+    viewers: &mut [Viewer<K>],
+    event: &Event,
+) -> Result<String>
+where
+    Pane<K>: Shows,
+    requires limits { K.slate.limits ≡ ceilings }
+    requires none { board.old.entries ≡ [] }
+    requires event { event.now ≡ agent_added }
+{
+    let done = Reply::Done;
+    let known = Reply::Refused(Refusal::KnownAgent);
+    watched(alloc, board, viewers, event, (&done, &known))
+}
+
 fn shown_to<K: Naming, R: Wait + Drop>(rt: R, alloc: Global, slate: Slate) -> Result<String>
     requires named { slate.name ≡ K.slate }
     requires limits { slate.name.limits ≡ ceilings }
 {
     let (mut board, mut viewers) = Board::<K, R>::open(rt, alloc, slate)?;
-    watched(alloc, &mut board, viewers.as_mut_slice())
+    let event = agent_added(alloc)?;
+    replied(alloc, &mut board, viewers.as_mut_slice(), &event)
+}
+
+fn viewers_of<K: Naming, R: Wait + Drop>(alloc: Global, board: &Board<K, R>) -> Result<String>
+where
+    Pane<K>: Shows,
+{
+    let viewers = board.viewers();
+    Ok(format!(in alloc; "{viewers} viewers")?)
 }
 
 /// A board that nobody looks at takes an event, and shows none.
-fn unwatched<K: Naming, R: Wait + Drop>(alloc: Global, board: &mut Board<K, R>) -> Result<String>
+fn unwatched<K: Naming, R: Wait + Drop>(
+    alloc: Global,
+    board: &mut Board<K, R>,
+    event: &Event,
+) -> Result<String>
 where
     Pane<K>: Shows,
     requires limits { K.slate.limits ≡ ceilings }
     requires unseen { board.old.viewers ≡ 0 }
     requires none { board.old.entries ≡ [] }
+    requires event { event.now ≡ agent_added }
 {
-    let event = agent_added(alloc)?;
-    board.publish_unseen(&event, &Reply::Done);
-    let viewers = board.viewers();
-    Ok(format!(in alloc; "{viewers} viewers")?)
+    let done = Reply::Done;
+    board.publish_unseen(event, &done);
+    viewers_of(alloc, board)
 }
 
 fn shown_to_none<K: Naming, R: Wait + Drop>(rt: R, alloc: Global, slate: Slate) -> Result<String>
@@ -142,7 +184,8 @@ fn shown_to_none<K: Naming, R: Wait + Drop>(rt: R, alloc: Global, slate: Slate) 
     requires unseen { slate.viewers ≡ 0 }
 {
     let (mut board, _) = Board::<K, R>::open(rt, alloc, slate)?;
-    unwatched(alloc, &mut board)
+    let event = agent_added(alloc)?;
+    unwatched(alloc, &mut board, &event)
 }
 
 /// A board that nobody looks at.

@@ -11,8 +11,8 @@ use Rattle.drf_core.proofs.AcceptLemmas.{moment_early, can_start, same_offer, ca
 use Rattle.drf_core.proofs.WorkLemmas.{nodes_of-offer}
 use Rattle.drf_core.proofs.life.accept.Goals as goal
 
-pub accept-requires : goal.accept-requires
-accept-requires g c =
+pub accept-requires-clause-can : goal.accept-requires-clause-can
+accept-requires-clause-can g c =
     let rows : Rows = c.args.tables.now.rows in
     let a = c.args.accept in
     let o : OfferRow = c.unwrap-offer.result.now in
@@ -27,6 +27,14 @@ accept-requires g c =
     can_accept rows a.offer a.tasks o c.in_ok-filter.filter (refuses_rest o a.tasks a.refuse_ms)
     c.max-moment.result a.refuse_ms c.requires.consistent can found
     (moment_early rows a.at c.max-moment.result c.requires.consistent c.requires.early later) told
+
+pub accept-requires-clause-rest : goal.accept-requires-clause-rest
+accept-requires-clause-rest g c = λ p at.
+    let rows : Rows = c.args.tables.now.rows in
+    let a = c.args.accept in
+    let o : OfferRow = c.unwrap-offer.result.now in
+    let found : offer_at rows a.offer ≡ Some o = sym c.offer.ensures ∙ ap option_copied c.unwrap-offer.ensures in
+    c.in_ok-rest.ensures ∙ ap (λ (x : OfferRow). left_of_offer x a.tasks) (same_offer rows a.offer o p found at)
 
 pub refund-requires-clause-known : goal.refund-requires-clause-known
 refund-requires-clause-known g c =

@@ -1,28 +1,19 @@
-use Rattle.std.proofs.Common.{◌≡◌, ◌==◌, ◌++◌, ◌∷◌, [], Bool, List, Some, Option, is_some, find, map, true, sym, ap, ◌∙◌, subst}
-use Rattle.std.specs.Option.{option_copied, option_map_or}
-use Rattle.drf_bundle.specs.Taken.{rest_of_all}
+use Rattle.std.proofs.Common.{◌≡◌, ◌==◌, Bool, List, [], ◌∷◌, Some, Option, map, sym, ap, ◌∙◌, subst}
+use Rattle.std.specs.Option.{option_map_or}
 use Rattle.drf_rows.specs.EndingLaws.{new_starts}
-use Rattle.drf_rows.specs.Offers.{offer_at, task_of, AreNew}
-use Rattle.drf_rows.specs.Tasks.{uses}
+use Rattle.drf_rows.specs.Offers.{left_of_offer, offer_at, task_of, AreNew}
 use Rattle.drf_rows.specs.declared.rows.FilterRow.{FilterRow}
 use Rattle.drf_rows.specs.declared.rows.LimitRow.{LimitRow}
 use Rattle.drf_rows.specs.declared.rows.OfferRow.{OfferRow}
 use Rattle.drf_rows.specs.declared.rows.Rows.{Rows}
+use Rattle.drf_bundle.specs.declared.resource.Resource.{Resource}
+use Rattle.drf_tables.specs.Changing.{HasFreed}
 use Rattle.drf_tables.specs.Ended.{CanAccept, with_accepted}
 use Rattle.drf_tables.specs.Inside.{CountsIf, IsKept, rows_of, rows_in}
 use Rattle.drf_tables.specs.Stored.{Stored}
-use Rattle.drf_tables.proofs.Ended.{found_any, accepted-rows, accepted-kept, same_offer}
-use Rattle.drf_tables.proofs.Entries.{is_some-copied}
+use Rattle.drf_tables.proofs.Ended.{found_any, accepted-rows, accepted-kept}
 use Rattle.drf_tables.proofs.Recounted.{accept_fits, counts-accepted}
 use Rattle.drf_tables.proofs.tables.Tables.accept.Goals as goal
-
-pub unwrap-requires : goal.unwrap-requires
-unfolding rows_of
-unwrap-requires c =
-    let t = c.self.inside in
-    let can : CanAccept (rows_in t) c.args.number c.args.tasks c.args.filter =
-    subst (λ (s : Stored). CanAccept s.rows c.args.number c.args.tasks c.args.filter) (sym c.self.view_is) c.requires in
-    sym (is_some-copied c.offer.result) ∙ ap is_some c.offer.ensures ∙ ap is_some can.at
 
 pub start-requires-clause-there : goal.start-requires-clause-there
 unfolding rows_of
@@ -30,7 +21,7 @@ start-requires-clause-there c =
     let t = c.self.inside in
     let test : OfferRow → Bool = λ o. o.number == c.args.number in
     let can : CanAccept (rows_in t) c.args.number c.args.tasks c.args.filter =
-    subst (λ (s : Stored). CanAccept s.rows c.args.number c.args.tasks c.args.filter) (sym c.self.view_is) c.requires in
+    subst (λ (s : Stored). CanAccept s.rows c.args.number c.args.tasks c.args.filter) (sym c.self.view_is) c.requires.can in
     found_any test t.holdings.offers can.offer can.at
 
 pub start-requires-clause-new : goal.start-requires-clause-new
@@ -38,7 +29,7 @@ unfolding rows_of
 start-requires-clause-new c = λ o found.
     let t = c.self.inside in
     let can : CanAccept (rows_in t) c.args.number c.args.tasks c.args.filter =
-    subst (λ (s : Stored). CanAccept s.rows c.args.number c.args.tasks c.args.filter) (sym c.self.view_is) c.requires in
+    subst (λ (s : Stored). CanAccept s.rows c.args.number c.args.tasks c.args.filter) (sym c.self.view_is) c.requires.can in
     let both : ◌≡◌ {A = Option OfferRow} (Some o) (Some can.offer) = sym found ∙ can.at in
     let same : o ≡ can.offer = cc in
     subst (λ (p : OfferRow). AreNew t.holdings.tasks (map (task_of p) c.args.tasks)) (sym same) (new_starts (rows_in t) can.offer c.args.tasks can.can)
@@ -49,15 +40,13 @@ release_held-requires c = λ is label.
     let t = c.self.inside in
     let number = c.args.number in
     let can : CanAccept (rows_in t) number c.args.tasks c.args.filter =
-    subst (λ (s : Stored). CanAccept s.rows number c.args.tasks c.args.filter) (sym c.self.view_is) c.requires in
-    let both : ◌≡◌ {A = Option OfferRow} (Some c.unwrap-offer.result.now) (Some can.offer) =
-    sym (ap option_copied c.unwrap-offer.ensures) ∙ c.offer.ensures ∙ can.at in
-    let whole : c.unwrap-offer.result.now ≡ can.offer = cc in
-    let other : ◌≡◌ {A = Option OfferRow} (Some c.in-Ok.offer) (Some can.offer) = sym c.in-Ok.ensures.ok.found ∙ can.at in
+    subst (λ (s : Stored). CanAccept s.rows number c.args.tasks c.args.filter) (sym c.self.view_is) c.requires.can in
+    let rest : c.args.rest.now ≡ left_of_offer can.offer c.args.tasks =
+    c.requires.rest can.offer (sym (ap (λ (s : Stored). offer_at s.rows number) c.self.view_is) ∙ can.at) in
+    let both : ◌≡◌ {A = Option OfferRow} (Some c.in-Ok.offer) (Some can.offer) = sym c.in-Ok.ensures.ok.found ∙ can.at in
     let same : c.in-Ok.offer ≡ can.offer = cc in
-    accept_fits t.is_counted (rows_in t) t.quota c.self.invariant.consumed number can.offer c.in-Ok.offer c.args.tasks c.in_ok-left.left
-    c.self.invariant.kept.consistent can.at can.can same
-    (λ asked. c.in_ok-left.ensures asked ∙ ap (λ (o : OfferRow). rest_of_all o.bundle (uses c.args.tasks)) whole) is label
+    accept_fits t.is_counted (rows_in t) t.quota c.self.invariant.consumed number can.offer c.in-Ok.offer c.args.tasks c.args.rest.now
+    c.self.invariant.kept.consistent can.at can.can same rest is label
 
 pub invariant_of-self-in-Ok : goal.invariant_of-self-in-Ok
 unfolding rows_of
@@ -65,30 +54,28 @@ invariant_of-self-in-Ok c =
     let t = c.self.inside in
     let number = c.args.number in
     let can : CanAccept (rows_in t) number c.args.tasks c.args.filter =
-    subst (λ (s : Stored). CanAccept s.rows number c.args.tasks c.args.filter) (sym c.self.view_is) c.requires in
-    let both : ◌≡◌ {A = Option OfferRow} (Some c.unwrap-offer.result.now) (Some can.offer) =
-    sym (ap option_copied c.unwrap-offer.ensures) ∙ c.offer.ensures ∙ can.at in
-    let whole : c.unwrap-offer.result.now ≡ can.offer = cc in
-    let other : ◌≡◌ {A = Option OfferRow} (Some c.in-Ok.offer) (Some can.offer) = sym c.in-Ok.ensures.ok.found ∙ can.at in
+    subst (λ (s : Stored). CanAccept s.rows number c.args.tasks c.args.filter) (sym c.self.view_is) c.requires.can in
+    let rest : c.args.rest.now ≡ left_of_offer can.offer c.args.tasks =
+    c.requires.rest can.offer (sym (ap (λ (s : Stored). offer_at s.rows number) c.self.view_is) ∙ can.at) in
+    let both : ◌≡◌ {A = Option OfferRow} (Some c.in-Ok.offer) (Some can.offer) = sym c.in-Ok.ensures.ok.found ∙ can.at in
     let same : c.in-Ok.offer ≡ can.offer = cc in
-    let entries = c.forget_free.new.agents.entries in
+    let entries = c.give_back.new.agents.entries in
     let held = c.start.new.self in
     let filters = c.add_if.new.filters in
     let after = c.release_held.new.quota in
     let more : List FilterRow = option_map_or (λ f. f ∷ []) c.args.filter [] in
     let rows : List LimitRow → Rows = λ limits.
     rows_of entries t.frameworks.entries held filters t.weights.entries limits t.clock t.next_offer t.accepted in
+    let back = subst (λ (r : List Resource). HasFreed c.in-Ok.offer.agent r t.agents.entries entries) rest c.give_back.ensures in
     let told = accepted-rows t entries held filters number c.args.tasks c.args.filter can.offer c.in-Ok.offer c.self.invariant.kept can.at
-    c.in-Ok.ensures.ok c.forget_free.ensures c.in_ok-add_if.ensures.ok in
+    c.in-Ok.ensures.ok back c.in_ok-add_if.ensures.ok in
     let counts : CountsIf t.is_counted (with_accepted (rows_in t) can.offer c.args.tasks c.args.filter) after =
-    counts-accepted t.is_counted (rows_in t) t.quota c.self.invariant.consumed number can.offer c.in-Ok.offer c.args.tasks c.in_ok-left.left
-    c.self.invariant.kept.consistent can.at can.can same
-    (λ asked. c.in_ok-left.ensures asked ∙ ap (λ (o : OfferRow). rest_of_all o.bundle (uses c.args.tasks)) whole)
-    more after c.release_held.ensures in
+    counts-accepted t.is_counted (rows_in t) t.quota c.self.invariant.consumed number can.offer c.in-Ok.offer c.args.tasks c.args.rest.now
+    c.self.invariant.kept.consistent can.at can.can same rest more after c.release_held.ensures in
     record {
       kept = subst (λ (limits : List LimitRow). IsKept (rows limits) entries t.total t.clients) c.release_held.ensures.limits
           (accepted-kept t entries held filters number c.args.tasks c.args.filter
-          can.offer c.in-Ok.offer c.self.invariant.kept can.at c.in-Ok.ensures.ok c.forget_free.ensures c.in_ok-add_if.ensures.ok
+          can.offer c.in-Ok.offer c.self.invariant.kept can.at c.in-Ok.ensures.ok back c.in_ok-add_if.ensures.ok
           can.can can.filter);
       consumed = subst (λ (limits : List LimitRow). CountsIf t.is_counted (rows limits) after) c.release_held.ensures.limits
           (subst (λ (r : Rows). CountsIf t.is_counted r after) (sym told) counts);
@@ -100,10 +87,11 @@ returns-in-Ok-clause-ok c = λ o at.
     let t = c.self.inside in
     let number = c.args.number in
     let found : offer_at (rows_in t) number ≡ Some o = ap (λ (s : Stored). offer_at s.rows number) c.self.view_is ∙ at in
+    let entries = c.give_back.new.agents.entries in
+    let back = subst (λ (r : List Resource). HasFreed c.in-Ok.offer.agent r t.agents.entries entries) (c.requires.rest o at) c.give_back.ensures in
     let rows : List LimitRow → Rows = λ limits.
-    rows_of c.forget_free.new.agents.entries t.frameworks.entries c.start.new.self c.add_if.new.filters t.weights.entries limits
-    t.clock t.next_offer t.accepted in
+    rows_of entries t.frameworks.entries c.start.new.self c.add_if.new.filters t.weights.entries limits t.clock t.next_offer t.accepted in
     ap rows (sym c.release_held.ensures.limits)
-    ∙ accepted-rows t c.forget_free.new.agents.entries c.start.new.self c.add_if.new.filters number c.args.tasks c.args.filter
-    o c.in-Ok.offer c.self.invariant.kept found c.in-Ok.ensures.ok c.forget_free.ensures c.in_ok-add_if.ensures.ok
+    ∙ accepted-rows t entries c.start.new.self c.add_if.new.filters number c.args.tasks c.args.filter
+    o c.in-Ok.offer c.self.invariant.kept found c.in-Ok.ensures.ok back c.in_ok-add_if.ensures.ok
     ∙ ap (λ (s : Stored). with_accepted s.rows o c.args.tasks c.args.filter) c.self.view_is

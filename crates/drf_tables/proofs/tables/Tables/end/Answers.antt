@@ -31,9 +31,9 @@ release_held-requires c = λ is label.
     let ending = ending_of c.args.ending in
     let taken = c.in_ok-taken.taken in
     let lost : HasTaken ending t.holdings c.take.new.self (Some taken) = c.in_ok-taken.ensures in
-    let entries = c.forget_free.new.agents.entries in
-    let one = without_it t entries c.take.new.self ending taken c.self.invariant.kept c.forget_free.ensures lost in
-    let new : Rows = rows_ended t entries c.take.new.self ending taken c.self.invariant.kept c.forget_free.ensures lost in
+    let entries = c.give_back.new.agents.entries in
+    let one = without_it t entries c.take.new.self ending taken c.self.invariant.kept c.give_back.ensures lost in
+    let new : Rows = rows_ended t entries c.take.new.self ending taken c.self.invariant.kept c.give_back.ensures lost in
     ending_fits t.is_counted (rows_in t) new t.quota (holding_of taken) c.self.invariant.consumed one.less
     (sym (ap (λ (r : Rows). r.agents) one.others)) is label
 
@@ -44,10 +44,10 @@ invariant_of-self-2 c =
     let taken = c.in_ok-taken.taken in
     let lost : HasTaken ending t.holdings c.take.new.self (Some taken) = c.in_ok-taken.ensures in
     let held = c.take.new.self in
-    let entries = c.forget_free.new.agents.entries in
+    let entries = c.give_back.new.agents.entries in
     let after = c.release_held.new.quota in
-    let one = without_it t entries held ending taken c.self.invariant.kept c.forget_free.ensures lost in
-    let new : Rows = rows_ended t entries held ending taken c.self.invariant.kept c.forget_free.ensures lost in
+    let one = without_it t entries held ending taken c.self.invariant.kept c.give_back.ensures lost in
+    let new : Rows = rows_ended t entries held ending taken c.self.invariant.kept c.give_back.ensures lost in
     let rows : List LimitRow → Rows = λ limits.
     rows_of entries t.frameworks.entries held t.filters t.weights.entries limits t.clock t.next_offer t.accepted in
     let counts : CountsIf t.is_counted new after =
@@ -55,7 +55,7 @@ invariant_of-self-2 c =
     (sym (ap (λ (r : Rows). r.agents) one.others)) after c.release_held.ensures (sym (ap (λ (r : Rows). r.limits) one.others)) in
     record {
       kept = subst (λ (limits : List LimitRow). IsKept (rows limits) entries t.total t.clients) c.release_held.ensures.limits
-          (ended-kept t entries held ending taken c.self.invariant.kept c.forget_free.ensures lost);
+          (ended-kept t entries held ending taken c.self.invariant.kept c.give_back.ensures lost);
       consumed = subst (λ (limits : List LimitRow). CountsIf t.is_counted (rows limits) after) c.release_held.ensures.limits counts;
     }
 
@@ -65,12 +65,12 @@ returns-clause-some c =
     let ending = ending_of c.args.ending in
     let taken = c.in_ok-taken.taken in
     let lost : HasTaken ending t.holdings c.take.new.self (Some taken) = c.in_ok-taken.ensures in
-    let entries = c.forget_free.new.agents.entries in
+    let entries = c.give_back.new.agents.entries in
     let told : Held = record { client = c.from_parts.result; bundle = taken.bundle } in
     let rows : List LimitRow → Rows = λ limits.
     rows_of entries t.frameworks.entries c.take.new.self t.filters t.weights.entries limits t.clock t.next_offer t.accepted in
     subst (λ (q : Stored × List LimitRow). HasEnded q.0.rows (rows q.1) ending told) (λ i. (c.self.view_is i, c.release_held.ensures.limits i))
-    (ended-one t entries c.take.new.self ending taken c.self.invariant.kept c.forget_free.ensures lost told c.from_parts.ensures refl)
+    (ended-one t entries c.take.new.self ending taken c.self.invariant.kept c.give_back.ensures lost told c.from_parts.ensures refl)
 
 pub returns-clause-consistent : goal.returns-clause-consistent
 returns-clause-consistent c =
@@ -78,8 +78,8 @@ returns-clause-consistent c =
     let ending = ending_of c.args.ending in
     let taken = c.in_ok-taken.taken in
     let lost : HasTaken ending t.holdings c.take.new.self (Some taken) = c.in_ok-taken.ensures in
-    let entries = c.forget_free.new.agents.entries in
+    let entries = c.give_back.new.agents.entries in
     let rows : List LimitRow → Rows = λ limits.
     rows_of entries t.frameworks.entries c.take.new.self t.filters t.weights.entries limits t.clock t.next_offer t.accepted in
     subst (λ (limits : List LimitRow). IsConsistent (rows limits)) c.release_held.ensures.limits
-    (ended-kept t entries c.take.new.self ending taken c.self.invariant.kept c.forget_free.ensures lost).consistent
+    (ended-kept t entries c.take.new.self ending taken c.self.invariant.kept c.give_back.ensures lost).consistent

@@ -16,9 +16,12 @@ use Rattle.drf_rows.specs.TotalsLaws.{can_in_total, is_agent}
 use Rattle.drf_rows.specs.declared.limits.TheConstants.{LARGEST_AMOUNT}
 use Rattle.drf_rows.specs.declared.rows.FilterRow.{FilterRow}
 use Rattle.drf_rows.specs.declared.rows.LimitRow.{LimitRow}
+use Rattle.drf_rows.specs.declared.rows.OfferRow.{OfferRow}
 use Rattle.drf_rows.specs.declared.rows.Rows.{Rows}
 use Rattle.drf_gates.specs.Quota.{Allowance, used_where}
 use Rattle.drf_tables.specs.Changing.{CanExchangeOn, CanHaveTotal, changed, with_exchanged, with_other}
+use Rattle.drf_tables.specs.DraftLaws.{with_offers-added}
+use Rattle.drf_tables.specs.Drafts.{with_offers}
 use Rattle.drf_tables.specs.Inside.{agent_row, rows_of, rows_in, CountsIf, IsKept}
 use Rattle.drf_tables.specs.Recounting.{IsRaisedIf, reserved_at}
 use Rattle.drf_tables.specs.declared.tables.Agent.{Agent}
@@ -45,6 +48,11 @@ module _ (t : Inside) (entries : List (Text × Agent)) (after : Allowance) (same
       subst (λ (q : List (Text × Agent) × List LimitRow).
       CountsIf t.is_counted (rows_of q.0 t.frameworks.entries t.holdings t.filters t.weights.entries q.1 t.clock t.next_offer t.accepted) after)
       (λ i. (sym same i, limits i)) counts
+
+-- offers change no limit
+pub limits-with_offers : (t : Inside) (offers : List OfferRow) → t.quota.limits ≡ (with_offers (rows_in t) offers).limits
+unfolding rows_of
+limits-with_offers t offers = sym (ap (λ (r : Rows). r.limits) (with_offers-added (rows_in t) offers))
 
 -- ---- an agent leaves
 

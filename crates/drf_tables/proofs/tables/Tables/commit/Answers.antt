@@ -5,7 +5,7 @@ use Rattle.drf_rows.specs.declared.rows.Rows.{Rows}
 use Rattle.drf_holdings.specs.Listed.{offer_number}
 use Rattle.drf_holdings.specs.Rising.{rising_from}
 use Rattle.drf_tables.specs.Counting.{counting_all}
-use Rattle.drf_tables.specs.DraftLaws.{next-with_offers, offers-with_offers, with_offers-added}
+use Rattle.drf_tables.specs.DraftLaws.{next-with_offers, offers-with_offers}
 use Rattle.drf_tables.specs.Drafts.{with_offers, frees_of, frees_after}
 use Rattle.drf_tables.specs.Inside.{CountsIf, rows_of, rows_in, framework_rows, is_settled}
 use Rattle.drf_tables.specs.Recounting.{CountsAll}
@@ -14,6 +14,7 @@ use Rattle.drf_tables.proofs.Counted.{CanCountAll-from}
 use Rattle.drf_tables.proofs.Entries.{appended}
 use Rattle.drf_tables.proofs.Fields.{rows_of-offers, agents_in}
 use Rattle.drf_tables.proofs.Kept.{IsKept-with_offers, known-left, settled-left}
+use Rattle.drf_tables.proofs.Running.{limits-with_offers}
 use Rattle.drf_tables.proofs.tables.Tables.commit.Goals as goal
 
 pub append-requires : goal.append-requires
@@ -73,7 +74,7 @@ invariant_of-self-2 c =
     (agents_in t) c.put_lefts.ensures.rows settled c.self.invariant.kept.free c.put_lefts.ensures.free left in
     let after : Rows = with_offers (rows_in t) offers in
     let all : CountsAll after c.args.quota = subst (λ (s : Stored). CountsAll (with_offers s.rows offers) c.args.quota) (sym c.self.view_is) c.requires.quota in
-    let own : t.quota.limits ≡ after.limits = sym (ap (λ (r : Rows). r.limits) (with_offers-added (rows_in t) offers)) in
+    let own : t.quota.limits ≡ after.limits = limits-with_offers t offers in
     let limits : c.take_over.new.quota.limits ≡ t.quota.limits = c.take_over.ensures.limits after all own ∙ sym own in
     let counts : CountsIf c.take_over.result after c.take_over.new.quota = c.take_over.ensures.counts after all in
     record {
@@ -95,7 +96,7 @@ returns-clause-ok c =
     let counted = c.count_offers.ensures ∙ ap (counting_all (framework_rows t.frameworks.entries)) made in
     let after : Rows = with_offers (rows_in t) offers in
     let all : CountsAll after c.args.quota = subst (λ (s : Stored). CountsAll (with_offers s.rows offers) c.args.quota) (sym c.self.view_is) c.requires.quota in
-    let own : t.quota.limits ≡ after.limits = sym (ap (λ (r : Rows). r.limits) (with_offers-added (rows_in t) offers)) in
+    let own : t.quota.limits ≡ after.limits = limits-with_offers t offers in
     let limits : c.take_over.new.quota.limits ≡ t.quota.limits = c.take_over.ensures.limits after all own ∙ sym own in
     rw (long, limits) (
     rows_of-offers t c.put_lefts.new.agents.entries c.count_offers.new.frameworks.entries

@@ -48,8 +48,8 @@ release_total-requires c = λ is role label.
     exchange_fits t c.self.invariant.kept c.self.invariant.consumed name c.args.old.now c.args.new.now can
     c.consume_total.new.quota c.in_ok-consume_total.ensures.ok is (same_path role) label
 
-pub release_total-requires-2 : goal.release_total-requires-2
-release_total-requires-2 c = λ is role label.
+pub release_total-requires-in-Err : goal.release_total-requires-in-Err
+release_total-requires-in-Err c = λ is role label.
     raised_fits c.self.inside.is_counted c.self.inside.quota c.consume_total.new.quota (λ test label. reserved_in test label c.args.new.now)
     c.in_ok-consume_total.ensures.ok is (same_path role) label
 
@@ -91,9 +91,9 @@ pub invariant_of-self-in-Err : goal.invariant_of-self-in-Err
 invariant_of-self-in-Err c =
     let t = c.self.inside in
     let mid = c.consume_total.new.quota in
-    let after = c.release_total-2.new.quota in
+    let after = c.release_total-in-Err.new.quota in
     let raised = c.in_ok-consume_total.ensures.ok in
-    let released = c.release_total-2.ensures in
+    let released = c.release_total-in-Err.ensures in
     let limits : t.quota.limits ≡ after.limits = sym raised.limits ∙ released.limits in
     record {
       kept = kept-limits t c.exchange.new.agents.entries after c.in-Err.ensures.err limits c.self.invariant.kept;

@@ -113,7 +113,7 @@ IsKept-ended old new agents sum number ending h back stand kept one = record {
       (subst (AllByRecursion (IsCovered (holdings_of old))) stand kept.consistent.covered);
   total = kept.total ∙ sym (ap (λ (r : Rows). cluster_total r.agents) one.others);
   clients = kept.clients ∙ sym (ap (λ (r : Rows). length (clients_of r)) one.others);
-  few = subst (λ (as : List AgentRow). length as ≤ 4096) (sym (ap (λ (r : Rows). r.agents) one.others)) kept.few;
+  few = subst (λ (agents : List AgentRow). length agents ≤ 4096) (sym (ap (λ (r : Rows). r.agents) one.others)) kept.few;
 }
 
 pub ended_from : (old new : Rows) (ending : Ending) (h : Holding) (held : Held)

@@ -39,7 +39,7 @@ module _ (rows new : Rows) (agents : List (Text × Agent)) (sum : List Entry) (n
     free = subst (λ (hs : List Holding). AllByRecursion (IsKnown hs) agents) held kept.free;
     total = kept.total ∙ ap cluster_total same;
     clients = kept.clients ∙ clients;
-    few = subst (λ (as : List AgentRow). length as ≤ 4096) same kept.few;
+    few = subst (λ (agents : List AgentRow). length agents ≤ 4096) same kept.few;
   }
 
 -- ---- another clock, and another number of events
@@ -139,5 +139,5 @@ IsKept-with_offers rows old new sum number offers kept consistent known =
       total = kept.total ∙ sym (ap (λ (rs : Rows). cluster_total rs.agents) added);
       clients = kept.clients ∙ sym (count_clients-counting_all rows.frameworks offers)
           ∙ sym (ap (λ (rs : Rows). length (clients_of rs)) added);
-      few = subst (λ (as : List AgentRow). length as ≤ 4096) (sym (agents-with_offers rows offers)) kept.few;
+      few = subst (λ (agents : List AgentRow). length agents ≤ 4096) (sym (agents-with_offers rows offers)) kept.few;
     }

@@ -159,7 +159,7 @@ consumption-one_less old new h less same test label =
       ap of less.has,
       sum_by-out (held_by test label) less.before less.after h,
       ap of less.lacks,
-      ap (λ (as : List AgentRow). reserved_for test as label) same,
+      ap (λ (agents : List AgentRow). reserved_for test agents label) same,
     )
 
 module _ (counts : Bool) (old new : Rows) (before : Allowance) (h : Holding) (counted : CountsIf counts old before)
@@ -293,13 +293,13 @@ reserved-without name (e ∷ es) test label = elim (cases_Bool (same_text name e
 module _ (rows : Rows) (name : Text) (a : AgentRow) (consistent : IsConsistent rows) (found : agent_at rows name ≡ Some a)
     (test : Path → Bool) (label : Text) where
   pub at_found : reserved_at rows.agents name test label ≡ reserved_in test label a.total
-  at_found = ap (option_map_or (λ (b : AgentRow). reserved_in test label b.total) 0) found
+  at_found = ap (λ (o : Option AgentRow). option_map_or (λ (b : AgentRow). reserved_in test label b.total) o 0) found
 
   pub reserved-is_part : reserved_in test label a.total ≤ consumption_where test rows label
   reserved-is_part =
       omega (
         arith,
-        ap (λ (as : List AgentRow). reserved_for test as label) (agents_stand rows name a consistent found),
+        ap (λ (agents : List AgentRow). reserved_for test agents label) (agents_stand rows name a consistent found),
         sum_by-out (reserved_by test label) (agents_before rows name a consistent found) (agents_after rows name a consistent found) a,
       )
 
@@ -309,7 +309,7 @@ module _ (rows : Rows) (name : Text) (a : AgentRow) (consistent : IsConsistent r
   consumption-with_total made =
       let before = agents_before rows name a consistent found in
       let after = agents_after rows name a consistent found in
-      let of : List AgentRow → ℕ = λ as. reserved_for test as label in
+      let of : List AgentRow → ℕ = λ agents. reserved_for test agents label in
       omega (
         arith,
         ap of (agents_stand rows name a consistent found),

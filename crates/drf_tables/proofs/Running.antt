@@ -65,7 +65,7 @@ module _ (t : Inside) (counted : CountsIf t.is_counted (rows_in t) t.quota) (nam
       (omega (
         arith,
         reserved-without name t.agents.entries test label,
-        ap (λ as. reserved_for test as label) (agents_in t),
+        ap (λ agents. reserved_for test agents label) (agents_in t),
       ))
 
   pub counts-left : (entries : List (Text × Agent)) (filters : List FilterRow) (after : Allowance)
@@ -140,7 +140,7 @@ module _ (t : Inside) (kept : IsKept (rows_in t) t.agents.entries t.total t.clie
         arith,
         consumption-with_total (rows_in t) name right.row kept.consistent right.found test label (λ was. total),
         at_found (rows_in t) name right.row kept.consistent right.found test label,
-        ap (λ as. reserved_at as name test label) (agents_in t),
+        ap (λ agents. reserved_at agents name test label) (agents_in t),
       )
 
   fits : (test : Path → Bool) (label : Text) → consumption_where test after_rows label < 2 ^ 64

@@ -21,7 +21,7 @@ pub record IsRaisedIf (counts : Bool) (old new : Allowance) (more : Amounts) : T
 -- what the agent of a name has reserved
 abbrev pub reserved_at : List AgentRow → Text → Amounts
 reserved_at agents name test label =
-    option_map_or (λ (a : AgentRow). reserved_in test label a.total) 0 (find (λ (a : AgentRow). same_text a.name name) agents)
+    option_map_or (λ (a : AgentRow). reserved_in test label a.total) (find (λ (a : AgentRow). same_text a.name name) agents) 0
 
 -- a quota, if there is one, counts what roles consume by the rows
 abbrev pub CountsAll : Rows → Option Allowance → Type 0

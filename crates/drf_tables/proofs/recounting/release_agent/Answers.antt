@@ -20,7 +20,7 @@ returns-in_default c =
     ∙ ap (option_map (λ (v : Agent). agent_row (name, v))) (sym c.get.ensures.value ∙ ap option_copied c.in_default.is) in
     record {
       limits = refl;
-      used = λ is test label. omega (arith, ap (option_map_or (λ (a : AgentRow). reserved_in test label a.total) 0) none);
+      used = λ is test label. omega (arith, ap (λ (o : Option AgentRow). option_map_or (λ (a : AgentRow). reserved_in test label a.total) o 0) none);
     }
 
 pub release_total-requires : goal.release_total-requires
@@ -30,7 +30,7 @@ release_total-requires c = λ is role label.
     let found : find (λ a. same_text a.name name) (map agent_row entries) ≡ Some (agent_row (name, c.in-Some.agent.now)) =
     found-lookup agent_row (λ a. a.name) name entries (λ e. refl)
     ∙ ap (option_map (λ (v : Agent). agent_row (name, v))) (sym c.get.ensures.value ∙ ap option_copied c.in-Some.is) in
-    omega (arith, c.requires is role label, ap (option_map_or (λ (a : AgentRow). reserved_in (same_path role) label a.total) 0) found)
+    omega (arith, c.requires is role label, ap (λ (o : Option AgentRow). option_map_or (λ (a : AgentRow). reserved_in (same_path role) label a.total) o 0) found)
 
 pub returns : goal.returns
 returns c =
@@ -45,6 +45,6 @@ returns c =
           omega (
             arith,
             c.release_total.ensures.used is test label,
-            ap (option_map_or (λ (a : AgentRow). reserved_in test label a.total) 0) found,
+            ap (λ (o : Option AgentRow). option_map_or (λ (a : AgentRow). reserved_in test label a.total) o 0) found,
           );
     }

@@ -10,8 +10,8 @@ use Rattle.std.proofs.Math.Seq.{map-set_same}
 use Rattle.std.proofs.lemmas.List.Quantifiers.{position-Some}
 use Rattle.std.proofs.lemmas.List.{map_push, length-map, get_or-map, take_more}
 use Rattle.std.proofs.lemmas.Map.Keys.{IsDistinct-head, IsDistinct-tail, IsDistinct-push}
-use Rattle.drf_bundle.specs.Quantities.{amount_of, is_in_order, plus, minus}
-use Rattle.drf_bundle.specs.QuantitiesLaws.{amount-plus, amount-minus}
+use Rattle.drf_bundle.specs.Quantities.{amount_of, is_in_order, plus}
+use Rattle.drf_bundle.specs.QuantitiesLaws.{amount-plus}
 use Rattle.drf_bundle.specs.declared.quantities.Entry.{Entry}
 use Rattle.drf_role.specs.Path.{same_path}
 use Rattle.drf_sorter.specs.declared.client.Client.{Client}
@@ -229,21 +229,23 @@ at_found P clients path i x found all = along clients i found.inside found.is al
         all_at y is h = subst (λ (z : Client). (same_path z.path path ≡ true → P (ranked z))) (sym is) h found.there
     along (y ∷ ys) (suc i) inside is all = along ys i (omega arith) is all.1
 
-pub discharged_is : (x : Client) (quantities rest : List Entry) → rest ≡ minus x.held quantities
+pub discharged_is : (x : Client) (quantities rest : List Entry)
+    → ((label : List ℕ) → amount_of rest label ≡ amount_of x.held label - amount_of quantities label)
     → ranked (record x { held = rest; count = x.count - 1 }) ≡ discharged quantities (ranked x)
 discharged_is x quantities rest is = λ i. record {
   path = x.path;
   active = x.active;
-  held = λ label. (ap (λ es. amount_of es label) is ∙ amount-minus x.held quantities label) i;
+  held = λ label. is label i;
   count = x.count - 1;
 }
 
-pub refunded_is : (x : Client) (quantities rest : List Entry) → rest ≡ minus x.held quantities
+pub refunded_is : (x : Client) (quantities rest : List Entry)
+    → ((label : List ℕ) → amount_of rest label ≡ amount_of x.held label - amount_of quantities label)
     → ranked (record x { held = rest }) ≡ refunded quantities (ranked x)
 refunded_is x quantities rest is = λ i. record {
   path = x.path;
   active = x.active;
-  held = λ label. (ap (λ es. amount_of es label) is ∙ amount-minus x.held quantities label) i;
+  held = λ label. is label i;
   count = x.count;
 }
 

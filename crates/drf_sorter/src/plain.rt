@@ -10,7 +10,8 @@ ghost use Rattle.drf_sorter.specs.Keys.{keys_of, key_by};
 
 use crate::candidate::Candidate;
 use crate::client::{Client, NodeClients};
-use crate::key::{Key, weighted_share};
+use crate::held::take_from;
+use crate::key::{Key, KeyCount, weighted_share};
 use crate::share::Share;
 use crate::sorter::Sorter;
 use drf_bundle::Quantities;
@@ -18,6 +19,7 @@ use drf_role::{ClientPath, NodePath, Role};
 use drf_rows::WeightRow;
 use indexmap::IndexSet;
 use std::alloc::{AllocError, Global};
+use std::mem;
 
 /// The weight of a node with no weight of its own, in thousandths.
 pub const DEFAULT_WEIGHT: u64 = 1000;
@@ -32,7 +34,7 @@ pub struct PlainSorter {
     weights: Vec<WeightRow>,
     queue: Vec<ClientPath>,
     next: usize,
-    made: u64,
+    made: KeyCount,
     ghost listed: { paths.keys ≡ map (λ c. c.path) clients.items },
     ghost distinct: { IsDistinct same_path (map (λ c. c.path) clients.items) } by { IsDistinct-prop same_path (map (λ c. c.path) clients.items) },
     ghost weighs: { IsTrue (are_weights weights.items) },
@@ -96,15 +98,6 @@ fn weights_of(alloc: Global, rows: &[WeightRow]) -> Result<Vec<WeightRow>, Alloc
     Ok(copies)
 }
 
-/// How many keys the candidates have together.
-fn keys_in(candidates: &[Candidate]) -> u64 {
-    let mut keys: u64 = 0;
-    for candidate in candidates {
-        keys = keys.saturating_add(candidate.keys.len() as u64);
-    }
-    keys
-}
-
 /// The paths of the candidates, in their order.
 fn paths(alloc: Global, candidates: Vec<Candidate>) -> Result<Vec<ClientPath>, AllocError>
     ensures { IfOk result (λ paths. paths.items ≡ map (λ c. c.path) candidates.items) }
@@ -146,7 +139,7 @@ impl PlainSorter {
     }
 
     /// The key of the node that ends with the part at `i`.
-    fn key(&self, path: &ClientPath, i: usize) -> Result<Key, AllocError>
+    fn key(&self, made: &mut KeyCount, path: &ClientPath, i: usize) -> Result<Key, AllocError>
         requires sound { IsSound (plain_content self.now) }
         requires short { length path.now ≤ 10 }
         requires in_path { i < length path.now }
@@ -161,18 +154,19 @@ impl PlainSorter {
             node: &node,
         };
         let weight = self.weight_of(&node);
-        Ok(Key::new(&self.total, weight, &clients, clients.count(), name))
+        let count = clients.count();
+        Ok(Key::new(made, &self.total, weight, &clients, count, name))
     }
 
     /// The client of that path, with its keys.
-    fn candidate(&self, path: &ClientPath) -> Result<Candidate, AllocError>
+    fn candidate(&self, made: &mut KeyCount, path: &ClientPath) -> Result<Candidate, AllocError>
         requires { IsSound (plain_content self.now) }
         ensures path { IfOk result (λ c. c.path ≡ path.now) }
         ensures keys { IfOk result (HasKeys (plain_standing self.now)) }
     {
         let mut keys = Vec::with_capacity(self.alloc(), path.len())?;
         for i in 0..path.len() {
-            keys.push(self.key(path, i)?)?;
+            keys.push(self.key(made, path, i)?)?;
         }
         Ok(Candidate {
             keys,
@@ -181,7 +175,7 @@ impl PlainSorter {
     }
 
     /// The clients that are to be served.
-    fn candidates(&self) -> Result<Vec<Candidate>, AllocError>
+    fn candidates(&self, made: &mut KeyCount) -> Result<Vec<Candidate>, AllocError>
         requires { IsSound (plain_content self.now) }
         ensures paths { IfOk result (λ all. map (λ c. c.path) all.items ≡ active_paths (plain_content self.now)) }
         ensures keys { IfOk result (λ all. All (HasKeys (plain_standing self.now)) all.items) }
@@ -189,7 +183,7 @@ impl PlainSorter {
         let mut candidates = Vec::new(self.alloc());
         for client in &self.clients {
             if client.active {
-                candidates.push(self.candidate(&client.path)?)?;
+                candidates.push(self.candidate(made, &client.path)?)?;
             }
         }
         Ok(candidates)
@@ -218,7 +212,7 @@ impl Sorter for PlainSorter {
             weights: Vec::new(alloc),
             queue: Vec::new(alloc),
             next: 0,
-            made: 0,
+            made: KeyCount::new(),
         })
     }
 
@@ -270,7 +264,7 @@ impl Sorter for PlainSorter {
         let _ = quantities.entries();
         if let Some(at) = self.row_of(path) {
             let client = &mut self.clients[at];
-            client.held.lower(quantities);
+            take_from(&mut client.held, quantities);
             client.count -= 1;
         }
     }
@@ -280,7 +274,7 @@ impl Sorter for PlainSorter {
         // Its labels are in order.
         let _ = quantities.entries();
         if let Some(at) = self.row_of(path) {
-            self.clients[at].held.lower(quantities);
+            take_from(&mut self.clients[at].held, quantities);
         }
     }
 
@@ -303,12 +297,13 @@ impl Sorter for PlainSorter {
     }
 
     fn fix_order(&mut self) -> Result<(), AllocError> {
-        let mut candidates = self.candidates()?;
+        let mut made = mem::replace(&mut self.made, KeyCount::new());
+        let candidates = self.candidates(&mut made);
+        self.made = made;
+        let mut candidates = candidates?;
         candidates.sort_unstable();
-        let made = keys_in(&candidates);
         self.queue = paths(self.alloc(), candidates)?;
         self.next = 0;
-        self.made = self.made.saturating_add(made);
         Ok(())
     }
 
@@ -323,7 +318,7 @@ impl Sorter for PlainSorter {
     }
 
     fn keys_made(&self) -> u64 {
-        self.made
+        self.made.made()
     }
 
     fn share(&self, node: &NodePath) -> Option<(Share, Share, u64)> {
@@ -348,7 +343,7 @@ impl Sorter for PlainSorter {
             weights: weights_of(alloc, &self.weights)?,
             queue: Vec::new(alloc),
             next: 0,
-            made: self.made,
+            made: self.made.copy(),
         })
     }
 }

@@ -68,6 +68,7 @@ pub trait Sorter: Sized + Drop {
         requires known { has_client (content self.old) path.now ≡ true }
         requires charged { HasChargeAt (content self.old) path.now quantities.now }
         ensures content { content self.new ≡ with_change (content self.old) path.now (discharged quantities.now) }
+        ensures queue { queue self.new ≡ queue self.old }
         ensures work { Adds COUNTED (work self.old) (work self.new) (length path.now) };
 
     /// A client gives these quantities back. The offer in which it got them still counts.
@@ -75,6 +76,7 @@ pub trait Sorter: Sized + Drop {
         requires known { has_client (content self.old) path.now ≡ true }
         requires held { HoldsAt (content self.old) path.now quantities.now }
         ensures content { content self.new ≡ with_change (content self.old) path.now (refunded quantities.now) }
+        ensures queue { queue self.new ≡ queue self.old }
         ensures work { Adds COUNTED (work self.old) (work self.new) (length path.now) };
 
     /// Sets the total of the cluster.

@@ -5,8 +5,7 @@ use Rattle.std.proofs.Common.{refl, sym, ap, subst, ◌∙◌, inl, inr, arith}
 use Rattle.std.proofs.lemmas.Bool.{cases_Bool}
 use Rattle.std.proofs.lemmas.List.Sums.{sum_by-cons}
 use Rattle.std.proofs.lemmas.Map.Keys.{IsDistinct-head, IsDistinct-tail}
-use Rattle.drf_bundle.specs.Quantities.{amount_of, minus}
-use Rattle.drf_bundle.specs.QuantitiesLaws.{amount-minus}
+use Rattle.drf_bundle.specs.Quantities.{amount_of}
 use Rattle.drf_bundle.specs.declared.quantities.Entry.{Entry}
 use Rattle.drf_role.specs.Text.{Text}
 use Rattle.drf_role.specs.Path.{Path, IsClientPath, begins_with, same_path}
@@ -27,16 +26,14 @@ use Rattle.drf_tree.proofs.TreeLemmas.{right_marked, shape_again, sums_after, tr
 
 -- ---- the sums
 
-pub is_gone : (gone s : Sum) (held : List Entry) → held ≡ minus s.held gone.held
+pub is_gone : (gone s : Sum) (held : List Entry)
+    → ((label : Text) → amount_of held label ≡ amount_of s.held label - amount_of gone.held label)
     → ((label : Text) → amount_of gone.held label ≤ amount_of s.held label)
     → gone.count ≤ s.count → gone.clients ≤ s.clients → gone.active ≤ s.active
     → IsMoved (amounts_in gone) none s
     (record s { held = held; count = s.count - gone.count; clients = s.clients - gone.clients; active = s.active - gone.active })
 is_gone gone s held is within count clients active = record {
-  held = λ label.
-      let at : amount_of held label ≡ amount_of s.held label - amount_of gone.held label =
-      ap (λ (es : List Entry). amount_of es label) is ∙ amount-minus s.held gone.held label in
-      omega (arith, at, within label);
+  held = λ label. omega (arith, is label, within label);
   count = omega (arith, count);
   clients = omega (arith, clients);
   active = omega (arith, active);

@@ -1,8 +1,7 @@
 -- A client gives back.
 use Rattle.std.specs.Prelude.{◌≡◌, ◌≤◌, ◌-◌, ℕ, true, List, Some}
-use Rattle.std.proofs.Common.{refl, ap, ◌∙◌, arith}
-use Rattle.drf_bundle.specs.Quantities.{amount_of, minus}
-use Rattle.drf_bundle.specs.QuantitiesLaws.{amount-minus}
+use Rattle.std.proofs.Common.{refl, arith}
+use Rattle.drf_bundle.specs.Quantities.{amount_of}
 use Rattle.drf_bundle.specs.declared.quantities.Entry.{Entry}
 use Rattle.drf_role.specs.Text.{Text}
 use Rattle.drf_role.specs.Path.{Path, same_path}
@@ -20,14 +19,12 @@ use Rattle.drf_tree.proofs.MoveLemmas.{Amounts, IsChange, IsMoved, none}
 abbrev pub of_lowered : List Entry → ℕ → Amounts
 of_lowered quantities offers = record { held = amount_of quantities; count = offers; clients = 0; active = 0 }
 
-pub is_lowered : (quantities : List Entry) (offers : ℕ) (s : Sum) (held : List Entry) → held ≡ minus s.held quantities
+pub is_lowered : (quantities : List Entry) (offers : ℕ) (s : Sum) (held : List Entry)
+    → ((label : Text) → amount_of held label ≡ amount_of s.held label - amount_of quantities label)
     → ((label : Text) → amount_of quantities label ≤ amount_of s.held label) → offers ≤ s.count
     → IsMoved (of_lowered quantities offers) none s (record s { held = held; count = s.count - offers })
 is_lowered quantities offers s held is within made = record {
-  held = λ label.
-      let at : amount_of held label ≡ amount_of s.held label - amount_of quantities label =
-      ap (λ es. amount_of es label) is ∙ amount-minus s.held quantities label in
-      omega (arith, at, within label);
+  held = λ label. omega (arith, is label, within label);
   count = omega (arith, made);
   clients = refl;
   active = refl;

@@ -11,6 +11,7 @@ ghost use Rattle.drf_tree.specs.Tree.{IsTreeOf};
 
 use crate::tree::{ROOT, Tree};
 use drf_bundle::Quantities;
+use drf_sorter::take_from;
 use std::alloc::AllocError;
 
 impl Tree {
@@ -70,7 +71,7 @@ impl Tree {
         let mut node = leaf;
         while node != ROOT {
             let sum = &mut self.sums[node];
-            sum.held.lower(quantities);
+            take_from(&mut sum.held, quantities);
             sum.count -= offers;
             self.marks.mark(node);
             node = self.parent(node);

@@ -23,7 +23,7 @@ pub(crate) struct Child {
 }
 
 impl Child {
-    /// A child with the key of its sum, which counts as computed. Every key of a tree is made here.
+    /// A child with the key of its sum, which counts as computed.
     pub(crate) fn new(
         marks: &mut Marks,
         node: usize,
@@ -40,9 +40,10 @@ impl Child {
         ensures made { marks.new.made ≡ min (marks.old.made + 1) (2 ^ 64 - 1) }
         ensures stale { marks.new.stale ≡ marks.old.stale }
     {
-        marks.count();
-        let key = Key::new(total, sum.weight, &sum.held, sum.count, name);
-        Child { key, node }
+        Child {
+            key: marks.key(total, sum, name),
+            node,
+        }
     }
 }
 

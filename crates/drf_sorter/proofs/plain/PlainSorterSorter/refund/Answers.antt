@@ -7,8 +7,8 @@ use Rattle.drf_sorter.specs.Content.{Holds, refunded}
 use Rattle.drf_sorter.proofs.ChangeLemmas.{place-found, at_found, known-found, refunded_is, changed_one, with_clients}
 use Rattle.drf_sorter.proofs.plain.PlainSorterSorter.refund.Goals as goal
 
-pub lower-requires : goal.lower-requires
-lower-requires c =
+pub take_from-requires : goal.take_from-requires
+take_from-requires c =
     let clients = c.args.self.now.clients.items in
     let x = c.index_mut.result.now in
     let found =
@@ -22,11 +22,11 @@ returns-in-Some-clause-content c =
     let sorter = c.args.self.now in
     let clients = sorter.clients.items in
     let x = c.index_mut.result.now in
-    let y : Client = record x { held = c.lower.new.self } in
+    let y : Client = record x { held = c.take_from.new.held } in
     let found =
     place-found clients c.args.path.now c.in-Some.at x c.in-Some.ensures
     c.index_mut.ensures.value in
-    let made = refunded_is x c.args.quantities.now c.lower.new.self c.lower.ensures in
+    let made = refunded_is x c.args.quantities.now c.take_from.new.held c.take_from.ensures.amounts in
     ap (with_clients sorter)
     (changed_one c.args.path.now (refunded c.args.quantities.now) clients c.in-Some.at x y sorter.distinct found made)
 

@@ -7,8 +7,8 @@ use Rattle.drf_sorter.specs.Content.{HasCharge, discharged}
 use Rattle.drf_sorter.proofs.ChangeLemmas.{place-found, at_found, known-found, discharged_is, changed_one, with_clients}
 use Rattle.drf_sorter.proofs.plain.PlainSorterSorter.undo_charge.Goals as goal
 
-pub lower-requires : goal.lower-requires
-lower-requires c =
+pub take_from-requires : goal.take_from-requires
+take_from-requires c =
     let clients = c.args.self.now.clients.items in
     let x = c.index_mut-client.result.now in
     let found =
@@ -34,11 +34,11 @@ returns-in-Some-clause-content c =
     let sorter = c.args.self.now in
     let clients = sorter.clients.items in
     let x = c.index_mut-client.result.now in
-    let y : Client = record x { held = c.lower.new.self; count = x.count - 1 } in
+    let y : Client = record x { held = c.take_from.new.held; count = x.count - 1 } in
     let found =
     place-found clients c.args.path.now c.in-Some.at x c.in-Some.ensures
     c.index_mut-client.ensures.value in
-    let made = discharged_is x c.args.quantities.now c.lower.new.self c.lower.ensures in
+    let made = discharged_is x c.args.quantities.now c.take_from.new.held c.take_from.ensures.amounts in
     ap (with_clients sorter)
     (changed_one c.args.path.now (discharged c.args.quantities.now) clients c.in-Some.at x y sorter.distinct found made)
 

@@ -33,8 +33,8 @@ loop-node-init c =
           c.parent-node.ensures c.mark.ensures.flags c.mark.ensures.work,
     )
 
-pub lower-requires : goal.lower-requires
-lower-requires c =
+pub take_from-requires : goal.take_from-requires
+take_from-requires c =
     let old = c.args.self.now in
     let so = c.loop-node.invariant.0 in
     let gone : Sum = c.replace-gone.result in
@@ -95,7 +95,7 @@ loop-node-preserved c =
     let marking = c.loop-node.invariant.1 in
     let gone : Sum = c.replace-gone.result in
     let s : Sum = c.index_mut-sum.result.now in
-    let t : Sum = record s { held = c.lower.new.self; count = s.count - gone.count; clients = s.clients - gone.clients; active = s.active - gone.active } in
+    let t : Sum = record s { held = c.take_from.new.held; count = s.count - gone.count; clients = s.clients - gone.clients; active = s.active - gone.active } in
     let least = least_read old c.args.leaf c.requires.least gone c.index_mut.result.now c.replace-gone.ensures.value c.index_mut.ensures.value in
     let above : c.parent-node-in-loop-node.result ≡ parent_at old.places.items c.loop-node.node =
     c.parent-node-in-loop-node.ensures ∙ ap (λ ps. parent_at ps.items c.loop-node.node) so.places in
@@ -103,7 +103,7 @@ loop-node-preserved c =
     let was = climb_was old c.loop-node.self c.requires.shape c.args.leaf c.loop-node.node (λ i. IsMoved (amounts_in gone) none) so c.loop-node-test.true s c.index_mut-sum.ensures.value in (
       climb_step old c.loop-node.self c.requires.shape c.args.leaf c.loop-node.node (λ i. IsMoved (amounts_in gone) none) so c.loop-node-test.true
           _ c.parent-node-in-loop-node.result s t above c.index_mut-sum.ensures.value
-          (is_gone gone s c.lower.new.self c.lower.ensures
+          (is_gone gone s c.take_from.new.held c.take_from.ensures.amounts
           (least.held c.loop-node.node s on was) (least.count c.loop-node.node s on was) (least.clients c.loop-node.node s on was)
           (least.active c.loop-node.node s on was))
           refl refl refl,

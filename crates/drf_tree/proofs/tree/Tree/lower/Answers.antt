@@ -15,8 +15,8 @@ loop-node-init c = (
       (λ i. IsMoved (of_lowered c.args.quantities.now c.args.offers) none),
 )
 
-pub lower-requires : goal.lower-requires
-lower-requires c =
+pub take_from-requires : goal.take_from-requires
+take_from-requires c =
     let old = c.args.self.now in
     let so = c.loop-node.invariant.0 in
     let s = c.index_mut-sum.result.now in
@@ -54,7 +54,7 @@ loop-node-preserved c =
     let so = c.loop-node.invariant.0 in
     let marking = c.loop-node.invariant.1 in
     let s : Sum = c.index_mut-sum.result.now in
-    let t : Sum = record s { held = c.lower.new.self; count = s.count - c.args.offers } in
+    let t : Sum = record s { held = c.take_from.new.held; count = s.count - c.args.offers } in
     let above : c.parent-node.result ≡ parent_at old.places.items c.loop-node.node =
     c.parent-node.ensures ∙ ap (λ ps. parent_at ps.items c.loop-node.node) so.places in
     let on = climb_on old c.loop-node.self c.requires.shape c.args.leaf c.loop-node.node
@@ -64,7 +64,7 @@ loop-node-preserved c =
       climb_step old c.loop-node.self c.requires.shape c.args.leaf c.loop-node.node
           (λ i. IsMoved (of_lowered c.args.quantities.now c.args.offers) none) so c.loop-node-test.true
           _ c.parent-node.result s t above c.index_mut-sum.ensures.value
-          (is_lowered c.args.quantities.now c.args.offers s c.lower.new.self c.lower.ensures
+          (is_lowered c.args.quantities.now c.args.offers s c.take_from.new.held c.take_from.ensures.amounts
           (c.requires.lowerable.held c.loop-node.node s on was) (c.requires.lowerable.count c.loop-node.node s on was))
           refl refl refl,
       marking_step old c.loop-node.self c.requires.shape c.args.leaf c.loop-node.node

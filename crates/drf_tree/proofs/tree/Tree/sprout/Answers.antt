@@ -32,6 +32,14 @@ returns-in_err-child-clause-tree c content of weighs nobody =
     let v = c.in_ok-node.ensures in
     counted_tree c.vacant.new.self c.first_child.new.self e.places e.sums e.families e.stale v.shape content (v.tree content of)
 
+pub returns-in_err-child-clause-err : goal.returns-in_err-child-clause-err
+returns-in_err-child-clause-err c i =
+    ap (λ ps. place_at ps.items i) c.in_err-child.ensures.places ∙ c.in_ok-node.ensures.places i
+
+pub returns-in_err-insert-clause-err : goal.returns-in_err-insert-clause-err
+returns-in_err-insert-clause-err c i =
+    ap (λ ps. place_at ps.items i) c.in_ok-child.ensures.places ∙ c.in_ok-node.ensures.places i
+
 pub index_mut-requires : goal.index_mut-requires
 index_mut-requires c =
     let e = c.in_ok-child.ensures in

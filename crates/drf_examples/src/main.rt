@@ -1,9 +1,11 @@
 //! Runs the worked examples of `data/`, and one of them over streams that are slow or fail, and tells of each whether
-//! what was written is, byte for byte, what it must be. So does it of events that are read and written again.
+//! what was written is, byte for byte, what it must be. So does it of events that are read and written again, and of some it tells
+//! how many keys were made for them.
 #![tactic(auto)]
 
 mod commands;
 mod events;
+mod keys;
 mod lines;
 mod rows;
 mod streams;
@@ -15,5 +17,6 @@ fn main(rt: HostRuntime) -> io::Result<()> {
     streams::run_all(&rt)?;
     events::run_all(&rt)?;
     lines::run_all(&rt)?;
+    keys::run_all(&rt)?;
     commands::run_all(&rt)
 }

@@ -6,13 +6,13 @@ use Rattle.std.proofs.lemmas.Bool.{false≢true, cases_Bool}
 use Rattle.std.proofs.lemmas.List.{map_push}
 use Rattle.std.proofs.lemmas.List.Sums.{sum_by-cons, sum_by_push}
 use Rattle.std.proofs.lemmas.Map.Keys.{IsDistinct-head, IsDistinct-tail, IsDistinct-push}
-use Rattle.drf_bundle.specs.Quantities.{amount_of, covers}
-use Rattle.drf_bundle.specs.QuantitiesLaws.{covers_at}
+use Rattle.drf_bundle.specs.Quantities.{amount_of, covers, is_in_order, plus}
+use Rattle.drf_bundle.specs.QuantitiesLaws.{amount-plus, covers_at}
 use Rattle.drf_bundle.specs.declared.quantities.Entry.{Entry}
 use Rattle.drf_role.specs.Path.{Path, same_path}
 use Rattle.drf_role.specs.PathLaws.{same_path-true, same_path-swap}
 use Rattle.drf_role.specs.Text.{Text}
-use Rattle.drf_sorter.specs.Content.{Content, Ranked, IsSound, charged, has_client, with_change, with_client}
+use Rattle.drf_sorter.specs.Content.{Content, Ranked, HasCharge, HasChargeAt, Holds, HoldsAt, IsSound, activated, charged, discharged, empty, has_client, refunded, with_change, with_client, with_weight}
 use Rattle.drf_vectors.specs.declared.sorters.Book.{Book}
 use Rattle.drf_vectors.specs.Booked.{IsBooked}
 
@@ -148,3 +148,109 @@ booked_changed content old new path change held offers booked growth room =
       offers = omega (arith, booked.offers, room.offers, sum_changed path change (λ c. c.count) offers growth.offers content.clients distinct);
       few = room.few;
     }
+
+-- ---- each call
+
+pub booked_empty : (book : Book) → book.clients.items ≡ [] → book.total ≡ [] → book.held ≡ [] → book.offers ≡ 0 → IsBooked empty book
+booked_empty book clients total held offers = record {
+  clients = sym clients;
+  distinct = rw clients nothing_distinct;
+  total = sym total;
+  small = λ label. rw total (omega arith);
+  within = rw (total, held) refl;
+  held = λ label. omega arith;
+  offers = omega arith;
+  few = rw offers (omega arith);
+}
+  where
+    nothing_distinct : IsDistinct same_path []
+    unfolding IsDistinct
+    nothing_distinct = tt
+
+pub booked_activated : (content : Content) (book : Book) (path : Path) (active : Bool) → IsBooked content book
+    → IsBooked (with_change content path (activated active)) book
+booked_activated content book path active booked =
+    booked_changed content book book path (activated active) (λ label. 0) 0 booked
+    (record { path = λ c. refl; held = λ label c. omega arith; offers = λ c. omega arith })
+    (record { clients = refl; total = refl; within = booked.within; held = λ label. omega arith; offers = omega arith; few = booked.few })
+
+pub booked_weighted : (content : Content) (book : Book) (role : Path) (weight : ℕ) → IsBooked content book
+    → IsBooked (with_weight content role weight) book
+booked_weighted content book role weight booked = record {
+  clients = booked.clients; distinct = booked.distinct; total = booked.total; small = booked.small;
+  within = booked.within; held = booked.held; offers = booked.offers; few = booked.few;
+}
+
+pub booked_total : (content : Content) (book : Book) (copy total : List Entry) → copy ≡ total → IsBooked content book
+    → ((label : Text) → amount_of total label < 2 ^ 32) → IsTrue (covers total book.held)
+    → IsBooked (record content { total = copy }) (record book { total = total })
+booked_total content book copy total same booked small within = record {
+  clients = booked.clients; distinct = booked.distinct; total = same; small = small;
+  within = within; held = booked.held; offers = booked.offers; few = booked.few;
+}
+
+pub booked_charged : (content : Content) (book : Book) (path : Path) (amounts held : List Entry) → IsBooked content book
+    → held ≡ plus book.held amounts → IsTrue (is_in_order amounts) → IsTrue (covers book.total held) → book.offers < 1000
+    → IsBooked (with_change content path (charged amounts)) (record book { held = held; offers = book.offers + 1 })
+booked_charged content book path amounts held booked is ordered fits few =
+    booked_changed content book (record book { held = held; offers = book.offers + 1 }) path (charged amounts) (amount_of amounts) 1 booked
+    (record { path = λ c. refl; held = λ label c. omega arith; offers = λ c. omega arith })
+    (record {
+      clients = refl;
+      total = refl;
+      within = fits;
+      held = λ label. rw is (omega (arith, amount-plus book.held amounts label ordered));
+      offers = omega arith;
+      few = omega (arith, few);
+    })
+
+pub known_changed : (content : Content) (path : Path) (change : Ranked → Ranked) → ((c : Ranked) → (change c).path ≡ c.path)
+    → has_client (with_change content path change) path ≡ has_client content path
+known_changed content path change keeps =
+    sym (known_at (map (changed path change) content.clients) path)
+    ∙ ap (list_any (λ p. same_path p path)) (paths_stay path change keeps content.clients)
+    ∙ known_at content.clients path
+
+-- a change that takes a charge back, with or without its count
+pub record IsBack (amounts : List Entry) (back : Ranked → Ranked) : Type 0 where
+  pub path : (c : Ranked) → (back c).path ≡ c.path
+  pub held : (label : Text) (c : Ranked) → (back (charged amounts c)).held label ≤ c.held label
+  pub offers : (c : Ranked) → (back c).count ≤ c.count
+
+pub discharging : (amounts : List Entry) → IsBack amounts (discharged amounts)
+discharging amounts = record { path = λ c. refl; held = λ label c. omega arith; offers = λ c. omega arith }
+
+pub refunding : (amounts : List Entry) → IsBack amounts (refunded amounts)
+refunding amounts = record { path = λ c. refl; held = λ label c. omega arith; offers = λ c. omega arith }
+
+pub booked_back : (content : Content) (old between : Book) (path : Path) (amounts held : List Entry) (back : Ranked → Ranked)
+    → IsBooked content old → IsBooked (with_change content path (charged amounts)) between → IsBack amounts back → held ≡ old.held
+    → IsBooked (with_change (with_change content path (charged amounts)) path back) (record between { held = held })
+booked_back content old between path amounts held back before charge is same =
+    let charged_clients = map (changed path (charged amounts)) content.clients in
+    let distinct = subst (IsDistinct same_path) (sym before.clients) before.distinct in
+    let charged_distinct = subst (IsDistinct same_path) (sym charge.clients) charge.distinct in
+    record {
+      clients = paths_stay path back is.path charged_clients ∙ charge.clients;
+      distinct = charge.distinct;
+      total = charge.total;
+      small = charge.small;
+      within = subst (λ (es : List Entry). IsTrue (covers es held)) (sym before.total ∙ charge.total)
+      (subst (λ (es : List Entry). IsTrue (covers old.total es)) (sym same) before.within);
+      held = λ label.
+      let once = sum_changed path (λ c. back (charged amounts c)) (λ c. c.held label) 0 (λ c. omega (arith, is.held label c)) content.clients distinct in
+      let one : sum_by (λ (c : Ranked). c.held label) (map (changed path back) charged_clients) ≡ sum_by (λ (c : Ranked). c.held label) (map (changed path (λ c. back (charged amounts c))) content.clients) = ap (sum_by (λ (c : Ranked). c.held label)) (both path amounts back content.clients) in
+      rw same (omega (arith, one, once, before.held label));
+      offers = omega (arith, charge.offers, sum_changed path back (λ c. c.count) 0 (λ c. omega (arith, is.offers c)) charged_clients charged_distinct);
+      few = charge.few;
+    }
+
+-- the client that was charged holds it
+pub has_charge : (content : Content) (path : Path) (amounts : List Entry)
+    → HasChargeAt (with_change content path (charged amounts)) path amounts
+has_charge content path amounts =
+    all_changed path (charged amounts) (HasCharge amounts) (λ c. record { held = λ label. omega arith; count = omega arith }) content.clients
+
+pub holds : (content : Content) (path : Path) (amounts : List Entry)
+    → HoldsAt (with_change content path (charged amounts)) path amounts
+holds content path amounts = all_changed path (charged amounts) (Holds amounts) (λ c label. omega arith) content.clients

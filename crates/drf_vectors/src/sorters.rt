@@ -1,8 +1,8 @@
 //! Sorters: calls, each after `; `, made of the sorter of the program, and of one that forms each sum anew. Clients are written
 //! `role:framework`, and amounts `cpus=1500,mem=10`, in thousandths.
-ghost use Rattle.std.specs.Prelude.{◌≡◌, ◌<◌, ◌^◌, List, ℕ, IfOk, OnOk};
+ghost use Rattle.std.specs.Prelude.{◌≡◌, ◌<◌, ◌^◌, List, ℕ, true, IfOk, OnOk};
 ghost use Rattle.drf_bundle.specs.Quantities.{amount_of, covers};
-ghost use Rattle.drf_sorter.specs.Content.{IsSound, charged, with_change};
+ghost use Rattle.drf_sorter.specs.Content.{IsSound, charged, has_client, with_change};
 ghost use Rattle.drf_vectors.specs.Booked.{IsBooked};
 
 use crate::halves;
@@ -140,6 +140,7 @@ fn charge<S: Sorter>(
 ) -> Result<()>
     requires booked { IsBooked (S.content sorter.old) book.old }
     requires few { (label : List ℕ) → amount_of amounts.now label < 2 ^ 32 }
+    ensures known { OnOk result (has_client (S.content sorter.old) path.now ≡ true) }
     ensures content { OnOk result (S.content sorter.new ≡ with_change (S.content sorter.old) path.now (charged amounts.now)) }
     ensures booked { OnOk result (IsBooked (S.content sorter.new) book.new) }
 {

@@ -8,7 +8,7 @@ ghost use Rattle.drf_vectors.specs.Booked.{IsBooked};
 use crate::halves;
 use crate::paths::{client, node};
 use crate::quantities::read;
-use anyhow::{Result, bail, ensure};
+use anyhow::{Result, bail};
 use drf_bundle::Quantities;
 use drf_role::{ClientPath, Role};
 use drf_sorter::{PlainSorter, Share, Sorter};
@@ -34,6 +34,7 @@ struct Told {
 }
 
 fn append_clients(answers: &mut String, clients: &[ClientPath]) -> Result<()> {
+    answers.push_str("order")?;
     for client in clients {
         write!(
             answers,
@@ -42,7 +43,7 @@ fn append_clients(answers: &mut String, clients: &[ClientPath]) -> Result<()> {
             client.framework().text()
         )?;
     }
-    Ok(answers.push(';')?)
+    Ok(answers.push_str("; ")?)
 }
 
 /// How many keys were made since the last order, and whether these are no more than that number.
@@ -50,7 +51,7 @@ fn append_keys(told: &mut Told, made: u64, most: u64) -> Result<()> {
     let keys = made.saturating_sub(told.made);
     told.made = made;
     let is_within = if keys <= most { "within" } else { "ABOVE" };
-    Ok(write!(told.keys, " {keys} {is_within} {most}")?)
+    Ok(write!(told.keys, "{keys} {is_within} {most}; ")?)
 }
 
 fn append_order<S: Sorter>(told: &mut Told, sorter: &mut S, most: &str) -> Result<()>
@@ -74,10 +75,10 @@ fn append_copy<S: Sorter>(told: &mut Told, sorter: &S, most: &str) -> Result<()>
 
 fn append_shares(answers: &mut String, shares: Option<(Share, Share, u64)>) -> Result<()> {
     let Some((share, weighted, count)) = shares else {
-        return Ok(answers.push_str(" none;")?);
+        return Ok(answers.push_str("no share; ")?);
     };
     let ((part, whole), (weighted, by)) = (share.lowest(), weighted.lowest());
-    Ok(write!(answers, " {part}/{whole} {weighted}/{by} {count};")?)
+    Ok(write!(answers, "share {part}/{whole} {weighted}/{by} {count}; ")?)
 }
 
 fn append_share<S: Sorter>(alloc: Global, told: &mut Told, sorter: &S, text: &str) -> Result<()>
@@ -99,7 +100,9 @@ fn add<S: Sorter>(sorter: &mut S, book: &mut Book, path: ClientPath) -> Result<(
     requires { IsBooked (S.content sorter.old) book.old }
     ensures { OnOk result (IsBooked (S.content sorter.new) book.new) }
 {
-    ensure!(!book.clients.contains(&path), "known client");
+    if book.clients.contains(&path) {
+        bail!("known client");
+    }
     book.clients.push(path.copy()?)?;
     Ok(sorter.add(path)?)
 }
@@ -108,7 +111,9 @@ fn set_active<S: Sorter>(sorter: &mut S, book: &Book, path: &ClientPath, active:
     requires { IsBooked (S.content sorter.old) book.now }
     ensures { OnOk result (IsBooked (S.content sorter.new) book.now) }
 {
-    ensure!(book.clients.contains(path), "no client");
+    if !book.clients.contains(path) {
+        bail!("no client");
+    }
     sorter.set_active(path, active);
     Ok(())
 }
@@ -118,7 +123,9 @@ fn set_total<S: Sorter>(sorter: &mut S, book: &mut Book, total: Quantities) -> R
     requires few { (label : List ℕ) → amount_of total label < 2 ^ 32 }
     ensures { OnOk result (IsBooked (S.content sorter.new) book.new) }
 {
-    ensure!(fits(&total, &book.held), "too little");
+    if !fits(&total, &book.held) {
+        bail!("too little");
+    }
     sorter.set_total(total.copy()?);
     book.total = total;
     Ok(())
@@ -128,7 +135,9 @@ fn set_weight<S: Sorter>(sorter: &mut S, book: &Book, role: &Role, weight: u64) 
     requires { IsBooked (S.content sorter.old) book.now }
     ensures { OnOk result (IsBooked (S.content sorter.new) book.now) }
 {
-    ensure!(1 <= weight && weight <= 1_000_000, "no weight");
+    if weight == 0 || weight > 1_000_000 {
+        bail!("no weight");
+    }
     Ok(sorter.set_weight(role, weight)?)
 }
 
@@ -144,12 +153,18 @@ fn charge<S: Sorter>(
     ensures content { OnOk result (S.content sorter.new ≡ with_change (S.content sorter.old) path.now (charged amounts.now)) }
     ensures booked { OnOk result (IsBooked (S.content sorter.new) book.new) }
 {
-    ensure!(book.clients.contains(path), "no client");
+    if !book.clients.contains(path) {
+        bail!("no client");
+    }
     // The proof learns that the amounts are in order by this call alone.
     let _ = amounts.entries();
     let held = book.held.plus(amounts)?;
-    ensure!(fits(&book.total, &held), "too much");
-    ensure!(book.offers < 1000, "too many offers");
+    if !fits(&book.total, &held) {
+        bail!("too much");
+    }
+    if book.offers >= 1000 {
+        bail!("too many offers");
+    }
     sorter.charge(path, amounts)?;
     book.held = held;
     book.offers += 1;
@@ -310,13 +325,10 @@ fn told_by<S: Sorter>(alloc: Global, calls: &str) -> Result<Told> {
     Ok(told)
 }
 
+/// What is answered of the sorter of the program, how many keys it made, and whether the same is answered of a list.
 pub fn answers(alloc: Global, calls: &str) -> Result<String> {
     let tree = told_by::<TreeSorter>(alloc, calls)?;
     let plain = told_by::<PlainSorter>(alloc, calls)?;
-    let is_same = tree.answers == plain.answers;
-    Ok(format!(in alloc;
-        "{} keys{} {is_same}",
-        tree.answers.as_str(),
-        tree.keys.as_str()
-    )?)
+    let is_equal = tree.answers == plain.answers;
+    Ok(format!(in alloc; "{}keys {}equal {is_equal}", tree.answers.as_str(), tree.keys.as_str())?)
 }

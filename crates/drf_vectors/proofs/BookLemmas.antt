@@ -16,9 +16,6 @@ use Rattle.drf_sorter.specs.Content.{Content, Ranked, HasCharge, HasChargeAt, Ho
 use Rattle.drf_vectors.specs.declared.sorters.Book.{Book}
 use Rattle.drf_vectors.specs.Booked.{IsBooked}
 
-paths : List Ranked → List Path
-paths clients = map (λ c. c.path) clients
-
 -- ---- who is known
 
 known_at : (clients : List Ranked) (path : Path) → list_any (λ p. same_path p path) (map (λ c. c.path) clients) ≡ list_any (λ c. same_path c.path path) clients
@@ -54,11 +51,12 @@ module _ (path : Path) (change : Ranked → Ranked) where
         | inl same ↦
             let far = subst (λ (p : Path). AllByRecursion (λ q. same_path p q ≡ false) (map (λ (d : Ranked). d.path) cs)) (same_path-true c.path path same)
             (IsDistinct-head same_path c.path (map (λ (d : Ranked). d.path) cs) distinct) in
-            let after = sum_by-cons f (change c) cs in
-            rw (same, others_stay cs far) (omega (arith, before, after, grows c))
+            let shape : map changed (c ∷ cs) ≡ change c ∷ cs = rw same (ap (λ (ds : List Ranked). change c ∷ ds) (others_stay cs far)) in
+            omega (arith, ap (sum_by f) shape, before, sum_by-cons f (change c) cs, grows c)
         | inr other ↦
-            let after = sum_by-cons f c (map changed cs) in
-            rw other (omega (arith, before, after, sum_changed f more grows cs (IsDistinct-tail same_path c.path (map (λ (d : Ranked). d.path) cs) distinct)))
+            let shape : map changed (c ∷ cs) ≡ c ∷ map changed cs = rw other refl in
+            let rest = sum_changed f more grows cs (IsDistinct-tail same_path c.path (map (λ (d : Ranked). d.path) cs) distinct) in
+            omega (arith, ap (sum_by f) shape, before, sum_by-cons f c (map changed cs), rest)
       ]
 
   path_stays : ((c : Ranked) → (change c).path ≡ c.path) → (b : Bool) (c : Ranked) → (cond b (change c) c).path ≡ c.path
@@ -151,21 +149,21 @@ booked_changed content old new path change held offers booked growth room =
 
 -- ---- each call
 
+nothing_distinct : IsDistinct same_path []
+unfolding IsDistinct
+nothing_distinct = tt
+
 pub booked_empty : (book : Book) → book.clients.items ≡ [] → book.total ≡ [] → book.held ≡ [] → book.offers ≡ 0 → IsBooked empty book
 booked_empty book clients total held offers = record {
   clients = sym clients;
-  distinct = rw clients nothing_distinct;
+  distinct = subst (IsDistinct same_path) (sym clients) nothing_distinct;
   total = sym total;
   small = λ label. rw total (omega arith);
   within = rw (total, held) refl;
   held = λ label. omega arith;
   offers = omega arith;
-  few = rw offers (omega arith);
+  few = omega (arith, offers);
 }
-  where
-    nothing_distinct : IsDistinct same_path []
-    unfolding IsDistinct
-    nothing_distinct = tt
 
 pub booked_activated : (content : Content) (book : Book) (path : Path) (active : Bool) → IsBooked content book
     → IsBooked (with_change content path (activated active)) book

@@ -113,6 +113,7 @@ IsKept-ended old new agents sum number ending h back stand kept one = record {
       (subst (AllByRecursion (IsCovered (holdings_of old))) stand kept.consistent.covered);
   total = kept.total ∙ sym (ap (λ (r : Rows). cluster_total r.agents) one.others);
   clients = kept.clients ∙ sym (ap (λ (r : Rows). length (clients_of r)) one.others);
+  few = subst (λ (agents : List AgentRow). length agents ≤ 4096) (sym (ap (λ (r : Rows). r.agents) one.others)) kept.few;
 }
 
 pub ended_from : (old new : Rows) (ending : Ending) (h : Holding) (held : Held)
@@ -168,7 +169,7 @@ module _ (t : Inside) (entries : List (Text × Agent)) (held : Standing) (filter
   abbrev pub rows_accepted : Rows
   rows_accepted = rows_of entries t.frameworks.entries held filters t.weights.entries t.quota.limits t.clock t.next_offer t.accepted
 
-  same_offer : x ≡ o
+  pub same_offer : x ≡ o
   unfolding rows_of
   same_offer =
       let both : ◌≡◌ {A = Option OfferRow} (Some x) (Some o) = sym started.found ∙ found in
@@ -213,6 +214,7 @@ module _ (t : Inside) (entries : List (Text × Agent)) (held : Standing) (filter
         free = known;
         total = kept.total;
         clients = kept.clients;
+        few = kept.few;
       })
 
 -- ---- as the fields stand
@@ -232,7 +234,7 @@ module _ (t : Inside) (entries : List (Text × Agent)) (held : Standing) (ending
       ap (map agent_row) freed_there.same ∙ rows-freed freed_there.kept taken.agent taken.bundle t.agents.entries in
       λ i. record (rows_with t held) { agents = sym agents i }
 
-  without_it : IsWithoutOne (rows_in t) rows_ended ending (holding_of taken)
+  pub without_it : IsWithoutOne (rows_in t) rows_ended ending (holding_of taken)
   without_it =
       subst (λ (r : Rows). IsWithoutOne (rows_in t) r ending (holding_of taken)) same_rows
       (without_taken t held ending taken kept.consistent lost)

@@ -12,7 +12,7 @@ use Rattle.drf_tables.specs.Inside.{CountsIf, IsKept, rows_in, rows_of}
 use Rattle.drf_tables.specs.Stored.{Stored}
 use Rattle.drf_tables.proofs.Changes.{agents_apart}
 use Rattle.drf_tables.proofs.Moved.{rows-other, kept-other}
-use Rattle.drf_tables.proofs.Recounted.{agent_fits, counts-other, other_fits}
+use Rattle.drf_tables.proofs.Running.{agent_fits, counts-other, other_fits}
 use Rattle.drf_tables.proofs.tables.Tables.set_total.Goals as goal
 
 pub release_agent-requires : goal.release_agent-requires

@@ -19,6 +19,7 @@ use Rattle.drf_rows.specs.Holdings.{Holding, of_offer, of_task, holdings_of, par
 use Rattle.drf_rows.specs.Offers.{CanStart, left_of_offer, offer_at, task_of}
 use Rattle.drf_rows.specs.TaskLaws.{units-covers_all}
 use Rattle.drf_rows.specs.Tasks.{Start, uses}
+use Rattle.drf_rows.specs.declared.rows.AgentRow.{AgentRow}
 use Rattle.drf_rows.specs.declared.rows.FilterRow.{FilterRow}
 use Rattle.drf_rows.specs.declared.rows.OfferRow.{OfferRow}
 use Rattle.drf_rows.specs.declared.rows.TaskRow.{TaskRow}

@@ -75,8 +75,8 @@ invariant_of-self-2 c =
     let after : Rows = with_offers (rows_in t) offers in
     let all : CountsAll after c.args.quota = subst (λ (s : Stored). CountsAll (with_offers s.rows offers) c.args.quota) (sym c.self.view_is) c.requires.quota in
     let own : t.quota.limits ≡ after.limits = limits-with_offers t offers in
-    let limits : c.take_over.new.quota.limits ≡ t.quota.limits = c.take_over.ensures.limits after all own ∙ sym own in
-    let counts : CountsIf c.take_over.result after c.take_over.new.quota = c.take_over.ensures.counts after all in
+    let limits : c.take_over-self-inside.new.quota.limits ≡ t.quota.limits = c.take_over-self-inside.ensures.limits after all own ∙ sym own in
+    let counts : CountsIf c.take_over-self-inside.result after c.take_over-self-inside.new.quota = c.take_over-self-inside.ensures.counts after all in
     record {
       kept = rw (long, limits, rows) (
           IsKept-with_offers (rows_in t) t.agents.entries c.put_lefts.new.agents.entries t.total t.clients offers
@@ -97,7 +97,7 @@ returns-clause-ok c =
     let after : Rows = with_offers (rows_in t) offers in
     let all : CountsAll after c.args.quota = subst (λ (s : Stored). CountsAll (with_offers s.rows offers) c.args.quota) (sym c.self.view_is) c.requires.quota in
     let own : t.quota.limits ≡ after.limits = limits-with_offers t offers in
-    let limits : c.take_over.new.quota.limits ≡ t.quota.limits = c.take_over.ensures.limits after all own ∙ sym own in
+    let limits : c.take_over-self-inside.new.quota.limits ≡ t.quota.limits = c.take_over-self-inside.ensures.limits after all own ∙ sym own in
     rw (long, limits) (
     rows_of-offers t c.put_lefts.new.agents.entries c.count_offers.new.frameworks.entries
     c.append.new.self offers c.put_lefts.ensures.rows counted c.in_ok-append.ensures.ok c.append.ensures.tasks

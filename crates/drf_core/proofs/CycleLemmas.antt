@@ -1,6 +1,6 @@
 -- The turns of all agents, and the cycle that they are.
 use Rattle.std.proofs.Common.{◌≡◌, ℕ, zero, suc, ◌+◌, ◌*◌, ◌<◌, ◌≤◌, List, [], ◌∷◌, Option, Some, None, true, false, Bool, refl, sym, ap, ◌∙◌, length, cond, arith, drop, add-one, subst}
-use Rattle.std.specs.Prelude.{◌^◌, max, slice_get, filter}
+use Rattle.std.specs.Prelude.{◌^◌, ◌≢◌, is_some, max, slice_get, filter}
 use Rattle.std.specs.Option.{option_map_or}
 use Rattle.std.proofs.Math.Seq.{drop-append_seam}
 use Rattle.std.proofs.lemmas.List.{length-map}
@@ -24,7 +24,10 @@ use Rattle.drf_core.specs.Kept.{IsKept}
 use Rattle.drf_core.specs.Drafting.{IsDrafting, turn_at, turns_of}
 use Rattle.drf_core.proofs.Welcome.{early_cycle}
 use Rattle.drf_core.proofs.ContentOrder.{length-turn_order}
+use Rattle.drf_gates.specs.Quota.{Allowance}
+use Rattle.drf_core.specs.Entitling.{IsQuotaOf}
 use Rattle.drf_tables.specs.DraftLaws.{offers-with_offers}
+use Rattle.drf_tables.specs.Recounting.{CountsAll}
 
 -- what is left of a list from a place on begins with the element there
 pub record BeginsAt {A : Type 0} (xs : List A) (i : ℕ) : Type 0 where
@@ -188,3 +191,14 @@ turns_of-cycle rows tables at clock moment same = ap turns_of same ∙ ap (λ n.
 
 pub new_offers-cycle : (rows tables : Rows) (clock : ℕ) (after : Rows) → tables ≡ record rows { clock = clock } → new_offers tables after ≡ new_offers rows after
 new_offers-cycle rows tables clock after same = ap (λ (r : Rows). new_offers r after) same
+
+-- ---- what the drafts' quota counts
+
+pub counts_all : (rows : Rows) (quota : Option Allowance) → IsQuotaOf rows quota → CountsAll rows quota
+counts_all rows None none = tt
+counts_all rows (Some a) is = is
+
+-- where any role has a limit, there is a quota
+pub is_counting : (rows : Rows) (quota : Option Allowance) → IsQuotaOf rows quota → rows.limits ≢ [] → is_some quota ≡ true
+is_counting rows None none some = absurd (some none)
+is_counting rows (Some a) is some = refl

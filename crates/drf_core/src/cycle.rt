@@ -1,7 +1,8 @@
 //! The allocation cycle. Its offers are drafts until the last agent had its turn: the sorter is charged with them, and a copy of
-//! the quota counts them, while of the rows the clock alone has moved. Where memory ends, the copy is dropped, the charges are
-//! taken back and so is the clock, which needs none.
-ghost use Rattle.std.specs.Prelude.{◌≡◌, true, ◌<◌, ◌≤◌, ◌+◌, ◌*◌, None, [], length, map, slice_get, is_some, ◌&&◌, Some, IfOk, OnOk, OnErr};
+//! the quota counts them, while of the rows the clock alone has moved. The tables take that copy over with the offers, so that
+//! nothing is counted anew at the next cycle. Where memory ends, the copy is dropped, the charges are taken back and so is the
+//! clock, which needs none.
+ghost use Rattle.std.specs.Prelude.{◌≡◌, ◌≢◌, true, ◌<◌, ◌≤◌, ◌+◌, ◌*◌, None, [], length, map, slice_get, is_some, ◌&&◌, Some, IfOk, OnOk, OnErr};
 ghost use Rattle.std.specs.List.{AllByRecursion};
 ghost use Rattle.drf_role.specs.Path.{Path, role_part, framework_part};
 ghost use Rattle.drf_rows.specs.Cycle.{is_allocatable, with_offer};
@@ -182,6 +183,7 @@ fn turns<S: Sorter>(tables: &Tables, sorter: &mut S, drafts: &mut Drafts) -> Res
     ensures drafting { IsDrafting (S.content sorter.new) tables.now.rows drafts.new.offers.items }
     ensures turns { OnOk result (with_offers tables.now.rows drafts.new.offers.items ≡ turns_of tables.now.rows) }
     ensures left { OnOk result (HasLeft tables.now.rows drafts.new.offers.items drafts.new.lefts.items (length tables.now.rows.agents)) }
+    ensures quota { OnOk result (IsQuotaOf (with_offers tables.now.rows drafts.new.offers.items) drafts.new.quota) }
     ensures work { OnOk result (AddsDrafts S.COUNTED (S.work sorter.old) (S.work sorter.new) drafts.old.offers.items drafts.new.offers.items) }
 {
     for place in 0..tables.agent_count() {
@@ -255,6 +257,7 @@ fn offer_all<S: Sorter>(
     ensures lines { IfOk result (λ lines. lines.items ≡ map line_told (new_offers tables.old.rows (turns_of tables.old.rows))) }
     ensures err { OnErr result (tables.new.rows ≡ tables.old.rows) }
     ensures drafting { OnErr result (IsDrafting (S.content sorter.new) tables.old.rows drafts.new.offers.items) }
+    ensures counted { OnOk result (tables.old.rows.limits ≢ [] → tables.new.counted ≡ true) }
     ensures work { OnOk result (Adds S.COUNTED (S.work sorter.old) (S.work sorter.new) (nodes_of (offered_to (new_offers tables.old.rows (turns_of tables.old.rows))))) }
 {
     tables.settle()?;
@@ -262,7 +265,8 @@ fn offer_all<S: Sorter>(
     turns(tables, sorter, drafts)?;
     let lines = offer_lines(alloc, &drafts.offers)?;
     let lefts = mem::replace(&mut drafts.lefts, Vec::new(alloc));
-    tables.commit(&mut drafts.offers, lefts)?;
+    let quota = drafts.quota.take();
+    tables.commit(&mut drafts.offers, lefts, quota)?;
     Ok(lines)
 }
 
@@ -279,6 +283,7 @@ pub fn cycle<S: Sorter>(
     ensures lines { IfOk result (λ lines. lines.items ≡ map line_told (new_offers tables.old.rows (effect tables.old.rows (Cycle at)))) }
     ensures ok { OnOk result (StandAt (effect tables.old.rows (Cycle at)) tables.new.rows (S.content sorter.new)) }
     ensures err { OnErr result (StandAt tables.old.rows tables.new.rows (S.content sorter.new)) }
+    ensures counted { OnOk result (tables.old.rows.limits ≢ [] → tables.new.counted ≡ true) }
     ensures work { OnOk result (Adds S.COUNTED (S.work sorter.old) (S.work sorter.new) (nodes_of (touched tables.old.rows (Cycle at)))) }
 {
     // The moment is put back if memory ends.

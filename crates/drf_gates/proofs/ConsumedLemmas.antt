@@ -1,22 +1,24 @@
 -- What roles consume of a bundle, resource by resource.
-use Rattle.std.specs.Prelude.{◌≡◌, ℕ, ◌+◌, ◌<◌, ◌^◌, Bool, true, false, not, ◌&&◌, List, [], ◌∷◌, length, drop, Result, Ok, Err, OnOk}
+use Rattle.std.specs.Prelude.{◌≡◌, ℕ, ◌+◌, ◌<◌, ◌≤◌, ◌^◌, Bool, true, false, not, ◌&&◌, List, [], ◌∷◌, length, take, drop, sum_by, Result, Ok, Err, OnOk}
 use Rattle.std.proofs.Common.{refl, sym, ap, subst, ◌∙◌, cond, arith, get_or, add-one, drop-cons}
+use Rattle.std.proofs.lemmas.List.{take-append-drop}
 use Rattle.std.proofs.lemmas.List.Elements.{All-get_or}
+use Rattle.std.proofs.lemmas.List.Sums.{sum_by-append}
 use Rattle.drf_role.specs.Text.{Text, same_text}
-use Rattle.drf_role.specs.TextLaws.{same_from_test}
+use Rattle.drf_role.specs.TextLaws.{same_from_test, same_itself}
 use Rattle.drf_role.specs.Path.{Path}
 use Rattle.drf_role.specs.Parts.{parts_of, text_of}
 use Rattle.drf_bundle.specs.Value.{Thousandths, units_in}
 use Rattle.drf_bundle.specs.Quantities.{amount_of, with_amount}
 use Rattle.drf_bundle.specs.QuantitiesLaws.{amount-with}
-use Rattle.drf_bundle.specs.Bundle.{IsResource, IsBundle, is_default, same_key}
+use Rattle.drf_bundle.specs.Bundle.{IsResource, IsBundle, is_default, key_of, same_key}
 use Rattle.drf_bundle.specs.KeyLaws.{where-cons}
 use Rattle.drf_bundle.specs.declared.quantities.Entry.{Entry}
 use Rattle.drf_bundle.specs.declared.resource.Resource.{Resource}
 use Rattle.drf_rows.specs.ConsistentLaws.{same_text-swap}
 use Rattle.drf_rows.specs.Quota.{reserves, unreserved_in, reserved_in}
 use Rattle.drf_rows.specs.QuotaLaws.{no_text, parts_le}
-use Rattle.drf_gates.specs.Quota.{Allowance, IsRaised, IsRaisedBy, amount_in_one, unreserved_one, reserved_one, counted, used_where}
+use Rattle.drf_gates.specs.Quota.{Allowance, AreRaised, IsRaised, IsRaisedBy, IsSame, amount_in_one, one_entry, unreserved_one, reserved_one, counted, used_where}
 
 -- the element that is read is the first of those that are left
 pub next_of : {A : Type 0} (xs : List A) (i : ℕ) (x : A) → i < length xs → x ≡ get_or xs i x → drop i xs ≡ x ∷ drop (i + 1) xs
@@ -71,6 +73,10 @@ module _ (r : Resource) (label : Text) where
         ap (λ b. cond (same_text label r.label && (not (same_text (cond b [] (text_of r.role)) []) && test (parts_of (cond b [] (text_of r.role))))) amount 0) other
         ∙ (λ i. cond (same_text label r.label && (not (some i) && test (right.role_read i))) amount 0)
         ∙ swapped (test r.role)
+
+-- all of it is of its own name
+pub one_here : (r : Resource) → amount_in_one r.label r ≡ units_in r.value Thousandths
+one_here r = ap (λ b. cond b (units_in r.value Thousandths) 0) (same_itself r.label)
 
 -- ---- amounts that grow
 
@@ -167,3 +173,99 @@ raised_by (Ok x) old new role amounts more raised same = record {
   used = λ test label. raised.used test label ∙ ap (λ n. used_where test old.used label + n) (same test label);
 }
 raised_by (Err e) old new role amounts more raised same = tt
+
+-- ---- what is released, one part after another
+
+-- what was released and what is to come is all
+pub record IsReleased (old mid : Allowance) (all left : (Path → Bool) → Text → ℕ) : Type 0 where
+  pub limits : mid.limits ≡ old.limits
+  pub used : (test : Path → Bool) (label : Text) → used_where test mid.used label + all test label ≡ used_where test old.used label + left test label
+
+pub released_start : (a : Allowance) (all : (Path → Bool) → Text → ℕ) → IsReleased a a all all
+released_start a all = record { limits = refl; used = λ test label. refl }
+
+module _ (old mid : Allowance) (all left one rest : (Path → Bool) → Text → ℕ) (released : IsReleased old mid all left)
+    (split : (test : Path → Bool) (label : Text) → left test label ≡ one test label + rest test label) where
+  pub released_fits : (test : Path → Bool) (label : Text) → all test label ≤ used_where test old.used label → one test label ≤ used_where test mid.used label
+  released_fits test label fits = omega (arith, released.used test label, split test label, fits)
+
+  pub released_more : (new : Allowance) → IsRaisedBy new mid one → IsReleased old new all rest
+  released_more new raised = record {
+    limits = sym raised.limits ∙ released.limits;
+    used = λ test label. omega (arith, raised.used test label, released.used test label, split test label);
+  }
+
+pub released_done : (old new : Allowance) (all left : (Path → Bool) → Text → ℕ) → IsReleased old new all left
+    → ((test : Path → Bool) (label : Text) → left test label ≡ 0) → IsRaisedBy new old all
+released_done old new all left released none = record {
+  limits = sym released.limits;
+  used = λ test label. omega (arith, released.used test label, none test label);
+}
+
+-- what a role releases of a resource, and what resources that are reserved do
+abbrev pub unreserved_by : Path → (List Resource → (Path → Bool) → Text → ℕ)
+unreserved_by role bundle test label = cond (test role) (unreserved_in label bundle) 0
+
+abbrev pub reserved_by : List Resource → (Path → Bool) → Text → ℕ
+reserved_by bundle test label = reserved_in test label bundle
+
+-- the first resource, and the others
+pub first_unreserved : (role : Path) (bundle : List Resource) (i : ℕ) (r : Resource) → i < length bundle → r ≡ get_or bundle i r
+    → (test : Path → Bool) (label : Text)
+    → unreserved_by role (drop i bundle) test label ≡ cond (test role) (unreserved_one label r) 0 + unreserved_by role (drop (i + 1) bundle) test label
+first_unreserved role bundle i r in_range read test label =
+    ap (λ (rs : List Resource). unreserved_by role rs test label) (next_of bundle i r in_range read)
+    ∙ ap (λ n. cond (test role) n 0) (where-cons (same_key (label, [])) Thousandths r (drop (i + 1) bundle))
+    ∙ plus (test role)
+  where
+    plus : (b : Bool) → cond b (unreserved_one label r + unreserved_in label (drop (i + 1) bundle)) 0
+        ≡ cond b (unreserved_one label r) 0 + cond b (unreserved_in label (drop (i + 1) bundle)) 0
+    plus true = refl
+    plus false = refl
+
+pub first_reserved : (bundle : List Resource) (i : ℕ) (r : Resource) → i < length bundle → r ≡ get_or bundle i r
+    → (test : Path → Bool) (label : Text)
+    → reserved_in test label (drop i bundle) ≡ reserved_one test label r + reserved_in test label (drop (i + 1) bundle)
+first_reserved bundle i r in_range read test label =
+    ap (λ (rs : List Resource). reserved_in test label rs) (next_of bundle i r in_range read)
+    ∙ where-cons (reserves test label) Thousandths r (drop (i + 1) bundle)
+
+-- the resources before a place, and those from it on
+pub reserved_parts : (test : Path → Bool) (label : Text) (bundle : List Resource) (i : ℕ)
+    → reserved_in test label bundle ≡ reserved_in test label (take i bundle) + reserved_in test label (drop i bundle)
+reserved_parts test label bundle i =
+    let of : Resource → ℕ = λ r. cond (reserves test label (key_of r)) (units_in r.value Thousandths) 0 in
+    ap (sum_by of) (sym (take-append-drop i bundle)) ∙ sum_by-append of (take i bundle) (drop i bundle)
+
+-- ---- a role that consumes so much less of one scalar
+
+module _ (old new : Allowance) (role : Path) (name : Text) (amount : ℕ) (more : (Path → Bool) → Text → ℕ) where
+  pub lowered_by : new.limits ≡ old.limits → AreRaised new.used old.used role (one_entry name amount)
+      → ((test : Path → Bool) (label : Text) → counted test role (one_entry name amount) label ≡ more test label)
+      → IsRaisedBy new old more
+  lowered_by limits raised same = record {
+    limits = sym limits;
+    used = λ test label. raised test label ∙ ap (λ n. used_where test new.used label + n) (same test label);
+  }
+
+-- or of none
+pub stays_by : (a : Allowance) (more : (Path → Bool) → Text → ℕ) → ((test : Path → Bool) (label : Text) → more test label ≡ 0)
+    → IsRaisedBy a a more
+stays_by a more none = record { limits = refl; used = λ test label. omega (arith, none test label) }
+
+pub nothing_by : (b : Bool) → ◌≡◌ {A = ℕ} (cond b 0 0) 0
+nothing_by true = refl
+nothing_by false = refl
+
+-- ---- a front that was consumed, and is given back
+
+module _ (bundle : List Resource) (old mid : Allowance) (i : ℕ) (consumed : IsConsumed bundle old mid (drop i bundle)) where
+  -- it is among what is consumed
+  pub front_fits : (test : Path → Bool) (label : Text) → reserved_in test label (take i bundle) ≤ used_where test mid.used label
+  front_fits test label = omega (arith, consumed.used test label, reserved_parts test label bundle i)
+
+  pub front_back : (new : Allowance) → IsRaisedBy new mid (λ test label. reserved_in test label (take i bundle)) → IsSame old new
+  front_back new raised = record {
+    limits = sym raised.limits ∙ consumed.limits;
+    used = λ test label. omega (arith, raised.used test label, consumed.used test label, reserved_parts test label bundle i);
+  }

@@ -11,14 +11,15 @@ use Rattle.std.proofs.lemmas.Map.Keys.{IsDistinct-head, IsDistinct-tail}
 use Rattle.std.proofs.lemmas.Slice.Eq.{starts_is}
 use Rattle.std.specs.Cmp.Lexicographic.{bytes_decides}
 use Rattle.indexmap.specs.IndexMap.{insert_entry}
-use Rattle.drf_role.specs.Text.{Text}
+use Rattle.drf_role.specs.Text.{Text, same_text}
+use Rattle.drf_role.specs.TextLaws.{same_from_test}
 use Rattle.drf_role.specs.Path.{Path, same_path}
 use Rattle.drf_role.specs.PathLaws.{same_path-true, same_path_itself}
 use Rattle.drf_role.specs.Role.{IsRole}
 use Rattle.drf_bundle.specs.Quantities.{amount_of}
 use Rattle.drf_bundle.specs.declared.quantities.Entry.{Entry}
 use Rattle.drf_rows.specs.Quota.{is_within}
-use Rattle.drf_gates.specs.Quota.{Usage, AreRaised, IsBounded, counted, used_where, used_by, used_at, row_of}
+use Rattle.drf_gates.specs.Quota.{Usage, AreRaised, IsBounded, counted, one_entry, used_where, used_by, used_at, row_of}
 
 -- the first row, and the others
 used-cons : (test : Path → Bool) (u : Usage) (us : List Usage) (label : Text)
@@ -189,6 +190,16 @@ none_lowers us role amounts none fits = λ test label.
     let here : counted test role amounts label ≡ 0 = ap (λ n. cond (test role) n 0) zero ∙ nothing (test role) in
     omega (arith, here)
 
+-- so much of one label is at most what a role consumes, if it is so of that label
+pub one_fits : (us : List Usage) (role : Path) (label : Text) (amount : ℕ) → amount ≤ used_by us role label
+    → (other : Text) → amount_of (one_entry label amount) other ≤ used_by us role other
+one_fits us role label amount fits other = elim (cases_Bool (same_text label other)) [
+  | inl here ↦
+      let most : amount ≤ used_by us role other = subst (λ (n : Text). amount ≤ used_by us role n) (same_from_test label other here) fits in
+      omega (arith, most, ap (λ b. cond b amount 0) here)
+  | inr past ↦ omega (arith, ap (λ b. cond b amount 0) past)
+]
+
 -- a role is within itself
 pub within_itself : (role : Path) → is_within role role ≡ true
 within_itself role = (starts_is bytes_decides role role (is_within role role) refl).1 [] (sym (append-nil role))
@@ -208,6 +219,12 @@ used_by_le (u ∷ us) role label =
     by : (b : Bool) → (b ≡ true → is_within role u.0 ≡ true) → cond b (amount_of u.1 label) 0 ≤ counted (is_within role) u.0 u.1 label
     by true is = omega (arith, ap (λ b. cond b (amount_of u.1 label) 0) (is refl))
     by false is = omega arith
+
+-- where a role consumes less, none consumes too much
+pub bounded-lowered : (old new : List Usage) (role : Path) (amounts : List Entry) → AreRaised new old role amounts → IsBounded old → IsBounded new
+bounded-lowered old new role amounts raised bounded = record {
+  below = λ outer label right. omega (arith, raised (is_within outer) label, bounded.below outer label right);
+}
 
 -- where no role consumes too much with what is added, none does after it
 pub bounded-raised : {T E : Type 0} (r : Result T E) (old new : List Usage) (role : Path) (amounts : List Entry)

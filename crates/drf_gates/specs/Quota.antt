@@ -1,5 +1,5 @@
 -- What a quota keeps: the limits, and what each role consumes.
-use Rattle.std.specs.Prelude.{◌≡◌, ℕ, ◌+◌, ◌^◌, ◌<◌, min, Bool, List, [], map, filter, fold, sum_by, Option, Some, None, if◌then◌else◌, refl}
+use Rattle.std.specs.Prelude.{◌≡◌, ℕ, ◌+◌, ◌^◌, ◌<◌, min, Bool, List, [], ◌∷◌, map, filter, fold, sum_by, Option, Some, None, if◌then◌else◌, refl}
 use Rattle.std.specs.List.{reduce}
 use Rattle.std.specs.Coded.{Coded, code_by, coded×, coded_list, coded_ℕ}
 use Rattle.std.specs.Map.{lookup}
@@ -36,6 +36,10 @@ allowance_code =
 -- how much of a scalar is added to what the roles that pass a test consume
 abbrev pub counted : (Path → Bool) → Path → List Entry → Text → ℕ
 counted test role amounts label = if test role then amount_of amounts label else 0
+
+-- so much of one label
+abbrev pub one_entry : Text → ℕ → List Entry
+one_entry label amount = record { label = label; amount = amount } ∷ []
 
 -- what the roles that pass a test consume of a scalar
 abbrev pub used_where : (Path → Bool) → List Usage → Text → ℕ

@@ -1,14 +1,15 @@
 //! What roles consume of bundles: what is unreserved of what clients hold, and what is reserved of what agents have.
-ghost use Rattle.std.specs.Prelude.{◌≡◌, ◌+◌, ◌^◌, ◌<◌, ◌≤◌, Bool, IfOk, OnOk, OnErr, if◌then◌else◌};
+ghost use Rattle.std.specs.Prelude.{◌≡◌, ◌+◌, ◌^◌, ◌<◌, ◌≤◌, All, Bool, IfOk, OnOk, OnErr, if◌then◌else◌};
 ghost use Rattle.drf_role.specs.Text.{Text};
-ghost use Rattle.drf_role.specs.Path.{Path};
+ghost use Rattle.drf_role.specs.Path.{Path, same_path};
 ghost use Rattle.drf_bundle.specs.Bundle.{IsBundle, IsResource};
 ghost use Rattle.drf_bundle.specs.Quantities.{amount_of};
 ghost use Rattle.drf_bundle.specs.Value.{Thousandths, units_in};
 ghost use Rattle.drf_rows.specs.Quota.{unreserved_in, reserved_in};
-ghost use Rattle.drf_gates.specs.Quota.{IsRaisedBy, amount_in_one, unreserved_one, reserved_one, used_where};
+ghost use Rattle.drf_gates.specs.Quota.{IsRaisedBy, IsSame, amount_in_one, unreserved_one, reserved_one, used_by, used_where};
 
 use crate::quota::Quota;
+use crate::usage::reduce;
 use drf_bundle::{Bundle, Quantities, Resource, Value};
 use drf_role::Role;
 use std::alloc::{AllocError, Global};
@@ -68,6 +69,28 @@ impl Quota {
         self.consume(role, &amounts)
     }
 
+    /// A client of the role holds the resource no longer: it is released, if it is unreserved.
+    fn release_one(&mut self, role: &Role, resource: &Resource)
+        requires right { IsResource resource.now }
+        requires fits { (label : Text) → unreserved_one label resource.now ≤ used_by self.old.used role.now label }
+        ensures { IsRaisedBy self.new self.old (λ test label. if test role.now then unreserved_one label resource.now else 0) }
+    {
+        if resource.is_unreserved() {
+            let amount = thousandths(resource);
+            reduce(&mut self.used, role, resource.label.text(), amount);
+        }
+    }
+
+    /// A client of the role holds the bundle no longer: what is unreserved of it is released. It needs no memory.
+    pub fn release_unreserved(&mut self, role: &Role, bundle: &Bundle)
+        requires { (label : Text) → unreserved_in label bundle.now ≤ used_by self.old.used role.now label }
+        ensures { IsRaisedBy self.new self.old (λ test label. if test role.now then unreserved_in label bundle.now else 0) }
+    {
+        for resource in bundle.entries() {
+            self.release_one(role, resource);
+        }
+    }
+
     /// What a resource has reserved is consumed by its role. An `Err` changes nothing.
     fn consume_resource(&mut self, resource: &Resource) -> Result<(), AllocError>
         requires right { IsResource resource.now }
@@ -82,15 +105,55 @@ impl Quota {
         self.consume(&resource.role, &amounts)
     }
 
-    /// An agent has the bundle: what is reserved of it is consumed by the roles that it is reserved for. At an `Err` the limits
-    /// are the same.
+    /// What a resource has reserved is consumed by its role no longer.
+    fn release_resource(&mut self, resource: &Resource)
+        requires right { IsResource resource.now }
+        requires fits { (role : Path) (label : Text) → reserved_one (same_path role) label resource.now ≤ used_by self.old.used role label }
+        ensures { IsRaisedBy self.new self.old (λ test label. reserved_one test label resource.now) }
+    {
+        if !resource.is_unreserved() {
+            let amount = thousandths(resource);
+            reduce(
+                &mut self.used,
+                &resource.role,
+                resource.label.text(),
+                amount,
+            );
+        }
+    }
+
+    /// What resources have reserved is consumed no longer.
+    fn release_each(&mut self, resources: &[Resource])
+        requires right { All IsResource resources.now }
+        requires fits { (role : Path) (label : Text) → reserved_in (same_path role) label resources.now ≤ used_by self.old.used role label }
+        ensures { IsRaisedBy self.new self.old (λ test label. reserved_in test label resources.now) }
+    {
+        for resource in resources {
+            self.release_resource(resource);
+        }
+    }
+
+    /// An agent has the bundle no longer: what is reserved of it is released. It needs no memory.
+    pub fn release_reserved(&mut self, total: &Bundle)
+        requires { (role : Path) (label : Text) → reserved_in (same_path role) label total.now ≤ used_by self.old.used role label }
+        ensures { IsRaisedBy self.new self.old (λ test label. reserved_in test label total.now) }
+    {
+        self.release_each(total.entries());
+    }
+
+    /// An agent has the bundle: what is reserved of it is consumed by the roles that it is reserved for. At an `Err` all consume
+    /// what they did.
     pub fn consume_reserved(&mut self, total: &Bundle) -> Result<(), AllocError>
         requires { (test : Path → Bool) (label : Text) → used_where test self.old.used label + reserved_in test label total.now < 2 ^ 64 }
         ensures ok { OnOk result (IsRaisedBy self.old self.new (λ test label. reserved_in test label total.now)) }
-        ensures limits { self.new.limits ≡ self.old.limits }
+        ensures err { OnErr result (IsSame self.old self.new) }
     {
-        for resource in total.entries() {
-            self.consume_resource(resource)?;
+        let resources = total.entries();
+        for place in 0..resources.len() {
+            if let Err(error) = self.consume_resource(&resources[place]) {
+                self.release_each(&resources[..place]);
+                return Err(error);
+            }
         }
         Ok(())
     }

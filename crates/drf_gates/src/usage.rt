@@ -1,10 +1,10 @@
 //! What roles consume, each by itself.
-ghost use Rattle.std.specs.Prelude.{◌≡◌, ◌+◌, ◌^◌, ◌<◌, ◌≤◌, Bool, [], true, IfOk, OnOk, OnErr};
+ghost use Rattle.std.specs.Prelude.{◌≡◌, ◌+◌, ◌^◌, ◌<◌, ◌≤◌, ◌↔◌, Bool, [], IsTrue, IfOk, OnOk, OnErr};
 ghost use Rattle.drf_role.specs.Text.{Text};
 ghost use Rattle.drf_role.specs.Path.{Path};
 ghost use Rattle.drf_bundle.specs.Quantities.{amount_of};
 ghost use Rattle.drf_rows.specs.Quota.{is_within};
-ghost use Rattle.drf_gates.specs.Quota.{AreRaised, IsBounded, counted, used_at, used_by, used_where, row_of};
+ghost use Rattle.drf_gates.specs.Quota.{AreRaised, IsBounded, counted, one_entry, used_at, used_by, used_where, row_of};
 
 use drf_bundle::Quantities;
 use drf_role::Role;
@@ -74,18 +74,37 @@ pub(crate) fn raise(
     Ok(())
 }
 
-/// Takes amounts away, and forgets the labels that come to 0. Whether nothing is left.
+/// Forgets the labels that came to 0. Whether nothing is left.
+fn prune(row: &mut Quantities) -> bool
+    ensures same { (label : Text) → amount_of row.new label ≡ amount_of row.old label }
+    ensures empty { IsTrue result ↔ (row.new ≡ []) }
+{
+    // The proof learns that the labels are in order by this call alone.
+    let _ = row.entries();
+    row.remove_zeros();
+    row.entries().is_empty()
+}
+
+/// Takes amounts away. Whether nothing is left.
 fn lower_row(row: &mut Quantities, amounts: &Quantities) -> bool
     requires { (label : Text) → amount_of amounts.now label ≤ amount_of row.old label }
     ensures left { (label : Text) → amount_of row.new label + amount_of amounts.now label ≡ amount_of row.old label }
-    ensures empty { result ≡ true → row.new ≡ [] }
+    ensures empty { IsTrue result ↔ (row.new ≡ []) }
 {
-    // The proof learns that the labels are in order by these calls alone.
+    // The proof learns that the labels are in order by this call alone.
     let _ = amounts.entries();
-    let _ = row.entries();
     row.lower(amounts);
-    row.remove_zeros();
-    row.entries().is_empty()
+    prune(row)
+}
+
+/// Takes so much of a label away. Whether nothing is left.
+fn reduce_row(row: &mut Quantities, label: &str, thousandths: u64) -> bool
+    requires { thousandths ≤ amount_of row.old label.now }
+    ensures left { (other : Text) → amount_of row.new other + amount_of (one_entry label.now thousandths) other ≡ amount_of row.old other }
+    ensures empty { IsTrue result ↔ (row.new ≡ []) }
+{
+    row.reduce(label, thousandths);
+    prune(row)
 }
 
 /// Takes away from what a role consumes. A role that consumes nothing more leaves. It needs no memory.
@@ -97,6 +116,24 @@ pub(crate) fn lower(used: &mut IndexMap<Role, Quantities>, role: &Role, amounts:
         return;
     };
     if lower_row(row, amounts) {
+        used.shift_remove(role);
+    }
+}
+
+/// Takes so much of a scalar away from what a role consumes. A role that consumes nothing more leaves. It needs no memory.
+pub(crate) fn reduce(
+    used: &mut IndexMap<Role, Quantities>,
+    role: &Role,
+    label: &str,
+    thousandths: u64,
+)
+    requires { thousandths ≤ used_by used.old.entries role.now label.now }
+    ensures { AreRaised used.new.entries used.old.entries role.now (one_entry label.now thousandths) }
+{
+    let Some(row) = used.get_mut(role) else {
+        return;
+    };
+    if reduce_row(row, label, thousandths) {
         used.shift_remove(role);
     }
 }

@@ -4,6 +4,7 @@ use Rattle.std.specs.List.{AllByRecursion}
 use Rattle.std.specs.Global.{Vec}
 use Rattle.std.specs.Map.{remove_entry}
 use Rattle.std.proofs.Common.{refl, sym, ap, ◌∙◌, subst, arith}
+use Rattle.std.proofs.lemmas.List.{length-map}
 use Rattle.drf_role.specs.Text.{Text, same_text}
 use Rattle.drf_bundle.specs.declared.quantities.Entry.{Entry}
 use Rattle.drf_rows.specs.Client.{Client}
@@ -12,8 +13,8 @@ use Rattle.drf_rows.specs.Endings.{without_ended, all_on, all_of}
 use Rattle.drf_rows.specs.Filters.{filters_without_client, filters_without_agent, filters_without_framework}
 use Rattle.drf_rows.specs.Held.{clients_of, cluster_total}
 use Rattle.drf_rows.specs.Holdings.{holdings_of}
-use Rattle.drf_rows.specs.ListLaws.{each_filter}
-use Rattle.drf_rows.specs.Members.{with_activity, with_suppression, suppressed_in, revived, agent_removed, framework_removed}
+use Rattle.drf_rows.specs.ListLaws.{each_filter, length-filter_le}
+use Rattle.drf_rows.specs.Members.{active_at, with_activity, with_suppression, suppressed_in, revived, agent_removed, framework_removed}
 use Rattle.drf_rows.specs.MemberLaws.{IsConsistent-with_activity, cluster_total-with_activity, IsConsistent-with_suppression, clients_of-with_suppression, IsConsistent-revived, IsConsistent-agent_removed, IsConsistent-framework_removed}
 use Rattle.drf_rows.specs.declared.rows.ClientRow.{ClientRow}
 use Rattle.drf_rows.specs.declared.rows.FilterRow.{FilterRow}
@@ -60,6 +61,7 @@ module _ (t : Inside) (kept : IsKept (rows_in t) t.agents.entries t.total t.clie
           free = subst (λ (es : List (Text × Agent)). AllByRecursion (IsKnown (holdings_of (rows_in t))) es) (sym told) known;
           total = kept.total ∙ sym (cluster_total-with_activity (rows_in t) name active);
           clients = kept.clients;
+          few = omega (arith, length-map (rows_in t).agents (active_at name active), kept.few);
         })
 
   -- ---- a client is suppressed, or not
@@ -126,6 +128,7 @@ module _ (t : Inside) (kept : IsKept (rows_in t) t.agents.entries t.total t.clie
           free = subst (λ (es : List (Text × Agent)). AllByRecursion (IsKnown (holdings_of new)) es) (sym those) known;
           total = others;
           clients = kept.clients;
+          few = omega (arith, length-filter_le (λ a. not (same_text a.name name)) (rows_in t).agents, kept.few);
         })
 
   -- ---- a framework leaves
@@ -163,4 +166,5 @@ module _ (t : Inside) (kept : IsKept (rows_in t) t.agents.entries t.total t.clie
           free = subst (λ (r : Rows). AllByRecursion (IsKnown (holdings_of r)) t.agents.entries) (sym nothing) kept.free;
           total = kept.total;
           clients = clients-gone;
+          few = kept.few;
         })

@@ -1,5 +1,5 @@
 -- The rows once one holding is taken out, and once parts of an offer are tasks.
-use Rattle.std.specs.Prelude.{◌≡◌, ℕ, ◌+◌, ◌==◌, ◌||◌, Bool, true, false, not, List, [], ◌∷◌, ◌++◌, length, map, filter, find, Option, Some, None, cond, ◌⊎◌}
+use Rattle.std.specs.Prelude.{◌≡◌, ℕ, ◌+◌, ◌≤◌, ◌==◌, ◌||◌, Bool, true, false, not, List, [], ◌∷◌, ◌++◌, length, map, filter, find, Option, Some, None, cond, ◌⊎◌}
 use Rattle.std.specs.List.{list_any, AllByRecursion}
 use Rattle.std.specs.Option.{option_map_or}
 use Rattle.std.proofs.Common.{refl, sym, ap, ◌∙◌, subst, inl, inr}
@@ -19,6 +19,7 @@ use Rattle.drf_rows.specs.Holdings.{Holding, of_offer, of_task, holdings_of, par
 use Rattle.drf_rows.specs.Offers.{CanStart, left_of_offer, offer_at, task_of}
 use Rattle.drf_rows.specs.TaskLaws.{units-covers_all}
 use Rattle.drf_rows.specs.Tasks.{Start, uses}
+use Rattle.drf_rows.specs.declared.rows.AgentRow.{AgentRow}
 use Rattle.drf_rows.specs.declared.rows.FilterRow.{FilterRow}
 use Rattle.drf_rows.specs.declared.rows.OfferRow.{OfferRow}
 use Rattle.drf_rows.specs.declared.rows.TaskRow.{TaskRow}
@@ -113,6 +114,7 @@ IsKept-ended old new agents sum number ending h back stand kept one = record {
       (subst (AllByRecursion (IsCovered (holdings_of old))) stand kept.consistent.covered);
   total = kept.total ∙ sym (ap (λ (r : Rows). cluster_total r.agents) one.others);
   clients = kept.clients ∙ sym (ap (λ (r : Rows). length (clients_of r)) one.others);
+  few = subst (λ (agents : List AgentRow). length agents ≤ 4096) (sym (ap (λ (r : Rows). r.agents) one.others)) kept.few;
 }
 
 pub ended_from : (old new : Rows) (ending : Ending) (h : Holding) (held : Held)
@@ -168,7 +170,7 @@ module _ (t : Inside) (entries : List (Text × Agent)) (held : Standing) (filter
   abbrev pub rows_accepted : Rows
   rows_accepted = rows_of entries t.frameworks.entries held filters t.weights.entries t.quota.limits t.clock t.next_offer t.accepted
 
-  same_offer : x ≡ o
+  pub same_offer : x ≡ o
   unfolding rows_of
   same_offer =
       let both : ◌≡◌ {A = Option OfferRow} (Some x) (Some o) = sym started.found ∙ found in
@@ -213,6 +215,7 @@ module _ (t : Inside) (entries : List (Text × Agent)) (held : Standing) (filter
         free = known;
         total = kept.total;
         clients = kept.clients;
+        few = kept.few;
       })
 
 -- ---- as the fields stand
@@ -232,7 +235,7 @@ module _ (t : Inside) (entries : List (Text × Agent)) (held : Standing) (ending
       ap (map agent_row) freed_there.same ∙ rows-freed freed_there.kept taken.agent taken.bundle t.agents.entries in
       λ i. record (rows_with t held) { agents = sym agents i }
 
-  without_it : IsWithoutOne (rows_in t) rows_ended ending (holding_of taken)
+  pub without_it : IsWithoutOne (rows_in t) rows_ended ending (holding_of taken)
   without_it =
       subst (λ (r : Rows). IsWithoutOne (rows_in t) r ending (holding_of taken)) same_rows
       (without_taken t held ending taken kept.consistent lost)

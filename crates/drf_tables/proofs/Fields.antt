@@ -193,12 +193,11 @@ small_sum start (a ∷ agents) label all =
     omega (arith, more, one, small)
 
 pub sums_fit : (agents : List AgentRow) (label : Text) (amount : ℕ)
-    → AllByRecursion IsAgent agents → length agents < 4096 → amount ≤ LARGEST_AMOUNT
+    → AllByRecursion IsAgent agents → length agents ≤ 4096 → amount ≤ LARGEST_AMOUNT
     → amount_of (cluster_total agents) label + amount < 2 ^ 64
 unfolding added
 sums_fit agents label amount all few small = omega (arith, small_sum [] agents label all, few, small)
 
 pub total_fits : (agents : List AgentRow) (label : Text) → AllByRecursion IsAgent agents → length agents ≤ 4096
     → amount_of (cluster_total agents) label < 2 ^ 64
-unfolding added
-total_fits agents label all few = omega (arith, small_sum [] agents label all, few)
+total_fits agents label all few = omega (arith, sums_fit agents label 0 all few (omega arith))

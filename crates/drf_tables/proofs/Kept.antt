@@ -1,7 +1,7 @@
 -- What tables keep beside their rows, change by change.
-use Rattle.std.specs.Prelude.{◌≡◌, ℕ, ◌+◌, ◌≤◌, true, false, List, [], ◌∷◌, ◌++◌, length, map, Option, Some}
+use Rattle.std.specs.Prelude.{◌≡◌, ℕ, ◌+◌, ◌<◌, ◌≤◌, true, false, List, [], ◌∷◌, ◌++◌, length, map, Option, Some}
 use Rattle.std.specs.List.{AllByRecursion}
-use Rattle.std.proofs.Common.{refl, sym, ap, ◌∙◌, subst}
+use Rattle.std.proofs.Common.{refl, sym, ap, ◌∙◌, subst, arith, length-append}
 use Rattle.drf_role.specs.Text.{Text}
 use Rattle.drf_bundle.specs.Quantities.{plus}
 use Rattle.drf_bundle.specs.Bundle.{quantities_of}
@@ -32,13 +32,14 @@ use Rattle.drf_tables.proofs.Known.{frees-settled, settled-frees, known-frees, k
 
 module _ (rows new : Rows) (agents : List (Text × Agent)) (sum : List Entry) (number : ℕ) (kept : IsKept rows agents sum number) where
   pub IsKept-same : IsConsistent new → holdings_of rows ≡ holdings_of new
-      → cluster_total rows.agents ≡ cluster_total new.agents → length (clients_of rows) ≡ length (clients_of new)
+      → rows.agents ≡ new.agents → length (clients_of rows) ≡ length (clients_of new)
       → IsKept new agents sum number
-  IsKept-same consistent held total clients = record {
+  IsKept-same consistent held same clients = record {
     consistent = consistent;
     free = subst (λ (hs : List Holding). AllByRecursion (IsKnown hs) agents) held kept.free;
-    total = kept.total ∙ total;
+    total = kept.total ∙ ap cluster_total same;
     clients = kept.clients ∙ clients;
+    few = subst (λ (agents : List AgentRow). length agents ≤ 4096) same kept.few;
   }
 
 -- ---- another clock, and another number of events
@@ -67,9 +68,10 @@ IsKept-clocked rows agents sum number clock accepted early kept =
 
 pub IsKept-agent_added :
     (rows : Rows) (agents : List (Text × Agent)) (sum : List Entry) (number : ℕ) (name : Text) (a : Agent)
-    → IsKept rows agents sum number → has_agent rows name ≡ false → IsAgent (new_agent name a.total) → a.free ≡ Some a.total
+    → IsKept rows agents sum number → length rows.agents < 4096
+    → has_agent rows name ≡ false → IsAgent (new_agent name a.total) → a.free ≡ Some a.total
     → IsKept (agent_added rows name a.total) (agents ++ (name, a) ∷ []) (plus sum (quantities_of a.total)) number
-IsKept-agent_added rows agents sum number name a kept new right all =
+IsKept-agent_added rows agents sum number name a kept few new right all =
     let nothing : parts_on name (holdings_of rows) ≡ [] = parts_on-nothing rows name kept.consistent new in
     let known : IsKnown (holdings_of rows) (name, a) = λ free is.
     by free (sym all ∙ is) ∙ sym (ap (rest_of_all a.total) nothing) in
@@ -78,6 +80,7 @@ IsKept-agent_added rows agents sum number name a kept new right all =
       free = each_append (IsKnown (holdings_of rows)) agents ((name, a) ∷ []) kept.free (known, tt);
       total = ap (λ es. plus es (quantities_of a.total)) kept.total ∙ sym (cluster_total-with_agent rows name a.total);
       clients = kept.clients;
+      few = omega (arith, few, length-append rows.agents (new_agent name a.total ∷ []));
     }
   where
     by : (free : List Resource) → ◌≡◌ {A = Option (List Resource)} (Some a.total) (Some free) → free ≡ a.total
@@ -94,6 +97,7 @@ IsKept-framework_added rows agents sum number f kept new apart none = record {
   free = kept.free;
   total = kept.total;
   clients = ap (λ n. n + length f.clients) kept.clients ∙ sym (length-clients_of-framework_added rows f);
+  few = kept.few;
 }
 
 -- ---- offers
@@ -135,4 +139,5 @@ IsKept-with_offers rows old new sum number offers kept consistent known =
       total = kept.total ∙ sym (ap (λ (rs : Rows). cluster_total rs.agents) added);
       clients = kept.clients ∙ sym (count_clients-counting_all rows.frameworks offers)
           ∙ sym (ap (λ (rs : Rows). length (clients_of rs)) added);
+      few = subst (λ (agents : List AgentRow). length agents ≤ 4096) (sym (agents-with_offers rows offers)) kept.few;
     }

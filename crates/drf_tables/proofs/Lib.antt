@@ -12,3 +12,5 @@ pub mod Fields
 pub mod Weighed
 pub mod Counts
 pub mod Moved
+pub mod Recounted
+pub mod Running

@@ -1,8 +1,9 @@
 -- The rows that the fields stand for once limits are set, a part of an agent is exchanged, or its total is another.
-use Rattle.std.specs.Prelude.{◌≡◌, ℕ, ◌+◌, ◌≤◌, ◌<◌, ◌^◌, Bool, true, false, not, List, [], ◌∷◌, length, map, filter, Option, Some, None, Result, Ok, Err, OnOk, OnErr, if◌then◌else◌}
+use Rattle.std.specs.Prelude.{◌≡◌, ℕ, ◌+◌, ◌<◌, ◌^◌, Bool, true, false, not, List, [], ◌∷◌, map, filter, Option, Some, None, Result, Ok, Err, OnOk, OnErr, if◌then◌else◌}
 use Rattle.std.specs.List.{AllByRecursion}
 use Rattle.std.specs.Option.{option_map}
 use Rattle.std.proofs.Common.{refl, sym, ap, subst, ◌∙◌, arith}
+use Rattle.std.proofs.lemmas.List.{length-map}
 use Rattle.std.proofs.lemmas.List.Sums.{sum_by-append}
 use Rattle.drf_role.specs.Text.{Text, same_text}
 use Rattle.drf_role.specs.Path.{Path}
@@ -170,6 +171,7 @@ module _ (t : Inside) (kept : IsKept (rows_in t) t.agents.entries t.total t.clie
               (known-exchanged (holdings_of (rows_in t)) name old new t.agents.entries moves_each kept.free);
           total = kept.total ∙ sym (cluster_total-exchanged (rows_in t) name can.row kept.consistent can.found old new can.can);
           clients = kept.clients;
+          few = omega (arith, length-map (rows_in t).agents (total_at name (exchanged old new)), kept.few);
         })
 
 -- ---- another total
@@ -193,12 +195,12 @@ module _ (t : Inside) (kept : IsKept (rows_in t) t.agents.entries t.total t.clie
             (known-other (holdings_of (rows_in t)) name total t.agents.entries kept.free);
         total = summed ∙ cluster_total-other_total (rows_in t) name right.row total kept.consistent right.found agent;
         clients = kept.clients;
+        few = omega (arith, length-map (rows_in t).agents (total_at name (λ was. total)), kept.few);
       })
 
 -- ---- what is consumed is counted
 
-module _ (t : Inside) (kept : IsKept (rows_in t) t.agents.entries t.total t.clients) (few : length (rows_in t).agents ≤ 4096)
-    (test : Path → Bool) (label : Text) where
+module _ (t : Inside) (kept : IsKept (rows_in t) t.agents.entries t.total t.clients) (test : Path → Bool) (label : Text) where
   abbrev by_offers : ℕ
   by_offers = held_unreserved test (map of_offer t.holdings.offers) label
 
@@ -219,11 +221,11 @@ module _ (t : Inside) (kept : IsKept (rows_in t) t.agents.entries t.total t.clie
     arith,
     all_consumed,
     consumption_is_part_of_total test (rows_in t) label kept.consistent,
-    total_fits (rows_in t).agents label kept.consistent.agents.each few,
+    total_fits (rows_in t).agents label kept.consistent.agents.each kept.few,
   )
 
 -- counted from nothing, one part after another
-pub counted-all : (t : Inside) (kept : IsKept (rows_in t) t.agents.entries t.total t.clients) (few : length (rows_in t).agents ≤ 4096)
+pub counted-all : (t : Inside) (kept : IsKept (rows_in t) t.agents.entries t.total t.clients)
     (none one two three : Allowance)
     → none ≡ record t.quota { used = [] }
     → IsRaisedBy none one (λ test label. held_unreserved test (map of_offer t.holdings.offers) label)
@@ -231,7 +233,7 @@ pub counted-all : (t : Inside) (kept : IsKept (rows_in t) t.agents.entries t.tot
     → IsRaisedBy two three (λ test label. reserved_for test (map agent_row t.agents.entries) label)
     → IsAllowanceOf (rows_in t) three
 unfolding rows_of
-counted-all t kept few none one two three forgot first second third = record {
+counted-all t kept none one two three forgot first second third = record {
   limits = third.limits ∙ second.limits ∙ first.limits ∙ ap (λ (a : Allowance). a.limits) forgot;
   used = λ test label. omega (
     arith,
@@ -239,6 +241,6 @@ counted-all t kept few none one two three forgot first second third = record {
     second.used test label,
     first.used test label,
     ap (λ (a : Allowance). used_where test a.used label) forgot,
-    all_consumed t kept few test label,
+    all_consumed t kept test label,
   );
 }

@@ -1,5 +1,5 @@
 -- The rows that the fields of tables stand for, and what the fields keep beside the rows.
-use Rattle.std.specs.Prelude.{◌≡◌, ℕ, Bool, true, List, length, map, fold, slice_set, Option, Some, is_some}
+use Rattle.std.specs.Prelude.{◌≡◌, ◌≤◌, ℕ, Bool, true, List, length, map, fold, slice_set, Option, Some, is_some}
 use Rattle.std.specs.List.{list_all, AllByRecursion}
 use Rattle.std.specs.Global.{Vec}
 use Rattle.drf_role.specs.Text.{Text}
@@ -89,6 +89,8 @@ pub record IsKept (rows : Rows) (agents : List (Text × Agent)) (sum : List Entr
   pub free : AllByRecursion (IsKnown (holdings_of rows)) agents
   pub total : sum ≡ cluster_total rows.agents
   pub clients : number ≡ length (clients_of rows)
+  -- so few that all they have of a scalar is below 2^64
+  pub few : length rows.agents ≤ 4096
 
 -- a quota counts what roles consume, if it is said to
 abbrev pub CountsIf : Bool → Rows → Allowance → Type 0

@@ -4,4 +4,5 @@ pub mod Stored
 pub mod Inside
 pub mod Changing
 pub mod Counting
+pub mod Recounting
 pub mod DraftLaws

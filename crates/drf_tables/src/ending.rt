@@ -11,6 +11,7 @@ ghost use Rattle.drf_rows.specs.Ended.{ending_of};
 ghost use Rattle.drf_tables.specs.Ended.{HasEnded, CanAccept, with_accepted};
 
 use crate::members::give_back;
+use crate::recounting::release_held;
 use crate::settling::settle_all;
 use crate::tables::Tables;
 use drf_bundle::Bundle;
@@ -65,10 +66,11 @@ impl Tables {
         ensures some { IfSome result (HasEnded self.old.rows self.new.rows (ending_of ending.entry)) }
         ensures none { IfNone result ((self.new.rows ≡ self.old.rows) × (without_ended self.old.rows (ending_of ending.entry) ≡ self.old.rows)) }
         ensures consistent { IsConsistent self.new.rows }
+        ensures counted { self.new.counted ≡ self.old.counted }
     {
         let taken = self.holdings.take(ending)?;
         give_back(&mut self.agents, &taken.agent, &taken.bundle);
-        self.is_counted = false;
+        release_held(&mut self.quota, self.is_counted, &taken.role, &taken.bundle);
         Some(Held {
             client: ClientPath::from_parts(taken.role, taken.framework),
             bundle: taken.bundle,
@@ -89,13 +91,14 @@ impl Tables {
         ensures ok { OnOk result ((o : OfferRow) → offer_at self.old.rows number ≡ Some o
             → self.new.rows ≡ with_accepted self.old.rows o tasks filter) }
         ensures err { OnErr result (self.new.rows ≡ self.old.rows) }
+        ensures counted { self.new.counted ≡ self.old.counted }
     {
         let filters = self.filters.len();
         add_if(&mut self.filters, filter)?;
         match self.holdings.start(number, tasks) {
             Ok(offer) => {
                 give_back(&mut self.agents, &offer.agent, rest);
-                self.is_counted = false;
+                release_held(&mut self.quota, self.is_counted, &offer.role, rest);
                 Ok(())
             }
             Err(error) => {

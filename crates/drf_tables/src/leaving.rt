@@ -10,6 +10,7 @@ ghost use Rattle.drf_rows.specs.Step.{is_in_role};
 ghost use Rattle.drf_rows.specs.declared.rows.FrameworkRow.{FrameworkRow};
 
 use crate::members::{has_role, set_active, suppress, take_framework};
+use crate::recounting::release_agent;
 use crate::tables::Tables;
 use drf_bundle::Quantities;
 use drf_role::{Name, Role};
@@ -74,12 +75,13 @@ impl Tables {
     pub fn remove_agent(&mut self, agent: &Name, total: Quantities)
         requires nothing { without_ended self.old.rows (all_on agent.now) ≡ self.old.rows }
         requires total { total ≡ cluster_total (filter (λ a. not (same_text a.name agent.now)) self.old.rows.agents) }
-        ensures { self.new.rows ≡ agent_removed self.old.rows agent.now }
+        ensures rows { self.new.rows ≡ agent_removed self.old.rows agent.now }
+        ensures counted { self.new.counted ≡ self.old.counted }
     {
+        release_agent(&mut self.quota, self.is_counted, &self.agents, agent);
         let _ = self.agents.shift_remove(agent);
         self.filters.drop_agent(agent);
         self.total = total;
-        self.is_counted = false;
     }
 
     /// Takes a framework out that holds nothing, with its filters.

@@ -11,6 +11,7 @@ mod listing;
 mod members;
 mod moving;
 mod offers;
+mod recounting;
 mod settling;
 mod tables;
 

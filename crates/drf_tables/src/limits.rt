@@ -13,6 +13,7 @@ ghost use Rattle.drf_tables.specs.Changing.{CanExchangeOn, CanHaveTotal};
 
 use crate::consuming::{consume_offers, consume_tasks, consume_totals};
 use crate::moving::{exchange, set_total};
+use crate::recounting::{consume_total, recount_total, release_agent, release_total};
 use crate::tables::Tables;
 use drf_bundle::{Bundle, Quantities};
 use drf_gates::Quota;
@@ -85,20 +86,31 @@ impl Tables {
         requires { CanExchangeOn self.old.rows agent.now old.now new.now }
         ensures ok { OnOk result (self.new.rows ≡ record self.old.rows { agents = with_total self.old.rows agent.now (exchanged old.now new.now) }) }
         ensures err { OnErr result (self.new.rows ≡ self.old.rows) }
+        ensures counted { self.new.counted ≡ self.old.counted }
     {
-        exchange(&mut self.agents, agent, old, new)?;
-        self.is_counted = false;
-        Ok(())
+        consume_total(&mut self.quota, self.is_counted, new)?;
+        match exchange(&mut self.agents, agent, old, new) {
+            Ok(()) => {
+                release_total(&mut self.quota, self.is_counted, old);
+                Ok(())
+            }
+            Err(error) => {
+                release_total(&mut self.quota, self.is_counted, new);
+                Err(error)
+            }
+        }
     }
 
-    /// Gives an agent another total, which with those of the others is the sum. It needs no memory.
+    /// Gives an agent another total, which with those of the others is the sum. It needs no memory; where it finds none to count
+    /// what the total has reserved, what roles consume is counted no longer.
     pub fn set_total(&mut self, agent: &Name, total: Bundle, sum: Quantities)
         requires right { CanHaveTotal self.old.rows agent.now total }
         requires sum { sum ≡ plus (cluster_total (filter (λ a. not (same_text a.name agent.now)) self.old.rows.agents)) (quantities_of total) }
         ensures { self.new.rows ≡ record self.old.rows { agents = with_other_total self.old.rows agent.now total } }
     {
+        release_agent(&mut self.quota, self.is_counted, &self.agents, agent);
+        self.is_counted = recount_total(&mut self.quota, self.is_counted, &total);
         set_total(&mut self.agents, agent, total);
         self.total = sum;
-        self.is_counted = false;
     }
 }

@@ -16,9 +16,11 @@ ghost use Rattle.drf_rows.specs.declared.limits.TheConstants.{LARGEST_AMOUNT, LA
 ghost use Rattle.drf_rows.specs.declared.rows.AgentRow.{AgentRow};
 ghost use Rattle.drf_rows.specs.declared.rows.FrameworkRow.{FrameworkRow};
 ghost use Rattle.drf_tables.specs.Drafts.{with_offers, frees_of, frees_after};
+ghost use Rattle.drf_tables.specs.Recounting.{CountsAll};
 
 use crate::listing::{agent_rows, framework_rows, task_rows, weight_rows};
 use crate::offers::{count_offers, put_lefts};
+use crate::recounting::{consume_total, take_over};
 use drf_amount::Algebra;
 use drf_bundle::{Bundle, Quantities};
 use drf_gates::{FilterTable, Quota};
@@ -243,19 +245,19 @@ impl Tables {
         requires few { length self.old.rows.agents < 4096 }
         ensures ok { OnOk result (self.new.rows ≡ record self.old.rows { agents = with_agent self.old.rows name total }) }
         ensures err { OnErr result (self.new.rows ≡ self.old.rows) }
+        ensures counted { self.new.counted ≡ self.old.counted }
     {
         let sum = self.total.plus(total.quantities())?;
         let free = total.copy()?;
-        self.agents.insert(
-            name,
-            Agent {
-                total,
-                active: true,
-                free: Some(free),
-            },
-        )?;
+        self.agents.reserve(1)?;
+        consume_total(&mut self.quota, self.is_counted, &total)?;
+        let agent = Agent {
+            total,
+            active: true,
+            free: Some(free),
+        };
+        let _ = self.agents.insert(name, agent).unwrap();
         self.total = sum;
-        self.is_counted = false;
         Ok(())
     }
 
@@ -298,16 +300,24 @@ impl Tables {
     }
 
     /// Takes the offers of a whole cycle over: they stand last, each is counted at its client, and on the agents is free
-    /// what they left. An `Err` changes no row and no offer.
-    pub fn commit(&mut self, offers: &mut Vec<OfferRow>, lefts: Vec<Left>) -> Result<(), AllocError>
+    /// what they left. A quota that counts them is taken over too; where there is none, what roles consume is counted no
+    /// longer. An `Err` changes no row and no offer.
+    pub fn commit(
+        &mut self,
+        offers: &mut Vec<OfferRow>,
+        lefts: Vec<Left>,
+        quota: Option<Quota>,
+    ) -> Result<(), AllocError>
         requires settled { self.old.settled ≡ true }
         requires consistent { IsConsistent (with_offers self.old.rows offers.old.items) }
         requires left { frees_after (frees_of self.old.rows) lefts.items ≡ frees_of (with_offers self.old.rows offers.old.items) }
         requires places { All (λ left. left.agent < length self.old.rows.agents) lefts.items }
         requires fits { (with_offers self.old.rows offers.old.items).next_offer < 2 ^ 64 }
+        requires quota { CountsAll (with_offers self.old.rows offers.old.items) quota }
         ensures ok { OnOk result (self.new.rows ≡ with_offers self.old.rows offers.old.items) }
         ensures settled { OnOk result (self.new.settled ≡ true) }
         ensures moved { OnOk result (offers.new.items ≡ []) }
+        ensures counted { OnOk result (self.new.counted ≡ is_some quota) }
         ensures err { OnErr result ((self.new.rows ≡ self.old.rows) × (offers.new.items ≡ offers.old.items)) }
     {
         let before = self.holdings.offers().len();
@@ -316,7 +326,7 @@ impl Tables {
         count_offers(&mut self.frameworks, &self.holdings.offers()[before..]);
         put_lefts(&mut self.agents, lefts);
         self.next_offer += made as u64;
-        self.is_counted = false;
+        self.is_counted = take_over(&mut self.quota, quota);
         Ok(())
     }
 

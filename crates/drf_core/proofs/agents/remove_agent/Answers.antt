@@ -20,4 +20,4 @@ pub returns-clause-ok : goal.returns-clause-ok
 returns-clause-ok g c =
     applied_departure c.args.tables.now.rows c.end.new.tables.rows c.remove_agent.new.self.rows c.args.agent.now
     (g.S.Sorter.content c.end.new.sorter) (g.S.Sorter.content c.set_total.new.self) c.in_ok-sum.sum
-    c.end.ensures.stands c.remove_agent.ensures c.set_total.ensures.content (c.in_ok-sum.ensures ∙ c.in_ok-total.ensures)
+    c.end.ensures.stands c.remove_agent.ensures.rows c.set_total.ensures.content (c.in_ok-sum.ensures ∙ c.in_ok-total.ensures)

@@ -1,4 +1,4 @@
-use Rattle.std.proofs.Common.{◌≡◌, List, map, ap, ◌∙◌, subst, arith}
+use Rattle.std.proofs.Common.{◌≡◌, List, map, ap, sym, ◌∙◌, subst, arith}
 use Rattle.std.specs.Prelude.{max}
 use Rattle.drf_rows.specs.Step.{line_told, new_offers}
 use Rattle.drf_rows.specs.declared.rows.Rows.{Rows}
@@ -53,3 +53,6 @@ returns-in-Ok-clause-work g c = λ counted.
     let new = new_offers-cycle rows c.set_clock.new.self.rows c.max.result (turns_of c.set_clock.new.self.rows) c.set_clock.ensures
     ∙ ap (new_offers rows) turned in
     omega (arith, c.in-Ok.ensures.work counted, ap (λ (os : List OfferRow). nodes_of (offered_to os)) new)
+
+pub returns-in-Ok-clause-counted : goal.returns-in-Ok-clause-counted
+returns-in-Ok-clause-counted g c = λ some. c.in-Ok.ensures.counted (λ none. some (sym (ap (λ (r : Rows). r.limits) c.set_clock.ensures) ∙ none))

@@ -1,11 +1,14 @@
-use Rattle.std.proofs.Common.{◌≡◌, ◌≤◌, ◌^◌, ℕ, List, map, ap, ◌∙◌, sym, arith}
+use Rattle.std.proofs.Common.{◌≡◌, ◌≤◌, ◌^◌, ℕ, List, Option, map, ap, ◌∙◌, subst, sym, arith}
 use Rattle.drf_rows.specs.Step.{line_told, new_offers}
 use Rattle.drf_rows.specs.declared.rows.Rows.{Rows}
 use Rattle.drf_rows.specs.declared.rows.OfferRow.{OfferRow}
 use Rattle.drf_core.specs.Drafting.{turns_of}
 use Rattle.drf_core.specs.Working.{nodes_of, offered_to}
-use Rattle.drf_tables.specs.DraftLaws.{next-with_offers}
-use Rattle.drf_core.proofs.CycleLemmas.{new_offers-drafts}
+use Rattle.drf_gates.specs.Quota.{Allowance}
+use Rattle.drf_core.specs.Entitling.{IsQuotaOf}
+use Rattle.drf_tables.specs.DraftLaws.{next-with_offers, with_offers-added}
+use Rattle.drf_tables.specs.Drafts.{with_offers}
+use Rattle.drf_core.proofs.CycleLemmas.{counts_all, is_counting, new_offers-drafts}
 use Rattle.drf_core.proofs.cycle.offer_all.Goals as goal
 
 pub commit-requires-clause-fits : goal.commit-requires-clause-fits
@@ -15,6 +18,25 @@ commit-requires-clause-fits g c =
     let low_number : c.args.tables.now.rows.next_offer ≤ 2 ^ 57 = c.requires.drafting.low_number in
     let same : rows.next_offer ≡ c.args.tables.now.rows.next_offer = ap (λ (r : Rows). r.next_offer) (c.quota_of.ensures.same ∙ c.settle.ensures.same) in
     omega (arith, next-with_offers rows offers.items, low_number, same, offers.ok.0, offers.ok.1, offers.small)
+
+pub commit-requires-clause-quota : goal.commit-requires-clause-quota
+commit-requires-clause-quota g c =
+    let after : Rows = with_offers c.quota_of.new.tables.rows c.turns.new.drafts.offers.items in
+    counts_all after c.take-quota.result
+    (subst (λ (q : Option Allowance). IsQuotaOf after q) (sym c.take-quota.ensures.value) c.in_ok-turns.ensures.quota)
+
+-- with limits there is a quota, which counts
+pub returns-clause-counted : goal.returns-clause-counted
+returns-clause-counted g c = λ some.
+    let rows : Rows = c.quota_of.new.tables.rows in
+    let after : Rows = with_offers rows c.turns.new.drafts.offers.items in
+    let limits : after.limits ≡ c.args.tables.now.rows.limits =
+    ap (λ (r : Rows). r.limits) (with_offers-added rows c.turns.new.drafts.offers.items)
+    ∙ ap (λ (r : Rows). r.limits) (c.quota_of.ensures.same ∙ c.settle.ensures.same) in
+    c.in_ok-commit.ensures.counted
+    ∙ is_counting after c.take-quota.result
+    (subst (λ (q : Option Allowance). IsQuotaOf after q) (sym c.take-quota.ensures.value) c.in_ok-turns.ensures.quota)
+    (λ none. some (sym limits ∙ none))
 
 pub returns-clause-lines : goal.returns-clause-lines
 returns-clause-lines g c =

@@ -34,7 +34,7 @@ returns-then-lower_row c = λ test label.
     let wrote : (c.get_mut.follows.lender left).entries ≡ set_value (same_path role) old left = (c.get_mut.follows.holds left).0 in
     let gone : c.shift_remove.new.self.entries ≡ remove_entry (same_path role) (set_value (same_path role) old left) =
     c.shift_remove.ensures.entries ∙ ap (remove_entry (same_path role)) wrote in
-    removed_lowers old role c.in-Some.row.now left amounts found c.lower_row.ensures.left (c.lower_row.ensures.empty c.if-lower_row.true) test label
+    removed_lowers old role c.in-Some.row.now left amounts found c.lower_row.ensures.left (c.lower_row.ensures.empty.0 c.if-lower_row.true) test label
     ∙ ap (λ (us : List Usage). used_where test us label + counted test role amounts label) (sym gone)
 
 pub returns-else-lower_row : goal.returns-else-lower_row

@@ -1,14 +1,18 @@
-use Rattle.std.proofs.Common.{◌≡◌, ◌==◌, Bool, List, Some, Option, map, sym, ap, ◌∙◌, subst}
+use Rattle.std.proofs.Common.{◌≡◌, ◌==◌, Bool, List, [], ◌∷◌, Some, Option, map, sym, ap, ◌∙◌, subst}
+use Rattle.std.specs.Option.{option_map_or}
 use Rattle.drf_rows.specs.EndingLaws.{new_starts}
 use Rattle.drf_rows.specs.Offers.{left_of_offer, offer_at, task_of, AreNew}
+use Rattle.drf_rows.specs.declared.rows.FilterRow.{FilterRow}
+use Rattle.drf_rows.specs.declared.rows.LimitRow.{LimitRow}
 use Rattle.drf_rows.specs.declared.rows.OfferRow.{OfferRow}
+use Rattle.drf_rows.specs.declared.rows.Rows.{Rows}
 use Rattle.drf_bundle.specs.declared.resource.Resource.{Resource}
 use Rattle.drf_tables.specs.Changing.{HasFreed}
 use Rattle.drf_tables.specs.Ended.{CanAccept, with_accepted}
-use Rattle.drf_tables.specs.Inside.{rows_of, rows_in}
+use Rattle.drf_tables.specs.Inside.{CountsIf, IsKept, rows_of, rows_in}
 use Rattle.drf_tables.specs.Stored.{Stored}
 use Rattle.drf_tables.proofs.Ended.{found_any, accepted-rows, accepted-kept}
-use Rattle.drf_tables.proofs.Counts.{none_counted}
+use Rattle.drf_tables.proofs.Recounted.{accept_fits, counts-accepted}
 use Rattle.drf_tables.proofs.tables.Tables.accept.Goals as goal
 
 pub start-requires-clause-there : goal.start-requires-clause-there
@@ -30,6 +34,20 @@ start-requires-clause-new c = λ o found.
     let same : o ≡ can.offer = cc in
     subst (λ (p : OfferRow). AreNew t.holdings.tasks (map (task_of p) c.args.tasks)) (sym same) (new_starts (rows_in t) can.offer c.args.tasks can.can)
 
+pub release_held-requires : goal.release_held-requires
+unfolding rows_of
+release_held-requires c = λ is label.
+    let t = c.self.inside in
+    let number = c.args.number in
+    let can : CanAccept (rows_in t) number c.args.tasks c.args.filter =
+    subst (λ (s : Stored). CanAccept s.rows number c.args.tasks c.args.filter) (sym c.self.view_is) c.requires.can in
+    let rest : c.args.rest.now ≡ left_of_offer can.offer c.args.tasks =
+    c.requires.rest can.offer (sym (ap (λ (s : Stored). offer_at s.rows number) c.self.view_is) ∙ can.at) in
+    let both : ◌≡◌ {A = Option OfferRow} (Some c.in-Ok.offer) (Some can.offer) = sym c.in-Ok.ensures.ok.found ∙ can.at in
+    let same : c.in-Ok.offer ≡ can.offer = cc in
+    accept_fits t.is_counted (rows_in t) t.quota c.self.invariant.consumed number can.offer c.in-Ok.offer c.args.tasks c.args.rest.now
+    c.self.invariant.kept.consistent can.at can.can same rest is label
+
 pub invariant_of-self-in-Ok : goal.invariant_of-self-in-Ok
 unfolding rows_of
 invariant_of-self-in-Ok c =
@@ -39,12 +57,28 @@ invariant_of-self-in-Ok c =
     subst (λ (s : Stored). CanAccept s.rows number c.args.tasks c.args.filter) (sym c.self.view_is) c.requires.can in
     let rest : c.args.rest.now ≡ left_of_offer can.offer c.args.tasks =
     c.requires.rest can.offer (sym (ap (λ (s : Stored). offer_at s.rows number) c.self.view_is) ∙ can.at) in
-    let back = subst (λ (r : List Resource). HasFreed c.in-Ok.offer.agent r t.agents.entries c.give_back.new.agents.entries) rest c.give_back.ensures in
+    let both : ◌≡◌ {A = Option OfferRow} (Some c.in-Ok.offer) (Some can.offer) = sym c.in-Ok.ensures.ok.found ∙ can.at in
+    let same : c.in-Ok.offer ≡ can.offer = cc in
+    let entries = c.give_back.new.agents.entries in
+    let held = c.start.new.self in
+    let filters = c.add_if.new.filters in
+    let after = c.release_held.new.quota in
+    let more : List FilterRow = option_map_or (λ f. f ∷ []) c.args.filter [] in
+    let rows : List LimitRow → Rows = λ limits.
+    rows_of entries t.frameworks.entries held filters t.weights.entries limits t.clock t.next_offer t.accepted in
+    let back = subst (λ (r : List Resource). HasFreed c.in-Ok.offer.agent r t.agents.entries entries) rest c.give_back.ensures in
+    let told = accepted-rows t entries held filters number c.args.tasks c.args.filter can.offer c.in-Ok.offer c.self.invariant.kept can.at
+    c.in-Ok.ensures.ok back c.in_ok-add_if.ensures.ok in
+    let counts : CountsIf t.is_counted (with_accepted (rows_in t) can.offer c.args.tasks c.args.filter) after =
+    counts-accepted t.is_counted (rows_in t) t.quota c.self.invariant.consumed number can.offer c.in-Ok.offer c.args.tasks c.args.rest.now
+    c.self.invariant.kept.consistent can.at can.can same rest more after c.release_held.ensures in
     record {
-      kept = accepted-kept t c.give_back.new.agents.entries c.start.new.self c.add_if.new.filters number c.args.tasks c.args.filter
+      kept = subst (λ (limits : List LimitRow). IsKept (rows limits) entries t.total t.clients) c.release_held.ensures.limits
+          (accepted-kept t entries held filters number c.args.tasks c.args.filter
           can.offer c.in-Ok.offer c.self.invariant.kept can.at c.in-Ok.ensures.ok back c.in_ok-add_if.ensures.ok
-          can.can can.filter;
-      consumed = none_counted _ _;
+          can.can can.filter);
+      consumed = subst (λ (limits : List LimitRow). CountsIf t.is_counted (rows limits) after) c.release_held.ensures.limits
+          (subst (λ (r : Rows). CountsIf t.is_counted r after) (sym told) counts);
     }
 
 pub returns-in-Ok-clause-ok : goal.returns-in-Ok-clause-ok
@@ -53,7 +87,11 @@ returns-in-Ok-clause-ok c = λ o at.
     let t = c.self.inside in
     let number = c.args.number in
     let found : offer_at (rows_in t) number ≡ Some o = ap (λ (s : Stored). offer_at s.rows number) c.self.view_is ∙ at in
-    let back = subst (λ (r : List Resource). HasFreed c.in-Ok.offer.agent r t.agents.entries c.give_back.new.agents.entries) (c.requires.rest o at) c.give_back.ensures in
-    accepted-rows t c.give_back.new.agents.entries c.start.new.self c.add_if.new.filters number c.args.tasks c.args.filter
+    let entries = c.give_back.new.agents.entries in
+    let back = subst (λ (r : List Resource). HasFreed c.in-Ok.offer.agent r t.agents.entries entries) (c.requires.rest o at) c.give_back.ensures in
+    let rows : List LimitRow → Rows = λ limits.
+    rows_of entries t.frameworks.entries c.start.new.self c.add_if.new.filters t.weights.entries limits t.clock t.next_offer t.accepted in
+    ap rows (sym c.release_held.ensures.limits)
+    ∙ accepted-rows t entries c.start.new.self c.add_if.new.filters number c.args.tasks c.args.filter
     o c.in-Ok.offer c.self.invariant.kept found c.in-Ok.ensures.ok back c.in_ok-add_if.ensures.ok
     ∙ ap (λ (s : Stored). with_accepted s.rows o c.args.tasks c.args.filter) c.self.view_is

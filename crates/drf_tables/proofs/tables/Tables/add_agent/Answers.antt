@@ -1,4 +1,6 @@
-use Rattle.std.proofs.Common.{◌≡◌, List, Some, true, false, length, ap, ◌∙◌, refl, arith}
+use Rattle.std.proofs.Common.{◌≡◌, ◌<◌, List, Some, true, false, length, sym, ap, ◌∙◌, subst, refl, arith}
+use Rattle.indexmap.specs.IndexMap.{insert_entry}
+use Rattle.drf_role.specs.Text.{Text, same_text}
 use Rattle.drf_bundle.specs.Quantities.{amount_of, plus}
 use Rattle.drf_bundle.specs.declared.quantities.Entry.{Entry}
 use Rattle.drf_bundle.specs.declared.resource.Resource.{Resource}
@@ -6,12 +8,18 @@ use Rattle.drf_bundle.specs.Bundle.{quantities_of}
 use Rattle.drf_rows.specs.Consistent.{IsAgent}
 use Rattle.drf_rows.specs.RegistrationLaws.{new_agent, agent_added}
 use Rattle.drf_rows.specs.Members.{has_agent}
-use Rattle.drf_tables.specs.Inside.{rows_in}
+use Rattle.drf_rows.specs.Quota.{reserved_in}
+use Rattle.drf_rows.specs.declared.limits.TheConstants.{LARGEST_AMOUNT}
+use Rattle.drf_rows.specs.declared.rows.LimitRow.{LimitRow}
+use Rattle.drf_rows.specs.declared.rows.Rows.{Rows}
+use Rattle.drf_tables.specs.Inside.{CountsIf, IsKept, rows_in, rows_of}
 use Rattle.drf_tables.specs.Stored.{Stored}
 use Rattle.drf_tables.specs.declared.tables.Agent.{Agent}
+use Rattle.drf_tables.proofs.Entries.{from_ok}
 use Rattle.drf_tables.proofs.Fields.{rows_of-agent, last_agent, sums_fit}
 use Rattle.drf_tables.proofs.Kept.{IsKept-agent_added}
-use Rattle.drf_tables.proofs.Counts.{none_counted}
+use Rattle.drf_tables.proofs.Running.{counts-limits, kept-limits}
+use Rattle.drf_tables.proofs.Recounted.{adds_counted, consumption-agent_added, counts-consumed, counts-still, reserved_le}
 use Rattle.drf_tables.proofs.tables.Tables.add_agent.Goals as goal
 
 pub plus-requires : goal.plus-requires
@@ -25,6 +33,25 @@ plus-requires c = λ label.
     let mine = ap (λ (es : List Entry). amount_of es label) c.quantities.ensures.value in
     omega (arith, fits, sum, mine)
 
+pub consume_total-requires : goal.consume_total-requires
+consume_total-requires c = λ is test label.
+    let t = c.self.inside in
+    adds_counted t.is_counted (rows_in t) t.quota c.self.invariant.consumed is test label (reserved_in test label c.args.total)
+    c.self.invariant.kept.consistent c.self.invariant.kept.few (reserved_le c.args.total test label LARGEST_AMOUNT (c.requires.small label))
+
+pub invariant_of-self-in_err-consume_total : goal.invariant_of-self-in_err-consume_total
+invariant_of-self-in_err-consume_total c =
+    let t = c.self.inside in
+    let after = c.consume_total.new.quota in
+    let same = c.in_err-consume_total.ensures.err in
+    let entries = c.reserve.new.self.entries in
+    let kept = kept-limits t entries after c.in_ok-reserve.ensures.entries (sym same.limits) c.self.invariant.kept in
+    record {
+      kept = kept;
+      consumed = counts-limits t entries after c.in_ok-reserve.ensures.entries (sym same.limits)
+          (counts-still t.is_counted (rows_in t) t.quota c.self.invariant.consumed after same);
+    }
+
 pub invariant_of-self-2 : goal.invariant_of-self-2
 invariant_of-self-2 c =
     let t = c.self.inside in
@@ -33,21 +60,34 @@ invariant_of-self-2 c =
     let agent : Agent = record { total = total; active = true; free = Some c.in_ok-free.free } in
     let new : has_agent (rows_in t) name ≡ false =
     ap (λ (s : Stored). has_agent s.rows name) c.self.view_is ∙ c.requires.new in
-    let inserted = c.in_ok-insert.ensures.entries in
-    let rows = rows_of-agent t c.insert.new.self.entries name agent new inserted refl in
-    let last = last_agent t c.insert.new.self.entries name agent new inserted in
+    let few : length (rows_in t).agents < 4096 = subst (λ (s : Stored). length s.rows.agents < 4096) (sym c.self.view_is) c.requires.few in
+    let inserted : c.insert.new.self.entries ≡ insert_entry same_text t.agents.entries name agent =
+    from_ok c.insert.result c.unwrap.result _ c.unwrap.ensures c.insert.ensures.entries
+    ∙ ap (λ (es : List (Text × Agent)). insert_entry same_text es name agent) c.in_ok-reserve.ensures.entries in
+    let entries = c.insert.new.self.entries in
+    let after = c.consume_total.new.quota in
+    let raised = c.in_ok-consume_total.ensures.ok in
+    let limits : t.quota.limits ≡ after.limits = sym raised.limits in
+    let rows : List LimitRow → Rows = λ limits.
+    rows_of entries t.frameworks.entries t.holdings t.filters t.weights.entries limits t.clock t.next_offer t.accepted in
+    let told : rows t.quota.limits ≡ agent_added (rows_in t) name total = rows_of-agent t entries name agent new inserted refl in
+    let last = last_agent t entries name agent new inserted in
     let all : agent.free ≡ Some total = ap (λ (free : List Resource). Some free) c.in_ok-free.ensures.same in
     let right : IsAgent (new_agent name total) = record {
       total = c.quantities.ensures.bundle;
-      small =
-          c.requires.small;
+      small = c.requires.small;
     } in
     let sum : c.in_ok-sum.sum ≡ plus t.total (quantities_of total) = c.in_ok-sum.ensures ∙ ap (plus t.total) c.quantities.ensures.value in
+    let kept : IsKept (rows t.quota.limits) entries c.in_ok-sum.sum t.clients = rw (told, last, sum) (
+    IsKept-agent_added (rows_in t) t.agents.entries t.total t.clients name agent c.self.invariant.kept few new right all
+    ) in
+    let counts : CountsIf t.is_counted (agent_added (rows_in t) name total) after =
+    counts-consumed t.is_counted (rows_in t) t.quota c.self.invariant.consumed (agent_added (rows_in t) name total) after
+    (λ test label. reserved_in test label total) raised refl (consumption-agent_added (rows_in t) name total) in
     record {
-      kept = rw (rows, last, sum) (
-          IsKept-agent_added (rows_in t) t.agents.entries t.total t.clients name agent c.self.invariant.kept new right all
-          );
-      consumed = none_counted _ _;
+      kept = subst (λ (ls : List LimitRow). IsKept (rows ls) entries c.in_ok-sum.sum t.clients) limits kept;
+      consumed = subst (λ (ls : List LimitRow). CountsIf t.is_counted (rows ls) after) limits
+          (subst (λ (r : Rows). CountsIf t.is_counted r after) (sym told) counts);
     }
 
 pub returns-clause-ok : goal.returns-clause-ok
@@ -57,5 +97,11 @@ returns-clause-ok c =
     let agent : Agent = record { total = c.args.total; active = true; free = Some c.in_ok-free.free } in
     let new : has_agent (rows_in t) name ≡ false =
     ap (λ (s : Stored). has_agent s.rows name) c.self.view_is ∙ c.requires.new in
-    rows_of-agent t c.insert.new.self.entries name agent new c.in_ok-insert.ensures.entries refl
+    let inserted : c.insert.new.self.entries ≡ insert_entry same_text t.agents.entries name agent =
+    from_ok c.insert.result c.unwrap.result _ c.unwrap.ensures c.insert.ensures.entries
+    ∙ ap (λ (es : List (Text × Agent)). insert_entry same_text es name agent) c.in_ok-reserve.ensures.entries in
+    let rows : List LimitRow → Rows = λ limits.
+    rows_of c.insert.new.self.entries t.frameworks.entries t.holdings t.filters t.weights.entries limits t.clock t.next_offer t.accepted in
+    ap rows c.in_ok-consume_total.ensures.ok.limits
+    ∙ rows_of-agent t c.insert.new.self.entries name agent new inserted refl
     ∙ ap (λ (s : Stored). agent_added s.rows name c.args.total) c.self.view_is

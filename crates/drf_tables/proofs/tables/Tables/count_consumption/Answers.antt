@@ -1,29 +1,25 @@
-use Rattle.std.proofs.Common.{◌≤◌, List, length, map, sym, ap, subst, arith}
+use Rattle.std.proofs.Common.{List, map, ap, subst, arith}
 use Rattle.drf_rows.specs.Holdings.{of_offer, of_task}
 use Rattle.drf_rows.specs.Quota.{held_unreserved}
 use Rattle.drf_rows.specs.declared.rows.OfferRow.{OfferRow}
 use Rattle.drf_rows.specs.declared.rows.TaskRow.{TaskRow}
 use Rattle.drf_gates.specs.Quota.{Allowance, IsRaisedBy, used_where}
-use Rattle.drf_tables.specs.Inside.{rows_in}
-use Rattle.drf_tables.specs.Stored.{Stored}
 use Rattle.drf_tables.proofs.Moved.{consumed_fits}
 use Rattle.drf_tables.proofs.tables.Tables.count_consumption.Goals as goal
 
 pub consume_offers-requires : goal.consume_offers-requires
 consume_offers-requires c = λ test label.
     let t = c.self.inside in
-    let few : length (rows_in t).agents ≤ 4096 = subst (λ (s : Stored). length s.rows.agents ≤ 4096) (sym c.self.view_is) c.requires in
     omega (
       arith,
       ap (λ (a : Allowance). used_where test a.used label) c.forget.ensures,
       ap (λ (os : List OfferRow). held_unreserved test (map of_offer os) label) c.offers.ensures,
-      consumed_fits t c.self.invariant.kept few test label,
+      consumed_fits t c.self.invariant.kept test label,
     )
 
 pub consume_tasks-requires : goal.consume_tasks-requires
 consume_tasks-requires c = λ test label.
     let t = c.self.inside in
-    let few : length (rows_in t).agents ≤ 4096 = subst (λ (s : Stored). length s.rows.agents ≤ 4096) (sym c.self.view_is) c.requires in
     let none : Allowance = c.forget.new.self in
     let one : Allowance = c.consume_offers.new.quota in
     let first : IsRaisedBy none one (λ test label. held_unreserved test (map of_offer t.holdings.offers) label) =
@@ -34,13 +30,12 @@ consume_tasks-requires c = λ test label.
       ap (λ (a : Allowance). used_where test a.used label) c.forget.ensures,
       first.used test label,
       ap (λ (ts : List TaskRow). held_unreserved test (map of_task ts) label) c.tasks.ensures,
-      consumed_fits t c.self.invariant.kept few test label,
+      consumed_fits t c.self.invariant.kept test label,
     )
 
 pub consume_totals-requires : goal.consume_totals-requires
 consume_totals-requires c = λ test label.
     let t = c.self.inside in
-    let few : length (rows_in t).agents ≤ 4096 = subst (λ (s : Stored). length s.rows.agents ≤ 4096) (sym c.self.view_is) c.requires in
     let none : Allowance = c.forget.new.self in
     let one : Allowance = c.consume_offers.new.quota in
     let first : IsRaisedBy none one (λ test label. held_unreserved test (map of_offer t.holdings.offers) label) =
@@ -55,5 +50,5 @@ consume_totals-requires c = λ test label.
       ap (λ (a : Allowance). used_where test a.used label) c.forget.ensures,
       first.used test label,
       second.used test label,
-      consumed_fits t c.self.invariant.kept few test label,
+      consumed_fits t c.self.invariant.kept test label,
     )

@@ -1,13 +1,16 @@
-use Rattle.std.proofs.Common.{◌≡◌, Some, None, ap, ◌∙◌, subst, refl}
+use Rattle.std.proofs.Common.{◌≡◌, List, Some, None, sym, ap, ◌∙◌, subst, refl}
+use Rattle.drf_rows.specs.Consistent.{IsConsistent}
 use Rattle.drf_rows.specs.Endings.{without_ended}
+use Rattle.drf_rows.specs.declared.rows.LimitRow.{LimitRow}
 use Rattle.drf_rows.specs.declared.rows.Rows.{Rows}
 use Rattle.drf_rows.specs.Ended.{ending_of}
 use Rattle.drf_tables.specs.Ended.{HasEnded}
+use Rattle.drf_tables.specs.Inside.{CountsIf, IsKept, rows_in, rows_of}
 use Rattle.drf_tables.specs.Stored.{Stored}
-use Rattle.drf_holdings.specs.Stored.{HasTaken}
+use Rattle.drf_holdings.specs.Stored.{HasTaken, holding_of}
 use Rattle.drf_tables.specs.declared.ending.Held.{Held}
-use Rattle.drf_tables.proofs.Ended.{ended-kept, ended-one, rows_ended, rows-none, without-none}
-use Rattle.drf_tables.proofs.Counts.{none_counted}
+use Rattle.drf_tables.proofs.Ended.{ended-kept, ended-one, rows_ended, rows-none, without_it, without-none}
+use Rattle.drf_tables.proofs.Recounted.{counts-ended, ending_fits}
 use Rattle.drf_tables.proofs.tables.Tables.end.Goals as goal
 
 pub returns-in_err-taken-clause-none : goal.returns-in_err-taken-clause-none
@@ -20,15 +23,38 @@ returns-in_err-taken-clause-none c =
       subst (λ (s : Stored). without_ended s.rows ending ≡ s.rows) c.self.view_is (without-none t c.take.new.self ending lost),
     )
 
+pub release_held-requires : goal.release_held-requires
+release_held-requires c = λ is label.
+    let t = c.self.inside in
+    let ending = ending_of c.args.ending in
+    let taken = c.in_ok-taken.taken in
+    let lost : HasTaken ending t.holdings c.take.new.self (Some taken) = c.in_ok-taken.ensures in
+    let entries = c.give_back.new.agents.entries in
+    let one = without_it t entries c.take.new.self ending taken c.self.invariant.kept c.give_back.ensures lost in
+    let new : Rows = rows_ended t entries c.take.new.self ending taken c.self.invariant.kept c.give_back.ensures lost in
+    ending_fits t.is_counted (rows_in t) new t.quota (holding_of taken) c.self.invariant.consumed one.less
+    (sym (ap (λ (r : Rows). r.agents) one.others)) is label
+
 pub invariant_of-self-2 : goal.invariant_of-self-2
 invariant_of-self-2 c =
     let t = c.self.inside in
     let ending = ending_of c.args.ending in
     let taken = c.in_ok-taken.taken in
     let lost : HasTaken ending t.holdings c.take.new.self (Some taken) = c.in_ok-taken.ensures in
+    let held = c.take.new.self in
+    let entries = c.give_back.new.agents.entries in
+    let after = c.release_held.new.quota in
+    let one = without_it t entries held ending taken c.self.invariant.kept c.give_back.ensures lost in
+    let new : Rows = rows_ended t entries held ending taken c.self.invariant.kept c.give_back.ensures lost in
+    let rows : List LimitRow → Rows = λ limits.
+    rows_of entries t.frameworks.entries held t.filters t.weights.entries limits t.clock t.next_offer t.accepted in
+    let counts : CountsIf t.is_counted new after =
+    counts-ended t.is_counted (rows_in t) new t.quota (holding_of taken) c.self.invariant.consumed one.less
+    (sym (ap (λ (r : Rows). r.agents) one.others)) after c.release_held.ensures (sym (ap (λ (r : Rows). r.limits) one.others)) in
     record {
-      kept = ended-kept t c.give_back.new.agents.entries c.take.new.self ending taken c.self.invariant.kept c.give_back.ensures lost;
-      consumed = none_counted _ _;
+      kept = subst (λ (limits : List LimitRow). IsKept (rows limits) entries t.total t.clients) c.release_held.ensures.limits
+          (ended-kept t entries held ending taken c.self.invariant.kept c.give_back.ensures lost);
+      consumed = subst (λ (limits : List LimitRow). CountsIf t.is_counted (rows limits) after) c.release_held.ensures.limits counts;
     }
 
 pub returns-clause-some : goal.returns-clause-some
@@ -39,8 +65,9 @@ returns-clause-some c =
     let lost : HasTaken ending t.holdings c.take.new.self (Some taken) = c.in_ok-taken.ensures in
     let entries = c.give_back.new.agents.entries in
     let told : Held = record { client = c.from_parts.result; bundle = taken.bundle } in
-    let new : Rows = rows_ended t entries c.take.new.self ending taken c.self.invariant.kept c.give_back.ensures lost in
-    subst (λ (s : Stored). HasEnded s.rows new ending told) c.self.view_is
+    let rows : List LimitRow → Rows = λ limits.
+    rows_of entries t.frameworks.entries c.take.new.self t.filters t.weights.entries limits t.clock t.next_offer t.accepted in
+    subst (λ (q : Stored × List LimitRow). HasEnded q.0.rows (rows q.1) ending told) (λ i. (c.self.view_is i, c.release_held.ensures.limits i))
     (ended-one t entries c.take.new.self ending taken c.self.invariant.kept c.give_back.ensures lost told c.from_parts.ensures refl)
 
 pub returns-clause-consistent : goal.returns-clause-consistent
@@ -49,4 +76,8 @@ returns-clause-consistent c =
     let ending = ending_of c.args.ending in
     let taken = c.in_ok-taken.taken in
     let lost : HasTaken ending t.holdings c.take.new.self (Some taken) = c.in_ok-taken.ensures in
-    (ended-kept t c.give_back.new.agents.entries c.take.new.self ending taken c.self.invariant.kept c.give_back.ensures lost).consistent
+    let entries = c.give_back.new.agents.entries in
+    let rows : List LimitRow → Rows = λ limits.
+    rows_of entries t.frameworks.entries c.take.new.self t.filters t.weights.entries limits t.clock t.next_offer t.accepted in
+    subst (λ (limits : List LimitRow). IsConsistent (rows limits)) c.release_held.ensures.limits
+    (ended-kept t entries c.take.new.self ending taken c.self.invariant.kept c.give_back.ensures lost).consistent

@@ -1,13 +1,19 @@
-use Rattle.std.proofs.Common.{◌≡◌, not, filter, sym, ap, ◌∙◌, subst}
+use Rattle.std.proofs.Common.{◌≡◌, List, not, filter, sym, ap, ◌∙◌, subst}
+use Rattle.drf_role.specs.Path.{same_path}
 use Rattle.drf_role.specs.Text.{same_text}
 use Rattle.drf_rows.specs.Endings.{without_ended, all_on}
 use Rattle.drf_rows.specs.Held.{cluster_total}
 use Rattle.drf_rows.specs.Members.{agent_removed}
-use Rattle.drf_tables.specs.Inside.{rows_in}
+use Rattle.drf_rows.specs.declared.rows.LimitRow.{LimitRow}
+use Rattle.drf_rows.specs.declared.rows.Rows.{Rows}
+use Rattle.drf_tables.specs.Inside.{CountsIf, IsKept, rows_in, rows_of}
 use Rattle.drf_tables.specs.Stored.{Stored}
 use Rattle.drf_tables.proofs.Changes.{rows-left, kept-left}
-use Rattle.drf_tables.proofs.Counts.{none_counted}
+use Rattle.drf_tables.proofs.Running.{agent_fits, counts-left}
 use Rattle.drf_tables.proofs.tables.Tables.remove_agent.Goals as goal
+
+pub release_agent-requires : goal.release_agent-requires
+release_agent-requires c = λ is role label. agent_fits c.self.inside c.self.invariant.consumed c.args.agent.now is (same_path role) label
 
 pub invariant_of-self : goal.invariant_of-self
 invariant_of-self c =
@@ -17,20 +23,30 @@ invariant_of-self c =
     subst (λ (s : Stored). without_ended s.rows (all_on name) ≡ s.rows) (sym c.self.view_is) c.requires.nothing in
     let others : c.args.total ≡ cluster_total (filter (λ a. not (same_text a.name name)) (rows_in t).agents) =
     c.requires.total ∙ sym (ap (λ (s : Stored). cluster_total (filter (λ a. not (same_text a.name name)) s.rows.agents)) c.self.view_is) in
+    let entries = c.shift_remove.new.self.entries in
+    let filters = c.drop_agent.new.self in
+    let after = c.release_agent.new.quota in
+    let rows : List LimitRow → Rows = λ limits.
+    rows_of entries t.frameworks.entries t.holdings filters t.weights.entries limits t.clock t.next_offer t.accepted in
     record {
-      kept = kept-left t c.self.invariant.kept name c.shift_remove.new.self.entries c.drop_agent.new.self c.args.total nothing
-          c.shift_remove.ensures.entries c.drop_agent.ensures others;
-      consumed = none_counted _ _;
+      kept = subst (λ (limits : List LimitRow). IsKept (rows limits) entries c.args.total t.clients) c.release_agent.ensures.limits
+          (kept-left t c.self.invariant.kept name entries filters c.args.total nothing c.shift_remove.ensures.entries c.drop_agent.ensures others);
+      consumed = subst (λ (limits : List LimitRow). CountsIf t.is_counted (rows limits) after) c.release_agent.ensures.limits
+          (counts-left t c.self.invariant.consumed name entries filters after c.shift_remove.ensures.entries c.release_agent.ensures);
     }
 
-pub returns : goal.returns
-returns c =
+pub returns-clause-rows : goal.returns-clause-rows
+returns-clause-rows c =
     let t = c.self.inside in
     let name = c.args.agent.now in
     let nothing : without_ended (rows_in t) (all_on name) ≡ rows_in t =
     subst (λ (s : Stored). without_ended s.rows (all_on name) ≡ s.rows) (sym c.self.view_is) c.requires.nothing in
     let others : c.args.total ≡ cluster_total (filter (λ a. not (same_text a.name name)) (rows_in t).agents) =
     c.requires.total ∙ sym (ap (λ (s : Stored). cluster_total (filter (λ a. not (same_text a.name name)) s.rows.agents)) c.self.view_is) in
-    rows-left t c.self.invariant.kept name c.shift_remove.new.self.entries c.drop_agent.new.self c.args.total nothing
-    c.shift_remove.ensures.entries c.drop_agent.ensures others
+    let entries = c.shift_remove.new.self.entries in
+    let filters = c.drop_agent.new.self in
+    let rows : List LimitRow → Rows = λ limits.
+    rows_of entries t.frameworks.entries t.holdings filters t.weights.entries limits t.clock t.next_offer t.accepted in
+    ap rows (sym c.release_agent.ensures.limits)
+    ∙ rows-left t c.self.invariant.kept name entries filters c.args.total nothing c.shift_remove.ensures.entries c.drop_agent.ensures others
     ∙ ap (λ (s : Stored). agent_removed s.rows name) c.self.view_is

@@ -1,0 +1,28 @@
+use Rattle.std.proofs.Common.{◌≡◌, List, true, sym, ap, ◌∙◌, arith}
+use Rattle.drf_role.specs.Text.{Text}
+use Rattle.drf_bundle.specs.Bundle.{is_default}
+use Rattle.drf_gates.specs.Quota.{Allowance, Usage, one_entry, used_by}
+use Rattle.drf_gates.proofs.ConsumedLemmas.{one_here, unreserved-here}
+use Rattle.drf_gates.proofs.UsageLemmas.{bounded-lowered}
+use Rattle.drf_gates.proofs.quota.Quota.release_one.Goals as goal
+
+pub reduce-requires : goal.reduce-requires
+reduce-requires c =
+    let r = c.args.resource.now in
+    let role = c.args.role.now in
+    let old : List Usage = c.self.inside.used.entries in
+    let default : is_default r.role ≡ true = sym c.is_unreserved.ensures ∙ c.if-is_unreserved.true in
+    omega (
+      arith,
+      c.requires.fits r.label,
+      unreserved-here r r.label default,
+      one_here r,
+      c.thousandths-amount.ensures,
+      ap (λ (name : Text). used_by old role name) c.text.ensures.text,
+      ap (λ (a : Allowance). used_by a.used role r.label) c.self.view_is,
+    )
+
+pub invariant_of-self : goal.invariant_of-self
+invariant_of-self c =
+    bounded-lowered c.self.inside.used.entries c.reduce.new.used.entries c.args.role.now
+    (one_entry c.text.result.now c.thousandths-amount.result) c.reduce.ensures c.self.invariant

@@ -1,0 +1,30 @@
+use Rattle.std.proofs.Common.{◌≡◌, List, false, sym, ap, ◌∙◌, cond, arith}
+use Rattle.drf_role.specs.Text.{Text}
+use Rattle.drf_role.specs.Path.{same_path}
+use Rattle.drf_role.specs.PathLaws.{same_path_itself}
+use Rattle.drf_bundle.specs.Bundle.{is_default}
+use Rattle.drf_gates.specs.Quota.{Allowance, Usage, amount_in_one, one_entry, used_by}
+use Rattle.drf_gates.proofs.ConsumedLemmas.{one_here, reserved-here}
+use Rattle.drf_gates.proofs.UsageLemmas.{bounded-lowered}
+use Rattle.drf_gates.proofs.quota.Quota.release_resource.Goals as goal
+
+pub reduce-requires : goal.reduce-requires
+reduce-requires c =
+    let r = c.args.resource.now in
+    let old : List Usage = c.self.inside.used.entries in
+    let other : is_default r.role ≡ false = sym c.is_unreserved.ensures ∙ c.if-not-is_unreserved.true in
+    omega (
+      arith,
+      c.requires.fits r.role r.label,
+      reserved-here r r.label c.requires.right other (same_path r.role),
+      ap (λ b. cond b (amount_in_one r.label r) 0) (same_path_itself r.role),
+      one_here r,
+      c.thousandths-amount.ensures,
+      ap (λ (name : Text). used_by old r.role name) c.text.ensures.text,
+      ap (λ (a : Allowance). used_by a.used r.role r.label) c.self.view_is,
+    )
+
+pub invariant_of-self : goal.invariant_of-self
+invariant_of-self c =
+    bounded-lowered c.self.inside.used.entries c.reduce.new.used.entries c.args.resource.now.role
+    (one_entry c.text.result.now c.thousandths-amount.result) c.reduce.ensures c.self.invariant

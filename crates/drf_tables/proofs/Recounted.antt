@@ -1,0 +1,377 @@
+-- What roles consume, kept through each change of the rows.
+use Rattle.std.specs.Prelude.{◌≡◌, ℕ, ◌+◌, ◌<◌, ◌≤◌, ◌^◌, Bool, true, false, List, [], ◌∷◌, ◌++◌, map, Option, Some, Result, Ok, Err, OnOk, OnErr, length}
+use Rattle.std.specs.Map.{remove_entry}
+use Rattle.std.specs.Option.{option_map_or}
+use Rattle.std.specs.Result.{is_ok}
+use Rattle.std.proofs.Common.{refl, sym, ap, subst, ◌∙◌, cond, inl, inr, arith}
+use Rattle.std.proofs.lemmas.Bool.{cases_Bool, false≢true}
+use Rattle.std.proofs.lemmas.List.Sums.{sum_by-append, sum_by-cons}
+use Rattle.drf_role.specs.Text.{Text, same_text}
+use Rattle.drf_role.specs.Path.{Path, same_path}
+use Rattle.drf_role.specs.PathLaws.{same_path_itself}
+use Rattle.drf_bundle.specs.Bundle.{Key, quantities_of, rest, units, units_where}
+use Rattle.drf_bundle.specs.FitLaws.{join_some}
+use Rattle.drf_bundle.specs.JoinLaws.{where-merged}
+use Rattle.drf_bundle.specs.Quantities.{amount_of}
+use Rattle.drf_bundle.specs.RestLaws.{bundle-rest}
+use Rattle.drf_bundle.specs.SumLaws.{amount-quantities_of}
+use Rattle.drf_bundle.specs.Taken.{rest_of_all, units-rest_of_all, units_of_all}
+use Rattle.drf_bundle.specs.UnitProofs.{covers_by_units, rest_and_part}
+use Rattle.drf_bundle.specs.Value.{Point, Thousandths}
+use Rattle.drf_bundle.specs.declared.resource.Resource.{Resource}
+use Rattle.drf_rows.specs.Consistent.{IsConsistent}
+use Rattle.drf_rows.specs.ConsistentLaws.{same_text-swap}
+use Rattle.drf_rows.specs.EndingLaws.{IsOneLess, accepted_in, offer_held, offer_out, started_by, sum_by-out, tasks_last}
+use Rattle.drf_rows.specs.Holdings.{Holding, holdings_of, of_offer, of_task}
+use Rattle.drf_rows.specs.Offers.{CanStart, offer_at, task_of}
+use Rattle.drf_rows.specs.Quota.{consumption_where, held_unreserved, reserved_for, reserved_in, reserves, unreserved_in}
+use Rattle.drf_rows.specs.QuotaLaws.{consumption_is_part_of_total, parts_le}
+use Rattle.drf_rows.specs.RegistrationLaws.{agent_added, new_agent}
+use Rattle.drf_rows.specs.TaskLaws.{units-covers_all}
+use Rattle.drf_rows.specs.Tasks.{Start, uses}
+use Rattle.drf_rows.specs.Totals.{CanExchange, agent_at, exchanged, with_total}
+use Rattle.drf_rows.specs.TotalsLaws.{agents_after, agents_before, agents_stand, stock-exchanged, where-exchanged, with_total-place}
+use Rattle.drf_rows.specs.declared.limits.TheConstants.{LARGEST_AMOUNT}
+use Rattle.drf_rows.specs.declared.rows.AgentRow.{AgentRow}
+use Rattle.drf_rows.specs.declared.rows.FilterRow.{FilterRow}
+use Rattle.drf_rows.specs.declared.rows.OfferRow.{OfferRow}
+use Rattle.drf_rows.specs.declared.rows.Rows.{Rows}
+use Rattle.drf_gates.specs.Quota.{Allowance, IsAllowanceOf, IsRaisedBy, IsSame, used_by, used_where}
+use Rattle.drf_tables.specs.Inside.{agent_row, CountsIf}
+use Rattle.drf_tables.specs.Recounting.{Amounts, CountsAll, IsRaisedIf, reserved_at}
+use Rattle.drf_tables.specs.declared.tables.Agent.{Agent}
+use Rattle.drf_tables.proofs.Fields.{sums_fit}
+
+-- what holdings of roles that pass a test have for everyone, and what agents have reserved for them
+abbrev held_by : (Path → Bool) → Text → Holding → ℕ
+held_by test label h = cond (test h.client.role) (unreserved_in label h.bundle) 0
+
+abbrev reserved_by : (Path → Bool) → Text → AgentRow → ℕ
+reserved_by test label a = reserved_in test label a.total
+
+-- ---- a quota that counts
+
+module _ (counts : Bool) (old : Rows) (before : Allowance) (counted : CountsIf counts old before) where
+  -- what is consumed by the rows can be released
+  pub releases_fit : counts ≡ true → (test : Path → Bool) (label : Text) (less : ℕ)
+      → less ≤ consumption_where test old label → less ≤ used_where test before.used label
+  releases_fit is test label less fits = omega (arith, (counted is).used test label, fits)
+
+  -- less is consumed, and as much was released
+  pub counts-released : (new : Rows) (after : Allowance) (less : Amounts)
+      → IsRaisedIf counts after before less → old.limits ≡ new.limits
+      → ((test : Path → Bool) (label : Text) → consumption_where test old label ≡ consumption_where test new label + less test label)
+      → CountsIf counts new after
+  counts-released new after less raised limits fewer is = record {
+    limits = sym raised.limits ∙ (counted is).limits ∙ limits;
+    used = λ test label. omega (arith, (counted is).used test label, raised.used is test label, fewer test label);
+  }
+
+  -- more is consumed, and was counted
+  pub counts-consumed : (new : Rows) (after : Allowance) (more : Amounts)
+      → IsRaisedIf counts before after more → old.limits ≡ new.limits
+      → ((test : Path → Bool) (label : Text) → consumption_where test new label ≡ consumption_where test old label + more test label)
+      → CountsIf counts new after
+  counts-consumed new after more raised limits more_is is = record {
+    limits = raised.limits ∙ (counted is).limits ∙ limits;
+    used = λ test label. omega (arith, (counted is).used test label, raised.used is test label, more_is test label);
+  }
+
+  -- as much is consumed
+  pub counts-still : (after : Allowance) → IsSame before after → CountsIf counts old after
+  counts-still after same is = record {
+    limits = same.limits ∙ (counted is).limits;
+    used = λ test label. same.used test label ∙ (counted is).used test label;
+  }
+
+  -- more was counted, and something released
+  pub counts-moved : (new : Rows) (mid after : Allowance) (more less : Amounts)
+      → IsRaisedIf counts before mid more → IsRaisedIf counts after mid less → old.limits ≡ new.limits
+      → ((test : Path → Bool) (label : Text)
+      → consumption_where test new label + less test label ≡ consumption_where test old label + more test label)
+      → CountsIf counts new after
+  counts-moved new mid after more less raised released limits moved is = record {
+    limits = sym released.limits ∙ raised.limits ∙ (counted is).limits ∙ limits;
+    used = λ test label. omega (arith, (counted is).used test label, raised.used is test label, released.used is test label, moved test label);
+  }
+
+  -- something was released, and more counted, if there was memory
+  pub counts-replaced : (new : Rows) (still : Bool) (mid after : Allowance) (less more : Amounts)
+      → IsRaisedIf counts mid before less → (still ≡ true → counts ≡ true) → IsRaisedIf still mid after more → old.limits ≡ new.limits
+      → ((test : Path → Bool) (label : Text)
+      → consumption_where test new label + less test label ≡ consumption_where test old label + more test label)
+      → CountsIf still new after
+  counts-replaced new still mid after less more released first raised limits moved is = record {
+    limits = raised.limits ∙ sym released.limits ∙ (counted (first is)).limits ∙ limits;
+    used = λ test label.
+        omega (
+          arith,
+          (counted (first is)).used test label,
+          released.used (first is) test label,
+          raised.used is test label,
+          moved test label,
+        );
+  }
+
+  -- and it could be counted
+  pub replaces_fit : (new : Rows) (mid : Allowance) (less more : Amounts) → IsRaisedIf counts mid before less → counts ≡ true
+      → ((test : Path → Bool) (label : Text)
+      → consumption_where test new label + less test label ≡ consumption_where test old label + more test label)
+      → ((test : Path → Bool) (label : Text) → consumption_where test new label < 2 ^ 64)
+      → (test : Path → Bool) (label : Text) → used_where test mid.used label + more test label < 2 ^ 64
+  replaces_fit new mid less more released is moved fits test label =
+      omega (arith, (counted is).used test label, released.used is test label, moved test label, fits test label)
+
+  -- more was counted, and released again
+  pub counts-back : (mid after : Allowance) (more : Amounts) → IsRaisedIf counts before mid more → IsRaisedIf counts after mid more
+      → CountsIf counts old after
+  counts-back mid after more raised released is = record {
+    limits = sym released.limits ∙ raised.limits ∙ (counted is).limits;
+    used = λ test label. omega (arith, (counted is).used test label, raised.used is test label, released.used is test label);
+  }
+
+  -- so much more can be counted
+  pub adds_counted : counts ≡ true → (test : Path → Bool) (label : Text) (more : ℕ)
+      → IsConsistent old → length old.agents ≤ 4096 → more ≤ LARGEST_AMOUNT → used_where test before.used label + more < 2 ^ 64
+  adds_counted is test label more consistent few small =
+      omega (
+        arith,
+        (counted is).used test label,
+        consumption_is_part_of_total test old label consistent,
+        sums_fit old.agents label more consistent.agents.each few small,
+      )
+
+-- what was counted can be released
+pub raised_fits : (counts : Bool) (before mid : Allowance) (more : Amounts) → IsRaisedIf counts before mid more → counts ≡ true
+    → (test : Path → Bool) (label : Text) → more test label ≤ used_where test mid.used label
+raised_fits counts before mid more raised is test label = omega (arith, raised.used is test label)
+
+-- ---- a holding ends
+
+pub consumption-one_less : (old new : Rows) (h : Holding) → IsOneLess (holdings_of old) (holdings_of new) h → old.agents ≡ new.agents
+    → (test : Path → Bool) (label : Text)
+    → consumption_where test old label ≡ consumption_where test new label + cond (test h.client.role) (unreserved_in label h.bundle) 0
+consumption-one_less old new h less same test label =
+    let of : List Holding → ℕ = λ hs. held_unreserved test hs label in
+    omega (
+      arith,
+      ap of less.has,
+      sum_by-out (held_by test label) less.before less.after h,
+      ap of less.lacks,
+      ap (λ (agents : List AgentRow). reserved_for test agents label) same,
+    )
+
+module _ (counts : Bool) (old new : Rows) (before : Allowance) (h : Holding) (counted : CountsIf counts old before)
+    (less : IsOneLess (holdings_of old) (holdings_of new) h) (same : old.agents ≡ new.agents) where
+  pub ending_fits : counts ≡ true → (label : Text) → unreserved_in label h.bundle ≤ used_by before.used h.client.role label
+  ending_fits is label =
+      let role = h.client.role in
+      releases_fit counts old before counted is (same_path role) label (unreserved_in label h.bundle)
+      (omega (
+        arith,
+        consumption-one_less old new h less same (same_path role) label,
+        ap (λ b. cond b (unreserved_in label h.bundle) 0) (same_path_itself role),
+      ))
+
+  pub counts-ended : (after : Allowance) → IsRaisedIf counts after before (λ test label. cond (test h.client.role) (unreserved_in label h.bundle) 0)
+      → old.limits ≡ new.limits → CountsIf counts new after
+  counts-ended after raised limits =
+      counts-released counts old before counted new after (λ test label. cond (test h.client.role) (unreserved_in label h.bundle) 0) raised limits
+      (consumption-one_less old new h less same)
+
+-- ---- parts of an offer are tasks
+
+module _ (rows : Rows) (number : ℕ) (o : OfferRow) (starts : List Start) (filters : List FilterRow)
+    (consistent : IsConsistent rows) (found : offer_at rows number ≡ Some o) (can : CanStart rows o starts)
+    (test : Path → Bool) (label : Text) where
+  held_started : (ss : List Start) → held_unreserved test (started_by o ss) label ≡ cond (test o.role) (units_of_all (uses ss) (label, []) Thousandths) 0
+  held_started [] = sym (nothing (test o.role))
+    where
+      nothing : (b : Bool) → ◌≡◌ {A = ℕ} (cond b 0 0) 0
+      nothing true = refl
+      nothing false = refl
+  held_started (s ∷ ss) =
+      let part : List Resource → ℕ = λ part. units part (label, []) Thousandths in
+      sum_by-cons (held_by test label) (of_task (task_of o s)) (started_by o ss)
+      ∙ ap (λ n. cond (test o.role) (unreserved_in label s.1) 0 + n) (held_started ss)
+      ∙ plus (test o.role) (unreserved_in label s.1) (units_of_all (uses ss) (label, []) Thousandths)
+      ∙ ap (λ n. cond (test o.role) n 0) (sym (sum_by-cons part s.1 (uses ss)))
+    where
+      plus : (b : Bool) (n m : ℕ) → cond b n 0 + cond b m 0 ≡ cond b (n + m) 0
+      plus true n m = refl
+      plus false n m = refl
+
+  split_offer : unreserved_in label o.bundle ≡ units_of_all (uses starts) (label, []) Thousandths + unreserved_in label (rest_of_all o.bundle (uses starts))
+  split_offer =
+      let held = offer_held rows number o starts filters consistent found in
+      let has = units-covers_all o.bundle (uses starts) held.bundle can.bundles can.covered in
+      omega (arith, has (label, []) Thousandths, units-rest_of_all o.bundle (uses starts) (label, []) Thousandths held.bundle can.bundles)
+
+  pub consumption-accepted : consumption_where test rows label
+      ≡ consumption_where test (accepted_in rows o starts filters) label
+      + cond (test o.role) (unreserved_in label (rest_of_all o.bundle (uses starts))) 0
+  consumption-accepted =
+      let of : List Holding → ℕ = λ hs. held_unreserved test hs label in
+      let out = offer_out rows number o starts filters consistent found in
+      omega (
+        arith,
+        ap of out.has,
+        sum_by-out (held_by test label) out.before out.after (of_offer o),
+        ap of (tasks_last rows number o starts filters consistent found ∙ ap (λ hs. hs ++ started_by o starts) out.lacks),
+        sum_by-append (held_by test label) (out.before ++ out.after) (started_by o starts),
+        held_started starts,
+        ap (λ n. cond (test o.role) n 0) split_offer,
+        plus (test o.role) (units_of_all (uses starts) (label, []) Thousandths) (unreserved_in label (rest_of_all o.bundle (uses starts))),
+      )
+    where
+      plus : (b : Bool) (n m : ℕ) → cond b (n + m) 0 ≡ cond b n 0 + cond b m 0
+      plus true n m = refl
+      plus false n m = refl
+
+-- what they leave of it is released
+module _ (counts : Bool) (rows : Rows) (before : Allowance) (counted : CountsIf counts rows before)
+    (number : ℕ) (o x : OfferRow) (starts : List Start) (left : List Resource)
+    (consistent : IsConsistent rows) (found : offer_at rows number ≡ Some o) (can : CanStart rows o starts)
+    (same : x ≡ o) (rest_is : left ≡ rest_of_all o.bundle (uses starts)) where
+  abbrev less_held : Amounts
+  less_held test label = cond (test x.role) (unreserved_in label left) 0
+
+  told_as : (test : Path → Bool) (label : Text)
+      → less_held test label ≡ cond (test o.role) (unreserved_in label (rest_of_all o.bundle (uses starts))) 0
+  told_as test label = λ i. cond (test (same i).role) (unreserved_in label (rest_is i)) 0
+
+  pub accept_fits : counts ≡ true → (label : Text) → unreserved_in label left ≤ used_by before.used x.role label
+  accept_fits is label =
+      let test : Path → Bool = same_path x.role in
+      releases_fit counts rows before counted is test label (unreserved_in label left)
+      (omega (
+        arith,
+        consumption-accepted rows number o starts [] consistent found can test label,
+        told_as test label,
+        ap (λ b. cond b (unreserved_in label left) 0) (same_path_itself x.role),
+      ))
+
+  pub counts-accepted : (filters : List FilterRow) (after : Allowance) → IsRaisedIf counts after before less_held
+      → CountsIf counts (accepted_in rows o starts filters) after
+  counts-accepted filters after raised =
+      counts-released counts rows before counted (accepted_in rows o starts filters) after less_held raised refl
+      (λ test label. omega (arith, consumption-accepted rows number o starts filters consistent found can test label, told_as test label))
+
+-- ---- agents come and go
+
+pub consumption-agent_added : (rows : Rows) (name : Text) (total : List Resource) (test : Path → Bool) (label : Text)
+    → consumption_where test (agent_added rows name total) label ≡ consumption_where test rows label + reserved_in test label total
+consumption-agent_added rows name total test label =
+    omega (
+      arith,
+      sum_by-append (reserved_by test label) rows.agents (new_agent name total ∷ []),
+      sum_by-cons (reserved_by test label) (new_agent name total) [],
+    )
+
+-- what the agent of a name has reserved is among what all have
+pub reserved-without : (name : Text) (entries : List (Text × Agent)) (test : Path → Bool) (label : Text)
+    → reserved_for test (map agent_row entries) label
+    ≡ reserved_for test (map agent_row (remove_entry (same_text name) entries)) label + reserved_at (map agent_row entries) name test label
+reserved-without name [] test label = refl
+reserved-without name (e ∷ es) test label = elim (cases_Bool (same_text name e.0)) [
+  | inl here ↦
+      rw (same_text-swap e.0 name ∙ here, here)
+      (omega (arith, sum_by-cons (reserved_by test label) (agent_row e) (map agent_row es)))
+  | inr past ↦
+      rw (same_text-swap e.0 name ∙ past, past)
+      (omega (
+        arith,
+        sum_by-cons (reserved_by test label) (agent_row e) (map agent_row es),
+        sum_by-cons (reserved_by test label) (agent_row e) (map agent_row (remove_entry (same_text name) es)),
+        reserved-without name es test label,
+      ))
+]
+
+-- ---- the total of one agent changes
+
+module _ (rows : Rows) (name : Text) (a : AgentRow) (consistent : IsConsistent rows) (found : agent_at rows name ≡ Some a)
+    (test : Path → Bool) (label : Text) where
+  pub at_found : reserved_at rows.agents name test label ≡ reserved_in test label a.total
+  at_found = ap (λ (o : Option AgentRow). option_map_or (λ (b : AgentRow). reserved_in test label b.total) o 0) found
+
+  pub reserved-is_part : reserved_in test label a.total ≤ consumption_where test rows label
+  reserved-is_part =
+      omega (
+        arith,
+        ap (λ (agents : List AgentRow). reserved_for test agents label) (agents_stand rows name a consistent found),
+        sum_by-out (reserved_by test label) (agents_before rows name a consistent found) (agents_after rows name a consistent found) a,
+      )
+
+  pub consumption-with_total : (made : List Resource → List Resource)
+      → consumption_where test (record rows { agents = with_total rows name made }) label + reserved_in test label a.total
+      ≡ consumption_where test rows label + reserved_in test label (made a.total)
+  consumption-with_total made =
+      let before = agents_before rows name a consistent found in
+      let after = agents_after rows name a consistent found in
+      let of : List AgentRow → ℕ = λ agents. reserved_for test agents label in
+      omega (
+        arith,
+        ap of (agents_stand rows name a consistent found),
+        sum_by-out (reserved_by test label) before after a,
+        ap of (with_total-place rows name a consistent found made),
+        sum_by-out (reserved_by test label) before after (record a { total = made a.total }),
+      )
+
+-- ---- a part is exchanged
+
+-- what is covered has no more
+pub part_le : (whole old new : List Resource) → CanExchange whole old new → (test : Key → Bool) (p : Point)
+    → units_where test p old ≤ units_where test p whole
+part_le whole old new can test p =
+    let joined = join_some (rest whole old) old whole (bundle-rest whole old can.is_whole) can.is_old
+    (rest_and_part whole old can.is_whole can.is_old ((covers_by_units whole old can.is_whole can.is_old).1 can.covered)) in
+    omega (arith, where-merged test p (rest whole old) old joined.joins, ap (units_where test p) joined.is_merged)
+
+module _ (whole old new : List Resource) (can : CanExchange whole old new) (test : Path → Bool) (label : Text) where
+  pub reserved-exchanged : reserved_in test label (exchanged old new whole) + reserved_in test label old
+      ≡ reserved_in test label whole + reserved_in test label new
+  reserved-exchanged = where-exchanged whole old new can (reserves test label) Thousandths
+
+  pub reserved-part_le : reserved_in test label old ≤ reserved_in test label whole
+  reserved-part_le = part_le whole old new can (reserves test label) Thousandths
+
+  -- what comes is at most what the whole has of the scalar
+  pub reserved-small : (most : ℕ) → amount_of (quantities_of whole) label ≤ most → reserved_in test label new ≤ most
+  reserved-small most small =
+      omega (
+        arith,
+        reserved-exchanged,
+        reserved-part_le,
+        parts_le test label (exchanged old new whole),
+        stock-exchanged whole old new can label Thousandths,
+        amount-quantities_of whole label,
+        small,
+      )
+
+-- ---- changes of a quota that counts or not
+
+pub raised_if : (counts : Bool) (old new : Allowance) (more : Amounts) → IsRaisedBy old new more → IsRaisedIf counts old new more
+raised_if counts old new more raised = record { limits = raised.limits; used = λ is. raised.used }
+
+pub raised_not : (counts : Bool) (a : Allowance) (more : Amounts) → counts ≡ false → IsRaisedIf counts a a more
+raised_not counts a more none = record { limits = refl; used = λ is. absurd (false≢true (sym none ∙ is)) }
+
+-- counted, if there was memory
+pub raised_ok : {T E : Type 0} (r : Result T E) (old new : Allowance) (more : Amounts)
+    → OnOk r (IsRaisedBy old new more) → OnErr r (IsSame old new) → IsRaisedIf (is_ok r) old new more
+raised_ok (Ok x) old new more raised same = raised_if true old new more raised
+raised_ok (Err e) old new more raised same = record { limits = same.limits; used = λ is. absurd (false≢true is) }
+
+-- what is reserved of a bundle is at most what it has of the scalar
+pub reserved_le : (total : List Resource) (test : Path → Bool) (label : Text) (most : ℕ) → amount_of (quantities_of total) label ≤ most
+    → reserved_in test label total ≤ most
+reserved_le total test label most small = omega (arith, parts_le test label total, amount-quantities_of total label, small)
+
+pub raised_on : {T E : Type 0} (r : Result T E) (counts : Bool) (old new : Allowance) (more : Amounts)
+    → OnOk r (IsRaisedBy old new more) → OnOk r (IsRaisedIf counts old new more)
+raised_on (Ok x) counts old new more raised = raised_if counts old new more raised
+raised_on (Err e) counts old new more raised = tt
+
+-- a quota that is taken over
+pub counts-taken : (rows : Rows) (other : Option Allowance) (q : Allowance) → other ≡ Some q → CountsAll rows other → IsAllowanceOf rows q
+counts-taken rows other q is all = subst (CountsAll rows) is all

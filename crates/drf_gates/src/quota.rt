@@ -11,6 +11,7 @@ ghost use Rattle.drf_rows.specs.declared.rows.Rows.{Rows};
 ghost use Rattle.indexmap.specs.IndexMap.{insert_entry};
 ghost use Rattle.drf_gates.specs.Quota.{IsAllowanceOf, IsRaised, IsSame, limit_row, lesser, used_at, used_by, with_headroom};
 
+use crate::totals::{Total, clear_totals, copy_totals, drop_total, keep_total, kept, lower_totals, raise_totals};
 use crate::usage::{copy_used, is_within, lower, raise, used_at};
 use drf_bundle::{Entry, Quantities};
 use drf_role::Role;
@@ -25,10 +26,13 @@ pub struct Quota {
     pub(crate) limits: IndexMap<Role, Quantities>,
     // What each role consumes itself, the roles below it left out.
     pub(crate) used: IndexMap<Role, Quantities>,
+    // What roles with a limit consume together with the roles below them, as far as there was memory.
+    pub(crate) totals: Vec<Total>,
 }
 
 impl Model for Quota {
-    ghost use Rattle.drf_gates.specs.Quota.{Allowance, allowance_code, IsBounded, limit_rows};
+    ghost use Rattle.drf_gates.specs.Quota.{Allowance, allowance_code, limit_rows};
+    ghost use Rattle.drf_gates.specs.Totals.{IsCounted};
 
     ghost Value = { Allowance };
 
@@ -36,7 +40,7 @@ impl Model for Quota {
 
     ghost view = { λ q. record { limits = limit_rows q.limits.entries; used = q.used.entries } };
 
-    ghost invariant = { λ q. IsBounded q.used.entries };
+    ghost invariant = { λ q. IsCounted q.used.entries q.totals.items };
 }
 
 /// Whether the limit of a role is that of the other role or of one above it, and names the scalar.
@@ -94,6 +98,7 @@ impl Quota {
         Quota {
             limits: IndexMap::new(alloc),
             used: IndexMap::new(alloc),
+            totals: Vec::new(alloc),
         }
     }
 
@@ -138,10 +143,12 @@ impl Quota {
         ensures ok { OnOk result (self.new ≡ record self.old { limits = limits_with self.old.limits role limit }) }
         ensures err { OnErr result (self.new ≡ self.old) }
     {
+        drop_total(&mut self.totals, &role);
         if limit.entries().is_empty() {
             self.limits.shift_remove(&role);
             return Ok(());
         }
+        keep_total(&mut self.totals, &self.used, &role);
         self.limits.insert(role, limit)?;
         Ok(())
     }
@@ -153,7 +160,10 @@ impl Quota {
     {
         // The proof learns that it is a role by this call alone.
         let _ = role.text();
-        used_at(&self.used, role, label)
+        match kept(&self.totals, role, label) {
+            Some(amount) => amount,
+            None => used_at(&self.used, role, label),
+        }
     }
 
     /// What the limits of a role and of the roles above it leave of a scalar, in thousandths, if one of them names it.
@@ -252,7 +262,9 @@ impl Quota {
         ensures err { OnErr result (self.new ≡ self.old) }
     {
         let _ = role.text();
-        raise(&mut self.used, role, amounts)
+        raise(&mut self.used, role, amounts)?;
+        raise_totals(&mut self.totals, role, amounts);
+        Ok(())
     }
 
     /// Lowers what a role and the roles above it consume. A role releases no more than it consumed itself.
@@ -261,6 +273,7 @@ impl Quota {
         ensures { IsRaised self.new self.old role.now amounts.now }
     {
         lower(&mut self.used, role, amounts);
+        lower_totals(&mut self.totals, role, amounts);
     }
 
     /// The same limits, and the same consumption.
@@ -269,13 +282,20 @@ impl Quota {
     {
         let limits = copy_limits(&self.limits)?;
         let used = copy_used(&self.used)?;
-        Ok(Quota { limits, used })
+        let totals = copy_totals(&self.totals, *self.limits.allocator());
+        Ok(Quota {
+            limits,
+            used,
+            totals,
+        })
     }
 
     /// Forgets what roles consume. It needs no memory.
     pub fn forget(&mut self)
         ensures { self.new ≡ record self.old { used = [] } }
     {
-        self.used = IndexMap::new(*self.limits.allocator());
+        let alloc = *self.limits.allocator();
+        self.used = IndexMap::new(alloc);
+        clear_totals(&mut self.totals, alloc);
     }
 }

@@ -17,6 +17,6 @@ raise-requires c = λ label.
 pub invariant_of-self : goal.invariant_of-self
 invariant_of-self c =
     bounded-raised c.raise.result c.self.inside.used.entries c.raise.new.used.entries c.args.role.now c.args.amounts.now
-    c.raise.ensures.ok c.raise.ensures.err c.self.invariant
+    c.raise.ensures.ok c.raise.ensures.err c.self.invariant.bounded
     (λ outer label right within.
     omega (arith, c.requires outer label right within, ap (λ (a : Allowance). used_at a.used outer label) c.self.view_is))

@@ -4,3 +4,4 @@ pub mod UsageLemmas
 pub mod QuotaLemmas
 pub mod ConsumedLemmas
 pub mod TotalLemmas
+pub mod RoomLemmas

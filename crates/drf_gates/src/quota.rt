@@ -1,15 +1,15 @@
 //! Quota limits, and what roles consume (Mesos: quota limits).
-ghost use Rattle.std.specs.Prelude.{◌≡◌, ◌≢◌, ℕ, ◌+◌, ◌^◌, ◌<◌, ◌≤◌, [], ◌↔◌, true, IsTrue, fold, filter, length, OnOk, OnErr, IfOk};
+ghost use Rattle.std.specs.Prelude.{◌≡◌, ◌≢◌, ℕ, ◌+◌, ◌^◌, ◌<◌, ◌≤◌, [], ◌↔◌, true, IsTrue, filter, length, OnOk, OnErr, IfOk};
 ghost use Rattle.std.specs.List.{list_all};
 ghost use Rattle.std.specs.Option.{option_copied};
 ghost use Rattle.drf_role.specs.Text.{Text};
 ghost use Rattle.drf_role.specs.Path.{Path, same_path};
 ghost use Rattle.drf_role.specs.Role.{IsRole};
-ghost use Rattle.drf_bundle.specs.Quantities.{amount_of, names_of};
+ghost use Rattle.drf_bundle.specs.Quantities.{amount_of};
 ghost use Rattle.drf_rows.specs.Quota.{is_within, binds, headroom_under, headrooms, stays_within, admits_under, limit_of, limits_with, consumption, headroom_at, headroom, admits};
 ghost use Rattle.drf_rows.specs.declared.rows.Rows.{Rows};
 ghost use Rattle.indexmap.specs.IndexMap.{insert_entry};
-ghost use Rattle.drf_gates.specs.Quota.{IsAllowanceOf, IsRaised, IsSame, limit_row, lesser, used_at, used_by, with_headroom};
+ghost use Rattle.drf_gates.specs.Quota.{IsAllowanceOf, IsRaised, IsSame, known_amount, lessened, limit_row, lesser, used_at, used_by};
 
 use crate::totals::{Total, clear_totals, copy_totals, drop_total, keep_total, kept, lower_totals, raise_totals};
 use crate::usage::{copy_used, is_within, lower, raise, used_at};
@@ -57,6 +57,17 @@ fn lesser(known: Option<u64>, number: u64) -> u64
     match known {
         None => number,
         Some(other) => other.min(number),
+    }
+}
+
+/// The amount of a label, if it is named.
+fn known_amount(amounts: &Quantities, label: &str) -> Option<u64>
+    ensures { result ≡ known_amount amounts.now label.now }
+{
+    if amounts.is_named(label) {
+        Some(amounts.get(label))
+    } else {
+        None
     }
 }
 
@@ -183,19 +194,22 @@ impl Quota {
         least
     }
 
-    /// The headroom of each scalar that a limit names, among those that are there.
+    /// What the limit of a role leaves of each scalar that it names, put among what others leave. The lesser is kept.
     fn add_headroom(
         &self,
-        role: &Role,
+        limited: &Role,
         limit: &Quantities,
         room: &mut Quantities,
     ) -> Result<(), AllocError>
-        ensures { OnOk result (room.new
-            ≡ fold (with_headroom self.now.limits (used_at self.now.used) role.now) room.old (names_of limit.now)) }
+        ensures { OnOk result ((label : Text) → known_amount room.new label
+            ≡ lessened (used_at self.now.used) (limit_row (limited.now, limit.now)) (known_amount room.old label) label) }
     {
         for entry in limit.entries() {
-            let left = self.headroom_at(role, entry.label.text()).unwrap_or(0);
-            room.set(entry.label.copy()?, left)?;
+            let label = entry.label.text();
+            let used = self.consumption(limited, label);
+            let left = entry.amount.thousandths().saturating_sub(used);
+            let least = lesser(known_amount(room, label), left);
+            room.set(entry.label.copy()?, least)?;
         }
         Ok(())
     }
@@ -210,8 +224,10 @@ impl Quota {
             if !is_within(limited, role) {
                 continue;
             }
-            self.add_headroom(role, limit, &mut room)?;
+            self.add_headroom(limited, limit, &mut room)?;
         }
+        // The proof learns that the labels are in order by this call alone.
+        let _ = room.entries();
         Ok(room)
     }
 

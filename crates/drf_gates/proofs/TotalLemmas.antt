@@ -115,13 +115,14 @@ rest_set xs i x in_range = drop-set-lt (i + 1) xs i x (omega arith)
 
 pub carried_more : (Changes : List Usage → List Usage → Type 0) (first now : List Total) (i : ℕ) (t u : Total)
     → i < length now → t ≡ get_or now i t → IsCarried Changes first now i
-    → ((old new : List Usage) → Changes old new → IsExact old t → IsExact new u)
+    → ((old new : List Usage) → Changes old new → IsExact old (get_or now i t) → IsExact new u)
     → IsCarried Changes first (set now i u) (i + 1)
 carried_more Changes first now i t u in_range read carried step old new changes exact =
     let so_far = carried old new changes exact in
     let left : AreExact old (t ∷ drop (i + 1) now) = subst (λ (ts : List Total). AreExact old ts) (next_of now i t in_range read) so_far.1 in
     let done : AreExact new (take i now ++ u ∷ []) =
-    All-push (IsExact new) (take i now) u so_far.0 (step old new changes (All-head (IsExact old) t (drop (i + 1) now) left)) in
+    All-push (IsExact new) (take i now) u so_far.0
+    (step old new changes (subst (λ (x : Total). IsExact old x) read (All-head (IsExact old) t (drop (i + 1) now) left))) in
     (
       subst (λ (ts : List Total). AreExact new ts) (sym (take_more_set now i u in_range)) done,
       subst (λ (ts : List Total). AreExact old ts) (sym (rest_set now i u in_range)) (All-tail (IsExact old) t (drop (i + 1) now) left),

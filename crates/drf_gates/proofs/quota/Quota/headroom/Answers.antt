@@ -1,4 +1,4 @@
-use Rattle.std.proofs.Common.{◌≡◌, List, [], subst, ◌∙◌}
+use Rattle.std.proofs.Common.{◌≡◌, List, subst, ◌∙◌}
 use Rattle.drf_rows.specs.Quota.{headrooms}
 use Rattle.drf_gates.specs.Quota.{Allowance, Usage, limit_rows, used_at}
 use Rattle.drf_gates.proofs.QuotaLemmas.{headroom-its}
@@ -7,19 +7,16 @@ use Rattle.drf_gates.proofs.quota.Quota.headroom.Goals as goal
 
 pub returns-clause-value : goal.returns-clause-value
 returns-clause-value c =
-    let over : List Usage → Type 0 =
-    λ es. IsGoneOver (used_at c.args.self.now.used) c.args.role.now c.args.self.now.limits c.loop-limited.room (limit_rows es) in
-    let none : ◌≡◌ {A = List Usage} c.loop-limited.limited-iterator [] = cc in
-    gone_end (used_at c.args.self.now.used) c.args.role.now c.args.self.now.limits c.loop-limited.room c.entries.ensures.in_order
-    (subst over none c.loop-limited.invariant)
+    let a : Allowance = c.args.self.now in
+    gone_end (used_at a.used) c.args.role.now a.limits c.loop-limited.room c.entries.ensures.in_order
+    (subst (λ (es : List Usage). IsGoneOver (used_at a.used) c.args.role.now a.limits c.loop-limited.room (limit_rows es))
+    c.in-None.ensures.steps.0 c.loop-limited.invariant)
 
 pub returns-clause-of_rows : goal.returns-clause-of_rows
 returns-clause-of_rows c =
     let a : Allowance = c.args.self.now in
-    let over : List Usage → Type 0 =
-    λ es. IsGoneOver (used_at a.used) c.args.role.now a.limits c.loop-limited.room (limit_rows es) in
-    let none : ◌≡◌ {A = List Usage} c.loop-limited.limited-iterator [] = cc in
     let value : c.loop-limited.room ≡ headrooms a.limits (used_at a.used) c.args.role.now =
     gone_end (used_at a.used) c.args.role.now a.limits c.loop-limited.room c.entries.ensures.in_order
-    (subst over none c.loop-limited.invariant) in
+    (subst (λ (es : List Usage). IsGoneOver (used_at a.used) c.args.role.now a.limits c.loop-limited.room (limit_rows es))
+    c.in-None.ensures.steps.0 c.loop-limited.invariant) in
     λ rows its. value ∙ headroom-its rows a its c.args.role.now

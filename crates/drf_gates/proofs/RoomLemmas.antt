@@ -1,16 +1,16 @@
 -- What limits leave of each scalar, found by going over them once.
-use Rattle.std.specs.Prelude.{◌≡◌, ◌≢◌, ℕ, ◌+◌, ◌-◌, ◌<◌, ◌≤◌, ◌⊎◌, min, Bool, true, false, ◌&&◌, ◌||◌, List, [], ◌∷◌, ◌++◌, map, filter, fold, length, drop, Option, Some, None, is_some, IsTrue}
-use Rattle.std.specs.List.{list_all, list_any, flat_map, reduce}
+use Rattle.std.specs.Prelude.{◌≡◌, ◌≢◌, ℕ, ◌+◌, ◌-◌, ◌<◌, ◌≤◌, ◌⊎◌, min, Bool, true, false, ◌&&◌, ◌||◌, List, [], ◌∷◌, map, filter, fold, length, drop, Option, Some, None, is_some, IsTrue}
+use Rattle.std.specs.List.{list_any, flat_map, reduce}
 use Rattle.std.specs.Option.{option_map_or}
-use Rattle.std.proofs.Common.{refl, sym, ap, subst, ◌∙◌, inl, inr, cond, arith, get_or}
-use Rattle.std.proofs.lemmas.Bool.{and_parts, and_from, cases_Bool, false≢true}
+use Rattle.std.proofs.Common.{refl, sym, ap, subst, ◌∙◌, inl, inr, cond, get_or}
+use Rattle.std.proofs.lemmas.Bool.{and_parts, and_from}
 use Rattle.std.proofs.lemmas.List.{drop_all}
 use Rattle.std.proofs.lemmas.List.Folds.{list_any-append}
 use Rattle.drf_role.specs.Text.{Text, same_text, text_below}
-use Rattle.drf_role.specs.TextLaws.{cases_cmp, cases_same, same_itself, same_from_test, same_from_cmp, above_other, below_other, below_from_cmp, above_from_cmp}
+use Rattle.drf_role.specs.TextLaws.{cases_cmp, cases_same, same_itself, same_from_test, same_from_cmp, above_other, below_from_cmp, above_from_cmp}
 use Rattle.drf_role.specs.Path.{Path}
 use Rattle.drf_bundle.specs.Quantities.{amount_of, is_in_order, is_named, names_of, with_amount}
-use Rattle.drf_bundle.specs.QuantitiesLaws.{stands_first, first_trans, amount_first, amount_head, amount-with, in_order-with, named-with}
+use Rattle.drf_bundle.specs.QuantitiesLaws.{stands_first, first_trans, amount-with, in_order-with, named-with}
 use Rattle.drf_bundle.specs.declared.quantities.Entry.{Entry}
 use Rattle.drf_rows.specs.Quota.{Consumed, is_within, binds, room_under, headroom_under, headrooms, limited_names}
 use Rattle.drf_rows.specs.declared.rows.LimitRow.{LimitRow}

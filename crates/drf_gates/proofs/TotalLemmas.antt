@@ -1,10 +1,10 @@
 -- What is kept of the roles that have a limit, through each change of what roles consume.
-use Rattle.std.specs.Prelude.{◌≡◌, ℕ, ◌+◌, ◌<◌, ◌≤◌, Bool, true, false, List, [], ◌∷◌, ◌++◌, All, IsTrue, length, take, drop, Result, Ok, Err, OnOk, is_ok}
+use Rattle.std.specs.Prelude.{◌≡◌, ℕ, ◌+◌, ◌<◌, ◌≤◌, Bool, true, false, List, [], ◌∷◌, ◌++◌, IsTrue, length, take, drop, Result, Ok, Err, OnOk, is_ok}
 use Rattle.std.specs.Global.{Vec}
 use Rattle.std.specs.Vec.{with_items}
 use Rattle.std.proofs.Common.{refl, sym, ap, subst, ◌∙◌, inl, inr, cond, arith, get_or, set}
 use Rattle.std.proofs.lemmas.Bool.{and_parts, false≢true}
-use Rattle.std.proofs.lemmas.List.{drop_all, drop-set-lt, take_all, take_more_set, with_items_is}
+use Rattle.std.proofs.lemmas.List.{drop-set-lt, take_all, take_more_set, with_items_is}
 use Rattle.std.proofs.lemmas.List.Elements.{All-get_or, All-head, All-push, All-tail, All-weaker}
 use Rattle.drf_role.specs.Text.{Text, same_text}
 use Rattle.drf_role.specs.TextLaws.{cases_same, same_from_test}
@@ -63,9 +63,9 @@ module _ (small large whole es : List Entry) (i : ℕ) (e : Entry) (in_range : i
   taken_more new name amount same its taken = record {
     in_order = rest_ordered;
     sums = λ label.
-    let renamed : amount_of (one_entry name amount) label ≡ amount_of (one_entry e.label e.amount) label =
-    λ k. amount_of (one_entry (same k) (its k)) label in
-    omega (arith, taken label, split_left.sums label, first_amount e (drop (i + 1) es) split_left.in_order label);
+        let renamed : amount_of (one_entry name amount) label ≡ amount_of (one_entry e.label e.amount) label =
+        λ k. amount_of (one_entry (same k) (its k)) label in
+        omega (arith, taken label, split_left.sums label, first_amount e (drop (i + 1) es) split_left.in_order label);
   }
 
 -- the amount of an entry's label grows by the entry
@@ -122,8 +122,7 @@ carried_more Changes first now i t u in_range read carried step old new changes 
     let left : AreExact old (t ∷ drop (i + 1) now) = subst (λ (ts : List Total). AreExact old ts) (next_of now i t in_range read) so_far.1 in
     let done : AreExact new (take i now ++ u ∷ []) =
     All-push (IsExact new) (take i now) u so_far.0
-    (step old new changes (subst (λ (x : Total). IsExact old x) read (All-head (IsExact old) t (drop (i + 1) now) left))) in
-    (
+    (step old new changes (subst (λ (x : Total). IsExact old x) read (All-head (IsExact old) t (drop (i + 1) now) left))) in (
       subst (λ (ts : List Total). AreExact new ts) (sym (take_more_set now i u in_range)) done,
       subst (λ (ts : List Total). AreExact old ts) (sym (rest_set now i u in_range)) (All-tail (IsExact old) t (drop (i + 1) now) left),
     )

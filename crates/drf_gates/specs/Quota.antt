@@ -7,13 +7,13 @@ use Rattle.std.specs.Option.{option_map_or}
 use Rattle.drf_role.specs.Text.{Text, same_text}
 use Rattle.drf_role.specs.Path.{Path, same_path}
 use Rattle.drf_role.specs.Role.{IsRole}
-use Rattle.drf_bundle.specs.Quantities.{amount_of, is_named, with_amount}
+use Rattle.drf_bundle.specs.Quantities.{amount_of, is_named}
 use Rattle.drf_bundle.specs.Value.{Thousandths, units_in}
 use Rattle.drf_bundle.specs.Bundle.{same_key, key_of}
 use Rattle.drf_bundle.specs.declared.resource.Resource.{Resource}
 use Rattle.drf_bundle.specs.contracts.quantities.Entry as entry
 use Rattle.drf_bundle.specs.declared.quantities.Entry.{Entry}
-use Rattle.drf_rows.specs.Quota.{Consumed, reserves, is_within, consumption_where, binds, room_under, headroom_under}
+use Rattle.drf_rows.specs.Quota.{Consumed, reserves, is_within, consumption_where, binds, room_under}
 use Rattle.drf_rows.specs.contracts.rows.LimitRow as limit
 use Rattle.drf_rows.specs.declared.rows.LimitRow.{LimitRow}
 use Rattle.drf_rows.specs.declared.rows.Rows.{Rows}

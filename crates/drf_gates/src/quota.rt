@@ -11,7 +11,9 @@ ghost use Rattle.drf_rows.specs.declared.rows.Rows.{Rows};
 ghost use Rattle.indexmap.specs.IndexMap.{insert_entry};
 ghost use Rattle.drf_gates.specs.Quota.{IsAllowanceOf, IsRaised, IsSame, known_amount, lessened, limit_row, lesser, used_at, used_by};
 
-use crate::totals::{Total, clear_totals, copy_totals, drop_total, keep_total, kept, lower_totals, raise_totals};
+use crate::totals::{
+    Total, clear_totals, copy_totals, drop_total, keep_total, kept, lower_totals, raise_totals,
+};
 use crate::usage::{copy_used, is_within, lower, raise, used_at};
 use drf_bundle::{Entry, Quantities};
 use drf_role::Role;

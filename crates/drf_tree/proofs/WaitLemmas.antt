@@ -21,7 +21,14 @@ padded (flag ∷ flags) (suc i) = padded flags i
 
 module _ (stale listed : List Bool) (waiting : List ℕ) (room : ℕ) (are : AreWaiting stale listed waiting room) where
   pub more_room : (wider : ℕ) → room ≤ wider → AreWaiting stale listed waiting wider
-  more_room wider more = record are { room_is = omega (arith, more, are.room_is) }
+  more_room wider more = record {
+    long = are.long;
+    few = are.few;
+    room_is = omega (arith, more, are.room_is);
+    marked = are.marked;
+    waits = are.waits;
+    within = are.within;
+  }
 
   pub one_number_more : (wider : ℕ) → length stale + 1 ≤ wider
       → AreWaiting (stale ++ false ∷ []) (listed ++ false ∷ []) waiting wider
@@ -34,6 +41,10 @@ module _ (stale listed : List Bool) (waiting : List ℕ) (room : ℕ) (are : Are
     within = each_from (λ n. n < length stale) (λ n. n < length (stale ++ false ∷ [])) waiting
         (λ n below. omega (arith, below, length-append stale (false ∷ []))) are.within;
   }
+
+  -- no number waits twice
+  pub few_wait : length waiting ≤ length stale
+  few_wait = omega (arith, are.few, are.long, few_marked listed)
 
   -- ---- a mark
 

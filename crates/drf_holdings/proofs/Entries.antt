@@ -1,5 +1,5 @@
 -- Entries that stand under their numbers: what is found among them, taken out and put last.
-use Rattle.std.specs.Prelude.{◌≡◌, ℕ, ◌==◌, ◌<◌, ◌≤◌, ◌||◌, ◌&&◌, Bool, true, false, not, List, [], ◌∷◌, ◌++◌, map, filter, find, cond, nat_lt, Option, Some, None, MatchOption, IfNone, is_some, length, ◌↔◌}
+use Rattle.std.specs.Prelude.{◌≡◌, ℕ, ◌==◌, ◌<◌, ◌≤◌, ◌||◌, ◌&&◌, Bool, true, false, not, List, [], ◌∷◌, ◌++◌, map, filter, find, cond, nat_lt, Option, Some, None, MatchOption, IfNone, length, ◌↔◌}
 use Rattle.std.specs.List.{list_any, AllByRecursion}
 use Rattle.std.specs.Map.{lookup, remove_entry, values_of}
 use Rattle.std.specs.BTreeMap.{is_at, insert_entry}
@@ -193,7 +193,7 @@ module _ {X : Type 0} (number : X → ℕ) where
       rising = rising_front number (values_of new) (e.1 ∷ []) (subst (λ (xs : List X). IsRising (map number xs)) values_front kept.rising);
     }
 
--- where a map has no last entry, it has none
-pub none_last : {Y Z : Type 0} (es : List Y) (r : Option Z) → r ≡ None → (is_some r ≡ true ↔ (0 < length es)) → es ≡ []
-none_last [] r none some = refl
-none_last (e ∷ es) r none some = absurd (false≢true (sym (ap is_some none) ∙ some.1 (omega arith)))
+-- where there is no last entry, there is none
+pub none_last : {Y : Type 0} (es : List Y) → ((false ≡ true) ↔ (0 < length es)) → es ≡ []
+none_last [] some = refl
+none_last (e ∷ es) some = absurd (false≢true (some.1 (omega arith)))

@@ -97,14 +97,6 @@ impl Numbered for OfferRow {
     }
 }
 
-/// Turns a list round.
-fn turn(offers: &mut Vec<OfferRow>)
-    ensures items { offers.new.items ≡ reverse offers.old.items }
-    ensures room { vec_capacity offers.new ≡ vec_capacity offers.old }
-{
-    offers.reverse();
-}
-
 /// Moves offers behind those that stand, the last one first. An `Err` leaves some of them where they are.
 fn move_some(rows: &mut ByNumber<OfferRow>, offers: &mut Vec<OfferRow>) -> Result<(), AllocError>
     requires { IsRising (map offer_number (rows.old ++ reverse offers.old.items)) }
@@ -146,12 +138,12 @@ fn move_all(rows: &mut ByNumber<OfferRow>, offers: &mut Vec<OfferRow>) -> Result
     ensures err { OnErr result ((rows.new ≡ rows.old) × (offers.new.items ≡ offers.old.items)) }
 {
     let count = rows.len();
-    turn(offers);
+    offers.reverse();
     match move_some(rows, offers) {
         Ok(()) => Ok(()),
         Err(error) => {
             move_back(rows, offers, count);
-            turn(offers);
+            offers.reverse();
             Err(error)
         }
     }

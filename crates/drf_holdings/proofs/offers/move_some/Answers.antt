@@ -1,4 +1,4 @@
-use Rattle.std.proofs.Common.{◌≡◌, ◌∷◌, [], ◌++◌, List, reverse, sym, ap, ◌∙◌, append_assoc, append-nil}
+use Rattle.std.proofs.Common.{◌≡◌, ◌∷◌, [], ◌++◌, List, reverse, sym, ap, ◌∙◌, append_assoc, append-nil, rules}
 use Rattle.drf_rows.specs.declared.rows.OfferRow.{OfferRow}
 use Rattle.drf_holdings.specs.Listed.{offer_number}
 use Rattle.drf_holdings.proofs.Lists.{none_in}
@@ -23,7 +23,7 @@ loop-offer-preserved c =
     let at = c.loop-offer in
     let left = c.pop.new.self.items in
     let offer : OfferRow = c.in-Some.offer in
-    let put : c.push.new.self ≡ at.rows ++ offer ∷ [] = c.in_default.ensures.ok in
+    let put : c.push.new.self ≡ at.rows ++ offer ∷ [] = c.in_default-push.ensures.ok in
     record {
       all = ap (λ (os : List OfferRow). os ++ reverse left) put ∙ sym (whole_next at.rows at.offers.items left offer c.in-Some.ensures.items) ∙ at.invariant.all;
       front = (

@@ -1,4 +1,4 @@
-use Rattle.std.proofs.Common.{◌≡◌, ◌∷◌, [], ◌++◌, List, map, refl, sym, ap, subst, ◌∙◌, append-nil}
+use Rattle.std.proofs.Common.{◌≡◌, ◌+◌, ◌∷◌, [], ◌++◌, List, map, refl, sym, ap, subst, ◌∙◌, append-nil}
 use Rattle.std.proofs.lemmas.List.{map-append}
 use Rattle.drf_rows.specs.Endings.{is_task}
 use Rattle.drf_holdings.specs.Listed.{task_serial, task_row, AreTasksListed, AreTasksKept}
@@ -18,15 +18,11 @@ add-requires c =
 
 pub returns-in_err-add-clause-err : goal.returns-in_err-add-clause-err
 returns-in_err-add-clause-err c =
+    let tasks : List Task = c.args.tasks.now in
     let kept = c.requires.kept in
-    on_err _ _ (
-      refl,
-      record {
-        rising = kept.rising;
-        below = kept.below;
-        listed = c.in_err-add.ensures.err c.args.tasks.now kept.listed;
-      },
-    )
+    let same : (tasks ≡ tasks) × AreTasksKept c.add.new.self tasks c.args.serial =
+    (refl, record { rising = kept.rising; below = kept.below; listed = c.in_err-add.ensures.err tasks kept.listed }) in
+    on_err _ _ same
 
 pub push-requires : goal.push-requires
 push-requires c =
@@ -41,7 +37,7 @@ returns-in-Ok-clause-ok c =
 pub returns-in-Ok-clause-kept : goal.returns-in-Ok-clause-kept
 returns-in-Ok-clause-kept c =
     let task : Task = record { row = c.args.row; serial = c.args.serial } in
-    subst (λ (ts : List Task). AreTasksKept c.add.new.self ts _) (sym c.in-Ok.ensures.ok)
+    subst (λ (ts : List Task). AreTasksKept c.add.new.self ts (c.args.serial + 1)) (sym c.in-Ok.ensures.ok)
     (kept_in c.args.index.now c.add.new.self c.args.tasks.now task c.args.serial refl c.requires.kept
     (c.in_ok-add.ensures.ok c.args.tasks.now c.requires.kept.listed))
 
@@ -55,11 +51,10 @@ returns-in-Err-clause-err c =
     let listed : AreTasksListed c.remove.new.self (tasks ++ []) =
     c.remove.ensures tasks [] (subst (λ (t : Task). IsRising (map task_serial (tasks ++ t ∷ []))) its rising)
     (subst (λ (t : Task). AreTasksListed c.add.new.self (tasks ++ t ∷ [])) its (c.in_ok-add.ensures.ok tasks kept.listed)) in
-    on_err _ _ (
-      c.in-Err.ensures.err,
-      subst (λ (ts : List Task). AreTasksKept c.remove.new.self ts c.args.serial) (sym c.in-Err.ensures.err) (record {
-        rising = kept.rising;
-        below = kept.below;
-        listed = subst (AreTasksListed c.remove.new.self) (append-nil tasks) listed;
-      }),
-    )
+    let kept_back : AreTasksKept c.remove.new.self c.push.new.self c.args.serial =
+    subst (λ (ts : List Task). AreTasksKept c.remove.new.self ts c.args.serial) (sym c.in-Err.ensures.err) (record {
+      rising = kept.rising;
+      below = kept.below;
+      listed = subst (AreTasksListed c.remove.new.self) (append-nil tasks) listed;
+    }) in
+    (c.in-Err.ensures.err, kept_back)

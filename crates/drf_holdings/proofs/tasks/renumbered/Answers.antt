@@ -14,7 +14,7 @@ put_task-requires-clause-new c =
     rw c.in_ok-copy.ensures new.0
 
 pub overflow_add-serial : goal.overflow_add-serial
-overflow_add-serial c = omega (arith, c.loop-task.invariant.total, c.values-task-iterator.ensures.fits)
+overflow_add-serial c = omega (arith, c.loop-task.invariant.total, c.values-task-items.ensures.fits)
 
 pub loop-task-preserved : goal.loop-task-preserved
 loop-task-preserved c =

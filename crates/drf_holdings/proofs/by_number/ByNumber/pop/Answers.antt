@@ -17,5 +17,7 @@ returns-clause-items g c =
 
 pub returns-in_err-last-clause-none : goal.returns-in_err-last-clause-none
 returns-in_err-last-clause-none g c =
-    let none = none_last c.self.inside.things.entries c.pop_last.result c.in_err-last.is c.in_err-last.ensures.variant in
-    on_none _ _ (sym c.self.view_is ∙ ap values_of none, ap values_of c.in_err-last.ensures.unchanged ∙ ap values_of none)
+    let none = none_last c.self.inside.things.entries c.in_err-last.ensures.variant in
+    let both : (c.args.self.now ≡ []) × (values_of c.pop_last.new.self.entries ≡ []) =
+    (sym c.self.view_is ∙ ap values_of none, ap values_of c.in_err-last.ensures.unchanged ∙ ap values_of none) in
+    on_none _ _ both

@@ -17,16 +17,16 @@ invariant_of-self-in-Err c =
     let added : AreOffersListed c.add_all.new.self (rows ++ offers) =
     subst (λ (os : List OfferRow). AreOffersListed c.add_all.new.self (rows ++ os)) c.deref.ensures.value
     (c.in_ok-add_all.ensures.ok rows c.self.invariant.listed) in
-    let same : c.deref-2.result.now ≡ offers = c.deref-2.ensures.value ∙ c.in-Err.ensures.err.1 in
-    let kept : AreOffersKept c.add_all.new.self (rows ++ c.deref-2.result.now) =
+    let same : c.deref-in-Err.result.now ≡ offers = c.deref-in-Err.ensures.value ∙ c.in-Err.ensures.err.1 in
+    let kept : AreOffersKept c.add_all.new.self (rows ++ c.deref-in-Err.result.now) =
     subst (λ (os : List OfferRow). AreOffersKept c.add_all.new.self (rows ++ os)) (sym same) (record { rising = rising; listed = added }) in
     subst (AreOffersKept c.remove_all.new.self) (sym c.in-Err.ensures.err.0) (record {
       rising = c.self.invariant.rising;
       listed = c.remove_all.ensures rows kept;
     })
 
-pub invariant_of-self-2 : goal.invariant_of-self-2
-invariant_of-self-2 c =
+pub invariant_of-self-in_default : goal.invariant_of-self-in_default
+invariant_of-self-in_default c =
     let rows : List OfferRow = c.self.inside.rows in
     let offers = c.args.offers.now.items in
     let listed : AreOffersListed c.add_all.new.self (rows ++ offers) =

@@ -1,5 +1,7 @@
 mod Lists
 mod Places
+mod Entries
+mod Moved
 mod Numbered
 mod Removed
 mod Parts

@@ -57,25 +57,6 @@ module _ {X : Type 0} (number : X → ℕ) where
   rising_by (x ∷ xs) rising (suc i) zero d le within = absurd (omega (arith, le))
   rising_by (x ∷ xs) rising (suc i) (suc j) d le within = rising_by xs rising.1 i j d (omega (arith, le)) (omega (arith, within))
 
-  -- where the place of a number has another one, it is missing
-  pub missing_at : (n : ℕ) (xs : List X) (i : ℕ) → IsRising (map number xs)
-      → IsPartitionPoint (λ x. nat_lt (number x) n ≡ true) (λ x. nat_lt (number x) n ≡ false) xs i
-      → ((x : X) → slice_get xs i ≡ Some x → (number x == n) ≡ false)
-      → AreOthers number n xs
-  missing_at n [] i rising parted other = tt
-  missing_at n (x ∷ xs) zero rising parted other =
-      let here : (number x == n) ≡ false = other x refl in
-      let least : n ≤ number x = ltb-false (number x) n (parted.1 0 x (omega arith) (omega arith)) in
-      (here, above_others n (number x) xs least rising.0)
-  missing_at n (x ∷ xs) (suc i) rising parted other =
-      let less : number x < n = ltb-true (number x) n (parted.0 0 x (omega arith) (omega arith)) in (
-        less_other (number x) n less,
-        missing_at n xs i rising.1 (
-          λ k d low high. parted.0 (suc k) d (omega arith) (omega (arith, high)),
-          λ k d low high. parted.1 (suc k) d (omega (arith, low)) (omega (arith, high)),
-        ) other,
-      )
-
   -- what is taken out of a rising list leaves a rising list
   above_out : (m : ℕ) (xs ys : List X) (x : X) → AllByRecursion (λ k. m < k) (map number (xs ++ x ∷ ys)) → AllByRecursion (λ k. m < k) (map number (xs ++ ys))
   above_out m [] ys x above = above.1
@@ -85,7 +66,7 @@ module _ {X : Type 0} (number : X → ℕ) where
   rising_out [] ys x rising = rising.1
   rising_out (z ∷ xs) ys x rising = (above_out (number z) xs ys x rising.0, rising_out xs ys x rising.1)
 
-  above_last : (m : ℕ) (xs ys : List X) (x : X) → AllByRecursion (λ k. m < k) (map number (xs ++ x ∷ ys)) → m < number x
+  pub above_last : (m : ℕ) (xs ys : List X) (x : X) → AllByRecursion (λ k. m < k) (map number (xs ++ x ∷ ys)) → m < number x
   above_last m [] ys x above = above.0
   above_last m (z ∷ xs) ys x above = above_last m xs ys x above.1
 
@@ -121,9 +102,6 @@ module _ {X : Type 0} (number : X → ℕ) where
   pub rising_front : (xs ys : List X) → IsRising (map number (xs ++ ys)) → IsRising (map number xs)
   rising_front [] ys rising = tt
   rising_front (x ∷ xs) ys rising = (above_front (number x) xs ys rising.0, rising_front xs ys rising.1)
-
-  pub any_others : (n : ℕ) (xs : List X) → AreOthers number n xs → list_any (λ x. number x == n) xs ≡ false
-  any_others n xs others = any_fails (λ x. number x == n) xs others
 
   pub others_from : (n : ℕ) (xs : List X) → list_any (λ x. number x == n) xs ≡ false → AreOthers number n xs
   others_from n [] none = tt

@@ -9,15 +9,10 @@ use Rattle.std.proofs.lemmas.List.{map-append}
 use Rattle.std.proofs.lemmas.Option.{slice_get_read}
 use Rattle.drf_rows.specs.EndingLaws.{split_at}
 use Rattle.drf_rows.specs.ListLaws.{find_only, list_any_at}
-use Rattle.drf_holdings.specs.Rising.{IsRising, AreOthers, IsAt}
+use Rattle.drf_holdings.specs.Rising.{IsRising}
 use Rattle.drf_holdings.specs.Taking.{IsTaken, HasNone}
-use Rattle.drf_holdings.proofs.Places.{others_at, others_split, others_from}
+use Rattle.drf_holdings.proofs.Places.{others_split, others_from}
 use Rattle.drf_holdings.proofs.Numbered.{listed_none, listed_passes}
-
-pub within_at : {X : Type 0} (xs : List X) (i : ℕ) (x : X) → slice_get xs i ≡ Some x → i < length xs
-within_at [] i x at = cc
-within_at (y ∷ ys) zero x at = omega arith
-within_at (y ∷ ys) (suc i) x at = omega (arith, within_at ys i x at)
 
 missing_within : {X : Type 0} (xs : List X) (i : ℕ) → i < length xs → slice_get xs i ≡ None → false ≡ true
 missing_within [] i within none = absurd (omega (arith, within))
@@ -34,65 +29,6 @@ on_none None P p = p
 on_none (Some x) P p = tt
 
 module _ {X : Type 0} (number : X → ℕ) where
-  -- past the end stands no one, and where another one stands, it is another
-  pub past_end : (n : ℕ) (xs : List X) (i : ℕ) → length xs ≤ i → (x : X) → slice_get xs i ≡ Some x → (number x == n) ≡ false
-  past_end n xs i past x at = absurd (omega (arith, within_at xs i x at, past))
-
-  pub other_there : (n : ℕ) (xs : List X) (i : ℕ) (o : X) → slice_get xs i ≡ Some o → (number o ≡ n → ⊥)
-      → (x : X) → slice_get xs i ≡ Some x → (number x == n) ≡ false
-  other_there n xs i o at other x there =
-      let got : ◌≡◌ {A = Option X} (Some o) (Some x) = sym at ∙ there in
-      let same : o ≡ x = cc in
-      ne_eqb (number x) n (λ its. other (ap number same ∙ its))
-
-  find_none : (n : ℕ) (xs : List X) → AreOthers number n xs → find (λ x. number x == n) xs ≡ None
-  find_none n [] others = refl
-  find_none n (x ∷ xs) others = rw others.0 (find_none n xs others.1)
-
-  -- where no one has the number, none is found
-  pub found_none : (n : ℕ) (xs : List X) → AreOthers number n xs → None ≡ find (λ x. number x == n) xs
-  found_none n xs others = sym (find_none n xs others)
-
-  -- the place of a number
-  pub place_from : (xs : List X) (i : ℕ) (x : X) (n : ℕ) → IsRising (map number xs) → slice_get xs i ≡ Some x → number x ≡ n → IsAt number n xs i
-  place_from xs i x n rising at its =
-      let others = others_at number xs i x rising at in
-      record {
-        one = x;
-        at = at;
-        its = its;
-        before = subst (λ (m : ℕ). AreOthers number m (take i xs)) its others.0;
-        after = subst (λ (m : ℕ). AreOthers number m (drop (suc i) xs)) its others.1;
-      }
-
-  module _ (n : ℕ) (old : List X) (i : ℕ) (at : IsAt number n old i) where
-    pub whole_at : old ≡ take i old ++ at.one ∷ drop (suc i) old
-    whole_at = split_at old i at.one at.at
-
-    -- it is found
-    pub found_at : find (λ x. number x == n) old ≡ Some at.one
-    found_at =
-        ap (find (λ x. number x == n)) whole_at
-        ∙ find_only (λ x. number x == n) (take i old) (drop (suc i) old) at.one at.before (eq-eqb (number at.one) n at.its)
-
-    pub one_at : (x : X) → x ≡ slice_index_or old i x → at.one ≡ x
-    one_at x read =
-        let got : slice_get old i ≡ Some x = slice_get_read old (length old) i x refl (within_at old i at.one at.at) read in
-        let same : ◌≡◌ {A = Option X} (Some at.one) (Some x) = sym at.at ∙ got in
-        cc
-
-    -- it is taken out
-    pub taken_at : (new : List X) (x : X) → x ≡ slice_index_or old i x → new ≡ remove old i → IsTaken (λ x. number x == n) old new x
-    taken_at new x read removed =
-        let same = one_at x read in
-        record {
-          before = take i old;
-          after = drop (suc i) old;
-          whole = whole_at ∙ ap (λ (y : X). take i old ++ y ∷ drop (suc i) old) same;
-          left = removed;
-          passes = eq-eqb (number x) n (ap number (sym same) ∙ at.its);
-        }
-
   pub any_listed : (test : X → Bool) (xs : List X) → map number (filter test xs) ≡ [] → list_any test xs ≡ false
   any_listed test [] none = refl
   any_listed test (x ∷ xs) none = elim (cases_Bool (test x)) [
@@ -138,7 +74,7 @@ module _ {X : Type 0} (number : X → ℕ) where
 -- ---- rows of things
 
 module _ {X Y : Type 0} (row : X → Y) (test : Y → Bool) where
-  any_rows : (xs : List X) → list_any test (map row xs) ≡ list_any (λ x. test (row x)) xs
+  pub any_rows : (xs : List X) → list_any test (map row xs) ≡ list_any (λ x. test (row x)) xs
   any_rows [] = refl
   any_rows (x ∷ xs) = ap (λ (b : Bool). test (row x) || b) (any_rows xs)
 

@@ -1,4 +1,5 @@
 pub mod Rising
+pub mod ByNumber
 pub mod Listed
 pub mod Taking
 pub mod Stored

@@ -1,7 +1,6 @@
--- Numbers that rise, and where things with such numbers stand.
-use Rattle.std.specs.Prelude.{◌≡◌, ℕ, ◌<◌, ◌==◌, true, false, ◌&&◌, ⊤, List, [], ◌∷◌, nat_lt, slice_get, take, drop, Some}
+-- Numbers that rise.
+use Rattle.std.specs.Prelude.{◌≡◌, ℕ, ◌<◌, ◌==◌, true, false, ◌&&◌, ⊤, List, [], ◌∷◌, nat_lt}
 use Rattle.std.specs.List.{list_all, AllByRecursion}
-use Rattle.std.proofs.Common.{suc}
 use Rattle.std.proofs.lemmas.Bool.{and_parts, ltb-true}
 use Rattle.drf_rows.specs.Consistent.{are_rising}
 
@@ -13,14 +12,6 @@ IsRising (n ∷ ns) = AllByRecursion (λ m. n < m) ns × IsRising ns
 -- their numbers are others
 abbrev pub AreOthers : {X : Type 0} → (X → ℕ) → ℕ → List X → Type 0
 AreOthers number n xs = AllByRecursion (λ x. (number x == n) ≡ false) xs
-
--- at the place stands the one of a number
-pub record IsAt {X : Type 0} (number : X → ℕ) (n : ℕ) (xs : List X) (place : ℕ) : Type 0 where
-  pub one : X
-  pub at : slice_get xs place ≡ Some one
-  pub its : number one ≡ n
-  pub before : AreOthers number n (take place xs)
-  pub after : AreOthers number n (drop (suc place) xs)
 
 each_above : (n : ℕ) (ns : List ℕ) → list_all (nat_lt n) ns ≡ true → AllByRecursion (λ m. n < m) ns
 each_above n [] all = tt

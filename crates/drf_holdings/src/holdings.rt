@@ -1,6 +1,7 @@
 //! What clients hold, and how it ends.
-ghost use Rattle.std.specs.Prelude.{◌≡◌, ◌==◌, [], ◌++◌, Some, true, map, find, IfOk, OnOk, OnErr, MatchOption, option_copied};
+ghost use Rattle.std.specs.Prelude.{◌≡◌, ◌==◌, [], ◌++◌, Some, true, map, find, filter, not, nat_lt, length, IfOk, OnOk, OnErr, MatchOption, option_copied};
 ghost use Rattle.std.specs.List.{list_any};
+ghost use Rattle.std.specs.Map.{values_of};
 ghost use Rattle.drf_bundle.specs.Taken.{rest_of_all};
 ghost use Rattle.drf_rows.specs.Endings.{ends_offer, ends_task, is_task};
 ghost use Rattle.drf_rows.specs.Holdings.{parts_on};
@@ -16,8 +17,9 @@ use crate::offers::OfferTable;
 use crate::tasks::{Task, TaskTable};
 use drf_bundle::Bundle;
 use drf_role::{Name, Role};
-use drf_rows::{Ending, OfferRow, TaskList, TaskRow};
+use drf_rows::{Ending, OfferRow, Table, TaskList, TaskRow};
 use std::alloc::{AllocError, Global};
+use std::collections::btree_map::{Range, Values};
 use std::marker::Model;
 
 /// An offer or a task that was taken out.
@@ -77,7 +79,7 @@ fn task_rows(offer: &OfferRow, tasks: Vec<(Name, Bundle)>) -> Result<Vec<TaskRow
 }
 
 /// The offers and the tasks. Contracts see their lists. What leaves does so without memory, and no call looks at holdings
-/// other than those that it is asked for, though rows behind those that leave move up.
+/// other than those that it is asked for, but along a path through a tree of them.
 #[derive(Drop)]
 pub struct Holdings {
     offers: OfferTable,
@@ -106,18 +108,54 @@ impl Holdings {
         }
     }
 
+    pub fn offer_count(&self) -> usize
+        ensures { result ≡ length self.now.offers }
+    {
+        self.offers.len()
+    }
+
     /// The offers, in order of number.
-    pub fn offers(&self) -> &[OfferRow]
-        ensures { result.now ≡ self.now.offers }
+    pub fn offers(&self) -> Values<'_, u64, OfferRow>
+        ensures { result ≡ self.now.offers }
     {
         self.offers.rows()
     }
 
+    /// The offers whose numbers are not below one, each beside its number.
+    pub fn offers_from(&self, number: u64) -> Range<'_, u64, OfferRow>
+        ensures { values_of result ≡ filter (λ o. not (nat_lt o.number number)) self.now.offers }
+    {
+        self.offers.from(number)
+    }
+
     /// The tasks, as they were started.
-    pub fn tasks(&self) -> &[Task]
-        ensures { map task_row result.now ≡ self.now.tasks }
+    pub fn tasks(&self) -> Values<'_, u64, Task>
+        ensures { map task_row result ≡ self.now.tasks }
     {
         self.tasks.tasks()
+    }
+
+    /// Copies of the offers, in order of number.
+    pub fn copy_offers(&self, alloc: Global) -> Result<Table<OfferRow>, AllocError>
+        ensures { IfOk result (λ rows. rows ≡ self.now.offers) }
+    {
+        self.offers.copies(alloc)
+    }
+
+    /// Copies of the tasks, as they were started.
+    pub fn copy_tasks(&self, alloc: Global) -> Result<Table<TaskRow>, AllocError>
+        ensures { IfOk result (λ rows. rows ≡ self.now.tasks) }
+    {
+        self.tasks.copies(alloc)
+    }
+
+    pub fn copy(&self) -> Result<Holdings, AllocError>
+        ensures { IfOk result (λ copy. copy ≡ self.now) }
+    {
+        Ok(Holdings {
+            offers: self.offers.copy()?,
+            tasks: self.tasks.copy()?,
+        })
     }
 
     /// The offer of a number.

@@ -33,6 +33,10 @@ impl Index {
         }
     }
 
+    pub(crate) fn alloc(&self) -> Global {
+        *self.lists.allocator()
+    }
+
     /// The numbers of a name, in the order in which they were added.
     pub(crate) fn list(&self, name: &Name) -> &[u64]
         ensures { result.now ≡ numbers_in self.now name.now }

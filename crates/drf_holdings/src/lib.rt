@@ -2,6 +2,7 @@
 //! a framework, without a look at what others hold.
 #![tactic(auto)]
 
+mod by_number;
 mod holdings;
 mod index;
 mod names;

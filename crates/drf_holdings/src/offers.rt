@@ -1,18 +1,21 @@
 //! The offers that stand, in order of number.
-ghost use Rattle.std.specs.Prelude.{◌≡◌, ◌==◌, List, [], ◌∷◌, ◌++◌, map, find, IfOk, IfSome, IfNone, OnOk, OnErr, MatchOption, option_copied};
+ghost use Rattle.std.specs.Prelude.{◌≡◌, ◌==◌, ◌+◌, ◌≤◌, List, [], ◌∷◌, ◌++◌, map, find, filter, not, nat_lt, take, reverse, length, vec_len, vec_capacity, IfOk, OnOk, OnErr, MatchOption, option_copied};
+ghost use Rattle.std.specs.Map.{values_of};
 ghost use Rattle.drf_bundle.specs.Taken.{rest_of_all};
 ghost use Rattle.drf_rows.specs.Holdings.{of_offer, parts_on};
 ghost use Rattle.drf_rows.specs.declared.rows.OfferRow.{OfferRow};
 ghost use Rattle.drf_holdings.specs.Listed.{offer_number, offer_on, offer_of, AreOffersListed, AreOffersKept};
-ghost use Rattle.drf_holdings.specs.Rising.{IsRising, AreOthers, IsAt};
+ghost use Rattle.drf_holdings.specs.Rising.{IsRising};
 ghost use Rattle.drf_holdings.specs.Taking.{IsTaken, HasNone};
 
+use crate::by_number::{ByNumber, Numbered};
 use crate::index::Index;
 use drf_amount::Algebra;
 use drf_bundle::Bundle;
 use drf_role::Name;
-use drf_rows::OfferRow;
-use std::alloc::{AllocError, Global};
+use drf_rows::{Copied, OfferRow, Table};
+use std::alloc::{AllocError, AllocFailed, Global};
+use std::collections::btree_map::{Range, Values};
 use std::marker::Model;
 
 /// The numbers of offers, by agent and by framework.
@@ -84,25 +87,72 @@ impl OfferIndex {
     }
 }
 
-/// Where the offer of a number stands.
-fn place_of(offers: &[OfferRow], number: u64) -> Option<usize>
-    requires { IsRising (map offer_number offers.now) }
-    ensures some { IfSome result (IsAt offer_number number offers.now) }
-    ensures none { IfNone result (AreOthers offer_number number offers.now) }
+impl Numbered for OfferRow {
+    ghost use Rattle.drf_holdings.specs.Listed.{offer_number};
+
+    ghost number = { offer_number };
+
+    fn number(&self) -> u64 {
+        self.number
+    }
+}
+
+/// Moves offers behind those that stand, the last one first. An `Err` leaves some of them where they are.
+fn move_some(rows: &mut ByNumber<OfferRow>, offers: &mut Vec<OfferRow>) -> Result<(), AllocError>
+    requires { IsRising (map offer_number (rows.old ++ reverse offers.old.items)) }
+    ensures all { rows.new ++ reverse offers.new.items ≡ rows.old ++ reverse offers.old.items }
+    ensures front { (moved : List OfferRow) × (rows.new ≡ rows.old ++ moved) }
+    ensures moved { OnOk result (offers.new.items ≡ []) }
+    ensures room { vec_capacity offers.new ≡ vec_capacity offers.old }
 {
-    let place = offers.partition_point(|offer| offer.number < number);
-    let offer = offers.get(place)?;
-    if offer.number == number {
-        Some(place)
-    } else {
-        None
+    while let Some(offer) = offers.pop() {
+        if let Err(failed) = rows.push(offer) {
+            let AllocFailed { value } = failed;
+            offers.push_reserved(value);
+            return Err(AllocError);
+        }
+    }
+    Ok(())
+}
+
+/// Moves the last ones of the offers that stand back, until so many are left. It needs no memory.
+fn move_back(rows: &mut ByNumber<OfferRow>, offers: &mut Vec<OfferRow>, count: usize)
+    requires within { count ≤ length rows.old }
+    requires room { vec_len offers.old + length rows.old ≤ vec_capacity offers.old + count }
+    ensures rows { rows.new ≡ take count rows.old }
+    ensures all { rows.new ++ reverse offers.new.items ≡ rows.old ++ reverse offers.old.items }
+{
+    while count < rows.len() {
+        let Some(offer) = rows.pop() else {
+            return;
+        };
+        offers.push_reserved(offer);
+    }
+}
+
+/// Moves offers behind those that stand, all or none.
+fn move_all(rows: &mut ByNumber<OfferRow>, offers: &mut Vec<OfferRow>) -> Result<(), AllocError>
+    requires { IsRising (map offer_number (rows.old ++ offers.old.items)) }
+    ensures ok { OnOk result (rows.new ≡ rows.old ++ offers.old.items) }
+    ensures moved { OnOk result (offers.new.items ≡ []) }
+    ensures err { OnErr result ((rows.new ≡ rows.old) × (offers.new.items ≡ offers.old.items)) }
+{
+    let count = rows.len();
+    offers.reverse();
+    match move_some(rows, offers) {
+        Ok(()) => Ok(()),
+        Err(error) => {
+            move_back(rows, offers, count);
+            offers.reverse();
+            Err(error)
+        }
     }
 }
 
 /// Offers with rising numbers. Contracts see their list. What leaves does so without memory.
 #[derive(Drop)]
 pub(crate) struct OfferTable {
-    rows: Vec<OfferRow>,
+    rows: ByNumber<OfferRow>,
     index: OfferIndex,
 }
 
@@ -117,11 +167,11 @@ impl Model for OfferTable {
 
     ghost coded = { coded_list offer_row.the_row.coded };
 
-    ghost view = { λ t. t.rows.items };
+    ghost view = { λ t. t.rows };
 
     ghost use Rattle.drf_holdings.specs.Listed.{AreOffersKept};
 
-    ghost invariant = { λ t. AreOffersKept t.index t.rows.items };
+    ghost invariant = { λ t. AreOffersKept t.index t.rows };
 }
 
 impl OfferTable {
@@ -130,24 +180,62 @@ impl OfferTable {
         ensures { result ≡ [] }
     {
         OfferTable {
-            rows: Vec::new(alloc),
+            rows: ByNumber::new(alloc),
             index: OfferIndex::new(alloc),
         }
     }
 
-    /// The offers, in order of number.
-    pub(crate) fn rows(&self) -> &[OfferRow]
-        ensures { result.now ≡ self.now }
+    pub(crate) fn len(&self) -> usize
+        ensures { result ≡ length self.now }
     {
-        self.rows.as_slice()
+        self.rows.len()
+    }
+
+    /// The offers, in order of number.
+    pub(crate) fn rows(&self) -> Values<'_, u64, OfferRow>
+        ensures { result ≡ self.now }
+    {
+        self.rows.values()
+    }
+
+    /// The offers whose numbers are not below one.
+    pub(crate) fn from(&self, number: u64) -> Range<'_, u64, OfferRow>
+        ensures { values_of result ≡ filter (λ o. not (nat_lt o.number number)) self.now }
+    {
+        self.rows.from(number)
+    }
+
+    /// Copies of the offers.
+    pub(crate) fn copies(&self, alloc: Global) -> Result<Table<OfferRow>, AllocError>
+        ensures { IfOk result (λ rows. rows ≡ self.now) }
+    {
+        let mut copies = Vec::with_capacity(alloc, self.rows.len())?;
+        for offer in self.rows() {
+            copies.push(offer.copy()?)?;
+        }
+        Ok(Table::from_vec(copies))
+    }
+
+    /// A table with the same offers.
+    pub(crate) fn copy(&self) -> Result<OfferTable, AllocError>
+        ensures { IfOk result (λ copy. copy ≡ self.now) }
+    {
+        let alloc = self.index.agents.alloc();
+        let mut rows = ByNumber::new(alloc);
+        let mut index = OfferIndex::new(alloc);
+        for offer in self.rows() {
+            let row = offer.copy()?;
+            index.add(&row)?;
+            rows.push(row)?;
+        }
+        Ok(OfferTable { rows, index })
     }
 
     /// The offer of a number.
     pub(crate) fn get(&self, number: u64) -> Option<&OfferRow>
         ensures { option_copied result ≡ find (λ o. o.number == number) self.now }
     {
-        let place = place_of(&self.rows, number)?;
-        Some(&self.rows[place])
+        self.rows.get(number)
     }
 
     /// What is left of a bundle when the offers on an agent are taken from it.
@@ -171,8 +259,7 @@ impl OfferTable {
             (HasNone (λ o. o.number == number) self.old self.new)
             (IsTaken (λ o. o.number == number) self.old self.new) }
     {
-        let place = place_of(&self.rows, number)?;
-        let offer = self.rows.remove(place);
+        let offer = self.rows.take(number)?;
         self.index.remove(&offer);
         Some(offer)
     }
@@ -204,8 +291,11 @@ impl OfferTable {
         ensures moved { OnOk result (offers.new.items ≡ []) }
         ensures err { OnErr result ((self.new ≡ self.old) × (offers.new.items ≡ offers.old.items)) }
     {
-        self.rows.reserve(offers.len())?;
         self.index.add_all(offers)?;
-        self.rows.append(offers)
+        if let Err(error) = move_all(&mut self.rows, offers) {
+            self.index.remove_all(offers);
+            return Err(error);
+        }
+        Ok(())
     }
 }

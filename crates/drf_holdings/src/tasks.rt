@@ -1,5 +1,5 @@
 //! The tasks that run, as they were started.
-ghost use Rattle.std.specs.Prelude.{◌≡◌, ◌==◌, ℕ, List, [], ◌∷◌, ◌++◌, map, find, flat_map, take, length, ◌<◌, ◌-◌, false, IfOk, IfSome, IfNone, OnOk, OnErr, MatchOption, option_copied};
+ghost use Rattle.std.specs.Prelude.{◌≡◌, ◌==◌, ◌+◌, ◌^◌, ℕ, List, [], ◌∷◌, ◌++◌, map, flat_map, take, length, ◌<◌, ◌-◌, false, IfOk, OnOk, OnErr, MatchOption};
 ghost use Rattle.std.specs.List.{list_any};
 ghost use Rattle.drf_bundle.specs.Taken.{rest_of_all};
 ghost use Rattle.drf_role.specs.Text.{same_text};
@@ -7,17 +7,19 @@ ghost use Rattle.drf_rows.specs.Holdings.{of_task, parts_on};
 ghost use Rattle.drf_rows.specs.Offers.{AreNew};
 ghost use Rattle.drf_rows.specs.Endings.{is_task};
 ghost use Rattle.drf_holdings.specs.Listed.{task_serial, task_row, serials_in, bundles_at, AreTasksListed, AreTasksKept};
-ghost use Rattle.drf_holdings.specs.Rising.{IsRising, AreOthers, IsAt};
+ghost use Rattle.drf_holdings.specs.Rising.{IsRising};
 ghost use Rattle.drf_holdings.specs.Taking.{IsTaken, HasNone};
 ghost use Rattle.drf_holdings.specs.declared.tasks.Task.{Task};
 
+use crate::by_number::{ByNumber, Numbered};
 use crate::index::Index;
 use crate::names::Names;
 use drf_amount::Algebra;
 use drf_bundle::Bundle;
 use drf_role::Name;
-use drf_rows::TaskRow;
+use drf_rows::{Copied, Table, TaskRow};
 use std::alloc::{AllocError, Global};
+use std::collections::btree_map::Values;
 use std::marker::Model;
 
 /// A task, and its number among all that were started.
@@ -72,39 +74,23 @@ impl TaskIndex {
     }
 }
 
-/// Where the task of a serial number stands.
-fn place_of(tasks: &[Task], serial: u64) -> Option<usize>
-    requires { IsRising (map task_serial tasks.now) }
-    ensures some { IfSome result (IsAt task_serial serial tasks.now) }
-    ensures none { IfNone result (AreOthers task_serial serial tasks.now) }
-{
-    let place = tasks.partition_point(|task| task.serial < serial);
-    let task = tasks.get(place)?;
-    if task.serial == serial {
-        Some(place)
-    } else {
-        None
+impl Numbered for Task {
+    ghost use Rattle.drf_holdings.specs.Listed.{task_serial};
+
+    ghost number = { task_serial };
+
+    fn number(&self) -> u64 {
+        self.serial
     }
 }
 
-/// The task of a serial number.
-fn task_at(tasks: &[Task], serial: u64) -> Option<&Task>
-    requires { IsRising (map task_serial tasks.now) }
-    ensures { option_copied result ≡ find (λ t. t.serial == serial) tasks.now }
-{
-    let place = place_of(tasks, serial)?;
-    let task = tasks.get(place)?;
-    Some(task)
-}
-
 /// What is left of a bundle when the tasks of some serial numbers are taken from it.
-fn less_tasks(whole: Bundle, tasks: &[Task], serials: &[u64]) -> Result<Bundle, AllocError>
-    requires { IsRising (map task_serial tasks.now) }
+fn less_tasks(whole: Bundle, tasks: &ByNumber<Task>, serials: &[u64]) -> Result<Bundle, AllocError>
     ensures { IfOk result (λ left. left ≡ rest_of_all whole (flat_map (bundles_at task_serial (λ t. t.row.bundle) tasks.now) serials.now)) }
 {
     let mut left = whole;
     for serial in serials {
-        let Some(task) = task_at(tasks, *serial) else {
+        let Some(task) = tasks.get(*serial) else {
             continue;
         };
         left = left.rest(&task.row.bundle)?;
@@ -113,24 +99,86 @@ fn less_tasks(whole: Bundle, tasks: &[Task], serials: &[u64]) -> Result<Bundle, 
 }
 
 /// Takes the task of a serial number out.
-fn take_task(tasks: &mut Vec<Task>, index: &mut TaskIndex, serial: u64) -> Option<Task>
-    requires { IsRising (map task_serial tasks.old.items) }
+fn take_task(tasks: &mut ByNumber<Task>, index: &mut TaskIndex, serial: u64) -> Option<Task>
     ensures taken { MatchOption result
-        (HasNone (λ t. t.serial == serial) tasks.old.items tasks.new.items)
-        (IsTaken (λ t. t.serial == serial) tasks.old.items tasks.new.items) }
-    ensures kept { (next : ℕ) → AreTasksKept index.old tasks.old.items next → AreTasksKept index.new tasks.new.items next }
+        (HasNone (λ t. t.serial == serial) tasks.old tasks.new)
+        (IsTaken (λ t. t.serial == serial) tasks.old tasks.new) }
+    ensures kept { (next : ℕ) → AreTasksKept index.old tasks.old next → AreTasksKept index.new tasks.new next }
 {
-    let place = place_of(tasks, serial)?;
-    let task = tasks.remove(place);
+    let task = tasks.take(serial)?;
     index.remove(&task);
     Some(task)
+}
+
+/// Puts a task of the next serial number behind those that are there. An `Err` changes nothing.
+fn put_task(
+    tasks: &mut ByNumber<Task>,
+    index: &mut TaskIndex,
+    serial: u64,
+    row: TaskRow,
+) -> Result<(), AllocError>
+    requires kept { AreTasksKept index.old tasks.old serial }
+    requires new { list_any (is_task row.framework row.name) (map task_row tasks.old) ≡ false }
+    ensures ok { OnOk result (map task_row tasks.new ≡ map task_row tasks.old ++ row ∷ []) }
+    ensures kept { OnOk result (AreTasksKept index.new tasks.new (serial + 1)) }
+    ensures err { OnErr result ((tasks.new ≡ tasks.old) × AreTasksKept index.new tasks.new serial) }
+{
+    let task = Task { row, serial };
+    index.add(&task)?;
+    match tasks.push(task) {
+        Ok(()) => Ok(()),
+        Err(failed) => {
+            index.remove(&failed.value);
+            Err(AllocError::from(failed))
+        }
+    }
+}
+
+/// The tasks, with serial numbers from 0 on.
+fn renumbered(
+    alloc: Global,
+    tasks: &ByNumber<Task>,
+) -> Result<(ByNumber<Task>, TaskIndex), AllocError>
+    requires { AreNew [] (map task_row tasks.now) }
+    ensures rows { IfOk result (λ made. map task_row made.0 ≡ map task_row tasks.now) }
+    ensures kept { IfOk result (λ made. AreTasksKept made.1 made.0 (length made.0)) }
+{
+    let mut copy = ByNumber::new(alloc);
+    let mut index = TaskIndex::new(alloc);
+    let mut serial = 0;
+    for task in tasks.values() {
+        put_task(&mut copy, &mut index, serial, task.row.copy()?)?;
+        serial += 1;
+    }
+    Ok((copy, index))
+}
+
+/// A serial number above those of the tasks, and below the greatest: where there is none, the tasks are numbered anew. An
+/// `Err` changes nothing.
+fn next_serial(
+    tasks: &mut ByNumber<Task>,
+    index: &mut TaskIndex,
+    next: u64,
+) -> Result<u64, AllocError>
+    requires { AreTasksKept index.old tasks.old next }
+    ensures ok { IfOk result (λ serial. (serial < 2 ^ 64 - 1) × AreTasksKept index.new tasks.new serial) }
+    ensures rows { map task_row tasks.new ≡ map task_row tasks.old }
+    ensures err { OnErr result (AreTasksKept index.new tasks.new next) }
+{
+    if next < u64::MAX {
+        return Ok(next);
+    }
+    let (copy, names) = renumbered(index.agents.alloc(), tasks)?;
+    *tasks = copy;
+    *index = names;
+    Ok(tasks.len() as u64)
 }
 
 /// Tasks with names that no two of a framework share. Contracts see the list of their rows. What leaves does so without
 /// memory.
 #[derive(Drop)]
 pub(crate) struct TaskTable {
-    tasks: Vec<Task>,
+    tasks: ByNumber<Task>,
     index: TaskIndex,
     // The serial number of the task that is started next.
     next: u64,
@@ -149,9 +197,9 @@ impl Model for TaskTable {
 
     ghost use Rattle.drf_holdings.specs.Listed.{task_row as row_of, AreTasksKept};
 
-    ghost view = { λ t. map row_of t.tasks.items };
+    ghost view = { λ t. map row_of t.tasks };
 
-    ghost invariant = { λ t. AreTasksKept t.index t.tasks.items t.next };
+    ghost invariant = { λ t. AreTasksKept t.index t.tasks t.next };
 }
 
 impl TaskTable {
@@ -160,17 +208,37 @@ impl TaskTable {
         ensures { result ≡ [] }
     {
         TaskTable {
-            tasks: Vec::new(alloc),
+            tasks: ByNumber::new(alloc),
             index: TaskIndex::new(alloc),
             next: 0,
         }
     }
 
     /// The tasks, as they were started.
-    pub(crate) fn tasks(&self) -> &[Task]
-        ensures { map task_row result.now ≡ self.now }
+    pub(crate) fn tasks(&self) -> Values<'_, u64, Task>
+        ensures { map task_row result ≡ self.now }
     {
-        self.tasks.as_slice()
+        self.tasks.values()
+    }
+
+    /// Copies of the tasks.
+    pub(crate) fn copies(&self, alloc: Global) -> Result<Table<TaskRow>, AllocError>
+        ensures { IfOk result (λ rows. rows ≡ self.now) }
+    {
+        let mut copies = Vec::with_capacity(alloc, self.tasks.len())?;
+        for task in self.tasks() {
+            copies.push(task.row.copy()?)?;
+        }
+        Ok(Table::from_vec(copies))
+    }
+
+    /// A table with the same tasks.
+    pub(crate) fn copy(&self) -> Result<TaskTable, AllocError>
+        ensures { IfOk result (λ copy. copy ≡ self.now) }
+    {
+        let (tasks, index) = renumbered(self.index.agents.alloc(), &self.tasks)?;
+        let next = tasks.len() as u64;
+        Ok(TaskTable { tasks, index, next })
     }
 
     /// Whether the framework has a task of that name.
@@ -193,15 +261,10 @@ impl TaskTable {
         ensures ok { OnOk result (self.new ≡ self.old ++ row ∷ []) }
         ensures err { OnErr result (self.new ≡ self.old) }
     {
-        let next = self.next.checked_add(1).ok_or(AllocError)?;
-        self.tasks.reserve(1)?;
-        let task = Task {
-            row,
-            serial: self.next,
-        };
-        self.index.add(&task)?;
-        self.tasks.push_reserved(task);
-        self.next = next;
+        let serial = next_serial(&mut self.tasks, &mut self.index, self.next)?;
+        self.next = serial;
+        put_task(&mut self.tasks, &mut self.index, serial, row)?;
+        self.next = serial + 1;
         Ok(())
     }
 

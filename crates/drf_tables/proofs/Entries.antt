@@ -79,18 +79,6 @@ key_found es i key n found at =
 
 -- ---- lists
 
--- what was appended is what stands past the old length
-pub appended : {X : Type 0} (xs ys all : List X) (n : ℕ)
-    → all ≡ xs ++ ys → n ≡ length xs → take (length all - n) (drop n all) ≡ ys
-appended xs ys all n so long =
-    let past : drop n all ≡ ys = (λ i. drop (long i) (so i)) ∙ drop-append xs ys in
-    let few : length ys ≤ length all - n = omega (arith, ap length so, length-append xs ys, long) in
-    ap (take (length all - n)) past ∙ take_all (length all - n) ys few
-  where
-    drop-append : {X : Type 0} (xs ys : List X) → drop (length xs) (xs ++ ys) ≡ ys
-    drop-append [] ys = refl
-    drop-append (x ∷ xs) ys = drop-append xs ys
-
 -- what holds on success holds of a call that succeeded
 pub from_ok : {T E : Type 0} (r : Result T E) (x : T) (P : Type 0) → r ≡ Ok x → OnOk r P → P
 from_ok (Ok y) x P ok here = here

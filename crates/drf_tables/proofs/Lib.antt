@@ -1,4 +1,5 @@
 pub mod Entries
+pub mod Appended
 pub mod Known
 pub mod Freed
 pub mod Suppressed

@@ -1,5 +1,5 @@
 -- Offers that are counted at their clients.
-use Rattle.std.specs.Prelude.{ℕ, ◌+◌, ◌^◌, ◌<◌, List, fold, flat_map, length, map}
+use Rattle.std.specs.Prelude.{ℕ, ◌+◌, ◌^◌, ◌<◌, List, [], ◌∷◌, fold, flat_map, length, map}
 use Rattle.std.specs.List.{AllByRecursion}
 use Rattle.drf_rows.specs.Cycle.{count_offer}
 use Rattle.drf_rows.specs.Held.{client_of}
@@ -21,6 +21,11 @@ CanCount number clients = AllByRecursion (λ c. c.count + number < 2 ^ 64) clien
 
 abbrev pub CanCountAll : ℕ → List FrameworkRow → Type 0
 CanCountAll number frameworks = AllByRecursion (λ f. CanCount number f.clients) frameworks
+
+-- the number of the first offer, or else the next one
+abbrev pub first_number : List OfferRow → ℕ → ℕ
+first_number [] next = next
+first_number (o ∷ os) next = o.number
 
 -- the number of all clients
 abbrev pub count_clients : List FrameworkRow → ℕ

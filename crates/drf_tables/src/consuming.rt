@@ -15,12 +15,16 @@ use drf_role::Name;
 use drf_rows::OfferRow;
 use indexmap::IndexMap;
 use std::alloc::AllocError;
+use std::collections::btree_map::Values;
 
 /// What clients consume by offers.
-pub(crate) fn consume_offers(quota: &mut Quota, offers: &[OfferRow]) -> Result<(), AllocError>
+pub(crate) fn consume_offers(
+    quota: &mut Quota,
+    offers: Values<'_, u64, OfferRow>,
+) -> Result<(), AllocError>
     requires { (test : Path → Bool) (label : Text)
-        → used_where test quota.old.used label + held_unreserved test (map of_offer offers.now) label < 2 ^ 64 }
-    ensures ok { OnOk result (IsRaisedBy quota.old quota.new (λ test label. held_unreserved test (map of_offer offers.now) label)) }
+        → used_where test quota.old.used label + held_unreserved test (map of_offer offers) label < 2 ^ 64 }
+    ensures ok { OnOk result (IsRaisedBy quota.old quota.new (λ test label. held_unreserved test (map of_offer offers.entry) label)) }
     ensures limits { quota.new.limits ≡ quota.old.limits }
 {
     for offer in offers {
@@ -30,10 +34,13 @@ pub(crate) fn consume_offers(quota: &mut Quota, offers: &[OfferRow]) -> Result<(
 }
 
 /// What clients consume by tasks.
-pub(crate) fn consume_tasks(quota: &mut Quota, tasks: &[Task]) -> Result<(), AllocError>
+pub(crate) fn consume_tasks(
+    quota: &mut Quota,
+    tasks: Values<'_, u64, Task>,
+) -> Result<(), AllocError>
     requires { (test : Path → Bool) (label : Text)
-        → used_where test quota.old.used label + held_unreserved test (map of_task (map task_row tasks.now)) label < 2 ^ 64 }
-    ensures ok { OnOk result (IsRaisedBy quota.old quota.new (λ test label. held_unreserved test (map of_task (map task_row tasks.now)) label)) }
+        → used_where test quota.old.used label + held_unreserved test (map of_task (map task_row tasks)) label < 2 ^ 64 }
+    ensures ok { OnOk result (IsRaisedBy quota.old quota.new (λ test label. held_unreserved test (map of_task (map task_row tasks.entry)) label)) }
     ensures limits { quota.new.limits ≡ quota.old.limits }
 {
     for task in tasks {

@@ -1,13 +1,11 @@
 //! The rows, as they are handed out.
 ghost use Rattle.std.specs.Prelude.{◌≡◌, map, IfOk};
-ghost use Rattle.drf_holdings.specs.Listed.{task_row};
 ghost use Rattle.drf_tables.specs.Inside.{agent_row, framework_rows, weight_rows};
 
 use crate::tables::Agent;
 use drf_amount::Algebra;
-use drf_holdings::Task;
 use drf_role::{Name, Role};
-use drf_rows::{AgentRow, ClientRow, Copied, FrameworkRow, Table, TaskRow, WeightRow, copy_all};
+use drf_rows::{AgentRow, ClientRow, FrameworkRow, Table, WeightRow, copy_all};
 use indexmap::IndexMap;
 use std::alloc::{AllocError, Global};
 
@@ -40,16 +38,6 @@ pub(crate) fn framework_rows(
             name: name.copy()?,
             clients: copy_all(alloc, clients)?,
         })?;
-    }
-    Ok(Table::from_vec(rows))
-}
-
-pub(crate) fn task_rows(alloc: Global, tasks: &[Task]) -> Result<Table<TaskRow>, AllocError>
-    ensures { IfOk result (λ rows. rows ≡ map task_row tasks.now) }
-{
-    let mut rows = Vec::with_capacity(alloc, tasks.len())?;
-    for task in tasks {
-        rows.push(task.row.copy()?)?;
     }
     Ok(Table::from_vec(rows))
 }

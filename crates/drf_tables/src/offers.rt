@@ -1,15 +1,17 @@
 //! What the offers of a cycle change: the counts of their clients, and what is free on the agents.
 ghost use Rattle.std.specs.Prelude.{◌≡◌, ◌<◌, map, length, All, true};
+ghost use Rattle.std.specs.Map.{values_of};
 ghost use Rattle.drf_rows.specs.Cycle.{counted};
 ghost use Rattle.drf_rows.specs.Holdings.{of_offer};
 ghost use Rattle.drf_rows.specs.Consistent.{are_distinct};
-ghost use Rattle.drf_tables.specs.Counting.{counting, counting_all, CanCount, CanCountAll};
+ghost use Rattle.drf_tables.specs.Counting.{counting, counting_all, first_number, CanCount, CanCountAll};
 ghost use Rattle.drf_tables.specs.Inside.{agent_row, framework_rows, frees_in, known_after};
 
 use crate::tables::{Agent, Left};
 use drf_role::Name;
 use drf_rows::{ClientRow, OfferRow};
 use indexmap::IndexMap;
+use std::collections::btree_map::Range;
 
 /// Counts an offer at the client, of those of its framework, that has its role.
 fn count_at(clients: &mut [ClientRow], offer: &OfferRow)
@@ -34,13 +36,26 @@ fn count_offer(frameworks: &mut IndexMap<Name, Vec<ClientRow>>, offer: &OfferRow
     }
 }
 
-/// Counts each offer at its client.
-pub(crate) fn count_offers(frameworks: &mut IndexMap<Name, Vec<ClientRow>>, offers: &[OfferRow])
-    requires names { are_distinct (map (λ f. f.name) (framework_rows frameworks.old.entries)) ≡ true }
-    requires fits { CanCountAll (length offers.now) (framework_rows frameworks.old.entries) }
-    ensures { framework_rows frameworks.new.entries ≡ counting_all (framework_rows frameworks.old.entries) offers.now }
+/// The number of the first offer, or else the next one.
+pub(crate) fn first_number(offers: &[OfferRow], next: u64) -> u64
+    ensures { result ≡ first_number offers.now next }
 {
-    for offer in offers {
+    match offers.first() {
+        Some(offer) => offer.number,
+        None => next,
+    }
+}
+
+/// Counts each offer at its client.
+pub(crate) fn count_offers(
+    frameworks: &mut IndexMap<Name, Vec<ClientRow>>,
+    offers: Range<'_, u64, OfferRow>,
+)
+    requires names { are_distinct (map (λ f. f.name) (framework_rows frameworks.old.entries)) ≡ true }
+    requires fits { CanCountAll (length (values_of offers)) (framework_rows frameworks.old.entries) }
+    ensures { framework_rows frameworks.new.entries ≡ counting_all (framework_rows frameworks.old.entries) (values_of offers.entry) }
+{
+    for (_, offer) in offers {
         count_offer(frameworks, offer);
     }
 }

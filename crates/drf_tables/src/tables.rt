@@ -18,8 +18,8 @@ ghost use Rattle.drf_rows.specs.declared.rows.FrameworkRow.{FrameworkRow};
 ghost use Rattle.drf_tables.specs.Drafts.{with_offers, frees_of, frees_after};
 ghost use Rattle.drf_tables.specs.Recounting.{CountsAll};
 
-use crate::listing::{agent_rows, framework_rows, task_rows, weight_rows};
-use crate::offers::{count_offers, put_lefts};
+use crate::listing::{agent_rows, framework_rows, weight_rows};
+use crate::offers::{count_offers, first_number, put_lefts};
 use crate::recounting::{consume_total, take_over};
 use drf_amount::Algebra;
 use drf_bundle::{Bundle, Quantities};
@@ -320,10 +320,10 @@ impl Tables {
         ensures counted { OnOk result (self.new.counted ≡ is_some quota) }
         ensures err { OnErr result ((self.new.rows ≡ self.old.rows) × (offers.new.items ≡ offers.old.items)) }
     {
-        let before = self.holdings.offers().len();
         let made = offers.len();
+        let first = first_number(offers, self.next_offer);
         self.holdings.append(offers)?;
-        count_offers(&mut self.frameworks, &self.holdings.offers()[before..]);
+        count_offers(&mut self.frameworks, self.holdings.offers_from(first));
         put_lefts(&mut self.agents, lefts);
         self.next_offer += made as u64;
         self.is_counted = take_over(&mut self.quota, quota);
@@ -338,8 +338,8 @@ impl Tables {
         Ok(Rows {
             agents: agent_rows(alloc, &self.agents)?,
             frameworks: framework_rows(alloc, &self.frameworks)?,
-            offers: copy_all(alloc, self.holdings.offers())?,
-            tasks: task_rows(alloc, self.holdings.tasks())?,
+            offers: self.holdings.copy_offers(alloc)?,
+            tasks: self.holdings.copy_tasks(alloc)?,
             weights: weight_rows(alloc, &self.weights)?,
             limits: self.quota.rows()?,
             filters: self.filters.copy_in_force(self.clock)?,

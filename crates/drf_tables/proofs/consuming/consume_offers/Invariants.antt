@@ -1,4 +1,4 @@
-use Rattle.std.proofs.Common.{drop, map}
+use Rattle.std.proofs.Common.{map}
 use Rattle.drf_rows.specs.Holdings.{of_offer}
 use Rattle.drf_rows.specs.Quota.{held_unreserved}
 use Rattle.drf_tables.proofs.Counts.{IsPartly}
@@ -6,5 +6,5 @@ use Rattle.drf_tables.proofs.consuming.consume_offers.Given as goal
 
 abbrev pub invariant-loop-offer : goal.invariant-loop-offer
 invariant-loop-offer l =
-    IsPartly l.initial.quota l.quota (λ test label. held_unreserved test (map of_offer l.offers) label)
-    (λ test label. held_unreserved test (map of_offer (drop l.offer-index l.offers)) label)
+    IsPartly l.initial.quota l.quota (λ test label. held_unreserved test (map of_offer l.fn.offers) label)
+    (λ test label. held_unreserved test (map of_offer l.offer-iterator) label)

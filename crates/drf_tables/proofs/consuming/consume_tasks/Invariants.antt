@@ -1,4 +1,4 @@
-use Rattle.std.proofs.Common.{drop, map}
+use Rattle.std.proofs.Common.{map}
 use Rattle.drf_rows.specs.Holdings.{of_task}
 use Rattle.drf_rows.specs.Quota.{held_unreserved}
 use Rattle.drf_holdings.specs.Listed.{task_row}
@@ -7,5 +7,5 @@ use Rattle.drf_tables.proofs.consuming.consume_tasks.Given as goal
 
 abbrev pub invariant-loop-task : goal.invariant-loop-task
 invariant-loop-task l =
-    IsPartly l.initial.quota l.quota (λ test label. held_unreserved test (map of_task (map task_row l.tasks)) label)
-    (λ test label. held_unreserved test (map of_task (map task_row (drop l.task-index l.tasks))) label)
+    IsPartly l.initial.quota l.quota (λ test label. held_unreserved test (map of_task (map task_row l.fn.tasks)) label)
+    (λ test label. held_unreserved test (map of_task (map task_row l.task-iterator)) label)

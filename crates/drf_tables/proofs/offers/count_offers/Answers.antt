@@ -1,4 +1,5 @@
-use Rattle.std.proofs.Common.{◌≡◌, ◌+◌, ◌∷◌, List, length, drop, sym, ap, ◌∙◌, drop-cons, add-one, arith}
+use Rattle.std.proofs.Common.{◌≡◌, ◌+◌, ◌∷◌, List, length, sym, ap, ◌∙◌, arith}
+use Rattle.std.specs.Map.{values_of}
 use Rattle.drf_rows.specs.Consistent.{are_distinct}
 use Rattle.drf_rows.specs.declared.rows.FrameworkRow.{FrameworkRow}
 use Rattle.drf_rows.specs.declared.rows.OfferRow.{OfferRow}
@@ -10,16 +11,13 @@ use Rattle.drf_tables.proofs.offers.count_offers.Goals as goal
 pub loop-offer-preserved : goal.loop-offer-preserved
 loop-offer-preserved c =
     let at = c.loop-offer in
-    let offers : List OfferRow = c.args.offers.now in
-    let offer : OfferRow = c.offer-item.result in
-    let rest : List OfferRow = drop (at.offer-index + 1) offers in
+    let offer : OfferRow = c.in-Some.offer.now in
+    let rest : List OfferRow = values_of c.next.new.self in
     let fs : List FrameworkRow = framework_rows at.frameworks.entries in
-    let split : drop at.offer-index offers ≡ offer ∷ rest =
-    drop-cons offers at.offer-index offer c.loop-offer-test.true
-    ∙ (λ i. sym c.offer-item.is i ∷ drop (sym (add-one at.offer-index) i) offers) in
-    let next : length (drop at.offer-index offers) ≡ length rest + 1 = omega (arith, ap length split) in
+    let split : values_of at.offer-iterator ≡ offer ∷ rest = ap values_of c.in-Some.ensures.steps in
+    let next : length (values_of at.offer-iterator) ≡ length rest + 1 = omega (arith, ap length split) in
     rw c.count_offer.ensures (record {
       names = ap are_distinct (names-counting fs offer) ∙ at.invariant.names;
-      fits = CanCountAll-counting (length rest) (length (drop at.offer-index offers)) fs offer next at.invariant.fits;
+      fits = CanCountAll-counting (length rest) (length (values_of at.offer-iterator)) fs offer next at.invariant.fits;
       counted = sym (ap (counting_all fs) split) ∙ at.invariant.counted;
     })

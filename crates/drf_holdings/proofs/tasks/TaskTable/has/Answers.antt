@@ -10,6 +10,6 @@ returns c =
     let framework = c.args.framework.now in
     let name = c.args.name.now in
     c.is_some.ensures
-    ∙ some_listed task_row (is_task framework name) task_serial c.get.result c.self.inside.tasks.items
+    ∙ some_listed task_row (is_task framework name) task_serial c.get.result c.self.inside.tasks
     (c.get.ensures ∙ c.self.invariant.listed.names (framework, name))
     ∙ ap (list_any (is_task framework name)) c.self.view_is

@@ -9,12 +9,11 @@ use Rattle.drf_holdings.proofs.tasks.TaskTable.left_of.Goals as goal
 
 pub returns : goal.returns
 returns c =
-    let tasks = c.self.inside.tasks.items in
+    let tasks = c.self.inside.tasks in
     let agent = c.args.agent.now in
     let serials = c.list.result.now in
-    let parts : flat_map (bundles_at task_serial (λ t. t.row.bundle) c.deref.result.now) serials ≡ parts_on agent (map of_task c.args.self.now) =
-    (λ i. flat_map (bundles_at task_serial (λ t. t.row.bundle) (c.deref.ensures.value i)) serials)
-    ∙ parts_listed task_serial (λ t. t.row.bundle) (λ t. of_task t.row) agent (λ t. refl) tasks serials c.self.invariant.rising
+    let parts : flat_map (bundles_at task_serial (λ t. t.row.bundle) tasks) serials ≡ parts_on agent (map of_task c.args.self.now) =
+    parts_listed task_serial (λ t. t.row.bundle) (λ t. of_task t.row) agent (λ t. refl) tasks serials c.self.invariant.rising
     (c.list.ensures ∙ c.self.invariant.listed.agents agent)
     ∙ ap (parts_on agent) (row_holdings tasks ∙ ap (map of_task) c.self.view_is) in
     subst (λ (ps : List (List Resource)). IfOk c.less_tasks.result (λ left. left ≡ rest_of_all c.args.whole ps)) parts c.less_tasks.ensures

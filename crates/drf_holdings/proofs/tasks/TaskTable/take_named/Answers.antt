@@ -9,7 +9,7 @@ use Rattle.drf_holdings.proofs.tasks.TaskTable.take_named.Goals as goal
 
 pub returns-in_err-serial : goal.returns-in_err-serial
 returns-in_err-serial c =
-    let tasks = c.self.inside.tasks.items in
+    let tasks = c.self.inside.tasks in
     let framework = c.args.framework.now in
     let name = c.args.name.now in
     let listed : [] ≡ map task_serial (filter (task_named (framework, name)) tasks) =
@@ -22,12 +22,12 @@ invariant_of-self c = c.take_task.ensures.kept c.self.inside.next c.self.invaria
 
 pub returns-in_err-task : goal.returns-in_err-task
 returns-in_err-task c =
-    let tasks = c.self.inside.tasks.items in
+    let tasks = c.self.inside.tasks in
     let framework = c.args.framework.now in
     let name = c.args.name.now in
     let listed : c.in_ok-serial.serial ∷ [] ≡ map task_serial (filter (task_named (framework, name)) tasks) =
     c.in_ok-serial.ensures ∙ c.self.invariant.listed.names (framework, name) in
-    rw c.from_residual-in_err-task.ensures (task_none tasks c.take_task.new.tasks.items c.args.self.now c.self.view_is c.self.invariant.rising
+    rw c.from_residual-in_err-task.ensures (task_none tasks c.take_task.new.tasks c.args.self.now c.self.view_is c.self.invariant.rising
     (task_named (framework, name)) (c.in_ok-serial.serial ∷ []) listed (is_task framework name) (λ t here. here) c.in_ok-serial.serial 0 refl c.in_err-task.ensures.taken)
 
 pub invariant_of-self-2 : goal.invariant_of-self-2
@@ -35,10 +35,10 @@ invariant_of-self-2 c = c.take_task.ensures.kept c.self.inside.next c.self.invar
 
 pub returns : goal.returns
 returns c =
-    let tasks = c.self.inside.tasks.items in
+    let tasks = c.self.inside.tasks in
     let framework = c.args.framework.now in
     let name = c.args.name.now in
     let listed : c.in_ok-serial.serial ∷ [] ≡ map task_serial (filter (task_named (framework, name)) tasks) =
     c.in_ok-serial.ensures ∙ c.self.invariant.listed.names (framework, name) in
-    task_taken tasks c.take_task.new.tasks.items c.args.self.now c.self.view_is c.self.invariant.rising
+    task_taken tasks c.take_task.new.tasks c.args.self.now c.self.view_is c.self.invariant.rising
     (task_named (framework, name)) (c.in_ok-serial.serial ∷ []) listed (is_task framework name) (λ t here. here) c.in_ok-serial.serial 0 refl c.in_ok-task.task c.in_ok-task.ensures.taken

@@ -10,7 +10,7 @@ use Rattle.drf_holdings.proofs.tasks.TaskTable.take_of.Goals as goal
 
 pub returns-in_err-serial : goal.returns-in_err-serial
 returns-in_err-serial c =
-    let tasks = c.self.inside.tasks.items in
+    let tasks = c.self.inside.tasks in
     let framework = c.args.framework.now in
     let none = rows_none task_row (λ (t : TaskRow). same_text t.framework framework) tasks tasks (record {
       none = named_none framework tasks (λ name. any_listed task_serial (task_named (framework, name)) tasks
@@ -24,12 +24,12 @@ invariant_of-self c = c.take_task.ensures.kept c.self.inside.next c.self.invaria
 
 pub returns-in_err-task : goal.returns-in_err-task
 returns-in_err-task c =
-    let tasks = c.self.inside.tasks.items in
+    let tasks = c.self.inside.tasks in
     let framework = c.args.framework.now in
     let name = c.in_ok-serial.ensures.some.0 in
     let listed : c.in_ok-serial.serial ∷ [] ≡ map task_serial (filter (task_named (framework, name)) tasks) =
     sym c.in_ok-serial.ensures.some.1 ∙ c.self.invariant.listed.names (framework, name) in
-    rw c.from_residual-in_err-task.ensures (task_none tasks c.take_task.new.tasks.items c.args.self.now c.self.view_is c.self.invariant.rising
+    rw c.from_residual-in_err-task.ensures (task_none tasks c.take_task.new.tasks c.args.self.now c.self.view_is c.self.invariant.rising
     (task_named (framework, name)) (c.in_ok-serial.serial ∷ []) listed (λ t. same_text t.framework framework)
     (λ t here. (and_parts (same_text t.row.framework framework) (same_text t.row.name name) here).0) c.in_ok-serial.serial 0 refl c.in_err-task.ensures.taken)
 
@@ -38,11 +38,11 @@ invariant_of-self-2 c = c.take_task.ensures.kept c.self.inside.next c.self.invar
 
 pub returns : goal.returns
 returns c =
-    let tasks = c.self.inside.tasks.items in
+    let tasks = c.self.inside.tasks in
     let framework = c.args.framework.now in
     let name = c.in_ok-serial.ensures.some.0 in
     let listed : c.in_ok-serial.serial ∷ [] ≡ map task_serial (filter (task_named (framework, name)) tasks) =
     sym c.in_ok-serial.ensures.some.1 ∙ c.self.invariant.listed.names (framework, name) in
-    task_taken tasks c.take_task.new.tasks.items c.args.self.now c.self.view_is c.self.invariant.rising
+    task_taken tasks c.take_task.new.tasks c.args.self.now c.self.view_is c.self.invariant.rising
     (task_named (framework, name)) (c.in_ok-serial.serial ∷ []) listed (λ t. same_text t.framework framework)
     (λ t here. (and_parts (same_text t.row.framework framework) (same_text t.row.name name) here).0) c.in_ok-serial.serial 0 refl c.in_ok-task.task c.in_ok-task.ensures.taken

@@ -9,7 +9,7 @@ use Rattle.drf_holdings.proofs.tasks.TaskTable.take_on.Goals as goal
 
 pub returns-in_err-serial : goal.returns-in_err-serial
 returns-in_err-serial c =
-    let tasks = c.self.inside.tasks.items in
+    let tasks = c.self.inside.tasks in
     let agent = c.args.agent.now in
     let ns = c.list.result.now in
     let listed : ns ≡ map task_serial (filter (task_on agent) tasks) = c.list.ensures ∙ c.self.invariant.listed.agents agent in
@@ -21,11 +21,11 @@ invariant_of-self c = c.take_task.ensures.kept c.self.inside.next c.self.invaria
 
 pub returns-in_err-task : goal.returns-in_err-task
 returns-in_err-task c =
-    let tasks = c.self.inside.tasks.items in
+    let tasks = c.self.inside.tasks in
     let agent = c.args.agent.now in
     let ns = c.list.result.now in
     let listed : ns ≡ map task_serial (filter (task_on agent) tasks) = c.list.ensures ∙ c.self.invariant.listed.agents agent in
-    rw c.from_residual-in_err-task.ensures (task_none tasks c.take_task.new.tasks.items c.args.self.now c.self.view_is c.self.invariant.rising
+    rw c.from_residual-in_err-task.ensures (task_none tasks c.take_task.new.tasks c.args.self.now c.self.view_is c.self.invariant.rising
     (task_on agent) ns listed (λ t. same_text t.agent agent) (λ t here. here) c.in_ok-serial.field-0.now (length ns - 1) (sym c.in_ok-serial.ensures.value) c.in_err-task.ensures.taken)
 
 pub invariant_of-self-2 : goal.invariant_of-self-2
@@ -33,9 +33,9 @@ invariant_of-self-2 c = c.take_task.ensures.kept c.self.inside.next c.self.invar
 
 pub returns : goal.returns
 returns c =
-    let tasks = c.self.inside.tasks.items in
+    let tasks = c.self.inside.tasks in
     let agent = c.args.agent.now in
     let ns = c.list.result.now in
     let listed : ns ≡ map task_serial (filter (task_on agent) tasks) = c.list.ensures ∙ c.self.invariant.listed.agents agent in
-    task_taken tasks c.take_task.new.tasks.items c.args.self.now c.self.view_is c.self.invariant.rising
+    task_taken tasks c.take_task.new.tasks c.args.self.now c.self.view_is c.self.invariant.rising
     (task_on agent) ns listed (λ t. same_text t.agent agent) (λ t here. here) c.in_ok-serial.field-0.now (length ns - 1) (sym c.in_ok-serial.ensures.value) c.in_ok-task.task c.in_ok-task.ensures.taken

@@ -1,18 +1,19 @@
 use Rattle.std.proofs.Common.{◌≡◌, ℕ, ◌+◌, ◌++◌, List, true, map, length, sym, ap, ◌∙◌, subst, arith}
+use Rattle.std.specs.Map.{values_of}
 use Rattle.drf_rows.specs.Consistent.{IsConsistent, are_rising}
 use Rattle.drf_rows.specs.declared.rows.LimitRow.{LimitRow}
 use Rattle.drf_rows.specs.declared.rows.OfferRow.{OfferRow}
 use Rattle.drf_rows.specs.declared.rows.Rows.{Rows}
 use Rattle.drf_holdings.specs.Listed.{offer_number}
 use Rattle.drf_holdings.specs.Rising.{rising_from}
-use Rattle.drf_tables.specs.Counting.{counting_all}
+use Rattle.drf_tables.specs.Counting.{counting_all, first_number}
 use Rattle.drf_tables.specs.DraftLaws.{next-with_offers, offers-with_offers}
 use Rattle.drf_tables.specs.Drafts.{with_offers, frees_of, frees_after}
 use Rattle.drf_tables.specs.Inside.{CountsIf, rows_of, rows_in, framework_rows, is_settled}
 use Rattle.drf_tables.specs.Recounting.{CountsAll}
 use Rattle.drf_tables.specs.Stored.{Stored}
 use Rattle.drf_tables.proofs.Counted.{CanCountAll-from}
-use Rattle.drf_tables.proofs.Entries.{appended}
+use Rattle.drf_tables.proofs.Appended.{made_from}
 use Rattle.drf_tables.proofs.Fields.{rows_of-offers, agents_in}
 use Rattle.drf_tables.proofs.Kept.{IsKept-with_offers, known-left, settled-left}
 use Rattle.drf_tables.proofs.Running.{limits-with_offers}
@@ -34,9 +35,17 @@ unfolding rows_of
 count_offers-requires-clause-fits c =
     let t = c.self.inside in
     let offers : List OfferRow = c.args.offers.now.items in
-    let all = c.offers.ensures ∙ c.in_ok-append.ensures.ok in
-    let before = ap length c.offers-before.ensures in
-    let made = appended t.holdings.offers offers c.offers.result.now (length c.offers-before.result.now) all before in
+    let later : Rows = with_offers (rows_in t) offers in
+    let whole : IsConsistent later =
+    subst (λ (s : Stored). IsConsistent (with_offers s.rows offers)) (sym c.self.view_is) c.requires.consistent in
+    let risen : are_rising (map offer_number (t.holdings.offers ++ offers)) later.next_offer ≡ true =
+    ap (λ (os : List OfferRow). are_rising (map offer_number os) later.next_offer) (sym (offers-with_offers (rows_in t) offers)) ∙ whole.numbered in
+    let first : c.first_number-first.result ≡ first_number offers t.next_offer =
+    c.first_number-first.ensures ∙ ap (λ (os : List OfferRow). first_number os t.next_offer) c.deref.ensures.value in
+    let made : values_of c.offers_from.result ≡ offers =
+    c.offers_from.ensures
+    ∙ made_from t.holdings.offers offers c.append.new.self.offers c.first_number-first.result t.next_offer later.next_offer
+    c.self.invariant.kept.consistent.numbered risen first c.in_ok-append.ensures.ok in
     let next = next-with_offers (rows_in t) offers in
     let view = ap (λ (s : Stored). (with_offers s.rows offers).next_offer) c.self.view_is in
     let few = c.self.invariant.kept.consistent.counted in
@@ -57,9 +66,17 @@ invariant_of-self-2 c =
     let t = c.self.inside in
     let offers : List OfferRow = c.args.offers.now.items in
     let lefts = c.args.lefts.items in
-    let all = c.offers.ensures ∙ c.in_ok-append.ensures.ok in
-    let before = ap length c.offers-before.ensures in
-    let made = appended t.holdings.offers offers c.offers.result.now (length c.offers-before.result.now) all before in
+    let later : Rows = with_offers (rows_in t) offers in
+    let whole : IsConsistent later =
+    subst (λ (s : Stored). IsConsistent (with_offers s.rows offers)) (sym c.self.view_is) c.requires.consistent in
+    let risen : are_rising (map offer_number (t.holdings.offers ++ offers)) later.next_offer ≡ true =
+    ap (λ (os : List OfferRow). are_rising (map offer_number os) later.next_offer) (sym (offers-with_offers (rows_in t) offers)) ∙ whole.numbered in
+    let first : c.first_number-first.result ≡ first_number offers t.next_offer =
+    c.first_number-first.ensures ∙ ap (λ (os : List OfferRow). first_number os t.next_offer) c.deref.ensures.value in
+    let made : values_of c.offers_from.result ≡ offers =
+    c.offers_from.ensures
+    ∙ made_from t.holdings.offers offers c.append.new.self.offers c.first_number-first.result t.next_offer later.next_offer
+    c.self.invariant.kept.consistent.numbered risen first c.in_ok-append.ensures.ok in
     let long : c.len-made.result ≡ length offers = omega (arith, c.len-made.ensures, c.args.offers.now.ok.0) in
     let counted = c.count_offers.ensures ∙ ap (counting_all (framework_rows t.frameworks.entries)) made in
     let rows =
@@ -95,9 +112,17 @@ pub returns-clause-ok : goal.returns-clause-ok
 returns-clause-ok c =
     let t = c.self.inside in
     let offers : List OfferRow = c.args.offers.now.items in
-    let all = c.offers.ensures ∙ c.in_ok-append.ensures.ok in
-    let before = ap length c.offers-before.ensures in
-    let made = appended t.holdings.offers offers c.offers.result.now (length c.offers-before.result.now) all before in
+    let later : Rows = with_offers (rows_in t) offers in
+    let whole : IsConsistent later =
+    subst (λ (s : Stored). IsConsistent (with_offers s.rows offers)) (sym c.self.view_is) c.requires.consistent in
+    let risen : are_rising (map offer_number (t.holdings.offers ++ offers)) later.next_offer ≡ true =
+    ap (λ (os : List OfferRow). are_rising (map offer_number os) later.next_offer) (sym (offers-with_offers (rows_in t) offers)) ∙ whole.numbered in
+    let first : c.first_number-first.result ≡ first_number offers t.next_offer =
+    c.first_number-first.ensures ∙ ap (λ (os : List OfferRow). first_number os t.next_offer) c.deref.ensures.value in
+    let made : values_of c.offers_from.result ≡ offers =
+    c.offers_from.ensures
+    ∙ made_from t.holdings.offers offers c.append.new.self.offers c.first_number-first.result t.next_offer later.next_offer
+    c.self.invariant.kept.consistent.numbered risen first c.in_ok-append.ensures.ok in
     let long : c.len-made.result ≡ length offers = omega (arith, c.len-made.ensures, c.args.offers.now.ok.0) in
     let counted = c.count_offers.ensures ∙ ap (counting_all (framework_rows t.frameworks.entries)) made in
     let after : Rows = with_offers (rows_in t) offers in

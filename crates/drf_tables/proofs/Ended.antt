@@ -1,5 +1,5 @@
 -- The rows once one holding is taken out, and once parts of an offer are tasks.
-use Rattle.std.specs.Prelude.{◌≡◌, ℕ, ◌+◌, ◌==◌, ◌||◌, Bool, true, false, not, List, [], ◌∷◌, ◌++◌, length, map, filter, find, Option, Some, None, cond, ◌⊎◌}
+use Rattle.std.specs.Prelude.{◌≡◌, ℕ, ◌+◌, ◌≤◌, ◌==◌, ◌||◌, Bool, true, false, not, List, [], ◌∷◌, ◌++◌, length, map, filter, find, Option, Some, None, cond, ◌⊎◌}
 use Rattle.std.specs.List.{list_any, AllByRecursion}
 use Rattle.std.specs.Option.{option_map_or}
 use Rattle.std.proofs.Common.{refl, sym, ap, ◌∙◌, subst, inl, inr}
@@ -19,6 +19,7 @@ use Rattle.drf_rows.specs.Holdings.{Holding, of_offer, of_task, holdings_of, par
 use Rattle.drf_rows.specs.Offers.{CanStart, left_of_offer, offer_at, task_of}
 use Rattle.drf_rows.specs.TaskLaws.{units-covers_all}
 use Rattle.drf_rows.specs.Tasks.{Start, uses}
+use Rattle.drf_rows.specs.declared.rows.AgentRow.{AgentRow}
 use Rattle.drf_rows.specs.declared.rows.FilterRow.{FilterRow}
 use Rattle.drf_rows.specs.declared.rows.OfferRow.{OfferRow}
 use Rattle.drf_rows.specs.declared.rows.TaskRow.{TaskRow}

@@ -11,7 +11,7 @@ use Rattle.drf_bundle.specs.declared.resource.Resource.{Resource}
 use Rattle.drf_rows.specs.Held.{cluster_total}
 use Rattle.drf_rows.specs.Quota.{consumption_where, reserved_for, reserved_in}
 use Rattle.drf_rows.specs.QuotaLaws.{consumption_is_part_of_total}
-use Rattle.drf_rows.specs.Totals.{exchanged, with_other_total, with_total}
+use Rattle.drf_rows.specs.Totals.{CanExchange, exchanged, with_other_total, with_total}
 use Rattle.drf_rows.specs.TotalsLaws.{can_in_total, is_agent}
 use Rattle.drf_rows.specs.declared.limits.TheConstants.{LARGEST_AMOUNT}
 use Rattle.drf_rows.specs.declared.rows.FilterRow.{FilterRow}
@@ -86,6 +86,7 @@ module _ (t : Inside) (counted : CountsIf t.is_counted (rows_in t) t.quota) (nam
 
 module _ (t : Inside) (kept : IsKept (rows_in t) t.agents.entries t.total t.clients) (counted : CountsIf t.is_counted (rows_in t) t.quota)
     (name : Text) (old new : List Resource) (can : CanExchangeOn (rows_in t) name old new) where
+  can_whole : CanExchange can.row.total old new
   can_whole = can_in_total (rows_in t) name can.row kept.consistent can.found old new can.can
 
   pub exchange_adds : t.is_counted ≡ true → (test : Path → Bool) (label : Text)

@@ -39,8 +39,8 @@ consume_total-requires c = λ is test label.
     adds_counted t.is_counted (rows_in t) t.quota c.self.invariant.consumed is test label (reserved_in test label c.args.total)
     c.self.invariant.kept.consistent c.self.invariant.kept.few (reserved_le c.args.total test label LARGEST_AMOUNT (c.requires.small label))
 
-pub invariant_of-self-2 : goal.invariant_of-self-2
-invariant_of-self-2 c =
+pub invariant_of-self-in_err-consume_total : goal.invariant_of-self-in_err-consume_total
+invariant_of-self-in_err-consume_total c =
     let t = c.self.inside in
     let after = c.consume_total.new.quota in
     let same = c.in_err-consume_total.ensures.err in
@@ -52,8 +52,8 @@ invariant_of-self-2 c =
           (counts-still t.is_counted (rows_in t) t.quota c.self.invariant.consumed after same);
     }
 
-pub invariant_of-self-3 : goal.invariant_of-self-3
-invariant_of-self-3 c =
+pub invariant_of-self-2 : goal.invariant_of-self-2
+invariant_of-self-2 c =
     let t = c.self.inside in
     let name = c.args.name in
     let total : List Resource = c.args.total in

@@ -1,5 +1,6 @@
-use Rattle.std.proofs.Common.{◌≡◌, ◌++◌, List, true, map, length, sym, ap, ◌∙◌, subst, arith}
+use Rattle.std.proofs.Common.{◌≡◌, ℕ, ◌+◌, ◌++◌, List, true, map, length, sym, ap, ◌∙◌, subst, arith}
 use Rattle.drf_rows.specs.Consistent.{IsConsistent, are_rising}
+use Rattle.drf_rows.specs.declared.rows.LimitRow.{LimitRow}
 use Rattle.drf_rows.specs.declared.rows.OfferRow.{OfferRow}
 use Rattle.drf_rows.specs.declared.rows.Rows.{Rows}
 use Rattle.drf_holdings.specs.Listed.{offer_number}
@@ -73,16 +74,21 @@ invariant_of-self-2 c =
     let known = known-left (rows_in t) t.agents.entries c.put_lefts.new.agents.entries offers lefts
     (agents_in t) c.put_lefts.ensures.rows settled c.self.invariant.kept.free c.put_lefts.ensures.free left in
     let after : Rows = with_offers (rows_in t) offers in
-    let all : CountsAll after c.args.quota = subst (λ (s : Stored). CountsAll (with_offers s.rows offers) c.args.quota) (sym c.self.view_is) c.requires.quota in
+    let counting : CountsAll after c.args.quota = subst (λ (s : Stored). CountsAll (with_offers s.rows offers) c.args.quota) (sym c.self.view_is) c.requires.quota in
     let own : t.quota.limits ≡ after.limits = limits-with_offers t offers in
-    let limits : c.take_over.new.quota.limits ≡ t.quota.limits = c.take_over.ensures.limits after all own ∙ sym own in
-    let counts : CountsIf c.take_over.result after c.take_over.new.quota = c.take_over.ensures.counts after all in
+    let limits : c.take_over-self-inside.new.quota.limits ≡ t.quota.limits = c.take_over-self-inside.ensures.limits after counting own ∙ sym own in
+    let counts : CountsIf c.take_over-self-inside.result after c.take_over-self-inside.new.quota = c.take_over-self-inside.ensures.counts after counting in
+    let stands : List LimitRow → ℕ → Rows = λ limits made.
+    rows_of c.put_lefts.new.agents.entries c.count_offers.new.frameworks.entries c.append.new.self t.filters t.weights.entries
+    limits t.clock (t.next_offer + made) t.accepted in
+    let told : stands c.take_over-self-inside.new.quota.limits c.len-made.result ≡ stands t.quota.limits (length offers) =
+    λ i. stands (limits i) (long i) in
     record {
       kept = rw (long, limits, rows) (
           IsKept-with_offers (rows_in t) t.agents.entries c.put_lefts.new.agents.entries t.total t.clients offers
           c.self.invariant.kept consistent known
           );
-      consumed = rw (long, limits, rows) counts;
+      consumed = subst (λ (r : Rows). CountsIf c.take_over-self-inside.result r c.take_over-self-inside.new.quota) (sym (told ∙ rows)) counts;
     }
 
 pub returns-clause-ok : goal.returns-clause-ok
@@ -95,9 +101,9 @@ returns-clause-ok c =
     let long : c.len-made.result ≡ length offers = omega (arith, c.len-made.ensures, c.args.offers.now.ok.0) in
     let counted = c.count_offers.ensures ∙ ap (counting_all (framework_rows t.frameworks.entries)) made in
     let after : Rows = with_offers (rows_in t) offers in
-    let all : CountsAll after c.args.quota = subst (λ (s : Stored). CountsAll (with_offers s.rows offers) c.args.quota) (sym c.self.view_is) c.requires.quota in
+    let counting : CountsAll after c.args.quota = subst (λ (s : Stored). CountsAll (with_offers s.rows offers) c.args.quota) (sym c.self.view_is) c.requires.quota in
     let own : t.quota.limits ≡ after.limits = limits-with_offers t offers in
-    let limits : c.take_over.new.quota.limits ≡ t.quota.limits = c.take_over.ensures.limits after all own ∙ sym own in
+    let limits : c.take_over-self-inside.new.quota.limits ≡ t.quota.limits = c.take_over-self-inside.ensures.limits after counting own ∙ sym own in
     rw (long, limits) (
     rows_of-offers t c.put_lefts.new.agents.entries c.count_offers.new.frameworks.entries
     c.append.new.self offers c.put_lefts.ensures.rows counted c.in_ok-append.ensures.ok c.append.ensures.tasks

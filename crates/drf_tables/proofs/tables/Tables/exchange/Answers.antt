@@ -7,9 +7,9 @@ use Rattle.drf_rows.specs.declared.rows.Rows.{Rows}
 use Rattle.drf_tables.specs.Changing.{CanExchangeOn}
 use Rattle.drf_tables.specs.Inside.{CountsIf, IsKept, rows_in, rows_of}
 use Rattle.drf_tables.specs.Stored.{Stored}
-use Rattle.drf_tables.proofs.Running.{counts-limits, kept-limits}
+use Rattle.drf_tables.proofs.Running.{counts-exchanged, counts-limits, exchange_adds, exchange_fits, kept-limits}
 use Rattle.drf_tables.proofs.Moved.{can_each, rows-exchanged, kept-exchanged}
-use Rattle.drf_tables.proofs.Recounted.{counts-back, counts-exchanged, counts-still, exchange_adds, exchange_fits, raised_fits}
+use Rattle.drf_tables.proofs.Recounted.{counts-back, counts-still, raised_fits}
 use Rattle.drf_tables.proofs.tables.Tables.exchange.Goals as goal
 
 pub consume_total-requires : goal.consume_total-requires

@@ -9,7 +9,7 @@ use Rattle.drf_rows.specs.declared.rows.Rows.{Rows}
 use Rattle.drf_tables.specs.Inside.{CountsIf, IsKept, rows_in, rows_of}
 use Rattle.drf_tables.specs.Stored.{Stored}
 use Rattle.drf_tables.proofs.Changes.{rows-left, kept-left}
-use Rattle.drf_tables.proofs.Recounted.{agent_fits, counts-left}
+use Rattle.drf_tables.proofs.Running.{agent_fits, counts-left}
 use Rattle.drf_tables.proofs.tables.Tables.remove_agent.Goals as goal
 
 pub release_agent-requires : goal.release_agent-requires

@@ -12,14 +12,14 @@ use Rattle.drf_tables.specs.Inside.{CountsIf, IsKept, rows_in, rows_of}
 use Rattle.drf_tables.specs.Stored.{Stored}
 use Rattle.drf_tables.proofs.Changes.{agents_apart}
 use Rattle.drf_tables.proofs.Moved.{rows-other, kept-other}
-use Rattle.drf_tables.proofs.Recounted.{agent_fits, counts-other, other_fits}
+use Rattle.drf_tables.proofs.Running.{agent_fits, counts-other, other_fits}
 use Rattle.drf_tables.proofs.tables.Tables.set_total.Goals as goal
 
 pub release_agent-requires : goal.release_agent-requires
 release_agent-requires c = λ is role label. agent_fits c.self.inside c.self.invariant.consumed c.args.agent.now is (same_path role) label
 
-pub recount_total-requires : goal.recount_total-requires
-recount_total-requires c = λ is test label.
+pub recount_total-self-inside-requires : goal.recount_total-self-inside-requires
+recount_total-self-inside-requires c = λ is test label.
     let t = c.self.inside in
     let name = c.args.agent.now in
     let total = c.args.total in
@@ -45,17 +45,17 @@ invariant_of-self c =
     subst (λ (s : Stored). c.args.sum ≡ plus (cluster_total (filter (λ a. not (same_text a.name name)) s.rows.agents)) (quantities_of total))
     (sym c.self.view_is) c.requires.sum in
     let entries = c.set_total.new.agents.entries in
-    let after = c.recount_total.new.quota in
-    let limits : t.quota.limits ≡ after.limits = c.release_agent.ensures.limits ∙ sym c.recount_total.ensures.raised.limits in
+    let after = c.recount_total-self-inside.new.quota in
+    let limits : t.quota.limits ≡ after.limits = c.release_agent.ensures.limits ∙ sym c.recount_total-self-inside.ensures.raised.limits in
     let rows : List LimitRow → Rows = λ limits.
     rows_of entries t.frameworks.entries t.holdings t.filters t.weights.entries limits t.clock t.next_offer t.accepted in
     record {
       kept = subst (λ (ls : List LimitRow). IsKept (rows ls) entries c.args.sum t.clients) limits
           (kept-other t c.self.invariant.kept name total c.args.sum right summed entries c.set_total.ensures);
-      consumed = subst (λ (ls : List LimitRow). CountsIf c.recount_total.result (rows ls) after) limits
+      consumed = subst (λ (ls : List LimitRow). CountsIf c.recount_total-self-inside.result (rows ls) after) limits
           (counts-other t c.self.invariant.kept c.self.invariant.consumed name total c.args.sum right summed
-          c.release_agent.new.quota c.release_agent.ensures entries c.set_total.ensures c.recount_total.result after
-          c.recount_total.ensures.before c.recount_total.ensures.raised);
+          c.release_agent.new.quota c.release_agent.ensures entries c.set_total.ensures c.recount_total-self-inside.result after
+          c.recount_total-self-inside.ensures.before c.recount_total-self-inside.ensures.raised);
     }
 
 pub returns : goal.returns
@@ -70,6 +70,6 @@ returns c =
     (sym c.self.view_is) c.requires.sum in
     let rows : List LimitRow → Rows = λ limits.
     rows_of c.set_total.new.agents.entries t.frameworks.entries t.holdings t.filters t.weights.entries limits t.clock t.next_offer t.accepted in
-    ap rows (c.recount_total.ensures.raised.limits ∙ sym c.release_agent.ensures.limits)
+    ap rows (c.recount_total-self-inside.ensures.raised.limits ∙ sym c.release_agent.ensures.limits)
     ∙ rows-other t c.self.invariant.kept name total c.args.sum right summed c.set_total.new.agents.entries c.set_total.ensures
     ∙ ap (λ (s : Stored). record s.rows { agents = with_other_total s.rows name total }) c.self.view_is

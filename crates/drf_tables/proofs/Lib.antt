@@ -14,4 +14,4 @@ pub mod Counts
 pub mod Moved
 pub mod Recounted
 pub mod Running
-pub mod Copied
+pub mod CopyLemmas

@@ -5,7 +5,7 @@ use Rattle.drf_role.specs.Text.{Text, same_text}
 use Rattle.drf_rows.specs.declared.rows.ClientRow.{ClientRow}
 use Rattle.drf_rows.specs.declared.rows.FrameworkRow.{FrameworkRow}
 use Rattle.drf_tables.specs.Inside.{framework_rows}
-use Rattle.drf_tables.proofs.Copied.{framework_copied}
+use Rattle.drf_tables.proofs.CopyLemmas.{framework_copied}
 use Rattle.drf_tables.proofs.copied.copy_frameworks.Goals as goal
 
 pub loop-name-preserved : goal.loop-name-preserved

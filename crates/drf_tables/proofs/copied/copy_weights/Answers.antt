@@ -2,7 +2,7 @@ use Rattle.std.proofs.Common.{◌≡◌, ℕ, List, ◌∷◌, ◌++◌, sym, ap
 use Rattle.indexmap.specs.IndexMap.{insert_entry}
 use Rattle.drf_role.specs.Path.{Path, same_path}
 use Rattle.drf_role.specs.PathLaws.{same_path-swap}
-use Rattle.drf_tables.proofs.Copied.{copied_more}
+use Rattle.drf_tables.proofs.CopyLemmas.{copied_more}
 use Rattle.drf_tables.proofs.copied.copy_weights.Goals as goal
 
 pub loop-role-preserved : goal.loop-role-preserved

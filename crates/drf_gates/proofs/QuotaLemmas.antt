@@ -1,6 +1,6 @@
 -- Limits as rows, and what they leave, limit by limit.
-use Rattle.std.specs.Prelude.{◌≡◌, ◌≢◌, ℕ, Bool, true, false, ◌&&◌, List, [], ◌∷◌, ◌++◌, map, filter, fold, length, Option, Some, None}
-use Rattle.std.specs.List.{list_all, flat_map, AllByRecursion, IsDistinct}
+use Rattle.std.specs.Prelude.{◌≡◌, ◌≢◌, ℕ, Bool, true, false, ◌&&◌, List, [], ◌∷◌, ◌++◌, map, filter, length, Option, Some, None}
+use Rattle.std.specs.List.{list_all, AllByRecursion, IsDistinct}
 use Rattle.std.specs.Map.{keys_of, lookup, remove_entry}
 use Rattle.std.proofs.Common.{refl, sym, ap, ◌∙◌, inl, inr, cond, arith}
 use Rattle.std.proofs.lemmas.Bool.{cases_Bool}
@@ -9,9 +9,8 @@ use Rattle.indexmap.specs.IndexMap.{insert_entry}
 use Rattle.drf_role.specs.Text.{Text}
 use Rattle.drf_role.specs.Path.{Path, same_path}
 use Rattle.drf_role.specs.PathLaws.{same_path-swap}
-use Rattle.drf_bundle.specs.Quantities.{names_of}
 use Rattle.drf_bundle.specs.declared.quantities.Entry.{Entry}
-use Rattle.drf_rows.specs.Quota.{Consumed, is_within, binds, room_under, headroom_under, headrooms, limited_names, stays_within, limit_of, limits_put, limits_without, limits_with, consumption, headroom_at, headroom, admits_under, admits}
+use Rattle.drf_rows.specs.Quota.{Consumed, is_within, binds, room_under, headroom_under, headrooms, stays_within, limit_of, limits_put, limits_without, limits_with, consumption, headroom_at, headroom, admits_under, admits}
 use Rattle.drf_rows.specs.declared.rows.LimitRow.{LimitRow}
 use Rattle.drf_rows.specs.declared.rows.Rows.{Rows}
 use Rattle.drf_gates.specs.Quota.{Allowance, IsAllowanceOf, limit_row, limit_rows, lesser, least_with, headroom_from, used_at}
@@ -95,27 +94,6 @@ module _ (consumed : Consumed) (role : Path) (label : Text) where
   room_here known l ls here =
       least_more known (room_under consumed label l) (map (room_under consumed label) (filter (binds role label) ls))
       ∙ ap (λ (b : Bool). least_with known (map (room_under consumed label) (cond b (l ∷ filter (binds role label) ls) (filter (binds role label) ls)))) (sym here)
-
--- ---- the headrooms, name by name
-
-module _ {A B : Type 0} (f : A → B → A) where
-  fold_parts : (start : A) (xs ys : List B) → fold f start (xs ++ ys) ≡ fold f (fold f start xs) ys
-  fold_parts start [] ys = refl
-  fold_parts start (x ∷ xs) ys = fold_parts (f start x) xs ys
-
-module _ (put : List Entry → Text → List Entry) (role : Path) where
-  pub names_past : (room : List Entry) (l : LimitRow) (ls : List LimitRow) → is_within l.role role ≡ false
-      → fold put room (limited_names ls role) ≡ fold put room (limited_names (l ∷ ls) role)
-  names_past room l ls past =
-      ap (λ (b : Bool). fold put room (flat_map (λ (m : LimitRow). names_of m.limit)
-      (cond b (l ∷ filter (λ m. is_within m.role role) ls) (filter (λ m. is_within m.role role) ls)))) (sym past)
-
-  pub names_here : (room : List Entry) (l : LimitRow) (ls : List LimitRow) → is_within l.role role ≡ true
-      → fold put (fold put room (names_of l.limit)) (limited_names ls role) ≡ fold put room (limited_names (l ∷ ls) role)
-  names_here room l ls here =
-      sym (fold_parts put room (names_of l.limit) (limited_names ls role))
-      ∙ ap (λ (b : Bool). fold put room (flat_map (λ (m : LimitRow). names_of m.limit)
-      (cond b (l ∷ filter (λ m. is_within m.role role) ls) (filter (λ m. is_within m.role role) ls)))) (sym here)
 
 -- ---- what is admitted, limit by limit
 

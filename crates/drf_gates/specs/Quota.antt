@@ -7,13 +7,13 @@ use Rattle.std.specs.Option.{option_map_or}
 use Rattle.drf_role.specs.Text.{Text, same_text}
 use Rattle.drf_role.specs.Path.{Path, same_path}
 use Rattle.drf_role.specs.Role.{IsRole}
-use Rattle.drf_bundle.specs.Quantities.{amount_of, with_amount}
+use Rattle.drf_bundle.specs.Quantities.{amount_of, is_named}
 use Rattle.drf_bundle.specs.Value.{Thousandths, units_in}
 use Rattle.drf_bundle.specs.Bundle.{same_key, key_of}
 use Rattle.drf_bundle.specs.declared.resource.Resource.{Resource}
 use Rattle.drf_bundle.specs.contracts.quantities.Entry as entry
 use Rattle.drf_bundle.specs.declared.quantities.Entry.{Entry}
-use Rattle.drf_rows.specs.Quota.{Consumed, reserves, is_within, consumption_where, binds, room_under, headroom_under}
+use Rattle.drf_rows.specs.Quota.{Consumed, reserves, is_within, consumption_where, binds, room_under}
 use Rattle.drf_rows.specs.contracts.rows.LimitRow as limit
 use Rattle.drf_rows.specs.declared.rows.LimitRow.{LimitRow}
 use Rattle.drf_rows.specs.declared.rows.Rows.{Rows}
@@ -101,10 +101,13 @@ abbrev pub headroom_from : Option ℕ → List LimitRow → Consumed → Path �
 headroom_from known limits consumed role label =
     least_with known (map (room_under consumed label) (filter (binds role label) limits))
 
--- one more name among the headrooms
-abbrev pub with_headroom : List LimitRow → Consumed → Path → List Entry → Text → List Entry
-with_headroom limits consumed role room label =
-    with_amount room label (option_map_or (λ n. n) (headroom_under limits consumed role label) 0)
+-- the amount of a label, if it is named
+abbrev pub known_amount : List Entry → Text → Option ℕ
+known_amount entries label = if is_named entries label then Some (amount_of entries label) else None
+
+-- what is known of the least room, once one more limit is known
+abbrev pub lessened : Consumed → LimitRow → Option ℕ → Text → Option ℕ
+lessened consumed l known label = if is_named l.limit label then Some (lesser known (room_under consumed label l)) else known
 
 -- roles consume so much more, by a test and a scalar
 pub record IsRaisedBy (old new : Allowance) (more : (Path → Bool) → Text → ℕ) : Type 0 where

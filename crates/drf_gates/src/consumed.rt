@@ -9,6 +9,7 @@ ghost use Rattle.drf_rows.specs.Quota.{unreserved_in, reserved_in};
 ghost use Rattle.drf_gates.specs.Quota.{IsRaisedBy, IsSame, amount_in_one, unreserved_one, reserved_one, used_by, used_where};
 
 use crate::quota::Quota;
+use crate::totals::reduce_totals;
 use crate::usage::reduce;
 use drf_bundle::{Bundle, Quantities, Resource, Value};
 use drf_role::Role;
@@ -77,7 +78,9 @@ impl Quota {
     {
         if resource.is_unreserved() {
             let amount = thousandths(resource);
-            reduce(&mut self.used, role, resource.label.text(), amount);
+            let label = resource.label.text();
+            reduce(&mut self.used, role, label, amount);
+            reduce_totals(&mut self.totals, role, label, amount);
         }
     }
 
@@ -113,12 +116,9 @@ impl Quota {
     {
         if !resource.is_unreserved() {
             let amount = thousandths(resource);
-            reduce(
-                &mut self.used,
-                &resource.role,
-                resource.label.text(),
-                amount,
-            );
+            let label = resource.label.text();
+            reduce(&mut self.used, &resource.role, label, amount);
+            reduce_totals(&mut self.totals, &resource.role, label, amount);
         }
     }
 

@@ -8,6 +8,7 @@ mod index;
 mod laws;
 mod quota;
 mod row;
+mod totals;
 mod usage;
 
 pub use filters::FilterTable;

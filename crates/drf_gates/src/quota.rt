@@ -1,16 +1,19 @@
 //! Quota limits, and what roles consume (Mesos: quota limits).
-ghost use Rattle.std.specs.Prelude.{◌≡◌, ◌≢◌, ℕ, ◌+◌, ◌^◌, ◌<◌, ◌≤◌, [], ◌↔◌, true, IsTrue, fold, filter, length, OnOk, OnErr, IfOk};
+ghost use Rattle.std.specs.Prelude.{◌≡◌, ◌≢◌, ℕ, ◌+◌, ◌^◌, ◌<◌, ◌≤◌, [], ◌↔◌, true, IsTrue, filter, length, OnOk, OnErr, IfOk};
 ghost use Rattle.std.specs.List.{list_all};
 ghost use Rattle.std.specs.Option.{option_copied};
 ghost use Rattle.drf_role.specs.Text.{Text};
 ghost use Rattle.drf_role.specs.Path.{Path, same_path};
 ghost use Rattle.drf_role.specs.Role.{IsRole};
-ghost use Rattle.drf_bundle.specs.Quantities.{amount_of, names_of};
+ghost use Rattle.drf_bundle.specs.Quantities.{amount_of};
 ghost use Rattle.drf_rows.specs.Quota.{is_within, binds, headroom_under, headrooms, stays_within, admits_under, limit_of, limits_with, consumption, headroom_at, headroom, admits};
 ghost use Rattle.drf_rows.specs.declared.rows.Rows.{Rows};
 ghost use Rattle.indexmap.specs.IndexMap.{insert_entry};
-ghost use Rattle.drf_gates.specs.Quota.{IsAllowanceOf, IsRaised, IsSame, limit_row, lesser, used_at, used_by, with_headroom};
+ghost use Rattle.drf_gates.specs.Quota.{IsAllowanceOf, IsRaised, IsSame, known_amount, lessened, limit_row, lesser, used_at, used_by};
 
+use crate::totals::{
+    Total, clear_totals, copy_totals, drop_total, keep_total, kept, lower_totals, raise_totals,
+};
 use crate::usage::{copy_used, is_within, lower, raise, used_at};
 use drf_bundle::{Entry, Quantities};
 use drf_role::Role;
@@ -25,10 +28,13 @@ pub struct Quota {
     pub(crate) limits: IndexMap<Role, Quantities>,
     // What each role consumes itself, the roles below it left out.
     pub(crate) used: IndexMap<Role, Quantities>,
+    // What roles with a limit consume together with the roles below them, as far as there was memory.
+    pub(crate) totals: Vec<Total>,
 }
 
 impl Model for Quota {
-    ghost use Rattle.drf_gates.specs.Quota.{Allowance, allowance_code, IsBounded, limit_rows};
+    ghost use Rattle.drf_gates.specs.Quota.{Allowance, allowance_code, limit_rows};
+    ghost use Rattle.drf_gates.specs.Totals.{IsCounted};
 
     ghost Value = { Allowance };
 
@@ -36,7 +42,7 @@ impl Model for Quota {
 
     ghost view = { λ q. record { limits = limit_rows q.limits.entries; used = q.used.entries } };
 
-    ghost invariant = { λ q. IsBounded q.used.entries };
+    ghost invariant = { λ q. IsCounted q.used.entries q.totals.items };
 }
 
 /// Whether the limit of a role is that of the other role or of one above it, and names the scalar.
@@ -53,6 +59,17 @@ fn lesser(known: Option<u64>, number: u64) -> u64
     match known {
         None => number,
         Some(other) => other.min(number),
+    }
+}
+
+/// The amount of a label, if it is named.
+fn known_amount(amounts: &Quantities, label: &str) -> Option<u64>
+    ensures { result ≡ known_amount amounts.now label.now }
+{
+    if amounts.is_named(label) {
+        Some(amounts.get(label))
+    } else {
+        None
     }
 }
 
@@ -94,6 +111,7 @@ impl Quota {
         Quota {
             limits: IndexMap::new(alloc),
             used: IndexMap::new(alloc),
+            totals: Vec::new(alloc),
         }
     }
 
@@ -138,10 +156,12 @@ impl Quota {
         ensures ok { OnOk result (self.new ≡ record self.old { limits = limits_with self.old.limits role limit }) }
         ensures err { OnErr result (self.new ≡ self.old) }
     {
+        drop_total(&mut self.totals, &role);
         if limit.entries().is_empty() {
             self.limits.shift_remove(&role);
             return Ok(());
         }
+        keep_total(&mut self.totals, &self.used, &role);
         self.limits.insert(role, limit)?;
         Ok(())
     }
@@ -153,7 +173,10 @@ impl Quota {
     {
         // The proof learns that it is a role by this call alone.
         let _ = role.text();
-        used_at(&self.used, role, label)
+        match kept(&self.totals, role, label) {
+            Some(amount) => amount,
+            None => used_at(&self.used, role, label),
+        }
     }
 
     /// What the limits of a role and of the roles above it leave of a scalar, in thousandths, if one of them names it.
@@ -173,19 +196,22 @@ impl Quota {
         least
     }
 
-    /// The headroom of each scalar that a limit names, among those that are there.
+    /// What the limit of a role leaves of each scalar that it names, put among what others leave. The lesser is kept.
     fn add_headroom(
         &self,
-        role: &Role,
+        limited: &Role,
         limit: &Quantities,
         room: &mut Quantities,
     ) -> Result<(), AllocError>
-        ensures { OnOk result (room.new
-            ≡ fold (with_headroom self.now.limits (used_at self.now.used) role.now) room.old (names_of limit.now)) }
+        ensures { OnOk result ((label : Text) → known_amount room.new label
+            ≡ lessened (used_at self.now.used) (limit_row (limited.now, limit.now)) (known_amount room.old label) label) }
     {
         for entry in limit.entries() {
-            let left = self.headroom_at(role, entry.label.text()).unwrap_or(0);
-            room.set(entry.label.copy()?, left)?;
+            let label = entry.label.text();
+            let used = self.consumption(limited, label);
+            let left = entry.amount.thousandths().saturating_sub(used);
+            let least = lesser(known_amount(room, label), left);
+            room.set(entry.label.copy()?, least)?;
         }
         Ok(())
     }
@@ -200,8 +226,10 @@ impl Quota {
             if !is_within(limited, role) {
                 continue;
             }
-            self.add_headroom(role, limit, &mut room)?;
+            self.add_headroom(limited, limit, &mut room)?;
         }
+        // The proof learns that the labels are in order by this call alone.
+        let _ = room.entries();
         Ok(room)
     }
 
@@ -252,7 +280,9 @@ impl Quota {
         ensures err { OnErr result (self.new ≡ self.old) }
     {
         let _ = role.text();
-        raise(&mut self.used, role, amounts)
+        raise(&mut self.used, role, amounts)?;
+        raise_totals(&mut self.totals, role, amounts);
+        Ok(())
     }
 
     /// Lowers what a role and the roles above it consume. A role releases no more than it consumed itself.
@@ -261,6 +291,7 @@ impl Quota {
         ensures { IsRaised self.new self.old role.now amounts.now }
     {
         lower(&mut self.used, role, amounts);
+        lower_totals(&mut self.totals, role, amounts);
     }
 
     /// The same limits, and the same consumption.
@@ -269,13 +300,20 @@ impl Quota {
     {
         let limits = copy_limits(&self.limits)?;
         let used = copy_used(&self.used)?;
-        Ok(Quota { limits, used })
+        let totals = copy_totals(&self.totals, *self.limits.allocator());
+        Ok(Quota {
+            limits,
+            used,
+            totals,
+        })
     }
 
     /// Forgets what roles consume. It needs no memory.
     pub fn forget(&mut self)
         ensures { self.new ≡ record self.old { used = [] } }
     {
-        self.used = IndexMap::new(*self.limits.allocator());
+        let alloc = *self.limits.allocator();
+        self.used = IndexMap::new(alloc);
+        clear_totals(&mut self.totals, alloc);
     }
 }

@@ -1,5 +1,5 @@
 -- What adding and changing one client does to the content.
-use Rattle.std.proofs.Common.{◌≡◌, ◌<◌, ◌≤◌, ◌+◌, ◌-◌, ℕ, zero, suc, Bool, true, false, cond, IsTrue, List, [], ◌∷◌, ◌++◌, ◌||◌, Some, None, map, length, get_or, set, nat_lt, refl, sym, ap, subst, ◌∙◌, inl, inr, arith}
+use Rattle.std.proofs.Common.{◌≡◌, ◌<◌, ◌≤◌, ◌+◌, ◌-◌, ℕ, zero, suc, Bool, true, false, cond, IsTrue, List, [], ◌∷◌, ◌++◌, ◌||◌, Some, None, map, length, get_or, set, take, not, nat_lt, refl, sym, ap, subst, ◌∙◌, inl, inr, arith}
 use Rattle.std.specs.List.{AllByRecursion, IsDistinct, list_any, position, position_or_len, sum_by}
 use Rattle.std.specs.Cmp.Lexicographic.{lists_equiv, nat_list_eq_equiv, pointwise_decides, bytes_decides}
 use Rattle.std.specs.Cmp.{IsEquivalence}
@@ -8,7 +8,7 @@ use Rattle.std.proofs.lemmas.List.Sums.{fails_before_first, get_or-le-sum_by}
 use Rattle.std.proofs.lemmas.List.Folds.{list_any_none}
 use Rattle.std.proofs.Math.Seq.{map-set_same}
 use Rattle.std.proofs.lemmas.List.Quantifiers.{position-Some}
-use Rattle.std.proofs.lemmas.List.{map_push, length-map, get_or-map}
+use Rattle.std.proofs.lemmas.List.{map_push, length-map, get_or-map, take_more}
 use Rattle.std.proofs.lemmas.Map.Keys.{IsDistinct-head, IsDistinct-tail, IsDistinct-push}
 use Rattle.drf_bundle.specs.Quantities.{amount_of, is_in_order, plus, minus}
 use Rattle.drf_bundle.specs.QuantitiesLaws.{amount-plus, amount-minus}
@@ -41,12 +41,27 @@ pub record IsFound (clients : List Client) (path : List (List ℕ)) (i : ℕ) (x
   pub is : x ≡ get_or clients i x
   pub there : same_path x.path path ≡ true
 
-pub place-found : (clients slice : List Client) (path : List (List ℕ)) (i : ℕ) (x : Client) → slice ≡ clients
-    → Some i ≡ position (λ (x : Client). same_path x.path path) slice → x ≡ get_or clients i x
+pub place-found : (clients : List Client) (path : List (List ℕ)) (i : ℕ) (x : Client)
+    → Some i ≡ position (λ (x : Client). same_path x.path path) clients → x ≡ get_or clients i x
     → IsFound clients path i x
-place-found clients slice path i x same at is =
-    let found = position-Some (λ (x : Client). same_path x.path path) clients i x (sym (rw same at at)) in
+place-found clients path i x at is =
+    let found = position-Some (λ (x : Client). same_path x.path path) clients i x (sym at) in
     record { inside = found.0; is = is; there = rw (← is) at (found.1) }
+
+-- the paths of the clients, in which one is looked up
+row-path : (clients : List Client) (path : List (List ℕ))
+    → position_or_len (same_path path) (map (λ (x : Client). x.path) clients)
+    ≡ position_or_len (λ (x : Client). same_path x.path path) clients
+row-path [] path = refl
+row-path (x ∷ xs) path = λ i. cond (not (paths_equiv.symm path x.path i)) (1 + row-path xs path i) 0
+
+pub row-found : (clients : List Client) (keys : List (List (List ℕ))) (path : List (List ℕ))
+    → keys ≡ map (λ (x : Client). x.path) clients
+    → position (same_path path) keys ≡ position (λ (x : Client). same_path x.path path) clients
+row-found clients keys path listed =
+    ap (position (same_path path)) listed
+    ∙ (λ i. cond (nat_lt (row-path clients path i) (length-map clients (λ (x : Client). x.path) i))
+    (Some (row-path clients path i)) None)
 
 -- ---- a client is added
 
@@ -56,7 +71,7 @@ any_other_way : (path : List (List ℕ)) (clients : List Client)
 any_other_way path [] = refl
 any_other_way path (x ∷ xs) = λ i. paths_equiv.symm path x.path i || any_other_way path xs i
 
-distinct_added : (clients : List Client) (x : Client) → IsDistinct same_path (map (λ (x : Client). x.path) clients)
+pub distinct_added : (clients : List Client) (x : Client) → IsDistinct same_path (map (λ (x : Client). x.path) clients)
     → list_any (λ c. same_path c.path x.path) (map ranked clients) ≡ false
     → IsDistinct same_path (map (λ (x : Client). x.path) (clients ++ x ∷ []))
 distinct_added clients x distinct fresh =
@@ -64,13 +79,16 @@ distinct_added clients x distinct fresh =
     (IsDistinct-push paths_equiv (map (λ (x : Client). x.path) clients) x.path distinct
     (any_other_way x.path clients ∙ fresh))
 
--- whether or not it is
-pub distinct_tried : (b : Bool) (clients : List Client) (x : Client)
-    → IsDistinct same_path (map (λ (x : Client). x.path) clients)
+-- its path is put behind those of the others
+pub listed_added : (clients : List Client) (keys : List (List (List ℕ))) (x : Client) (key : List (List ℕ))
+    → keys ≡ map (λ (x : Client). x.path) clients → key ≡ x.path
     → list_any (λ c. same_path c.path x.path) (map ranked clients) ≡ false
-    → IsDistinct same_path (map (λ (x : Client). x.path) (cond b (clients ++ x ∷ []) clients))
-distinct_tried true clients x distinct fresh = distinct_added clients x distinct fresh
-distinct_tried false clients x distinct fresh = distinct
+    → cond (list_any (same_path key) keys) keys (keys ++ key ∷ []) ≡ map (λ (x : Client). x.path) (clients ++ x ∷ [])
+listed_added clients keys x key listed same fresh =
+    (λ i. cond (list_any (same_path (same i)) (listed i)) (listed i) (listed i ++ same i ∷ []))
+    ∙ (λ i. cond ((any_other_way x.path clients ∙ fresh) i) (map (λ (x : Client). x.path) clients)
+    (map (λ (x : Client). x.path) clients ++ x.path ∷ []))
+    ∙ sym (map_push (λ (x : Client). x.path) clients x)
 
 -- ---- a client is changed
 
@@ -81,6 +99,46 @@ pub distinct_stays : (clients : List Client) (i : ℕ) (x y : Client) → x ≡ 
 distinct_stays clients i x y is same distinct =
     rw (map-set_same (λ (x : Client). x.path) clients i y x (same ∙ ap (λ (x : Client). x.path) is)) distinct
 
+-- and the paths stay those of the clients
+pub listed_stays : (clients : List Client) (keys : List (List (List ℕ))) (i : ℕ) (x y : Client) → x ≡ get_or clients i x
+    → y.path ≡ x.path → keys ≡ map (λ (x : Client). x.path) clients
+    → keys ≡ map (λ (x : Client). x.path) (set clients i y)
+listed_stays clients keys i x y is same listed =
+    listed ∙ sym (map-set_same (λ (x : Client). x.path) clients i y x (same ∙ ap (λ (x : Client). x.path) is))
+
+apart_at : (p : List (List ℕ)) (clients : List Client) (i : ℕ) (x : Client) → i < length clients
+    → x ≡ get_or clients i x → AllByRecursion (λ q. same_path p q ≡ false) (map (λ (x : Client). x.path) clients)
+    → same_path p x.path ≡ false
+apart_at p [] i x inside is all = absurd (omega arith)
+apart_at p (y ∷ ys) zero x inside is all = subst (λ (z : Client). same_path p z.path ≡ false) (sym is) all.0
+apart_at p (y ∷ ys) (suc i) x inside is all = apart_at p ys i x (omega arith) is all.1
+
+-- no client before another has its path
+pub fresh_at : (clients : List Client) (i : ℕ) (x : Client) → IsDistinct same_path (map (λ (x : Client). x.path) clients)
+    → i < length clients → x ≡ get_or clients i x
+    → list_any (same_path x.path) (map (λ (x : Client). x.path) (take i clients)) ≡ false
+fresh_at [] i x distinct inside is = absurd (omega arith)
+fresh_at (y ∷ ys) zero x distinct inside is = refl
+fresh_at (y ∷ ys) (suc i) x distinct inside is =
+    let within : i < length ys = omega arith in
+    let apart =
+    apart_at y.path ys i x within is
+    (IsDistinct-head same_path y.path (map (λ (x : Client). x.path) ys) distinct) in
+    let rest = fresh_at ys i x (IsDistinct-tail same_path y.path (map (λ (x : Client). x.path) ys) distinct) within is in
+    λ j. (paths_equiv.symm x.path y.path ∙ apart) j || rest j
+
+-- the paths of the clients up to one, and of that one
+pub listed_more : (clients : List Client) (keys : List (List (List ℕ))) (i : ℕ) (x : Client) (key : List (List ℕ))
+    → IsDistinct same_path (map (λ (x : Client). x.path) clients) → i < length clients → x ≡ get_or clients i x
+    → keys ≡ map (λ (x : Client). x.path) (take i clients) → key ≡ x.path
+    → cond (list_any (same_path key) keys) keys (keys ++ key ∷ []) ≡ map (λ (x : Client). x.path) (take (i + 1) clients)
+listed_more clients keys i x key distinct inside is listed same =
+    (λ j. cond (list_any (same_path (same j)) (listed j)) (listed j) (listed j ++ same j ∷ []))
+    ∙ (λ j. cond (fresh_at clients i x distinct inside is j) (map (λ (x : Client). x.path) (take i clients))
+    (map (λ (x : Client). x.path) (take i clients) ++ x.path ∷ []))
+    ∙ sym (ap (map (λ (x : Client). x.path)) (take_more clients i x inside ∙ ap (λ (y : Client). take i clients ++ y ∷ []) (sym is))
+    ∙ map_push (λ (x : Client). x.path) (take i clients) x)
+
 module _ (path : List (List ℕ)) (change : Ranked → Ranked) where
   abbrev step : Ranked → Ranked
   step c = cond (same_path c.path path) (change c) c
@@ -90,13 +148,6 @@ module _ (path : List (List ℕ)) (change : Ranked → Ranked) where
       → map step (map ranked clients) ≡ map ranked clients
   others [] all = refl
   others (x ∷ xs) all = rw (paths_equiv.symm x.path path ∙ all.0) (ap (λ cs. ranked x ∷ cs) (others xs all.1))
-
-  apart_at : (p : List (List ℕ)) (clients : List Client) (i : ℕ) (x : Client) → i < length clients
-      → x ≡ get_or clients i x → AllByRecursion (λ q. same_path p q ≡ false) (map (λ (x : Client). x.path) clients)
-      → same_path p x.path ≡ false
-  apart_at p [] i x inside is all = absurd (omega arith)
-  apart_at p (y ∷ ys) zero x inside is all = subst (λ (z : Client). same_path p z.path ≡ false) (sym is) all.0
-  apart_at p (y ∷ ys) (suc i) x inside is all = apart_at p ys i x (omega arith) is all.1
 
   changed_at : (clients : List Client) (i : ℕ) (x y : Client)
       → IsDistinct same_path (map (λ (x : Client). x.path) clients) → i < length clients → x ≡ get_or clients i x

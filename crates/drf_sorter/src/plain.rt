@@ -16,6 +16,7 @@ use crate::sorter::Sorter;
 use drf_bundle::Quantities;
 use drf_role::{ClientPath, NodePath, Role};
 use drf_rows::WeightRow;
+use indexmap::IndexSet;
 use std::alloc::{AllocError, Global};
 
 /// The weight of a node with no weight of its own, in thousandths.
@@ -25,20 +26,16 @@ pub const DEFAULT_WEIGHT: u64 = 1000;
 #[derive(Debug, Drop)]
 pub struct PlainSorter {
     clients: Vec<Client>,
+    /// Their paths in the same order, by which a client is found.
+    paths: IndexSet<ClientPath>,
     total: Quantities,
     weights: Vec<WeightRow>,
     queue: Vec<ClientPath>,
     next: usize,
     made: u64,
+    ghost listed: { paths.keys ≡ map (λ c. c.path) clients.items },
     ghost distinct: { IsDistinct same_path (map (λ c. c.path) clients.items) } by { IsDistinct-prop same_path (map (λ c. c.path) clients.items) },
     ghost weighs: { IsTrue (are_weights weights.items) },
-}
-
-/// Where the client of that path is.
-fn index_of(clients: &[Client], path: &ClientPath) -> Option<usize>
-    ensures { result ≡ position (λ c. same_path c.path path.now) clients.now }
-{
-    clients.iter().position(|client| client.path == *path)
 }
 
 /// Where the weight of that role is.
@@ -71,6 +68,18 @@ fn copies_of(alloc: Global, clients: &[Client]) -> Result<Vec<Client>, AllocErro
         copies.push(client.copy()?)?;
     }
     Ok(copies)
+}
+
+/// The paths of clients, by which they are found.
+fn paths_of(alloc: Global, clients: &[Client]) -> Result<IndexSet<ClientPath>, AllocError>
+    requires { IsDistinct same_path (map (λ c. c.path) clients.now) }
+    ensures { IfOk result (λ paths. paths.keys ≡ map (λ c. c.path) clients.now) }
+{
+    let mut paths = IndexSet::new(alloc);
+    for client in clients {
+        paths.insert(client.path.copy()?)?;
+    }
+    Ok(paths)
 }
 
 /// Copies of the weights of roles, in their order.
@@ -115,6 +124,13 @@ impl PlainSorter {
         ensures { result.now ≡ self.now.total }
     {
         &self.total
+    }
+
+    /// Where the client of that path stands.
+    pub fn row_of(&self, path: &ClientPath) -> Option<usize>
+        ensures { result ≡ position (λ c. same_path c.path path.now) self.now.clients.items }
+    {
+        self.paths.get_index_of(path)
     }
 
     /// The weight of a node, in thousandths.
@@ -197,6 +213,7 @@ impl Sorter for PlainSorter {
     fn open(alloc: Global) -> Result<Self, AllocError> {
         Ok(PlainSorter {
             clients: Vec::new(alloc),
+            paths: IndexSet::new(alloc),
             total: Quantities::empty(alloc),
             weights: Vec::new(alloc),
             queue: Vec::new(alloc),
@@ -210,32 +227,36 @@ impl Sorter for PlainSorter {
     }
 
     fn add(&mut self, path: ClientPath) -> Result<(), AllocError> {
+        let key = path.copy()?;
         let held = Quantities::empty(self.alloc());
-        self.clients.push(Client {
+        self.clients.reserve(1)?;
+        self.paths.insert(key)?;
+        self.clients.push_reserved(Client {
             path,
             active: true,
             held,
             count: 0,
-        })?;
+        });
         Ok(())
     }
 
     fn remove(&mut self, path: &ClientPath) {
         self.clients.retain(|client| client.path != *path);
+        self.paths.retain(|other| *other != *path);
     }
 
-    #[tactic(auto, using(crate::proofs::ChangeLemmas::distinct_stays))]
+    #[tactic(auto, using(crate::proofs::ChangeLemmas::distinct_stays, crate::proofs::ChangeLemmas::listed_stays))]
     fn set_active(&mut self, path: &ClientPath, active: bool) {
-        if let Some(at) = index_of(&self.clients, path) {
+        if let Some(at) = self.row_of(path) {
             self.clients[at].active = active;
         }
     }
 
-    #[tactic(auto, using(crate::proofs::ChangeLemmas::distinct_stays))]
+    #[tactic(auto, using(crate::proofs::ChangeLemmas::distinct_stays, crate::proofs::ChangeLemmas::listed_stays))]
     fn charge(&mut self, path: &ClientPath, quantities: &Quantities) -> Result<(), AllocError> {
         // Its labels are in order.
         let _ = quantities.entries();
-        if let Some(at) = index_of(&self.clients, path) {
+        if let Some(at) = self.row_of(path) {
             let client = &mut self.clients[at];
             client.held = client.held.plus(quantities)?;
             client.count += 1;
@@ -243,22 +264,22 @@ impl Sorter for PlainSorter {
         Ok(())
     }
 
-    #[tactic(auto, using(crate::proofs::ChangeLemmas::distinct_stays))]
+    #[tactic(auto, using(crate::proofs::ChangeLemmas::distinct_stays, crate::proofs::ChangeLemmas::listed_stays))]
     fn undo_charge(&mut self, path: &ClientPath, quantities: &Quantities) {
         // Its labels are in order.
         let _ = quantities.entries();
-        if let Some(at) = index_of(&self.clients, path) {
+        if let Some(at) = self.row_of(path) {
             let client = &mut self.clients[at];
             client.held.lower(quantities);
             client.count -= 1;
         }
     }
 
-    #[tactic(auto, using(crate::proofs::ChangeLemmas::distinct_stays))]
+    #[tactic(auto, using(crate::proofs::ChangeLemmas::distinct_stays, crate::proofs::ChangeLemmas::listed_stays))]
     fn refund(&mut self, path: &ClientPath, quantities: &Quantities) {
         // Its labels are in order.
         let _ = quantities.entries();
-        if let Some(at) = index_of(&self.clients, path) {
+        if let Some(at) = self.row_of(path) {
             self.clients[at].held.lower(quantities);
         }
     }
@@ -322,6 +343,7 @@ impl Sorter for PlainSorter {
         let alloc = self.alloc();
         Ok(PlainSorter {
             clients: copies_of(alloc, &self.clients)?,
+            paths: paths_of(alloc, &self.clients)?,
             total: self.total.copy()?,
             weights: weights_of(alloc, &self.weights)?,
             queue: Vec::new(alloc),

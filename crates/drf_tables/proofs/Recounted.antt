@@ -1,5 +1,5 @@
 -- What roles consume, kept through each change of the rows.
-use Rattle.std.specs.Prelude.{◌≡◌, ℕ, ◌+◌, ◌-◌, ◌<◌, ◌≤◌, ◌^◌, Bool, true, false, List, [], ◌∷◌, ◌++◌, filter, find, map, not, sum_by, Option, Some, None, Result, Ok, Err, OnOk, OnErr, length}
+use Rattle.std.specs.Prelude.{◌≡◌, ℕ, ◌+◌, ◌<◌, ◌≤◌, ◌^◌, Bool, true, false, List, [], ◌∷◌, ◌++◌, map, Option, Some, Result, Ok, Err, OnOk, OnErr, length}
 use Rattle.std.specs.Map.{remove_entry}
 use Rattle.std.specs.Option.{option_map_or}
 use Rattle.std.specs.Result.{is_ok}
@@ -9,7 +9,7 @@ use Rattle.std.proofs.lemmas.List.Sums.{sum_by-append, sum_by-cons}
 use Rattle.drf_role.specs.Text.{Text, same_text}
 use Rattle.drf_role.specs.Path.{Path, same_path}
 use Rattle.drf_role.specs.PathLaws.{same_path_itself}
-use Rattle.drf_bundle.specs.Bundle.{Key, IsBundle, quantities_of, rest, stock, units, units_where}
+use Rattle.drf_bundle.specs.Bundle.{Key, quantities_of, rest, units, units_where}
 use Rattle.drf_bundle.specs.FitLaws.{join_some}
 use Rattle.drf_bundle.specs.JoinLaws.{where-merged}
 use Rattle.drf_bundle.specs.Quantities.{amount_of}
@@ -19,18 +19,17 @@ use Rattle.drf_bundle.specs.Taken.{rest_of_all, units-rest_of_all, units_of_all}
 use Rattle.drf_bundle.specs.UnitProofs.{covers_by_units, rest_and_part}
 use Rattle.drf_bundle.specs.Value.{Point, Thousandths}
 use Rattle.drf_bundle.specs.declared.resource.Resource.{Resource}
-use Rattle.drf_rows.specs.Consistent.{IsAgent, IsConsistent}
+use Rattle.drf_rows.specs.Consistent.{IsConsistent}
 use Rattle.drf_rows.specs.ConsistentLaws.{same_text-swap}
 use Rattle.drf_rows.specs.EndingLaws.{IsOneLess, accepted_in, offer_held, offer_out, started_by, sum_by-out, tasks_last}
-use Rattle.drf_rows.specs.Held.{cluster_total}
 use Rattle.drf_rows.specs.Holdings.{Holding, holdings_of, of_offer, of_task}
 use Rattle.drf_rows.specs.Offers.{CanStart, offer_at, task_of}
 use Rattle.drf_rows.specs.Quota.{consumption_where, held_unreserved, reserved_for, reserved_in, reserves, unreserved_in}
 use Rattle.drf_rows.specs.QuotaLaws.{consumption_is_part_of_total, parts_le}
 use Rattle.drf_rows.specs.RegistrationLaws.{agent_added, new_agent}
-use Rattle.drf_rows.specs.TaskLaws.{HasAll, units-covers_all}
+use Rattle.drf_rows.specs.TaskLaws.{units-covers_all}
 use Rattle.drf_rows.specs.Tasks.{Start, uses}
-use Rattle.drf_rows.specs.Totals.{CanExchange, agent_at, exchanged, with_other_total, with_total}
+use Rattle.drf_rows.specs.Totals.{CanExchange, agent_at, exchanged, with_total}
 use Rattle.drf_rows.specs.TotalsLaws.{agents_after, agents_before, agents_stand, stock-exchanged, where-exchanged, with_total-place}
 use Rattle.drf_rows.specs.declared.limits.TheConstants.{LARGEST_AMOUNT}
 use Rattle.drf_rows.specs.declared.rows.AgentRow.{AgentRow}

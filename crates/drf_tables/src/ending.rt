@@ -70,12 +70,7 @@ impl Tables {
     {
         let taken = self.holdings.take(ending)?;
         give_back(&mut self.agents, &taken.agent, &taken.bundle);
-        release_held(
-            &mut self.quota,
-            self.is_counted,
-            &taken.role,
-            &taken.bundle,
-        );
+        release_held(&mut self.quota, self.is_counted, &taken.role, &taken.bundle);
         Some(Held {
             client: ClientPath::from_parts(taken.role, taken.framework),
             bundle: taken.bundle,

@@ -3,6 +3,7 @@ mod WalkOrder
 mod WalkMembers
 mod WalkLemmas
 pub mod MarkLemmas
+pub mod WaitLemmas
 pub mod FamilyLemmas
 pub mod KeyLemmas
 pub mod OrderOfWalk

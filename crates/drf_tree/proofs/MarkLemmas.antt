@@ -9,7 +9,7 @@ use Rattle.drf_rows.specs.ListLaws.{count_by-cons}
 use Rattle.drf_sorter.specs.Work.{debt}
 use Rattle.drf_tree.specs.Marks.{Flags, marked_in, work_of}
 
-abbrev one_if : Bool → ℕ
+abbrev pub one_if : Bool → ℕ
 one_if flag = cond flag 1 0
 
 pub few_marked : (stale : List Bool) → marked_in stale ≤ length stale

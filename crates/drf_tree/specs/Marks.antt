@@ -1,6 +1,6 @@
 -- Which keys may be stale, and how many were computed.
-use Rattle.std.specs.Prelude.{ℕ, Bool, List}
-use Rattle.std.specs.List.{count_by}
+use Rattle.std.specs.Prelude.{◌≡◌, ◌≤◌, ◌<◌, ◌==◌, ℕ, Bool, false, true, List, length, slice_index_or}
+use Rattle.std.specs.List.{AllByRecursion, count_by, list_any}
 use Rattle.drf_sorter.specs.Work.{Work}
 
 -- a flag for each number, and the keys that were computed
@@ -15,3 +15,12 @@ marked_in stale = count_by (λ flag. flag) stale
 -- the work of which they tell
 abbrev pub work_of : Flags → Work
 work_of flags = record { made = flags.made; marked = marked_in flags.stale }
+
+-- each marked number waits, those that wait are listed, and each number has room to wait
+pub record AreWaiting (stale listed : List Bool) (waiting : List ℕ) (room : ℕ) : Type 0 where
+  pub long : length listed ≡ length stale
+  pub few : length waiting ≤ marked_in listed
+  pub room_is : length stale ≤ room
+  pub marked : (i : ℕ) → slice_index_or stale i false ≡ true → slice_index_or listed i false ≡ true
+  pub waits : (i : ℕ) → slice_index_or listed i false ≡ true → list_any (λ n. n == i) waiting ≡ true
+  pub within : AllByRecursion (λ n. n < length stale) waiting

@@ -1,5 +1,5 @@
 //! Which keys may be stale, and how many were computed.
-ghost use Rattle.std.specs.Prelude.{◌≡◌, ◌≤◌, ◌<◌, ◌+◌, ◌-◌, ◌^◌, ◌↔◌, [], ◌∷◌, ◌++◌, ℕ, cond, false, min, true, IfOk, IsTrue, OnOk, OnErr, length, slice_index_or, slice_set};
+ghost use Rattle.std.specs.Prelude.{◌≡◌, ◌≤◌, ◌<◌, ◌+◌, ◌-◌, ◌^◌, [], ◌∷◌, ◌++◌, ℕ, false, min, true, IfNone, IfOk, IfSome, OnOk, OnErr, length, slice_index_or, slice_set};
 ghost use Rattle.drf_sorter.specs.Work.{debt};
 ghost use Rattle.drf_tree.specs.Marks.{marked_in, work_of};
 ghost use Rattle.drf_tree.specs.Nodes.{is_live};
@@ -11,20 +11,24 @@ use std::marker::Model;
 /// The nodes whose key may be stale, and the number of keys that were computed.
 #[derive(Debug, Drop)]
 pub(crate) struct Marks {
+    /// Whether a node is marked.
     stale: Vec<bool>,
-    marked: u64,
+    /// The numbers to be looked at: each that is marked, and maybe some that were.
+    waiting: Vec<usize>,
+    /// Whether a number is among them.
+    listed: Vec<bool>,
     made: u64,
 }
 
 impl Model for Marks {
-    ghost use Rattle.std.specs.Prelude.{◌≡◌};
-    ghost use Rattle.drf_tree.specs.Marks.{Flags, marked_in};
+    ghost use Rattle.std.specs.Vec.{vec_capacity};
+    ghost use Rattle.drf_tree.specs.Marks.{Flags, AreWaiting};
 
     ghost Value = { Flags };
 
     ghost view = { λ m. record { stale = m.stale.items; made = m.made } };
 
-    ghost invariant = { λ m. m.marked ≡ marked_in m.stale.items };
+    ghost invariant = { λ m. AreWaiting m.stale.items m.listed.items m.waiting.items (vec_capacity m.waiting) };
 }
 
 impl Marks {
@@ -33,7 +37,8 @@ impl Marks {
     {
         Marks {
             stale: Vec::new(alloc),
-            marked: 0,
+            waiting: Vec::new(alloc),
+            listed: Vec::new(alloc),
             made: 0,
         }
     }
@@ -52,61 +57,57 @@ impl Marks {
         self.made = self.made.saturating_add(1);
     }
 
-    /// Whether no key is stale.
-    pub(crate) fn is_clear(&self) -> bool
-        ensures { IsTrue result ↔ (marked_in self.now.stale ≡ 0) }
-    {
-        self.marked == 0
-    }
-
-    /// One more node, that is not marked.
+    /// One more node, that is not marked. There is room for its mark.
     pub(crate) fn push(&mut self) -> Result<(), AllocError>
         ensures ok { OnOk result (self.new ≡ record self.old { stale = self.old.stale ++ false ∷ [] }) }
         ensures err { OnErr result (self.new ≡ self.old) }
     {
-        Ok(self.stale.push(false)?)
+        let more = self.stale.len() + 1 - self.waiting.len();
+        self.waiting.reserve(more)?;
+        self.listed.reserve(1)?;
+        self.stale.push(false)?;
+        self.listed.push_reserved(false);
+        Ok(())
     }
 
     /// The key of a node may be stale.
-    #[tactic(auto, using(crate::proofs::MarkLemmas::marked_once, crate::proofs::MarkLemmas::few_marked, crate::proofs::MarkLemmas::set_again))]
     pub(crate) fn mark(&mut self, node: usize)
         requires { node < length self.old.stale }
         ensures flags { self.new ≡ record self.old { stale = slice_set self.old.stale node true } }
         ensures work { debt (work_of self.new) ≤ debt (work_of self.old) + 1 }
     {
-        if !self.stale[node] {
-            self.stale[node] = true;
-            self.marked += 1;
+        self.stale[node] = true;
+        if self.listed[node] {
+            return;
         }
+        self.listed[node] = true;
+        self.waiting.push_reserved(node);
     }
 
     /// The key of a node is not asked for any more.
-    #[tactic(auto, using(crate::proofs::MarkLemmas::marked_less, crate::proofs::MarkLemmas::set_again))]
     pub(crate) fn forget(&mut self, node: usize)
         requires { node < length self.old.stale }
         ensures flags { self.new ≡ record self.old { stale = slice_set self.old.stale node false } }
         ensures work { debt (work_of self.new) ≤ debt (work_of self.old) }
     {
-        if self.stale[node] {
-            self.stale[node] = false;
-            self.marked -= 1;
-        }
+        self.stale[node] = false;
     }
 
-    /// Whether the key of a node may be stale. Its mark is taken away.
-    #[tactic(auto, using(crate::proofs::MarkLemmas::marked_less, crate::proofs::MarkLemmas::set_again))]
-    pub(crate) fn take(&mut self, node: usize) -> bool
-        requires { node < length self.old.stale }
-        ensures marked { result ≡ slice_index_or self.old.stale node false }
-        ensures flags { self.new.stale ≡ slice_set self.old.stale node false }
-        ensures work { debt (work_of self.new) + cond result 1 0 ≤ debt (work_of self.old) }
+    /// A node whose key may be stale, if there is one. Its mark is taken away.
+    pub(crate) fn take(&mut self) -> Option<usize>
+        ensures found { IfSome result (λ node. slice_index_or self.old.stale node false ≡ true) }
+        ensures taken { IfSome result (λ node. self.new ≡ record self.old { stale = slice_set self.old.stale node false }) }
+        ensures none { IfNone result (self.new ≡ self.old) }
+        ensures clear { IfNone result (marked_in self.old.stale ≡ 0) }
     {
-        if !self.stale[node] {
-            return false;
+        while let Some(node) = self.waiting.pop() {
+            self.listed[node] = false;
+            if self.stale[node] {
+                self.stale[node] = false;
+                return Some(node);
+            }
         }
-        self.stale[node] = false;
-        self.marked -= 1;
-        true
+        None
     }
 
     /// Marks each node that is there.
@@ -128,9 +129,12 @@ impl Marks {
         ensures { IfOk result (λ marks. marks ≡ self.now) }
     {
         let alloc = *self.stale.allocator();
+        let mut waiting = Vec::from_slice(alloc, self.waiting.as_slice())?;
+        waiting.reserve(self.stale.len() - self.waiting.len())?;
         Ok(Marks {
             stale: Vec::from_slice(alloc, self.stale.as_slice())?,
-            marked: self.marked,
+            waiting,
+            listed: Vec::from_slice(alloc, self.listed.as_slice())?,
             made: self.made,
         })
     }

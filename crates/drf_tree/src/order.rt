@@ -19,13 +19,8 @@ impl Tree {
         ensures repaired { marked_in self.new.marks.stale ≡ 0 }
         ensures work { debt (work_of self.new.marks) ≤ debt (work_of self.old.marks) }
     {
-        if self.marks.is_clear() {
-            return;
-        }
-        for node in 0..self.places.len() {
-            if self.marks.take(node) {
-                self.renew(node, ledger);
-            }
+        while let Some(node) = self.marks.take() {
+            self.renew(node, ledger);
         }
     }
 

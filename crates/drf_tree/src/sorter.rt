@@ -1,5 +1,5 @@
 //! A sorter over a tree of nodes.
-use crate::tree::Tree;
+use crate::tree::{ROOT, Tree};
 use crate::walk::Walk;
 use drf_bundle::Quantities;
 use drf_role::{ClientPath, NodePath, Role};
@@ -13,6 +13,8 @@ use std::marker::Model;
 pub struct TreeSorter {
     ledger: PlainSorter,
     tree: Tree,
+    /// The node of each client, row by row of the ledger.
+    leaves: Vec<usize>,
     walk: Walk,
 }
 
@@ -53,6 +55,7 @@ impl Sorter for TreeSorter {
         Ok(TreeSorter {
             ledger: PlainSorter::open(alloc)?,
             tree: Tree::open(alloc)?,
+            leaves: Vec::new(alloc),
             walk: Walk::open(alloc)?,
         })
     }
@@ -62,17 +65,20 @@ impl Sorter for TreeSorter {
     }
 
     fn add(&mut self, path: ClientPath) -> Result<(), AllocError> {
+        self.leaves.reserve(1)?;
         self.walk.stop();
         let node = self.tree.grow(&path, &self.ledger)?;
         self.ledger.add(path)?;
+        self.leaves.push_reserved(node);
         self.tree.admit(node);
         Ok(())
     }
 
     fn remove(&mut self, path: &ClientPath) {
         self.walk.stop();
+        let known = take_leaf(&mut self.leaves, self.ledger.row_of(path));
         self.ledger.remove(path);
-        let Some(node) = self.tree.find(path) else {
+        let Some(node) = self.tree.leaf(known, path) else {
             return;
         };
         self.tree.dismiss(node);
@@ -81,15 +87,17 @@ impl Sorter for TreeSorter {
 
     fn set_active(&mut self, path: &ClientPath, active: bool) {
         self.walk.stop();
+        let known = leaf_at(&self.leaves, self.ledger.row_of(path));
         self.ledger.set_active(path, active);
-        let Some(node) = self.tree.find(path) else {
+        let Some(node) = self.tree.leaf(known, path) else {
             return;
         };
         self.tree.set_active(node, active);
     }
 
     fn charge(&mut self, path: &ClientPath, quantities: &Quantities) -> Result<(), AllocError> {
-        let Some(node) = self.tree.find(path) else {
+        let known = leaf_at(&self.leaves, self.ledger.row_of(path));
+        let Some(node) = self.tree.leaf(known, path) else {
             return Ok(());
         };
         let raised = self.tree.raised(node, quantities)?;
@@ -99,16 +107,18 @@ impl Sorter for TreeSorter {
     }
 
     fn undo_charge(&mut self, path: &ClientPath, quantities: &Quantities) {
+        let known = leaf_at(&self.leaves, self.ledger.row_of(path));
         self.ledger.undo_charge(path, quantities);
-        let Some(node) = self.tree.find(path) else {
+        let Some(node) = self.tree.leaf(known, path) else {
             return;
         };
         self.tree.lower(node, quantities, 1);
     }
 
     fn refund(&mut self, path: &ClientPath, quantities: &Quantities) {
+        let known = leaf_at(&self.leaves, self.ledger.row_of(path));
         self.ledger.refund(path, quantities);
-        let Some(node) = self.tree.find(path) else {
+        let Some(node) = self.tree.leaf(known, path) else {
             return;
         };
         self.tree.lower(node, quantities, 0);
@@ -160,7 +170,24 @@ impl Sorter for TreeSorter {
         Ok(TreeSorter {
             ledger: self.ledger.copy()?,
             tree: self.tree.copy()?,
+            leaves: Vec::from_slice(*self.leaves.allocator(), self.leaves.as_slice())?,
             walk: self.walk.copy()?,
         })
+    }
+}
+
+/// The node in that row, or the root.
+fn leaf_at(leaves: &[usize], row: Option<usize>) -> usize {
+    match row {
+        Some(row) if row < leaves.len() => leaves[row],
+        _ => ROOT,
+    }
+}
+
+/// The node in that row, or the root. The row is gone.
+fn take_leaf(leaves: &mut Vec<usize>, row: Option<usize>) -> usize {
+    match row {
+        Some(row) if row < leaves.len() => leaves.remove(row),
+        _ => ROOT,
     }
 }

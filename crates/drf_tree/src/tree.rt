@@ -11,7 +11,7 @@ ghost use Rattle.drf_sorter.specs.Work.{debt};
 ghost use Rattle.drf_tree.specs.Changes.{IsKeyOfNothing, IsSameTree, IsOneLonger, IsShapeOf, IsVacant, is_bare_at};
 ghost use Rattle.drf_tree.specs.Family.{child_name};
 ghost use Rattle.drf_tree.specs.Marks.{work_of};
-ghost use Rattle.drf_tree.specs.Nodes.{children_at, is_live, is_named_at, is_node, parent_at, path_at, place_at};
+ghost use Rattle.drf_tree.specs.Nodes.{children_at, client_at, is_live, is_named_at, is_node, parent_at, path_at, place_at};
 ghost use Rattle.drf_tree.specs.Tree.{IsTreeOf};
 
 use crate::family::{Child, Family};
@@ -192,6 +192,36 @@ impl Tree {
             node = self.child(node, route.part(i))?;
         }
         Some(node)
+    }
+
+    /// The node of a client: the one that it is known to have, or else the one that its parts lead to.
+    pub(crate) fn leaf(&self, known: usize, path: &ClientPath) -> Option<usize>
+        requires { IsShapeOf self.now }
+        ensures at { IfSome result (λ node. path_at self.now.places.items node ≡ path.now) }
+        ensures live { IfSome result (λ node. is_live self.now.places.items node ≡ true) }
+        ensures every { (content : Content) → IsTreeOf content self.now → has_node content path.now ≡ true → IsSome result }
+    {
+        if self.is_client(known, path) {
+            return Some(known);
+        }
+        self.find(path)
+    }
+
+    /// The client that a node is, if it is one.
+    pub(crate) fn client(&self, node: usize) -> Option<&ClientPath>
+        ensures { option_copied result ≡ client_at self.now.places.items node }
+    {
+        self.place(node)?.client.as_ref()
+    }
+
+    /// Whether a node is that client.
+    fn is_client(&self, node: usize, path: &ClientPath) -> bool
+        ensures { result ≡ true → client_at self.now.places.items node ≡ Some path.now }
+    {
+        match self.client(node) {
+            Some(client) => *client == *path,
+            None => false,
+        }
     }
 
     /// A node without clients, below another, with its key.

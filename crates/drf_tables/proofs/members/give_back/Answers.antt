@@ -1,9 +1,9 @@
-use Rattle.std.proofs.Common.{◌≡◌, true, false, List, Option, is_some, sym, ap, ◌∙◌, inl, inr, ◌⊎◌}
+use Rattle.std.proofs.Common.{◌≡◌, true, false, List, Option, is_some, sym, ap, ◌∙◌, inl, inr}
 use Rattle.std.specs.Map.{lookup}
 use Rattle.indexmap.specs.IndexMap.{set_value_at}
 use Rattle.drf_role.specs.Text.{Text, same_text}
 use Rattle.drf_bundle.specs.declared.resource.Resource.{Resource}
-use Rattle.drf_tables.specs.Changing.{freed, HasFreed}
+use Rattle.drf_tables.specs.Changing.{freed}
 use Rattle.drf_tables.specs.declared.tables.Agent.{Agent}
 use Rattle.drf_tables.proofs.Entries.{key_at, key_found}
 use Rattle.drf_tables.proofs.Known.{changed_entry, changed_none, key_unknown}

@@ -1,12 +1,10 @@
 use Rattle.std.proofs.Common.{◌≡◌, List, Option, Some, None, map, find, refl, sym, ap, ◌∙◌, arith}
-use Rattle.std.specs.Map.{lookup}
 use Rattle.std.specs.Option.{option_copied, option_map, option_map_or}
 use Rattle.drf_role.specs.Path.{same_path}
 use Rattle.drf_role.specs.Text.{Text, same_text}
 use Rattle.drf_rows.specs.Quota.{reserved_in}
 use Rattle.drf_rows.specs.declared.rows.AgentRow.{AgentRow}
 use Rattle.drf_tables.specs.Inside.{agent_row}
-use Rattle.drf_tables.specs.Recounting.{reserved_at}
 use Rattle.drf_tables.specs.declared.tables.Agent.{Agent}
 use Rattle.drf_tables.proofs.Entries.{found-lookup}
 use Rattle.drf_tables.proofs.recounting.release_agent.Goals as goal

@@ -1,7 +1,9 @@
-use Rattle.std.proofs.Common.{ap, arith}
-use Rattle.drf_gates.specs.Quota.{Allowance, used_at}
-use Rattle.drf_gates.proofs.UsageLemmas.{bounded-raised, used_by_le, within_itself}
+use Rattle.std.proofs.Common.{List, sym, ap, subst, arith}
 use Rattle.drf_role.specs.Path.{Path}
+use Rattle.drf_gates.specs.Quota.{Allowance, Usage, used_at}
+use Rattle.drf_gates.specs.Totals.{IsCounted}
+use Rattle.drf_gates.proofs.TotalLemmas.{raised_beside}
+use Rattle.drf_gates.proofs.UsageLemmas.{bounded-raised, used_by_le, within_itself}
 use Rattle.drf_gates.proofs.quota.Quota.consume.Goals as goal
 
 pub raise-requires : goal.raise-requires
@@ -16,7 +18,15 @@ raise-requires c = λ label.
 
 pub invariant_of-self : goal.invariant_of-self
 invariant_of-self c =
-    bounded-raised c.raise.result c.self.inside.used.entries c.raise.new.used.entries c.args.role.now c.args.amounts.now
-    c.raise.ensures.ok c.raise.ensures.err c.self.invariant
+    subst (λ (us : List Usage). IsCounted us c.self.inside.totals.items) (sym c.in_err-raise.ensures.err) c.self.invariant
+
+pub invariant_of-self-2 : goal.invariant_of-self-2
+invariant_of-self-2 c =
+    let old : List Usage = c.self.inside.used.entries in
+    let new : List Usage = c.raise.new.used.entries in
+    raised_beside old new c.args.role.now c.args.amounts.now c.self.inside.totals c.deref_mut.result.now c.raise_totals.new.totals
+    c.self.invariant c.deref_mut.ensures.value c.raise_totals.auto.totals c.in_ok-raise.ensures.ok
+    (bounded-raised c.raise.result old new c.args.role.now c.args.amounts.now c.raise.ensures.ok c.raise.ensures.err c.self.invariant.bounded
     (λ outer label right within.
-    omega (arith, c.requires outer label right within, ap (λ (a : Allowance). used_at a.used outer label) c.self.view_is))
+    omega (arith, c.requires outer label right within, ap (λ (a : Allowance). used_at a.used outer label) c.self.view_is)))
+    c.raise_totals.ensures

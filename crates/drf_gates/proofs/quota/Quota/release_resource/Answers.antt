@@ -5,7 +5,7 @@ use Rattle.drf_role.specs.PathLaws.{same_path_itself}
 use Rattle.drf_bundle.specs.Bundle.{is_default}
 use Rattle.drf_gates.specs.Quota.{Allowance, Usage, amount_in_one, one_entry, used_by}
 use Rattle.drf_gates.proofs.ConsumedLemmas.{one_here, reserved-here}
-use Rattle.drf_gates.proofs.UsageLemmas.{bounded-lowered}
+use Rattle.drf_gates.proofs.TotalLemmas.{lowered_beside}
 use Rattle.drf_gates.proofs.quota.Quota.release_resource.Goals as goal
 
 pub reduce-requires : goal.reduce-requires
@@ -20,11 +20,12 @@ reduce-requires c =
       ap (λ b. cond b (amount_in_one r.label r) 0) (same_path_itself r.role),
       one_here r,
       c.thousandths-amount.ensures,
-      ap (λ (name : Text). used_by old r.role name) c.text.ensures.text,
+      ap (λ (name : Text). used_by old r.role name) c.text-label.ensures.text,
       ap (λ (a : Allowance). used_by a.used r.role r.label) c.self.view_is,
     )
 
 pub invariant_of-self : goal.invariant_of-self
 invariant_of-self c =
-    bounded-lowered c.self.inside.used.entries c.reduce.new.used.entries c.args.resource.now.role
-    (one_entry c.text.result.now c.thousandths-amount.result) c.reduce.ensures c.self.invariant
+    lowered_beside c.self.inside.used.entries c.reduce.new.used.entries c.args.resource.now.role
+    (one_entry c.text-label.result.now c.thousandths-amount.result) c.self.inside.totals c.deref_mut.result.now c.reduce_totals.new.totals
+    c.self.invariant c.deref_mut.ensures.value c.reduce_totals.auto.totals c.reduce.ensures c.reduce_totals.ensures

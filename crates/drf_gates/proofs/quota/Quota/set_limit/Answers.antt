@@ -37,3 +37,15 @@ returns-clause-ok c =
     ∙ ap (λ (a : Allowance). limits_with a.limits role limit) c.self.view_is in
     let used = ap (λ (a : Allowance). a.used) c.self.view_is in
     λ i. record { limits = limits i; used = used i }
+
+pub invariant_of-self-in_err-insert : goal.invariant_of-self-in_err-insert
+invariant_of-self-in_err-insert c = record {
+  bounded = c.self.invariant.bounded;
+  exact = c.keep_total.ensures (c.drop_total.ensures c.self.inside.used.entries c.self.invariant.exact);
+}
+
+pub invariant_of-self-2 : goal.invariant_of-self-2
+invariant_of-self-2 c = record {
+  bounded = c.self.invariant.bounded;
+  exact = c.keep_total.ensures (c.drop_total.ensures c.self.inside.used.entries c.self.invariant.exact);
+}

@@ -11,7 +11,7 @@ plus-requires c label =
     let clients = c.args.self.now.clients.items in
     let x = c.index_mut-client.result.now in
     let found =
-    place-found clients c.deref.result.now c.args.path.now c.in-Some.at x c.deref.ensures.value c.in-Some.ensures
+    place-found clients c.args.path.now c.in-Some.at x c.in-Some.ensures
     c.index_mut-client.ensures.value in
     let part =
     changed_in_sum c.args.path.now (charged c.args.quantities.now) (λ r. r.held label) clients c.in-Some.at x found in
@@ -22,7 +22,7 @@ overflow_add-client c =
     let clients = c.args.self.now.clients.items in
     let x = c.index_mut-client.result.now in
     let found =
-    place-found clients c.deref.result.now c.args.path.now c.in-Some.at x c.deref.ensures.value c.in-Some.ensures
+    place-found clients c.args.path.now c.in-Some.at x c.in-Some.ensures
     c.index_mut-client.ensures.value in
     let part =
     changed_in_sum c.args.path.now (charged c.args.quantities.now) (λ r. r.count) clients c.in-Some.at x found in
@@ -35,7 +35,7 @@ returns-in_ok-client-clause-ok c =
     let x = c.index_mut-client.result.now in
     let y : Client = record x { held = c.in_ok-client.field-0; count = x.count + 1 } in
     let found =
-    place-found clients c.deref.result.now c.args.path.now c.in-Some.at x c.deref.ensures.value c.in-Some.ensures
+    place-found clients c.args.path.now c.in-Some.at x c.in-Some.ensures
     c.index_mut-client.ensures.value in
     let made =
     charged_is x c.args.quantities.now c.in_ok-client.field-0 c.entries.ensures.in_order c.in_ok-client.ensures in
@@ -47,4 +47,4 @@ returns-in_default-clause-ok c =
     let clients = c.args.self.now.clients.items in
     absurd
     (known-found clients c.args.path.now c.requires.known
-    (c.in_default.ensures ∙ ap (position (λ (x : Client). same_path x.path c.args.path.now)) c.deref.ensures.value))
+    c.in_default.ensures)

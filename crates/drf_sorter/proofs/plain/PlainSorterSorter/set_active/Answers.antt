@@ -13,7 +13,7 @@ returns-in-Some-clause-content c =
     let x = c.index_mut.result.now in
     let y : Client = record x { active = c.args.active } in
     let found =
-    place-found clients c.deref.result.now c.args.path.now c.in-Some.at x c.deref.ensures.value c.in-Some.ensures
+    place-found clients c.args.path.now c.in-Some.at x c.in-Some.ensures
     c.index_mut.ensures.value in
     ap (with_clients sorter)
     (changed_one c.args.path.now (activated c.args.active) clients c.in-Some.at x y sorter.distinct found refl)
@@ -23,4 +23,4 @@ returns-in_default-clause-content c =
     let clients = c.args.self.now.clients.items in
     absurd
     (known-found clients c.args.path.now c.requires
-    (c.in_default.ensures ∙ ap (position (λ (x : Client). same_path x.path c.args.path.now)) c.deref.ensures.value))
+    c.in_default.ensures)

@@ -12,7 +12,7 @@ lower-requires c =
     let clients = c.args.self.now.clients.items in
     let x = c.index_mut-client.result.now in
     let found =
-    place-found clients c.deref.result.now c.args.path.now c.in-Some.at x c.deref.ensures.value c.in-Some.ensures
+    place-found clients c.args.path.now c.in-Some.at x c.in-Some.ensures
     c.index_mut-client.ensures.value in
     let charge =
     at_found (HasCharge c.args.quantities.now) clients c.args.path.now c.in-Some.at x found c.requires.charged in
@@ -23,7 +23,7 @@ overflow_sub-client c =
     let clients = c.args.self.now.clients.items in
     let x = c.index_mut-client.result.now in
     let found =
-    place-found clients c.deref.result.now c.args.path.now c.in-Some.at x c.deref.ensures.value c.in-Some.ensures
+    place-found clients c.args.path.now c.in-Some.at x c.in-Some.ensures
     c.index_mut-client.ensures.value in
     let charge =
     at_found (HasCharge c.args.quantities.now) clients c.args.path.now c.in-Some.at x found c.requires.charged in
@@ -36,7 +36,7 @@ returns-in-Some-clause-content c =
     let x = c.index_mut-client.result.now in
     let y : Client = record x { held = c.lower.new.self; count = x.count - 1 } in
     let found =
-    place-found clients c.deref.result.now c.args.path.now c.in-Some.at x c.deref.ensures.value c.in-Some.ensures
+    place-found clients c.args.path.now c.in-Some.at x c.in-Some.ensures
     c.index_mut-client.ensures.value in
     let made = discharged_is x c.args.quantities.now c.lower.new.self c.lower.ensures in
     ap (with_clients sorter)
@@ -47,4 +47,4 @@ returns-in_default-clause-content c =
     let clients = c.args.self.now.clients.items in
     absurd
     (known-found clients c.args.path.now c.requires.known
-    (c.in_default.ensures ∙ ap (position (λ (x : Client). same_path x.path c.args.path.now)) c.deref.ensures.value))
+    c.in_default.ensures)

@@ -79,7 +79,7 @@ invariant_of-self-2 c =
     } in
     let sum : c.in_ok-sum.sum ≡ plus t.total (quantities_of total) = c.in_ok-sum.ensures ∙ ap (plus t.total) c.quantities.ensures.value in
     let kept : IsKept (rows t.quota.limits) entries c.in_ok-sum.sum t.clients = rw (told, last, sum) (
-      IsKept-agent_added (rows_in t) t.agents.entries t.total t.clients name agent c.self.invariant.kept few new right all
+    IsKept-agent_added (rows_in t) t.agents.entries t.total t.clients name agent c.self.invariant.kept few new right all
     ) in
     let counts : CountsIf t.is_counted (agent_added (rows_in t) name total) after =
     counts-consumed t.is_counted (rows_in t) t.quota c.self.invariant.consumed (agent_added (rows_in t) name total) after

@@ -1,11 +1,9 @@
-use Rattle.std.proofs.Common.{◌≤◌, List, length, map, sym, ap, subst, arith}
+use Rattle.std.proofs.Common.{List, map, ap, subst, arith}
 use Rattle.drf_rows.specs.Holdings.{of_offer, of_task}
 use Rattle.drf_rows.specs.Quota.{held_unreserved}
 use Rattle.drf_rows.specs.declared.rows.OfferRow.{OfferRow}
 use Rattle.drf_rows.specs.declared.rows.TaskRow.{TaskRow}
 use Rattle.drf_gates.specs.Quota.{Allowance, IsRaisedBy, used_where}
-use Rattle.drf_tables.specs.Inside.{rows_in}
-use Rattle.drf_tables.specs.Stored.{Stored}
 use Rattle.drf_tables.proofs.Moved.{consumed_fits}
 use Rattle.drf_tables.proofs.tables.Tables.count_consumption.Goals as goal
 

@@ -1,8 +1,6 @@
-use Rattle.std.proofs.Common.{◌≡◌, List, Some, None, sym, ap, ◌∙◌, subst, refl, cond}
+use Rattle.std.proofs.Common.{◌≡◌, List, Some, None, sym, ap, ◌∙◌, subst, refl}
 use Rattle.drf_rows.specs.Consistent.{IsConsistent}
-use Rattle.drf_rows.specs.Endings.{Ending, without_ended}
-use Rattle.drf_rows.specs.Quota.{unreserved_in}
-use Rattle.drf_rows.specs.declared.rows.AgentRow.{AgentRow}
+use Rattle.drf_rows.specs.Endings.{without_ended}
 use Rattle.drf_rows.specs.declared.rows.LimitRow.{LimitRow}
 use Rattle.drf_rows.specs.declared.rows.Rows.{Rows}
 use Rattle.drf_rows.specs.Ended.{ending_of}
@@ -11,7 +9,7 @@ use Rattle.drf_tables.specs.Inside.{CountsIf, IsKept, rows_in, rows_of}
 use Rattle.drf_tables.specs.Stored.{Stored}
 use Rattle.drf_holdings.specs.Stored.{HasTaken, holding_of}
 use Rattle.drf_tables.specs.declared.ending.Held.{Held}
-use Rattle.drf_tables.proofs.Ended.{IsWithoutOne, ended-kept, ended-one, rows_ended, rows-none, without_it, without-none}
+use Rattle.drf_tables.proofs.Ended.{ended-kept, ended-one, rows_ended, rows-none, without_it, without-none}
 use Rattle.drf_tables.proofs.Recounted.{counts-ended, ending_fits}
 use Rattle.drf_tables.proofs.tables.Tables.end.Goals as goal
 

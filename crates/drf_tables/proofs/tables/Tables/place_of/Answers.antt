@@ -1,4 +1,4 @@
-use Rattle.std.proofs.Common.{◌≡◌, sym, ap, ◌∙◌, is_some, map}
+use Rattle.std.proofs.Common.{◌≡◌, sym, ap, ◌∙◌, map}
 use Rattle.drf_rows.specs.Members.{has_agent}
 use Rattle.drf_rows.specs.declared.rows.Rows.{Rows}
 use Rattle.drf_tables.specs.Inside.{agent_row}

@@ -7,8 +7,8 @@ use Rattle.drf_tree.proofs.KeptLemmas.{stopped}
 use Rattle.drf_tree.proofs.LeafLemmas.{admit_fits, few_clients}
 use Rattle.drf_tree.proofs.sorter.TreeSorterSorter.add.Goals as goal
 
-pub invariant_of-self : goal.invariant_of-self
-invariant_of-self c =
+pub invariant_of-self-in_err-node : goal.invariant_of-self-in_err-node
+invariant_of-self-in_err-node c =
     stopped c.self.inside.ledger c.grow.new.self c.stop.new.self c.stop.ensures c.in_err-node.ensures.tree
 
 pub add-requires : goal.add-requires

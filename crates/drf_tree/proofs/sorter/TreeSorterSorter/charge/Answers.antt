@@ -20,7 +20,7 @@ pub raised-requires-clause-room : goal.raised-requires-clause-room
 raised-requires-clause-room c =
     let ledger = ap (λ (s : Sorted). s.ledger) c.self.view_is in
     room (plain_content c.self.inside.ledger) c.self.inside.tree c.in-Some.node c.self.invariant.of_ledger c.in-Some.ensures.live
-    c.args.path.now c.in-Some.ensures.found.1
+    c.args.path.now c.in-Some.ensures.at
     (known_in c.self.inside.ledger c.args.self.now.ledger c.args.path.now ledger c.requires.known) c.args.quantities.now
     (subst (λ (l : PlainSorter). IsSound (with_change (plain_content l) c.args.path.now (charged c.args.quantities.now)))
     (sym ledger) c.requires.sound)
@@ -29,7 +29,7 @@ pub charge-requires-2-clause-count : goal.charge-requires-2-clause-count
 charge-requires-2-clause-count c =
     let ledger = ap (λ (s : Sorted). s.ledger) c.self.view_is in
     (room (plain_content c.self.inside.ledger) c.self.inside.tree c.in-Some.node c.self.invariant.of_ledger c.in-Some.ensures.live
-    c.args.path.now c.in-Some.ensures.found.1
+    c.args.path.now c.in-Some.ensures.at
     (known_in c.self.inside.ledger c.args.self.now.ledger c.args.path.now ledger c.requires.known) c.args.quantities.now
     (subst (λ (l : PlainSorter). IsSound (with_change (plain_content l) c.args.path.now (charged c.args.quantities.now)))
     (sym ledger) c.requires.sound)).count
@@ -45,7 +45,7 @@ invariant_of-self-2 c =
     kept_along c.charge.new.self content now c.in_ok-charge.ensures.ok
     (active_stays path (charged c.args.quantities.now) (λ d. refl) (λ d. refl) content) tree c.charge-2.new.self c.self.inside.walk
     (c.charge-2.ensures.tree content path c.args.quantities.now c.self.invariant.of_ledger
-    (leaf_of content tree c.in-Some.node path c.self.invariant.of_ledger known c.in-Some.ensures.live c.in-Some.ensures.found.1) known
+    (leaf_of content tree c.in-Some.node path c.self.invariant.of_ledger known c.in-Some.ensures.live c.in-Some.ensures.at) known
     c.in_ok-raised.ensures)
     c.charge-2.ensures.places c.charge-2.ensures.families c.self.invariant.frames c.self.invariant.settled
 

@@ -23,7 +23,7 @@ lower-requires-clause-lowerable c =
     let path = c.args.path.now in
     let ledger = ap (λ (s : Sorted). s.ledger) c.self.view_is in
     lowerable content c.self.inside.tree c.in-Some.node c.self.invariant.of_ledger c.in-Some.ensures.live
-    path c.in-Some.ensures.found.1
+    path c.in-Some.ensures.at
     (known_in c.self.inside.ledger c.args.self.now.ledger path ledger c.requires.known) c.args.quantities.now 0
     (can_refund content path c.args.quantities.now
     (subst (λ (l : PlainSorter). HoldsAt (plain_content l) path c.args.quantities.now) (sym ledger) c.requires.held))
@@ -41,7 +41,7 @@ invariant_of-self-2 c =
     (subst (λ (change : Ranked → Ranked). IsTreeOf (with_change content path change) c.lower.new.self)
     (lowered_refunded c.args.quantities.now)
     (c.lower.ensures.tree content path c.self.invariant.of_ledger
-    (leaf_of content tree c.in-Some.node path c.self.invariant.of_ledger known c.in-Some.ensures.live c.in-Some.ensures.found.1) known
+    (leaf_of content tree c.in-Some.node path c.self.invariant.of_ledger known c.in-Some.ensures.live c.in-Some.ensures.at) known
     (can_refund content path c.args.quantities.now
     (subst (λ (l : PlainSorter). HoldsAt (plain_content l) path c.args.quantities.now) (sym ledger) c.requires.held))))
     c.lower.ensures.places c.lower.ensures.families c.self.invariant.frames c.self.invariant.settled

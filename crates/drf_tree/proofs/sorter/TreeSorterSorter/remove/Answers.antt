@@ -23,7 +23,7 @@ prune-requires-clause-shape c =
     let of = c.self.invariant.of_ledger in
     let has = ap (λ (s : Sorted). has_client (plain_content s.ledger) path) c.self.view_is ∙ c.requires in
     (c.dismiss.ensures.tree content path of
-    (leaf_of content c.self.inside.tree c.in-Some.node path of has c.in-Some.ensures.live c.in-Some.ensures.found.1) has).shape
+    (leaf_of content c.self.inside.tree c.in-Some.node path of has c.in-Some.ensures.live c.in-Some.ensures.at) has).shape
 
 -- a client has a node
 pub invariant_of-self : goal.invariant_of-self
@@ -41,7 +41,7 @@ invariant_of-self-2 c =
     let has = ap (λ (s : Sorted). has_client (plain_content s.ledger) path) c.self.view_is ∙ c.requires in
     let dismissed =
     c.dismiss.ensures.tree content path of
-    (leaf_of content c.self.inside.tree c.in-Some.node path of has c.in-Some.ensures.live c.in-Some.ensures.found.1) has in
+    (leaf_of content c.self.inside.tree c.in-Some.node path of has c.in-Some.ensures.live c.in-Some.ensures.at) has in
     stopped c.remove.new.self c.prune.new.self c.stop.new.self c.stop.ensures
     (subst (λ (k : Content). IsTreeOf k c.prune.new.self) (sym c.remove.ensures.content)
     (c.prune.ensures.tree (without_client content path) dismissed))

@@ -34,4 +34,4 @@ invariant_of-self-2 c =
     stopped c.set_active.new.self c.set_active-2.new.self c.stop.new.self c.stop.ensures
     (subst (λ (k : Content). IsTreeOf k c.set_active-2.new.self) (sym c.set_active.ensures.content)
     (c.set_active-2.ensures.tree content path c.self.invariant.of_ledger
-    (leaf_of content tree c.in-Some.node path c.self.invariant.of_ledger known c.in-Some.ensures.live c.in-Some.ensures.found.1) known))
+    (leaf_of content tree c.in-Some.node path c.self.invariant.of_ledger known c.in-Some.ensures.live c.in-Some.ensures.at) known))

@@ -22,7 +22,7 @@ lower-requires-clause-lowerable c =
     let path = c.args.path.now in
     let ledger = ap (λ (s : Sorted). s.ledger) c.self.view_is in
     lowerable content c.self.inside.tree c.in-Some.node c.self.invariant.of_ledger c.in-Some.ensures.live
-    path c.in-Some.ensures.found.1
+    path c.in-Some.ensures.at
     (known_in c.self.inside.ledger c.args.self.now.ledger path ledger c.requires.known) c.args.quantities.now 1
     (can_discharge content path c.args.quantities.now
     (subst (λ (l : PlainSorter). HasChargeAt (plain_content l) path c.args.quantities.now) (sym ledger) c.requires.charged))
@@ -38,7 +38,7 @@ invariant_of-self-2 c =
     kept_along c.undo_charge.new.self content now c.undo_charge.ensures.content
     (active_stays path (discharged c.args.quantities.now) (λ d. refl) (λ d. refl) content) tree c.lower.new.self c.self.inside.walk
     (c.lower.ensures.tree content path c.self.invariant.of_ledger
-    (leaf_of content tree c.in-Some.node path c.self.invariant.of_ledger known c.in-Some.ensures.live c.in-Some.ensures.found.1) known
+    (leaf_of content tree c.in-Some.node path c.self.invariant.of_ledger known c.in-Some.ensures.live c.in-Some.ensures.at) known
     (can_discharge content path c.args.quantities.now
     (subst (λ (l : PlainSorter). HasChargeAt (plain_content l) path c.args.quantities.now) (sym ledger) c.requires.charged)))
     c.lower.ensures.places c.lower.ensures.families c.self.invariant.frames c.self.invariant.settled

@@ -1,18 +1,17 @@
-use Rattle.std.specs.Prelude.{◌≡◌, ◌≤◌, ◌<◌, ◌+◌, ℕ, Bool, cond, false, List, ◌⊎◌, length, slice_index_or, slice_set}
-use Rattle.std.proofs.Common.{ap, arith, inl, inr, subst, sym, ◌∙◌}
-use Rattle.std.proofs.lemmas.Bool.{cases_eq, cases_lt, false≢true}
-use Rattle.std.proofs.lemmas.List.{get_or-set_other, get_or_past, length-set}
+use Rattle.std.specs.Prelude.{◌≡◌, ◌≤◌, ◌+◌, ℕ, Bool, false, true, List, ◌⊎◌, length, slice_index_or, slice_set}
+use Rattle.std.proofs.Common.{ap, arith, inl, inr, sym, ◌∙◌}
+use Rattle.std.proofs.lemmas.Bool.{cases_eq, false≢true}
+use Rattle.std.proofs.lemmas.List.{get_or-set_other, length-set}
 use Rattle.drf_rows.specs.ListLaws.{each_from}
 use Rattle.drf_sorter.specs.Content.{Content}
 use Rattle.drf_sorter.specs.Plain.{plain_content}
 use Rattle.drf_sorter.specs.Work.{debt}
 use Rattle.drf_tree.specs.declared.tree.Tree.{Tree}
-use Rattle.drf_tree.specs.Marks.{Flags, work_of}
+use Rattle.drf_tree.specs.Marks.{Flags, marked_in, work_of}
 use Rattle.drf_tree.specs.Nodes.{children_at}
-use Rattle.drf_tree.specs.Tree.{AreRight, IsMarkedOrRight, IsShape, IsTreeBut, IsTreeOf}
-use Rattle.drf_tree.proofs.MarkLemmas.{all_clear, down_at, down_to, one_more, set_again}
-use Rattle.drf_tree.proofs.NodeLemmas.{flags_changed}
-use Rattle.drf_tree.proofs.tree.Tree.repair.Goals.{else-take, then-take}
+use Rattle.drf_tree.specs.Tree.{IsMarkedOrRight, IsTreeBut, IsTreeOf}
+use Rattle.drf_tree.proofs.MarkLemmas.{down_at, marked_less, one_more}
+use Rattle.drf_tree.proofs.NodeLemmas.{flags_changed, live_within}
 use Rattle.drf_tree.proofs.tree.Tree.repair.Goals as goal
 
 module _ (content : Content) (tree : Tree) (of : IsTreeOf content tree) (marks : Flags) where
@@ -49,77 +48,43 @@ module _ (content : Content) (tree : Tree) (of : IsTreeOf content tree) (marks :
         ]) (of.right i);
   }
 
-  -- no flag is changed
-  none_down : marks.stale ≡ stale → IsTreeOf content (record tree { marks = marks })
-  none_down same = record {
-    paths = of.paths;
-    distinct = of.distinct;
-    shape = subst (λ (fs : List Bool). IsShape tree.places.items tree.families.items fs tree.sums.items) (sym same) of.shape;
-    sums = of.sums;
-    complete = of.complete;
-    right = subst (AreRight content tree.places.items tree.families.items) (sym same) of.right;
-  }
+  -- and one mark is gone
+  one_less : (node : ℕ) → slice_index_or stale node false ≡ true → marks.stale ≡ slice_set stale node false
+      → marked_in marks.stale + 1 ≡ marked_in stale
+  one_less node up taken =
+      omega (
+        arith,
+        ap marked_in taken,
+        marked_less stale node
+            (omega (arith, live_within tree.places.items node (of.shape.unmarked node up), of.shape.stale_long)) up,
+      )
 
--- what the loop keeps
-record IsKeptTo (content : Content) (entry now : Tree) (node : ℕ) : Type 0 where
-  tree : IsTreeOf content now
-  places : now.places ≡ entry.places
-  done : (i : ℕ) → i < node + 1 → slice_index_or now.marks.stale i false ≡ false
-  work : debt (work_of now.marks) ≤ debt (work_of entry.marks)
+pub renew-requires-clause-live : goal.renew-requires-clause-live
+renew-requires-clause-live c = c.loop-node.invariant.tree.shape.unmarked c.in-Some.node c.in-Some.ensures.found
 
 pub renew-requires-clause-tree : goal.renew-requires-clause-tree
 renew-requires-clause-tree c =
-    one_down (plain_content c.args.ledger.now) c.loop-node.self c.loop-node.invariant.tree c.take.new.self c.loop-node.node
-    c.take.ensures.flags
+    one_down (plain_content c.args.ledger.now) c.loop-node.self c.loop-node.invariant.tree c.take.new.self c.in-Some.node
+    (λ i. (c.in-Some.ensures.taken i).stale)
+
+pub loop-node-smaller : goal.loop-node-smaller
+loop-node-smaller c =
+    omega (
+      arith,
+      one_less (plain_content c.args.ledger.now) c.loop-node.self c.loop-node.invariant.tree c.take.new.self c.in-Some.node
+          c.in-Some.ensures.found (λ i. (c.in-Some.ensures.taken i).stale),
+      ap marked_in c.renew.ensures.stale,
+    )
 
 pub loop-node-preserved : goal.loop-node-preserved
-loop-node-preserved c =
-    let content = plain_content c.args.ledger.now in
-    let entry = c.args.self.now in
-    let stale = c.loop-node.self.marks.stale in
-    let node = c.loop-node.node in
-    let down = down_to stale node c.loop-node.invariant.done in
-    let all : IsKeptTo content entry c.if-take.self node = elim c.if-take.branch [
-      | then-take w ↦
-          subst (λ (t : Tree). IsKeptTo content entry t node) (sym w.self-is)
-          (record {
-            tree = w.renew.ensures.tree;
-            places = w.renew.ensures.places ∙ c.loop-node.invariant.places;
-            done = λ i below.
-                ap (λ (fs : List Bool). slice_index_or fs i false) (w.renew.ensures.stale ∙ c.take.ensures.flags) ∙ down i below;
-            work = omega (
-              arith,
-              one_more c.take.new.self w.renew.new.self.marks w.renew.ensures.made w.renew.ensures.stale,
-              c.take.ensures.work,
-              ap {B = ℕ} (λ (b : Bool). cond b 1 0) w.if-take.true,
-              c.loop-node.invariant.work,
-            );
-          })
-      | else-take w ↦
-          let same : c.take.new.self.stale ≡ stale =
-          c.take.ensures.flags ∙ set_again stale node false (sym c.take.ensures.marked ∙ w.if-take.false) in
-          subst (λ (t : Tree). IsKeptTo content entry t node) (sym w.self-is)
-          (record {
-            tree = none_down content c.loop-node.self c.loop-node.invariant.tree c.take.new.self same;
-            places = c.loop-node.invariant.places;
-            done = λ i below. ap (λ (fs : List Bool). slice_index_or fs i false) c.take.ensures.flags ∙ down i below;
-            work = omega (arith, c.take.ensures.work, c.loop-node.invariant.work);
-          })
-    ] in
-    record { tree = all.tree; places = all.places; done = all.done; work = all.work }
-
-pub returns-clause-repaired : goal.returns-clause-repaired
-returns-clause-repaired c =
-    let stale = c.loop-node.self.marks.stale in
-    all_clear stale
-    (λ i. elim (cases_lt i c.loop-node.node) [
-      | inl below ↦ c.loop-node.invariant.done i below
-      | inr past ↦
-          get_or_past stale i false (omega (
-            arith,
-            past,
-            c.loop-node.invariant.tree.shape.stale_long,
-            ap (λ v. length v.items) c.loop-node.invariant.places,
-            c.args.self.now.places.ok.0,
-          ))
-    ])
+loop-node-preserved c = record {
+  tree = c.renew.ensures.tree;
+  work = omega (
+    arith,
+    one_more c.take.new.self c.renew.new.self.marks c.renew.ensures.made c.renew.ensures.stale,
+    one_less (plain_content c.args.ledger.now) c.loop-node.self c.loop-node.invariant.tree c.take.new.self c.in-Some.node
+        c.in-Some.ensures.found (λ i. (c.in-Some.ensures.taken i).stale),
+    ap (λ (flags : Flags). flags.made) c.in-Some.ensures.taken,
+    c.loop-node.invariant.work,
+  );
+}

@@ -49,7 +49,7 @@ rows-append : (es fs : List (Text × Vec ClientRow)) → framework_rows (es ++ f
 rows-append [] fs = refl
 rows-append (e ∷ es) fs = ap (λ rs. framework_row e ∷ rs) (rows-append es fs)
 
-names_of : List FrameworkRow → List Text
+abbrev names_of : List FrameworkRow → List Text
 names_of rows = map (λ f. f.name) rows
 
 keys_as_names : (es : List (Text × Vec ClientRow)) → keys_of es ≡ names_of (framework_rows es)

@@ -1,5 +1,8 @@
 //! Copies of the tables.
-ghost use Rattle.std.specs.Prelude.{◌≡◌, IfOk};
+ghost use Rattle.std.specs.Prelude.{◌≡◌, IfOk, OnOk};
+ghost use Rattle.indexmap.specs.IndexMap.{insert_entry};
+ghost use Rattle.drf_role.specs.Path.{same_path};
+ghost use Rattle.drf_role.specs.Text.{same_text};
 ghost use Rattle.drf_tables.specs.Inside.{framework_rows};
 
 use crate::tables::{Agent, Tables};
@@ -30,6 +33,25 @@ fn copy_agent(agent: &Agent) -> Result<Agent, AllocError>
     })
 }
 
+/// Puts what goes by a name, in the place of what went by it before.
+fn put<V: Drop>(map: &mut IndexMap<Name, V>, name: Name, value: V) -> Result<(), AllocError>
+    ensures { OnOk result (map.new.entries ≡ insert_entry same_text map.old.entries name value) }
+{
+    map.insert(name, value)?;
+    Ok(())
+}
+
+fn put_weight(
+    weights: &mut IndexMap<Role, u64>,
+    role: Role,
+    weight: u64,
+) -> Result<(), AllocError>
+    ensures { OnOk result (weights.new.entries ≡ insert_entry same_path weights.old.entries role weight) }
+{
+    weights.insert(role, weight)?;
+    Ok(())
+}
+
 /// The agents, copied in their order.
 fn copy_agents(agents: &IndexMap<Name, Agent>) -> Result<IndexMap<Name, Agent>, AllocError>
     ensures { IfOk result (λ copy. copy.entries ≡ agents.now.entries) }
@@ -40,7 +62,7 @@ fn copy_agents(agents: &IndexMap<Name, Agent>) -> Result<IndexMap<Name, Agent>, 
     for (name, agent) in agents {
         let name = name.copy()?;
         let agent = copy_agent(agent)?;
-        copy.insert(name, agent)?;
+        put(&mut copy, name, agent)?;
     }
     Ok(copy)
 }
@@ -58,7 +80,7 @@ fn copy_frameworks(
     for (name, clients) in frameworks {
         let name = name.copy()?;
         let clients = copy_all(alloc, clients)?;
-        copy.insert(name, clients.into_vec())?;
+        put(&mut copy, name, clients.into_vec())?;
     }
     Ok(copy)
 }
@@ -72,7 +94,7 @@ fn copy_weights(weights: &IndexMap<Role, u64>) -> Result<IndexMap<Role, u64>, Al
     let mut copy = IndexMap::new(*weights.allocator());
     for (role, weight) in weights {
         let role = role.copy()?;
-        copy.insert(role, *weight)?;
+        put_weight(&mut copy, role, *weight)?;
     }
     Ok(copy)
 }

@@ -15,5 +15,5 @@ loop-name-preserved c =
     let rest : List (Text × Agent) = c.next.new.self in
     let split : copy ++ (name, agent) ∷ rest ≡ whole =
     ap (λ (es : List (Text × Agent)). copy ++ es) (sym c.in-Some.ensures.steps) ∙ c.loop-name.invariant in
-    copied_more same_text same_text-swap whole copy c.insert.new.self.entries rest name agent c.len.ensures.unique split
-    (c.in_ok-insert.ensures.entries ∙ (λ i. insert_entry same_text copy (c.in_ok-name.ensures i) (c.in_ok-agent.ensures i)))
+    copied_more same_text same_text-swap whole copy c.put.new.map.entries rest name agent c.len.ensures.unique split
+    (c.in_ok-put.ensures ∙ (λ i. insert_entry same_text copy (c.in_ok-name.ensures i) (c.in_ok-agent.ensures i)))

@@ -17,6 +17,6 @@ loop-name-preserved c =
     let rest : List (Text × Vec ClientRow) = c.next.new.self in
     let split : framework_rows copied ++ framework_rows ((name, clients) ∷ rest) ≡ framework_rows whole =
     ap (λ (es : List (Text × Vec ClientRow)). framework_rows copied ++ framework_rows es) (sym c.in-Some.ensures.steps) ∙ c.loop-name.invariant in
-    framework_copied whole copied c.insert.new.self.entries rest name clients c.into_vec.result
-    c.len.ensures.unique split (c.into_vec.ensures ∙ c.in_ok-clients.ensures)
-    (c.in_ok-insert.ensures.entries ∙ (λ i. insert_entry same_text copied (c.in_ok-name.ensures i) c.into_vec.result))
+    framework_copied whole copied c.put.new.map.entries rest name clients c.into_vec.result
+    c.len.ensures.unique split (c.into_vec.ensures ∙ c.in_ok-clients.ensures ∙ c.deref.ensures.value)
+    (c.in_ok-put.ensures ∙ (λ i. insert_entry same_text copied (c.in_ok-name.ensures i) c.into_vec.result))

@@ -14,5 +14,5 @@ loop-role-preserved c =
     let rest : List (Path × ℕ) = c.next.new.self in
     let split : copy ++ (role, weight) ∷ rest ≡ whole =
     ap (λ (es : List (Path × ℕ)). copy ++ es) (sym c.in-Some.ensures.steps) ∙ c.loop-role.invariant in
-    copied_more same_path same_path-swap whole copy c.insert.new.self.entries rest role weight c.len.ensures.unique split
-    (c.in_ok-insert.ensures.entries ∙ (λ i. insert_entry same_path copy (c.in_ok-role.ensures i) weight))
+    copied_more same_path same_path-swap whole copy c.put_weight.new.weights.entries rest role weight c.len.ensures.unique split
+    (c.in_ok-put_weight.ensures ∙ (λ i. insert_entry same_path copy (c.in_ok-role.ensures i) weight))

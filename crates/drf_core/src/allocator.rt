@@ -124,6 +124,18 @@ impl<S: Sorter> Core<S> {
         report(self.alloc, &self.tables)
     }
 
+    /// An allocator of its own with the same rows and limits.
+    pub fn copy(&self) -> Result<Core<S>, AllocError>
+        ensures { IfOk result (λ core. core ≡ self.now) }
+    {
+        Ok(Core {
+            alloc: self.alloc,
+            limits: self.limits,
+            tables: self.tables.copy()?,
+            sorter: self.sorter.copy()?,
+        })
+    }
+
     /// The live rows, which are consistent: nothing is granted twice.
     pub fn rows(&self) -> Result<Rows, AllocError>
         ensures rows { IfOk result (λ rows. rows ≡ live_rows self.now.rows) }

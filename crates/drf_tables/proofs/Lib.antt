@@ -15,3 +15,4 @@ pub mod Counts
 pub mod Moved
 pub mod Recounted
 pub mod Running
+pub mod CopyLemmas

@@ -3,6 +3,7 @@
 #![tactic(auto)]
 
 mod consuming;
+mod copied;
 mod ending;
 mod filtering;
 mod leaving;

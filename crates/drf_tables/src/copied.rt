@@ -1,0 +1,100 @@
+//! Copies of the tables.
+ghost use Rattle.std.specs.Prelude.{◌≡◌, IfOk, OnOk};
+ghost use Rattle.indexmap.specs.IndexMap.{insert_entry};
+ghost use Rattle.drf_role.specs.Path.{same_path};
+ghost use Rattle.drf_role.specs.Text.{same_text};
+ghost use Rattle.drf_tables.specs.Inside.{framework_rows};
+
+use crate::tables::{Agent, Tables};
+use drf_amount::Algebra;
+use drf_bundle::Bundle;
+use drf_role::{Name, Role};
+use drf_rows::{ClientRow, copy_all};
+use indexmap::IndexMap;
+use std::alloc::AllocError;
+
+/// What is free on an agent, copied where it is known.
+fn copy_free(free: &Option<Bundle>) -> Result<Option<Bundle>, AllocError>
+    ensures { IfOk result (λ copy. copy ≡ free.now) }
+{
+    match free {
+        Some(known) => Ok(Some(known.copy()?)),
+        None => Ok(None),
+    }
+}
+
+fn copy_agent(agent: &Agent) -> Result<Agent, AllocError>
+    ensures { IfOk result (λ copy. copy ≡ agent.now) }
+{
+    Ok(Agent {
+        total: agent.total.copy()?,
+        active: agent.active,
+        free: copy_free(&agent.free)?,
+    })
+}
+
+/// Puts what goes by a name, in the place of what went by it before.
+fn put<V: Drop>(map: &mut IndexMap<Name, V>, name: Name, value: V) -> Result<(), AllocError>
+    ensures { OnOk result (map.new.entries ≡ insert_entry same_text map.old.entries name value) }
+{
+    map.insert(name, value)?;
+    Ok(())
+}
+
+fn put_weight(
+    weights: &mut IndexMap<Role, u64>,
+    role: Role,
+    weight: u64,
+) -> Result<(), AllocError>
+    ensures { OnOk result (weights.new.entries ≡ insert_entry same_path weights.old.entries role weight) }
+{
+    weights.insert(role, weight)?;
+    Ok(())
+}
+
+/// The agents, copied in their order.
+fn copy_agents(agents: &IndexMap<Name, Agent>) -> Result<IndexMap<Name, Agent>, AllocError>
+    ensures { IfOk result (λ copy. copy.entries ≡ agents.now.entries) }
+{
+    // The proof learns that no two have one name by this call alone.
+    let _ = agents.len();
+    let mut copy = IndexMap::new(*agents.allocator());
+    for (name, agent) in agents {
+        let name = name.copy()?;
+        let agent = copy_agent(agent)?;
+        put(&mut copy, name, agent)?;
+    }
+    Ok(copy)
+}
+
+/// The frameworks with their clients, copied in their order.
+fn copy_frameworks(
+    frameworks: &IndexMap<Name, Vec<ClientRow>>,
+) -> Result<IndexMap<Name, Vec<ClientRow>>, AllocError>
+    ensures { IfOk result (λ copy. framework_rows copy.entries ≡ framework_rows frameworks.now.entries) }
+{
+    // The proof learns that no two have one name by this call alone.
+    let _ = frameworks.len();
+    let alloc = *frameworks.allocator();
+    let mut copy = IndexMap::new(alloc);
+    for (name, clients) in frameworks {
+        let name = name.copy()?;
+        let clients = copy_all(alloc, clients)?;
+        put(&mut copy, name, clients.into_vec())?;
+    }
+    Ok(copy)
+}
+
+/// The weights of roles, copied in their order.
+fn copy_weights(weights: &IndexMap<Role, u64>) -> Result<IndexMap<Role, u64>, AllocError>
+    ensures { IfOk result (λ copy. copy.entries ≡ weights.now.entries) }
+{
+    // The proof learns that no role has two weights by this call alone.
+    let _ = weights.len();
+    let mut copy = IndexMap::new(*weights.allocator());
+    for (role, weight) in weights {
+        let role = role.copy()?;
+        put_weight(&mut copy, role, *weight)?;
+    }
+    Ok(copy)
+}

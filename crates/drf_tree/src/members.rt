@@ -1,12 +1,12 @@
 //! Clients that come and go.
-ghost use Rattle.std.specs.Prelude.{◌≡◌, ◌≢◌, ◌≤◌, ◌+◌, ◌<◌, ◌^◌, ℕ, Some, IfOk, IfSome, false, length, take, true};
+ghost use Rattle.std.specs.Prelude.{◌≡◌, ◌≢◌, ◌≤◌, ◌+◌, ◌<◌, ◌^◌, ℕ, Some, IfOk, IfSome, OnErr, false, length, take, true};
 ghost use Rattle.drf_role.specs.Path.{IsClientPath, Path};
 ghost use Rattle.drf_sorter.specs.Content.{Content, activated, has_client, has_node, with_change, with_client, without_client};
 ghost use Rattle.drf_sorter.specs.Plain.{plain_content};
 ghost use Rattle.drf_sorter.specs.Work.{debt};
 ghost use Rattle.drf_tree.specs.Changes.{IsLeast, IsOneLonger, IsShapeOf, OnWay};
 ghost use Rattle.drf_tree.specs.Marks.{work_of};
-ghost use Rattle.drf_tree.specs.Nodes.{client_at, is_live, is_node, path_at};
+ghost use Rattle.drf_tree.specs.Nodes.{client_at, is_live, is_node, path_at, place_at};
 ghost use Rattle.drf_tree.specs.Tree.{IsTreeOf};
 
 use crate::node::Sum;
@@ -17,7 +17,7 @@ use std::alloc::AllocError;
 use std::mem;
 
 impl Tree {
-    /// The node of a client, made with all nodes above it that are missing.
+    /// The node of a client, made with all nodes above it that are missing. Where that fails, those that were made go again.
     pub(crate) fn grow(
         &mut self,
         path: &ClientPath,
@@ -31,7 +31,13 @@ impl Tree {
     {
         let mut node = ROOT;
         for i in 0..path.len() {
-            node = self.step(node, path, i, ledger)?;
+            match self.step(node, path, i, ledger) {
+                Ok(child) => node = child,
+                Err(error) => {
+                    self.prune(node);
+                    return Err(error);
+                }
+            }
         }
         Ok(node)
     }
@@ -52,6 +58,7 @@ impl Tree {
         ensures tree { IsTreeOf (plain_content ledger.now) self.new }
         ensures path { IfOk result (λ child. path_at self.new.places.items child ≡ take (i + 1) path.now) }
         ensures live { IfOk result (λ child. is_live self.new.places.items child ≡ true) }
+        ensures err { OnErr result ((i : ℕ) → place_at self.new.places.items i ≡ place_at self.old.places.items i) }
         ensures work { debt (work_of self.new.marks) ≤ debt (work_of self.old.marks) + 1 }
     {
         if let Some(child) = self.child(node, path.part(i)) {
@@ -79,6 +86,7 @@ impl Tree {
         ensures tree { IsTreeOf (plain_content ledger.now) self.new }
         ensures path { IfOk result (λ node. path_at self.new.places.items node ≡ take len path.now) }
         ensures live { IfOk result (λ node. is_live self.new.places.items node ≡ true) }
+        ensures err { OnErr result ((i : ℕ) → place_at self.new.places.items i ≡ place_at self.old.places.items i) }
         ensures work { debt (work_of self.new.marks) ≤ debt (work_of self.old.marks) + 1 }
     {
         let node = path.node(len)?;

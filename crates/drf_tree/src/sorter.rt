@@ -68,7 +68,10 @@ impl Sorter for TreeSorter {
         self.leaves.reserve(1)?;
         self.walk.stop();
         let node = self.tree.grow(&path, &self.ledger)?;
-        self.ledger.add(path)?;
+        if let Err(error) = self.ledger.add(path) {
+            self.tree.prune(node);
+            return Err(error);
+        }
         self.leaves.push_reserved(node);
         self.tree.admit(node);
         Ok(())

@@ -242,6 +242,7 @@ impl Tree {
         ensures tree { (content : Content) → IsTreeOf content self.old → weight ≡ weight_of content.weights path → has_node content path ≡ false → IsTreeOf content self.new }
         ensures path { IfOk result (λ node. path_at self.new.places.items node ≡ path) }
         ensures live { IfOk result (λ node. is_live self.new.places.items node ≡ true) }
+        ensures err { OnErr result ((i : ℕ) → place_at self.new.places.items i ≡ place_at self.old.places.items i) }
         ensures work { debt (work_of self.new.marks) ≤ debt (work_of self.old.marks) + 1 }
     {
         let node = self.vacant()?;

@@ -3,6 +3,7 @@ use Rattle.drf_sorter.specs.Content.{Content, has_client}
 use Rattle.drf_sorter.specs.Plain.{plain_content}
 use Rattle.drf_tree.specs.Sorter.{Sorted}
 use Rattle.drf_tree.specs.Tree.{IsTreeOf}
+use Rattle.drf_tree.proofs.ClimbLemmas.{node_from_live}
 use Rattle.drf_tree.proofs.KeptLemmas.{stopped}
 use Rattle.drf_tree.proofs.LeafLemmas.{admit_fits, few_clients}
 use Rattle.drf_tree.proofs.sorter.TreeSorterSorter.add.Goals as goal
@@ -14,10 +15,17 @@ invariant_of-self-in_err-node c =
 pub add-requires : goal.add-requires
 add-requires c = ap (λ (s : Sorted). has_client (plain_content s.ledger) c.args.path) c.self.view_is ∙ c.requires
 
-pub invariant_of-self-in_err-add : goal.invariant_of-self-in_err-add
-invariant_of-self-in_err-add c =
-    stopped c.add.new.self c.grow.new.self c.stop.new.self c.stop.ensures
-    (subst (λ (k : Content). IsTreeOf k c.grow.new.self) (sym c.in_err-add.ensures.err) c.in_ok-node.ensures.tree)
+pub prune-requires-clause-shape : goal.prune-requires-clause-shape
+prune-requires-clause-shape c = c.in_ok-node.ensures.tree.shape
+
+pub prune-requires-clause-node : goal.prune-requires-clause-node
+prune-requires-clause-node c = node_from_live c.grow.new.self.places.items c.in_ok-node.node c.in_ok-node.ensures.live
+
+pub invariant_of-self-in-Err : goal.invariant_of-self-in-Err
+invariant_of-self-in-Err c =
+    stopped c.add.new.self c.prune.new.self c.stop.new.self c.stop.ensures
+    (subst (λ (k : Content). IsTreeOf k c.prune.new.self) (sym c.in-Err.ensures.err)
+    (c.prune.ensures.tree (plain_content c.self.inside.ledger) c.in_ok-node.ensures.tree))
 
 pub admit-requires-clause-fits : goal.admit-requires-clause-fits
 admit-requires-clause-fits c =
@@ -28,6 +36,6 @@ pub invariant_of-self-2 : goal.invariant_of-self-2
 invariant_of-self-2 c =
     let content = plain_content c.self.inside.ledger in
     stopped c.add.new.self c.admit.new.self c.stop.new.self c.stop.ensures
-    (subst (λ (k : Content). IsTreeOf k c.admit.new.self) (sym c.in_ok-add.ensures.ok)
+    (subst (λ (k : Content). IsTreeOf k c.admit.new.self) (sym c.in_default.ensures.ok)
     (c.admit.ensures.tree content c.args.path c.in_ok-node.ensures.tree c.in_ok-node.ensures.client
     (ap (λ (s : Sorted). has_client (plain_content s.ledger) c.args.path) c.self.view_is ∙ c.requires)))

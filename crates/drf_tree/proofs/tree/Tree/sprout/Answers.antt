@@ -1,4 +1,4 @@
-use Rattle.std.specs.Prelude.{◌≢◌, ◌<◌, ℕ, length, slice_set}
+use Rattle.std.specs.Prelude.{◌≢◌, ◌<◌, ℕ, Err, Ok, OnErr, Result, length, slice_set}
 use Rattle.std.proofs.Common.{◌≡◌, List, true, refl, sym, ap, subst, ◌∙◌, arith}
 use Rattle.drf_role.specs.Path.{Path}
 use Rattle.drf_tree.specs.declared.family.Child.{Child}
@@ -31,6 +31,24 @@ returns-in_err-child-clause-tree c content of weighs nobody =
     let e = c.in_err-child.ensures in
     let v = c.in_ok-node.ensures in
     counted_tree c.vacant.new.self c.first_child.new.self e.places e.sums e.families e.stale v.shape content (v.tree content of)
+
+-- what holds at all holds on failure
+on_err : {T E : Type 0} (r : Result T E) (P : Type 0) → P → OnErr r P
+on_err (Ok x) P p = tt
+on_err (Err e) P p = p
+
+-- where there is no memory for a child, each place is as it was
+pub returns-in_err-child-clause-err : goal.returns-in_err-child-clause-err
+returns-in_err-child-clause-err c =
+    let same : (i : ℕ) → place_at c.first_child.new.self.places.items i ≡ place_at c.args.self.now.places.items i =
+    λ i. ap (λ ps. place_at ps.items i) c.in_err-child.ensures.places ∙ c.in_ok-node.ensures.places i in
+    on_err _ _ same
+
+pub returns-in_err-insert-clause-err : goal.returns-in_err-insert-clause-err
+returns-in_err-insert-clause-err c =
+    let same : (i : ℕ) → place_at c.first_child.new.self.places.items i ≡ place_at c.args.self.now.places.items i =
+    λ i. ap (λ ps. place_at ps.items i) c.in_ok-child.ensures.places ∙ c.in_ok-node.ensures.places i in
+    on_err _ _ same
 
 pub index_mut-requires : goal.index_mut-requires
 index_mut-requires c =

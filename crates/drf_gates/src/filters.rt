@@ -164,4 +164,15 @@ impl FilterTable {
         }
         Ok(Table::from_vec(rows))
     }
+
+    /// A table of its own with the same filters.
+    pub fn copy(&self) -> Result<FilterTable, AllocError>
+        ensures { IfOk result (λ table. table ≡ self.now) }
+    {
+        let mut copy = FilterTable::new(*self.rows.allocator());
+        for row in &self.rows {
+            copy.add(row.copy()?)?;
+        }
+        Ok(copy)
+    }
 }

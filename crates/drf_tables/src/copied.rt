@@ -98,3 +98,26 @@ fn copy_weights(weights: &IndexMap<Role, u64>) -> Result<IndexMap<Role, u64>, Al
     }
     Ok(copy)
 }
+
+impl Tables {
+    /// Tables of their own with the same rows.
+    pub fn copy(&self) -> Result<Tables, AllocError>
+        ensures { IfOk result (λ copy. copy.rows ≡ self.now.rows) }
+    {
+        Ok(Tables {
+            agents: copy_agents(&self.agents)?,
+            frameworks: copy_frameworks(&self.frameworks)?,
+            holdings: self.holdings.copy()?,
+            filters: self.filters.copy()?,
+            weights: copy_weights(&self.weights)?,
+            clock: self.clock,
+            next_offer: self.next_offer,
+            accepted: self.accepted,
+            total: self.total.copy()?,
+            clients: self.clients,
+            quota: self.quota.copy()?,
+            is_counted: self.is_counted,
+            sweep_at: self.sweep_at,
+        })
+    }
+}

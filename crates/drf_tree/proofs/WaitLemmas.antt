@@ -1,9 +1,9 @@
 -- The numbers that wait to be looked at, and the marks of their nodes.
-use Rattle.std.specs.Prelude.{◌≡◌, ◌≢◌, ◌≤◌, ◌<◌, ◌+◌, ◌==◌, ℕ, zero, suc, Bool, true, false, List, [], ◌∷◌, ◌++◌, ◌||◌, length, slice_index_or, slice_set}
-use Rattle.std.specs.List.{AllByRecursion, list_any}
-use Rattle.std.proofs.Common.{refl, sym, ap, ◌∙◌, inl, inr, arith, eqb, eq-eqb, length-append}
+use Rattle.std.specs.Prelude.{◌≡◌, ◌≤◌, ◌<◌, ◌+◌, ◌==◌, ℕ, zero, suc, Bool, true, false, List, [], ◌∷◌, ◌++◌, ◌||◌, length, slice_index_or, slice_set}
+use Rattle.std.specs.List.{list_any}
+use Rattle.std.proofs.Common.{refl, sym, ap, ◌∙◌, inl, inr, arith, eq-eqb, length-append}
 use Rattle.std.proofs.lemmas.Bool.{cases_Bool, cases_eq, false≢true, ne_eqb}
-use Rattle.std.proofs.lemmas.List.{get_or-set_other, get_or-set_same, get_or_past, length-set}
+use Rattle.std.proofs.lemmas.List.{get_or-set_other, get_or-set_same, length-set}
 use Rattle.std.proofs.lemmas.List.Folds.{list_any-append}
 use Rattle.std.proofs.lemmas.List.Sums.{sum_by-append, sum_by-set}
 use Rattle.drf_rows.specs.ListLaws.{each_append, each_from, each_parts}

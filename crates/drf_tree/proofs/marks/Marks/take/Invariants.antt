@@ -1,4 +1,4 @@
-use Rattle.std.specs.Prelude.{◌≡◌, ◌≤◌, length}
+use Rattle.std.specs.Prelude.{◌≡◌, length}
 use Rattle.std.specs.Vec.{vec_capacity}
 use Rattle.drf_tree.specs.Marks.{AreWaiting}
 use Rattle.drf_tree.proofs.marks.Marks.take.Given as goal

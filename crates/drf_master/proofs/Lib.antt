@@ -1,3 +1,5 @@
 pub mod Tallying
 pub mod Shuffles
 pub mod Sames
+pub mod Runs
+pub mod Followers

@@ -1,3 +1,4 @@
 pub mod Receipts
 pub mod Matching
 pub mod Tallies
+pub mod Journal

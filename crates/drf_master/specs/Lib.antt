@@ -2,3 +2,5 @@ pub mod Receipts
 pub mod Matching
 pub mod Tallies
 pub mod Journal
+pub mod Closing
+pub mod Scripts

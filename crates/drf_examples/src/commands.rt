@@ -1,11 +1,12 @@
 //! Commands on words: each line of `commands` has the stream that fails, if one does, the status, the words, the input,
-//! and the first lines that are written and that are told, with `|` between them. The input is a file, or the journal of an
-//! example, which may have a line spoilt.
+//! and the first lines that are written and that are told, or `@` and a file with the whole text, with `|` between them. The
+//! input is a file, or the journal of an example, which may have a line spoilt.
 use crate::streams::{Bounds, Full, NO_BOUNDS, Slow};
 use drf_app::command;
 use drf_journal::Device;
 use std::alloc::{AllocError, Global};
 use std::rt::{Files, Runtime};
+use std::thread::Threads;
 use std::{fs, io};
 
 /// What is wanted of a command.
@@ -119,34 +120,59 @@ fn bounds_of(failing: &str) -> Bounds {
     }
 }
 
-fn begins_with_line(text: &[u8], line: &str) -> bool {
-    let first = text.split(|byte| *byte == b'\n').next().unwrap_or(&[]);
-    first == line.as_bytes()
+/// Whether a text is that of the file behind `@`, or else begins with that line.
+fn is_text<R: Files + AllocGlobal>(rt: &R, text: &[u8], wanted: &str) -> io::Result<bool> {
+    let Some(file) = wanted.strip_prefix('@') else {
+        let first = text.split(|byte| *byte == b'\n').next().unwrap_or(&[]);
+        return Ok(first == wanted.as_bytes());
+    };
+    let whole = fs::read(rt, file)?;
+    Ok(text == whole.as_slice())
 }
 
-fn is_done(alloc: Global, wanted: Wanted, words: &[&str], input: &[u8]) -> bool {
-    let bounds = bounds_of(wanted.failing);
+/// What a command did.
+#[derive(Drop)]
+struct Done {
+    status: u8,
+    written: Vec<u8>,
+    told: Vec<u8>,
+}
+
+fn done_by<R: Threads + Sync + AllocGlobal>(
+    rt: &R,
+    words: &[&str],
+    input: &[u8],
+    bounds: Bounds,
+) -> Done {
+    let alloc = rt.alloc();
     let mut reader = Device::new(Slow::new(input, bounds));
     let mut writer = Device::new(Full::new(alloc, bounds));
     let mut errors = Device::new(Full::new(alloc, NO_BOUNDS));
-    let status = command(alloc, words, &mut reader, &mut writer, &mut errors);
-    let written = writer.into_inner().into_taken();
-    let told = errors.into_inner().into_taken();
-    status == wanted.status
-        && begins_with_line(&written, wanted.written)
-        && begins_with_line(&told, wanted.told)
+    let status = command(rt, alloc, words, &mut reader, &mut writer, &mut errors);
+    Done {
+        status,
+        written: writer.into_inner().into_taken(),
+        told: errors.into_inner().into_taken(),
+    }
 }
 
-fn is_exact<R: Files + AllocGlobal>(rt: &R, row: &str) -> io::Result<bool> {
+fn is_done<R: Files + AllocGlobal>(rt: &R, done: &Done, wanted: Wanted) -> io::Result<bool> {
+    let is_written = is_text(rt, &done.written, wanted.written)?;
+    let is_told = is_text(rt, &done.told, wanted.told)?;
+    Ok(done.status == wanted.status && is_written && is_told)
+}
+
+fn is_exact<R: Files + Threads + Sync + AllocGlobal>(rt: &R, row: &str) -> io::Result<bool> {
     let Some(wanted) = wanted_of(row) else {
         return Ok(false);
     };
     let words = words_of(rt.alloc(), wanted.words)?;
     let input = input_of(rt, wanted.input)?;
-    Ok(is_done(rt.alloc(), wanted, &words, &input))
+    let done = done_by(rt, &words, &input, bounds_of(wanted.failing));
+    is_done(rt, &done, wanted)
 }
 
-pub fn run_all<R: Runtime + AllocGlobal>(rt: &R) -> io::Result<()> {
+pub fn run_all<R: Runtime + Threads + Sync + AllocGlobal>(rt: &R) -> io::Result<()> {
     let list = fs::read_to_string(rt, "commands")?;
     let (mut commands, mut others) = (0u64, 0u64);
     for row in list.as_str().lines() {

@@ -45,7 +45,9 @@ fn audit_line<'a>(alloc: Global) -> Command<'a>
     ensures { app_of result ≡ audit_line }
 {
     Command::new(alloc, "audit")
-        .about("Tells what each machine has, what is free and how much is out, after the event lines of standard input")
+        .about(
+            "Tells what each machine has, what is free and how much is out, after the event lines of standard input",
+        )
         .after_help("Example: drf audit < examples/day.jsonl")
 }
 

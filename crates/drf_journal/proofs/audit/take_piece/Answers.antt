@@ -18,10 +18,10 @@ loop-rest-preserved g c =
     let tail : take (length rest - count) (drop count rest) ≡ drop count rest =
     take_all _ _ (simp length-drop (omega arith)) in
     let more : next.lines ≤ c.loop-rest.session.lines + count =
-      let same = ap (λ (s : State). s.lines) is in
-      let few = few_lines c.loop-rest.session (take count rest) in
-      let front : length (take count rest) ≡ count = length-take-le count rest c.in_ok-count.ensures.part.0 in
-      omega arith in
+    let same = ap (λ (s : State). s.lines) is in
+    let few = few_lines c.loop-rest.session (take count rest) in
+    let front : length (take count rest) ≡ count = length-take-le count rest c.in_ok-count.ensures.part.0 in
+    omega arith in
     rw tail (record {
       front = sent-more _ _ _ _ None None None c.loop-rest.invariant.front next count is tt;
       few = let few = c.loop-rest.invariant.few in let part = c.in_ok-count.ensures.part.0 in simp length-drop (omega arith);

@@ -16,7 +16,14 @@ fn main(rt: HostRuntime) -> ExitCode {
     let mut output = Device::new(rt.stdout());
     let mut errors = Device::new(rt.stderr());
     let status = match words(&rt) {
-        Ok(words) => command(rt.alloc(), &words, &mut input, &mut output, &mut errors),
+        Ok(words) => command(
+            &rt,
+            rt.alloc(),
+            &words,
+            &mut input,
+            &mut output,
+            &mut errors,
+        ),
         Err(error) => no_words(&error, &mut errors),
     };
     ExitCode::from(status)

@@ -61,13 +61,15 @@ module _ {Z : Type 0} where
       let same_name : (out-SubCommand (box_value b)).name.now ≡ name = cc in
       (rows_of (found_of (out-SubCommand (box_value b)).matches), (λ i. Some (same_name i, rows_of (found_of (out-SubCommand (box_value b)).matches))))
 
-  -- the command that was entered is `run`, if it is not `check`
+  -- the command that was entered is `run`, if it is no other
   pub is_run : (o : Option (Box SubCommand Z)) (words : List Text) → is_some o ≡ true
-      → subcommand_rows o ≡ subcommand_of drf_line words → (name_in o ≡ Some (codes "check") → ⊥) → name_in o ≡ Some (codes "run")
-  is_run None words some e not_check = cc
-  is_run (Some b) words some e not_check =
+      → subcommand_rows o ≡ subcommand_of drf_line words → (name_in o ≡ Some (codes "check") → ⊥) → (name_in o ≡ Some (codes "audit") → ⊥)
+      → name_in o ≡ Some (codes "run")
+  is_run None words some e not_check not_audit = cc
+  is_run (Some b) words some e not_check not_audit =
       let among = entered_among (built drf_line).subs _ (stop_after (built drf_line).top.rules (names_of (built drf_line)) (argument_words drf_line words)) (sym e) in
-      ap Some (⊎_elim (λ named. named) (λ later. absurd (⊎_elim (λ named. not_check (ap Some named)) (λ none. absurd none) later)) among)
+      let other = ⊎_elim (λ named. not_check (ap Some named)) (⊎_elim (λ named. not_audit (ap Some named)) (λ none. none)) in
+      ap Some (⊎_elim (λ named. named) (λ later. absurd (other later)) among)
 
 no_globals : (a b c rest : Bool) → a && (not b && (not c && rest)) ≡ true → c ≡ false
 no_globals a b false rest plain = refl

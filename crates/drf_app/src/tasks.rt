@@ -7,13 +7,15 @@ use crate::check::{check, verdict_status};
 use crate::line::{Task, task_of};
 use crate::refusal::refuse;
 use crate::told::finish;
-use drf_journal::{Device, run};
+use drf_journal::{Device, run, run_audit};
 use drf_rows::Limits;
 use std::alloc::Global;
 use std::convert::AsStr;
 use std::io::{Read, Write};
+use std::thread::Threads;
 
 fn perform<R: Read, W: Write, E: Write>(
+    rt: &(impl Threads + Sync),
     alloc: Global,
     task: Task,
     input: &mut Device<R>,
@@ -38,6 +40,10 @@ fn perform<R: Read, W: Write, E: Write>(
             Ok(verdict) => verdict_status(verdict),
             Err(fault) => finish::<(), E>(Err(fault), errors),
         },
+        Task::Audit => {
+            let ended = run_audit(rt, alloc, Limits::full(), input, output);
+            finish(ended, errors)
+        }
     }
 }
 
@@ -45,6 +51,7 @@ fn perform<R: Read, W: Write, E: Write>(
 /// `errors`, a line each, and gives the program's status. That is 0, 1 where a stream failed or memory ran out, 2 where
 /// the words ask for nothing that there is, or 3 where a journal is wrong.
 pub fn command<S: AsStr, R: Read, W: Write, E: Write>(
+    rt: &(impl Threads + Sync),
     alloc: Global,
     words: &[S],
     input: &mut Device<R>,
@@ -61,7 +68,7 @@ pub fn command<S: AsStr, R: Read, W: Write, E: Write>(
     ensures reads { input.new.calls ≤ 2 ^ 40 }
 {
     match task_of(alloc, words) {
-        Ok(task) => perform(alloc, task, input, output, errors),
+        Ok(task) => perform(rt, alloc, task, input, output, errors),
         Err(error) => refuse(alloc, &error, output, errors),
     }
 }

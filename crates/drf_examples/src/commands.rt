@@ -1,11 +1,13 @@
 //! Commands on words: each line of `commands` has the stream that fails, if one does, the status, the words, the input,
-//! and the first lines that are written and that are told, with `|` between them. The input is a file, or the journal of an
-//! example, which may have a line spoilt.
+//! and the first lines that are written and that are told, or `@` and a file with the whole text, with `|` between them. The
+//! input is a file, or the journal of an example, which may have a line spoilt. `*` and a number stand for so many agents that
+//! are offered whole, in place of the input's file, and for the text that an audit of them writes.
 use crate::streams::{Bounds, Full, NO_BOUNDS, Slow};
 use drf_app::command;
 use drf_journal::Device;
 use std::alloc::{AllocError, Global};
 use std::rt::{Files, Runtime};
+use std::thread::Threads;
 use std::{fs, io};
 
 /// What is wanted of a command.
@@ -35,9 +37,48 @@ fn wanted_of(row: &str) -> Option<Wanted<'_>> {
     })
 }
 
-fn push_line(journal: &mut Vec<u8>, line: &str) -> Result<(), AllocError> {
-    journal.extend_from_slice(line.as_bytes())?;
-    Ok(journal.push(b'\n')?)
+fn push_line(text: &mut Vec<u8>, line: &str) -> Result<(), AllocError> {
+    text.extend_from_slice(line.as_bytes())?;
+    Ok(text.push(b'\n')?)
+}
+
+/// A line for each number up to that one, in which it stands between those parts.
+fn push_numbered(
+    alloc: Global,
+    text: &mut Vec<u8>,
+    count: &str,
+    front: &str,
+    back: &str,
+) -> Result<(), AllocError> {
+    for number in 1..=count.parse::<u64>().unwrap_or(0) {
+        let line = format!(in alloc; "{front}{number}{back}")?;
+        push_line(text, line.as_str())?;
+    }
+    Ok(())
+}
+
+/// So many agents, and a cycle that offers each of them whole.
+fn agents_of(alloc: Global, count: &str) -> Result<Vec<u8>, AllocError> {
+    let (front, back) = (
+        r#"{"event":"add_agent","agent":"n"#,
+        r#"","total":"cpus:1"}"#,
+    );
+    let mut lines = Vec::new(alloc);
+    push_numbered(alloc, &mut lines, count, front, back)?;
+    push_line(
+        &mut lines,
+        r#"{"event":"add_framework","framework":"f1","roles":["a"]}"#,
+    )?;
+    push_line(&mut lines, r#"{"event":"cycle","at":0}"#)?;
+    Ok(lines)
+}
+
+/// The text that an audit of them writes.
+fn audit_of(alloc: Global, count: &str) -> Result<Vec<u8>, AllocError> {
+    let (front, back) = (r#"{"agent":"n"#, r#"","free":"","out":1,"total":"cpus:1"}"#);
+    let mut lines = Vec::new(alloc);
+    push_numbered(alloc, &mut lines, count, front, back)?;
+    Ok(lines)
 }
 
 /// Adds a line, spoilt in that way: it is dropped, stands twice, or has another byte in its middle.
@@ -85,6 +126,9 @@ fn text_of<R: Files + AllocGlobal>(rt: &R, name: &str, ending: &str) -> io::Resu
 }
 
 fn input_of<R: Files + AllocGlobal>(rt: &R, input: &str) -> io::Result<Vec<u8>> {
+    if let Some(count) = input.strip_prefix('*') {
+        return Ok(agents_of(rt.alloc(), count)?);
+    }
     let Some((name, spoiling)) = input.split_once(' ') else {
         return fs::read(rt, input);
     };
@@ -119,34 +163,63 @@ fn bounds_of(failing: &str) -> Bounds {
     }
 }
 
-fn begins_with_line(text: &[u8], line: &str) -> bool {
-    let first = text.split(|byte| *byte == b'\n').next().unwrap_or(&[]);
-    first == line.as_bytes()
+/// Whether a text is that of the file behind `@` or of the agents behind `*`, or else begins with that line.
+fn is_text<R: Files + AllocGlobal>(rt: &R, text: &[u8], wanted: &str) -> io::Result<bool> {
+    if let Some(count) = wanted.strip_prefix('*') {
+        let whole = audit_of(rt.alloc(), count)?;
+        return Ok(text == whole.as_slice());
+    }
+    let Some(file) = wanted.strip_prefix('@') else {
+        let first = text.split(|byte| *byte == b'\n').next().unwrap_or(&[]);
+        return Ok(first == wanted.as_bytes());
+    };
+    let whole = fs::read(rt, file)?;
+    Ok(text == whole.as_slice())
 }
 
-fn is_done(alloc: Global, wanted: Wanted, words: &[&str], input: &[u8]) -> bool {
-    let bounds = bounds_of(wanted.failing);
+/// What a command did.
+#[derive(Drop)]
+struct Done {
+    status: u8,
+    written: Vec<u8>,
+    told: Vec<u8>,
+}
+
+fn done_by<R: Threads + Sync + AllocGlobal>(
+    rt: &R,
+    words: &[&str],
+    input: &[u8],
+    bounds: Bounds,
+) -> Done {
+    let alloc = rt.alloc();
     let mut reader = Device::new(Slow::new(input, bounds));
     let mut writer = Device::new(Full::new(alloc, bounds));
     let mut errors = Device::new(Full::new(alloc, NO_BOUNDS));
-    let status = command(alloc, words, &mut reader, &mut writer, &mut errors);
-    let written = writer.into_inner().into_taken();
-    let told = errors.into_inner().into_taken();
-    status == wanted.status
-        && begins_with_line(&written, wanted.written)
-        && begins_with_line(&told, wanted.told)
+    let status = command(rt, alloc, words, &mut reader, &mut writer, &mut errors);
+    Done {
+        status,
+        written: writer.into_inner().into_taken(),
+        told: errors.into_inner().into_taken(),
+    }
 }
 
-fn is_exact<R: Files + AllocGlobal>(rt: &R, row: &str) -> io::Result<bool> {
+fn is_done<R: Files + AllocGlobal>(rt: &R, done: &Done, wanted: Wanted) -> io::Result<bool> {
+    let is_written = is_text(rt, &done.written, wanted.written)?;
+    let is_told = is_text(rt, &done.told, wanted.told)?;
+    Ok(done.status == wanted.status && is_written && is_told)
+}
+
+fn is_exact<R: Files + Threads + Sync + AllocGlobal>(rt: &R, row: &str) -> io::Result<bool> {
     let Some(wanted) = wanted_of(row) else {
         return Ok(false);
     };
     let words = words_of(rt.alloc(), wanted.words)?;
     let input = input_of(rt, wanted.input)?;
-    Ok(is_done(rt.alloc(), wanted, &words, &input))
+    let done = done_by(rt, &words, &input, bounds_of(wanted.failing));
+    is_done(rt, &done, wanted)
 }
 
-pub fn run_all<R: Runtime + AllocGlobal>(rt: &R) -> io::Result<()> {
+pub fn run_all<R: Runtime + Threads + Sync + AllocGlobal>(rt: &R) -> io::Result<()> {
     let list = fs::read_to_string(rt, "commands")?;
     let (mut commands, mut others) = (0u64, 0u64);
     for row in list.as_str().lines() {

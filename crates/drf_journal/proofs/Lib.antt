@@ -10,3 +10,4 @@ pub mod Served
 pub mod Pairs
 pub mod Checks
 pub mod Verdicts
+pub mod Audits

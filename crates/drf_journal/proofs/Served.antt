@@ -273,7 +273,7 @@ module _ (old : State) (begins : IsBegun old) where
     -- ---- at the end of the input
 
     module _ (consumed : Consumes unread unread_next []) where
-      consumed_all : Consumes unread_first unread_next serving.read
+      pub consumed_all : Consumes unread_first unread_next serving.read
       consumed_all = subst (Consumes unread_first unread_next) (append-nil serving.read)
           (Consumes-trans _ _ _ _ _ serving.consumed consumed)
 
@@ -285,7 +285,7 @@ module _ (old : State) (begins : IsBegun old) where
       number_at_end = end-counted session serving.told ∙ ap (λ (s : State). (at_end s).lines) serving.state
           ∙ number_whole serving.read
 
-      machine_at_end : (at_end session).machine ≡ machine_after_lines old.machine (lines_of serving.read)
+      pub machine_at_end : (at_end session).machine ≡ machine_after_lines old.machine (lines_of serving.read)
       machine_at_end = end-machine session serving.told ∙ ap (λ (s : State). (at_end s).machine) serving.state
           ∙ machine_whole serving.read
 

@@ -6,3 +6,4 @@ pub mod Ended
 pub mod Journal
 pub mod Checking
 pub mod JournalLaws
+pub mod Audited

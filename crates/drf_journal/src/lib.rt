@@ -1,7 +1,8 @@
-//! A run of the allocator over a stream of lines, and the check of what it wrote.
+//! A run of the allocator over a stream of lines, the check of what it wrote, and an audit of where it stands.
 #![tactic(auto)]
 
 mod answer;
+mod audit;
 mod checker;
 mod device;
 mod due;
@@ -12,6 +13,7 @@ mod laws;
 mod open_line;
 mod session;
 
+pub use audit::run_audit;
 pub use device::{Device, write_whole};
 pub use engine::{run, serve};
 pub use fault::RunFault;

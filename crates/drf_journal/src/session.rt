@@ -1,6 +1,7 @@
 //! What a run keeps between reads.
-ghost use Rattle.std.specs.Prelude.{◌≡◌, ◌⊎◌, ℕ, ◌+◌, ◌^◌, ◌<◌, ◌≤◌, [], ◌∷◌, ◌++◌, true, false, is_err, length, take, IfOk, OnOk, OnErr, IfErr};
+ghost use Rattle.std.specs.Prelude.{◌≡◌, ◌⊎◌, ℕ, ◌+◌, ◌^◌, ◌<◌, ◌≤◌, [], ◌∷◌, ◌++◌, true, false, is_err, length, map, take, IfOk, OnOk, OnErr, IfErr};
 ghost use Rattle.std.specs.Io.KnownBytes.{Appends};
+ghost use Rattle.drf_audit.specs.Audit.{line_of};
 ghost use Rattle.drf_journal.specs.Device.{AppendsFrontOf};
 ghost use Rattle.drf_journal.specs.State.{begun, after_piece, at_end, IsWithinLine, HasTakenAtMost, WaitsBelow, AnswersFrontOf};
 
@@ -8,12 +9,14 @@ use crate::answer::answer_end;
 use crate::device::{Device, write_whole};
 use crate::fault::RunFault;
 use crate::open_line::{OpenLine, line_feed_in};
+use drf_audit::{AuditLine, audit};
 use drf_core::Core;
 use drf_rows::Limits;
 use drf_sorter::Sorter;
 use std::alloc::{AllocError, Global};
 use std::io::Write;
 use std::marker::Model;
+use std::thread::Threads;
 
 /// One more line is answered only while less text than this waits to be written.
 const MOST_UNSENT: usize = 65_536;
@@ -119,6 +122,25 @@ impl<S: Sorter> Session<S> {
             return Ok(());
         }
         self.end_line(alloc, &[])
+    }
+
+    /// Forgets the text that is not written yet.
+    pub(crate) fn forget(&mut self)
+        ensures { self.new ≡ record self.old { unsent = [] } }
+    {
+        self.unsent.clear();
+    }
+
+    /// A line for each agent, in order of registration.
+    pub(crate) fn audit(
+        &self,
+        rt: &(impl Threads + Sync),
+        alloc: Global,
+    ) -> Result<Vec<AuditLine>, AllocError>
+        ensures { IfOk result (λ lines. lines.items ≡ map (line_of self.now.machine.rows) self.now.machine.rows.agents) }
+    {
+        let rows = self.core.rows()?;
+        audit(rt, alloc, &rows)
     }
 
     /// Writes the text that is not written yet, all in one. Where that fails, its front was written.

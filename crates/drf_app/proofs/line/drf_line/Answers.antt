@@ -15,7 +15,9 @@ returns c =
     ap app_of_fields c.disable_help_subcommand.ensures ∙ ap (on_top (λ s. record s { disable_help_subcommand = true })) required in
     let with_run = c.in_ok-subcommand.ensures.shape (local c.in_ok-run.run' (ap (λ (a : App). a.top.is_plain) c.in_ok-run.ensures))
     ∙ ap₂ with_subcommand top (ap (λ (a : App). a.top) c.in_ok-run.ensures) in
-    IfOk-weaker c.subcommand-2.result _ _
-    (λ line added. added.shape (local c.check_line-check.result (ap (λ (a : App). a.top.is_plain) c.check_line-check.ensures))
-    ∙ ap₂ with_subcommand with_run (ap (λ (a : App). a.top) c.check_line-check.ensures))
-    c.subcommand-2.ensures
+    let with_check = c.in_ok-subcommand-2.ensures.shape (local c.check_line-check.result (ap (λ (a : App). a.top.is_plain) c.check_line-check.ensures))
+    ∙ ap₂ with_subcommand with_run (ap (λ (a : App). a.top) c.check_line-check.ensures) in
+    IfOk-weaker c.subcommand-3.result _ _
+    (λ line added. added.shape (local c.audit_line-audit.result (ap (λ (a : App). a.top.is_plain) c.audit_line-audit.ensures))
+    ∙ ap₂ with_subcommand with_check (ap (λ (a : App). a.top) c.audit_line-audit.ensures))
+    c.subcommand-3.ensures

@@ -31,7 +31,10 @@ unreachable-requires g c =
     let not_check : subcommand_name_of c.in_ok-matches.matches ≡ Some (codes "check") → ⊥ =
     λ named. let some : is_some c.subcommand_matches.result ≡ true = c.subcommand_matches.ensures.found.1 named in
     let bad : true ≡ false = cc in absurd (true≢false bad) in
-    let named = is_run (out-ArgMatches c.in_ok-matches.matches).subcommand words has rows not_check in
+    let not_audit : subcommand_name_of c.in_ok-matches.matches ≡ Some (codes "audit") → ⊥ =
+    λ named. let some : is_some c.subcommand_matches-2.result ≡ true = c.subcommand_matches-2.ensures.found.1 named in
+    let bad : true ≡ false = cc in absurd (true≢false bad) in
+    let named = is_run (out-ArgMatches c.in_ok-matches.matches).subcommand words has rows not_check not_audit in
     let bad : false ≡ true = c.in_default.ensures.found.1 named in
     absurd (false≢true bad)
 
@@ -66,6 +69,20 @@ returns-then-is_some g c =
     let entered : is_some c.subcommand_matches.result ≡ true = cc in
     let named : subcommand_name_of c.in_ok-matches.matches ≡ Some (codes "check") = c.subcommand_matches.ensures.found.0 entered in
     let some = entered_some (out-ArgMatches c.in_ok-matches.matches).subcommand (codes "check") named in
+    record {
+      right = ap (λ (a : App). fault_of a words) (sym form) ∙ right;
+      named = (some.0, sym rows ∙ some.1);
+    }
+
+pub returns-then-is_some-2 : goal.returns-then-is_some-2
+returns-then-is_some-2 g c =
+    let words = map g.S.AsStr.text c.args.words.now in
+    let form = c.in_ok-line.ensures in
+    let rows = (c.in_ok-matches.ensures.ok.2 (ap is_simple form)).1 ∙ ap (λ (a : App). subcommand_of a words) form in
+    let right = c.in_ok-matches.ensures.kinds (ap is_simple_and_free form) in
+    let entered : is_some c.subcommand_matches-2.result ≡ true = cc in
+    let named : subcommand_name_of c.in_ok-matches.matches ≡ Some (codes "audit") = c.subcommand_matches-2.ensures.found.0 entered in
+    let some = entered_some (out-ArgMatches c.in_ok-matches.matches).subcommand (codes "audit") named in
     record {
       right = ap (λ (a : App). fault_of a words) (sym form) ∙ right;
       named = (some.0, sym rows ∙ some.1);

@@ -1,0 +1,241 @@
+-- An audit: the lines that were taken, and the text that was written.
+use Rattle.std.proofs.Common.{◌≡◌, ℕ, ◌+◌, ◌<◌, ◌≤◌, Bool, true, false, List, [], ◌∷◌, ◌++◌, length, get_or, map, take, drop, Option, None, Result, Ok, Err, IfErr, is_err, OnErr, OnOk, ⊎_elim, inl, inr, refl, sym, ap, ◌∙◌, subst, append_assoc, append-nil, take-append-drop, arith}
+use Rattle.std.specs.List.{flat_map}
+use Rattle.std.specs.Io.KnownBytes.{Appends, Consumes, Keeps, IsAtEnd}
+use Rattle.std.proofs.KnownBytes.{Appends-nil, Appends-trans, Consumes-nil, Consumes-trans, Consumes-kept}
+use Rattle.std.proofs.lemmas.Bool.{false≢true}
+use Rattle.std.proofs.lemmas.List.{at_drop_more, drop_all}
+use Rattle.drf_audit.specs.Audit.{line_of}
+use Rattle.drf_audit.specs.AuditText.{audit_text}
+use Rattle.drf_audit.specs.declared.agents.AuditLine.{AuditLine}
+use Rattle.drf_core.specs.Machine.{Machine, opened, after}
+use Rattle.drf_lines.specs.Meaning.{meaning_of}
+use Rattle.drf_lines.specs.declared.fault.LineFault.{LineFault}
+use Rattle.drf_rows.specs.Cycle.{free_of}
+use Rattle.drf_rows.specs.LimitNumbers.{LimitNumbers}
+use Rattle.drf_rows.specs.LiveLaws.{rows_after-same_live, live_rows-twice}
+use Rattle.drf_rows.specs.Step.{opening, live_rows, rows_after}
+use Rattle.drf_rows.specs.declared.event.Event.{Event}
+use Rattle.drf_rows.specs.declared.rows.AgentRow.{AgentRow}
+use Rattle.drf_rows.specs.declared.rows.Rows.{Rows}
+use Rattle.drf_journal.specs.declared.fault.RunFault.{RunFault}
+use Rattle.drf_journal.specs.declared.fault.RunFault.TheVariants.{Read, Write, Memory}
+use Rattle.drf_journal.specs.Audited.{rows_after_lines, agents_text, audit_of, IsAudited, HasAudited, HasTakenLines}
+use Rattle.drf_journal.specs.Device.{AppendsFrontOf}
+use Rattle.drf_journal.specs.Ended.{HasCause, HasFlushed}
+use Rattle.drf_journal.specs.Lines.{lines_of}
+use Rattle.drf_journal.specs.Output.{rows_after_line}
+use Rattle.drf_journal.specs.State.{State, begun, IsBegun, machine_after, machine_after_lines, at_end}
+use Rattle.drf_journal.proofs.Devices.{WroteFront, wrote-front}
+use Rattle.drf_journal.proofs.Served.{IsServing, consumed_all, machine_at_end}
+
+-- ---- the rows after lines
+
+-- an allocator stands at the live rows of these, and so after lines
+rows_from : (machine : Machine) (rows : Rows) (lines : List (List ℕ)) → machine.rows ≡ live_rows rows
+    → (machine_after_lines machine lines).rows ≡ live_rows (rows_after_lines machine.limits rows lines)
+unfolding after
+rows_from machine rows [] same = same
+rows_from machine rows (line ∷ lines) same = by_meaning (meaning_of line) (λ machine rows same. rows_from machine rows lines same)
+  where
+    by_meaning : (meaning : Result Event LineFault)
+        → ((machine : Machine) (rows : Rows) → machine.rows ≡ live_rows rows
+        → (machine_after_lines machine lines).rows ≡ live_rows (rows_after_lines machine.limits rows lines))
+        → (machine_after_lines (machine_after machine meaning) lines).rows
+        ≡ live_rows (rows_after_lines machine.limits (rows_after_line machine.limits rows meaning) lines)
+    by_meaning (Ok event) rest =
+        rest (after machine event) (rows_after machine.limits rows event)
+        (rows_after-same_live machine.limits machine.rows rows (ap live_rows same ∙ live_rows-twice rows) event)
+    by_meaning (Err fault) rest = rest machine rows same
+
+-- agents are told by live rows as by all
+agents-live : (rows : Rows) → agents_text (live_rows rows) ≡ agents_text rows
+unfolding free_of
+agents-live rows = refl
+
+flat_map-map : {X Y : Type 0} (f : Y → List ℕ) (g : X → Y) (xs : List X) → flat_map f (map g xs) ≡ flat_map (λ x. f (g x)) xs
+flat_map-map f g [] = refl
+flat_map-map f g (x ∷ xs) = ap (λ l. f (g x) ++ l) (flat_map-map f g xs)
+
+-- the lines of the agents come to the text that is due
+pub text_due : (limits : LimitNumbers) (read : List ℕ) (machine : Machine) (lines : List AuditLine)
+    → machine ≡ machine_after_lines (opened limits) (lines_of read)
+    → lines ≡ map (line_of machine.rows) machine.rows.agents → flat_map audit_text lines ≡ audit_of limits (lines_of read)
+unfolding audit_of
+text_due limits read machine lines is told =
+    let rows = rows_after_lines limits opening (lines_of read) in
+    let live : machine.rows ≡ live_rows rows = ap (λ (m : Machine). m.rows) is ∙ rows_from (opened limits) opening (lines_of read) refl in
+    ap (flat_map audit_text) told ∙ flat_map-map audit_text (line_of machine.rows) machine.rows.agents
+    ∙ ap agents_text live ∙ agents-live rows
+
+-- ---- lines that are taken
+
+pub lines-untaken : (machine new : Machine) (unread : Option (List ℕ)) (fault : RunFault) → HasTakenLines machine unread unread new (Err fault)
+lines-untaken machine new unread fault = record { read = []; consumed = Consumes-nil unread; machine = tt; whole = tt }
+
+module _ (old : State) (begins : IsBegun old) (unread_first unread unread_next : Option (List ℕ)) (session : State)
+    (serving : IsServing old unread_first unread None None session) where
+  pub lines-unread : (new : Machine) (fault : RunFault) → Keeps unread unread_next
+      → HasTakenLines old.machine unread_first unread_next new (Err fault)
+  lines-unread new fault kept =
+      record { read = serving.read; consumed = Consumes-kept _ _ _ _ serving.consumed kept; machine = tt; whole = tt }
+
+  pub lines-stopped : (new : Machine) (fault : RunFault) (piece : List ℕ) → Consumes unread unread_next piece
+      → HasTakenLines old.machine unread_first unread_next new (Err fault)
+  lines-stopped new fault piece consumed =
+      record { read = serving.read ++ piece; consumed = Consumes-trans _ _ _ _ _ serving.consumed consumed; machine = tt; whole = tt }
+
+  pub lines-ended : (next : State) → Consumes unread unread_next [] → IsAtEnd unread_next → next ≡ at_end session
+      → HasTakenLines old.machine unread_first unread_next next.machine (Ok tt)
+  lines-ended next consumed end is = record {
+    read = serving.read;
+    consumed = consumed_all old begins _ _ _ None None None session serving consumed;
+    machine = ap (λ (s : State). s.machine) is ∙ machine_at_end old begins _ _ _ None None None session serving consumed;
+    whole = end;
+  }
+
+-- the allocator that took them is known by another name
+pub taken_as : (old other : Machine) (unread_before unread_after : Option (List ℕ)) (new : Machine) → old ≡ other
+    → HasTakenLines old unread_before unread_after new (Ok tt) → HasTakenLines other unread_before unread_after new (Ok tt)
+taken_as old other unread_before unread_after new same taken =
+    subst (λ (m : Machine). HasTakenLines m unread_before unread_after new (Ok tt)) same taken
+
+-- ---- text that is written part by part
+
+pub wrote-begins : (written : Option (List ℕ)) (text : List ℕ) → WroteFront written written text text
+wrote-begins written text = record { front = []; whole = refl; appended = Appends-nil written }
+
+wrote-part : (old now next : Option (List ℕ)) (text rest part more : List ℕ) → WroteFront old now text rest → rest ≡ part ++ more
+    → Appends now next part → WroteFront old next text more
+wrote-part old now next text rest part more wrote parted appended = record {
+  front = wrote.front ++ part;
+  whole = wrote.whole ∙ ap (λ l. wrote.front ++ l) parted ∙ sym (append_assoc wrote.front part more);
+  appended = Appends-trans old now next wrote.front part wrote.appended appended;
+}
+
+module _ {X : Type 0} (f : X → List ℕ) (xs : List X) (i : ℕ) (x : X) (inside : i < length xs) (is : x ≡ get_or xs i x)
+    (old now next : Option (List ℕ)) (text : List ℕ) (wrote : WroteFront old now text (flat_map f (drop i xs))) where
+  first : flat_map f (drop i xs) ≡ f x ++ flat_map f (drop (i + 1) xs)
+  first = at_drop_more (flat_map f) xs i x inside ∙ ap (λ y. flat_map f (y ∷ drop (i + 1) xs)) (sym is)
+
+  -- the text of one element more
+  pub wrote-element : Appends now next (f x) → WroteFront old next text (flat_map f (drop (i + 1) xs))
+  wrote-element appended = wrote-part old now next text _ (f x) _ wrote first appended
+
+  -- or a front of it
+  pub wrote-element-front : AppendsFrontOf now next (f x) → AppendsFrontOf old next text
+  wrote-element-front appended =
+      let count = appended.0 in
+      let parted : flat_map f (drop i xs) ≡ take count (f x) ++ (drop count (f x) ++ flat_map f (drop (i + 1) xs)) =
+      first ∙ ap (λ l. l ++ flat_map f (drop (i + 1) xs)) (sym (take-append-drop count (f x)))
+      ∙ append_assoc (take count (f x)) (drop count (f x)) _ in
+      wrote-front old next text _ (wrote-part old now next text _ (take count (f x)) _ wrote parted appended.1)
+
+pub wrote-all : {X : Type 0} (f : X → List ℕ) (xs : List X) (i : ℕ) (old now : Option (List ℕ)) (text : List ℕ) → length xs ≤ i
+    → WroteFront old now text (flat_map f (drop i xs)) → Appends old now text
+wrote-all f xs i old now text past wrote =
+    let all : wrote.front ≡ text =
+    sym (append-nil wrote.front) ∙ ap (λ l. wrote.front ++ flat_map f l) (sym (drop_all i xs past)) ∙ sym wrote.whole in
+    subst (Appends old now) all wrote.appended
+
+-- ---- the cause of a fault
+
+pub cause-written : {T : Type 0} (r : Result T RunFault) (failed : Bool) → failed ≡ is_err r → IfErr r (λ fault. fault ≡ Write)
+    → HasCause r false 0 failed
+cause-written (Ok done) failed same fault = (refl, same)
+cause-written {T} (Err e) failed same fault = subst (λ (e : RunFault). HasCause {T = T} (Err e) false 0 failed) (sym fault) (refl, same)
+
+-- ---- how an audit ends
+
+-- nothing is written where not all lines were taken
+pub audit-unread : (limits : LimitNumbers) (unread_before unread_after written : Option (List ℕ)) (fault : RunFault) (reads : ℕ)
+    (reader_failed : Bool) (old new : Machine) → HasCause {T = Unit {0}} (Err fault) reader_failed reads false
+    → HasTakenLines old unread_before unread_after new (Err fault)
+    → HasAudited limits unread_before unread_after written written (Err fault)
+audit-unread limits unread_before unread_after written Read reads reader_failed old new cause taken = record {
+  read = taken.read;
+  written = [];
+  consumed = taken.consumed;
+  appended = Appends-nil written;
+  audited = refl;
+  whole = tt;
+  late = λ some. absurd (omega arith);
+}
+audit-unread limits unread_before unread_after written Write reads reader_failed old new cause taken =
+    let bad : false ≡ true = cause.1 in absurd (false≢true bad)
+audit-unread limits unread_before unread_after written Memory reads reader_failed old new cause taken = record {
+  read = taken.read;
+  written = [];
+  consumed = taken.consumed;
+  appended = Appends-nil written;
+  audited = (0, refl);
+  whole = tt;
+  late = λ some. absurd (omega arith);
+}
+
+-- nor where memory ran out while the agents were looked at
+pub audit-forgotten : (limits : LimitNumbers) (unread_before unread_after written : Option (List ℕ)) (new : Machine)
+    → HasTakenLines (opened limits) unread_before unread_after new (Ok tt)
+    → HasAudited limits unread_before unread_after written written (Err Memory)
+audit-forgotten limits unread_before unread_after written new taken = record {
+  read = taken.read;
+  written = [];
+  consumed = taken.consumed;
+  appended = Appends-nil written;
+  audited = (0, refl);
+  whole = tt;
+  late = λ some. absurd (omega arith);
+}
+
+-- the lines of the agents were written, or a front of them
+pub audit-ends : (limits : LimitNumbers) (unread_before unread_after written written_next : Option (List ℕ)) (new : Machine)
+    (lines : List AuditLine) (r : Result (Unit {0}) RunFault) (failed : Bool)
+    → HasTakenLines (opened limits) unread_before unread_after new (Ok tt)
+    → lines ≡ map (line_of new.rows) new.rows.agents → HasCause r false 0 failed
+    → OnOk r (Appends written written_next (flat_map audit_text lines))
+    → OnErr r (AppendsFrontOf written written_next (flat_map audit_text lines))
+    → HasAudited limits unread_before unread_after written written_next r
+audit-ends limits unread_before unread_after written written_next new lines (Ok done) failed taken told cause all front = record {
+  read = taken.read;
+  written = flat_map audit_text lines;
+  consumed = taken.consumed;
+  appended = all;
+  audited = text_due limits taken.read new lines taken.machine told;
+  whole = taken.whole;
+  late = λ some. taken.whole;
+}
+audit-ends limits unread_before unread_after written written_next new lines (Err Read) failed taken told cause all front =
+    absurd (⊎_elim (λ e. false≢true e) (λ e. omega arith) cause.0)
+audit-ends limits unread_before unread_after written written_next new lines (Err Write) failed taken told cause all front = record {
+  read = taken.read;
+  written = take front.0 (flat_map audit_text lines);
+  consumed = taken.consumed;
+  appended = front.1;
+  audited = (front.0, ap (take front.0) (text_due limits taken.read new lines taken.machine told));
+  whole = tt;
+  late = λ some. taken.whole;
+}
+audit-ends limits unread_before unread_after written written_next new lines (Err Memory) failed taken told cause all front = record {
+  read = taken.read;
+  written = take front.0 (flat_map audit_text lines);
+  consumed = taken.consumed;
+  appended = front.1;
+  audited = (front.0, ap (take front.0) (text_due limits taken.read new lines taken.machine told));
+  whole = tt;
+  late = λ some. taken.whole;
+}
+
+-- a fault of the writer is none of the reader
+pub cause-ended : (r : Result (Unit {0}) RunFault) (reader_failed : Bool) (reads : ℕ) (writer_failed : Bool) → reader_failed ≡ false
+    → HasCause r false 0 writer_failed → HasCause r reader_failed reads writer_failed
+cause-ended (Ok done) reader_failed reads writer_failed sound cause = (sound, cause.1)
+cause-ended (Err Read) reader_failed reads writer_failed sound cause = absurd (⊎_elim (λ e. false≢true e) (λ e. omega arith) cause.0)
+cause-ended (Err Write) reader_failed reads writer_failed sound cause = (sound, cause.1)
+cause-ended (Err Memory) reader_failed reads writer_failed sound cause = (sound, cause.1)
+
+-- what was flushed stays so
+pub flushed-still : {T : Type 0} (r : Result T RunFault) (flushed : Bool) → flushed ≡ true → HasFlushed r flushed
+flushed-still (Ok done) flushed is = is
+flushed-still (Err Read) flushed is = is
+flushed-still (Err Write) flushed is = tt
+flushed-still (Err Memory) flushed is = is

@@ -1,0 +1,57 @@
+-- An audit of the agents, as they stand after the events of an input.
+use Rattle.std.specs.Prelude.{◌≡◌, ℕ, ◌<◌, List, [], ◌∷◌, length, take, Option, Result, Ok, Err, OnOk}
+use Rattle.std.specs.List.{flat_map}
+use Rattle.std.specs.Io.KnownBytes.{Appends, Consumes, IsAtEnd}
+use Rattle.drf_audit.specs.Audit.{line_of}
+use Rattle.drf_audit.specs.AuditText.{audit_text}
+use Rattle.drf_core.specs.Machine.{Machine}
+use Rattle.drf_lines.specs.Meaning.{meaning_of}
+use Rattle.drf_rows.specs.LimitNumbers.{LimitNumbers}
+use Rattle.drf_rows.specs.Step.{opening}
+use Rattle.drf_rows.specs.declared.rows.Rows.{Rows}
+use Rattle.drf_journal.specs.declared.fault.RunFault.{RunFault}
+use Rattle.drf_journal.specs.declared.fault.RunFault.TheVariants.{Read, Write, Memory}
+use Rattle.drf_journal.specs.Lines.{lines_of}
+use Rattle.drf_journal.specs.Output.{rows_after_line}
+use Rattle.drf_journal.specs.State.{machine_after_lines}
+
+-- the rows after some lines, the events among which are taken one after the other
+abbrev pub rows_after_lines : LimitNumbers → Rows → List (List ℕ) → Rows
+rows_after_lines limits rows [] = rows
+rows_after_lines limits rows (line ∷ lines) =
+    rows_after_lines limits (rows_after_line limits rows (meaning_of line)) lines
+
+-- the text that tells of the agents: a line for each, in order of registration
+abbrev pub agents_text : Rows → List ℕ
+agents_text rows = flat_map (λ agent. audit_text (line_of rows agent)) rows.agents
+
+-- the text that is due to the lines of an input
+unfoldable pub audit_of : LimitNumbers → List (List ℕ) → List ℕ
+audit_of limits lines = agents_text (rows_after_lines limits opening lines)
+
+-- What was written for what was read: at `Ok` the whole text, and else a front of it.
+abbrev pub IsAudited : LimitNumbers → Result (Unit {0}) RunFault → List ℕ → List ℕ → Type 0
+IsAudited limits (Ok done) read written = written ≡ audit_of limits (lines_of read)
+IsAudited limits (Err Read) read written = written ≡ []
+IsAudited limits (Err Write) read written = (count : ℕ) × (written ≡ take count (audit_of limits (lines_of read)))
+IsAudited limits (Err Memory) read written = (count : ℕ) × (written ≡ take count (audit_of limits (lines_of read)))
+
+-- an audit took bytes from a reader and gave bytes to a writer, nothing before the input was at its end
+pub record HasAudited (limits : LimitNumbers)
+    (unread_before unread_after written_before written_after : Option (List ℕ))
+    (result : Result (Unit {0}) RunFault) : Type 0 where
+  pub read : List ℕ
+  pub written : List ℕ
+  pub consumed : Consumes unread_before unread_after read
+  pub appended : Appends written_before written_after written
+  pub audited : IsAudited limits result read written
+  pub whole : OnOk result (IsAtEnd unread_after)
+  pub late : 0 < length written → IsAtEnd unread_after
+
+-- the allocator has taken all lines of a reader
+pub record HasTakenLines (old : Machine) (unread_before unread_after : Option (List ℕ)) (new : Machine)
+    (result : Result (Unit {0}) RunFault) : Type 0 where
+  pub read : List ℕ
+  pub consumed : Consumes unread_before unread_after read
+  pub machine : OnOk result (new ≡ machine_after_lines old (lines_of read))
+  pub whole : OnOk result (IsAtEnd unread_after)

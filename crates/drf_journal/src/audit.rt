@@ -1,0 +1,121 @@
+//! An audit of the agents, as they stand after the events of a stream of lines.
+ghost use Rattle.std.specs.Prelude.{◌≡◌, ◌+◌, ◌<◌, ◌≤◌, ◌^◌, [], length, true, false, OnOk, OnErr};
+ghost use Rattle.std.specs.List.{flat_map};
+ghost use Rattle.std.specs.Io.KnownBytes.{Appends};
+ghost use Rattle.drf_audit.specs.AuditText.{audit_text};
+ghost use Rattle.drf_journal.specs.Audited.{HasAudited, HasTakenLines};
+ghost use Rattle.drf_journal.specs.Device.{AppendsFrontOf, IsNew};
+ghost use Rattle.drf_journal.specs.Ended.{HasCause, HasFlushed};
+ghost use Rattle.drf_journal.specs.State.{IsBegun, after_piece};
+
+use crate::device::{Device, write_whole};
+use crate::engine::{CHUNK, MAX_READS, ProgramSorter};
+use crate::fault::RunFault;
+use crate::session::Session;
+use drf_audit::{AuditLine, write_audit_line};
+use drf_rows::Limits;
+use drf_sorter::Sorter;
+use std::alloc::{AllocError, Global};
+use std::io::{Read, Write};
+use std::thread::Threads;
+
+/// Takes the events of the lines that end in the next piece of the input. Their replies are forgotten.
+fn take_piece<S: Sorter>(
+    alloc: Global,
+    session: &mut Session<S>,
+    piece: &[u8],
+) -> Result<(), AllocError>
+    requires few { session.old.lines + length piece.now < 2 ^ 64 }
+    requires sent { session.old.unsent ≡ [] }
+    ensures { OnOk result (session.new ≡ record (after_piece session.old piece.now) { unsent = [] }) }
+{
+    let mut rest = piece;
+    while !rest.is_empty() {
+        let count = session.take(alloc, rest)?;
+        session.forget();
+        rest = &rest[count..];
+    }
+    Ok(())
+}
+
+/// Takes the events of a reader's lines.
+fn take_lines<S: Sorter, R: Read>(
+    alloc: Global,
+    session: &mut Session<S>,
+    reader: &mut Device<R>,
+) -> Result<(), RunFault>
+    requires session { IsBegun session.old }
+    requires reader { IsNew reader.old.calls reader.old.failed }
+    ensures taken { HasTakenLines session.old.machine (R.remaining reader.old.inner) (R.remaining reader.new.inner) session.new.machine result }
+    ensures cause { HasCause result reader.new.failed reader.new.calls false }
+    ensures reads { reader.new.calls ≤ 2 ^ 40 }
+{
+    let mut buffer = vec![in alloc; 0u8; CHUNK]?;
+    let chunk = buffer.as_mut_slice();
+    for _turn in 0..MAX_READS {
+        let Ok(count) = reader.read(chunk) else {
+            return Err(RunFault::Read);
+        };
+        if count == 0 {
+            session.close(alloc)?;
+            return Ok(());
+        }
+        take_piece(alloc, session, &chunk[..count])?;
+    }
+    Err(RunFault::Read)
+}
+
+fn write_line<W: Write>(
+    alloc: Global,
+    line: &AuditLine,
+    writer: &mut Device<W>,
+) -> Result<(), RunFault>
+    ensures ok { OnOk result (Appends (W.contents writer.old.inner) (W.contents writer.new.inner) (audit_text line.now)) }
+    ensures err { OnErr result (AppendsFrontOf (W.contents writer.old.inner) (W.contents writer.new.inner) (audit_text line.now)) }
+    ensures cause { writer.old.failed ≡ false → HasCause result false 0 writer.new.failed }
+    ensures flushed { writer.old.flushed ≡ true → HasFlushed result writer.new.flushed }
+{
+    let mut text = Vec::new(alloc);
+    write_audit_line(alloc, line, &mut text)?;
+    write_whole(writer, &text)
+}
+
+/// Writes the lines of agents, one after another.
+fn write_lines<W: Write>(
+    alloc: Global,
+    lines: &[AuditLine],
+    writer: &mut Device<W>,
+) -> Result<(), RunFault>
+    ensures ok { OnOk result (Appends (W.contents writer.old.inner) (W.contents writer.new.inner) (flat_map audit_text lines.now)) }
+    ensures err { OnErr result (AppendsFrontOf (W.contents writer.old.inner) (W.contents writer.new.inner) (flat_map audit_text lines.now)) }
+    ensures cause { writer.old.failed ≡ false → HasCause result false 0 writer.new.failed }
+    ensures flushed { writer.old.flushed ≡ true → HasFlushed result writer.new.flushed }
+{
+    for line in lines {
+        write_line(alloc, line, writer)?;
+    }
+    Ok(())
+}
+
+/// Takes the events of a reader's lines, by the sorter that the program uses, and then writes what each agent has, what is
+/// free of it and how much is out, a line for each. Lines that are no events are passed over.
+pub fn run_audit<R: Read, W: Write>(
+    rt: &(impl Threads + Sync),
+    alloc: Global,
+    limits: Limits,
+    reader: &mut Device<R>,
+    writer: &mut Device<W>,
+) -> Result<(), RunFault>
+    requires reader { IsNew reader.old.calls reader.old.failed }
+    requires writer { IsNew writer.old.calls writer.old.failed }
+    ensures audited { HasAudited limits (R.remaining reader.old.inner) (R.remaining reader.new.inner)
+        (W.contents writer.old.inner) (W.contents writer.new.inner) result }
+    ensures cause { HasCause result reader.new.failed reader.new.calls writer.new.failed }
+    ensures flushed { writer.old.flushed ≡ true → HasFlushed result writer.new.flushed }
+    ensures reads { reader.new.calls ≤ 2 ^ 40 }
+{
+    let mut session = Session::<ProgramSorter>::open(alloc, limits, false)?;
+    take_lines(alloc, &mut session, reader)?;
+    let lines = session.audit(rt, alloc)?;
+    write_lines(alloc, &lines, writer)
+}

@@ -1,15 +1,15 @@
 -- Where things with rising numbers stand.
-use Rattle.std.specs.Prelude.{◌≡◌, ℕ, ◌==◌, ◌<◌, ◌≤◌, Bool, true, false, not, List, [], ◌∷◌, ◌++◌, length, map, filter, cond, take, drop, remove, slice_get, slice_index_or, Some, Ok, Err, nat_lt}
+use Rattle.std.specs.Prelude.{◌≡◌, ℕ, ◌==◌, ◌<◌, ◌≤◌, Bool, true, false, not, List, [], ◌∷◌, ◌++◌, length, map, filter, cond, take, drop, remove, slice_get, slice_index_or, Some, Ok, Err}
 use Rattle.std.specs.List.{list_any, AllByRecursion}
 use Rattle.std.specs.Ordering.{nat_cmp}
-use Rattle.std.specs.List.Sorted.{IsNonDecreasingBy, IsPartitionPoint, IsBinarySearchResult}
+use Rattle.std.specs.List.Sorted.{IsNonDecreasingBy, IsBinarySearchResult}
 use Rattle.std.proofs.Common.{refl, sym, ap, ◌∙◌, subst, zero, suc, inl, inr, get_or, arith}
-use Rattle.std.proofs.lemmas.Bool.{ltb-true, ltb-false, eq-eqb, ne_eqb, or_parts, cases_lt}
+use Rattle.std.proofs.lemmas.Bool.{eq-eqb, ne_eqb, or_parts, cases_lt}
 use Rattle.std.proofs.lemmas.List.{map-id, get_or_default}
 use Rattle.std.proofs.lemmas.List.Sorted.{searched}
 use Rattle.std.proofs.lemmas.Option.{slice_get_read}
 use Rattle.drf_rows.specs.EndingLaws.{filter-none, split_at}
-use Rattle.drf_rows.specs.ListLaws.{any_fails, filter_only}
+use Rattle.drf_rows.specs.ListLaws.{filter_only}
 use Rattle.drf_holdings.specs.Rising.{IsRising, AreOthers}
 
 module _ {X : Type 0} (number : X → ℕ) where

@@ -1,5 +1,5 @@
 -- Tables by name, entry by entry.
-use Rattle.std.specs.Prelude.{◌≡◌, ℕ, ◌-◌, ◌≤◌, Bool, true, false, not, List, [], ◌∷◌, ◌++◌, length, map, filter, find, ◌+◌, ◌||◌, Option, None, slice_get, slice_set, Some, is_some, take, drop, Result, Ok, Err, OnOk, if◌then◌else◌}
+use Rattle.std.specs.Prelude.{◌≡◌, ℕ, Bool, true, false, not, List, [], ◌∷◌, ◌++◌, length, map, filter, find, ◌+◌, ◌||◌, Option, None, slice_get, slice_set, Some, is_some, Result, Ok, Err, OnOk, if◌then◌else◌}
 use Rattle.std.specs.List.{list_any, position}
 use Rattle.std.specs.Global.{Vec}
 use Rattle.std.specs.Map.{lookup, keys_of, values_of, remove_entry}
@@ -8,7 +8,6 @@ use Rattle.std.proofs.lemmas.List.Quantifiers.{position-Some}
 use Rattle.std.specs.Option.{option_copied, option_map, option_map_or}
 use Rattle.std.proofs.lemmas.Option.{get_or_from_slice_get, slice_get-map}
 use Rattle.drf_role.specs.TextLaws.{same_from_test}
-use Rattle.std.proofs.lemmas.List.{take_all, length-append}
 use Rattle.std.proofs.lemmas.Bool.{cases_Bool, false≢true, and_parts, or_parts, not-true}
 use Rattle.indexmap.specs.IndexMap.{insert_entry, set_value_at}
 use Rattle.drf_role.specs.Text.{Text, same_text}

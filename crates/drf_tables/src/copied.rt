@@ -41,11 +41,7 @@ fn put<V: Drop>(map: &mut IndexMap<Name, V>, name: Name, value: V) -> Result<(),
     Ok(())
 }
 
-fn put_weight(
-    weights: &mut IndexMap<Role, u64>,
-    role: Role,
-    weight: u64,
-) -> Result<(), AllocError>
+fn put_weight(weights: &mut IndexMap<Role, u64>, role: Role, weight: u64) -> Result<(), AllocError>
     ensures { OnOk result (weights.new.entries ≡ insert_entry same_path weights.old.entries role weight) }
 {
     weights.insert(role, weight)?;

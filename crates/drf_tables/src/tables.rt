@@ -26,7 +26,7 @@ use drf_bundle::{Bundle, Quantities};
 use drf_gates::{FilterTable, Quota};
 use drf_holdings::Holdings;
 use drf_role::{Name, Role};
-use drf_rows::{ClientRow, OfferRow, Rows, Table, copy_all};
+use drf_rows::{ClientRow, OfferRow, Rows, Table};
 use indexmap::IndexMap;
 use std::alloc::{AllocError, Global};
 use std::marker::Model;

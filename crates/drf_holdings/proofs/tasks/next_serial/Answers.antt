@@ -1,4 +1,3 @@
-use Rattle.std.proofs.Common.{sym, subst, ◌∙◌}
 use Rattle.drf_holdings.proofs.Running.{all_new}
 use Rattle.drf_holdings.proofs.tasks.next_serial.Goals as goal
 

@@ -3,7 +3,6 @@ use Rattle.std.specs.Global.{Vec}
 use Rattle.indexmap.specs.IndexMap.{insert_entry}
 use Rattle.drf_role.specs.Text.{Text, same_text}
 use Rattle.drf_rows.specs.declared.rows.ClientRow.{ClientRow}
-use Rattle.drf_rows.specs.declared.rows.FrameworkRow.{FrameworkRow}
 use Rattle.drf_tables.specs.Inside.{framework_rows}
 use Rattle.drf_tables.proofs.CopyLemmas.{framework_copied}
 use Rattle.drf_tables.proofs.copied.copy_frameworks.Goals as goal

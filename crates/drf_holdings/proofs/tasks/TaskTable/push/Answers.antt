@@ -1,4 +1,4 @@
-use Rattle.std.proofs.Common.{sym, ap, ◌∙◌}
+use Rattle.std.proofs.Common.{ap, ◌∙◌}
 use Rattle.std.specs.List.{list_any}
 use Rattle.drf_rows.specs.Endings.{is_task}
 use Rattle.drf_holdings.proofs.tasks.TaskTable.push.Goals as goal

@@ -6,7 +6,7 @@ use Rattle.drf_rows.specs.declared.rows.OfferRow.{OfferRow}
 use Rattle.drf_rows.specs.declared.rows.Rows.{Rows}
 use Rattle.drf_rows.specs.declared.rows.TaskRow.{TaskRow}
 use Rattle.drf_gates.specs.Quota.{Allowance, IsAllowanceOf, IsRaisedBy, used_where}
-use Rattle.drf_tables.specs.Inside.{IsKept, agent_row, rows_in, rows_of}
+use Rattle.drf_tables.specs.Inside.{IsKept, agent_row, rows_of}
 use Rattle.drf_tables.proofs.Moved.{consumed_fits, counted-all}
 use Rattle.drf_tables.proofs.tables.Tables.count_consumption.Goals as goal
 

@@ -1,9 +1,7 @@
 -- Marks that are set and taken back, one at a time.
 use Rattle.std.specs.Prelude.{◌≡◌, ◌≤◌, ◌<◌, ◌+◌, ◌-◌, ◌^◌, ℕ, min, zero, suc, Bool, true, false, List, [], ◌∷◌, cond, length, slice_index_or, slice_set}
-use Rattle.std.proofs.Common.{refl, sym, ap, ◌∙◌, inl, inr, arith}
+use Rattle.std.proofs.Common.{refl, ap, arith}
 use Rattle.std.proofs.Math.Nat.{min-le_left}
-use Rattle.std.proofs.lemmas.Bool.{cases_eq}
-use Rattle.std.proofs.lemmas.List.{get_or-set_other, set-get_or}
 use Rattle.std.proofs.lemmas.List.Sums.{count_by-le-length, sum_by-set}
 use Rattle.drf_rows.specs.ListLaws.{count_by-cons}
 use Rattle.drf_sorter.specs.Work.{debt}
@@ -24,11 +22,6 @@ pub marked_less : (stale : List Bool) (i : ℕ) → i < length stale → slice_i
     → marked_in (slice_set stale i false) + 1 ≡ marked_in stale
 marked_less stale i below marked =
     omega (arith, sum_by-set one_if stale i false false below, ap one_if marked)
-
--- a flag that is there already
-pub set_again : (stale : List Bool) (i : ℕ) (flag : Bool) → slice_index_or stale i false ≡ flag
-    → slice_set stale i flag ≡ stale
-set_again stale i flag is = ap (slice_set stale i) (sym is) ∙ set-get_or stale i false
 
 -- where none is counted, no flag is up
 pub none_marked : (stale : List Bool) → marked_in stale ≡ 0 → (i : ℕ) → slice_index_or stale i false ≡ false
@@ -58,14 +51,6 @@ down_at (flag ∷ stale) zero zero same = refl
 down_at (flag ∷ stale) zero (suc i) same = absurd (omega (arith, same))
 down_at (flag ∷ stale) (suc node) zero same = absurd (omega (arith, same))
 down_at (flag ∷ stale) (suc node) (suc i) same = down_at stale node i (omega (arith, same))
-
--- each number up to this one has no flag
-pub down_to : (stale : List Bool) (node : ℕ) → ((i : ℕ) → i < node → slice_index_or stale i false ≡ false) → (i : ℕ)
-    → i < node + 1 → slice_index_or (slice_set stale node false) i false ≡ false
-down_to stale node done i below = elim (cases_eq i node) [
-  | inl same ↦ down_at stale node i same
-  | inr other ↦ get_or-set_other stale node i false false other ∙ done i (omega (arith, below, other))
-]
 
 -- a key more is one unit of work at most
 pub one_more : (old new : Flags) → new.made ≡ min (old.made + 1) (2 ^ 64 - 1) → new.stale ≡ old.stale

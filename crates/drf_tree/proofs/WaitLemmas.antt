@@ -20,16 +20,6 @@ padded (flag ∷ flags) zero = refl
 padded (flag ∷ flags) (suc i) = padded flags i
 
 module _ (stale listed : List Bool) (waiting : List ℕ) (room : ℕ) (are : AreWaiting stale listed waiting room) where
-  pub more_room : (wider : ℕ) → room ≤ wider → AreWaiting stale listed waiting wider
-  more_room wider more = record {
-    long = are.long;
-    few = are.few;
-    room_is = omega (arith, more, are.room_is);
-    marked = are.marked;
-    waits = are.waits;
-    within = are.within;
-  }
-
   pub one_number_more : (wider : ℕ) → length stale + 1 ≤ wider
       → AreWaiting (stale ++ false ∷ []) (listed ++ false ∷ []) waiting wider
   one_number_more wider more = record {
@@ -61,22 +51,6 @@ module _ (stale listed : List Bool) (waiting : List ℕ) (room : ℕ) (are : Are
         few_marked (slice_set listed node true),
         length-set listed node true,
       )
-
-  -- a number that waits already
-  pub marked_listed : (node : ℕ) → slice_index_or listed node false ≡ true
-      → AreWaiting (slice_set stale node true) listed waiting room
-  marked_listed node there = record {
-    long = are.long ∙ sym (length-set stale node true);
-    few = are.few;
-    room_is = omega (arith, are.room_is, length-set stale node true);
-    marked = λ i up. elim (cases_eq i node) [
-      | inl same ↦ ap (λ n. slice_index_or listed n false) same ∙ there
-      | inr other ↦ are.marked i (sym (get_or-set_other stale node i true false other) ∙ up)
-    ];
-    waits = are.waits;
-    within = each_from (λ n. n < length stale) (λ n. n < length (slice_set stale node true)) waiting
-        (λ n below. omega (arith, below, length-set stale node true)) are.within;
-  }
 
   -- a number that waits from now on
   pub marked_anew : (node : ℕ) → node < length stale → slice_index_or listed node false ≡ false

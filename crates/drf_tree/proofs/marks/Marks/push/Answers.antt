@@ -10,7 +10,9 @@ invariant_of-self-2 c =
     let m = c.self.inside in
     let room = vec_capacity c.reserve.new.self in
     let few = few_wait m.stale.items m.listed.items m.waiting.items (vec_capacity m.waiting) c.self.invariant in
-    let wide : length m.stale.items + 1 ≤ room = omega (arith, few, c.in_ok-reserve.ensures.ok, c.in_ok-reserve.ensures.len, c.len.ensures, c.len-2.ensures, m.stale.ok.0, m.waiting.ok.0) in
+    let enough = c.in_ok-reserve.ensures in
+    let wide : length m.stale.items + 1 ≤ room =
+    omega (arith, few, enough.ok, enough.len, c.len.ensures, c.len-2.ensures, m.stale.ok.0, m.waiting.ok.0) in
     let are = one_number_more m.stale.items m.listed.items m.waiting.items (vec_capacity m.waiting) c.self.invariant room wide in
     let stale : c.push.new.self.items ≡ m.stale.items ++ false ∷ [] = c.in_ok-push.ensures.items in
     let listed : c.push_reserved.new.self.items ≡ m.listed.items ++ false ∷ [] =

@@ -1,5 +1,5 @@
 //! What clients hold, and how it ends.
-ghost use Rattle.std.specs.Prelude.{◌≡◌, ◌==◌, [], ◌++◌, Some, true, map, find, filter, not, nat_lt, length, IfOk, OnOk, OnErr, MatchOption, option_copied};
+ghost use Rattle.std.specs.Prelude.{◌≡◌, ◌==◌, [], ◌++◌, Some, true, map, find, filter, not, nat_lt, IfOk, OnOk, OnErr, MatchOption, option_copied};
 ghost use Rattle.std.specs.List.{list_any};
 ghost use Rattle.std.specs.Map.{values_of};
 ghost use Rattle.drf_bundle.specs.Taken.{rest_of_all};
@@ -106,12 +106,6 @@ impl Holdings {
             offers: OfferTable::new(alloc),
             tasks: TaskTable::new(alloc),
         }
-    }
-
-    pub fn offer_count(&self) -> usize
-        ensures { result ≡ length self.now.offers }
-    {
-        self.offers.len()
     }
 
     /// The offers, in order of number.

@@ -1,5 +1,5 @@
 //! What decides between siblings.
-ghost use Rattle.std.specs.Prelude.{◌≡◌, ◌≤◌, ◌<◌, ◌^◌, ℕ, IfOk};
+ghost use Rattle.std.specs.Prelude.{◌≡◌, ◌≤◌, ◌<◌, ◌+◌, ◌-◌, ◌^◌, ℕ, min, IfOk};
 ghost use Rattle.std.specs.String.{string_bytes};
 ghost use Rattle.drf_bundle.specs.Quantities.{amount_of};
 ghost use Rattle.drf_role.specs.Text.{Text};
@@ -9,6 +9,7 @@ ghost use Rattle.drf_sorter.specs.Share.{fraction_of};
 use crate::share::Share;
 use drf_bundle::Quantities;
 use std::alloc::AllocError;
+use std::marker::Model;
 
 /// What holds amounts of scalars.
 pub trait Holding {
@@ -63,6 +64,47 @@ impl Share {
     }
 }
 
+/// How many keys were made. Each key that is made counts; the count stays at 2^64 - 1 once there.
+#[derive(Debug, Drop)]
+pub struct KeyCount {
+    made: u64,
+}
+
+impl Model for KeyCount {
+    ghost Value = { ℕ };
+
+    ghost view = { λ count. count.made };
+}
+
+impl KeyCount {
+    pub fn new() -> KeyCount
+        ensures { result ≡ 0 }
+    {
+        KeyCount { made: 0 }
+    }
+
+    pub fn made(&self) -> u64
+        ensures { result ≡ self.now }
+    {
+        self.made
+    }
+
+    /// One more key was made.
+    fn add_one(&mut self)
+        ensures one_more { self.new ≡ min (self.old + 1) (2 ^ 64 - 1) }
+        ensures no_less { self.old ≤ self.new }
+    {
+        self.made = self.made.saturating_add(1);
+    }
+
+    /// A count of its own, that begins at this one.
+    pub fn copy(&self) -> KeyCount
+        ensures { result ≡ self.now }
+    {
+        KeyCount { made: self.made }
+    }
+}
+
 /// What places a node among its siblings: its weighted share, then its count, then its name.
 #[derive(Debug, Drop, PartialEq, Eq, PartialOrd, Ord)]
 pub struct Key {
@@ -74,8 +116,10 @@ pub struct Key {
 impl Key {
     ghost use Rattle.drf_sorter.specs.Keys.{key_by};
 
-    /// The key of a node of that weight, in thousandths, by what its clients hold of the total. Every key is made here.
+    /// The key of a node of that weight, in thousandths, by what its clients hold of the total. Every key is made here, and
+    /// counts.
     pub fn new<H: Holding>(
+        made: &mut KeyCount,
         total: &Quantities,
         weight: u64,
         holding: &H,
@@ -86,12 +130,15 @@ impl Key {
         requires fits { (label : Text) → amount_of total.now label < 2 ^ 52 }
         requires weighs { 1 ≤ weight }
         requires light { weight ≤ 1000000 }
-        ensures { key_by result ≡ record {
+        ensures key { key_by result ≡ record {
           share = weigh (dominant_of (H.held holding.now) total.now) weight;
           count = count;
           name = string_bytes name;
         } }
+        ensures made { made.new ≡ min (made.old + 1) (2 ^ 64 - 1) }
+        ensures no_less { made.old ≤ made.new }
     {
+        made.add_one();
         Key {
             share: weighted_share(total, weight, holding),
             count,

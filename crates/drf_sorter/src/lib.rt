@@ -11,7 +11,7 @@ mod share;
 mod sorter;
 
 pub use examples::{order_of_three_example, share_of_a_role_example};
-pub use key::{Holding, Key};
+pub use key::{Holding, Key, KeyCount};
 pub use laws::{
     arrival_law, change_law, client_order_law, everyone_is_served_law, lowest_terms_law,
     share_order_law, sibling_law, weight_law,

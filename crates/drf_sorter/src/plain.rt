@@ -10,7 +10,7 @@ ghost use Rattle.drf_sorter.specs.Keys.{keys_of, key_by};
 
 use crate::candidate::Candidate;
 use crate::client::{Client, NodeClients};
-use crate::key::{Key, weighted_share};
+use crate::key::{Key, KeyCount, weighted_share};
 use crate::share::Share;
 use crate::sorter::Sorter;
 use drf_bundle::Quantities;
@@ -32,7 +32,7 @@ pub struct PlainSorter {
     weights: Vec<WeightRow>,
     queue: Vec<ClientPath>,
     next: usize,
-    made: u64,
+    made: KeyCount,
     ghost listed: { paths.keys ≡ map (λ c. c.path) clients.items },
     ghost distinct: { IsDistinct same_path (map (λ c. c.path) clients.items) } by { IsDistinct-prop same_path (map (λ c. c.path) clients.items) },
     ghost weighs: { IsTrue (are_weights weights.items) },
@@ -96,15 +96,6 @@ fn weights_of(alloc: Global, rows: &[WeightRow]) -> Result<Vec<WeightRow>, Alloc
     Ok(copies)
 }
 
-/// How many keys the candidates have together.
-fn keys_in(candidates: &[Candidate]) -> u64 {
-    let mut keys: u64 = 0;
-    for candidate in candidates {
-        keys = keys.saturating_add(candidate.keys.len() as u64);
-    }
-    keys
-}
-
 /// The paths of the candidates, in their order.
 fn paths(alloc: Global, candidates: Vec<Candidate>) -> Result<Vec<ClientPath>, AllocError>
     ensures { IfOk result (λ paths. paths.items ≡ map (λ c. c.path) candidates.items) }
@@ -146,13 +137,14 @@ impl PlainSorter {
     }
 
     /// The key of the node that ends with the part at `i`.
-    fn key(&self, path: &ClientPath, i: usize) -> Result<Key, AllocError>
+    fn key(&self, made: &mut KeyCount, path: &ClientPath, i: usize) -> Result<Key, AllocError>
         requires sound { IsSound (plain_content self.now) }
         requires short { length path.now ≤ 10 }
         requires in_path { i < length path.now }
-        ensures { IfOk result (λ key.
+        ensures key { IfOk result (λ key.
             keys_of (plain_standing self.now) [] (take (i + 1) path.now)
             ≡ keys_of (plain_standing self.now) [] (take i path.now) ++ key_by key ∷ []) }
+        ensures made { made.old ≤ made.new }
     {
         let node = path.node(i + 1)?;
         let name = String::from_str(self.alloc(), path.part(i))?;
@@ -161,18 +153,20 @@ impl PlainSorter {
             node: &node,
         };
         let weight = self.weight_of(&node);
-        Ok(Key::new(&self.total, weight, &clients, clients.count(), name))
+        let count = clients.count();
+        Ok(Key::new(made, &self.total, weight, &clients, count, name))
     }
 
     /// The client of that path, with its keys.
-    fn candidate(&self, path: &ClientPath) -> Result<Candidate, AllocError>
+    fn candidate(&self, made: &mut KeyCount, path: &ClientPath) -> Result<Candidate, AllocError>
         requires { IsSound (plain_content self.now) }
         ensures path { IfOk result (λ c. c.path ≡ path.now) }
         ensures keys { IfOk result (HasKeys (plain_standing self.now)) }
+        ensures made { made.old ≤ made.new }
     {
         let mut keys = Vec::with_capacity(self.alloc(), path.len())?;
         for i in 0..path.len() {
-            keys.push(self.key(path, i)?)?;
+            keys.push(self.key(made, path, i)?)?;
         }
         Ok(Candidate {
             keys,
@@ -181,15 +175,16 @@ impl PlainSorter {
     }
 
     /// The clients that are to be served.
-    fn candidates(&self) -> Result<Vec<Candidate>, AllocError>
+    fn candidates(&self, made: &mut KeyCount) -> Result<Vec<Candidate>, AllocError>
         requires { IsSound (plain_content self.now) }
         ensures paths { IfOk result (λ all. map (λ c. c.path) all.items ≡ active_paths (plain_content self.now)) }
         ensures keys { IfOk result (λ all. All (HasKeys (plain_standing self.now)) all.items) }
+        ensures made { made.old ≤ made.new }
     {
         let mut candidates = Vec::new(self.alloc());
         for client in &self.clients {
             if client.active {
-                candidates.push(self.candidate(&client.path)?)?;
+                candidates.push(self.candidate(made, &client.path)?)?;
             }
         }
         Ok(candidates)
@@ -218,7 +213,7 @@ impl Sorter for PlainSorter {
             weights: Vec::new(alloc),
             queue: Vec::new(alloc),
             next: 0,
-            made: 0,
+            made: KeyCount::new(),
         })
     }
 
@@ -303,12 +298,14 @@ impl Sorter for PlainSorter {
     }
 
     fn fix_order(&mut self) -> Result<(), AllocError> {
-        let mut candidates = self.candidates()?;
+        let mut made = self.made.copy();
+        let candidates = self.candidates(&mut made);
+        // Also those that were made before memory ended count.
+        self.made = made;
+        let mut candidates = candidates?;
         candidates.sort_unstable();
-        let made = keys_in(&candidates);
         self.queue = paths(self.alloc(), candidates)?;
         self.next = 0;
-        self.made = self.made.saturating_add(made);
         Ok(())
     }
 
@@ -323,7 +320,7 @@ impl Sorter for PlainSorter {
     }
 
     fn keys_made(&self) -> u64 {
-        self.made
+        self.made.made()
     }
 
     fn share(&self, node: &NodePath) -> Option<(Share, Share, u64)> {
@@ -348,7 +345,7 @@ impl Sorter for PlainSorter {
             weights: weights_of(alloc, &self.weights)?,
             queue: Vec::new(alloc),
             next: 0,
-            made: self.made,
+            made: self.made.copy(),
         })
     }
 }

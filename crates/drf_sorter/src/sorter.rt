@@ -40,18 +40,21 @@ pub trait Sorter: Sized + Drop {
         requires { has_client (content self.old) path ≡ false }
         ensures ok { OnOk result (content self.new ≡ with_client (content self.old) path) }
         ensures err { OnErr result (content self.new ≡ content self.old) }
+        ensures made { (work self.old).made ≤ (work self.new).made }
         ensures work { Adds COUNTED (work self.old) (work self.new) (length path) };
 
     /// Forgets a client, with all that it holds.
     fn remove(&mut self, path: &ClientPath)
         requires { has_client (content self.old) path.now ≡ true }
         ensures content { content self.new ≡ without_client (content self.old) path.now }
+        ensures made { (work self.new).made ≡ (work self.old).made }
         ensures work { Adds COUNTED (work self.old) (work self.new) (length path.now) };
 
     /// Says whether a client is to be served. It counts in shares in either case.
     fn set_active(&mut self, path: &ClientPath, active: bool)
         requires { has_client (content self.old) path.now ≡ true }
         ensures content { content self.new ≡ with_change (content self.old) path.now (activated active) }
+        ensures made { (work self.new).made ≡ (work self.old).made }
         ensures work { Adds COUNTED (work self.old) (work self.new) 0 };
 
     /// A client got one more offer, of these quantities.
@@ -61,6 +64,7 @@ pub trait Sorter: Sized + Drop {
         ensures ok { OnOk result (content self.new ≡ with_change (content self.old) path.now (charged quantities.now)) }
         ensures err { OnErr result (content self.new ≡ content self.old) }
         ensures queue { queue self.new ≡ queue self.old }
+        ensures made { (work self.new).made ≡ (work self.old).made }
         ensures work { Adds COUNTED (work self.old) (work self.new) (length path.now) };
 
     /// Takes a charge back.
@@ -68,6 +72,8 @@ pub trait Sorter: Sized + Drop {
         requires known { has_client (content self.old) path.now ≡ true }
         requires charged { HasChargeAt (content self.old) path.now quantities.now }
         ensures content { content self.new ≡ with_change (content self.old) path.now (discharged quantities.now) }
+        ensures queue { queue self.new ≡ queue self.old }
+        ensures made { (work self.new).made ≡ (work self.old).made }
         ensures work { Adds COUNTED (work self.old) (work self.new) (length path.now) };
 
     /// A client gives these quantities back. The offer in which it got them still counts.
@@ -75,6 +81,8 @@ pub trait Sorter: Sized + Drop {
         requires known { has_client (content self.old) path.now ≡ true }
         requires held { HoldsAt (content self.old) path.now quantities.now }
         ensures content { content self.new ≡ with_change (content self.old) path.now (refunded quantities.now) }
+        ensures queue { queue self.new ≡ queue self.old }
+        ensures made { (work self.new).made ≡ (work self.old).made }
         ensures work { Adds COUNTED (work self.old) (work self.new) (length path.now) };
 
     /// Sets the total of the cluster.
@@ -89,6 +97,7 @@ pub trait Sorter: Sized + Drop {
         ensures ok { OnOk result (content self.new ≡ with_weight (content self.old) role.now weight) }
         ensures err { OnErr result (content self.new ≡ content self.old) }
         ensures replaced { IsTrue (has_weight (content self.old) role.now) → IsOk result }
+        ensures made { (work self.new).made ≡ (work self.old).made }
         ensures work { Adds COUNTED (work self.old) (work self.new) 1 };
 
     /// Puts the active clients into the order in which they are to be served. `first` and `pass` go along it, whatever is
@@ -97,6 +106,7 @@ pub trait Sorter: Sized + Drop {
         requires { IsSound (content self.old) }
         ensures order { OnOk result (IsOrderOf (content self.old) (queue self.new)) }
         ensures same { content self.new ≡ content self.old }
+        ensures made { (work self.old).made ≤ (work self.new).made }
         ensures work { Adds COUNTED (work self.old) (work self.new) 0 }
         ensures repaired { OnOk result (IsRepaired COUNTED (work self.new)) };
 
@@ -115,6 +125,7 @@ pub trait Sorter: Sized + Drop {
         requires { IsSound (content self.old) }
         ensures order { IfOk result (λ paths. IsOrderOf (content self.old) paths.items) }
         ensures same { content self.new ≡ content self.old }
+        ensures made { (work self.old).made ≤ (work self.new).made }
         ensures work { Adds COUNTED (work self.old) (work self.new) 0 }
         ensures repaired { OnOk result (IsRepaired COUNTED (work self.new)) }
     {

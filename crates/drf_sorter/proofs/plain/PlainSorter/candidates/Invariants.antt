@@ -1,4 +1,4 @@
-use Rattle.std.proofs.Common.{◌≡◌, All, map, take}
+use Rattle.std.proofs.Common.{◌≡◌, ◌≤◌, All, map, take}
 use Rattle.std.specs.List.{filter}
 use Rattle.drf_sorter.specs.Candidates.{HasKeys}
 use Rattle.drf_sorter.specs.Plain.{plain_standing}
@@ -9,4 +9,5 @@ invariant-loop-client l = record {
   paths : map (λ c. c.path) l.candidates.items
       ≡ map (λ c. c.path) (filter (λ c. c.active) (take l.client-index l.self.clients.items));
   keys : All (HasKeys (plain_standing l.self)) l.candidates.items;
+  made : l.fn.made ≤ l.made;
 }

@@ -9,15 +9,15 @@ use Rattle.drf_sorter.proofs.KeyLemmas.{keys_of-take_more}
 use Rattle.drf_sorter.proofs.PlainLemmas.{held-within, count-fits, count-standing, weighted-standing}
 use Rattle.drf_sorter.proofs.plain.PlainSorter.key.Goals as goal
 
-pub count-requires : goal.count-requires
-count-requires c = rw (c.deref.ensures.value) (count-fits c.args.self.now c.requires.sound c.in_ok-node.node)
+pub count-count-requires : goal.count-count-requires
+count-count-requires c = rw (c.deref.ensures.value) (count-fits c.args.self.now c.requires.sound c.in_ok-node.node)
 
 pub new-requires-clause-within : goal.new-requires-clause-within
 new-requires-clause-within c label =
     rw (c.deref.ensures.value) (held-within c.args.self.now c.requires.sound c.in_ok-node.node label)
 
-pub returns : goal.returns
-returns c =
+pub returns-clause-key : goal.returns-clause-key
+returns-clause-key c =
     let s = c.args.self.now in
     let path = c.args.path.now in
     let clients = s.clients.items in
@@ -30,8 +30,8 @@ returns c =
     ∙ weighted-standing s node c.weight_of-weight.result
     (c.weight_of-weight.ensures.value ∙ ap (weight_of s.weights.items) c.in_ok-node.ensures) in
     let by_count =
-    c.count.ensures ∙ (λ j. count_by (c.deref.ensures.value j) (c.in_ok-node.ensures j)) ∙ count-standing s node in
-    keys_of-take_more (plain_standing s) path c.args.i c.part.result.now share c.count.result
+    c.count-count.ensures ∙ (λ j. count_by (c.deref.ensures.value j) (c.in_ok-node.ensures j)) ∙ count-standing s node in
+    keys_of-take_more (plain_standing s) path c.args.i c.part.result.now share c.count-count.result
     (string_bytes c.in_ok-name.name)
     c.requires.in_path c.part.ensures by_share by_count c.in_ok-name.ensures.ok
-    ∙ ap (λ k. keys_of (plain_standing s) [] (take c.args.i path) ++ k ∷ []) (sym c.new.ensures)
+    ∙ ap (λ k. keys_of (plain_standing s) [] (take c.args.i path) ++ k ∷ []) (sym c.new.ensures.key)

@@ -247,9 +247,10 @@ pub record IsPruning (old now : Tree) (node : ℕ) : Type 0 where
   pub there : is_node now.places.items node ≡ true
   pub tree : (content : Content) → IsTreeOf content old → IsTreeOf content now
   pub work : debt (work_of now.marks) ≤ debt (work_of old.marks)
+  pub made : now.marks.made ≡ old.marks.made
 
 pub prune_start : (tree : Tree) → IsShapeOf tree → (node : ℕ) → is_node tree.places.items node ≡ true → IsPruning tree tree node
-prune_start tree shape node there = record { shape = shape; there = there; tree = λ content of. of; work = omega arith }
+prune_start tree shape node there = record { shape = shape; there = there; tree = λ content of. of; work = omega arith; made = refl }
 
 -- where it is not at the root, it is at a node
 pub prune_live : (old now : Tree) (node : ℕ) → IsPruning old now node → node ≢ 0 → is_live now.places.items node ≡ true
@@ -262,7 +263,7 @@ module _ (old now new : Tree) (node parent : ℕ) (so : IsPruning old now node) 
     (parent_is : parent ≡ parent_at now.places.items node) (shape : IsShapeOf new)
     (tree : (content : Content) → IsTreeOf content now → IsTreeOf content new)
     (places : new.places.items ≡ slice_set now.places.items node None)
-    (work : debt (work_of new.marks) ≤ debt (work_of now.marks)) where
+    (work : debt (work_of new.marks) ≤ debt (work_of now.marks)) (made : new.marks.made ≡ now.marks.made) where
   shorter : length (path_at now.places.items node) ≡ length (path_at now.places.items parent) + 1
   shorter =
       shorter_above now.places.items now.families.items now.marks.stale now.sums.items so.shape node (prune_live old now node so other)
@@ -282,6 +283,7 @@ module _ (old now new : Tree) (node parent : ℕ) (so : IsPruning old now node) 
         ∙ (so.shape.kept node (prune_live old now node so other)).0;
     tree = λ content of. tree content (so.tree content of);
     work = omega (arith, work, so.work);
+    made = made ∙ so.made;
   }
 
   pub prune_less : length (path_at new.places.items parent) + 1 ≡ length (path_at now.places.items node)

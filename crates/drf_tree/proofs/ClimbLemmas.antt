@@ -268,12 +268,14 @@ pub record IsMarking (old now : Tree) (leaf node : ℕ) : Type 0 where
   pub marks : AreMarked old.places.items leaf (length (path_at old.places.items node)) old.marks.stale now.marks.stale
   pub work : debt (work_of now.marks) + length (path_at old.places.items node)
       ≤ debt (work_of old.marks) + length (path_at old.places.items leaf)
+  pub made : now.marks.made ≡ old.marks.made
 
 module _ (old now : Tree) (shape : IsShapeOf old) (leaf node : ℕ) (R : ℕ → Sum → Sum → Type 0) where
   pub marking_start : IsMarking old old leaf leaf
   marking_start = record {
     marks = marked_none old.places.items old.families.items old.marks.stale old.sums.items shape leaf old.marks.stale;
     work = omega arith;
+    made = refl;
   }
 
   pub marking_within : IsClimbing old now leaf node R → node ≢ 0 → IsMarking old now leaf node → node < length now.marks.stale
@@ -295,6 +297,7 @@ module _ (old now : Tree) (shape : IsShapeOf old) (leaf node : ℕ) (R : ℕ →
             (length (path_at old.places.items (parent_at old.places.items node))) (climb_on old now shape leaf node R so other) (sym less)
             old.marks.stale now.marks.stale (marking_within so other marking) marking.marks);
         work = omega (arith, less, work, work_so);
+        made = (λ i. (marks i).made) ∙ marking.made;
       }
 
   pub marking_end : IsMarking old now leaf node → node ≡ 0 → AreMarked old.places.items leaf 0 old.marks.stale now.marks.stale

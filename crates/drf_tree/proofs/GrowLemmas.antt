@@ -62,6 +62,7 @@ pub record IsGrowing (content : Content) (old now : Tree) (path : Path) (node i 
   pub there : is_node now.places.items node ≡ true
   pub at : path_at now.places.items node ≡ take i path
   pub work : debt (work_of now.marks) ≤ debt (work_of old.marks) + i
+  pub made : old.marks.made ≤ now.marks.made
 
 pub grow_start : (content : Content) (tree : Tree) (path : Path) → IsTreeOf content tree → IsGrowing content tree tree path 0 0
 grow_start content tree path of = record {
@@ -69,16 +70,19 @@ grow_start content tree path of = record {
   there = refl;
   at = top_is tree.places.items tree.families.items tree.marks.stale tree.sums.items of.shape;
   work = omega arith;
+  made = omega arith;
 }
 
 pub grow_step : (content : Content) (old now new : Tree) (path : Path) (node i child : ℕ) → IsGrowing content old now path node i
     → IsTreeOf content new → is_live new.places.items child ≡ true → path_at new.places.items child ≡ take (i + 1) path
-    → debt (work_of new.marks) ≤ debt (work_of now.marks) + 1 → IsGrowing content old new path child (i + 1)
-grow_step content old now new path node i child so of live at work = record {
+    → debt (work_of new.marks) ≤ debt (work_of now.marks) + 1 → now.marks.made ≤ new.marks.made
+    → IsGrowing content old new path child (i + 1)
+grow_step content old now new path node i child so of live at work made = record {
   tree = of;
   there = node_from_live new.places.items child live;
   at = at;
   work = omega (arith, work, so.work);
+  made = omega (arith, made, so.made);
 }
 
 module _ (content : Content) (old now : Tree) (path : Path) (node i : ℕ) (so : IsGrowing content old now path node i)

@@ -44,6 +44,7 @@ impl Tree {
         ensures tree { (content : Content) (path : Path) (quantities : List Entry) → IsTreeOf content self.old → client_at self.old.places.items leaf ≡ Some path → has_client content path ≡ true → AreRaised self.old leaf quantities raised.items → IsTreeOf (with_change content path (charged quantities)) self.new }
         ensures places { self.new.places ≡ self.old.places }
         ensures families { self.new.families ≡ self.old.families }
+        ensures made { self.new.marks.made ≡ self.old.marks.made }
         ensures work { debt (work_of self.new.marks) ≤ debt (work_of self.old.marks) + length (path_at self.old.places.items leaf) }
     {
         let mut node = leaf;
@@ -63,6 +64,7 @@ impl Tree {
         ensures tree { (content : Content) (path : Path) → IsTreeOf content self.old → client_at self.old.places.items leaf ≡ Some path → has_client content path ≡ true → CanLowerAt content path quantities.now offers → IsTreeOf (with_change content path (lowered quantities.now offers)) self.new }
         ensures places { self.new.places ≡ self.old.places }
         ensures families { self.new.families ≡ self.old.families }
+        ensures made { self.new.marks.made ≡ self.old.marks.made }
         ensures work { debt (work_of self.new.marks) ≤ debt (work_of self.old.marks) + length (path_at self.old.places.items leaf) }
     {
         // Its labels are in order.

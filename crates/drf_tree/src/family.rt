@@ -23,7 +23,7 @@ pub(crate) struct Child {
 }
 
 impl Child {
-    /// A child with the key of its sum, which counts as computed. Every key of a tree is made here.
+    /// A child with the key of its sum, which counts as computed.
     pub(crate) fn new(
         marks: &mut Marks,
         node: usize,
@@ -38,11 +38,13 @@ impl Child {
         ensures node { result.node ≡ node }
         ensures key { key_by result.key ≡ key_for total.now sum.now (string_bytes name) }
         ensures made { marks.new.made ≡ min (marks.old.made + 1) (2 ^ 64 - 1) }
+        ensures no_less { marks.old.made ≤ marks.new.made }
         ensures stale { marks.new.stale ≡ marks.old.stale }
     {
-        marks.count();
-        let key = Key::new(total, sum.weight, &sum.held, sum.count, name);
-        Child { key, node }
+        Child {
+            key: marks.key(total, sum, name),
+            node,
+        }
     }
 }
 
@@ -104,6 +106,7 @@ impl Family {
         requires light { sum.now.weight ≤ 1000000 }
         ensures renewed { IsRenewed node total.now sum.now self.old.children.items self.new.children.items }
         ensures made { marks.new.made ≡ min (marks.old.made + 1) (2 ^ 64 - 1) }
+        ensures no_less { marks.old.made ≤ marks.new.made }
         ensures stale { marks.new.stale ≡ marks.old.stale }
     {
         let name = self.take(node).key.into_name();

@@ -1,10 +1,17 @@
 //! Which keys may be stale, and how many were computed.
 ghost use Rattle.std.specs.Prelude.{◌≡◌, ◌≤◌, ◌<◌, ◌+◌, ◌-◌, ◌^◌, [], ◌∷◌, ◌++◌, ℕ, false, min, true, IfNone, IfOk, IfSome, OnOk, OnErr, length, slice_index_or, slice_set};
+ghost use Rattle.std.specs.String.{string_bytes};
+ghost use Rattle.drf_bundle.specs.Quantities.{amount_of};
+ghost use Rattle.drf_role.specs.Text.{Text};
+ghost use Rattle.drf_sorter.specs.Keys.{key_by};
 ghost use Rattle.drf_sorter.specs.Work.{debt};
+ghost use Rattle.drf_tree.specs.Family.{key_for};
 ghost use Rattle.drf_tree.specs.Marks.{marked_in, work_of};
 ghost use Rattle.drf_tree.specs.Nodes.{is_live};
 
-use crate::node::Place;
+use crate::node::{Place, Sum};
+use drf_bundle::Quantities;
+use drf_sorter::{Key, KeyCount};
 use std::alloc::{AllocError, Global};
 use std::marker::Model;
 
@@ -17,7 +24,7 @@ pub(crate) struct Marks {
     waiting: Vec<usize>,
     /// Whether a number is among them.
     listed: Vec<bool>,
-    made: u64,
+    made: KeyCount,
 }
 
 impl Model for Marks {
@@ -39,22 +46,35 @@ impl Marks {
             stale: Vec::new(alloc),
             waiting: Vec::new(alloc),
             listed: Vec::new(alloc),
-            made: 0,
+            made: KeyCount::new(),
         }
     }
 
     pub(crate) fn made(&self) -> u64
         ensures { result ≡ self.now.made }
     {
-        self.made
+        self.made.made()
     }
 
-    /// One more key was computed.
-    pub(crate) fn count(&mut self)
+    /// The key of a sum, under that name. It counts as computed; every key of a tree is made here.
+    pub(crate) fn key(&mut self, total: &Quantities, sum: &Sum, name: String) -> Key
+        requires within { (label : Text) → amount_of sum.now.held label ≤ amount_of total.now label }
+        requires fits { (label : Text) → amount_of total.now label < 2 ^ 52 }
+        requires weighs { 1 ≤ sum.now.weight }
+        requires light { sum.now.weight ≤ 1000000 }
+        ensures key { key_by result ≡ key_for total.now sum.now (string_bytes name) }
         ensures made { self.new.made ≡ min (self.old.made + 1) (2 ^ 64 - 1) }
+        ensures no_less { self.old.made ≤ self.new.made }
         ensures stale { self.new.stale ≡ self.old.stale }
     {
-        self.made = self.made.saturating_add(1);
+        Key::new(
+            &mut self.made,
+            total,
+            sum.weight,
+            &sum.held,
+            sum.count,
+            name,
+        )
     }
 
     /// One more node, that is not marked. There is room for its mark.
@@ -135,7 +155,7 @@ impl Marks {
             stale: Vec::from_slice(alloc, self.stale.as_slice())?,
             waiting,
             listed: Vec::from_slice(alloc, self.listed.as_slice())?,
-            made: self.made,
+            made: self.made.copy(),
         })
     }
 }

@@ -27,6 +27,7 @@ impl Tree {
         ensures tree { IsTreeOf (plain_content ledger.now) self.new }
         ensures live { IfOk result (λ leaf. is_live self.new.places.items leaf ≡ true) }
         ensures client { IfOk result (λ leaf. client_at self.new.places.items leaf ≡ Some path.now) }
+        ensures made { self.old.marks.made ≤ self.new.marks.made }
         ensures work { debt (work_of self.new.marks) ≤ debt (work_of self.old.marks) + length path.now }
     {
         let mut node = ROOT;
@@ -59,6 +60,7 @@ impl Tree {
         ensures path { IfOk result (λ child. path_at self.new.places.items child ≡ take (i + 1) path.now) }
         ensures live { IfOk result (λ child. is_live self.new.places.items child ≡ true) }
         ensures err { OnErr result ((i : ℕ) → place_at self.new.places.items i ≡ place_at self.old.places.items i) }
+        ensures made { self.old.marks.made ≤ self.new.marks.made }
         ensures work { debt (work_of self.new.marks) ≤ debt (work_of self.old.marks) + 1 }
     {
         if let Some(child) = self.child(node, path.part(i)) {
@@ -87,6 +89,7 @@ impl Tree {
         ensures path { IfOk result (λ node. path_at self.new.places.items node ≡ take len path.now) }
         ensures live { IfOk result (λ node. is_live self.new.places.items node ≡ true) }
         ensures err { OnErr result ((i : ℕ) → place_at self.new.places.items i ≡ place_at self.old.places.items i) }
+        ensures made { self.old.marks.made ≤ self.new.marks.made }
         ensures work { debt (work_of self.new.marks) ≤ debt (work_of self.old.marks) + 1 }
     {
         let node = path.node(len)?;
@@ -122,6 +125,7 @@ impl Tree {
         ensures tree { (content : Content) (path : Path) → IsTreeOf content self.old → client_at self.old.places.items leaf ≡ Some path → has_client content path ≡ true → IsTreeOf (without_client content path) self.new }
         ensures places { self.new.places ≡ self.old.places }
         ensures families { self.new.families ≡ self.old.families }
+        ensures made { self.new.marks.made ≡ self.old.marks.made }
         ensures work { debt (work_of self.new.marks) ≤ debt (work_of self.old.marks) + length (path_at self.old.places.items leaf) }
     {
         let nothing = Sum::of_none(self.alloc(), self.sums[leaf].weight);
@@ -168,6 +172,7 @@ impl Tree {
         requires node { is_node self.old.places.items leaf ≡ true }
         ensures shape { IsShapeOf self.new }
         ensures tree { (content : Content) → IsTreeOf content self.old → IsTreeOf content self.new }
+        ensures made { self.new.marks.made ≡ self.old.marks.made }
         ensures work { debt (work_of self.new.marks) ≤ debt (work_of self.old.marks) }
     {
         let mut node = leaf;

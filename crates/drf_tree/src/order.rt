@@ -17,6 +17,7 @@ impl Tree {
         requires tree { IsTreeOf (plain_content ledger.now) self.old }
         ensures tree { IsTreeOf (plain_content ledger.now) self.new }
         ensures repaired { marked_in self.new.marks.stale ≡ 0 }
+        ensures made { self.old.marks.made ≤ self.new.marks.made }
         ensures work { debt (work_of self.new.marks) ≤ debt (work_of self.old.marks) }
     {
         while let Some(node) = self.marks.take() {
@@ -33,6 +34,7 @@ impl Tree {
         ensures places { self.new.places ≡ self.old.places }
         ensures sums { self.new.sums ≡ self.old.sums }
         ensures made { self.new.marks.made ≡ min (self.old.marks.made + 1) (2 ^ 64 - 1) }
+        ensures no_less { self.old.marks.made ≤ self.new.marks.made }
         ensures stale { self.new.marks.stale ≡ self.old.marks.stale }
     {
         let parent = self.parent(node);

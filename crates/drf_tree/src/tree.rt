@@ -88,6 +88,7 @@ impl Tree {
         ensures tree { (content : Content) → IsTreeOf content self.old → IsTreeOf (with_weight content (path_at self.old.places.items node) weight) self.new }
         ensures places { self.new.places ≡ self.old.places }
         ensures families { self.new.families ≡ self.old.families }
+        ensures made { self.new.marks.made ≡ self.old.marks.made }
         ensures work { debt (work_of self.new.marks) ≤ debt (work_of self.old.marks) + 1 }
     {
         let sum = &mut self.sums[node];
@@ -243,6 +244,7 @@ impl Tree {
         ensures path { IfOk result (λ node. path_at self.new.places.items node ≡ path) }
         ensures live { IfOk result (λ node. is_live self.new.places.items node ≡ true) }
         ensures err { OnErr result ((i : ℕ) → place_at self.new.places.items i ≡ place_at self.old.places.items i) }
+        ensures made { self.old.marks.made ≤ self.new.marks.made }
         ensures work { debt (work_of self.new.marks) ≤ debt (work_of self.old.marks) + 1 }
     {
         let node = self.vacant()?;
@@ -265,6 +267,7 @@ impl Tree {
         ensures sums { self.new.sums ≡ self.old.sums }
         ensures families { self.new.families ≡ self.old.families }
         ensures stale { self.new.marks.stale ≡ self.old.marks.stale }
+        ensures made { self.old.marks.made ≤ self.new.marks.made }
         ensures work { debt (work_of self.new.marks) ≤ debt (work_of self.old.marks) + 1 }
     {
         let alloc = self.alloc();
@@ -291,6 +294,7 @@ impl Tree {
         ensures shape { IsShapeOf self.new }
         ensures tree { (content : Content) → IsTreeOf content self.old → IsTreeOf content self.new }
         ensures places { self.new.places.items ≡ slice_set self.old.places.items node None }
+        ensures made { self.new.marks.made ≡ self.old.marks.made }
         ensures work { debt (work_of self.new.marks) ≤ debt (work_of self.old.marks) }
     {
         let parent = self.parent(node);

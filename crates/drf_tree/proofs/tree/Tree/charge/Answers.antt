@@ -49,3 +49,6 @@ returns-clause-tree c content path quantities tree at has all =
     c.loop-held.raised.items so (omega (arith, c.in_default.ensures.cases.0, c.loop-held.raised.ok.0)) in
     charged_tree content path quantities old c.loop-held.self c.args.leaf c.loop-held.node c.args.raised.items c.loop-held.raised.items
     tree at has all so c.loop-held.invariant.1 root
+
+pub returns-clause-made : goal.returns-clause-made
+returns-clause-made c = c.loop-held.invariant.1.made

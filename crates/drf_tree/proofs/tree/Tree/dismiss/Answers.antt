@@ -118,3 +118,6 @@ returns-clause-tree c content path tree at has =
     let least = least_read old c.args.leaf c.requires.least gone c.index_mut.result.now c.replace-gone.ensures.value c.index_mut.ensures.value in
     dismissed_tree content path old c.loop-node.self c.args.leaf c.loop-node.node gone tree c.requires.live at least.there
     c.loop-node.invariant.0 c.loop-node.invariant.1 c.loop-node-test.false
+
+pub returns-clause-made : goal.returns-clause-made
+returns-clause-made c = c.loop-node.invariant.1.made

@@ -13,7 +13,7 @@ pub loop-i-preserved : goal.loop-i-preserved
 loop-i-preserved c =
     let e = c.in-Ok.ensures in
     grow_step (plain_content c.args.ledger.now) c.args.self.now c.loop-i.self c.step.new.self c.args.path.now c.loop-i.node c.loop-i.i
-    c.in-Ok.child c.loop-i.invariant e.tree e.live e.path e.work
+    c.in-Ok.child c.loop-i.invariant e.tree e.live e.path e.work e.made
 
 pub prune-requires-clause-shape : goal.prune-requires-clause-shape
 prune-requires-clause-shape c = c.in-Err.ensures.tree.shape
@@ -29,6 +29,9 @@ returns-in-Err-clause-tree c = c.prune.ensures.tree (plain_content c.args.ledger
 pub returns-in-Err-clause-work : goal.returns-in-Err-clause-work
 returns-in-Err-clause-work c =
     omega (arith, c.prune.ensures.work, c.in-Err.ensures.work, c.loop-i.invariant.work, c.loop-i-test.true, c.len-i-end.ensures.len)
+
+pub returns-in-Err-clause-made : goal.returns-in-Err-clause-made
+returns-in-Err-clause-made c = omega (arith, c.prune.ensures.made, c.in-Err.ensures.made, c.loop-i.invariant.made)
 
 pub returns-clause-live : goal.returns-clause-live
 returns-clause-live c =

@@ -76,3 +76,6 @@ pub returns-clause-tree : goal.returns-clause-tree
 returns-clause-tree c content path tree at has can =
     lowered_tree content path c.args.quantities.now c.args.offers c.args.self.now c.loop-node.self c.args.leaf c.loop-node.node
     tree at has can c.loop-node.invariant.0 c.loop-node.invariant.1 c.loop-node-test.false
+
+pub returns-clause-made : goal.returns-clause-made
+returns-clause-made c = c.loop-node.invariant.1.made

@@ -86,4 +86,10 @@ loop-node-preserved c = record {
     ap (λ (flags : Flags). flags.made) c.in-Some.ensures.taken,
     c.loop-node.invariant.work,
   );
+  made = omega (
+    arith,
+    ap (λ (flags : Flags). flags.made) c.in-Some.ensures.taken,
+    c.renew.ensures.no_less,
+    c.loop-node.invariant.made,
+  );
 }

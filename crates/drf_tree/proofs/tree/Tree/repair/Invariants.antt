@@ -9,6 +9,7 @@ abbrev pub invariant-loop-node : goal.invariant-loop-node
 invariant-loop-node l = record {
   tree : IsTreeOf (plain_content l.ledger) l.self;
   work : debt (work_of l.self.marks) ≤ debt (work_of l.fn.self.marks);
+  made : l.fn.self.marks.made ≤ l.self.marks.made;
 }
 
 abbrev pub decreases-loop-node : goal.decreases-loop-node

@@ -1,4 +1,4 @@
-use Rattle.std.proofs.Common.{◌∷◌, ◌++◌, [], map, ap, sym, ◌∙◌}
+use Rattle.std.proofs.Common.{◌∷◌, ◌++◌, [], map, ap, arith, sym, ◌∙◌}
 use Rattle.std.specs.List.{filter}
 use Rattle.std.proofs.lemmas.List.{map_push, take_all}
 use Rattle.std.proofs.lemmas.List.Elements.{All-push}
@@ -28,6 +28,7 @@ loop-client-preserved c =
                 ∙ sym more;
             keys = rw items (All-push (HasKeys (plain_standing c.args.self.now)) c.loop-client.candidates.items
                 w.in_ok-candidate.field-0 c.loop-client.invariant.keys w.in_ok-candidate.ensures.keys);
+            made = omega (arith, w.made-is, w.in_ok-candidate.ensures.made, c.loop-client.invariant.made);
           }
       | else-client w ↦
           let same =
@@ -37,6 +38,7 @@ loop-client-preserved c =
             paths = ap (λ v. map (λ (d : Candidate). d.path) v.items) w.candidates-is ∙ c.loop-client.invariant.paths
                 ∙ sym same;
             keys = rw w.candidates-is c.loop-client.invariant.keys;
+            made = omega (arith, w.made-is, c.loop-client.invariant.made);
           }
     ]
 

@@ -1,6 +1,4 @@
-use Rattle.std.proofs.Common.{◌+◌, ap, ◌∙◌, arith}
-use Rattle.std.specs.List.{position}
-use Rattle.drf_role.specs.Path.{same_path}
+use Rattle.std.proofs.Common.{◌+◌, ap, arith}
 use Rattle.drf_sorter.specs.declared.client.Client.{Client}
 use Rattle.drf_sorter.specs.Content.{charged}
 use Rattle.drf_sorter.proofs.ChangeLemmas.{place-found, changed_in_sum, known-found, charged_is, changed_one, with_clients}

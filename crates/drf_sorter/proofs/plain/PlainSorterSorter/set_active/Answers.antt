@@ -1,6 +1,4 @@
-use Rattle.std.proofs.Common.{refl, ap, ◌∙◌}
-use Rattle.std.specs.List.{position}
-use Rattle.drf_role.specs.Path.{same_path}
+use Rattle.std.proofs.Common.{refl, ap}
 use Rattle.drf_sorter.specs.declared.client.Client.{Client}
 use Rattle.drf_sorter.specs.Content.{activated}
 use Rattle.drf_sorter.proofs.ChangeLemmas.{place-found, known-found, changed_one, with_clients}

@@ -1,12 +1,12 @@
-use Rattle.std.proofs.Common.{ap, refl, subst, sym}
+use Rattle.std.proofs.Common.{ap, refl, subst, sym, ◌∙◌}
 use Rattle.std.proofs.lemmas.Bool.{false≢true}
-use Rattle.drf_sorter.specs.Content.{Content, Ranked, refunded, HoldsAt, with_change}
+use Rattle.drf_sorter.specs.Content.{Content, active_paths, Ranked, refunded, HoldsAt, with_change}
 use Rattle.drf_sorter.specs.Plain.{plain_content}
 use Rattle.drf_sorter.specs.declared.plain.PlainSorter.{PlainSorter}
 use Rattle.drf_tree.specs.Sorter.{Sorted}
 use Rattle.drf_tree.specs.Tree.{IsTreeOf}
 use Rattle.drf_tree.proofs.FindLemmas.{client_below}
-use Rattle.drf_tree.proofs.KeptLemmas.{active_stays, kept_along}
+use Rattle.drf_tree.proofs.KeptLemmas.{active_stays, kept_along, queue_stays}
 use Rattle.drf_tree.proofs.LeafLemmas.{can_refund, known_in, leaf_of, lowerable, lowered_refunded}
 use Rattle.drf_tree.proofs.sorter.TreeSorterSorter.refund.Goals as goal
 
@@ -45,3 +45,20 @@ invariant_of-self-2 c =
     (can_refund content path c.args.quantities.now
     (subst (λ (l : PlainSorter). HoldsAt (plain_content l) path c.args.quantities.now) (sym ledger) c.requires.held))))
     c.lower.ensures.places c.lower.ensures.families c.self.invariant.frames c.self.invariant.settled
+
+-- a client has a node
+pub returns-in_default-clause-queue : goal.returns-in_default-clause-queue
+returns-in_default-clause-queue c =
+    let content = plain_content c.self.inside.ledger in
+    let known =
+    known_in c.self.inside.ledger c.args.self.now.ledger c.args.path.now (ap (λ (s : Sorted). s.ledger) c.self.view_is) c.requires.known in
+    absurd (false≢true (c.in_default.ensures.every content c.self.invariant.of_ledger (client_below c.args.path.now content.clients known)))
+
+pub returns-clause-queue : goal.returns-clause-queue
+returns-clause-queue c =
+    let content = plain_content c.self.inside.ledger in
+    queue_stays content (plain_content c.refund.new.self)
+    (ap active_paths c.refund.ensures.content
+    ∙ active_stays c.args.path.now (refunded c.args.quantities.now) (λ d. refl) (λ d. refl) content)
+    c.self.inside.tree c.lower.new.self c.lower.ensures.places c.lower.ensures.families c.self.inside.walk.frames.items
+    ∙ ap (λ (s : Sorted). s.queue) c.self.view_is

@@ -27,6 +27,3 @@ loop-node-preserved c =
     prune_step c.args.self.now c.loop-node.self c.wither.new.self c.loop-node.node c.parent-parent.result
     c.loop-node.invariant c.loop-node-test.true c.parent-parent.ensures c.wither.ensures.shape c.wither.ensures.tree
     c.wither.ensures.places c.wither.ensures.work c.wither.ensures.made
-
-pub returns-clause-made : goal.returns-clause-made
-returns-clause-made c = c.loop-node.invariant.made

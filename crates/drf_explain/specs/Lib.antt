@@ -1,0 +1,4 @@
+pub mod Explained
+pub mod ExplainedText
+pub mod ExplainedLaws
+pub mod Gates

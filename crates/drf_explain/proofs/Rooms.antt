@@ -53,9 +53,20 @@ module _ (clock : ℕ) (client : Client) (agent : Text) (bundle : List Resource)
       (and_parts (is_on_agent agent f) (covers f.bundle bundle) second.1).0
 
   pub held_there : (filters : List FilterRow)
-      → held_until (filter (is_on_agent agent) filters) clock client agent bundle ≡ held_until filters clock client agent bundle
-  held_there filters =
-      ap (λ (fs : List FilterRow). reduce max (map (λ f. f.until) fs)) (filter_weaker (holds_back clock client agent bundle) (is_on_agent agent) there filters)
+      → filter (holds_back clock client agent bundle) (filter (is_on_agent agent) filters) ≡ filter (holds_back clock client agent bundle) filters
+  held_there filters = filter_weaker (holds_back clock client agent bundle) (is_on_agent agent) there filters
+
+-- the filters on an agent
+pub gates_of : (rows : Rows) (agent : AgentRow) (gates : Gates) → gates.agent.now ≡ agent.name → gates.moment ≡ rows.clock
+    → gates.filters.items ≡ filter (is_on_agent gates.agent.now) rows.filters → gates.limits.now ≡ rows.limits → AreGatesOf rows agent gates
+gates_of rows agent gates name moment filters limits = record {
+  name = name;
+  moment = moment;
+  filters = λ client bundle.
+      ap (filter (holds_back rows.clock client agent.name bundle)) (filters ∙ (λ i. filter (is_on_agent (name i)) rows.filters))
+      ∙ held_there rows.clock client agent.name bundle rows.filters;
+  limits = limits;
+}
 
 -- the client of a path is that whose path it is
 pub client_at-path : (path : Path) (client : Client) → path ≡ path_of client → client_at path ≡ client
@@ -71,8 +82,8 @@ module _ (rows : Rows) (agent : AgentRow) (client : Client) (gates : Gates) (pat
   pub held_as_found : held_until gates.filters.items gates.moment (client_at path) gates.agent.now bundle
       ≡ held_until rows.filters rows.clock client agent.name bundle
   held_as_found =
-      (λ i. held_until (are.filters i) (are.moment i) (client_at-path path client joined i) (are.name i) bundle)
-      ∙ held_there rows.clock client agent.name bundle rows.filters
+      (λ i. held_until gates.filters.items (are.moment i) (client_at-path path client joined i) (are.name i) bundle)
+      ∙ ap (λ (fs : List FilterRow). reduce max (map (λ f. f.until) fs)) (are.filters client bundle)
 
   pub outcome-short : (why : Outcome) → is_allocatable bundle ≡ false
       → why ≡ shortage rows.limits (consumption rows) (role_part path) part

@@ -2,9 +2,10 @@
 use Rattle.std.specs.Prelude.{◌≡◌, Bool, List, [], filter, Option, Some, None, if◌then◌else◌}
 use Rattle.std.specs.Option.{MatchOption}
 use Rattle.drf_role.specs.Path.{Path, role_part, framework_part}
+use Rattle.drf_bundle.specs.declared.resource.Resource.{Resource}
 use Rattle.drf_gates.specs.Quota.{Allowance, IsAllowanceOf}
 use Rattle.drf_rows.specs.Client.{Client}
-use Rattle.drf_rows.specs.Filters.{is_on_agent}
+use Rattle.drf_rows.specs.Filters.{holds_back}
 use Rattle.drf_rows.specs.declared.rows.AgentRow.{AgentRow}
 use Rattle.drf_rows.specs.declared.rows.Rows.{Rows}
 use Rattle.drf_explain.specs.declared.gates.Gates.{Gates}
@@ -13,11 +14,12 @@ use Rattle.drf_explain.specs.declared.gates.Gates.{Gates}
 abbrev pub IsQuotaOf : Rows → Option Allowance → Type 0
 IsQuotaOf rows quota = MatchOption quota (rows.limits ≡ []) (IsAllowanceOf rows)
 
--- the moment, the limits, and the filters on the agent are those of the rows
+-- the moment and the limits are those of the rows, and so are the filters, as far as they hold anything back on the agent
 pub record AreGatesOf (rows : Rows) (agent : AgentRow) (gates : Gates) : Type 0 where
   pub name : gates.agent.now ≡ agent.name
   pub moment : gates.moment ≡ rows.clock
-  pub filters : gates.filters.items ≡ filter (is_on_agent agent.name) rows.filters
+  pub filters : (client : Client) (bundle : List Resource)
+      → filter (holds_back rows.clock client agent.name bundle) gates.filters.items ≡ filter (holds_back rows.clock client agent.name bundle) rows.filters
   pub limits : gates.limits.now ≡ rows.limits
 
 -- the client of a path

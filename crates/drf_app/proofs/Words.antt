@@ -64,11 +64,11 @@ module _ {Z : Type 0} where
   -- the command that was entered is `run`, if it is no other
   pub is_run : (o : Option (Box SubCommand Z)) (words : List Text) → is_some o ≡ true
       → subcommand_rows o ≡ subcommand_of drf_line words → (name_in o ≡ Some (codes "check") → ⊥) → (name_in o ≡ Some (codes "audit") → ⊥)
-      → name_in o ≡ Some (codes "run")
-  is_run None words some e not_check not_audit = cc
-  is_run (Some b) words some e not_check not_audit =
+      → (name_in o ≡ Some (codes "explain") → ⊥) → name_in o ≡ Some (codes "run")
+  is_run None words some e not_check not_audit not_explain = cc
+  is_run (Some b) words some e not_check not_audit not_explain =
       let among = entered_among (built drf_line).subs _ (stop_after (built drf_line).top.rules (names_of (built drf_line)) (argument_words drf_line words)) (sym e) in
-      let other = ⊎_elim (λ named. not_check (ap Some named)) (⊎_elim (λ named. not_audit (ap Some named)) (λ none. none)) in
+      let other = ⊎_elim (λ named. not_check (ap Some named)) (⊎_elim (λ named. not_audit (ap Some named)) (⊎_elim (λ named. not_explain (ap Some named)) (λ none. none))) in
       ap Some (⊎_elim (λ named. named) (λ later. absurd (other later)) among)
 
 no_globals : (a b c rest : Bool) → a && (not b && (not c && rest)) ≡ true → c ≡ false

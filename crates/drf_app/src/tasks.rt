@@ -7,8 +7,8 @@ use crate::check::{check, verdict_status};
 use crate::line::{Task, task_of};
 use crate::refusal::refuse;
 use crate::told::finish;
-use drf_journal::{Device, run, run_audit};
-use drf_rows::Limits;
+use drf_journal::{Device, run, run_audit, run_explain};
+use drf_rows::{LATEST_MOMENT, Limits};
 use std::alloc::Global;
 use std::convert::AsStr;
 use std::io::{Read, Write};
@@ -42,6 +42,12 @@ fn perform<R: Read, W: Write, E: Write>(
         },
         Task::Audit => {
             let ended = run_audit(rt, alloc, Limits::full(), input, output);
+            finish(ended, errors)
+        }
+        Task::Explain { at } => {
+            // The words have asked for no later moment.
+            let at = at.min(LATEST_MOMENT);
+            let ended = run_explain(alloc, Limits::full(), at, input, output);
             finish(ended, errors)
         }
     }

@@ -51,10 +51,12 @@ fn outcome_of(
 {
     let part = free.part_for(client.role())?;
     let bundle = part_within(quota, free, client.role())?;
+    let agent = agent.copy()?;
+    let path = client.copy()?;
     let outcome = gates.outcome(quota, client, &part, bundle)?;
     Ok(Finding::Tried {
-        agent: agent.copy()?,
-        client: client.copy()?,
+        agent,
+        client: path,
         outcome,
     })
 }
@@ -76,7 +78,8 @@ fn tell_first<S: Sorter>(
         return Ok(());
     };
     let finding = outcome_of(gates, quota, free, agent, client)?;
-    findings.push(finding)
+    findings.push(finding)?;
+    Ok(())
 }
 
 /// Tells of the clients that are not tried, if there are any.
@@ -91,11 +94,14 @@ fn tell_left(
     if clients == 0 {
         return Ok(());
     }
+    let agent = agent.copy()?;
+    let left = left.copy()?;
     findings.push(Finding::Left {
-        agent: agent.copy()?,
-        left: left.copy()?,
+        agent,
+        left,
         clients,
-    })
+    })?;
+    Ok(())
 }
 
 /// Tries each client in order on an agent, until what is left is not worth an offer, and tells what comes of it.
@@ -170,14 +176,17 @@ fn tell_turn<S: Sorter>(
     let agent = tables.agent_name(place);
     if !tables.is_active(place) {
         let agent = agent.copy()?;
-        return findings.push(Finding::Inactive { agent });
+        findings.push(Finding::Inactive { agent })?;
+        return Ok(());
     }
     if tables.free(place).entries().is_empty() {
         let agent = agent.copy()?;
-        return findings.push(Finding::NothingFree { agent });
+        findings.push(Finding::NothingFree { agent })?;
+        return Ok(());
     }
     let gates = Gates::on(alloc, rows, agent)?;
-    tell_clients(&gates, tables, sorter, place, drafts, findings)
+    tell_clients(&gates, tables, sorter, place, drafts, findings)?;
+    Ok(())
 }
 
 /// Tells of the turns of all agents.
@@ -219,12 +228,13 @@ pub fn explain<S: Sorter>(
     let moment = tables.clock().max(at);
     tables.set_clock(moment);
     tables.settle()?;
+    let quota = quota_of(tables)?;
+    let rows = tables.rows()?;
     let mut drafts = Drafts {
         offers: Vec::new(alloc),
         lefts: Vec::new(alloc),
-        quota: quota_of(tables)?,
+        quota,
     };
-    let rows = tables.rows()?;
     let mut findings = suppressed(alloc, &rows)?;
     tell_turns(alloc, &rows, tables, sorter, &mut drafts, &mut findings)?;
     Ok(findings)

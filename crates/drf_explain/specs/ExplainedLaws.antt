@@ -162,7 +162,7 @@ makes-all rows agent (client ∷ clients) = elim (cases_Bool (is_allocatable (fr
 ]
 
 -- where nothing is free, nothing is worth an offer
-nothing_free : (free : List Resource) → is_empty free ≡ true → is_allocatable free ≡ false
+pub nothing_free : (free : List Resource) → is_empty free ≡ true → is_allocatable free ≡ false
 nothing_free [] none = refl
 nothing_free (r ∷ rs) none = cc
 
@@ -312,7 +312,7 @@ told_of_agents-filters rows fs (agent ∷ agents) same =
     λ i. told_of_agent-filters rows fs agent same i ++ others i
 
 -- what holds a bundle back at a moment is in force at an earlier one
-in_force_before : (now later : ℕ) (client : Client) (agent : Text) (bundle : List Resource) → now ≤ later → (f : FilterRow)
+pub in_force_before : (now later : ℕ) (client : Client) (agent : Text) (bundle : List Resource) → now ≤ later → (f : FilterRow)
     → holds_back later client agent bundle f ≡ true → is_in_force now f ≡ true
 in_force_before now later client agent bundle le f holds =
     let still : nat_lt later f.until ≡ true = (and_parts _ (is_of_client client f && (is_on_agent agent f && covers f.bundle bundle)) holds).0 in

@@ -98,7 +98,7 @@ fn tightest_with<'a>(
     found: Option<&'a LimitRow>,
     limit: &'a LimitRow,
 ) -> Option<&'a LimitRow>
-    ensures { option_copied result ≡ reduced (binds role.now label.now) (λ l. l) (tighter (room_under (used_at quota.now.used) label.now)) (option_copied found) limit.now }
+    ensures { option_copied result ≡ reduced (binds role.now label.now) (λ l. l) (tighter (room_under (used_at quota.now.used) label.now)) (option_copied found.entry) limit.now }
 {
     if !binds(limit, role, label) {
         return found;
@@ -253,10 +253,11 @@ impl<'a> Gates<'a> {
     pub fn on(alloc: Global, rows: &'a Rows, agent: &'a Name) -> Result<Gates<'a>, AllocError>
         ensures { IfOk result (λ gates. (a : AgentRow) → agent.now ≡ a.name → AreGatesOf rows.now a gates) }
     {
+        let filters = filters_on(alloc, rows.filters.as_slice(), agent)?;
         Ok(Gates {
             agent,
             moment: rows.clock,
-            filters: filters_on(alloc, rows.filters.as_slice(), agent)?,
+            filters,
             limits: rows.limits.as_slice(),
         })
     }

@@ -7,7 +7,7 @@ use Rattle.drf_explain.proofs.gates.held_until.Goals as goal
 
 pub loop-filter-preserved : goal.loop-filter-preserved
 loop-filter-preserved c =
-    fold_more _ _ c.args.filters.now c.loop-filter.filter-index _ _ c.filter-item.result c.loop-filter-test.true c.filter-item.is c.held_with.ensures
+    fold_more _ _ c.args.filters.now c.loop-filter.filter-index _ _ c.filter-item.result c.loop-filter-test.true c.filter-item.is c.held_with-until.ensures
     c.loop-filter.invariant
 
 pub returns : goal.returns

@@ -7,7 +7,7 @@ use Rattle.drf_explain.proofs.gates.tightest.Goals as goal
 
 pub loop-limit-preserved : goal.loop-limit-preserved
 loop-limit-preserved c =
-    fold_more _ _ c.args.limits.now c.loop-limit.limit-index _ _ c.limit-item.result c.loop-limit-test.true c.limit-item.is c.tightest_with.ensures
+    fold_more _ _ c.args.limits.now c.loop-limit.limit-index _ _ c.limit-item.result c.loop-limit-test.true c.limit-item.is c.tightest_with-found.ensures
     c.loop-limit.invariant
 
 pub returns : goal.returns

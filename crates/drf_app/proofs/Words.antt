@@ -13,8 +13,9 @@ use Rattle.clap.specs.declared.parser.matches.SubCommand.{SubCommand}
 use Rattle.clap.specs.Words.{kind_of}
 use Rattle.clap.specs.declared.error.Error.{Error}
 use Rattle.clap.specs.declared.error.kind.ErrorKind.TheVariants.{OutOfMemory}
-use Rattle.drf_app.specs.Line.{drf_line, Asks, IsRefused}
+use Rattle.drf_app.specs.Line.{drf_line, Asks, IsEarly, IsNamed, IsRefused}
 use Rattle.drf_app.specs.declared.line.Task.{Task}
+use Rattle.drf_app.specs.declared.line.Task.TheVariants.{Run, Check, Audit, Explain}
 
 -- the name of one of the commands
 abbrev IsNameOf : List Shape → Text → Type 0
@@ -94,3 +95,10 @@ pub refused_as : (words : List Text) (r : Result Task Error) (error : Error) →
     → MatchResult r (Asks words) (IsRefused words)
 refused_as words (Ok task) error same refused = absurd same
 refused_as words (Err e) error same refused = subst (λ (x : Error). IsRefused words x) (sym same) refused
+
+-- a task that words name has no moment that is too late
+pub early_named : (words : List Text) (task : Task) → IsNamed words task → IsEarly task
+early_named words (Run echo) named = tt
+early_named words Check named = tt
+early_named words Audit named = tt
+early_named words (Explain at) named = named.2.early

@@ -1,5 +1,5 @@
 -- The form of the command line, and what its words ask for.
-use Rattle.std.specs.Prelude.{◌≡◌, ◌≤◌, ℕ, Bool, true, false, List, [], Some, None, codes}
+use Rattle.std.specs.Prelude.{◌≡◌, ◌≤◌, ⊤, ℕ, Bool, true, false, List, [], Some, None, codes}
 use Rattle.std.specs.Str.Parse.{IsNumeral, digits_value, without_leading_plus}
 use Rattle.clap.specs.Words.{App, Row, Rule, Shape, Text, HasKind, fault_of, new_app, new_rule, one_of, subcommand_of, with_rule, with_subcommand}
 use Rattle.clap.specs.Simple.{on_top}
@@ -63,6 +63,13 @@ IsNamed words Check = (rows : List Row) × (subcommand_of drf_line words ≡ Som
 IsNamed words Audit = (rows : List Row) × (subcommand_of drf_line words ≡ Some (codes "audit", rows))
 IsNamed words (Explain at) =
     (rows : List Row) × (subcommand_of drf_line words ≡ Some (codes "explain", rows)) × SaysMoment rows at
+
+-- the moment of a task, if it has one, is no later than the latest
+abbrev pub IsEarly : Task → Type 0
+IsEarly (Run echo) = ⊤
+IsEarly Check = ⊤
+IsEarly Audit = ⊤
+IsEarly (Explain at) = at ≤ LATEST_MOMENT
 
 -- the words, of which the first is the program's name, ask for the task: nothing is wrong with them, and they name it
 pub record Asks (words : List Text) (task : Task) : Type 0 where

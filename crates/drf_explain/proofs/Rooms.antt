@@ -1,5 +1,5 @@
 -- What limits leave, as a quota counts it and as the rows say it, and what comes of a client by that.
-use Rattle.std.specs.Prelude.{◌≡◌, ◌==◌, ℕ, length, max, Bool, true, false, List, [], ◌∷◌, map, filter, Option, Some, None}
+use Rattle.std.specs.Prelude.{◌≡◌, ℕ, max, Bool, true, false, List, [], ◌∷◌, map, filter, Option, Some, None}
 use Rattle.std.specs.List.{reduce}
 use Rattle.std.specs.Option.{option_map_or, option_copied}
 use Rattle.std.proofs.Common.{refl, sym, ap, subst, ◌∙◌, inl, inr, cond, arith}
@@ -13,7 +13,6 @@ use Rattle.drf_gates.specs.Quota.{Allowance, IsAllowanceOf, used_at}
 use Rattle.drf_rows.specs.Client.{Client, path_of}
 use Rattle.drf_rows.specs.Cycle.{is_allocatable}
 use Rattle.drf_rows.specs.Filters.{is_in_force, is_of_client, is_on_agent, holds_back}
-use Rattle.drf_rows.specs.Offers.{is_empty}
 use Rattle.drf_rows.specs.Quota.{Consumed, consumption, is_within}
 use Rattle.drf_rows.specs.declared.rows.AgentRow.{AgentRow}
 use Rattle.drf_rows.specs.declared.rows.FilterRow.{FilterRow}
@@ -23,7 +22,7 @@ use Rattle.drf_explain.specs.Explained.{held_until, limiting_role, outcome_by, s
 use Rattle.drf_explain.specs.ExplainedLaws.{filter_weaker}
 use Rattle.drf_explain.specs.Gates.{AreGatesOf, IsQuotaOf, client_at}
 use Rattle.drf_explain.specs.declared.finding.Outcome.{Outcome}
-use Rattle.drf_explain.specs.declared.finding.Outcome.TheVariants.{Grant, HeldBack, OverLimit, BelowThreshold, ReservedForOthers}
+use Rattle.drf_explain.specs.declared.finding.Outcome.TheVariants.{Grant, HeldBack}
 use Rattle.drf_explain.specs.declared.gates.Gates.{Gates}
 
 -- what a quota counts is what roles consume
@@ -43,28 +42,6 @@ limiting_some rows a limits role part found limiting counted same is chosen =
     chosen
     ∙ (λ i. option_map_or (λ (l : LimitRow). l.role) (is i) role)
     ∙ (λ i. option_map_or (λ (l : LimitRow). l.role) (tightest (same i) (counted_is rows a counted i) role (worthy_scalar part)) role)
-
--- ---- why nothing is offered
-
--- a list of no length is empty
-pub no_length : {A : Type 0} (xs : List A) → (length xs == 0) ≡ is_empty xs
-no_length [] = refl
-no_length (x ∷ xs) = refl
-
-module _ (rows : Rows) (role : Path) (part : List Resource) where
-  pub short-over : is_allocatable part ≡ true → (limiting : Path) → limiting ≡ limiting_role rows.limits (consumption rows) role part
-      → OverLimit limiting ≡ shortage rows.limits (consumption rows) role part
-  short-over worth limiting is =
-      ap OverLimit is
-      ∙ sym (ap (λ b. cond b (OverLimit (limiting_role rows.limits (consumption rows) role part)) (cond (is_empty part) ReservedForOthers BelowThreshold)) worth)
-
-  pub short-others : is_allocatable part ≡ false → is_empty part ≡ true → ReservedForOthers ≡ shortage rows.limits (consumption rows) role part
-  short-others little none =
-      sym ((λ i. cond (little i) (OverLimit (limiting_role rows.limits (consumption rows) role part)) (cond (none i) ReservedForOthers BelowThreshold)))
-
-  pub short-little : is_allocatable part ≡ false → is_empty part ≡ false → BelowThreshold ≡ shortage rows.limits (consumption rows) role part
-  short-little little some =
-      sym ((λ i. cond (little i) (OverLimit (limiting_role rows.limits (consumption rows) role part)) (cond (some i) ReservedForOthers BelowThreshold)))
 
 -- ---- filters on one agent
 

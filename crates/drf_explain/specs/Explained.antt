@@ -1,5 +1,5 @@
 -- What an explanation tells of the cycle that comes next: what it offers to whom, and where it offers nothing, why.
-use Rattle.std.specs.Prelude.{ℕ, suc, ◌-◌, max, Bool, not, ◌&&◌, List, [], ◌∷◌, ◌++◌, length, map, filter, flat_map, Option, if◌then◌else◌, nat_le, nat_lt, codes}
+use Rattle.std.specs.Prelude.{ℕ, suc, max, List, [], ◌∷◌, ◌++◌, length, map, filter, flat_map, Option, if◌then◌else◌, nat_le, nat_lt, codes}
 use Rattle.std.specs.List.{reduce}
 use Rattle.std.specs.Option.{option_map_or}
 use Rattle.drf_role.specs.Text.{Text}

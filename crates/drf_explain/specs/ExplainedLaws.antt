@@ -1,5 +1,5 @@
 -- The grants that are told are the offers of the cycle, and filters that have run out change nothing that is told.
-use Rattle.std.specs.Prelude.{◌≡◌, ℕ, ◌≤◌, suc, max, Bool, true, false, not, ◌&&◌, ◌||◌, List, [], ◌∷◌, ◌++◌, length, map, filter, drop, Option, Some, None, is_some, if◌then◌else◌, nat_le, nat_lt, codes}
+use Rattle.std.specs.Prelude.{◌≡◌, ℕ, ◌≤◌, suc, max, Bool, true, false, not, ◌&&◌, List, [], ◌∷◌, ◌++◌, length, map, filter, drop, Option, Some, None, is_some, if◌then◌else◌, nat_lt}
 use Rattle.std.specs.List.{flat_map, list_any, reduce}
 use Rattle.std.specs.Option.{option_map_or}
 use Rattle.std.proofs.Common.{refl, sym, ap, subst, ◌∙◌, inl, inr, cond, arith, append_assoc, append-nil}
@@ -11,10 +11,10 @@ use Rattle.drf_role.specs.Path.{Path, client_path}
 use Rattle.drf_bundle.specs.Bundle.{covers, part_for}
 use Rattle.drf_bundle.specs.declared.resource.Resource.{Resource}
 use Rattle.drf_rows.specs.Client.{Client, path_of}
-use Rattle.drf_rows.specs.Cycle.{free_of, is_allocatable, is_grantable, grant, new_offer, with_offer, tried, all_tried, turn_order, turn, turns, at_moment, cycle}
+use Rattle.drf_rows.specs.Cycle.{free_of, is_allocatable, grant, new_offer, with_offer, tried, all_tried, turn_order, turn, turns, at_moment, cycle}
 use Rattle.drf_rows.specs.CycleLaws.{all_tried_none}
 use Rattle.drf_rows.specs.Filters.{is_in_force, in_force, is_of_client, is_on_agent, holds_back, is_held_back}
-use Rattle.drf_rows.specs.Held.{client_of, standing_of}
+use Rattle.drf_rows.specs.Held.{standing_of}
 use Rattle.drf_rows.specs.LiveLaws.{kept-turns}
 use Rattle.drf_rows.specs.Offers.{is_empty}
 use Rattle.drf_rows.specs.Quota.{consumption, entitlement}
@@ -25,7 +25,7 @@ use Rattle.drf_rows.specs.declared.rows.FilterRow.{FilterRow}
 use Rattle.drf_rows.specs.declared.rows.FrameworkRow.{FrameworkRow}
 use Rattle.drf_rows.specs.declared.rows.OfferRow.{OfferRow}
 use Rattle.drf_rows.specs.declared.rows.Rows.{Rows}
-use Rattle.drf_explain.specs.Explained.{held_until, limiting_role, shortage, outcome_by, outcome, told_of_all, told_of_active, told_of_agent, after_agent, told_of_agents, told_if_suppressed, suppressed_in, suppressed_of, explained}
+use Rattle.drf_explain.specs.Explained.{held_until, limiting_role, shortage, outcome, told_of_all, told_of_active, told_of_agent, after_agent, told_of_agents, told_if_suppressed, suppressed_in, suppressed_of, explained}
 use Rattle.drf_explain.specs.declared.finding.Finding.{Finding}
 use Rattle.drf_explain.specs.declared.finding.Finding.TheVariants.{Suppressed, Inactive, NothingFree, Tried, Left}
 use Rattle.drf_explain.specs.declared.finding.Outcome.{Outcome}
@@ -177,12 +177,14 @@ makes-active rows agent = elim (cases_Bool (is_empty (free_of rows agent))) [
 
 makes-agents : (rows : Rows) (agents : List AgentRow) → Makes rows (turns rows (filter (λ a. a.active) agents)) (told_of_agents rows agents)
 makes-agents rows [] = makes-nothing rows [] refl
-makes-agents rows (agent ∷ agents) = elim (cases_Bool agent.active) [
-  | inl active ↦ rw active
-      (makes-both rows (turn rows agent) _ (told_of_active rows agent) _ (makes-active rows agent) (makes-agents (turn rows agent) agents))
-  | inr idle ↦ rw idle
-      (makes-both rows rows _ (Inactive agent.name ∷ []) _ (makes-nothing rows _ refl) (makes-agents rows agents))
-]
+makes-agents rows (agent ∷ agents) = by agent.active (makes-agents (turn rows agent) agents) (makes-agents rows agents)
+  where
+    by : (active : Bool) → Makes (turn rows agent) (turns (turn rows agent) (filter (λ a. a.active) agents)) (told_of_agents (turn rows agent) agents)
+        → Makes rows (turns rows (filter (λ a. a.active) agents)) (told_of_agents rows agents)
+        → Makes rows (turns rows (cond active (agent ∷ filter (λ a. a.active) agents) (filter (λ a. a.active) agents)))
+        (cond active (told_of_active rows agent) (Inactive agent.name ∷ []) ++ told_of_agents (cond active (turn rows agent) rows) agents)
+    by true later skipped = makes-both rows (turn rows agent) _ (told_of_active rows agent) _ (makes-active rows agent) later
+    by false later skipped = makes-both rows rows _ (Inactive agent.name ∷ []) _ (makes-nothing rows _ refl) skipped
 
 -- who wants no offers gets none
 no_suppressed : (f : FrameworkRow) (cs : List ClientRow) → flat_map grants_in (flat_map (told_if_suppressed f) cs) ≡ []

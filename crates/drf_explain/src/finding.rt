@@ -22,11 +22,17 @@ pub enum Outcome {
 #[derive(Debug, Drop)]
 pub enum Finding {
     /// The client wants no offers.
-    Suppressed { client: ClientPath },
+    Suppressed {
+        client: ClientPath,
+    },
     /// The agent takes no part.
-    Inactive { agent: Name },
+    Inactive {
+        agent: Name,
+    },
     /// All that the agent has is offered or in tasks.
-    NothingFree { agent: Name },
+    NothingFree {
+        agent: Name,
+    },
     /// The client is tried on the agent.
     Tried {
         agent: Name,

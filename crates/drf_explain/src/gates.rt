@@ -1,7 +1,6 @@
 //! What comes of trying a client on an agent.
 ghost use Rattle.std.specs.Prelude.{◌≡◌, max, filter, IfOk};
 ghost use Rattle.std.specs.Option.{option_copied};
-
 ghost use Rattle.drf_bundle.specs.Bundle.{covers};
 ghost use Rattle.drf_gates.specs.Quota.{used_at};
 ghost use Rattle.drf_rows.specs.Client.{Client, path_of};

@@ -103,12 +103,7 @@ fn agent_value(alloc: Global, agent: &Name, why: &str) -> Result<Value, AllocErr
     json!(in alloc; {"agent": agent, "why": why})
 }
 
-fn left_value(
-    alloc: Global,
-    agent: &Name,
-    left: &Bundle,
-    clients: u64,
-) -> Result<Value, AllocError>
+fn left_value(alloc: Global, agent: &Name, left: &Bundle, clients: u64) -> Result<Value, AllocError>
     ensures { IfOk result (λ value. view value ≡ left_value agent.now left.now clients) }
 {
     let agent = agent.text();
@@ -159,10 +154,7 @@ pub fn write_explained_line(
 }
 
 /// The lines of findings, one after another.
-pub fn write_explained_lines(
-    alloc: Global,
-    findings: &[Finding],
-) -> Result<Vec<u8>, AllocError>
+pub fn write_explained_lines(alloc: Global, findings: &[Finding]) -> Result<Vec<u8>, AllocError>
     ensures { IfOk result (λ text. text.items ≡ explained_text findings.now) }
 {
     let mut text = Vec::new(alloc);

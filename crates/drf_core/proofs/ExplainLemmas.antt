@@ -3,7 +3,7 @@ use Rattle.std.proofs.Common.{◌≡◌, ℕ, ◌+◌, ◌<◌, ◌≤◌, zero,
 use Rattle.std.specs.Prelude.{slice_get, is_some, filter, nat_lt, max}
 use Rattle.std.specs.List.{AllByRecursion}
 use Rattle.std.specs.Option.{option_map_or}
-use Rattle.std.proofs.lemmas.Bool.{and_parts}
+use Rattle.std.proofs.lemmas.Bool.{and_parts, lt-ltb}
 use Rattle.std.proofs.lemmas.List.{length-map}
 use Rattle.drf_role.specs.Path.{Path, role_part}
 use Rattle.drf_role.specs.PathLaws.{role_part-client_path}
@@ -172,6 +172,7 @@ module _ (rows : Rows) (place : ℕ) (start now : Rows) (queue : List Path) (bef
           let many : waiting ≡ suc (length cs) = counted ∙ ap length queued ∙ ap suc (length-map cs path_of) in
           added
           ∙ (λ i. findings ++ left_told agent.name (is_free i) (many i))
+          ∙ ap (λ b. findings ++ cond b (Left agent.name (free_of now agent) (suc (length cs)) ∷ []) []) (lt-ltb 0 (suc (length cs)) (omega arith))
           ∙ ap (λ b. findings ++ cond b (Tried agent.name (path_of c) (outcome now agent c) ∷ told_of_all (tried now agent c) agent cs)
           (Left agent.name (free_of now agent) (suc (length cs)) ∷ [])) (sym little)
           ∙ told

@@ -1,5 +1,5 @@
 //! What the next cycle would offer, told client by client. It is tried on tables and a sorter that are thrown away.
-ghost use Rattle.std.specs.Prelude.{◌≡◌, ◌+◌, ◌<◌, ◌≤◌, ◌++◌, ◌∷◌, [], Some, length, slice_get, IfOk, OnOk};
+ghost use Rattle.std.specs.Prelude.{◌≡◌, true, ◌+◌, ◌<◌, ◌≤◌, List, ◌++◌, ◌∷◌, [], Some, length, slice_get, IfOk, OnOk};
 ghost use Rattle.std.specs.Option.{option_copied};
 ghost use Rattle.drf_role.specs.Path.{Path};
 ghost use Rattle.drf_rows.specs.Cycle.{free_of};
@@ -133,7 +133,14 @@ fn tell_clients<S: Sorter>(
         entitled: None,
     };
     while goes_on(sorter, &free) {
-        tell_first(sorter, gates, drafts.quota.as_ref(), &free.bundle, agent, findings)?;
+        tell_first(
+            sorter,
+            gates,
+            drafts.quota.as_ref(),
+            &free.bundle,
+            agent,
+            findings,
+        )?;
         try_first(tables, sorter, place, &mut free, drafts)?;
         sorter.pass();
         waiting -= 1;

@@ -37,7 +37,7 @@ use Rattle.drf_core.specs.Drafting.{IsDrafting, IsTried, is_open_at, turn_at}
 use Rattle.drf_core.specs.Entitling.{IsEntitlement, IsQuotaOf}
 use Rattle.drf_core.specs.Explaining.{AreToldAt, AreTried, IsOutcomeOf, left_told, told_at}
 use Rattle.drf_core.proofs.CycleLemmas.{begins_at}
-use Rattle.drf_core.proofs.TurnLemmas.{AreWaiting, ordered_from, turn_at-closed}
+use Rattle.drf_core.proofs.TurnLemmas.{AreWaiting, element_at, ordered_from, turn_at-closed}
 
 -- ---- what decides stays while offers are drafts
 
@@ -177,7 +177,19 @@ module _ (rows : Rows) (place : ℕ) (start now : Rows) (queue : List Path) (bef
           (Left agent.name (free_of now agent) (suc (length cs)) ∷ [])) (sym little)
           ∙ told
 
+-- the first passed by, one fewer waits
+pub one_fewer : (queue : List Path) (worth : Bool) → (is_some (slice_get queue 0) && worth) ≡ true → length queue ≡ length (drop 1 queue) + 1
+one_fewer [] worth some = cc
+one_fewer (path ∷ queue) worth some = omega arith
+
 -- ---- the turn of an agent
+
+-- it stands at its place with drafts too
+pub agent_in : (rows : Rows) (offers : List OfferRow) (place : ℕ) → place < length rows.agents
+    → (a : AgentRow) × (slice_get rows.agents place ≡ Some a) × (slice_get (with_offers rows offers).agents place ≡ Some a)
+agent_in rows offers place inside =
+    let agent = element_at rows.agents place inside in
+    (agent.0, agent.1, ap (λ as'. slice_get as' place) (agents-with_offers rows offers) ∙ agent.1)
 
 module _ (rows : Rows) (place : ℕ) (agent : AgentRow) (at : slice_get rows.agents place ≡ Some agent) where
   pub told_at-agent : told_at rows place ≡ told_of_agent rows agent

@@ -6,7 +6,7 @@ use Rattle.drf_rows.specs.declared.limits.TheConstants.{LATEST_MOMENT}
 use Rattle.drf_core.specs.Entitling.{IsQuotaOf}
 use Rattle.drf_core.proofs.CycleLemmas.{drafting-begins}
 use Rattle.drf_core.proofs.ExplainLemmas.{explained-is}
-use Rattle.drf_core.proofs.explain.explain.Goals.{After-set_clock, After-quota_of}
+use Rattle.drf_core.proofs.explain.explain.Goals.{After-quota_of}
 use Rattle.drf_core.proofs.explain.explain.Given as given
 use Rattle.drf_core.proofs.explain.explain.Goals as goal
 
@@ -15,9 +15,6 @@ set_clock-requires g c = omega (arith, c.requires.kept.consistent.early, c.requi
 
 moved : (g : given.Over) (c : After-quota_of g) → c.quota_of.new.tables.rows ≡ record c.args.tables.now.rows { clock = c.max-moment.result }
 moved g c = c.quota_of.ensures.same ∙ c.settle.ensures.same ∙ c.set_clock.ensures
-
-early : (g : given.Over) (c : After-set_clock g) → c.max-moment.result ≤ LATEST_MOMENT
-early g c = omega (arith, c.requires.kept.consistent.early, c.requires.early, c.max-moment.ensures, c.clock.ensures)
 
 pub quota_of-requires : goal.quota_of-requires
 quota_of-requires g c =
@@ -28,7 +25,7 @@ pub tell_turns-requires-clause-drafting : goal.tell_turns-requires-clause-drafti
 tell_turns-requires-clause-drafting g c =
     let b = (goal.at.tell_turns-requires-clause-drafting g c).After-quota_of in
     drafting-begins (g.S.Sorter.content c.args.sorter.now) c.args.limits.now c.args.tables.now.rows c.quota_of.new.tables.rows c.max-moment.result c.new.result.items
-    c.requires.kept (early g b.After-set_clock) (moved g b) c.new.ensures.items
+    c.requires.kept (omega (arith, c.requires.kept.consistent.early, c.requires.early, c.max-moment.ensures, c.clock.ensures)) (moved g b) c.new.ensures.items
 
 pub tell_turns-requires-clause-quota : goal.tell_turns-requires-clause-quota
 tell_turns-requires-clause-quota g c =

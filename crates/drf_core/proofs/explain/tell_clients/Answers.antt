@@ -12,7 +12,7 @@ use Rattle.drf_tables.specs.Drafts.{with_offers}
 use Rattle.drf_tables.specs.DraftLaws.{agents-with_offers}
 use Rattle.drf_core.specs.Drafting.{IsDrafting, IsFreeAt}
 use Rattle.drf_core.specs.Explaining.{left_told}
-use Rattle.drf_core.proofs.ExplainLemmas.{gates-drafts, told-begins, as_many, told-passed, told-over, waiting_of}
+use Rattle.drf_core.proofs.ExplainLemmas.{gates-drafts, told-begins, as_many, one_fewer, told-passed, told-over, waiting_of}
 use Rattle.drf_core.proofs.TurnLemmas.{HasLeft-turn, free-before, element_at, sound_now, waiting-first, waiting-over, first_of_queue, queue_falls}
 use Rattle.drf_core.proofs.explain.tell_clients.Given as given
 use Rattle.drf_core.proofs.explain.tell_clients.Goals.{After-goes_on}
@@ -87,8 +87,8 @@ loop-sorter-preserved g c =
       quota = c.in_ok-try_first.ensures.quota;
       entitled = c.in_ok-try_first.ensures.entitled;
       waiting =
-          let falls = queue_falls queue (is_allocatable c.loop-sorter.free.bundle) some in
-          omega (arith, c.loop-sorter.invariant.waiting, falls, ap length left);
+          let fewer = one_fewer queue (is_allocatable c.loop-sorter.free.bundle) some in
+          omega (arith, c.loop-sorter.invariant.waiting, fewer, ap length left);
       lefts = c.try_first.ensures.lefts ∙ c.loop-sorter.invariant.lefts;
     }
 

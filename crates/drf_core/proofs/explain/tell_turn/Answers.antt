@@ -9,40 +9,31 @@ use Rattle.drf_explain.specs.Gates.{AreGatesOf}
 use Rattle.drf_explain.specs.declared.finding.Finding.TheVariants.{Inactive, NothingFree}
 use Rattle.drf_tables.specs.Drafts.{with_offers}
 use Rattle.drf_tables.specs.DraftLaws.{agents-with_offers}
-use Rattle.drf_core.proofs.ExplainLemmas.{gates-live, turn_at-idle, turn_at-full, turn_at-tried, told_at-idle, told_at-full, told_at-tried}
+use Rattle.drf_core.proofs.ExplainLemmas.{agent_in, gates-live, turn_at-idle, turn_at-full, turn_at-tried, told_at-idle, told_at-full, told_at-tried}
 use Rattle.drf_core.proofs.RefusalLemmas.{no_length}
-use Rattle.drf_core.proofs.TurnLemmas.{HasLeft-closed, free-before, element_at}
-use Rattle.drf_core.proofs.explain.tell_turn.Goals.{After-is_active, After-is_empty, After-tell_clients}
+use Rattle.drf_core.proofs.TurnLemmas.{HasLeft-closed, free-before}
+use Rattle.drf_core.proofs.explain.tell_turn.Goals.{After-is_empty}
 use Rattle.drf_core.proofs.explain.tell_turn.Given as given
 use Rattle.drf_core.proofs.explain.tell_turn.Goals as goal
 
--- the agent stands at its place with the drafts too
-agent_at : (g : given.Over) (c : After-is_active g)
-    → (a : AgentRow) × (slice_get c.args.tables.now.rows.agents c.args.place ≡ Some a)
-    × (slice_get (with_offers c.args.tables.now.rows c.args.drafts.now.offers.items).agents c.args.place ≡ Some a)
-agent_at g c =
-    let rows : Rows = c.args.tables.now.rows in
-    let agent = element_at rows.agents c.args.place c.requires.place in
-    (agent.0, agent.1, ap (λ as'. slice_get as' c.args.place) (agents-with_offers rows c.args.drafts.now.offers.items) ∙ agent.1)
-
 -- whether anything is free there, with the drafts
 empty_at : (g : given.Over) (c : After-is_empty g)
-    → c.is_empty.result ≡ is_empty (free_of (with_offers c.args.tables.now.rows c.args.drafts.now.offers.items) (agent_at g c.After-is_active).0)
+    → c.is_empty.result ≡ is_empty (free_of (with_offers c.args.tables.now.rows c.args.drafts.now.offers.items) (agent_in c.args.tables.now.rows c.args.drafts.now.offers.items c.args.place c.requires.place).0)
 empty_at g c =
     let rows : Rows = c.args.tables.now.rows in
-    let a = agent_at g c.After-is_active in
+    let a = agent_in rows c.args.drafts.now.offers.items c.args.place c.requires.place in
     c.is_empty.ensures ∙ no_length c.entries.result.now
     ∙ ap (λ (rs : List Resource). is_empty rs) (c.entries.ensures.value ∙ c.free.ensures a.0 a.1
     ∙ sym (free-before rows c.args.drafts.now.offers.items c.args.drafts.now.lefts.items c.args.place a.0 c.requires.left a.1))
 
 pub returns-then-not-is_active-clause-turn : goal.returns-then-not-is_active-clause-turn
 returns-then-not-is_active-clause-turn g c =
-    let a = agent_at g (goal.at.returns-then-not-is_active-clause-turn g c).After-is_active in
+    let a = agent_in c.args.tables.now.rows c.args.drafts.now.offers.items c.args.place c.requires.place in
     turn_at-idle _ c.args.place a.0 a.2 (sym (c.is_active.ensures a.0 a.1) ∙ c.if-not-is_active.true)
 
 pub returns-then-not-is_active-clause-told : goal.returns-then-not-is_active-clause-told
 returns-then-not-is_active-clause-told g c =
-    let a = agent_at g (goal.at.returns-then-not-is_active-clause-told g c).After-is_active in
+    let a = agent_in c.args.tables.now.rows c.args.drafts.now.offers.items c.args.place c.requires.place in
     c.in_ok-push.ensures.items
     ∙ ap (λ n. c.args.findings.now.items ++ Inactive n ∷ []) (c.in_ok-agent.ensures ∙ c.agent_name-agent.ensures a.0 a.1)
     ∙ ap (λ fs. c.args.findings.now.items ++ fs)
@@ -55,13 +46,13 @@ returns-then-not-is_active-clause-left g c =
 pub returns-then-is_empty-clause-turn : goal.returns-then-is_empty-clause-turn
 returns-then-is_empty-clause-turn g c =
     let b = (goal.at.returns-then-is_empty-clause-turn g c).After-is_empty in
-    let a = agent_at g b.After-is_active in
+    let a = agent_in c.args.tables.now.rows c.args.drafts.now.offers.items c.args.place c.requires.place in
     turn_at-full _ c.args.place a.0 a.2 (sym (empty_at g b) ∙ c.if-is_empty.true)
 
 pub returns-then-is_empty-clause-told : goal.returns-then-is_empty-clause-told
 returns-then-is_empty-clause-told g c =
     let b = (goal.at.returns-then-is_empty-clause-told g c).After-is_empty in
-    let a = agent_at g b.After-is_active in
+    let a = agent_in c.args.tables.now.rows c.args.drafts.now.offers.items c.args.place c.requires.place in
     c.in_ok-push-2.ensures.items
     ∙ ap (λ n. c.args.findings.now.items ++ NothingFree n ∷ []) (c.in_ok-agent-2.ensures ∙ c.agent_name-agent.ensures a.0 a.1)
     ∙ ap (λ fs. c.args.findings.now.items ++ fs)
@@ -79,14 +70,14 @@ tell_clients-requires-clause-gates g c = λ agent at.
 
 pub returns-clause-turn : goal.returns-clause-turn
 returns-clause-turn g c =
-    let a = agent_at g (goal.at.returns-clause-turn g c).After-is_active in
+    let a = agent_in c.args.tables.now.rows c.args.drafts.now.offers.items c.args.place c.requires.place in
     c.in_ok-tell_clients.ensures.tried a.0 a.2
     ∙ turn_at-tried _ c.args.place a.0 a.2 (sym (c.is_active.ensures a.0 a.1) ∙ c.if-not-is_active.false)
 
 pub returns-clause-told : goal.returns-clause-told
 returns-clause-told g c =
     let b = (goal.at.returns-clause-told g c).After-is_empty in
-    let a = agent_at g b.After-is_active in
+    let a = agent_in c.args.tables.now.rows c.args.drafts.now.offers.items c.args.place c.requires.place in
     c.in_ok-tell_clients.ensures.told a.0 a.2
     ∙ ap (λ fs. c.args.findings.now.items ++ fs)
     (told_at-tried _ c.args.place a.0 a.2 (sym (c.is_active.ensures a.0 a.1) ∙ c.if-not-is_active.false) (sym (empty_at g b) ∙ c.if-is_empty.false))

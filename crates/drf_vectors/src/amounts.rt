@@ -1,6 +1,6 @@
 //! Amounts as texts, `none` being the empty one, and what two of them have to do with one another.
 use crate::halves;
-use anyhow::Result;
+use anyhow::{Context, Result};
 use drf_amount::{Algebra, AlgebraFault, Scalar};
 use drf_kinds::{Items, Ranges};
 use drf_role::Label;
@@ -10,7 +10,8 @@ use std::fmt::Write;
 pub trait Amount: Algebra {
     fn from_text(alloc: Global, text: &str) -> Result<Self>;
 
-    fn shown(&self, alloc: Global) -> Result<String>;
+    /// Adds the text of an amount that is not empty.
+    fn append(&self, alloc: Global, told: &mut String) -> Result<()>;
 }
 
 impl Amount for Scalar {
@@ -18,8 +19,8 @@ impl Amount for Scalar {
         Ok(Scalar::new(text.parse::<u64>()?))
     }
 
-    fn shown(&self, alloc: Global) -> Result<String> {
-        Ok(format!(in alloc; "{}", self.thousandths())?)
+    fn append(&self, _alloc: Global, told: &mut String) -> Result<()> {
+        Ok(write!(told, "{}", self.thousandths())?)
     }
 }
 
@@ -33,13 +34,12 @@ impl Amount for Ranges {
         Ok(Ranges::from_pairs(alloc, &pairs)?)
     }
 
-    fn shown(&self, alloc: Global) -> Result<String> {
-        let mut text = String::new(alloc);
+    fn append(&self, _alloc: Global, told: &mut String) -> Result<()> {
         for interval in self.intervals() {
-            write!(text, "{}-{},", interval.first, interval.last)?;
+            write!(told, "{}-{},", interval.first, interval.last)?;
         }
-        let _ = text.pop();
-        Ok(text)
+        let _ = told.pop();
+        Ok(())
     }
 }
 
@@ -52,13 +52,12 @@ impl Amount for Items {
         Ok(Items::from_names(alloc, names)?)
     }
 
-    fn shown(&self, alloc: Global) -> Result<String> {
-        let mut text = String::new(alloc);
+    fn append(&self, _alloc: Global, told: &mut String) -> Result<()> {
         for name in self.names() {
-            write!(text, "{},", name.text())?;
+            write!(told, "{},", name.text())?;
         }
-        let _ = text.pop();
-        Ok(text)
+        let _ = told.pop();
+        Ok(())
     }
 }
 
@@ -69,45 +68,62 @@ pub fn read<A: Amount>(alloc: Global, text: &str) -> Result<A> {
     A::from_text(alloc, text)
 }
 
-pub fn show<A: Amount>(alloc: Global, amount: &A) -> Result<String> {
+pub fn append<A: Amount>(alloc: Global, told: &mut String, amount: &A) -> Result<()> {
     if amount.is_empty() {
-        return Ok(String::from_str(alloc, "none")?);
+        return Ok(told.push_str("none")?);
     }
-    amount.shown(alloc)
+    amount.append(alloc, told)
 }
 
-fn outcome<A: Amount>(alloc: Global, answer: Result<A, AlgebraFault>) -> Result<String> {
+fn append_outcome<A: Amount>(
+    alloc: Global,
+    told: &mut String,
+    answer: Result<A, AlgebraFault>,
+) -> Result<()> {
     match answer {
-        Ok(amount) => show(alloc, &amount),
-        Err(fault) => Ok(format!(in alloc; "{fault}")?),
+        Ok(amount) => append(alloc, told, &amount),
+        Err(fault) => Ok(write!(told, "{fault}")?),
     }
 }
 
-fn comparison<A: Amount>(alloc: Global, one: &A, other: &A) -> Result<String> {
-    let join = outcome(alloc, one.try_join(other))?;
-    let rest = outcome(alloc, one.try_minus(other))?;
+fn append_comparison<A: Amount>(
+    alloc: Global,
+    told: &mut String,
+    one: &A,
+    other: &A,
+) -> Result<()> {
+    told.push_str("join ")?;
+    append_outcome(alloc, told, one.try_join(other))?;
+    told.push_str("; rest ")?;
+    append_outcome(alloc, told, one.try_minus(other))?;
     let (covers, disjoint) = (one.covers(other), one.disjoint(other));
-    Ok(format!(in alloc; "join {join}; rest {rest}; covers {covers}; disjoint {disjoint}")?)
+    Ok(write!(told, "; covers {covers}; disjoint {disjoint}")?)
+}
+
+/// A copy of an amount, and how much it is.
+fn append_copy<A: Amount>(alloc: Global, told: &mut String, amount: &A) -> Result<()> {
+    let copy = amount.copy()?;
+    append(alloc, told, &copy)?;
+    write!(told, "; amount {}", copy.amount()).context("no memory")
 }
 
 /// A copy of one amount and how much it is, or two amounts compared.
-pub fn compared<A: Amount>(alloc: Global, text: &str) -> Result<String> {
+pub fn compared<A: Amount>(alloc: Global, told: &mut String, text: &str) -> Result<()> {
     if let Some((one, other)) = text.split_once(' ') {
-        return comparison::<A>(alloc, &read(alloc, one)?, &read(alloc, other)?);
+        return append_comparison::<A>(alloc, told, &read(alloc, one)?, &read(alloc, other)?);
     }
-    let copy = read::<A>(alloc, text)?.copy()?;
-    let (amount, shown) = (copy.amount(), show(alloc, &copy)?);
-    Ok(format!(in alloc; "{shown}; amount {amount}")?)
+    append_copy::<A>(alloc, told, &read(alloc, text)?)
 }
 
-pub fn has_number(alloc: Global, text: &str) -> Result<String> {
+pub fn has_number(alloc: Global, told: &mut String, text: &str) -> Result<()> {
     let (ranges, number) = halves(text, ' ')?;
-    let has = read::<Ranges>(alloc, ranges)?.contains(number.parse::<u32>()?);
-    Ok(format!(in alloc; "{has}")?)
+    let number = number.parse::<u32>()?;
+    let has = read::<Ranges>(alloc, ranges)?.contains(number);
+    Ok(write!(told, "{has}")?)
 }
 
-pub fn has_name(alloc: Global, text: &str) -> Result<String> {
+pub fn has_name(alloc: Global, told: &mut String, text: &str) -> Result<()> {
     let (items, name) = halves(text, ' ')?;
     let has = read::<Items>(alloc, items)?.contains(name);
-    Ok(format!(in alloc; "{has}")?)
+    Ok(write!(told, "{has}")?)
 }

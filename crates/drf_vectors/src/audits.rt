@@ -23,16 +23,6 @@ fn agent(alloc: Global, name: &str, total: &str) -> Result<AgentRow> {
     })
 }
 
-fn offer(alloc: Global, agent: &str, bundle: &str) -> Result<OfferRow> {
-    Ok(OfferRow {
-        number: 1,
-        agent: Name::read(alloc, agent)?,
-        framework: Name::read(alloc, "f1")?,
-        role: Role::read(alloc, "a")?,
-        bundle: read_bundle(alloc, bundle)?,
-    })
-}
-
 fn task(alloc: Global, agent: &str, bundle: &str) -> Result<TaskRow> {
     Ok(TaskRow {
         name: Name::read(alloc, "t")?,
@@ -40,6 +30,24 @@ fn task(alloc: Global, agent: &str, bundle: &str) -> Result<TaskRow> {
         framework: Name::read(alloc, "f1")?,
         role: Role::read(alloc, "a")?,
         bundle: read_bundle(alloc, bundle)?,
+    })
+}
+
+/// An offer of what a task would have.
+fn offer(alloc: Global, agent: &str, bundle: &str) -> Result<OfferRow> {
+    let TaskRow {
+        name: _,
+        agent,
+        framework,
+        role,
+        bundle,
+    } = task(alloc, agent, bundle)?;
+    Ok(OfferRow {
+        number: 1,
+        agent,
+        framework,
+        role,
+        bundle,
     })
 }
 
@@ -54,16 +62,21 @@ fn add(alloc: Global, cluster: &mut Cluster, text: &str) -> Result<()> {
     }
 }
 
-fn read_cluster(alloc: Global, text: &str) -> Result<Cluster> {
+fn add_all(alloc: Global, cluster: &mut Cluster, text: &str) -> Result<()> {
+    for text in text.split("; ") {
+        add(alloc, cluster, text)?;
+    }
+    Ok(())
+}
+
+fn read_rows(alloc: Global, text: &str) -> Result<Rows> {
     let mut cluster = Cluster {
         agents: Vec::new(alloc),
         offers: Vec::new(alloc),
         tasks: Vec::new(alloc),
     };
-    for text in text.split("; ") {
-        add(alloc, &mut cluster, text)?;
-    }
-    Ok(cluster)
+    add_all(alloc, &mut cluster, text)?;
+    Ok(rows(alloc, cluster))
 }
 
 fn rows(alloc: Global, cluster: Cluster) -> Rows {
@@ -86,19 +99,43 @@ fn rows(alloc: Global, cluster: Cluster) -> Rows {
     }
 }
 
-fn text_of(alloc: Global, lines: &[AuditLine]) -> Result<String> {
-    let mut text = Vec::new(alloc);
+fn write_all(alloc: Global, lines: &[AuditLine], text: &mut Vec<u8>) -> Result<()> {
     for line in lines {
-        write_audit_line(alloc, line, &mut text)?;
+        write_audit_line(alloc, line, text)?;
     }
     // The last line feed.
     let _ = text.pop();
-    String::from_utf8(text).ok().context("no text")
+    Ok(())
+}
+
+fn append_lines(alloc: Global, told: &mut String, lines: &[AuditLine]) -> Result<()> {
+    let mut text = Vec::new(alloc);
+    write_all(alloc, lines, &mut text)?;
+    append_text(told, &text)
+}
+
+fn append_text(told: &mut String, text: &[u8]) -> Result<()> {
+    let text = str::from_utf8(text).ok().context("no text")?;
+    Ok(told.push_str(text)?)
+}
+
+fn append_audit(
+    rt: &(impl Threads + Sync),
+    alloc: Global,
+    told: &mut String,
+    rows: &Rows,
+) -> Result<()> {
+    let lines = audit(rt, alloc, rows)?;
+    append_lines(alloc, told, lines.as_slice())
 }
 
 /// The lines of the audit.
-pub fn audited(rt: &(impl Threads + Sync), alloc: Global, text: &str) -> Result<String> {
-    let rows = rows(alloc, read_cluster(alloc, text)?);
-    let lines = audit(rt, alloc, &rows)?;
-    text_of(alloc, lines.as_slice())
+pub fn audited(
+    rt: &(impl Threads + Sync),
+    alloc: Global,
+    told: &mut String,
+    text: &str,
+) -> Result<()> {
+    let rows = read_rows(alloc, text)?;
+    append_audit(rt, alloc, told, &rows)
 }

@@ -5,13 +5,13 @@ ghost use Rattle.drf_rows.specs.declared.reply.Refusal.TheVariants.{KnownAgent};
 ghost use Rattle.drf_rows.specs.declared.reply.Reply.TheVariants.{Done, Refused};
 ghost use Rattle.drf_vectors.specs.OneAgent.{agent_added, one_cpu, once, twice, sheet_after};
 
+use crate::texts::append_quantities;
 use anyhow::{Context, Result};
 use drf_amount::Scalar;
 use drf_board::{Board, Brand, Naming, Pane, Sheet, Shows, Slate, Told, Viewer};
 use drf_bundle::{Bundle, Value};
 use drf_role::{Label, Name, Role};
 use drf_rows::{Event, Limits, Refusal, Reply, Report, Table};
-use drf_text::write_quantities;
 use std::alloc::Global;
 use std::fmt::Write;
 use std::sync::Wait;
@@ -80,11 +80,15 @@ where
     Ok(board.publish(sheet, event, reply)?)
 }
 
+fn append_shown(alloc: Global, told: &mut String, sheet: &Sheet) -> Result<()> {
+    write!(told, "; {} events (", sheet.events)?;
+    append_quantities(alloc, told, &sheet.report.total)?;
+    Ok(told.push(')')?)
+}
+
 fn append_sheet<K: Naming>(alloc: Global, told: &mut String, viewer: &mut Viewer<K>) -> Result<()> {
     let sheet = viewer.read().ok().context("nothing is shown")?;
-    let total = write_quantities(alloc, &sheet.report.total)?;
-    let events = sheet.events;
-    Ok(write!(told, "; {events} events ({total})")?)
+    append_shown(alloc, told, &sheet)
 }
 
 fn append_sheets<K: Naming>(
@@ -101,11 +105,12 @@ fn append_sheets<K: Naming>(
 /// What the viewers read at first, and after both calls, of which the first viewer learns the second.
 fn watched<K: Naming, R: Wait + Drop>(
     alloc: Global,
+    told: &mut String,
     board: &mut Board<K, R>,
     viewers: &mut [Viewer<K>],
     event: &Event,
     replies: (&Reply, &Reply),
-) -> Result<String>
+) -> Result<()>
 where
     Pane<K>: Shows,
     requires limits { K.slate.limits ≡ ceilings }
@@ -114,24 +119,24 @@ where
     requires first { replies.0.now ≡ Done }
     requires second { replies.1.now ≡ Refused KnownAgent }
 {
-    let mut told = format!(in alloc; "{} viewers", board.viewers())?;
-    append_sheets(alloc, &mut told, viewers)?;
+    write!(told, "{} viewers", board.viewers())?;
+    append_sheets(alloc, told, viewers)?;
     publish_once(alloc, board, event, replies.0)?;
     let told_again = publish_again(alloc, board, event, replies.1)?;
     if let Some(first) = viewers.first_mut() {
         first.learn(&told_again);
     }
-    append_sheets(alloc, &mut told, viewers)?;
-    Ok(told)
+    append_sheets(alloc, told, viewers)
 }
 
 /// The event and the replies are lent: who owns one proves for each `?` behind it how it is dropped.
 fn replied<K: Naming, R: Wait + Drop>(
     alloc: Global,
+    told: &mut String,
     board: &mut Board<K, R>,
     viewers: &mut [Viewer<K>],
     event: &Event,
-) -> Result<String>
+) -> Result<()>
 where
     Pane<K>: Shows,
     requires limits { K.slate.limits ≡ ceilings }
@@ -140,32 +145,36 @@ where
 {
     let done = Reply::Done;
     let known = Reply::Refused(Refusal::KnownAgent);
-    watched(alloc, board, viewers, event, (&done, &known))
+    watched(alloc, told, board, viewers, event, (&done, &known))
 }
 
-fn shown_to<K: Naming, R: Wait + Drop>(rt: R, alloc: Global, slate: Slate) -> Result<String>
+fn shown_to<K: Naming, R: Wait + Drop>(
+    rt: R,
+    alloc: Global,
+    told: &mut String,
+    slate: Slate,
+) -> Result<()>
     requires named { slate.name ≡ K.slate }
     requires limits { slate.name.limits ≡ ceilings }
 {
     let (mut board, mut viewers) = Board::<K, R>::open(rt, alloc, slate)?;
     let event = agent_added(alloc)?;
-    replied(alloc, &mut board, viewers.as_mut_slice(), &event)
+    replied(alloc, told, &mut board, viewers.as_mut_slice(), &event)
 }
 
-fn viewers_of<K: Naming, R: Wait + Drop>(alloc: Global, board: &Board<K, R>) -> Result<String>
+fn append_viewers<K: Naming, R: Wait + Drop>(told: &mut String, board: &Board<K, R>) -> Result<()>
 where
     Pane<K>: Shows,
 {
-    let viewers = board.viewers();
-    Ok(format!(in alloc; "{viewers} viewers")?)
+    Ok(write!(told, "{} viewers", board.viewers())?)
 }
 
 /// A board that nobody looks at takes an event, and shows none.
 fn unwatched<K: Naming, R: Wait + Drop>(
-    alloc: Global,
+    told: &mut String,
     board: &mut Board<K, R>,
     event: &Event,
-) -> Result<String>
+) -> Result<()>
 where
     Pane<K>: Shows,
     requires limits { K.slate.limits ≡ ceilings }
@@ -175,27 +184,32 @@ where
 {
     let done = Reply::Done;
     board.publish_unseen(event, &done);
-    viewers_of(alloc, board)
+    append_viewers(told, board)
 }
 
-fn shown_to_none<K: Naming, R: Wait + Drop>(rt: R, alloc: Global, slate: Slate) -> Result<String>
+fn shown_to_none<K: Naming, R: Wait + Drop>(
+    rt: R,
+    alloc: Global,
+    told: &mut String,
+    slate: Slate,
+) -> Result<()>
     requires named { slate.name ≡ K.slate }
     requires limits { slate.name.limits ≡ ceilings }
     requires unseen { slate.viewers ≡ 0 }
 {
     let (mut board, _) = Board::<K, R>::open(rt, alloc, slate)?;
     let event = agent_added(alloc)?;
-    unwatched(alloc, &mut board, &event)
+    unwatched(told, &mut board, &event)
 }
 
 /// A board that nobody looks at.
-pub fn hidden<R: Wait>(rt: &R, alloc: Global) -> Result<String> {
+pub fn hidden<R: Wait>(rt: &R, alloc: Global, told: &mut String) -> Result<()> {
     let slate = Slate::open(0, Limits::full())?;
-    shown_to_none::<Brand, &R>(rt, alloc, slate)
+    shown_to_none::<Brand, &R>(rt, alloc, told, slate)
 }
 
 /// What two viewers read.
-pub fn shown<R: Wait>(rt: &R, alloc: Global) -> Result<String> {
+pub fn shown<R: Wait>(rt: &R, alloc: Global, told: &mut String) -> Result<()> {
     let slate = Slate::open(2, Limits::full())?;
-    shown_to::<Brand, &R>(rt, alloc, slate)
+    shown_to::<Brand, &R>(rt, alloc, told, slate)
 }

@@ -5,19 +5,14 @@ ghost use Rattle.drf_bundle.specs.Quantities.{amount_of};
 
 use crate::halves;
 use crate::quantities::{append, read};
+use crate::texts::read_both;
 use anyhow::{Context, Result, bail};
 use drf_bundle::{Bundle, Quantities};
 use drf_gates::Quota;
 use drf_role::Role;
-use drf_text::read_bundle;
+use drf_rows::LimitRow;
 use std::alloc::Global;
 use std::fmt::Write;
-
-fn show(alloc: Global, amounts: &Quantities) -> Result<String> {
-    let mut told = String::new(alloc);
-    append(&mut told, "", amounts)?;
-    Ok(told)
-}
 
 fn limit(alloc: Global, text: &str) -> Result<Quantities> {
     if text == "none" {
@@ -26,103 +21,109 @@ fn limit(alloc: Global, text: &str) -> Result<Quantities> {
     read(alloc, text)
 }
 
-fn set_limit(alloc: Global, quota: &mut Quota, text: &str) -> Result<String>
+fn set_limit(alloc: Global, told: &mut String, quota: &mut Quota, text: &str) -> Result<()>
     ensures { quota.new.used ≡ quota.old.used }
 {
     let (role, text) = halves(text, ' ')?;
     quota.set_limit(Role::read(alloc, role)?, limit(alloc, text)?)?;
-    Ok(format!(in alloc; "{} limits", quota.limit_count())?)
+    Ok(write!(told, "{} limits", quota.limit_count())?)
 }
 
-fn limit_of(alloc: Global, quota: &Quota, text: &str) -> Result<String> {
-    let role = Role::read(alloc, text)?;
-    show(alloc, quota.limit(&role).context("no limit")?)
+fn append_headroom(told: &mut String, quota: &Quota, role: &Role) -> Result<()> {
+    let room = quota.headroom(role)?;
+    append(told, "", &room)
 }
 
-fn headroom(alloc: Global, quota: &Quota, text: &str) -> Result<String> {
-    let role = Role::read(alloc, text)?;
-    let room = quota.headroom(&role)?;
-    show(alloc, &room)
-}
-
-fn headroom_at(alloc: Global, quota: &Quota, text: &str) -> Result<String> {
-    let (role, label) = halves(text, ' ')?;
-    let role = Role::read(alloc, role)?;
-    let room = quota.headroom_at(&role, label).context("no bound")?;
-    Ok(format!(in alloc; "{room}")?)
-}
-
-fn consumption(alloc: Global, quota: &Quota, text: &str) -> Result<String> {
-    let (role, label) = halves(text, ' ')?;
-    let role = Role::read(alloc, role)?;
-    let used = quota.consumption(&role, label);
-    Ok(format!(in alloc; "{used}")?)
-}
-
-fn admits(alloc: Global, quota: &Quota, text: &str) -> Result<String> {
-    let (role, text) = halves(text, ' ')?;
-    let role = Role::read(alloc, role)?;
+fn append_admits(
+    alloc: Global,
+    told: &mut String,
+    quota: &Quota,
+    role: &Role,
+    text: &str,
+) -> Result<()> {
     let more = limit(alloc, text)?;
-    let admits = quota.admits(&role, &more);
-    Ok(format!(in alloc; "{admits}")?)
+    write!(told, "{}", quota.admits(role, &more)).context("no memory")
 }
 
 /// The roles that have a limit, in the order in which they got one.
-fn limited(alloc: Global, quota: &Quota) -> Result<String> {
-    let rows = quota.rows()?;
-    let mut told = String::new(alloc);
-    for row in rows.as_slice() {
+fn append_rows(told: &mut String, rows: &[LimitRow]) -> Result<()> {
+    for row in rows {
         write!(told, "{} ", row.role.text())?;
-        append(&mut told, "", &row.limit)?;
+        append(told, "", &row.limit)?;
         told.push(' ')?;
     }
     let _ = told.pop();
-    Ok(told)
+    Ok(())
 }
 
-fn ask(alloc: Global, quota: &Quota, call: &str, text: &str) -> Result<String> {
+fn limited(told: &mut String, quota: &Quota) -> Result<()> {
+    let rows = quota.rows()?;
+    append_rows(told, rows.as_slice())
+}
+
+/// What a quota answers of a role, and what stands behind it.
+fn ask_of(
+    alloc: Global,
+    told: &mut String,
+    quota: &Quota,
+    call: &str,
+    role: &Role,
+    text: &str,
+) -> Result<()> {
     match call {
-        "limit" => limit_of(alloc, quota, text),
-        "limits" => limited(alloc, quota),
-        "headroom" => headroom(alloc, quota, text),
-        "headroom_at" => headroom_at(alloc, quota, text),
-        "consumption" => consumption(alloc, quota, text),
-        "admits" => admits(alloc, quota, text),
+        "limit" => append(told, "", quota.limit(role).context("no limit")?),
+        "headroom" => append_headroom(told, quota, role),
+        "headroom_at" => {
+            let room = quota.headroom_at(role, text).context("no bound")?;
+            Ok(write!(told, "{room}")?)
+        }
+        "consumption" => Ok(write!(told, "{}", quota.consumption(role, text))?),
+        "admits" => append_admits(alloc, told, quota, role, text),
         _ => bail!("no call"),
     }
 }
 
-fn ask_copy(alloc: Global, quota: &Quota, text: &str) -> Result<String> {
-    let (call, text) = text.split_once(' ').unwrap_or((text, ""));
-    let copy = quota.copy()?;
-    ask(alloc, &copy, call, text)
+fn ask(alloc: Global, told: &mut String, quota: &Quota, call: &str, text: &str) -> Result<()> {
+    if call == "limits" {
+        return limited(told, quota);
+    }
+    let (role, text) = text.split_once(' ').unwrap_or((text, ""));
+    let role = Role::read(alloc, role)?;
+    ask_of(alloc, told, quota, call, &role, text)
 }
 
-fn call(alloc: Global, quota: &mut Quota, text: &str) -> Result<String>
+fn ask_copy(alloc: Global, told: &mut String, quota: &Quota, text: &str) -> Result<()> {
+    let (call, text) = text.split_once(' ').unwrap_or((text, ""));
+    let copy = quota.copy()?;
+    ask(alloc, told, &copy, call, text)
+}
+
+fn call(alloc: Global, told: &mut String, quota: &mut Quota, text: &str) -> Result<()>
     ensures { quota.new.used ≡ quota.old.used }
 {
     let (call, text) = text.split_once(' ').unwrap_or((text, ""));
     match call {
-        "set_limit" => set_limit(alloc, quota, text),
-        "copy" => ask_copy(alloc, quota, text),
-        _ => ask(alloc, quota, call, text),
+        "set_limit" => set_limit(alloc, told, quota, text),
+        "copy" => ask_copy(alloc, told, quota, text),
+        _ => ask(alloc, told, quota, call, text),
     }
 }
 
-fn append_call(alloc: Global, answers: &mut String, quota: &mut Quota, text: &str) -> Result<()>
+fn append_call(alloc: Global, told: &mut String, quota: &mut Quota, text: &str) -> Result<()>
     ensures { quota.new.used ≡ quota.old.used }
 {
-    match call(alloc, quota, text) {
-        Ok(answer) => Ok(write!(answers, "; {answer}")?),
-        Err(fault) => Ok(write!(answers, "; {fault}")?),
+    told.push_str("; ")?;
+    if let Err(fault) = call(alloc, told, quota, text) {
+        write!(told, "{fault}")?;
     }
+    Ok(())
 }
 
-fn append_calls(alloc: Global, answers: &mut String, quota: &mut Quota, calls: &str) -> Result<()>
+fn append_calls(alloc: Global, told: &mut String, quota: &mut Quota, calls: &str) -> Result<()>
     ensures { quota.new.used ≡ quota.old.used }
 {
     for text in calls.split("; ") {
-        append_call(alloc, answers, quota, text)?;
+        append_call(alloc, told, quota, text)?;
     }
     Ok(())
 }
@@ -145,39 +146,39 @@ fn append_consumption(
 /// What calls answer while a role consumes so much, and what it consumes after it released that.
 fn between(
     alloc: Global,
+    told: &mut String,
     quota: &mut Quota,
     role: &Role,
     amounts: &Quantities,
     calls: &str,
-) -> Result<String>
+) -> Result<()>
     requires none { quota.old.used ≡ [] }
     requires few { (label : List ℕ) → amount_of amounts.now label < 2 ^ 32 }
 {
-    let mut told = String::from_str(alloc, "consumed")?;
+    told.push_str("consumed")?;
     quota.consume(role, amounts)?;
-    append_consumption(&mut told, quota, role, amounts)?;
-    append_calls(alloc, &mut told, quota, calls)?;
+    append_consumption(told, quota, role, amounts)?;
+    append_calls(alloc, told, quota, calls)?;
     quota.release(role, amounts);
     told.push_str("; released")?;
-    append_consumption(&mut told, quota, role, amounts)?;
-    Ok(told)
+    append_consumption(told, quota, role, amounts)
 }
 
 /// A role, what it consumes, and calls.
-pub fn answers(alloc: Global, text: &str) -> Result<String> {
+pub fn answers(alloc: Global, told: &mut String, text: &str) -> Result<()> {
     let (start, calls) = text.split_once("; ").context("no calls")?;
     let (role, amounts) = halves(start, ' ')?;
     let (role, amounts) = (Role::read(alloc, role)?, read(alloc, amounts)?);
     let mut quota = Quota::new(alloc);
-    between(alloc, &mut quota, &role, &amounts, calls)
+    between(alloc, told, &mut quota, &role, &amounts, calls)
 }
 
 /// What a role consumes once a client of the other role holds the bundle.
 fn told_unreserved(
+    told: &mut String,
     quota: &mut Quota,
     holder: &Role,
     bundle: &Bundle,
-    told: &mut String,
 ) -> Result<()>
     requires { quota.old.used ≡ [] }
 {
@@ -187,7 +188,7 @@ fn told_unreserved(
     append_consumption(told, quota, holder, names)
 }
 
-fn told_reserved(quota: &mut Quota, role: &Role, bundle: &Bundle, told: &mut String) -> Result<()>
+fn told_reserved(told: &mut String, quota: &mut Quota, role: &Role, bundle: &Bundle) -> Result<()>
     requires { quota.old.used ≡ [] }
 {
     // The proof learns that it is a bundle by this call alone.
@@ -196,13 +197,22 @@ fn told_reserved(quota: &mut Quota, role: &Role, bundle: &Bundle, told: &mut Str
     append_consumption(told, quota, role, names)
 }
 
-/// What a role consumes while a client of it holds a bundle, and then, by itself, while an agent has that bundle.
-pub fn of_bundle(alloc: Global, text: &str) -> Result<String> {
-    let (role, bundle) = halves(text, ' ')?;
-    let (role, bundle) = (Role::read(alloc, role)?, read_bundle(alloc, bundle)?);
-    let mut told = String::from_str(alloc, "held")?;
-    told_unreserved(&mut Quota::new(alloc), &role, &bundle, &mut told)?;
+/// What a role consumes while a client of it holds a bundle.
+fn while_held(alloc: Global, told: &mut String, role: &Role, bundle: &Bundle) -> Result<()> {
+    told.push_str("held")?;
+    let mut quota = Quota::new(alloc);
+    told_unreserved(told, &mut quota, role, bundle)
+}
+
+/// What a role consumes, by itself, while an agent has a bundle.
+fn while_reserved(alloc: Global, told: &mut String, role: &Role, bundle: &Bundle) -> Result<()> {
     told.push_str("; reserved")?;
-    told_reserved(&mut Quota::new(alloc), &role, &bundle, &mut told)?;
-    Ok(told)
+    let mut quota = Quota::new(alloc);
+    told_reserved(told, &mut quota, role, bundle)
+}
+
+pub fn of_bundle(alloc: Global, told: &mut String, text: &str) -> Result<()> {
+    let (role, bundle) = read_both(alloc, text)?;
+    while_held(alloc, told, &role, &bundle)?;
+    while_reserved(alloc, told, &role, &bundle)
 }

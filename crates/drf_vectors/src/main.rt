@@ -20,6 +20,7 @@ use drf_kinds::{Items, Ranges};
 use drf_role::{Label, Name, NodePath, Role};
 use std::alloc::Global;
 use std::io;
+use std::rt::Runtime;
 use std::sync::Wait;
 use std::thread::Threads;
 
@@ -28,90 +29,99 @@ fn halves(text: &str, mark: char) -> Result<(&str, &str)> {
     text.split_once(mark).context("half a question")
 }
 
-fn answer_of_words(alloc: Global, kind: &str, text: &str) -> Result<String> {
+fn answer_of_words(alloc: Global, told: &mut String, kind: &str, text: &str) -> Result<()> {
     match kind {
-        "name" => words::copied::<Name>(alloc, text),
-        "label" => words::copied::<Label>(alloc, text),
-        "role" => words::copied::<Role>(alloc, text),
-        "distinct_names" => words::distinct::<Name>(alloc, text),
-        "distinct_labels" => words::distinct::<Label>(alloc, text),
-        "distinct_roles" => words::distinct::<Role>(alloc, text),
-        "node" => words::copied::<NodePath>(alloc, text),
-        "distinct_nodes" => words::distinct::<NodePath>(alloc, text),
-        "sorted_names" => words::sorted::<Name>(alloc, text),
-        "sorted_nodes" => words::sorted::<NodePath>(alloc, text),
+        "name" => words::copied::<Name>(alloc, told, text),
+        "label" => words::copied::<Label>(alloc, told, text),
+        "role" => words::copied::<Role>(alloc, told, text),
+        "distinct_names" => words::distinct::<Name>(alloc, told, text),
+        "distinct_labels" => words::distinct::<Label>(alloc, told, text),
+        "distinct_roles" => words::distinct::<Role>(alloc, told, text),
+        "node" => words::copied::<NodePath>(alloc, told, text),
+        "distinct_nodes" => words::distinct::<NodePath>(alloc, told, text),
+        "sorted_names" => words::sorted::<Name>(alloc, told, text),
+        "sorted_nodes" => words::sorted::<NodePath>(alloc, told, text),
         _ => bail!("no question"),
     }
 }
 
-fn answer_of_paths(alloc: Global, kind: &str, text: &str) -> Result<String> {
+fn answer_of_paths(alloc: Global, told: &mut String, kind: &str, text: &str) -> Result<()> {
     match kind {
-        "parts" => paths::parts(alloc, text),
-        "is_default" => paths::is_default(alloc, text),
-        "is_within" => paths::is_within(alloc, text),
-        "client" => paths::client_parts(alloc, text),
-        "nodes" => paths::nodes(alloc, text),
-        "is_same_client" => paths::is_same_client(alloc, text),
-        _ => answer_of_words(alloc, kind, text),
+        "parts" => paths::parts(alloc, told, text),
+        "is_default" => paths::is_default(alloc, told, text),
+        "is_within" => paths::is_within(alloc, told, text),
+        "client" => paths::client_parts(alloc, told, text),
+        "nodes" => paths::nodes(alloc, told, text),
+        "is_same_client" => paths::is_same_client(alloc, told, text),
+        _ => answer_of_words(alloc, told, kind, text),
     }
 }
 
-fn answer_of_texts(alloc: Global, kind: &str, text: &str) -> Result<String> {
+fn answer_of_texts(alloc: Global, told: &mut String, kind: &str, text: &str) -> Result<()> {
     match kind {
-        "bundle" => texts::bundle(alloc, text),
-        "quantity_text" => texts::quantities(alloc, text),
-        "weight" => texts::weight(alloc, text),
-        "part_for" => texts::part(alloc, text),
-        "clip" => texts::clipped(alloc, text),
-        "rest" => texts::left(alloc, text),
-        "relabel" => texts::moved(alloc, text),
-        "get" => texts::found(alloc, text),
-        _ => answer_of_paths(alloc, kind, text),
+        "bundle" => texts::bundle(alloc, told, text),
+        "quantity_text" => texts::quantities(alloc, told, text),
+        "weight" => texts::weight(told, text),
+        "part_for" => texts::part(alloc, told, text),
+        "clip" => texts::clipped(alloc, told, text),
+        "rest" => texts::left(alloc, told, text),
+        "relabel" => texts::moved(alloc, told, text),
+        "get" => texts::found(alloc, told, text),
+        _ => answer_of_paths(alloc, told, kind, text),
     }
 }
 
-fn answer(alloc: Global, question: &str) -> Result<String> {
-    let (kind, text) = question.split_once(' ').unwrap_or((question, ""));
+fn answer(alloc: Global, told: &mut String, kind: &str, text: &str) -> Result<()> {
     match kind {
-        "scalars" => amounts::compared::<Scalar>(alloc, text),
-        "ranges" => amounts::compared::<Ranges>(alloc, text),
-        "items" => amounts::compared::<Items>(alloc, text),
-        "bundles" => amounts::compared::<Bundle>(alloc, text),
-        "has_number" => amounts::has_number(alloc, text),
-        "has_name" => amounts::has_name(alloc, text),
-        "pool_of_scalars" => pools::answers::<Scalar>(alloc, text),
-        "pool_of_ranges" => pools::answers::<Ranges>(alloc, text),
-        "pool_of_items" => pools::answers::<Items>(alloc, text),
-        "pool_of_bundles" => pools::answers::<Bundle>(alloc, text),
-        "quantities" => quantities::compared(alloc, text),
-        "shares" => shares::compared(alloc, text),
-        "quota" => limits::answers(alloc, text),
-        "consumed_of" => limits::of_bundle(alloc, text),
-        _ => answer_of_texts(alloc, kind, text),
+        "scalars" => amounts::compared::<Scalar>(alloc, told, text),
+        "ranges" => amounts::compared::<Ranges>(alloc, told, text),
+        "items" => amounts::compared::<Items>(alloc, told, text),
+        "bundles" => amounts::compared::<Bundle>(alloc, told, text),
+        "has_number" => amounts::has_number(alloc, told, text),
+        "has_name" => amounts::has_name(alloc, told, text),
+        "pool_of_scalars" => pools::answers::<Scalar>(alloc, told, text),
+        "pool_of_ranges" => pools::answers::<Ranges>(alloc, told, text),
+        "pool_of_items" => pools::answers::<Items>(alloc, told, text),
+        "pool_of_bundles" => pools::answers::<Bundle>(alloc, told, text),
+        "quantities" => quantities::compared(alloc, told, text),
+        "shares" => shares::compared(told, text),
+        "quota" => limits::answers(alloc, told, text),
+        "consumed_of" => limits::of_bundle(alloc, told, text),
+        _ => answer_of_texts(alloc, told, kind, text),
     }
 }
 
+/// Adds the answer to a text that is lent: who owns a text behind a `?` proves how it is dropped.
 fn answer_by_threads<R: Threads + Wait + Sync>(
     rt: &R,
     alloc: Global,
+    told: &mut String,
     question: &str,
-) -> Result<String> {
+) -> Result<()> {
     let (kind, text) = question.split_once(' ').unwrap_or((question, ""));
     match kind {
-        "audit" => audits::audited(rt, alloc, text),
-        "board" => boards::shown(rt, alloc),
-        "hidden_board" => boards::hidden(rt, alloc),
-        _ => answer(alloc, question),
+        "audit" => audits::audited(rt, alloc, told, text),
+        "board" => boards::shown(rt, alloc, told),
+        "hidden_board" => boards::hidden(rt, alloc, told),
+        _ => answer(alloc, told, kind, text),
+    }
+}
+
+fn tell<R: Runtime + Threads + Wait + Sync + AllocGlobal>(
+    rt: &R,
+    question: &str,
+) -> io::Result<()> {
+    let mut told = String::new(rt.alloc());
+    match answer_by_threads(rt, rt.alloc(), &mut told, question) {
+        Ok(()) => println!(rt; "{question} -> {told}"),
+        Err(fault) => println!(rt; "{question} -> {fault}"),
     }
 }
 
 fn main(rt: HostRuntime) -> io::Result<()> {
     for line in rt.lines(rt.alloc()) {
         let question = line?;
-        match answer_by_threads(&rt, rt.alloc(), question.as_str()) {
-            Ok(text) => println!(rt; "{question} -> {text}")?,
-            Err(fault) => println!(rt; "{question} -> {fault}")?,
-        }
+        tell(&rt, question.as_str())?;
     }
     Ok(())
 }

@@ -1,73 +1,103 @@
 //! Roles, and clients that are written `role:framework`.
 use crate::halves;
-use anyhow::Result;
+use anyhow::{Context, Result};
 use drf_role::{ClientPath, Name, NodePath, Role};
 use std::alloc::Global;
 use std::fmt::Write;
 
+fn client_of(alloc: Global, role: &Role, framework: &str) -> Result<ClientPath> {
+    let framework = Name::read(alloc, framework)?;
+    ClientPath::new(alloc, role, &framework).context("no memory")
+}
+
 pub fn client(alloc: Global, text: &str) -> Result<ClientPath> {
     let (role, framework) = halves(text, ':')?;
     let role = Role::read(alloc, role)?;
-    let framework = Name::read(alloc, framework)?;
-    Ok(ClientPath::new(alloc, &role, &framework)?)
+    client_of(alloc, &role, framework)
+}
+
+fn node_of(alloc: Global, role: &Role) -> Result<NodePath> {
+    let client = client_of(alloc, role, ".")?;
+    let len = role.len().min(client.len());
+    client.node(len).context("no memory")
 }
 
 /// The node of a client, or of a role.
 pub fn node(alloc: Global, text: &str) -> Result<NodePath> {
     if text.contains(':') {
         let client = client(alloc, text)?;
-        return Ok(client.node(client.len())?);
+        return client.node(client.len()).context("no memory");
     }
     let role = Role::read(alloc, text)?;
-    let client = ClientPath::new(alloc, &role, &Name::read(alloc, ".")?)?;
-    Ok(client.node(role.len().min(client.len()))?)
+    node_of(alloc, &role)
 }
 
-pub fn parts(alloc: Global, text: &str) -> Result<String> {
-    let role = Role::read(alloc, text)?;
-    let mut answer = format!(in alloc; "{}", role.len())?;
+fn append_parts(told: &mut String, role: &Role) -> Result<()> {
+    write!(told, "{}", role.len())?;
     for part in role.parts() {
-        write!(answer, " {part}")?;
+        write!(told, " {part}")?;
     }
-    Ok(answer)
+    Ok(())
 }
 
-pub fn is_default(alloc: Global, text: &str) -> Result<String> {
+pub fn parts(alloc: Global, told: &mut String, text: &str) -> Result<()> {
     let role = Role::read(alloc, text)?;
-    let is_equal = role == Role::default_role(alloc)?;
-    Ok(format!(in alloc; "{} {is_equal}", role.is_default())?)
+    append_parts(told, &role)
 }
 
-pub fn is_within(alloc: Global, text: &str) -> Result<String> {
+fn append_is_default(told: &mut String, role: &Role, default_role: &Role) -> Result<()> {
+    let is_equal = role == default_role;
+    Ok(write!(told, "{} {is_equal}", role.is_default())?)
+}
+
+pub fn is_default(alloc: Global, told: &mut String, text: &str) -> Result<()> {
+    let role = Role::read(alloc, text)?;
+    append_is_default(told, &role, &Role::default_role(alloc)?)
+}
+
+pub fn is_within(alloc: Global, told: &mut String, text: &str) -> Result<()> {
     let (role, outer) = halves(text, ' ')?;
     let is_within = Role::read(alloc, role)?.is_within(&Role::read(alloc, outer)?);
-    Ok(format!(in alloc; "{is_within}")?)
+    Ok(write!(told, "{is_within}")?)
 }
 
-pub fn client_parts(alloc: Global, text: &str) -> Result<String> {
+fn append_client(told: &mut String, client: &ClientPath) -> Result<()> {
+    let (role, framework) = (client.role().text(), client.framework().text());
+    write!(told, "{role} {framework}: {}", client.len())?;
+    for i in 0..client.len() {
+        write!(told, " {}", client.part(i))?;
+    }
+    Ok(())
+}
+
+pub fn client_parts(alloc: Global, told: &mut String, text: &str) -> Result<()> {
     let (role, framework) = halves(text, ':')?;
     let client = ClientPath::from_parts(Role::read(alloc, role)?, Name::read(alloc, framework)?);
-    let (role, framework) = (client.role().text(), client.framework().text());
-    let mut answer = format!(in alloc; "{role} {framework}: {}", client.len())?;
-    for i in 0..client.len() {
-        write!(answer, " {}", client.part(i))?;
-    }
-    Ok(answer)
+    append_client(told, &client)
 }
 
-/// Each node of a client with its last part.
-pub fn nodes(alloc: Global, text: &str) -> Result<String> {
-    let client = client(alloc, text)?.copy()?;
-    let mut answer = format!(in alloc; "{}", client.len())?;
+/// A node with its last part.
+fn append_node(told: &mut String, node: &NodePath) -> Result<()> {
+    Ok(write!(told, " {}({})", node.text(), node.part(node.len() - 1))?)
+}
+
+fn append_nodes(told: &mut String, client: &ClientPath) -> Result<()> {
+    write!(told, "{}", client.len())?;
     for i in 0..client.len() {
         let node = client.node(i + 1)?;
-        write!(answer, " {}({})", node.text(), node.part(node.len() - 1))?;
+        append_node(told, &node)?;
     }
-    Ok(answer)
+    Ok(())
 }
 
-pub fn is_same_client(alloc: Global, text: &str) -> Result<String> {
+/// Each node of a client.
+pub fn nodes(alloc: Global, told: &mut String, text: &str) -> Result<()> {
+    let client = client(alloc, text)?.copy()?;
+    append_nodes(told, &client)
+}
+
+pub fn is_same_client(alloc: Global, told: &mut String, text: &str) -> Result<()> {
     let (one, other) = halves(text, ' ')?;
     let is_same = client(alloc, one)? == client(alloc, other)?;
-    Ok(format!(in alloc; "{is_same}")?)
+    Ok(write!(told, "{is_same}")?)
 }

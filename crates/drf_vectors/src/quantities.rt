@@ -58,21 +58,26 @@ fn append_filled(told: &mut String, kept: &Quantities, part: &Quantities) -> Res
     append(told, "; above 0 ", &sum)
 }
 
-fn counts(alloc: Global, kept: &Quantities, part: &Quantities) -> Result<String> {
+fn append_counts(told: &mut String, kept: &Quantities, part: &Quantities) -> Result<()> {
     let counts = (
         kept.entries().len(),
         part.entries().len(),
         kept.count_with(part),
     );
-    Ok(format!(in alloc; "labels {counts:?}")?)
+    Ok(write!(told, "labels {counts:?}")?)
+}
+
+fn append_both(told: &mut String, kept: &Quantities, part: &Quantities) -> Result<()>
+    requires { (label : List ℕ) → amount_of kept.now label + amount_of part.now label < 2 ^ 64 }
+{
+    append_counts(told, kept, part)?;
+    append_sum(told, kept, part)?;
+    append_filled(told, kept, part)
 }
 
 /// How many labels two quantities have, each and together, then what their sum is.
-pub fn compared(alloc: Global, text: &str) -> Result<String> {
+pub fn compared(alloc: Global, told: &mut String, text: &str) -> Result<()> {
     let (kept, part) = halves(text, ' ')?;
-    let (kept, part) = (read(alloc, kept)?, read(alloc, part)?);
-    let mut told = counts(alloc, &kept, &part)?;
-    append_sum(&mut told, &kept, &part)?;
-    append_filled(&mut told, &kept, &part)?;
-    Ok(told)
+    let kept = read(alloc, kept)?;
+    append_both(told, &kept, &read(alloc, part)?)
 }

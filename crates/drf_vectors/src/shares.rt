@@ -2,8 +2,8 @@
 use crate::halves;
 use anyhow::{Result, ensure};
 use drf_sorter::Share;
-use std::alloc::Global;
 use std::cmp::Ordering;
+use std::fmt::Write;
 
 fn share(text: &str) -> Result<Share> {
     let (part, text) = halves(text, '/')?;
@@ -18,7 +18,7 @@ fn share(text: &str) -> Result<Share> {
     Ok(Share::new(part, whole, weight))
 }
 
-pub fn compared(alloc: Global, text: &str) -> Result<String> {
+pub fn compared(told: &mut String, text: &str) -> Result<()> {
     let (one, other) = halves(text, ' ')?;
     let (one, other) = (share(one)?, share(other)?);
     let order = match one.cmp(&other) {
@@ -27,5 +27,5 @@ pub fn compared(alloc: Global, text: &str) -> Result<String> {
         Ordering::Greater => "greater",
     };
     let is_equal = one == other;
-    Ok(format!(in alloc; "{order} {is_equal}")?)
+    Ok(write!(told, "{order} {is_equal}")?)
 }

@@ -53,50 +53,56 @@ impl Word for NodePath {
     }
 }
 
-pub fn copied<W: Word>(alloc: Global, text: &str) -> Result<String> {
-    let word = W::from_text(alloc, text)?;
-    Ok(String::from_str(alloc, word.shown())?)
-}
-
-fn append(list: &mut String, text: &str) -> Result<()> {
-    if !list.is_empty() {
-        list.push(' ')?;
+fn append(told: &mut String, text: &str) -> Result<()> {
+    if !told.is_empty() {
+        told.push(' ')?;
     }
-    Ok(list.push_str(text)?)
+    Ok(told.push_str(text)?)
 }
 
-fn read_each<W: Word>(alloc: Global, texts: &str) -> Result<Vec<W>> {
-    let mut words = Vec::new(alloc);
+pub fn copied<W: Word>(alloc: Global, told: &mut String, text: &str) -> Result<()> {
+    let word = W::from_text(alloc, text)?;
+    append(told, word.shown())
+}
+
+fn read_each<W: Word>(alloc: Global, words: &mut Vec<W>, texts: &str) -> Result<()> {
     for text in texts.split(' ') {
         words.push(W::from_text(alloc, text)?)?;
     }
-    Ok(words)
+    Ok(())
 }
 
-fn read_once<W: Word>(alloc: Global, texts: &str) -> Result<IndexSet<W>> {
-    let mut words = IndexSet::new(alloc);
+fn read_once<W: Word>(alloc: Global, words: &mut IndexSet<W>, texts: &str) -> Result<()> {
     for text in texts.split(' ') {
         words.insert(W::from_text(alloc, text)?)?;
     }
-    Ok(words)
+    Ok(())
+}
+
+fn append_once<W: Word>(told: &mut String, words: &IndexSet<W>) -> Result<()> {
+    for word in words.iter() {
+        append(told, word.shown())?;
+    }
+    Ok(())
+}
+
+fn append_sorted<W: Word + Ord>(told: &mut String, words: &mut Vec<W>) -> Result<()> {
+    words.sort()?;
+    for word in words.iter() {
+        append(told, word.shown())?;
+    }
+    Ok(())
 }
 
 /// Each of the words once, in the order in which they come first.
-pub fn distinct<W: Word>(alloc: Global, texts: &str) -> Result<String> {
-    let words = read_once::<W>(alloc, texts)?;
-    let mut list = String::new(alloc);
-    for word in words.iter() {
-        append(&mut list, word.shown())?;
-    }
-    Ok(list)
+pub fn distinct<W: Word>(alloc: Global, told: &mut String, texts: &str) -> Result<()> {
+    let mut words = IndexSet::<W>::new(alloc);
+    read_once(alloc, &mut words, texts)?;
+    append_once(told, &words)
 }
 
-pub fn sorted<W: Word + Ord>(alloc: Global, texts: &str) -> Result<String> {
-    let mut words = read_each::<W>(alloc, texts)?;
-    words.sort()?;
-    let mut list = String::new(alloc);
-    for word in &words {
-        append(&mut list, word.shown())?;
-    }
-    Ok(list)
+pub fn sorted<W: Word + Ord>(alloc: Global, told: &mut String, texts: &str) -> Result<()> {
+    let mut words = Vec::<W>::new(alloc);
+    read_each(alloc, &mut words, texts)?;
+    append_sorted(told, &mut words)
 }

@@ -1,5 +1,5 @@
 use Rattle.std.proofs.Common.{◌≡◌, ◌<◌, ◌^◌, None, Some, refl, ◌∙◌, codes, arith}
-use Rattle.std.specs.Str.Parse.{digits_value, without_leading_plus}
+use Rattle.std.specs.Str.Parse.{IsNumeral, digits_value, without_leading_plus}
 use Rattle.clap.specs.Words.{found_of}
 use Rattle.clap.proofs.WalkLemmas.{one_text-rows}
 use Rattle.drf_app.proofs.line.moment_of.Goals as goal
@@ -23,6 +23,7 @@ returns-in-None c =
       said = λ text said numeral early.
           let read = rw c.in-None.is at (c.get_one.ensures.value text (flag ∙ said)) in
           let fits : digits_value 10 (without_leading_plus text) < 2 ^ 64 = omega (arith, early) in
-          absurd (read.1 (numeral, fits));
+          let refused : IsNumeral 10 (without_leading_plus text) × (digits_value 10 (without_leading_plus text) < 2 ^ 64) → ⊥ = read.1 in
+          absurd (refused (numeral, fits));
       early = omega arith;
     }

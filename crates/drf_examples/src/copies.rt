@@ -3,14 +3,15 @@
 use crate::events::{events_of, text_of};
 use drf_core::Core;
 use drf_rows::{Event, Limits};
+use drf_sorter::Sorter;
 use drf_tree::TreeSorter;
 use std::alloc::{AllocError, Global};
 use std::rt::Runtime;
 use std::{fs, io};
 
-fn answered(
+fn answered<S: Sorter>(
     alloc: Global,
-    core: &mut Core<TreeSorter>,
+    core: &mut Core<S>,
     events: &[Event],
 ) -> Result<Vec<u8>, AllocError> {
     let mut replies = Vec::new(alloc);
@@ -20,13 +21,13 @@ fn answered(
 
 /// Whether a core answers the events by those bytes, and a copy, made between the first of them and the rest, by as many of the
 /// last.
-fn is_exact(
+fn is_exact<S: Sorter>(
     alloc: Global,
     first: &[Event],
     rest: &[Event],
     output: &[u8],
 ) -> Result<bool, AllocError> {
-    let mut core = Core::open(alloc, Limits::full())?;
+    let mut core = Core::<S>::open(alloc, Limits::full())?;
     let mut told = answered(alloc, &mut core, first)?;
     let mut copy = core.copy()?;
     let by_copy = answered(alloc, &mut copy, rest)?;
@@ -44,7 +45,7 @@ fn count_others(
     let mut others: usize = 0;
     for count in 0..=events.len() {
         let (first, rest) = events.split_at(count);
-        if !is_exact(alloc, first, rest, output)? {
+        if !is_exact::<TreeSorter>(alloc, first, rest, output)? {
             others = others.saturating_add(1);
         }
     }

@@ -10,9 +10,9 @@ use std::rt::Runtime;
 use std::{fs, io};
 
 /// How many keys are made while the core takes the events.
-fn keys_for(
+fn keys_for<S: Sorter>(
     alloc: Global,
-    core: &mut Core<TreeSorter>,
+    core: &mut Core<S>,
     events: &[Event],
 ) -> Result<u64, AllocError> {
     let before = core.sorter().keys_made();
@@ -20,9 +20,9 @@ fn keys_for(
     Ok(core.sorter().keys_made().saturating_sub(before))
 }
 
-fn tell_keys<R: Runtime + AllocGlobal>(
+fn tell_keys<S: Sorter, R: Runtime + AllocGlobal>(
     rt: &R,
-    core: &mut Core<TreeSorter>,
+    core: &mut Core<S>,
     events: &[Event],
     most: u64,
 ) -> io::Result<()> {
@@ -38,9 +38,9 @@ fn part_of<'a>(events: &'a [Event], part: &str) -> Option<(&'a [Event], u64, &'a
     Some((next, most.parse::<u64>().ok()?, later))
 }
 
-fn tell_parts<R: Runtime + AllocGlobal>(
+fn tell_parts<S: Sorter, R: Runtime + AllocGlobal>(
     rt: &R,
-    core: &mut Core<TreeSorter>,
+    core: &mut Core<S>,
     events: &[Event],
     parts: &str,
 ) -> io::Result<()> {
@@ -55,11 +55,11 @@ fn tell_parts<R: Runtime + AllocGlobal>(
     Ok(())
 }
 
-fn tell_example<R: Runtime + AllocGlobal>(rt: &R, row: &str) -> io::Result<()> {
+fn tell_example<S: Sorter, R: Runtime + AllocGlobal>(rt: &R, row: &str) -> io::Result<()> {
     let (name, parts) = row.split_once(' ').unwrap_or((row, ""));
     let path = format!(in rt.alloc(); "{name}.in")?;
     let lines = fs::read_to_string(rt, path.as_str())?;
-    let mut core = Core::open(rt.alloc(), Limits::full())?;
+    let mut core = Core::<S>::open(rt.alloc(), Limits::full())?;
     match events_of(rt.alloc(), lines.as_str()) {
         Ok(events) => tell_parts(rt, &mut core, &events, parts),
         Err(_) => println!(rt; "{row}: OTHER"),
@@ -70,7 +70,7 @@ pub fn run_all<R: Runtime + AllocGlobal>(rt: &R) -> io::Result<()> {
     let list = fs::read_to_string(rt, "keys")?;
     for row in list.as_str().lines() {
         println!(rt; "{row}")?;
-        tell_example(rt, row)?;
+        tell_example::<TreeSorter, R>(rt, row)?;
     }
     Ok(())
 }

@@ -1,8 +1,10 @@
-use Rattle.std.proofs.Common.{◌≡◌, false, refl, ap, ◌∙◌, subst, sym, Ok, Err}
+use Rattle.std.proofs.Common.{◌≡◌, Bool, true, false, Result, Ok, Err, IfErr, OnOk, refl, ap, ◌∙◌, subst, sym}
 use Rattle.std.proofs.lemmas.Result.{err_from_is_err_and}
 use Rattle.drf_core.specs.Machine.{Machine, opened}
 use Rattle.drf_journal.specs.Audited.{HasTakenLines, cycle_text}
-use Rattle.drf_journal.specs.declared.fault.RunFault.TheVariants.{Memory}
+use Rattle.drf_journal.specs.declared.fault.RunFault.{RunFault}
+use Rattle.drf_journal.specs.declared.fault.RunFault.TheVariants.{Memory, Write}
+use Rattle.drf_journal.specs.Ended.{HasFlushed}
 use Rattle.drf_journal.specs.State.{State}
 use Rattle.drf_journal.proofs.Audits.{lines-untaken, cycle-live, told-unread, told-forgotten, told-ends, cause-ended, cause-written, flushed-still, taken_as}
 use Rattle.drf_journal.proofs.explain.run_explain.Goals as goal
@@ -53,3 +55,10 @@ pub returns-clause-cause : goal.returns-clause-cause
 returns-clause-cause g c =
     cause-ended c.write_whole.result _ _ _ c.in_ok-take_lines.ensures.cause.0
     (cause-written c.write_whole.result _ (c.write_whole.ensures.failed c.requires.writer.1) c.write_whole.ensures.fault)
+
+written : {T : Type 0} (r : Result T RunFault) (flushed : Bool) → IfErr r (λ fault. fault ≡ Write) → OnOk r (flushed ≡ true) → HasFlushed r flushed
+written (Ok done) flushed fault is = is
+written {T} (Err e) flushed fault is = subst (λ (e : RunFault). HasFlushed {T = T} (Err e) flushed) (sym fault) tt
+
+pub returns-clause-flushed : goal.returns-clause-flushed
+returns-clause-flushed g c = λ begun. written c.write_whole.result _ c.write_whole.ensures.fault c.write_whole.ensures.flushed

@@ -68,9 +68,9 @@ pub record IsLeast (P : ℕ → Type 0) (n : ℕ) : Type 0 where
   pub holds : P n
   pub least : (m : ℕ) → P m → n ≤ m
 
--- why it is no shuffle
+-- why it is no shuffle; memory is wanted where there are receipts enough
 abbrev pub IsFault : List Entry → List (List Receipt) → CloseFault → Type 0
 IsFault journal lists Stranger = ⊥
 IsFault journal lists Missing = IsMissing journal lists
 IsFault journal lists (Mismatch place) = (¬ IsMissing journal lists) × IsLeast (IsWrong journal lists) place
-IsFault journal lists Memory = Unit {0}
+IsFault journal lists Memory = ¬ IsMissing journal lists

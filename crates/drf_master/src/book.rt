@@ -159,9 +159,25 @@ impl<S: Sorter> Book<S> {
         ensures err { OnErr result (IsSameJournal self.old self.new) }
     {
         let next = self.prepare(event)?;
-        let reply = next.reply().copy()?;
-        let place = self.settle(next);
-        Ok((reply, place))
+        self.settle_copied(next)
+    }
+
+    // Adds what was prepared, and answers a copy of its reply and its place.
+    fn settle_copied(&mut self, next: Next<S>) -> Result<(Reply, u64), AllocError>
+        requires next { IsNext self.old.limits self.old.entries next.core next.entry }
+        requires room { 0 < self.old.room }
+        ensures place { IfOk result (λ r. r.1 ≡ length self.old.entries) }
+        ensures reply { IfOk result (λ r. r.0 ≡ next.entry.reply) }
+        ensures added { OnOk result (Adds self.old self.new next.entry) }
+        ensures err { OnErr result (self.new ≡ self.old) }
+    {
+        match next.reply().copy() {
+            Ok(reply) => Ok((reply, self.settle(next))),
+            Err(error) => {
+                drop(next);
+                Err(error)
+            }
+        }
     }
 
     /// Compares the journal with the receipts of passes. `Ok` is told exactly where the journal is a shuffle of them: each entry is one

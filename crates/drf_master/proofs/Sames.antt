@@ -15,7 +15,7 @@ some-same a b is = cc
 
 -- an amount is covered by itself, and by no other of the same amount
 module _ {A : Type 0} (is_given : A → Type 0) (empty : A) (join : A → A → Option A) (refusal : A → A → Option AlgebraFault) (amount : A → ℕ)
-  (laws : AlgebraLaws is_given empty join refusal amount) where
+    (laws : AlgebraLaws is_given empty join refusal amount) where
   pub covers-itself : (a : A) → is_given a → Covers is_given join a a
   covers-itself a given = record {
     rest = empty;

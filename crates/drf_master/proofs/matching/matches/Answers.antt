@@ -44,8 +44,9 @@ returns-in-None-clause-ok c =
 pub returns-clause-exact : goal.returns-clause-exact
 returns-clause-exact c shuffle =
     let all = is-all c.args.passes.now c.loop-pass.pass-index c.loop-pass-test.false in
-    no_fault c.args.journal.now (receipts_of c.args.passes.now) (Mismatch c.in-Some.place) shuffle
-    ((λ missing. true≢false (sym (c.lack.ensures.1 missing) ∙ c.if-lack.false)),
-    told-wrong c.args.journal.now (receipts_of c.args.passes.now) c.loop-pass.tally.named.items c.loop-pass.tally.wrong c.in-Some.place
-    (subst (λ (lists : List (List Receipt)). IsTally c.args.journal.now lists c.loop-pass.tally.named.items c.loop-pass.tally.wrong) all c.loop-pass.invariant)
-    c.in-Some.is)
+    no_fault c.args.journal.now (receipts_of c.args.passes.now) (Mismatch c.in-Some.place) shuffle (
+      (λ missing. true≢false (sym (c.lack.ensures.1 missing) ∙ c.if-lack.false)),
+      told-wrong c.args.journal.now (receipts_of c.args.passes.now) c.loop-pass.tally.named.items c.loop-pass.tally.wrong c.in-Some.place
+          (subst (λ (lists : List (List Receipt)). IsTally c.args.journal.now lists c.loop-pass.tally.named.items c.loop-pass.tally.wrong) all c.loop-pass.invariant)
+          c.in-Some.is,
+    )

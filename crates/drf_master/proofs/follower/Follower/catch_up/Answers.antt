@@ -4,9 +4,11 @@ use Rattle.drf_master.proofs.Runs.{taken-same}
 use Rattle.drf_master.proofs.follower.Follower.catch_up.Goals as goal
 
 pub loop-place-preserved : goal.loop-place-preserved
-loop-place-preserved g c =
-    (refl, taken-next c.args.self.now.core.limits c.args.entries.now c.loop-place.self.core c.step.new.self c.loop-place.place c.index-entries-place.result
-    c.in_ok-event.event c.loop-place.invariant.1 c.loop-place-test.true c.index-entries-place.is c.in_ok-event.ensures c.in_ok-step.ensures.ok)
+loop-place-preserved g c = (
+  refl,
+  taken-next c.args.self.now.core.limits c.args.entries.now c.loop-place.self.core c.step.new.self c.loop-place.place c.index-entries-place.result
+      c.in_ok-event.event c.loop-place.invariant.1 c.loop-place-test.true c.index-entries-place.is c.in_ok-event.ensures c.in_ok-step.ensures.ok,
+)
 
 pub returns-in_err-event-clause-taken : goal.returns-in_err-event-clause-taken
 returns-in_err-event-clause-taken g c =

@@ -2,5 +2,4 @@ pub mod Tallying
 pub mod Shuffles
 pub mod Sames
 pub mod Runs
-pub mod Scripts
 pub mod Followers

@@ -3,4 +3,5 @@ pub mod Shuffles
 pub mod Sames
 pub mod Runs
 pub mod Scripts
+pub mod Closing
 pub mod Followers

@@ -110,13 +110,14 @@ fn run_all<
 ) -> Result<Vec<Result<Done, DriveFault>>, AllocError>
     ensures { IfOk result (λ results. DidJobs jobs.items results.items) }
 {
-    thread::map_vec(
+    let results = thread::map_vec(
         rt,
         jobs,
         &|job: Job| -> Result<Done, DriveFault>
             ensures { DidJob job result }
         { run_script(rt, alloc, master, gate, job) },
-    )
+    )?;
+    Ok(results)
 }
 
 // A job for each pass with its script.

@@ -1,6 +1,7 @@
 //! One allocator under a lock, and the passes by which it is called.
 ghost use Rattle.std.specs.Prelude.{◌≡◌, ◌<◌, ◌≤◌, [], length, All, IsTrue, ◌↔◌, OnOk, IfOk, IfErr, OnErr};
-ghost use Rattle.drf_board.specs.History.{IsLegal, entry};
+ghost use Rattle.drf_board.specs.History.{entry};
+ghost use Rattle.drf_master.specs.Calling.{IsCallFault};
 ghost use Rattle.drf_master.specs.Closing.{AreOf, IsClosed, IsCloseFault};
 ghost use Rattle.drf_master.specs.Matching.{IsShuffle, receipts_of};
 ghost use Rattle.drf_master.specs.Receipts.{IsNewPass, IsSamePass, IsTold, Keeps};
@@ -25,6 +26,10 @@ pub enum CallFault {
 }
 
 impl From<AllocError> for CallFault {
+    ghost use Rattle.drf_master.specs.declared.master.CallFault.TheVariants.{Memory};
+
+    ghost from_gives = { λ _ gives. gives ≡ Memory };
+
     fn from(_error: AllocError) -> CallFault {
         CallFault::Memory
     }
@@ -65,6 +70,19 @@ pub(crate) fn are_of(key: u64, passes: &[Pass]) -> bool
     passes.iter().all(|pass| pass.key() == key)
 }
 
+// Whether passes are of the master with the key, and the journal of its book is a shuffle of their receipts.
+fn compare(key: u64, book: &Book<MasterSorter>, passes: &[Pass]) -> Result<(), CloseFault>
+    ensures own { OnOk result (AreOf key passes.now) }
+    ensures shuffle { OnOk result (IsShuffle book.now.entries (receipts_of passes.now)) }
+    ensures fault { IfErr result (IsCloseFault book.now.entries key passes.now) }
+    ensures exact { AreOf key passes.now → IsShuffle book.now.entries (receipts_of passes.now) → IfErr result (λ fault. fault ≡ Memory) }
+{
+    if !are_of(key, passes) {
+        return Err(CloseFault::Stranger);
+    }
+    book.matches(passes)
+}
+
 impl<K: Naming, R: Wait + Drop> Master<K, R> {
     /// A master that nobody has called, its passes, and the viewers of the slate that K names. The master keeps `rt` to wait for viewers
     /// when it is dropped.
@@ -103,9 +121,11 @@ impl<K: Naming, R: Wait + Drop> Master<K, R> {
         pass: &mut Pass,
         event: Event,
     ) -> Result<Answer<K>, CallFault>
+        ensures own { OnOk result (pass.old.key ≡ self.now.key) }
         ensures kept { IfOk result (λ answer. Keeps pass.old pass.new answer.place (entry event answer.reply)) }
         ensures told { IfOk result (λ answer. IsTold K.slate.limits answer.told answer.place (entry event answer.reply)) }
         ensures err { OnErr result (IsSamePass pass.old pass.new) }
+        ensures fault { IfErr result (IsCallFault self.now.key pass.old) }
     {
         match self.make_ready(pass) {
             Ok(()) => self.call_ready(rt, pass, event),
@@ -119,7 +139,9 @@ impl<K: Naming, R: Wait + Drop> Master<K, R> {
     // Makes room for one receipt more in a pass of this master.
     fn make_ready(&self, pass: &mut Pass) -> Result<(), CallFault>
         ensures same { IsSamePass pass.old pass.new }
+        ensures own { OnOk result (pass.old.key ≡ self.now.key) }
         ensures room { OnOk result (0 < pass.new.room) }
+        ensures fault { IfErr result (IsCallFault self.now.key pass.old) }
     {
         if pass.key() != self.key {
             return Err(CallFault::Stranger);
@@ -135,10 +157,12 @@ impl<K: Naming, R: Wait + Drop> Master<K, R> {
         pass: &mut Pass,
         event: Event,
     ) -> Result<Answer<K>, CallFault>
-        requires { 0 < pass.old.room }
+        requires own { pass.old.key ≡ self.now.key }
+        requires room { 0 < pass.old.room }
         ensures kept { IfOk result (λ answer. Keeps pass.old pass.new answer.place (entry event answer.reply)) }
         ensures told { IfOk result (λ answer. IsTold K.slate.limits answer.told answer.place (entry event answer.reply)) }
         ensures err { OnErr result (IsSamePass pass.old pass.new) }
+        ensures fault { IfErr result (IsCallFault self.now.key pass.old) }
     {
         let (answer, receipt) = self.desk.lock(rt).answer_with_receipt(event)?;
         pass.keep(receipt);
@@ -157,14 +181,9 @@ impl<K: Naming, R: Wait + Drop> Master<K, R> {
         let book = desk.into_inner().into_book();
         // The proof learns that the journal is legal by this call alone.
         let _ = book.entries();
-        let fault = if are_of(key, &passes) {
-            book.matches(&passes).err()
-        } else {
-            Some(CloseFault::Stranger)
-        };
-        match fault {
-            None => Ok(book),
-            Some(fault) => Err(CloseRefused {
+        match compare(key, &book, &passes) {
+            Ok(()) => Ok(book),
+            Err(fault) => Err(CloseRefused {
                 fault,
                 book,
                 passes,

@@ -104,9 +104,10 @@ done-push [] (p ∷ ps) (y ∷ ys) done are = absurd are
 pub have-run : (jobs : List Job) (results : List (Result Done DriveFault)) (passes : List Held) (replies : List (Vec Reply)) → DidJobs jobs results
     → AreDone results passes replies → HaveRun (map (λ j. j.pass) jobs) (map (λ j. j.script) jobs) replies (receipts_of passes)
 have-run [] [] [] [] did are = tt
-have-run (j ∷ js) (Ok d ∷ rs) (p ∷ ps) (y ∷ ys) did are =
-    (subst (λ (x : Held × Vec Reply). HasRun j.pass.receipts j.script.items x.1.items x.0.receipts) (λ i. (are.0 i, are.1.0 i)) did.0,
-    have-run js rs ps ys did.1 are.1.1)
+have-run (j ∷ js) (Ok d ∷ rs) (p ∷ ps) (y ∷ ys) did are = (
+  subst (λ (x : Held × Vec Reply). HasRun j.pass.receipts j.script.items x.1.items x.0.receipts) (λ i. (are.0 i, are.1.0 i)) did.0,
+  have-run js rs ps ys did.1 are.1.1,
+)
 have-run [] [] [] (y ∷ ys) did are = absurd are
 have-run [] [] (p ∷ ps) [] did are = absurd are
 have-run [] [] (p ∷ ps) (y ∷ ys) did are = absurd are

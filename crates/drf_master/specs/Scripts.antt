@@ -15,6 +15,11 @@ use Rattle.drf_master.specs.declared.pass.Receipt.{Receipt}
 abbrev pub receipt : ℕ → Event → Reply → Receipt
 receipt place event reply = record { place = place; entry = entry event reply }
 
+-- one receipt more, for the event with this reply, at some place
+pub record HasCalled (old new : List Receipt) (event : Event) (reply : Reply) : Type 0 where
+  pub place : ℕ
+  pub receipts : new ≡ old ++ receipt place event reply ∷ []
+
 -- receipts for these events with these replies, in order, at some places
 abbrev pub AreReceipts : List Receipt → List Event → List Reply → Type 0
 AreReceipts [] [] [] = Unit {0}

@@ -2,7 +2,7 @@
 ghost use Rattle.std.specs.Prelude.{◌≡◌, ◌+◌, ◌<◌, ◌^◌, ◌++◌, ◌∷◌, [], length, IfOk, OnOk, OnErr};
 ghost use Rattle.drf_board.specs.Boards.{HasPublished};
 ghost use Rattle.drf_board.specs.History.{IsLegal, entry};
-ghost use Rattle.drf_master.specs.Journal.{IsNext};
+ghost use Rattle.drf_master.specs.Journal.{Adds, IsNext};
 
 use crate::book::{Book, Next};
 use crate::pass::Receipt;
@@ -92,6 +92,62 @@ fn show<K: Naming, R: Wait + Drop>(
     board.publish(sheet, event, reply)
 }
 
+// Copies what was prepared, and then shows it.
+fn show_copied<K: Naming, R: Wait + Drop>(
+    board: &mut Board<K, R>,
+    place: u64,
+    next: &Next<MasterSorter>,
+) -> Result<(Copies, Told<K>), AllocError>
+    requires place { (place ≡ length board.old.entries) × (place < 2 ^ 63) }
+    requires next { IsNext K.slate.limits board.old.entries next.now.core next.now.entry }
+    ensures kept { IfOk result (λ r. r.0.kept ≡ next.now.entry) }
+    ensures reply { IfOk result (λ r. r.0.reply ≡ next.now.entry.reply) }
+    ensures ok { OnOk result (HasPublished board.old board.new next.now.entry) }
+    ensures told { IfOk result (λ r. r.1 ≡ board.new.entries) }
+    ensures err { OnErr result (board.new ≡ board.old) }
+{
+    let copies = copies_of(next)?;
+    match show(board, place, next) {
+        Ok(told) => Ok((copies, told)),
+        Err(error) => {
+            drop(copies);
+            Err(error)
+        }
+    }
+}
+
+// Shows what was prepared, and then adds it to the book. All that asks for memory comes before anything is shown.
+fn answer_prepared<K: Naming, R: Wait + Drop>(
+    book: &mut Book<MasterSorter>,
+    board: &mut Board<K, R>,
+    next: Next<MasterSorter>,
+) -> Result<(Answer<K>, Receipt), AllocError>
+    requires entries { board.old.entries ≡ book.old.entries }
+    requires limits { book.old.limits ≡ K.slate.limits }
+    requires next { IsNext book.old.limits book.old.entries next.core next.entry }
+    requires room { 0 < book.old.room }
+    ensures added { OnOk result (Adds book.old book.new next.entry) }
+    ensures shown { OnOk result (board.new.entries ≡ book.new.entries) }
+    ensures reply { IfOk result (λ r. r.0.reply ≡ next.entry.reply) }
+    ensures place { IfOk result (λ r. r.0.place ≡ length book.old.entries) }
+    ensures told { IfOk result (λ r. r.0.told ≡ book.new.entries) }
+    ensures receipt { IfOk result (λ r. r.1 ≡ record { place = r.0.place; entry = next.entry }) }
+    ensures err { OnErr result ((book.new ≡ book.old) × (board.new ≡ board.old)) }
+{
+    match show_copied(board, book.len(), &next) {
+        Ok((copies, told)) => {
+            let place = book.settle(next);
+            let Copies { kept, reply } = copies;
+            let receipt = Receipt { place, entry: kept };
+            Ok((Answer { reply, place, told }, receipt))
+        }
+        Err(error) => {
+            drop(next);
+            Err(error)
+        }
+    }
+}
+
 impl<K: Naming, R: Wait + Drop> Desk<K, R> {
     /// A book with its board. It takes no memory.
     pub fn new(book: Book<MasterSorter>, board: Board<K, R>) -> Desk<K, R>
@@ -114,7 +170,7 @@ impl<K: Naming, R: Wait + Drop> Desk<K, R> {
         Ok(answer)
     }
 
-    /// The same, with a receipt. All that asks for memory comes before anything is shown.
+    /// The same, with a receipt.
     pub(crate) fn answer_with_receipt(
         &mut self,
         event: Event,
@@ -127,13 +183,7 @@ impl<K: Naming, R: Wait + Drop> Desk<K, R> {
         ensures err { OnErr result (self.new ≡ self.old) }
     {
         let next = self.book.prepare(event)?;
-        let place = self.book.len();
-        let copies = copies_of(&next)?;
-        let told = show(&mut self.board, place, &next)?;
-        self.book.settle(next);
-        let Copies { kept, reply } = copies;
-        let receipt = Receipt { place, entry: kept };
-        Ok((Answer { reply, place, told }, receipt))
+        answer_prepared(&mut self.book, &mut self.board, next)
     }
 
     /// The book, which nobody shows any more. Viewers then read no sheet.

@@ -1,7 +1,7 @@
 //! Scripts of events that threads run on one master, each on a pass of its own.
 ghost use Rattle.std.specs.Prelude.{◌≡◌, length, map, IfOk};
 ghost use Rattle.drf_board.specs.History.{IsLegal};
-ghost use Rattle.drf_master.specs.Scripts.{AreDone, DidJob, DidJobs, HasDriven, HasRun};
+ghost use Rattle.drf_master.specs.Scripts.{AreDone, DidJob, DidJobs, HasCalled, HasDriven, HasRun};
 
 use crate::book::Book;
 use crate::desk::{Answer, MasterSorter};
@@ -64,6 +64,27 @@ pub struct Done {
     pub replies: Vec<Reply>,
 }
 
+// Makes one call, and asks the gate round it.
+fn run_call<K: Naming, R: Wait + Drop, W: Wait, G: Gate>(
+    rt: &W,
+    master: &Master<K, R>,
+    gate: &G,
+    at: (u64, u64),
+    pass: &mut Pass,
+    event: Event,
+) -> Result<Reply, DriveFault>
+    ensures { IfOk result (HasCalled pass.old.receipts pass.new.receipts event) }
+{
+    let (worker, call) = at;
+    if !gate.before(worker, call) {
+        drop(event);
+        return Err(DriveFault::Stopped);
+    }
+    let Answer { reply, .. } = master.call(rt, pass, event)?;
+    gate.after(worker, call);
+    Ok(reply)
+}
+
 // Makes the calls of a script in order.
 fn run_script<K: Naming, R: Wait + Drop, W: Wait, G: Gate>(
     rt: &W,
@@ -82,14 +103,8 @@ fn run_script<K: Naming, R: Wait + Drop, W: Wait, G: Gate>(
     let mut replies = Vec::with_capacity(alloc, script.len())?;
     let mut call = 0u64;
     for event in script {
-        if !gate.before(worker, call) {
-            drop(event);
-            return Err(DriveFault::Stopped);
-        }
-        replies.reserve(1)?;
-        let Answer { reply, .. } = master.call(rt, &mut pass, event)?;
-        replies.push_reserved(reply);
-        gate.after(worker, call);
+        let reply = run_call(rt, master, gate, (worker, call), &mut pass, event)?;
+        replies.push(reply)?;
         call = call.saturating_add(1);
     }
     Ok(Done { pass, replies })

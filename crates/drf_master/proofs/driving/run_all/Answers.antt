@@ -9,5 +9,5 @@ returns g c =
     let results = c.in_ok-results.results.items in
     did-jobs c.args.jobs.items results (omega (arith, c.in_ok-results.ensures.len))
     (λ i d e below.
-        let gives = (c.in_ok-results.ensures.each i d below).1 in
-        subst (λ (job : Job). DidJob job (slice_index_or results i d)) (sym (gives.job_is e)) gives.call.met)
+    let gives = (c.in_ok-results.ensures.each i d below).1 in
+    subst (λ (job : Job). DidJob job (slice_index_or results i d)) (sym (gives.job_is e)) gives.call.met)

@@ -104,7 +104,8 @@ fn run_script<K: Naming, R: Wait + Drop, W: Wait, G: Gate>(
     let mut call = 0u64;
     for event in script {
         let reply = run_call(rt, master, gate, (worker, call), &mut pass, event)?;
-        replies.push(reply)?;
+        replies.reserve(1)?;
+        replies.push_reserved(reply);
         call = call.saturating_add(1);
     }
     Ok(Done { pass, replies })

@@ -12,5 +12,6 @@ pub loop-event-preserved : goal.loop-event-preserved
 loop-event-preserved g c =
     let old = c.args.job.pass.receipts in
     let called : HasCalled c.loop-event.pass.receipts c.run_call.new.pass.receipts c.in-Some.event c.in_ok-reply.reply = c.in_ok-reply.ensures in
-    subst (λ (l : List Reply). HasRun old (c.loop-event.yielded ++ c.in-Some.event ∷ []) l c.run_call.new.pass.receipts) (sym c.in_ok-push.ensures.items)
+    let items : c.push_reserved.new.self.items ≡ c.loop-event.replies.items ++ c.in_ok-reply.reply ∷ [] = cc (c.push_reserved.ensures.items, c.reserve.ensures.items) in
+    subst (λ (l : List Reply). HasRun old (c.loop-event.yielded ++ c.in-Some.event ∷ []) l c.run_call.new.pass.receipts) (sym items)
     (run-goes_on old c.loop-event.pass.receipts c.run_call.new.pass.receipts c.loop-event.yielded c.loop-event.replies.items called.place c.in-Some.event c.in_ok-reply.reply c.loop-event.invariant called.receipts)

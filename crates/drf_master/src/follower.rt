@@ -74,7 +74,11 @@ impl<S: Sorter> Second<S> {
     }
 
     // The second core, which then is no longer here; where there is none, a copy of the first.
-    fn follower(&mut self, first: &Core<S>, entries: &[Entry]) -> Result<Follower<S>, AllocError>
+    fn follower(
+        &mut self,
+        first: &Core<S>,
+        entries: &[Entry],
+    ) -> Result<Follower<S>, AllocError>
         requires run { IsRunOf first.now.limits entries.now first.now }
         requires taken { HasTakenIfAny first.now.limits entries.now self.old.core self.old.taken }
         ensures taken { IfOk result (λ follower. HasTaken first.now.limits entries.now follower.core follower.taken) }

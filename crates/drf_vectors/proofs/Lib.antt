@@ -1,1 +1,2 @@
+mod BookLemmas
 pub mod OneAgent

@@ -1,5 +1,5 @@
-//! Answers questions about names, roles, paths, sets, amounts, pools, limits, audits and boards, one a line: the vectors of the
-//! libraries.
+//! Answers questions about names, roles, paths, sets, amounts, pools, limits, sorters, audits and
+//! boards, one a line: the vectors of the libraries.
 #![tactic(auto)]
 
 mod amounts;
@@ -10,6 +10,7 @@ mod paths;
 mod pools;
 mod quantities;
 mod shares;
+mod sorters;
 mod texts;
 mod words;
 
@@ -85,6 +86,7 @@ fn answer(alloc: Global, question: &str) -> Result<String> {
         "pool_of_bundles" => pools::answers::<Bundle>(alloc, text),
         "quantities" => quantities::compared(alloc, text),
         "shares" => shares::compared(alloc, text),
+        "sorter" => sorters::answers(alloc, text),
         "quota" => limits::answers(alloc, text),
         "consumed_of" => limits::of_bundle(alloc, text),
         _ => answer_of_texts(alloc, kind, text),

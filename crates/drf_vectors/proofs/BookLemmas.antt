@@ -100,36 +100,45 @@ sound content book booked = record {
   count = omega (arith, booked.offers, booked.few);
 }
 
-pub booked_added : (content : Content) (old : Book) (new : List Path) (path : Path) → IsBooked content old
-    → list_any (λ p. same_path p path) old.clients.items ≡ false → new ≡ old.clients.items ++ path ∷ []
-    → IsBooked (with_client content path) (record old { clients = record { items = new } })
-booked_added content old new path booked fresh is =
+pub booked_added : (content : Content) (old new : Book) (path : Path) → IsBooked content old
+    → list_any (λ p. same_path p path) old.clients.items ≡ false → new.clients.items ≡ old.clients.items ++ path ∷ []
+    → new.total ≡ old.total → new.held ≡ old.held → new.offers ≡ old.offers
+    → IsBooked (with_client content path) new
+booked_added content old new path booked fresh is total held offers =
     let added : Ranked = record { path = path; active = true; held = λ _. 0; count = 0 } in
     record {
-      clients = map_push (λ (c : Ranked). c.path) content.clients added ∙ ap (λ (ps : List Path). ps ++ path ∷ []) booked.clients ∙ sym is;
-      distinct = subst (IsDistinct same_path) (sym is)
-      (IsDistinct-push (lists_equiv nat_list_eq_equiv) old.clients.items path booked.distinct (any_swapped old.clients.items path ∙ fresh));
-      total = booked.total;
-      small = booked.small;
-      within = booked.within;
-      held = λ label. omega (arith, sum_by_push (λ (c : Ranked). c.held label) content.clients added, booked.held label);
-      offers = omega (arith, sum_by_push (λ (c : Ranked). c.count) content.clients added, booked.offers);
-      few = booked.few;
+      clients =
+          map_push (λ (c : Ranked). c.path) content.clients added
+          ∙ ap (λ (ps : List Path). ps ++ path ∷ []) booked.clients
+          ∙ sym is;
+      distinct =
+          subst (IsDistinct same_path) (sym is)
+          (IsDistinct-push (lists_equiv nat_list_eq_equiv) old.clients.items path booked.distinct (any_swapped old.clients.items path ∙ fresh));
+      total = booked.total ∙ sym total;
+      small = subst (λ (es : List Entry). (label : Text) → amount_of es label < 2 ^ 32) (sym total) booked.small;
+      within =
+          subst (λ (es : List Entry). IsTrue (covers es new.held)) (sym total)
+          (subst (λ (es : List Entry). IsTrue (covers old.total es)) (sym held) booked.within);
+      held = λ label.
+          subst (λ (es : List Entry). sum_by (λ (c : Ranked). c.held label) (content.clients ++ added ∷ []) ≤ amount_of es label) (sym held)
+          (omega (arith, sum_by_push (λ (c : Ranked). c.held label) content.clients added, booked.held label));
+      offers = omega (arith, offers, sum_by_push (λ (c : Ranked). c.count) content.clients added, booked.offers);
+      few = omega (arith, offers, booked.few);
     }
 
 -- a change that keeps the client's path, with what it may add
-pub record IsGrowth (change : Ranked → Ranked) (held : Text → ℕ) (offers : ℕ) : Type 0 where
+pub record IsGrowth (change : Ranked → Ranked) (more : Text → ℕ) (made : ℕ) : Type 0 where
   pub path : (c : Ranked) → (change c).path ≡ c.path
-  pub held : (label : Text) (c : Ranked) → (change c).held label ≤ c.held label + held label
-  pub offers : (c : Ranked) → (change c).count ≤ c.count + offers
+  pub held : (label : Text) (c : Ranked) → (change c).held label ≤ c.held label + more label
+  pub offers : (c : Ranked) → (change c).count ≤ c.count + made
 
 -- the book after it
-pub record IsRoom (old new : Book) (held : Text → ℕ) (offers : ℕ) : Type 0 where
+pub record IsRoom (old new : Book) (more : Text → ℕ) (made : ℕ) : Type 0 where
   pub clients : new.clients.items ≡ old.clients.items
   pub total : new.total ≡ old.total
   pub within : IsTrue (covers new.total new.held)
-  pub held : (label : Text) → amount_of old.held label + held label ≤ amount_of new.held label
-  pub offers : old.offers + offers ≤ new.offers
+  pub held : (label : Text) → amount_of old.held label + more label ≤ amount_of new.held label
+  pub offers : old.offers + made ≤ new.offers
   pub few : new.offers ≤ 1000
 
 pub booked_changed : (content : Content) (old new : Book) (path : Path) (change : Ranked → Ranked) (held : Text → ℕ) (offers : ℕ)

@@ -184,16 +184,28 @@ booked_activated content book path active booked =
 pub booked_weighted : (content : Content) (book : Book) (role : Path) (weight : ℕ) → IsBooked content book
     → IsBooked (with_weight content role weight) book
 booked_weighted content book role weight booked = record {
-  clients = booked.clients; distinct = booked.distinct; total = booked.total; small = booked.small;
-  within = booked.within; held = booked.held; offers = booked.offers; few = booked.few;
+  clients = booked.clients;
+  distinct = booked.distinct;
+  total = booked.total;
+  small = booked.small;
+  within = booked.within;
+  held = booked.held;
+  offers = booked.offers;
+  few = booked.few;
 }
 
 pub booked_total : (content : Content) (book : Book) (copy total : List Entry) → copy ≡ total → IsBooked content book
     → ((label : Text) → amount_of total label < 2 ^ 32) → IsTrue (covers total book.held)
     → IsBooked (record content { total = copy }) (record book { total = total })
 booked_total content book copy total same booked small within = record {
-  clients = booked.clients; distinct = booked.distinct; total = same; small = small;
-  within = within; held = booked.held; offers = booked.offers; few = booked.few;
+  clients = booked.clients;
+  distinct = booked.distinct;
+  total = same;
+  small = small;
+  within = within;
+  held = booked.held;
+  offers = booked.offers;
+  few = booked.few;
 }
 
 pub booked_charged : (content : Content) (book : Book) (path : Path) (amounts held : List Entry) → IsBooked content book
@@ -243,11 +255,11 @@ booked_back content old between path amounts held back before charge is same =
       total = charge.total;
       small = charge.small;
       within = subst (λ (es : List Entry). IsTrue (covers es held)) (sym before.total ∙ charge.total)
-      (subst (λ (es : List Entry). IsTrue (covers old.total es)) (sym same) before.within);
+          (subst (λ (es : List Entry). IsTrue (covers old.total es)) (sym same) before.within);
       held = λ label.
-      let once = sum_changed path (λ c. back (charged amounts c)) (λ c. c.held label) 0 (λ c. omega (arith, is.held label c)) content.clients distinct in
-      let one : sum_by (λ (c : Ranked). c.held label) (map (changed path back) charged_clients) ≡ sum_by (λ (c : Ranked). c.held label) (map (changed path (λ c. back (charged amounts c))) content.clients) = ap (sum_by (λ (c : Ranked). c.held label)) (both path amounts back content.clients) in
-      rw same (omega (arith, one, once, before.held label));
+          let once = sum_changed path (λ c. back (charged amounts c)) (λ c. c.held label) 0 (λ c. omega (arith, is.held label c)) content.clients distinct in
+          let one : sum_by (λ (c : Ranked). c.held label) (map (changed path back) charged_clients) ≡ sum_by (λ (c : Ranked). c.held label) (map (changed path (λ c. back (charged amounts c))) content.clients) = ap (sum_by (λ (c : Ranked). c.held label)) (both path amounts back content.clients) in
+          rw same (omega (arith, one, once, before.held label));
       offers = omega (arith, charge.offers, sum_changed path back (λ c. c.count) 0 (λ c. omega (arith, is.offers c)) charged_clients charged_distinct);
       few = charge.few;
     }

@@ -330,5 +330,9 @@ pub fn answers(alloc: Global, calls: &str) -> Result<String> {
     let tree = told_by::<TreeSorter>(alloc, calls)?;
     let plain = told_by::<PlainSorter>(alloc, calls)?;
     let is_equal = tree.answers == plain.answers;
-    Ok(format!(in alloc; "{}keys {}equal {is_equal}", tree.answers.as_str(), tree.keys.as_str())?)
+    Ok(format!(in alloc;
+        "{}keys {}equal {is_equal}",
+        tree.answers.as_str(),
+        tree.keys.as_str()
+    )?)
 }

@@ -26,7 +26,7 @@ fn add_reply(alloc: Global, text: &mut Vec<u8>, reply: &Reply) -> Result<(), All
     text.extend_from_slice(line.as_slice())
 }
 
-fn text_of(alloc: Global, replies: &[Reply]) -> Result<Vec<u8>, AllocError> {
+pub fn text_of(alloc: Global, replies: &[Reply]) -> Result<Vec<u8>, AllocError> {
     let mut text = Vec::new(alloc);
     for reply in replies {
         add_reply(alloc, &mut text, reply)?;

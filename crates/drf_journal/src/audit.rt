@@ -39,7 +39,7 @@ fn take_piece<S: Sorter>(
 }
 
 /// Takes the events of a reader's lines.
-fn take_lines<S: Sorter, R: Read>(
+pub(crate) fn take_lines<S: Sorter, R: Read>(
     alloc: Global,
     session: &mut Session<S>,
     reader: &mut Device<R>,

@@ -249,3 +249,9 @@ flushed-still (Ok done) flushed is = is
 flushed-still (Err Read) flushed is = is
 flushed-still (Err Write) flushed is = tt
 flushed-still (Err Memory) flushed is = is
+
+-- a text that was written whole has been flushed
+pub flushed-written : {T : Type 0} (r : Result T RunFault) (flushed : Bool) → IfErr r (λ fault. fault ≡ Write) → OnOk r (flushed ≡ true)
+    → HasFlushed r flushed
+flushed-written (Ok done) flushed fault is = is
+flushed-written {T} (Err e) flushed fault is = subst (λ (e : RunFault). HasFlushed {T = T} (Err e) flushed) (sym fault) tt

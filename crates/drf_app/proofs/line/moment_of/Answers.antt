@@ -1,4 +1,4 @@
-use Rattle.std.proofs.Common.{◌≡◌, ◌<◌, ◌^◌, None, Some, refl, ◌∙◌, codes, arith}
+use Rattle.std.proofs.Common.{◌<◌, ◌^◌, refl, ◌∙◌, codes, arith}
 use Rattle.std.specs.Str.Parse.{IsNumeral, digits_value, without_leading_plus}
 use Rattle.clap.specs.Words.{found_of}
 use Rattle.clap.proofs.WalkLemmas.{one_text-rows}
@@ -11,7 +11,7 @@ returns-in-Some c =
       unsaid = λ e. let none = c.get_one.ensures.none (flag ∙ e) in absurd cc;
       said = λ text said numeral early.
           let read = rw c.in-Some.is at (c.get_one.ensures.value text (flag ∙ said)) in
-          omega (arith, c.min.ensures, read.1, early);
+          omega (arith, c.min.ensures, read.0, early);
       early = omega (arith, c.min.ensures);
     }
 
@@ -23,7 +23,7 @@ returns-in-None c =
       said = λ text said numeral early.
           let read = rw c.in-None.is at (c.get_one.ensures.value text (flag ∙ said)) in
           let fits : digits_value 10 (without_leading_plus text) < 2 ^ 64 = omega (arith, early) in
-          let refused : IsNumeral 10 (without_leading_plus text) × (digits_value 10 (without_leading_plus text) < 2 ^ 64) → ⊥ = read.1 in
+          let refused : IsNumeral 10 (without_leading_plus text) × (digits_value 10 (without_leading_plus text) < 2 ^ 64) → ⊥ = read.1.0 in
           absurd (refused (numeral, fits));
       early = omega arith;
     }

@@ -4,7 +4,6 @@ use Rattle.clap.specs.Words.{App, IsParsedFrom, HasKind, fault_of, found_of, is_
 use Rattle.clap.specs.declared.parser.matches.ArgMatches.TheViews.{out-ArgMatches}
 use Rattle.clap.proofs.CallerLemmas.{subcommand_required}
 use Rattle.clap.proofs.WalkLemmas.{one_text-rows}
-use Rattle.drf_app.specs.Line.{drf_line}
 use Rattle.drf_app.proofs.Words.{entered, entered_some, is_run, local, out_of_memory, refused_as}
 use Rattle.drf_app.proofs.line.task_of.Goals as goal
 

@@ -1,5 +1,6 @@
 //! Keys that the sorter of a core makes: each line of `keys` names an example, and behind it how many of its events come next
 //! and how many keys they may make, as `103:306`.
+use crate::commands::text_of;
 use crate::events::events_of;
 use drf_core::Core;
 use drf_rows::{Event, Limits};
@@ -16,7 +17,8 @@ fn keys_for<S: Sorter>(
     events: &[Event],
 ) -> Result<u64, AllocError> {
     let before = core.sorter().keys_made();
-    core.run(events, &mut Vec::new(alloc))?;
+    let mut replies = Vec::new(alloc);
+    core.run(events, &mut replies)?;
     Ok(core.sorter().keys_made().saturating_sub(before))
 }
 
@@ -55,13 +57,20 @@ fn tell_parts<S: Sorter, R: Runtime + AllocGlobal>(
     Ok(())
 }
 
+fn tell_events<S: Sorter, R: Runtime + AllocGlobal>(
+    rt: &R,
+    events: &[Event],
+    parts: &str,
+) -> io::Result<()> {
+    let mut core = Core::<S>::open(rt.alloc(), Limits::full())?;
+    tell_parts(rt, &mut core, events, parts)
+}
+
 fn tell_example<S: Sorter, R: Runtime + AllocGlobal>(rt: &R, row: &str) -> io::Result<()> {
     let (name, parts) = row.split_once(' ').unwrap_or((row, ""));
-    let path = format!(in rt.alloc(); "{name}.in")?;
-    let lines = fs::read_to_string(rt, path.as_str())?;
-    let mut core = Core::<S>::open(rt.alloc(), Limits::full())?;
+    let lines = text_of(rt, name, "in")?;
     match events_of(rt.alloc(), lines.as_str()) {
-        Ok(events) => tell_parts(rt, &mut core, &events, parts),
+        Ok(events) => tell_events::<S, R>(rt, &events, parts),
         Err(_) => println!(rt; "{row}: OTHER"),
     }
 }

@@ -1,5 +1,5 @@
 -- An audit and an explanation: the lines that were taken, and the text that was written.
-use Rattle.std.proofs.Common.{◌≡◌, ℕ, ◌+◌, ◌<◌, ◌≤◌, Bool, true, false, List, [], ◌∷◌, ◌++◌, length, get_or, map, take, drop, Option, None, Result, Ok, Err, IfErr, is_err, OnErr, OnOk, ⊎_elim, inl, inr, refl, sym, ap, ◌∙◌, subst, append_assoc, append-nil, take-append-drop, arith}
+use Rattle.std.proofs.Common.{◌≡◌, ℕ, ◌+◌, ◌<◌, ◌≤◌, Bool, true, false, List, [], ◌∷◌, ◌++◌, length, get_or, map, take, drop, Option, None, Result, Ok, Err, IfErr, is_err, OnErr, OnOk, ⊎_elim, refl, sym, ap, ◌∙◌, subst, append_assoc, append-nil, take-append-drop, arith}
 use Rattle.std.specs.List.{flat_map}
 use Rattle.std.specs.Io.KnownBytes.{Appends, Consumes, Keeps, IsAtEnd}
 use Rattle.std.proofs.KnownBytes.{Appends-nil, Appends-trans, Consumes-nil, Consumes-trans, Consumes-kept}
@@ -18,7 +18,6 @@ use Rattle.drf_rows.specs.LimitNumbers.{LimitNumbers}
 use Rattle.drf_rows.specs.LiveLaws.{rows_after-same_live, live_rows-twice}
 use Rattle.drf_rows.specs.Step.{opening, live_rows, rows_after}
 use Rattle.drf_rows.specs.declared.event.Event.{Event}
-use Rattle.drf_rows.specs.declared.rows.AgentRow.{AgentRow}
 use Rattle.drf_rows.specs.declared.rows.Rows.{Rows}
 use Rattle.drf_journal.specs.declared.fault.RunFault.{RunFault}
 use Rattle.drf_journal.specs.declared.fault.RunFault.TheVariants.{Read, Write, Memory}
@@ -27,7 +26,7 @@ use Rattle.drf_journal.specs.Device.{AppendsFrontOf}
 use Rattle.drf_journal.specs.Ended.{HasCause, HasFlushed}
 use Rattle.drf_journal.specs.Lines.{lines_of}
 use Rattle.drf_journal.specs.Output.{rows_after_line}
-use Rattle.drf_journal.specs.State.{State, begun, IsBegun, machine_after, machine_after_lines, at_end}
+use Rattle.drf_journal.specs.State.{State, IsBegun, machine_after, machine_after_lines, at_end}
 use Rattle.drf_journal.proofs.Devices.{WroteFront, wrote-front}
 use Rattle.drf_journal.proofs.Served.{IsServing, consumed_all, machine_at_end}
 

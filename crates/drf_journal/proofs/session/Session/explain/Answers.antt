@@ -1,10 +1,8 @@
-use Rattle.std.proofs.Common.{ap, ◌∙◌}
+use Rattle.std.proofs.Common.{◌≡◌, IfOk, ap, ◌∙◌, subst}
 use Rattle.drf_core.specs.Machine.{live}
 use Rattle.drf_explain.specs.Explained.{explained}
 use Rattle.drf_explain.specs.ExplainedText.{explained_text}
-use Rattle.drf_rows.specs.declared.rows.Rows.{Rows}
 use Rattle.drf_journal.specs.State.{State}
-use Rattle.std.proofs.Common.{subst, IfOk, ◌≡◌}
 use Rattle.drf_journal.proofs.session.Session.explain.Goals as goal
 
 pub returns : goal.returns

@@ -1,0 +1,5 @@
+pub mod Explained
+pub mod ExplainedText
+pub mod ExplainedLaws
+pub mod ExplainedExamples
+pub mod Gates

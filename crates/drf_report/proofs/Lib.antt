@@ -1,4 +1,6 @@
 pub mod ReportLemmas
+pub mod AmountLemmas
+pub mod ClientLemmas
 pub mod ReportPassed
 pub mod ReportCounts
 pub mod ReportSums

@@ -1,30 +1,30 @@
 -- What is summed up at the nodes on the way to clients.
-use Rattle.std.specs.Prelude.{◌≡◌, ℕ, suc, ◌+◌, ◌^◌, ◌<◌, ◌≤◌, Bool, true, false, List, [], ◌∷◌, ◌++◌, length, take, drop, map, fold, filter, sum_by, Option, Some, None, IsSome, is_some}
+use Rattle.std.specs.Prelude.{◌≡◌, ℕ, suc, ◌+◌, ◌^◌, ◌<◌, ◌≤◌, Bool, true, false, List, [], ◌∷◌, ◌++◌, length, take, fold, filter, sum_by, Option, Some, None}
+use Rattle.std.specs.List.{AllByRecursion}
 use Rattle.std.specs.Ordering.{is_eq}
 use Rattle.std.specs.Option.{option_map, option_map_or}
 use Rattle.std.specs.BTreeMap.{get, keys, Updates}
-use Rattle.std.proofs.Common.{refl, sym, ap, subst, ◌∙◌, inl, inr, cond, arith, add-one, get_or}
-use Rattle.std.proofs.Math.Seq.{split_at}
+use Rattle.std.proofs.Common.{refl, sym, ap, subst, ◌∙◌, inl, inr, cond, arith, add-one}
 use Rattle.std.proofs.lemmas.Bool.{cases_Bool, false≢true}
-use Rattle.std.proofs.lemmas.List.{length-take-le, map-append}
+use Rattle.std.proofs.lemmas.List.{length-take-le}
 use Rattle.std.proofs.lemmas.List.Elements.{filter-append}
-use Rattle.std.proofs.lemmas.List.Sums.{sum_by-cons, sum_by-append}
+use Rattle.std.proofs.lemmas.List.Sums.{sum_by-cons, sum_by-le-sum_by}
 use Rattle.std.proofs.lemmas.Grind.{fold-append}
 use Rattle.drf_role.specs.Text.{Text}
 use Rattle.drf_role.specs.Path.{Path, begins_with}
-use Rattle.drf_bundle.specs.Quantities.{plus, amount_of}
-use Rattle.drf_bundle.specs.QuantitiesLaws.{amount-plus}
-use Rattle.drf_bundle.specs.UnitProofs.{quantities_no_zeros}
+use Rattle.drf_bundle.specs.Quantities.{HasNoZeros, plus, amount_of}
+use Rattle.drf_bundle.specs.QuantitiesLaws.{amount-plus, no_zeros-plus, no_zeros-empty, same_quantities}
 use Rattle.drf_bundle.specs.Bundle.{quantities_of}
 use Rattle.drf_bundle.specs.declared.quantities.Entry.{Entry}
-use Rattle.drf_rows.specs.Client.{path_of}
 use Rattle.drf_rows.specs.Held.{count_of}
 use Rattle.drf_rows.specs.Holdings.{Holding, holdings_of, amount_in, is_under, AreBundles}
-use Rattle.drf_rows.specs.Report.{path_cmp}
+use Rattle.drf_rows.specs.ListLaws.{cond_le, each_filter}
+use Rattle.drf_rows.specs.Report.{path_cmp, held_under}
 use Rattle.drf_rows.specs.declared.rows.Rows.{Rows}
+use Rattle.drf_report.specs.Clients.{ClientSum, HaveNoZeros, AreRaised, sum_where, holds_where}
 use Rattle.drf_report.specs.declared.summary.Sum.{Sum}
 use Rattle.drf_report.specs.Reporting.{Sums, HoldNothing, AreSums, is_passed, count_at, more, AddTo, CanAdd, AddAll, CanAddAll, held_with, sum_with}
-use Rattle.drf_report.proofs.ReportLemmas.{map_next}
+use Rattle.drf_report.proofs.ClientLemmas.{bundles_no_zeros, held_after}
 use Rattle.drf_report.proofs.ReportPassed.{tied, passed-later, passed-all}
 
 -- ---- quantities are added along a path
@@ -80,38 +80,110 @@ module _ (path : Path) (i : ℕ) (quantities : List Entry) (old now : Sums) (wit
     | inr past ↦ rw past (added n)
   ])
 
--- ---- holdings are added one after another
+-- ---- lists of amounts are added one after another
 
-held_with-append : (held : List Entry) (first second : List Holding) (node : Path)
+module _ {X : Type 0} (amounts : X → List Entry) where
+  abbrev added : List Entry → List X → List Entry
+  added start xs = fold (λ sum x. plus sum (amounts x)) start xs
+
+  amount-added : (test : X → Bool) (start : List Entry) (xs : List X) (label : Text) → AllByRecursion (λ x. HasNoZeros (amounts x)) xs
+      → amount_of (added start (filter test xs)) label ≡ amount_of start label + sum_by (λ x. cond (test x) (amount_of (amounts x) label) 0) xs
+  amount-added test start [] label all = omega arith
+  amount-added test start (x ∷ xs) label all =
+      by (test x) (amount-added test start xs label all.1) (amount-added test (plus start (amounts x)) xs label all.1)
+      ∙ ap (λ n. amount_of start label + n) (sym (sum_by-cons part x xs))
+    where
+      part : X → ℕ
+      part x = cond (test x) (amount_of (amounts x) label) 0
+
+      by : (b : Bool) → amount_of (added start (filter test xs)) label ≡ amount_of start label + sum_by part xs
+          → amount_of (added (plus start (amounts x)) (filter test xs)) label ≡ amount_of (plus start (amounts x)) label + sum_by part xs
+          → amount_of (added start (cond b (x ∷ filter test xs) (filter test xs))) label
+          ≡ amount_of start label + (cond b (amount_of (amounts x) label) 0 + sum_by part xs)
+      by true past here = omega (arith, here, amount-plus start (amounts x) label all.0.in_order)
+      by false past here = omega (arith, past)
+
+  pub amount-added-le : (test : X → Bool) (start : List Entry) (xs : List X) (label : Text) → AllByRecursion (λ x. HasNoZeros (amounts x)) xs
+      → amount_of (added start (filter test xs)) label ≤ amount_of start label + sum_by (λ x. amount_of (amounts x) label) xs
+  amount-added-le test start xs label all =
+      omega (
+        arith,
+        amount-added test start xs label all,
+        sum_by-le-sum_by (λ (x : X). cond (test x) (amount_of (amounts x) label) 0) (λ (x : X). amount_of (amounts x) label) xs
+            (λ x. cond_le (test x) (amount_of (amounts x) label)),
+      )
+
+  no_zeros-added : (start : List Entry) (xs : List X) → HasNoZeros start → AllByRecursion (λ x. HasNoZeros (amounts x)) xs
+      → HasNoZeros (added start xs)
+  no_zeros-added start [] one all = one
+  no_zeros-added start (x ∷ xs) one all =
+      no_zeros-added (plus start (amounts x)) xs (no_zeros-plus start (amounts x) one all.0) all.1
+
+-- what the clients of a node hold, client by client, is what they hold, holding by holding
+held-regrouped : (hs : List Holding) (clients : List ClientSum) (node : Path) → AreBundles hs → AreRaised [] clients (holds_where hs)
+    → held_with [] clients node ≡ held_under hs node
+held-regrouped hs clients node bundles raised =
+    let named : HaveNoZeros clients = raised.named tt in
+    let all = bundles_no_zeros hs bundles in
+    let test : Path → Bool = λ path. begins_with path node in
+    same_quantities (held_with [] clients node) (held_under hs node)
+    (no_zeros-added (λ (c : ClientSum). c.1) [] (filter (λ c. begins_with c.0 node) clients) no_zeros-empty
+    (each_filter (λ (c : ClientSum). HasNoZeros c.1) (λ c. begins_with c.0 node) clients named))
+    (no_zeros-added (λ (h : Holding). quantities_of h.bundle) [] (filter (is_under node) hs) no_zeros-empty
+    (each_filter (λ (h : Holding). HasNoZeros (quantities_of h.bundle)) (is_under node) hs all))
+    (λ label.
+    let first : amount_of (held_with [] clients node) label ≡ 0 + sum_where test clients label =
+    amount-added (λ (c : ClientSum). c.1) (λ c. begins_with c.0 node) [] clients label named in
+    let second : amount_of (held_under hs node) label ≡ 0 + holds_where hs test label =
+    amount-added (λ (h : Holding). quantities_of h.bundle) (is_under node) [] hs label all in
+    let whole : sum_where test clients label ≡ 0 + holds_where hs test label = raised.amounts test label in
+    omega (arith, first, second, whole))
+
+-- no more than all of them hold
+pub held_under-le : (hs : List Holding) (node : Path) (label : Text) → AreBundles hs
+    → amount_of (held_under hs node) label ≤ sum_by (amount_in label) hs
+held_under-le hs node label bundles =
+    let most : amount_of (held_under hs node) label ≤ 0 + sum_by (amount_in label) hs =
+    amount-added-le (λ (h : Holding). quantities_of h.bundle) (is_under node) [] hs label (bundles_no_zeros hs bundles) in
+    omega (arith, most)
+
+-- ---- clients are added one after another
+
+held_with-append : (held : List Entry) (first second : List ClientSum) (node : Path)
     → held_with held (first ++ second) node ≡ held_with (held_with held first node) second node
 held_with-append held first second node =
-    let add : List Entry → Holding → List Entry = λ sum h. plus sum (quantities_of h.bundle) in
-    ap (fold add held) (filter-append (is_under node) first second)
-    ∙ fold-append add held (filter (is_under node) first) (filter (is_under node) second)
+    let add : List Entry → ClientSum → List Entry = λ sum c. plus sum c.1 in
+    let own : ClientSum → Bool = λ c. begins_with c.0 node in
+    ap (fold add held) (filter-append own first second)
+    ∙ fold-append add held (filter own first) (filter own second)
 
-sum_with-append : (s : Sum) (first second : List Holding) (node : Path)
+sum_with-append : (s : Sum) (first second : List ClientSum) (node : Path)
     → sum_with (sum_with s first node) second node ≡ sum_with s (first ++ second) node
 sum_with-append s first second node = λ i. record s { held = sym (held_with-append s.held first second node) i }
 
-sum_with-one : (s : Sum) (h : Holding) (node : Path)
-    → sum_with s (h ∷ []) node ≡ cond (is_under node h) (more (quantities_of h.bundle) s) s
-sum_with-one s h node = elim (cases_Bool (is_under node h)) [ inl here ↦ rw here refl | inr past ↦ rw past refl ]
+sum_with-one : (s : Sum) (c : ClientSum) (node : Path)
+    → sum_with s (c ∷ []) node ≡ cond (begins_with c.0 node) (more c.1 s) s
+sum_with-one s c node = elim (cases_Bool (begins_with c.0 node)) [ inl here ↦ rw here refl | inr past ↦ rw past refl ]
 
 both_mapped : (f g k : Sum → Sum) (o : Option Sum) → ((s : Sum) → g (f s) ≡ k s)
     → option_map g (option_map f o) ≡ option_map k o
 both_mapped f g k None same = refl
 both_mapped f g k (Some s) same = ap Some (same s)
 
-AddAll-one : (h : Holding) (path : Path) (old new : Sums) → path ≡ path_of h.client
-    → AddTo path (length path) (quantities_of h.bundle) old new → AddAll (h ∷ []) old new
-AddAll-one h path old new of added = λ n some.
-    let under : is_passed path (length path) n ≡ is_under n h =
-    passed-all path n some ∙ ap (λ (p : Path). begins_with p n) of in
-    let one : (s : Sum) → cond (is_passed path (length path) n) (more (quantities_of h.bundle) s) s ≡ sum_with s (h ∷ []) n =
-    λ s. ap (λ (b : Bool). cond b (more (quantities_of h.bundle) s) s) under ∙ sym (sum_with-one s h n) in
+same_mapped : (o : Option Sum) → o ≡ option_map (λ (s : Sum). s) o
+same_mapped None = refl
+same_mapped (Some s) = refl
+
+pub AddAll-none : (sums : Sums) → AddAll [] sums sums
+AddAll-none sums = λ n some. same_mapped (get path_cmp sums n)
+
+AddAll-one : (c : ClientSum) (old new : Sums) → AddTo c.0 (length c.0) c.1 old new → AddAll (c ∷ []) old new
+AddAll-one c old new added = λ n some.
+    let one : (s : Sum) → cond (is_passed c.0 (length c.0) n) (more c.1 s) s ≡ sum_with s (c ∷ []) n =
+    λ s. ap (λ (b : Bool). cond b (more c.1 s) s) (passed-all c.0 n some) ∙ sym (sum_with-one s c n) in
     added n ∙ (λ i. option_map (λ s. one s i) (get path_cmp old n))
 
-pub AddAll-append : (first second : List Holding) (old now new : Sums)
+AddAll-append : (first second : List ClientSum) (old now new : Sums)
     → AddAll first old now → AddAll second now new → AddAll (first ++ second) old new
 AddAll-append first second old now new before later = λ n some.
     later n some
@@ -120,14 +192,15 @@ AddAll-append first second old now new before later = λ n some.
     (λ s. sum_with-append s first second n)
 
 -- where nothing was held, all is held now; and what was counted still is
-pub AreSums-added : (rows : Rows) (start sums : Sums) → HoldNothing start
+pub AreSums-added : (rows : Rows) (clients : List ClientSum) (start sums : Sums)
+    → AreBundles (holdings_of rows) → AreRaised [] clients (holds_where (holdings_of rows)) → HoldNothing start
     → ((node : Path) → 1 ≤ length node → count_at start node ≡ count_of rows node)
-    → AddAll (holdings_of rows) start sums → AreSums rows sums
-AreSums-added rows start sums nothing counted added = λ n s some found.
-    let hs : List Holding = holdings_of rows in
-    let first = sum_first (λ t. sum_with t hs n) (get path_cmp start n) s (sym found ∙ added n some) in
+    → AddAll clients start sums → AreSums rows sums
+AreSums-added rows clients start sums bundles raised nothing counted added = λ n s some found.
+    let first = sum_first (λ t. sum_with t clients n) (get path_cmp start n) s (sym found ∙ added n some) in
     record {
-      held = ap (λ (t : Sum). t.held) first.2 ∙ ap (λ (h : List Entry). held_with h hs n) (nothing n first.0 first.1);
+      held = ap (λ (t : Sum). t.held) first.2 ∙ ap (λ (h : List Entry). held_with h clients n) (nothing n first.0 first.1)
+          ∙ held-regrouped (holdings_of rows) clients n bundles raised;
       count = ap (λ (t : Sum). t.count) first.2
           ∙ sym (ap (λ (o : Option Sum). option_map_or (λ t. t.count) o 0) first.1)
           ∙ counted n some;
@@ -135,110 +208,82 @@ AreSums-added rows start sums nothing counted added = λ n s some found.
 
 -- ---- the sums fit
 
-pub amount-held_with : (held : List Entry) (hs : List Holding) (node : Path) (label : Text) → AreBundles hs
-    → amount_of (held_with held hs node) label ≤ amount_of held label + sum_by (amount_in label) hs
-amount-held_with held [] node label all = omega arith
-amount-held_with held (h ∷ hs) node label all = elim (cases_Bool (is_under node h)) [
-  | inl here ↦ rw here (omega (
-    arith,
-    amount-held_with (plus held (quantities_of h.bundle)) hs node label all.1,
-    amount-plus held (quantities_of h.bundle) label (quantities_no_zeros h.bundle all.0).in_order,
-    sum_by-cons (amount_in label) h hs,
-  ))
-  | inr past ↦ rw past (omega (arith, amount-held_with held hs node label all.1, sum_by-cons (amount_in label) h hs))
-]
-
-bundles_parted : (first second : List Holding) → AreBundles (first ++ second) → AreBundles first × AreBundles second
-bundles_parted [] second all = (tt, all)
-bundles_parted (h ∷ first) second all =
-    let later = bundles_parted first second all.1 in
-    ((all.0, later.0), later.1)
-
-pub CanAddAll-nothing : (hs : List Holding) (sums : Sums)
-    → AreBundles hs → ((label : Text) → sum_by (amount_in label) hs < 2 ^ 64) → HoldNothing sums → CanAddAll hs sums
-CanAddAll-nothing hs sums all fits nothing = record {
-  bundles = all;
-  fits = λ n s some found label. omega (arith, fits label, ap (λ (es : List Entry). amount_of es label) (nothing n s found));
+pub CanAddAll-nothing : (hs : List Holding) (clients : List ClientSum) (sums : Sums)
+    → AreRaised [] clients (holds_where hs) → ((label : Text) → sum_by (amount_in label) hs < 2 ^ 64) → HoldNothing sums
+    → CanAddAll clients sums
+CanAddAll-nothing hs clients sums raised fits nothing = record {
+  no_zeros = raised.named tt;
+  fits = λ n s some found label.
+      omega (
+        arith,
+        fits label,
+        held_after [] clients hs label raised,
+        ap (λ (es : List Entry). amount_of es label) (nothing n s found),
+      );
 }
 
-module _ (first second : List Holding) (old : Sums) (can : CanAddAll (first ++ second) old) where
-  pub CanAddAll-first : CanAddAll first old
-  CanAddAll-first = record {
-    bundles = (bundles_parted first second can.bundles).0;
-    fits = λ n s some found label. omega (arith, can.fits n s some found label, sum_by-append (amount_in label) first second);
-  }
+-- ---- a loop over clients
 
-  -- once the first were added
-  pub CanAddAll-second : (now : Sums) → AddAll first old now → CanAddAll second now
-  CanAddAll-second now added =
-      let parts = bundles_parted first second can.bundles in
-      record {
-        bundles = parts.1;
-        fits = λ n s some found label.
-            let before = sum_first (λ t. sum_with t first n) (get path_cmp old n) s (sym found ∙ added n some) in
-            omega (
-              arith,
-              can.fits n before.0 some before.1 label,
-              amount-held_with before.0.held first n label parts.0,
-              ap (λ (t : Sum). amount_of t.held label) before.2,
-              sum_by-append (amount_in label) first second,
-            );
-      }
+module _ (c : ClientSum) (rest : List ClientSum) (now : Sums) (can : CanAddAll (c ∷ rest) now) where
+  pub CanAdd-next : CanAdd (amount_of c.1) now
+  CanAdd-next = λ n s some found label.
+      omega (arith, can.fits n s some found label, sum_by-cons (λ (d : ClientSum). amount_of d.1 label) c rest)
 
--- ---- a loop over rows that hold something
+  -- once that client was added
+  module _ (new : Sums) (added : AddTo c.0 (length c.0) c.1 now new) where
+    pub CanAddAll-rest : CanAddAll rest new
+    CanAddAll-rest = record {
+      no_zeros = can.no_zeros.1;
+      fits = λ n s some found label.
+          let before = sum_first (λ t. sum_with t (c ∷ []) n) (get path_cmp now n) s
+          (sym found ∙ AddAll-one c now new added n some) in
+          let most : amount_of (held_with before.0.held (c ∷ []) n) label
+          ≤ amount_of before.0.held label + sum_by (λ (d : ClientSum). amount_of d.1 label) (c ∷ []) =
+          amount-added-le (λ (d : ClientSum). d.1) (λ d. begins_with d.0 n) before.0.held (c ∷ []) label (can.no_zeros.0, tt) in
+          omega (
+            arith,
+            can.fits n before.0 some before.1 label,
+            most,
+            ap (λ (t : Sum). amount_of t.held label) before.2,
+            sum_by-cons (λ (d : ClientSum). amount_of d.1 label) c rest,
+          );
+    }
 
-parted_at : {X : Type 0} (of : X → Holding) (xs : List X) (i : ℕ) (x : X) → i < length xs → x ≡ get_or xs i x
-    → map of xs ≡ map of (take i xs) ++ of x ∷ map of (drop (suc i) xs)
-parted_at {X} of xs i x within is =
-    ap (map of) (split_at xs i x within ∙ ap (λ (y : X). take i xs ++ y ∷ drop (suc i) xs) (sym is))
-    ∙ map-append of (take i xs) (x ∷ drop (suc i) xs)
-
-module _ {X : Type 0} (of : X → Holding) (xs : List X) (i : ℕ) (x : X) (within : i < length xs) (is : x ≡ get_or xs i x)
-    (old now : Sums) (added : AddAll (map of (take i xs)) old now) where
-  pub CanAdd-next : CanAddAll (map of xs) old → CanAdd (amount_of (quantities_of (of x).bundle)) now
-  CanAdd-next can = λ n s some found label.
-      let rest : List Holding = map of (drop (suc i) xs) in
-      let now_can = CanAddAll-second (map of (take i xs)) (of x ∷ rest) old
-      (subst (λ (hs : List Holding). CanAddAll hs old) (parted_at of xs i x within is) can) now added in
-      omega (arith, now_can.fits n s some found label, sum_by-cons (amount_in label) (of x) rest)
-
-  pub AddAll-next : (path : Path) (new : Sums) → path ≡ path_of (of x).client
-      → AddTo path (length path) (quantities_of (of x).bundle) now new → AddAll (map of (take (i + 1) xs)) old new
-  AddAll-next path new own more =
-      subst (λ (hs : List Holding). AddAll hs old new) (sym (map_next of xs i x within is))
-      (AddAll-append (map of (take i xs)) (of x ∷ []) old now new added (AddAll-one (of x) path now new own more))
+    -- whatever the others then give, all of them give
+    pub AddAll-next : (end : Sums) → AddAll rest new end → AddAll (c ∷ rest) now end
+    AddAll-next end later = AddAll-append (c ∷ []) rest now new end (AddAll-one c now new added) later
 
 -- ---- a node that is passed
 
 module _ (path : Path) (i : ℕ) (quantities : List Entry) (start now : Sums) (node : Path) (within : i < length path)
     (is : node ≡ take (i + 1) path) (kept : keys now ≡ keys start) (added : AddTo path i quantities start now) where
-  pub add_more : (new : Sums) (s : Sum) (held : List Entry) (was : Option Sum)
-      → Some s ≡ get path_cmp now node → held ≡ plus s.held quantities → was ≡ get path_cmp now node
-      → Updates path_cmp now new node (Some (record s { held = held })) → (IsSome was → keys new ≡ keys now)
+  pub add_more : (new : Sums) (s : Sum) (held : List Entry)
+      → get path_cmp now node ≡ Some s → held ≡ plus s.held quantities
+      → Updates path_cmp now new node (Some (record s { held = held })) → keys new ≡ keys now
       → record { nodes : keys new ≡ keys start; added : AddTo path (i + 1) quantities start new }
-  add_more new s held was found sum had updates stay =
-      let at : get path_cmp now (take (i + 1) path) ≡ Some s = ap (get path_cmp now) (sym is) ∙ sym found in
+  add_more new s held found sum updates stay =
+      let at : get path_cmp now (take (i + 1) path) ≡ Some s = ap (get path_cmp now) (sym is) ∙ found in
       let put : Updates path_cmp now new (take (i + 1) path) (Some (more quantities s)) =
       subst (λ (h : List Entry). Updates path_cmp now new (take (i + 1) path) (Some (record s { held = h }))) sum
       (subst (λ (n : Path). Updates path_cmp now new n (Some (record s { held = held }))) is updates) in
       record {
-        nodes = stay (ap is_some (had ∙ sym found)) ∙ kept;
+        nodes = stay ∙ kept;
         added = AddTo-more path i quantities start now within added new s at put;
       }
 
-  pub add_none : None ≡ get path_cmp now node
+  pub add_none : get path_cmp now node ≡ None
       → record { nodes : keys now ≡ keys start; added : AddTo path (i + 1) quantities start now }
   add_none missing = record {
     nodes = kept;
-    added = AddTo-none path i quantities start now within added (ap (get path_cmp now) (sym is) ∙ sym missing);
+    added = AddTo-none path i quantities start now within added (ap (get path_cmp now) (sym is) ∙ missing);
   }
 
 -- and nothing is added beyond what fits
 pub fits_here : (path : Path) (i : ℕ) (quantities : List Entry) (start now : Sums) (node : Path) (s : Sum)
-    → i < length path → node ≡ take (i + 1) path → Some s ≡ get path_cmp now node
+    → i < length path → node ≡ take (i + 1) path → get path_cmp now node ≡ Some s
     → AddTo path i quantities start now → CanAdd (amount_of quantities) start
     → (label : Text) → amount_of s.held label + amount_of quantities label < 2 ^ 64
 fits_here path i quantities start now node s within is found added can =
-    let at : get path_cmp now (take (i + 1) path) ≡ Some s = ap (get path_cmp now) (sym is) ∙ sym found in
+    let at : get path_cmp now (take (i + 1) path) ≡ Some s = ap (get path_cmp now) (sym is) ∙ found in
     can (take (i + 1) path) s (omega (arith, length-take-le (i + 1) path (omega arith)))
     (sum_yet path i quantities start now within added s at)

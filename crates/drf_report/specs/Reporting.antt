@@ -6,17 +6,17 @@ use Rattle.std.specs.BTreeMap.{BTreeMap, get}
 use Rattle.drf_role.specs.Text.{Text}
 use Rattle.drf_role.specs.Path.{Path, begins_with}
 use Rattle.drf_bundle.specs.Quantities.{plus, amount_of, is_in_order}
-use Rattle.drf_bundle.specs.Bundle.{quantities_of}
 use Rattle.drf_bundle.specs.declared.quantities.Entry.{Entry}
 use Rattle.drf_rows.specs.Client.{Client, path_of}
 use Rattle.drf_rows.specs.Held.{client_of, count_of, weight_of}
-use Rattle.drf_rows.specs.Holdings.{Holding, holdings_of, amount_in, is_under, AreBundles}
+use Rattle.drf_rows.specs.Holdings.{holdings_of}
 use Rattle.drf_rows.specs.Report.{path_cmp, with_node, nodes_on, held_under, line_by}
 use Rattle.drf_rows.specs.declared.report.NodeLine.{NodeLine}
 use Rattle.drf_rows.specs.declared.rows.ClientRow.{ClientRow}
 use Rattle.drf_rows.specs.declared.rows.FrameworkRow.{FrameworkRow}
 use Rattle.drf_rows.specs.declared.rows.WeightRow.{WeightRow}
 use Rattle.drf_rows.specs.declared.rows.Rows.{Rows}
+use Rattle.drf_report.specs.Clients.{ClientSum, HaveNoZeros, held_in}
 use Rattle.drf_report.specs.declared.summary.Sum.{Sum}
 
 -- ---- nodes
@@ -74,22 +74,22 @@ CanAdd amounts sums =
     (node : Path) (s : Sum) → 1 ≤ length node → get path_cmp sums node ≡ Some s
     → (label : Text) → amount_of s.held label + amounts label < 2 ^ 64
 
--- what a node held, and then what its clients have of the holdings
-abbrev pub held_with : List Entry → List Holding → Path → List Entry
-held_with held holdings node = fold (λ sum h. plus sum (quantities_of h.bundle)) held (filter (is_under node) holdings)
+-- what a node held, and then what those of the clients hold that are its own
+abbrev pub held_with : List Entry → List ClientSum → Path → List Entry
+held_with held clients node = fold (λ sum c. plus sum c.1) held (filter (λ c. begins_with c.0 node) clients)
 
-abbrev pub sum_with : Sum → List Holding → Path → Sum
-sum_with s holdings node = record s { held = held_with s.held holdings node }
+abbrev pub sum_with : Sum → List ClientSum → Path → Sum
+sum_with s clients node = record s { held = held_with s.held clients node }
 
--- each of the holdings was added to all nodes of its client
-abbrev pub AddAll : List Holding → Sums → Sums → Type 0
-AddAll holdings old new =
-    (node : Path) → 1 ≤ length node → get path_cmp new node ≡ option_map (λ s. sum_with s holdings node) (get path_cmp old node)
+-- what each of the clients holds was added to all nodes of the client
+abbrev pub AddAll : List ClientSum → Sums → Sums → Type 0
+AddAll clients old new =
+    (node : Path) → 1 ≤ length node → get path_cmp new node ≡ option_map (λ s. sum_with s clients node) (get path_cmp old node)
 
--- they are bundles, and there is room for all of them at each node
-pub record CanAddAll (holdings : List Holding) (sums : Sums) : Type 0 where
-  pub bundles : AreBundles holdings
-  pub fits : CanAdd (λ label. sum_by (amount_in label) holdings) sums
+-- their labels are in order, and there is room for all of them at each node
+pub record CanAddAll (clients : List ClientSum) (sums : Sums) : Type 0 where
+  pub no_zeros : HaveNoZeros clients
+  pub fits : CanAdd (held_in clients) sums
 
 -- ---- all of it
 

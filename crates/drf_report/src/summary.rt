@@ -1,24 +1,25 @@
-//! The report of shares. What a node holds, and how many offers its clients got, is summed from the rows along the paths of
-//! the clients; its shares are made of that.
+//! The report of shares. What a node holds, and how many offers its clients got, is summed along the path of each client, once;
+//! its shares are made of that.
 ghost use Rattle.std.specs.Prelude.{◌≡◌, ◌+◌, ◌<◌, ◌≤◌, ◌^◌, [], map, fold, flat_map, length, All, IfOk, true, OnOk, Some, sum_by};
 ghost use Rattle.std.specs.List.{AllByRecursion};
 ghost use Rattle.std.specs.BTreeMap.{get, keys};
 ghost use Rattle.drf_role.specs.Text.{Text};
 ghost use Rattle.drf_role.specs.Path.{Path};
 ghost use Rattle.drf_bundle.specs.Quantities.{amount_of};
-ghost use Rattle.drf_bundle.specs.Bundle.{quantities_of};
 ghost use Rattle.drf_rows.specs.Held.{client_of, cluster_total};
-ghost use Rattle.drf_rows.specs.Holdings.{of_offer, of_task, holdings_of, amount_in, AreBundles};
+ghost use Rattle.drf_rows.specs.Holdings.{holdings_of, amount_in, AreBundles};
 ghost use Rattle.drf_rows.specs.Consistent.{IsConsistent, offers_counted};
 ghost use Rattle.drf_rows.specs.Report.{path_cmp, with_node, nodes_on, nodes_of, report_of};
 ghost use Rattle.drf_rows.specs.Weights.{are_weights};
 ghost use Rattle.drf_report.specs.Reporting.{with_clients, count_at, count_in, CountTo, CanCount, HoldNothing, AddTo, CanAdd, AddAll, CanAddAll, AreSums, IsWhole, IsPart, AreParts, line_with};
 
+use crate::clients::{add_to, held_by_clients};
 use crate::weights::Weights;
-use drf_bundle::{Bundle, Quantities};
+use drf_bundle::Quantities;
 use drf_role::{ClientPath, NodePath};
-use drf_rows::{FrameworkRow, NodeLine, OfferRow, Report, Rows, Table, TaskRow};
+use drf_rows::{FrameworkRow, NodeLine, Report, Rows, Table};
 use drf_sorter::{DEFAULT_WEIGHT, Share};
+use indexmap::IndexMap;
 use std::alloc::{AllocError, Global};
 use std::collections::BTreeMap;
 
@@ -97,61 +98,40 @@ fn nodes(alloc: Global, frameworks: &[FrameworkRow]) -> Result<BTreeMap<NodePath
 }
 
 /// Adds what a client holds to its nodes, those of them that are there.
-fn add_holding(
+fn add_client(
     sums: &mut BTreeMap<NodePath, Sum>,
     client: &ClientPath,
-    bundle: &Bundle,
+    held: &Quantities,
 ) -> Result<(), AllocError>
-    requires { CanAdd (amount_of (quantities_of bundle.now)) sums.old }
+    requires { CanAdd (amount_of held.now) sums.old }
     ensures nodes { OnOk result (keys sums.new ≡ keys sums.old) }
-    ensures added { OnOk result (AddTo client.now (length client.now) (quantities_of bundle.now) sums.old sums.new) }
+    ensures added { OnOk result (AddTo client.now (length client.now) held.now sums.old sums.new) }
 {
     for i in 0..client.len() {
         let node = client.node(i + 1)?;
-        if let Some(sum) = sums.get(&node) {
-            let held = sum.held.plus(bundle.quantities())?;
-            let count = sum.count;
-            sums.insert(node, Sum { held, count })?;
+        if let Some(sum) = sums.get_mut(&node) {
+            add_to(&mut sum.held, held)?;
         }
     }
     Ok(())
 }
 
-/// Adds what is offered to the nodes of the clients.
-fn add_offers(
-    alloc: Global,
+/// Adds what each client holds to its nodes.
+fn add_clients(
     sums: &mut BTreeMap<NodePath, Sum>,
-    offers: &[OfferRow],
+    clients: &IndexMap<ClientPath, Quantities>,
 ) -> Result<(), AllocError>
-    requires { CanAddAll (map of_offer offers.now) sums.old }
+    requires { CanAddAll clients.now.entries sums.old }
     ensures nodes { OnOk result (keys sums.new ≡ keys sums.old) }
-    ensures added { OnOk result (AddAll (map of_offer offers.now) sums.old sums.new) }
+    ensures added { OnOk result (AddAll clients.now.entries sums.old sums.new) }
 {
-    for offer in offers {
-        let client = ClientPath::new(alloc, &offer.role, &offer.framework)?;
-        add_holding(sums, &client, &offer.bundle)?;
+    for (client, held) in clients {
+        add_client(sums, client, held)?;
     }
     Ok(())
 }
 
-/// Adds what tasks hold to the nodes of the clients.
-fn add_tasks(
-    alloc: Global,
-    sums: &mut BTreeMap<NodePath, Sum>,
-    tasks: &[TaskRow],
-) -> Result<(), AllocError>
-    requires { CanAddAll (map of_task tasks.now) sums.old }
-    ensures nodes { OnOk result (keys sums.new ≡ keys sums.old) }
-    ensures added { OnOk result (AddAll (map of_task tasks.now) sums.old sums.new) }
-{
-    for task in tasks {
-        let client = ClientPath::new(alloc, &task.role, &task.framework)?;
-        add_holding(sums, &client, &task.bundle)?;
-    }
-    Ok(())
-}
-
-/// What each node holds, in offers and in tasks, and the offers that its clients got.
+/// What each node holds, and the offers that its clients got.
 fn sums(alloc: Global, rows: &Rows) -> Result<BTreeMap<NodePath, Sum>, AllocError>
     requires bundles { AreBundles (holdings_of rows.now) }
     requires fits { (label : Text) → sum_by (amount_in label) (holdings_of rows.now) < 2 ^ 64 }
@@ -159,9 +139,9 @@ fn sums(alloc: Global, rows: &Rows) -> Result<BTreeMap<NodePath, Sum>, AllocErro
     ensures nodes { IfOk result (λ sums. keys sums ≡ nodes_of rows.now) }
     ensures sums { IfOk result (AreSums rows.now) }
 {
+    let clients = held_by_clients(alloc, rows)?;
     let mut sums = nodes(alloc, rows.frameworks.as_slice())?;
-    add_offers(alloc, &mut sums, rows.offers.as_slice())?;
-    add_tasks(alloc, &mut sums, rows.tasks.as_slice())?;
+    add_clients(&mut sums, &clients)?;
     Ok(sums)
 }
 

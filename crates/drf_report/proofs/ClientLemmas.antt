@@ -1,24 +1,24 @@
 -- What clients hold, after a change of one of them, and after many.
 use Rattle.std.specs.Prelude.{◌≡◌, ℕ, suc, ◌+◌, ◌^◌, ◌<◌, ◌≤◌, Bool, true, false, List, [], ◌∷◌, ◌++◌, length, take, drop, map, sum_by, Some, None}
-use Rattle.std.specs.List.{AllByRecursion}
-use Rattle.std.specs.Map.{lookup, set_value}
+use Rattle.std.specs.List.{AllByRecursion, IsDistinct}
+use Rattle.std.specs.Map.{lookup, keys_of, set_value}
+use Rattle.std.specs.Option.{option_map_or}
 use Rattle.std.proofs.Common.{refl, sym, ap, subst, ◌∙◌, cond, arith, get_or}
-use Rattle.std.proofs.Math.Seq.{split_at}
-use Rattle.std.proofs.lemmas.List.{map-append}
 use Rattle.std.proofs.lemmas.List.Sums.{sum_by-cons, sum_by-append, sum_by_push}
+use Rattle.std.proofs.lemmas.Map.Keys.{IsDistinct-head, IsDistinct-tail}
 use Rattle.indexmap.specs.IndexMap.{insert_entry}
 use Rattle.drf_role.specs.Text.{Text}
 use Rattle.drf_role.specs.Path.{Path, same_path}
 use Rattle.drf_role.specs.PathLaws.{same_path-true}
 use Rattle.drf_bundle.specs.Quantities.{HasNoZeros, amount_of, plus}
-use Rattle.drf_bundle.specs.QuantitiesLaws.{amount-plus, no_zeros-plus}
+use Rattle.drf_bundle.specs.QuantitiesLaws.{amount-plus, no_zeros-plus, no_zeros-empty}
 use Rattle.drf_bundle.specs.UnitProofs.{quantities_no_zeros}
 use Rattle.drf_bundle.specs.Bundle.{quantities_of}
 use Rattle.drf_bundle.specs.declared.quantities.Entry.{Entry}
 use Rattle.drf_rows.specs.Client.{path_of}
 use Rattle.drf_rows.specs.Holdings.{Holding, amount_in, AreBundles}
-use Rattle.drf_report.specs.Clients.{ClientSum, HaveNoZeros, AreRaised, CanRaise, counted, sum_where, holds_where, held_in}
-use Rattle.drf_report.proofs.ReportLemmas.{map_next}
+use Rattle.drf_report.specs.Clients.{ClientSum, HaveNoZeros, AreOf, AreRaised, CanRaise, counted, sum_where, holds_where, held_in, row_of}
+use Rattle.drf_report.proofs.ReportLemmas.{map_next, parted_at}
 
 -- ---- one client holds more
 
@@ -203,12 +203,6 @@ CanRaise-none hs none empty all fits = record {
 
 -- ---- a loop over rows that hold something
 
-parted_at : {X : Type 0} (of : X → Holding) (xs : List X) (i : ℕ) (x : X) → i < length xs → x ≡ get_or xs i x
-    → map of xs ≡ map of (take i xs) ++ of x ∷ map of (drop (suc i) xs)
-parted_at {X} of xs i x within is =
-    ap (map of) (split_at xs i x within ∙ ap (λ (y : X). take i xs ++ y ∷ drop (suc i) xs) (sym is))
-    ∙ map-append of (take i xs) (x ∷ drop (suc i) xs)
-
 module _ {X : Type 0} (of : X → Holding) (xs : List X) (i : ℕ) (x : X) (within : i < length xs) (is : x ≡ get_or xs i x)
     (old now : List ClientSum) (raised : AreRaised old now (holds_where (map of (take i xs)))) where
   can_next : CanRaise old (map of xs) → CanRaise now (of x ∷ map of (drop (suc i) xs))
@@ -237,3 +231,45 @@ module _ {X : Type 0} (of : X → Holding) (xs : List X) (i : ℕ) (x : X) (with
             );
         named = λ all. one.named (raised.named all);
       })
+
+-- ---- what one client holds
+
+none_where : (ss : List ClientSum) (path : Path) (label : Text) → AllByRecursion (λ p. same_path path p ≡ false) (keys_of ss)
+    → sum_where (same_path path) ss label ≡ 0
+none_where [] path label none = refl
+none_where (s ∷ ss) path label none =
+    let here : counted (same_path path) s.0 (amount_of s.1 label) ≡ 0 = ap (λ b. cond b (amount_of s.1 label) 0) none.0 in
+    omega (arith, sums-cons (same_path path) s ss label, here, none_where ss path label none.1)
+
+row-amount : (ss : List ClientSum) (path : Path) (label : Text) → IsDistinct same_path (keys_of ss)
+    → amount_of (row_of ss path) label ≡ sum_where (same_path path) ss label
+row-amount [] path label apart = refl
+row-amount (s ∷ ss) path label apart =
+    by (same_path path s.0) (λ same. same_path-true path s.0 same) (sums-cons (same_path path) s ss label)
+    (row-amount ss path label (IsDistinct-tail same_path s.0 (keys_of ss) apart))
+  where
+    by : (b : Bool) → (b ≡ true → path ≡ s.0)
+        → sum_where (same_path path) (s ∷ ss) label ≡ cond b (amount_of s.1 label) 0 + sum_where (same_path path) ss label
+        → amount_of (row_of ss path) label ≡ sum_where (same_path path) ss label
+        → amount_of (option_map_or (λ held. held) (cond b (Some s.1) (lookup (same_path path) ss)) []) label ≡ sum_where (same_path path) (s ∷ ss) label
+    by true same whole later =
+        let others = subst (λ (p : Path). AllByRecursion (λ q. same_path p q ≡ false) (keys_of ss)) (sym (same refl))
+        (IsDistinct-head same_path s.0 (keys_of ss) apart) in
+        omega (arith, whole, none_where ss path label others)
+    by false same whole later = omega (arith, whole, later)
+
+row-named : (ss : List ClientSum) (path : Path) → HaveNoZeros ss → HasNoZeros (row_of ss path)
+row-named [] path all = no_zeros-empty
+row-named (s ∷ ss) path all = by (same_path path s.0) (row-named ss path all.1)
+  where
+    by : (b : Bool) → HasNoZeros (row_of ss path)
+        → HasNoZeros (option_map_or (λ held. held) (cond b (Some s.1) (lookup (same_path path) ss)) [])
+    by true later = all.0
+    by false later = later
+
+pub AreOf-raised : (hs : List Holding) (ss : List ClientSum) → AreRaised [] ss (holds_where hs) → IsDistinct same_path (keys_of ss)
+    → AreOf hs ss
+AreOf-raised hs ss raised apart = record {
+  amounts = λ path label. omega (arith, row-amount ss path label apart, raised.amounts (same_path path) label);
+  named = λ path. row-named ss path (raised.named tt);
+}

@@ -26,7 +26,7 @@ use Rattle.drf_rows.specs.declared.report.NodeLine.{NodeLine}
 use Rattle.drf_rows.specs.declared.rows.Rows.{Rows}
 use Rattle.drf_report.specs.declared.summary.Sum.{Sum}
 use Rattle.drf_report.specs.Reporting.{Sums, AreSums, IsWhole, AreParts, line_with}
-use Rattle.drf_report.proofs.ReportSums.{held_under-le}
+use Rattle.drf_report.proofs.ReportParts.{held_under-le}
 use Rattle.drf_report.proofs.ReportLines.{line-rows}
 
 -- ---- what holds of each node

@@ -1,8 +1,10 @@
 -- What clients hold, while it is summed up.
-use Rattle.std.specs.Prelude.{◌≡◌, ℕ, ◌+◌, ◌^◌, ◌<◌, Bool, List, sum_by, if◌then◌else◌}
+use Rattle.std.specs.Prelude.{◌≡◌, ℕ, ◌+◌, ◌^◌, ◌<◌, Bool, List, [], sum_by, if◌then◌else◌}
 use Rattle.std.specs.List.{AllByRecursion}
+use Rattle.std.specs.Map.{lookup}
+use Rattle.std.specs.Option.{option_map_or}
 use Rattle.drf_role.specs.Text.{Text}
-use Rattle.drf_role.specs.Path.{Path}
+use Rattle.drf_role.specs.Path.{Path, same_path}
 use Rattle.drf_bundle.specs.Quantities.{HasNoZeros, amount_of}
 use Rattle.drf_bundle.specs.declared.quantities.Entry.{Entry}
 use Rattle.drf_rows.specs.Client.{path_of}
@@ -40,3 +42,12 @@ pub record AreRaised (old new : List ClientSum) (more : (Path → Bool) → Text
 pub record CanRaise (sums : List ClientSum) (holdings : List Holding) : Type 0 where
   pub bundles : AreBundles holdings
   pub fits : (label : Text) → held_in sums label + sum_by (amount_in label) holdings < 2 ^ 64
+
+-- what a client holds, nothing where it is not there
+abbrev pub row_of : List ClientSum → Path → List Entry
+row_of sums path = option_map_or (λ held. held) (lookup (same_path path) sums) []
+
+-- each client has what it holds by the holdings
+pub record AreOf (holdings : List Holding) (sums : List ClientSum) : Type 0 where
+  pub amounts : (path : Path) (label : Text) → amount_of (row_of sums path) label ≡ holds_where holdings (same_path path) label
+  pub named : (path : Path) → HasNoZeros (row_of sums path)

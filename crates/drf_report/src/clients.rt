@@ -3,7 +3,7 @@ ghost use Rattle.std.specs.Prelude.{◌≡◌, ◌+◌, ◌^◌, ◌<◌, [], ma
 ghost use Rattle.drf_role.specs.Text.{Text};
 ghost use Rattle.drf_bundle.specs.Quantities.{amount_of, plus, HasNoZeros};
 ghost use Rattle.drf_rows.specs.Holdings.{of_offer, of_task, holdings_of, amount_in, AreBundles};
-ghost use Rattle.drf_report.specs.Clients.{counted, held_in, holds_where, AreRaised, CanRaise};
+ghost use Rattle.drf_report.specs.Clients.{counted, held_in, holds_where, row_of, AreOf, AreRaised, CanRaise};
 
 use drf_bundle::Quantities;
 use drf_role::ClientPath;
@@ -79,10 +79,27 @@ pub(crate) fn held_by_clients(
 ) -> Result<IndexMap<ClientPath, Quantities>, AllocError>
     requires bundles { AreBundles (holdings_of rows.now) }
     requires fits { (label : Text) → sum_by (amount_in label) (holdings_of rows.now) < 2 ^ 64 }
-    ensures { IfOk result (λ held. AreRaised [] held.entries (holds_where (holdings_of rows.now))) }
+    ensures { IfOk result (λ held. AreOf (holdings_of rows.now) held.entries) }
 {
     let mut held = IndexMap::new(alloc);
     add_offers(alloc, &mut held, rows.offers.as_slice())?;
     add_tasks(alloc, &mut held, rows.tasks.as_slice())?;
+    // The proof learns that no client stands twice by this call alone.
+    let _ = held.len();
     Ok(held)
+}
+
+/// What a client holds, and `none` where it is not there.
+pub(crate) fn held_by<'a>(
+    held: &'a IndexMap<ClientPath, Quantities>,
+    client: &ClientPath,
+    none: &'a Quantities,
+) -> &'a Quantities
+    requires { none.now ≡ [] }
+    ensures { result.now ≡ row_of held.now.entries client.now }
+{
+    match held.get(client) {
+        Some(own) => own,
+        None => none,
+    }
 }

@@ -19,12 +19,9 @@ returns-in-Some-clause-nodes c =
     let now = c.args.sums.now in
     let node = c.args.node in
     let s : Sum = c.in-Some.sum.now in
-    let held = c.add_to.new.sum in
-    let sum : Sum = record { held = held; count = s.count + c.args.count } in
-    let new = c.get_mut.follows.lender sum in
     let found : get path_cmp now node ≡ Some s = sym c.get_mut.ensures.value ∙ ap option_copied_mut c.in-Some.is in
-    on_ok c.add_to.result (held ≡ plus s.held c.args.held.now) (keys new ≡ with_node (keys now) node)
-    (λ _. (c.get_mut.follows.holds sum).1 ∙ sym (with_node-found now.entries node s c.get_mut.ensures.ordered found))
+    on_ok c.add_to.result _ _
+    (λ _. (c.get_mut.follows.holds _).1 ∙ sym (with_node-found now.entries node s c.get_mut.ensures.ordered found))
     c.add_to.ensures
 
 pub returns-in-Some-clause-added : goal.returns-in-Some-clause-added

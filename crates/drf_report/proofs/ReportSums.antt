@@ -135,9 +135,6 @@ sum_with-append s first second node =
 sum_with-one : (s : Sum) (p : Part) (node : Path) → sum_with s (p ∷ []) node ≡ cond (begins_with p.0 node) (joined s p.1) s
 sum_with-one s p node = elim (cases_Bool (begins_with p.0 node)) [ inl here ↦ rw here refl | inr past ↦ rw past refl ]
 
-pub AddAll-none : (sums : Sums) → AddAll [] sums sums
-AddAll-none sums = λ n some. refl
-
 pub AddAll-more : (first : List Part) (p : Part) (old now new : Sums) → AddAll first old now → AddTo p.0 (length p.0) p.1 now new
     → AddAll (first ++ p ∷ []) old new
 AddAll-more first p old now new before added = λ n some.

@@ -1,7 +1,7 @@
 -- What loops find of lists, and what they add of them.
-use Rattle.std.specs.Prelude.{◌≡◌, ℕ, ◌+◌, ◌<◌, ◌≤◌, Bool, true, false, List, [], ◌∷◌, ◌++◌, length, map, filter, fold, drop, get_or, Option, Some, None}
+use Rattle.std.specs.Prelude.{◌≡◌, ℕ, ◌+◌, ◌<◌, ◌≤◌, Bool, List, [], ◌∷◌, ◌++◌, length, map, filter, fold, drop, get_or, Option, Some, None}
 use Rattle.std.specs.List.{flat_map, reduce}
-use Rattle.std.proofs.Common.{refl, sym, ap, ◌∙◌, inl, inr, cond, append_assoc, append-nil}
+use Rattle.std.proofs.Common.{refl, sym, ap, ◌∙◌, inl, inr, append_assoc, append-nil}
 use Rattle.std.proofs.lemmas.Bool.{cases_Bool}
 use Rattle.std.proofs.lemmas.List.{at_drop_more, drop_all}
 use Rattle.drf_explain.specs.Gates.{joined, reduced}
@@ -61,7 +61,7 @@ module _ {A B : Type 0} (test : A → Bool) (value : A → B) (join : B → B �
   pub found_all : (xs : List A) → fold (reduced test value join) None xs ≡ reduce join (map value (filter test xs))
   found_all xs = found_from None xs
 
-same_values : {A : Type 0} (xs : List A) → map (λ x. x) xs ≡ xs
+pub same_values : {A : Type 0} (xs : List A) → map (λ x. x) xs ≡ xs
 same_values [] = refl
 same_values (x ∷ xs) = ap (λ ys. x ∷ ys) (same_values xs)
 

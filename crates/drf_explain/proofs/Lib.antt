@@ -1,2 +1,3 @@
 mod Found
+mod Reasons
 mod Rooms

@@ -3,3 +3,4 @@ pub mod ExplainedText
 pub mod ExplainedLaws
 pub mod ExplainedExamples
 pub mod Gates
+pub mod ReasonLaws

@@ -8,9 +8,9 @@ use drf_role::{ClientPath, Name, Role};
 pub enum Outcome {
     /// It is offered this.
     Grant(Bundle),
-    /// It refused what it may have there, until this moment in milliseconds.
+    /// It refused something that covers what it may have there, until this moment in milliseconds.
     HeldBack { until: u64 },
-    /// The limit of this role leaves too little to be worth an offer.
+    /// The limit of this role leaves too little of the scalar that makes the part worth an offer.
     OverLimit { role: Role },
     /// What it may have of what is free is not worth an offer.
     BelowThreshold,

@@ -7,6 +7,7 @@ ghost use Rattle.drf_rows.specs.Examples.{cpus, mem};
 ghost use Rattle.drf_explain.specs.Explained.{explained};
 ghost use Rattle.drf_explain.specs.ExplainedExamples.{nothing_rows, nothing_told};
 ghost use Rattle.drf_explain.specs.ExplainedLaws.{GrantsAreOffers, LiveRowsAreExplained};
+ghost use Rattle.drf_explain.specs.ReasonLaws.{BelowThresholdIsTooLittle, GrantIsGranted, HeldBackIsHeldUntil, OverLimitIsOverLimit, ReservedIsForOthers};
 ghost use Rattle.drf_explain.specs.declared.finding.Outcome.TheVariants.{Grant, HeldBack};
 
 /// The grants that an explanation tells are, in order, the offers of the definition's cycle, and filters that have run out change no
@@ -14,6 +15,17 @@ ghost use Rattle.drf_explain.specs.declared.finding.Outcome.TheVariants.{Grant, 
 pub fn explained_law()
     ensures grants { GrantsAreOffers }
     ensures live { LiveRowsAreExplained }
+{}
+
+/// What an outcome says of the cycle. A grant is what the cycle grants. What is held back is granted from the moment that is told, and
+/// not before. A role over its limit has the tightest limit of those that cut what the client may have below the threshold. Otherwise
+/// what the client's role may use is below it, or all that is free is reserved for roles that are neither the client's nor above it.
+pub fn reasons_law()
+    ensures granted { GrantIsGranted }
+    ensures held_back { HeldBackIsHeldUntil }
+    ensures over_limit { OverLimitIsOverLimit }
+    ensures below_threshold { BelowThresholdIsTooLittle }
+    ensures reserved { ReservedIsForOthers }
 {}
 
 /// What is told of a cluster in which each cause stands once: until a filter has run out, and then.

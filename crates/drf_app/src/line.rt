@@ -68,7 +68,7 @@ fn explain_line<'a>(alloc: Global) -> Result<Command<'a>, AllocError>
         .about(
             "Tells what the next cycle would offer to whom, and why to others nothing, after the event lines of standard input",
         )
-        .after_help("Example: drf explain --at 28800000 < examples/day.jsonl")
+        .after_help("Example: head -12 examples/day.jsonl | drf explain")
         .arg(at)
 }
 

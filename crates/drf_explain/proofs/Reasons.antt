@@ -486,7 +486,7 @@ over_limit_is_over_limit rows agent client limited is =
     let mem : ℕ = amount_of (quantities_of part) (codes "mem") in
     let short = or_parts (nat_le 10 (amount_of (quantities_of may) (codes "cpus"))) (nat_le 32000 (amount_of (quantities_of may) (codes "mem"))) decided.0 in
     let by_label : (b : Bool) → nat_le 10 cpus ≡ b
-        → option_map_or (λ (l : LimitRow). l.role) (tightest rows.limits (consumption rows) client.role (cond b (codes "cpus") (codes "mem"))) client.role ≡ limited =
+    → option_map_or (λ (l : LimitRow). l.role) (tightest rows.limits (consumption rows) client.role (cond b (codes "cpus") (codes "mem"))) client.role ≡ limited =
     λ b known.
     sym (ap (λ (c : Bool). option_map_or (λ (l : LimitRow). l.role) (tightest rows.limits (consumption rows) client.role (cond c (codes "cpus") (codes "mem"))) client.role) known)
     ∙ decided.2 in

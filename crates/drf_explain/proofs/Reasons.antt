@@ -32,7 +32,7 @@ use Rattle.drf_rows.specs.declared.rows.LimitRow.{LimitRow}
 use Rattle.drf_rows.specs.declared.rows.Rows.{Rows}
 use Rattle.drf_explain.specs.Explained.{held_until, limiting_role, outcome, tighter, tightest}
 use Rattle.drf_explain.specs.ExplainedLaws.{held_back-until}
-use Rattle.drf_explain.specs.ReasonLaws.{usable, entitled, GrantIsGranted, IsHeldUntil, HeldBackIsHeldUntil, IsCutBelow, OverLimitIsOverLimit, BelowThresholdIsTooLittle, IsForOthers, ReservedIsForOthers}
+use Rattle.drf_explain.specs.ReasonLaws.{usable, entitled, usable_amount, IsHeldUntil, IsCutBelow, IsOverLimit, IsTooLittle, IsForOthers}
 use Rattle.drf_explain.specs.declared.finding.Outcome.{Outcome}
 use Rattle.drf_explain.specs.declared.finding.Outcome.TheVariants.{Grant, HeldBack, OverLimit, BelowThreshold, ReservedForOthers}
 use Rattle.drf_explain.proofs.Found.{same_values}
@@ -86,7 +86,7 @@ reserved_by false until bundle true none limited is = cc
 reserved_by false until bundle false true limited is = refl
 reserved_by false until bundle false false limited is = cc
 
--- ---- where what is found stands
+-- ---- what is found stands at a place
 
 module _ {A B : Type 0} (test : A → Bool) (value : A → B) where
   abbrev values : List A → List B
@@ -211,83 +211,6 @@ max_either a b = elim (cases_Bool (nat_le b a)) [
   | inl less ↦ inl (omega (arith, leb-true b a less))
   | inr more ↦ inr (omega (arith, leb-false b a more))
 ]
-
--- ---- a grant
-
-pub grant_is_granted : GrantIsGranted
-grant_is_granted rows agent client bundle =
-    let may : List Resource = entitled rows agent client in
-    let part : List Resource = usable rows agent client in
-    let until : Option ℕ = held_until rows.filters rows.clock client agent.name may in
-    subst (λ (held : Bool). (outcome rows agent client ≡ Grant bundle) ↔ ((if is_allocatable may && not held then Some may else None) ≡ Some bundle))
-    (sym (held_back-until rows.filters rows.clock client agent.name may))
-    (granted_by (is_allocatable may) until may (is_allocatable part) (is_empty part)
-    (limiting_role rows.limits (consumption rows) client.role part) bundle)
-
--- ---- held back
-
-module _ (rows : Rows) (agent : AgentRow) (client : Client) where
-  abbrev holds_at : ℕ → FilterRow → Bool
-  holds_at clock f = holds_back clock client agent.name (entitled rows agent client) f
-
-  -- all but the clock
-  abbrev is_against : FilterRow → Bool
-  is_against f = is_of_client client f && (is_on_agent agent.name f && covers f.bundle (entitled rows agent client))
-
-  grant-at : (at : ℕ) (held : Bool) → is_allocatable (entitled rows agent client) ≡ true
-      → is_held_back rows.filters (max rows.clock at) client agent.name (entitled rows agent client) ≡ held
-      → grant (at_moment rows at) agent client ≡ cond (not held) (Some (entitled rows agent client)) None
-  unfolding free_of
-  grant-at at held worth is = λ i. if worth i && not (is i) then Some (entitled rows agent client) else None
-
-  -- a filter that holds back does so until it ends
-  still : (at : ℕ) (f : FilterRow) → at < f.until → holds_at rows.clock f ≡ true → holds_at (max rows.clock at) f ≡ true
-  still at f early holds =
-      let parts = and_parts (is_in_force rows.clock f) (is_against f) holds in
-      let begun : rows.clock < f.until = ltb-true rows.clock f.until parts.0 in
-      and_from (is_in_force (max rows.clock at) f) (is_against f) (lt-ltb (max rows.clock at) f.until (omega arith)) parts.1
-
-  -- and what holds back later ends later, and held back before
-  sooner : (at : ℕ) (f : FilterRow) → holds_at (max rows.clock at) f ≡ true → (at < f.until) × (holds_at rows.clock f ≡ true)
-  sooner at f holds =
-      let parts = and_parts (is_in_force (max rows.clock at) f) (is_against f) holds in
-      let early : max rows.clock at < f.until = ltb-true (max rows.clock at) f.until parts.0 in
-      (omega arith, and_from (is_in_force rows.clock f) (is_against f) (lt-ltb rows.clock f.until (omega arith)) parts.1)
-
-  held-until : (until : ℕ) → is_allocatable (entitled rows agent client) ≡ true
-      → held_until rows.filters rows.clock client agent.name (entitled rows agent client) ≡ Some until → IsHeldUntil rows agent client until
-  held-until until worth is =
-      let found = found-reduced (holds_at rows.clock) (λ f. f.until) max max_either rows.filters until is in
-      let greatest : fold max 0 (map (λ (f : FilterRow). f.until) (filter (holds_at rows.clock) rows.filters)) ≡ until = reduced-from_0 _ until is in
-      let last : (other : ℕ) (f : FilterRow) → slice_get rows.filters other ≡ Some f → holds_at rows.clock f ≡ true → f.until ≤ until =
-      λ other f at holds. omega (arith, greatest, greatest-at (holds_at rows.clock) (λ f. f.until) 0 rows.filters other f at holds) in
-      record {
-        worth = worth;
-        place = found.place;
-        row = found.item;
-        stands = found.stands;
-        holds = found.passes;
-        ends = found.valued;
-        last = last;
-        before = λ at early.
-            grant-at at true worth
-            (any-at (holds_at (max rows.clock at)) rows.filters found.place found.item found.stands
-            (still at found.item (omega (arith, found.valued, early)) found.passes));
-        after = λ at late.
-            grant-at at false worth
-            (none-at (holds_at (max rows.clock at)) rows.filters
-            (λ place f stands holds.
-            let before = sooner at f holds in
-            omega (arith, late, before.0, last place f stands before.1)));
-      }
-
-pub held_back_is_held_until : HeldBackIsHeldUntil
-held_back_is_held_until rows agent client until is =
-    let may : List Resource = entitled rows agent client in
-    let part : List Resource = usable rows agent client in
-    let decided = held_by (is_allocatable may) (held_until rows.filters rows.clock client agent.name may) may (is_allocatable part) (is_empty part)
-    (limiting_role rows.limits (consumption rows) client.role part) until is in
-    held-until rows agent client until decided.0 decided.1
 
 -- ---- what a cut leaves of a scalar
 
@@ -476,62 +399,146 @@ module _ (rows : Rows) (client : Client) (label : Text) (least : ℕ) where
           let same : room l ≡ head.0 = cc in
           cut_by l is (omega (arith, same, head.2))
 
-pub over_limit_is_over_limit : OverLimitIsOverLimit
-over_limit_is_over_limit rows agent client limited is =
-    let may : List Resource = entitled rows agent client in
-    let part : List Resource = usable rows agent client in
-    let decided = limited_by (is_allocatable may) (held_until rows.filters rows.clock client agent.name may) may (is_allocatable part) (is_empty part)
-    (limiting_role rows.limits (consumption rows) client.role part) limited is in
-    let cpus : ℕ = amount_of (quantities_of part) (codes "cpus") in
-    let mem : ℕ = amount_of (quantities_of part) (codes "mem") in
-    let short = or_parts (nat_le 10 (amount_of (quantities_of may) (codes "cpus"))) (nat_le 32000 (amount_of (quantities_of may) (codes "mem"))) decided.0 in
-    let by_label : (b : Bool) → nat_le 10 cpus ≡ b
-    → option_map_or (λ (l : LimitRow). l.role) (tightest rows.limits (consumption rows) client.role (cond b (codes "cpus") (codes "mem"))) client.role ≡ limited =
-    λ b known.
-    sym (ap (λ (c : Bool). option_map_or (λ (l : LimitRow). l.role) (tightest rows.limits (consumption rows) client.role (cond c (codes "cpus") (codes "mem"))) client.role) known)
-    ∙ decided.2 in
-    record {
-      worth = decided.1;
-      little = decided.0;
-      cpus = λ enough.
-          subst (λ (role : Path). IsCutBelow rows client role (codes "cpus") 10) (by_label true (le-leb 10 cpus enough))
-          (cut_below rows client (codes "cpus") 10 part enough (leb-false 10 (amount_of (quantities_of may) (codes "cpus")) short.0));
-      mem = λ few.
-          let not_cpus : nat_le 10 cpus ≡ false = false_from_ne_true (nat_le 10 cpus) (λ enough. omega (arith, few, leb-true 10 cpus enough)) in
-          let enough : nat_le 32000 mem ≡ true = sym (ap (λ b. b || nat_le 32000 mem) not_cpus) ∙ decided.1 in
-          subst (λ (role : Path). IsCutBelow rows client role (codes "mem") 32000) (by_label false not_cpus)
-          (cut_below rows client (codes "mem") 32000 part (leb-true 32000 mem enough) (leb-false 32000 (amount_of (quantities_of may) (codes "mem")) short.1));
-    }
+-- ---- where no resource is for a role
 
--- ---- too little, and reserved
-
-pub below_threshold_is_too_little : BelowThresholdIsTooLittle
-below_threshold_is_too_little rows agent client is =
-    let may : List Resource = entitled rows agent client in
-    let part : List Resource = usable rows agent client in
-    let decided = little_by (is_allocatable may) (held_until rows.filters rows.clock client agent.name may) may (is_allocatable part) (is_empty part)
-    (limiting_role rows.limits (consumption rows) client.role part) is in
-    record { some = decided.1; little = decided.0 }
-
--- where no resource is for a role, each is for others
 each_for_others : (client : Client) (rs : List Resource) → is_empty (part_for client.role rs) ≡ true → AllByRecursion (IsForOthers client) rs
 each_for_others client [] none = tt
 each_for_others client (r ∷ rs) none = elim (cases_Bool (is_for client.role r)) [
-  | inl usable ↦
+  | inl for_it ↦
       let some : is_empty (part_for client.role (r ∷ rs)) ≡ false =
-      ap (λ (b : Bool). is_empty (cond b (r ∷ part_for client.role rs) (part_for client.role rs))) usable in
+      ap (λ (b : Bool). is_empty (cond b (r ∷ part_for client.role rs) (part_for client.role rs))) for_it in
       absurd (false≢true (sym some ∙ none))
-  | inr not_usable ↦
-      let parts = or_parts (is_default r.role) (begins_with client.role r.role) not_usable in
+  | inr not_for_it ↦
+      let parts = or_parts (is_default r.role) (begins_with client.role r.role) not_for_it in
       let later : is_empty (part_for client.role rs) ≡ true =
-      sym (ap (λ (b : Bool). is_empty (cond b (r ∷ part_for client.role rs) (part_for client.role rs))) not_usable) ∙ none in
+      sym (ap (λ (b : Bool). is_empty (cond b (r ∷ part_for client.role rs) (part_for client.role rs))) not_for_it) ∙ none in
       (record { reserved = parts.0; apart = parts.1 }, each_for_others client rs later)
 ]
 
-pub reserved_is_for_others : ReservedIsForOthers
-reserved_is_for_others rows agent client is =
-    let may : List Resource = entitled rows agent client in
-    let part : List Resource = usable rows agent client in
-    each_for_others client (free_of rows agent)
-    (reserved_by (is_allocatable may) (held_until rows.filters rows.clock client agent.name may) may (is_allocatable part) (is_empty part)
-    (limiting_role rows.limits (consumption rows) client.role part) is)
+-- ---- a client is tried
+
+module _ (rows : Rows) (agent : AgentRow) (client : Client) where
+  abbrev part : List Resource
+  part = usable rows agent client
+
+  abbrev may : List Resource
+  may = entitled rows agent client
+
+  abbrev end : Option ℕ
+  end = held_until rows.filters rows.clock client agent.name may
+
+  abbrev limiting : Path
+  limiting = limiting_role rows.limits (consumption rows) client.role part
+
+  pub granted : (bundle : List Resource) → (outcome rows agent client ≡ Grant bundle) ↔ (grant rows agent client ≡ Some bundle)
+  granted bundle =
+      subst (λ (held : Bool). (outcome rows agent client ≡ Grant bundle) ↔ ((if is_allocatable may && not held then Some may else None) ≡ Some bundle))
+      (sym (held_back-until rows.filters rows.clock client agent.name may))
+      (granted_by (is_allocatable may) end may (is_allocatable part) (is_empty part) limiting bundle)
+
+  -- ---- held back
+
+  abbrev holds_at : ℕ → FilterRow → Bool
+  holds_at clock f = holds_back clock client agent.name may f
+
+  -- all of it but the clock
+  abbrev is_against : FilterRow → Bool
+  is_against f = is_of_client client f && (is_on_agent agent.name f && covers f.bundle may)
+
+  grant-at : (at : ℕ) (held : Bool) → is_allocatable may ≡ true → is_held_back rows.filters (max rows.clock at) client agent.name may ≡ held
+      → grant (at_moment rows at) agent client ≡ cond (not held) (Some may) None
+  unfolding free_of
+  grant-at at held worth is = λ i. if worth i && not (is i) then Some may else None
+
+  -- a filter that holds back does so until it ends
+  still : (at : ℕ) (f : FilterRow) → at < f.until → holds_at rows.clock f ≡ true → holds_at (max rows.clock at) f ≡ true
+  still at f early holds =
+      let parts = and_parts (is_in_force rows.clock f) (is_against f) holds in
+      let begun : rows.clock < f.until = ltb-true rows.clock f.until parts.0 in
+      and_from (is_in_force (max rows.clock at) f) (is_against f) (lt-ltb (max rows.clock at) f.until (omega arith)) parts.1
+
+  -- one that holds back at a moment ends later, and holds back now
+  sooner : (at : ℕ) (f : FilterRow) → holds_at (max rows.clock at) f ≡ true → (at < f.until) × (holds_at rows.clock f ≡ true)
+  sooner at f holds =
+      let parts = and_parts (is_in_force (max rows.clock at) f) (is_against f) holds in
+      let early : max rows.clock at < f.until = ltb-true (max rows.clock at) f.until parts.0 in
+      (omega arith, and_from (is_in_force rows.clock f) (is_against f) (lt-ltb rows.clock f.until (omega arith)) parts.1)
+
+  held-until : (until : ℕ) → is_allocatable may ≡ true → end ≡ Some until → IsHeldUntil rows agent client until
+  held-until until worth is =
+      let found = found-reduced (holds_at rows.clock) (λ f. f.until) max max_either rows.filters until is in
+      let greatest : fold max 0 (map (λ (f : FilterRow). f.until) (filter (holds_at rows.clock) rows.filters)) ≡ until = reduced-from_0 _ until is in
+      let last : (other : ℕ) (f : FilterRow) → slice_get rows.filters other ≡ Some f → holds_at rows.clock f ≡ true → f.until ≤ until =
+      λ other f at holds. omega (arith, greatest, greatest-at (holds_at rows.clock) (λ f. f.until) 0 rows.filters other f at holds) in
+      record {
+        worth = worth;
+        place = found.place;
+        row = found.item;
+        stands = found.stands;
+        holds = found.passes;
+        ends = found.valued;
+        last = last;
+        before = λ at early.
+            grant-at at true worth
+            (any-at (holds_at (max rows.clock at)) rows.filters found.place found.item found.stands
+            (still at found.item (omega (arith, found.valued, early)) found.passes));
+        after = λ at late.
+            grant-at at false worth
+            (none-at (holds_at (max rows.clock at)) rows.filters
+            (λ place f stands holds.
+            let before = sooner at f holds in
+            omega (arith, late, before.0, last place f stands before.1)));
+      }
+
+  pub held_back : (until : ℕ) → outcome rows agent client ≡ HeldBack until → IsHeldUntil rows agent client until
+  held_back until is =
+      let decided = held_by (is_allocatable may) end may (is_allocatable part) (is_empty part) limiting until is in
+      held-until until decided.0 decided.1
+
+  -- ---- over a limit
+
+  limiting-by : (b : Bool) → nat_le 10 (usable_amount rows agent client (codes "cpus")) ≡ b
+      → option_map_or (λ (l : LimitRow). l.role) (tightest rows.limits (consumption rows) client.role (if b then codes "cpus" else codes "mem")) client.role ≡ limiting
+  limiting-by b known =
+      sym (ap (λ (c : Bool). option_map_or (λ (l : LimitRow). l.role)
+      (tightest rows.limits (consumption rows) client.role (if c then codes "cpus" else codes "mem")) client.role) known)
+
+  module _ (little : is_allocatable may ≡ false) where
+    short : (amount_of (quantities_of may) (codes "cpus") < 10) × (amount_of (quantities_of may) (codes "mem") < 32000)
+    short =
+        let cpus : ℕ = amount_of (quantities_of may) (codes "cpus") in
+        let mem : ℕ = amount_of (quantities_of may) (codes "mem") in
+        let parts = or_parts (nat_le 10 cpus) (nat_le 32000 mem) little in
+        (leb-false 10 cpus parts.0, leb-false 32000 mem parts.1)
+
+    cut_cpus : 10 ≤ usable_amount rows agent client (codes "cpus") → IsCutBelow rows client limiting (codes "cpus") 10
+    cut_cpus enough =
+        subst (λ (role : Path). IsCutBelow rows client role (codes "cpus") 10)
+        (limiting-by true (le-leb 10 (usable_amount rows agent client (codes "cpus")) enough))
+        (cut_below rows client (codes "cpus") 10 part enough short.0)
+
+    cut_mem : is_allocatable part ≡ true → usable_amount rows agent client (codes "cpus") < 10 → IsCutBelow rows client limiting (codes "mem") 32000
+    cut_mem worth few =
+        let cpus : ℕ = usable_amount rows agent client (codes "cpus") in
+        let mem : ℕ = usable_amount rows agent client (codes "mem") in
+        let not_cpus : nat_le 10 cpus ≡ false = false_from_ne_true (nat_le 10 cpus) (λ enough. omega (arith, few, leb-true 10 cpus enough)) in
+        let enough : nat_le 32000 mem ≡ true = sym (ap (λ b. b || nat_le 32000 mem) not_cpus) ∙ worth in
+        subst (λ (role : Path). IsCutBelow rows client role (codes "mem") 32000) (limiting-by false not_cpus)
+        (cut_below rows client (codes "mem") 32000 part (leb-true 32000 mem enough) short.1)
+
+  pub over_limit : (limited : Path) → outcome rows agent client ≡ OverLimit limited → IsOverLimit rows agent client limited
+  over_limit limited is =
+      let decided = limited_by (is_allocatable may) end may (is_allocatable part) (is_empty part) limiting limited is in
+      subst (IsOverLimit rows agent client) decided.2
+      (record { worth = decided.1; little = decided.0; cpus = cut_cpus decided.0; mem = cut_mem decided.0 decided.1 })
+
+  -- ---- too little, and reserved
+
+  pub below_threshold : outcome rows agent client ≡ BelowThreshold → IsTooLittle rows agent client
+  below_threshold is =
+      let decided = little_by (is_allocatable may) end may (is_allocatable part) (is_empty part) limiting is in
+      record { some = decided.1; little = decided.0 }
+
+  pub reserved : outcome rows agent client ≡ ReservedForOthers → AllByRecursion (IsForOthers client) (free_of rows agent)
+  reserved is =
+      each_for_others client (free_of rows agent) (reserved_by (is_allocatable may) end may (is_allocatable part) (is_empty part) limiting is)

@@ -1,9 +1,9 @@
 -- What limits leave, as a quota counts it and as the rows say it, and what comes of a client by that.
-use Rattle.std.specs.Prelude.{◌≡◌, ℕ, max, Bool, true, false, List, [], ◌∷◌, map, filter, Option, Some, None}
+use Rattle.std.specs.Prelude.{◌≡◌, ℕ, max, true, false, List, map, filter, Option, None}
 use Rattle.std.specs.List.{reduce}
-use Rattle.std.specs.Option.{option_map_or, option_copied}
-use Rattle.std.proofs.Common.{refl, sym, ap, subst, ◌∙◌, inl, inr, cond, arith}
-use Rattle.std.proofs.lemmas.Bool.{cases_Bool, and_parts}
+use Rattle.std.specs.Option.{option_map_or}
+use Rattle.std.proofs.Common.{sym, ap, ◌∙◌, cond}
+use Rattle.std.proofs.lemmas.Bool.{and_parts}
 use Rattle.drf_role.specs.Text.{Text}
 use Rattle.drf_role.specs.Path.{Path, role_part, framework_part}
 use Rattle.drf_role.specs.PathLaws.{role_part-client_path, framework_part-client_path}
@@ -13,7 +13,7 @@ use Rattle.drf_gates.specs.Quota.{Allowance, IsAllowanceOf, used_at}
 use Rattle.drf_rows.specs.Client.{Client, path_of}
 use Rattle.drf_rows.specs.Cycle.{is_allocatable}
 use Rattle.drf_rows.specs.Filters.{is_in_force, is_of_client, is_on_agent, holds_back}
-use Rattle.drf_rows.specs.Quota.{Consumed, consumption, is_within}
+use Rattle.drf_rows.specs.Quota.{consumption, is_within}
 use Rattle.drf_rows.specs.declared.rows.AgentRow.{AgentRow}
 use Rattle.drf_rows.specs.declared.rows.FilterRow.{FilterRow}
 use Rattle.drf_rows.specs.declared.rows.LimitRow.{LimitRow}

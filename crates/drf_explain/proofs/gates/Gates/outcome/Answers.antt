@@ -1,4 +1,4 @@
-use Rattle.std.proofs.Common.{◌≡◌, None, Some, List, ap, sym, ◌∙◌}
+use Rattle.std.proofs.Common.{None, Some, List, ap, sym, ◌∙◌}
 use Rattle.std.proofs.lemmas.Result.{IfOk-weaker}
 use Rattle.drf_role.specs.Path.{Path}
 use Rattle.drf_rows.specs.Quota.{consumption}

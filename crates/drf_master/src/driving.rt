@@ -1,12 +1,13 @@
 //! Scripts of events that threads run on one master, each on a pass of its own.
-ghost use Rattle.std.specs.Prelude.{◌≡◌, length, map, IfOk};
+ghost use Rattle.std.specs.Prelude.{◌≡◌, ◌≤◌, [], All, length, map, vec_capacity, IfOk, IfErr, OnOk};
 ghost use Rattle.drf_board.specs.History.{IsLegal};
-ghost use Rattle.drf_master.specs.Scripts.{AreDone, DidJob, DidJobs, HasCalled, HasDriven, HasRun};
+ghost use Rattle.drf_master.specs.Closing.{AreOf};
+ghost use Rattle.drf_master.specs.Scripts.{AreAsked, AreDone, AreNumbered, DidJob, DidJobs, HasCalled, HasDriven, HaveAllRun, IsAsked, IsCallStop, IsDriveFault, IsFirstFault, IsRunFault};
 
 use crate::book::Book;
-use crate::desk::{Answer, MasterSorter};
+use crate::desk::MasterSorter;
 use crate::gate::Gate;
-use crate::master::{CallFault, Master, are_of};
+use crate::master::{Master, are_of};
 use crate::matching::CloseFault;
 use crate::pass::Pass;
 use drf_board::Naming;
@@ -28,17 +29,13 @@ pub enum DriveFault {
 }
 
 impl From<AllocError> for DriveFault {
+    ghost use Rattle.std.specs.Prelude.{◌≡◌};
+    ghost use Rattle.drf_master.specs.declared.driving.DriveFault.TheVariants.{Memory};
+
+    ghost from_gives = { λ _ gives. gives ≡ Memory };
+
     fn from(_error: AllocError) -> DriveFault {
         DriveFault::Memory
-    }
-}
-
-impl From<CallFault> for DriveFault {
-    fn from(fault: CallFault) -> DriveFault {
-        match fault {
-            CallFault::Stranger => DriveFault::Close(CloseFault::Stranger),
-            CallFault::Memory => DriveFault::Memory,
-        }
     }
 }
 
@@ -64,25 +61,31 @@ pub struct Done {
     pub replies: Vec<Reply>,
 }
 
-// Makes one call, and asks the gate round it.
+// Makes one call by a pass of this master, and asks the gate round it.
 fn run_call<K: Naming, R: Wait + Drop, W: Wait, G: Gate>(
     rt: &W,
     master: &Master<K, R>,
     gate: &G,
-    at: (u64, u64),
+    worker: u64,
+    call: u64,
     pass: &mut Pass,
     event: Event,
 ) -> Result<Reply, DriveFault>
-    ensures { IfOk result (HasCalled pass.old.receipts pass.new.receipts event) }
+    requires own { pass.old.key ≡ master.now.key }
+    ensures called { IfOk result (HasCalled pass.old pass.new event) }
+    ensures asked { OnOk result (IsAsked (G.lets gate.now) (G.sees gate.now) worker call) }
+    ensures fault { IfErr result (IsCallStop (G.stops gate.now worker call)) }
 {
-    let (worker, call) = at;
     if !gate.before(worker, call) {
         drop(event);
         return Err(DriveFault::Stopped);
     }
-    let Answer { reply, .. } = master.call(rt, pass, event)?;
+    // A pass of this master is refused for want of memory alone.
+    let Ok(answer) = master.call(rt, pass, event) else {
+        return Err(DriveFault::Memory);
+    };
     gate.after(worker, call);
-    Ok(reply)
+    Ok(answer.reply)
 }
 
 // Makes the calls of a script in order.
@@ -93,7 +96,8 @@ fn run_script<K: Naming, R: Wait + Drop, W: Wait, G: Gate>(
     gate: &G,
     job: Job,
 ) -> Result<Done, DriveFault>
-    ensures { IfOk result (λ done. HasRun job.pass.receipts job.script.items done.replies.items done.pass.receipts) }
+    requires own { job.pass.key ≡ master.now.key }
+    ensures { DidJob (IsAsked (G.lets gate.now) (G.sees gate.now)) (G.stops gate.now) job result }
 {
     let Job {
         worker,
@@ -101,12 +105,10 @@ fn run_script<K: Naming, R: Wait + Drop, W: Wait, G: Gate>(
         script,
     } = job;
     let mut replies = Vec::with_capacity(alloc, script.len())?;
-    let mut call = 0u64;
     for event in script {
-        let reply = run_call(rt, master, gate, (worker, call), &mut pass, event)?;
-        replies.reserve(1)?;
+        let call = replies.len() as u64;
+        let reply = run_call(rt, master, gate, worker, call, &mut pass, event)?;
         replies.push_reserved(reply);
-        call = call.saturating_add(1);
     }
     Ok(Done { pass, replies })
 }
@@ -124,13 +126,16 @@ fn run_all<
     gate: &G,
     jobs: Vec<Job>,
 ) -> Result<Vec<Result<Done, DriveFault>>, AllocError>
-    ensures { IfOk result (λ results. DidJobs jobs.items results.items) }
+    requires own { All (λ job. job.pass.key ≡ master.now.key) jobs.items }
+    ensures count { IfOk result (λ results. length results.items ≡ length jobs.items) }
+    ensures did { IfOk result (λ results. DidJobs (IsAsked (G.lets gate.now) (G.sees gate.now)) (G.stops gate.now) jobs.items results.items) }
 {
     let results = thread::map_vec(
         rt,
         jobs,
         &|job: Job| -> Result<Done, DriveFault>
-            ensures { DidJob job result }
+            requires { job.pass.key ≡ master.now.key }
+            ensures { DidJob (IsAsked (G.lets gate.entry.now) (G.sees gate.entry.now)) (G.stops gate.entry.now) job result }
         { run_script(rt, alloc, master, gate, job) },
     )?;
     Ok(results)
@@ -145,40 +150,67 @@ fn jobs_of(
     requires { length scripts.items ≡ length passes.items }
     ensures passes { IfOk result (λ jobs. map (λ job. job.pass) jobs.items ≡ passes.items) }
     ensures scripts { IfOk result (λ jobs. map (λ job. job.script) jobs.items ≡ scripts.items) }
+    ensures numbers { IfOk result (λ jobs. AreNumbered 0 jobs.items) }
 {
     let mut jobs = Vec::with_capacity(alloc, passes.len())?;
-    let mut worker = 0u64;
     for (pass, script) in passes.into_iter().zip(scripts) {
+        let worker = jobs.len() as u64;
         jobs.push(Job {
             worker,
             pass,
             script,
         })?;
-        worker = worker.saturating_add(1);
     }
     Ok(jobs)
 }
 
-// The passes and replies of jobs that were all done, or the first fault.
+// The passes and replies of jobs that were all done, or the fault of the first that was not. It takes no memory, so that no other
+// fault is told in place of that one.
 fn all_done(
-    alloc: Global,
+    mut passes: Vec<Pass>,
+    mut replies: Vec<Vec<Reply>>,
     results: Vec<Result<Done, DriveFault>>,
 ) -> Result<(Vec<Pass>, Vec<Vec<Reply>>), DriveFault>
-    ensures { IfOk result (λ r. AreDone results.items r.0.items r.1.items) }
+    requires passes { passes.items ≡ [] }
+    requires replies { replies.items ≡ [] }
+    requires room { (length results.items ≤ vec_capacity passes) × (length results.items ≤ vec_capacity replies) }
+    ensures done { IfOk result (λ r. AreDone results.items r.0.items r.1.items) }
+    ensures fault { IfErr result (IsFirstFault results.items) }
 {
-    let mut passes = Vec::new(alloc);
-    let mut replies = Vec::new(alloc);
     for result in results {
-        let Done {
-            pass,
-            replies: told,
-        } = result?;
-        passes.reserve(1)?;
-        replies.reserve(1)?;
-        passes.push_reserved(pass);
-        replies.push_reserved(told);
+        let done = result?;
+        passes.push_reserved(done.pass);
+        replies.push_reserved(done.replies);
     }
     Ok((passes, replies))
+}
+
+// Runs each script on a thread and a pass of its own. A pass of another master is told before any thread starts.
+fn run_scripts<
+    K: Naming + Send + Sync,
+    R: Wait + Drop + Send + Sync,
+    W: Threads + Wait + Sync,
+    G: Gate + Sync,
+>(
+    rt: &W,
+    alloc: Global,
+    master: &Master<K, R>,
+    passes: Vec<Pass>,
+    gate: &G,
+    scripts: Vec<Vec<Event>>,
+) -> Result<(Vec<Pass>, Vec<Vec<Reply>>), DriveFault>
+    requires { length scripts.items ≡ length passes.items }
+    ensures run { IfOk result (λ r. HaveAllRun (IsAsked (G.lets gate.now) (G.sees gate.now)) master.now.key passes.items scripts.items r.0.items r.1.items) }
+    ensures fault { IfErr result (IsRunFault (IsAsked (G.lets gate.now) (G.sees gate.now)) (G.stops gate.now) master.now.key passes.items scripts.items) }
+{
+    if !are_of(master.key(), &passes) {
+        return Err(DriveFault::Close(CloseFault::Stranger));
+    }
+    let jobs = jobs_of(alloc, passes, scripts)?;
+    let done = Vec::with_capacity(alloc, jobs.len())?;
+    let replies = Vec::with_capacity(alloc, jobs.len())?;
+    let results = run_all(rt, alloc, master, gate, jobs)?;
+    all_done(done, replies, results)
 }
 
 /// Runs each script on a thread and a pass of its own, asks the gate round each call, joins all threads and closes the master. A pass
@@ -198,16 +230,19 @@ pub fn drive<
 ) -> Result<Driven, DriveFault>
     requires { length scripts.items ≡ length passes.items }
     ensures legal { IfOk result (λ driven. IsLegal K.slate.limits driven.book.entries) }
+    ensures own { OnOk result (AreOf master.key passes.items) }
     ensures driven { IfOk result (λ driven. HasDriven passes.items scripts.items driven.replies.items driven.book.entries) }
+    ensures asked { OnOk result (AreAsked (IsAsked (G.lets gate.now) (G.sees gate.now)) 0 scripts.items) }
+    ensures fault { IfErr result (IsDriveFault (IsAsked (G.lets gate.now) (G.sees gate.now)) (G.stops gate.now) master.key passes.items scripts.items) }
 {
-    if !are_of(master.key(), &passes) {
-        return Err(DriveFault::Close(CloseFault::Stranger));
-    }
-    let jobs = jobs_of(alloc, passes, scripts)?;
-    let results = run_all(rt, alloc, &master, gate, jobs)?;
-    let (passes, replies) = all_done(alloc, results)?;
-    match master.close(passes) {
-        Ok(book) => Ok(Driven { book, replies }),
-        Err(refused) => Err(DriveFault::Close(refused.fault)),
+    match run_scripts(rt, alloc, &master, passes, gate, scripts) {
+        Ok((passes, replies)) => match master.close(passes) {
+            Ok(book) => Ok(Driven { book, replies }),
+            Err(refused) => Err(DriveFault::Close(refused.fault)),
+        },
+        Err(fault) => {
+            drop(master);
+            Err(fault)
+        }
     }
 }

@@ -101,9 +101,9 @@ impl<K: Naming, R: Wait + Drop> Master<K, R> {
         ensures passes { IfOk result (λ r. (length r.1.items ≡ passes) × All (IsNewPass key) r.1.items) }
         ensures viewers { IfOk result (λ r. (length r.2.items ≡ slate.viewers) × All (λ viewer. viewer ≡ []) r.2.items) }
     {
-        let book = Book::open(alloc, limits)?;
         let passes = passes_of(alloc, key, passes as usize)?;
         let (board, viewers) = Board::open(rt, alloc, slate)?;
+        let book = Book::open(alloc, limits)?;
         let desk = Mutex::new(Desk::new(book, board));
         Ok((Master { key, desk }, passes, viewers))
     }

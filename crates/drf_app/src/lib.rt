@@ -2,7 +2,6 @@
 #![tactic(auto)]
 
 mod check;
-mod drive;
 mod line;
 mod refusal;
 mod tasks;

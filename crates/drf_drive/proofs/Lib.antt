@@ -1,5 +1,0 @@
-pub mod Cuts
-pub mod Contents
-pub mod Scripts
-pub mod Sent
-pub mod Endings

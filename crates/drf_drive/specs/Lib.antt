@@ -1,5 +1,0 @@
-pub mod Cut
-pub mod Files
-pub mod Scripts
-pub mod JournalText
-pub mod Driven

@@ -35,7 +35,7 @@ void *realloc(void *kept, size_t size) {
     return real(kept, size);
 }
 """
-COMMANDS = [["run"], ["run", "--echo"], ["audit"], ["check"]]
+COMMANDS = [["run"], ["run", "--echo"], ["audit"], ["explain"], ["check"]]
 # So many refusals in a row that change nothing are the end: no growth is left.
 QUIET = 100
 

@@ -13,8 +13,9 @@ use Rattle.clap.specs.declared.parser.matches.SubCommand.{SubCommand}
 use Rattle.clap.specs.Words.{kind_of}
 use Rattle.clap.specs.declared.error.Error.{Error}
 use Rattle.clap.specs.declared.error.kind.ErrorKind.TheVariants.{OutOfMemory}
-use Rattle.drf_app.specs.Line.{drf_line, Asks, IsRefused}
+use Rattle.drf_app.specs.Line.{drf_line, Asks, IsEarly, IsNamed, IsRefused}
 use Rattle.drf_app.specs.declared.line.Task.{Task}
+use Rattle.drf_app.specs.declared.line.Task.TheVariants.{Run, Check, Audit, Explain}
 
 -- the name of one of the commands
 abbrev IsNameOf : List Shape → Text → Type 0
@@ -64,11 +65,11 @@ module _ {Z : Type 0} where
   -- the command that was entered is `run`, if it is no other
   pub is_run : (o : Option (Box SubCommand Z)) (words : List Text) → is_some o ≡ true
       → subcommand_rows o ≡ subcommand_of drf_line words → (name_in o ≡ Some (codes "check") → ⊥) → (name_in o ≡ Some (codes "audit") → ⊥)
-      → name_in o ≡ Some (codes "run")
-  is_run None words some e not_check not_audit = cc
-  is_run (Some b) words some e not_check not_audit =
+      → (name_in o ≡ Some (codes "explain") → ⊥) → name_in o ≡ Some (codes "run")
+  is_run None words some e not_check not_audit not_explain = cc
+  is_run (Some b) words some e not_check not_audit not_explain =
       let among = entered_among (built drf_line).subs _ (stop_after (built drf_line).top.rules (names_of (built drf_line)) (argument_words drf_line words)) (sym e) in
-      let other = ⊎_elim (λ named. not_check (ap Some named)) (⊎_elim (λ named. not_audit (ap Some named)) (λ none. none)) in
+      let other = ⊎_elim (λ named. not_check (ap Some named)) (⊎_elim (λ named. not_audit (ap Some named)) (⊎_elim (λ named. not_explain (ap Some named)) (λ none. none))) in
       ap Some (⊎_elim (λ named. named) (λ later. absurd (other later)) among)
 
 no_globals : (a b c rest : Bool) → a && (not b && (not c && rest)) ≡ true → c ≡ false
@@ -94,3 +95,10 @@ pub refused_as : (words : List Text) (r : Result Task Error) (error : Error) →
     → MatchResult r (Asks words) (IsRefused words)
 refused_as words (Ok task) error same refused = absurd same
 refused_as words (Err e) error same refused = subst (λ (x : Error). IsRefused words x) (sym same) refused
+
+-- a task that words name has no moment that is too late
+pub early_named : (words : List Text) (task : Task) → IsNamed words task → IsEarly task
+early_named words (Run echo) named = tt
+early_named words Check named = tt
+early_named words Audit named = tt
+early_named words (Explain at) named = named.2.early

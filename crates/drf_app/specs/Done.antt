@@ -6,7 +6,7 @@ use Rattle.clap.specs.declared.error.Error.{Error}
 use Rattle.clap.specs.declared.error.kind.ErrorKind.{ErrorKind}
 use Rattle.clap.specs.declared.error.kind.ErrorKind.TheVariants.{OutOfMemory, DisplayHelp, DisplayVersion}
 use Rattle.drf_rows.specs.LimitNumbers.{ceilings}
-use Rattle.drf_journal.specs.Audited.{HasAudited}
+use Rattle.drf_journal.specs.Audited.{HasAudited, HasExplained as HasExplainedLines}
 use Rattle.drf_journal.specs.Ended.{HasAnswered, HasCause}
 use Rattle.drf_journal.specs.declared.device.Device.{Device}
 use Rattle.drf_journal.specs.declared.fault.RunFault.{RunFault}
@@ -16,7 +16,7 @@ use Rattle.drf_app.specs.Line.{Asks, IsRefused}
 use Rattle.drf_app.specs.Told.{IsTold, IsToldOf, fault_line, status_of}
 use Rattle.drf_app.specs.Verdicts.{IsJudged, check_status}
 use Rattle.drf_app.specs.declared.line.Task.{Task}
-use Rattle.drf_app.specs.declared.line.Task.TheVariants.{Run, Check, Audit}
+use Rattle.drf_app.specs.declared.line.Task.TheVariants.{Run, Check, Audit, Explain}
 
 -- a stream: what is still to be read or what was written, where that is known, how often it was called, and whether it failed
 pub record Stream : Type 0 where
@@ -54,6 +54,14 @@ pub record HasChecked (old new : Streams) (answer : ℕ) : Type 0 where
 pub record HasAudit (old new : Streams) (answer : ℕ) : Type 0 where
   pub ended : Result (Unit {0}) RunFault
   pub audited : HasAudited ceilings old.input.bytes new.input.bytes old.output.bytes new.output.bytes ended
+  pub cause : HasCause ended new.input.failed new.input.calls new.output.failed
+  pub status : answer ≡ status_of ended
+  pub told : IsToldOf ended old.errors.bytes new.errors.bytes new.errors.failed
+
+-- an explanation of the cycle at a moment, within the full limits
+pub record HasExplainedCycle (at : ℕ) (old new : Streams) (answer : ℕ) : Type 0 where
+  pub ended : Result (Unit {0}) RunFault
+  pub explained : HasExplainedLines at ceilings old.input.bytes new.input.bytes old.output.bytes new.output.bytes ended
   pub cause : HasCause ended new.input.failed new.input.calls new.output.failed
   pub status : answer ≡ status_of ended
   pub told : IsToldOf ended old.errors.bytes new.errors.bytes new.errors.failed
@@ -96,6 +104,7 @@ abbrev pub HasDone : Task → Streams → Streams → ℕ → Type 0
 HasDone (Run echo) old new answer = HasRun echo old new answer
 HasDone Check old new answer = HasChecked old new answer
 HasDone Audit old new answer = HasAudit old new answer
+HasDone (Explain at) old new answer = HasExplainedCycle at old new answer
 
 -- what the words ask for was done, or they were refused
 abbrev pub HasObeyed : List (List ℕ) → Streams → Streams → ℕ → Type 0

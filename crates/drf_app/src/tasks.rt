@@ -2,12 +2,13 @@
 ghost use Rattle.std.specs.Prelude.{◌≡◌, ◌≤◌, ◌^◌, map};
 ghost use Rattle.drf_journal.specs.Device.{IsNew};
 ghost use Rattle.drf_app.specs.Done.{HasDone, HasObeyed, stream_of};
+ghost use Rattle.drf_app.specs.Line.{IsEarly};
 
 use crate::check::{check, verdict_status};
 use crate::line::{Task, task_of};
 use crate::refusal::refuse;
 use crate::told::finish;
-use drf_journal::{Device, run, run_audit};
+use drf_journal::{Device, run, run_audit, run_explain};
 use drf_rows::Limits;
 use std::alloc::Global;
 use std::convert::AsStr;
@@ -22,6 +23,7 @@ fn perform<R: Read, W: Write, E: Write>(
     output: &mut Device<W>,
     errors: &mut Device<E>,
 ) -> u8
+    requires early { IsEarly task }
     requires input { IsNew input.old.calls input.old.failed }
     requires output { IsNew output.old.calls output.old.failed }
     requires errors { IsNew errors.old.calls errors.old.failed }
@@ -42,6 +44,10 @@ fn perform<R: Read, W: Write, E: Write>(
         },
         Task::Audit => {
             let ended = run_audit(rt, alloc, Limits::full(), input, output);
+            finish(ended, errors)
+        }
+        Task::Explain { at } => {
+            let ended = run_explain(alloc, Limits::full(), at, input, output);
             finish(ended, errors)
         }
     }

@@ -11,6 +11,7 @@ pub mod DraftLemmas
 pub mod DraftTried
 pub mod GrantLemmas
 pub mod TurnLemmas
+pub mod ExplainLemmas
 pub mod CycleLemmas
 pub mod RegisterLemmas
 pub mod MovedLemmas

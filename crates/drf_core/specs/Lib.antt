@@ -5,6 +5,7 @@ pub mod Kept
 pub mod Working
 pub mod Drafting
 pub mod Entitling
+pub mod Explaining
 pub mod Registering
 pub mod Accepting
 pub mod Refusing

@@ -1,11 +1,13 @@
-ghost use Rattle.std.specs.Prelude.{◌≡◌, ◌++◌, None, IfOk, OnOk, OnErr, MatchOption};
+ghost use Rattle.std.specs.Prelude.{◌≡◌, ◌≤◌, ◌++◌, None, IfOk, OnOk, OnErr, MatchOption};
 ghost use Rattle.drf_sorter.specs.Work.{Adds};
 ghost use Rattle.drf_core.specs.Working.{allowance, allowance_of_all};
 ghost use Rattle.drf_core.specs.Machine.{IsOpened, IsSafe, IsSame, IsAfter, IsAfterAll, HasRun};
 
 use crate::apply::apply;
+use crate::explain::explain;
 use crate::refusal::refusal;
 use crate::report::report;
+use drf_explain::Finding;
 use drf_rows::{Event, Limits, Reply, Report, Rows};
 use drf_sorter::Sorter;
 use drf_tables::Tables;
@@ -40,6 +42,8 @@ impl<S: Sorter> Core<S> {
     ghost use Rattle.drf_core.specs.Refusing.{early_refusal_of};
     ghost use Rattle.drf_rows.specs.Report.{report_of};
     ghost use Rattle.drf_core.specs.Content.{content_of};
+    ghost use Rattle.drf_explain.specs.Explained.{explained};
+    ghost use Rattle.drf_rows.specs.declared.limits.TheConstants.{LATEST_MOMENT};
 
     /// An allocator with no rows.
     pub fn open(alloc: Global, limits: Limits) -> Result<Core<S>, AllocError>
@@ -122,6 +126,17 @@ impl<S: Sorter> Core<S> {
         ensures { IfOk result (λ report. report ≡ report_of self.now.rows) }
     {
         report(self.alloc, &self.tables)
+    }
+
+    /// What a cycle at that moment, in milliseconds, would offer and to whom, and where it would offer nothing, why. The clock never
+    /// goes back: 0 is the moment at which it stands.
+    pub fn explain(&self, at: u64) -> Result<Vec<Finding>, AllocError>
+        requires { at ≤ LATEST_MOMENT }
+        ensures { IfOk result (λ findings. findings.items ≡ explained (live_rows self.now.rows) at) }
+    {
+        let mut tables = self.tables.copy()?;
+        let mut sorter = self.sorter.copy()?;
+        explain(self.alloc, &self.limits, &mut tables, &mut sorter, at)
     }
 
     /// An allocator of its own with the same rows and limits.

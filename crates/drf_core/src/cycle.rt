@@ -32,10 +32,10 @@ use std::mem;
 /// The offers of a cycle that is not ended, what the turns left free, and, if any role has a limit, a quota that counts the
 /// offers.
 #[derive(Drop)]
-struct Drafts {
-    offers: Vec<OfferRow>,
-    lefts: Vec<Left>,
-    quota: Option<Quota>,
+pub(crate) struct Drafts {
+    pub(crate) offers: Vec<OfferRow>,
+    pub(crate) lefts: Vec<Left>,
+    pub(crate) quota: Option<Quota>,
 }
 
 /// Whether the agent at a place is active, and what is free there is worth an offer.
@@ -83,7 +83,7 @@ fn count_offer(quota: &mut Option<Quota>, offer: &OfferRow) -> Result<(), AllocE
 }
 
 /// Offers to the client that is served next what it is granted of what is free on an agent.
-fn try_first<S: Sorter>(
+pub(crate) fn try_first<S: Sorter>(
     tables: &Tables,
     sorter: &mut S,
     place: usize,
@@ -125,7 +125,7 @@ fn try_first<S: Sorter>(
 }
 
 /// Whether a client is still to be served, and what is left is worth an offer.
-fn goes_on<S: Sorter>(sorter: &S, free: &Free) -> bool
+pub(crate) fn goes_on<S: Sorter>(sorter: &S, free: &Free) -> bool
     ensures { result ≡ (is_some (slice_get (S.queue sorter.now) 0) && is_allocatable free.now.bundle) }
 {
     sorter.first().is_some() && is_worth_an_offer(&free.bundle)
@@ -229,7 +229,7 @@ fn take_back<S: Sorter>(tables: &Tables, sorter: &mut S, offers: &mut Vec<OfferR
 
 /// A quota with the limits and what is consumed before the first draft. Where no role has a limit, there is none, and nothing is
 /// counted.
-fn quota_of(tables: &mut Tables) -> Result<Option<Quota>, AllocError>
+pub(crate) fn quota_of(tables: &mut Tables) -> Result<Option<Quota>, AllocError>
     requires { length tables.old.rows.agents ≤ 4096 }
     ensures quota { IfOk result (IsQuotaOf tables.old.rows) }
     ensures same { tables.new.rows ≡ tables.old.rows }

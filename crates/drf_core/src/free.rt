@@ -39,7 +39,11 @@ pub struct Free {
 }
 
 /// The part of what is free that a role may use, cut to the headroom that limits leave it, if any role has a limit.
-fn part_within(quota: Option<&Quota>, free: &Bundle, role: &Role) -> Result<Bundle, AllocError>
+pub(crate) fn part_within(
+    quota: Option<&Quota>,
+    free: &Bundle,
+    role: &Role,
+) -> Result<Bundle, AllocError>
     ensures { IfOk result (IsEntitlement (option_copied quota.entry) free.now role.now) }
 {
     // The proof learns that it is a bundle by this call alone.

@@ -6,6 +6,7 @@ mod allocator;
 mod apply;
 mod cycle;
 mod ending;
+mod explain;
 mod frameworks;
 mod free;
 mod late;

@@ -120,7 +120,8 @@ fn journal_of(
     Ok(journal)
 }
 
-fn text_of<R: Files + AllocGlobal>(rt: &R, name: &str, ending: &str) -> io::Result<String> {
+/// The text of an example's file.
+pub fn text_of<R: Files + AllocGlobal>(rt: &R, name: &str, ending: &str) -> io::Result<String> {
     let path = format!(in rt.alloc(); "{name}.{ending}")?;
     fs::read_to_string(rt, path.as_str())
 }

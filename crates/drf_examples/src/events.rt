@@ -3,7 +3,7 @@ use crate::streams::tell;
 use drf_core::Core;
 use drf_lines::{LineError, read_event, write_reply};
 use drf_rows::{Event, Limits, Reply, Report};
-use drf_sorter::PlainSorter;
+use drf_sorter::{PlainSorter, Sorter};
 use std::alloc::{AllocError, Global};
 use std::rt::{Files, Runtime};
 use std::{fs, io};
@@ -35,9 +35,9 @@ fn text_of(alloc: Global, replies: &[Reply]) -> Result<Vec<u8>, AllocError> {
 }
 
 /// The lines of the replies to events, of which the core takes all in one call.
-fn answered(
+pub fn answered<S: Sorter>(
     alloc: Global,
-    core: &mut Core<PlainSorter>,
+    core: &mut Core<S>,
     events: &[Event],
 ) -> Result<Vec<u8>, AllocError> {
     let mut replies = Vec::new(alloc);

@@ -3,7 +3,9 @@
 #![tactic(auto)]
 
 mod commands;
+mod copies;
 mod events;
+mod keys;
 mod lines;
 mod rows;
 mod streams;
@@ -15,5 +17,7 @@ fn main(rt: HostRuntime) -> io::Result<()> {
     streams::run_all(&rt)?;
     events::run_all(&rt)?;
     lines::run_all(&rt)?;
+    keys::run_all(&rt)?;
+    copies::run_all(&rt)?;
     commands::run_all(&rt)
 }

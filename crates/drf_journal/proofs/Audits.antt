@@ -1,5 +1,5 @@
--- An audit: the lines that were taken, and the text that was written.
-use Rattle.std.proofs.Common.{◌≡◌, ℕ, ◌+◌, ◌<◌, ◌≤◌, Bool, true, false, List, [], ◌∷◌, ◌++◌, length, get_or, map, take, drop, Option, None, Result, Ok, Err, IfErr, is_err, OnErr, OnOk, ⊎_elim, inl, inr, refl, sym, ap, ◌∙◌, subst, append_assoc, append-nil, take-append-drop, arith}
+-- An audit and an explanation: the lines that were taken, and the text that was written.
+use Rattle.std.proofs.Common.{◌≡◌, ℕ, ◌+◌, ◌<◌, ◌≤◌, Bool, true, false, List, [], ◌∷◌, ◌++◌, length, get_or, map, take, drop, Option, None, Result, Ok, Err, IfErr, is_err, OnErr, OnOk, ⊎_elim, refl, sym, ap, ◌∙◌, subst, append_assoc, append-nil, take-append-drop, arith}
 use Rattle.std.specs.List.{flat_map}
 use Rattle.std.specs.Io.KnownBytes.{Appends, Consumes, Keeps, IsAtEnd}
 use Rattle.std.proofs.KnownBytes.{Appends-nil, Appends-trans, Consumes-nil, Consumes-trans, Consumes-kept}
@@ -9,6 +9,8 @@ use Rattle.drf_audit.specs.Audit.{line_of}
 use Rattle.drf_audit.specs.AuditText.{audit_text}
 use Rattle.drf_audit.specs.declared.agents.AuditLine.{AuditLine}
 use Rattle.drf_core.specs.Machine.{Machine, opened, after}
+use Rattle.drf_explain.specs.ExplainedLaws.{live_rows_are_explained}
+use Rattle.drf_explain.specs.ExplainedText.{explained_text}
 use Rattle.drf_lines.specs.Meaning.{meaning_of}
 use Rattle.drf_lines.specs.declared.fault.LineFault.{LineFault}
 use Rattle.drf_rows.specs.Cycle.{free_of}
@@ -16,16 +18,15 @@ use Rattle.drf_rows.specs.LimitNumbers.{LimitNumbers}
 use Rattle.drf_rows.specs.LiveLaws.{rows_after-same_live, live_rows-twice}
 use Rattle.drf_rows.specs.Step.{opening, live_rows, rows_after}
 use Rattle.drf_rows.specs.declared.event.Event.{Event}
-use Rattle.drf_rows.specs.declared.rows.AgentRow.{AgentRow}
 use Rattle.drf_rows.specs.declared.rows.Rows.{Rows}
 use Rattle.drf_journal.specs.declared.fault.RunFault.{RunFault}
 use Rattle.drf_journal.specs.declared.fault.RunFault.TheVariants.{Read, Write, Memory}
-use Rattle.drf_journal.specs.Audited.{rows_after_lines, agents_text, audit_of, IsAudited, HasAudited, HasTakenLines}
+use Rattle.drf_journal.specs.Audited.{rows_after_lines, agents_text, cycle_text, told_of_lines, HasToldOfRows, HasTakenLines}
 use Rattle.drf_journal.specs.Device.{AppendsFrontOf}
 use Rattle.drf_journal.specs.Ended.{HasCause, HasFlushed}
 use Rattle.drf_journal.specs.Lines.{lines_of}
 use Rattle.drf_journal.specs.Output.{rows_after_line}
-use Rattle.drf_journal.specs.State.{State, begun, IsBegun, machine_after, machine_after_lines, at_end}
+use Rattle.drf_journal.specs.State.{State, IsBegun, machine_after, machine_after_lines, at_end}
 use Rattle.drf_journal.proofs.Devices.{WroteFront, wrote-front}
 use Rattle.drf_journal.proofs.Served.{IsServing, consumed_all, machine_at_end}
 
@@ -49,7 +50,7 @@ rows_from machine rows (line ∷ lines) same = by_meaning (meaning_of line) (λ 
     by_meaning (Err fault) rest = rest machine rows same
 
 -- agents are told by live rows as by all
-agents-live : (rows : Rows) → agents_text (live_rows rows) ≡ agents_text rows
+pub agents-live : (rows : Rows) → agents_text (live_rows rows) ≡ agents_text rows
 unfolding free_of
 agents-live rows = refl
 
@@ -57,16 +58,62 @@ flat_map-map : {X Y : Type 0} (f : Y → List ℕ) (g : X → Y) (xs : List X) �
 flat_map-map f g [] = refl
 flat_map-map f g (x ∷ xs) = ap (λ l. f (g x) ++ l) (flat_map-map f g xs)
 
--- the lines of the agents come to the text that is due
-pub text_due : (limits : LimitNumbers) (read : List ℕ) (machine : Machine) (lines : List AuditLine)
-    → machine ≡ machine_after_lines (opened limits) (lines_of read)
-    → lines ≡ map (line_of machine.rows) machine.rows.agents → flat_map audit_text lines ≡ audit_of limits (lines_of read)
-unfolding audit_of
-text_due limits read machine lines is told =
-    let rows = rows_after_lines limits opening (lines_of read) in
-    let live : machine.rows ≡ live_rows rows = ap (λ (m : Machine). m.rows) is ∙ rows_from (opened limits) opening (lines_of read) refl in
-    ap (flat_map audit_text) told ∙ flat_map-map audit_text (line_of machine.rows) machine.rows.agents
-    ∙ ap agents_text live ∙ agents-live rows
+-- the lines of the agents come to the text that tells of them
+pub agents_told : (rows : Rows) (lines : List AuditLine) → lines ≡ map (line_of rows) rows.agents → flat_map audit_text lines ≡ agents_text rows
+agents_told rows lines told = ap (flat_map audit_text) told ∙ flat_map-map audit_text (line_of rows) rows.agents
+
+-- a cycle is told by live rows as by all
+pub cycle-live : (at : ℕ) (rows : Rows) → cycle_text at (live_rows rows) ≡ cycle_text at rows
+cycle-live at rows = ap explained_text (live_rows_are_explained rows at)
+
+module _ (tell : Rows → List ℕ) (live : (rows : Rows) → tell (live_rows rows) ≡ tell rows) where
+  -- what is told of the rows at which an allocator stands is the text that is due
+  text_due : (limits : LimitNumbers) (read : List ℕ) (machine : Machine) (text : List ℕ)
+      → machine ≡ machine_after_lines (opened limits) (lines_of read)
+      → text ≡ tell machine.rows → text ≡ told_of_lines tell limits (lines_of read)
+  unfolding told_of_lines
+  text_due limits read machine text is told =
+      let rows = rows_after_lines limits opening (lines_of read) in
+      let stands : machine.rows ≡ live_rows rows = ap (λ (m : Machine). m.rows) is ∙ rows_from (opened limits) opening (lines_of read) refl in
+      told ∙ ap tell stands ∙ live rows
+
+  -- the text was written, or a front of it
+  pub told-ends : (limits : LimitNumbers) (unread_before unread_after written written_next : Option (List ℕ)) (new : Machine)
+      (text : List ℕ) (r : Result (Unit {0}) RunFault) (failed : Bool)
+      → HasTakenLines (opened limits) unread_before unread_after new (Ok tt)
+      → text ≡ tell new.rows → HasCause r false 0 failed
+      → OnOk r (Appends written written_next text)
+      → OnErr r (AppendsFrontOf written written_next text)
+      → HasToldOfRows tell limits unread_before unread_after written written_next r
+  told-ends limits unread_before unread_after written written_next new text (Ok done) failed taken told cause all front = record {
+    read = taken.read;
+    written = text;
+    consumed = taken.consumed;
+    appended = all;
+    told = text_due limits taken.read new text taken.machine told;
+    whole = taken.whole;
+    late = λ some. taken.whole;
+  }
+  told-ends limits unread_before unread_after written written_next new text (Err Read) failed taken told cause all front =
+      absurd (⊎_elim (λ e. false≢true e) (λ e. omega arith) cause.0)
+  told-ends limits unread_before unread_after written written_next new text (Err Write) failed taken told cause all front = record {
+    read = taken.read;
+    written = take front.0 text;
+    consumed = taken.consumed;
+    appended = front.1;
+    told = (front.0, ap (take front.0) (text_due limits taken.read new text taken.machine told));
+    whole = tt;
+    late = λ some. taken.whole;
+  }
+  told-ends limits unread_before unread_after written written_next new text (Err Memory) failed taken told cause all front = record {
+    read = taken.read;
+    written = take front.0 text;
+    consumed = taken.consumed;
+    appended = front.1;
+    told = (front.0, ap (take front.0) (text_due limits taken.read new text taken.machine told));
+    whole = tt;
+    late = λ some. taken.whole;
+  }
 
 -- ---- lines that are taken
 
@@ -145,84 +192,46 @@ pub cause-written : {T : Type 0} (r : Result T RunFault) (failed : Bool) → fai
 cause-written (Ok done) failed same fault = (refl, same)
 cause-written {T} (Err e) failed same fault = subst (λ (e : RunFault). HasCause {T = T} (Err e) false 0 failed) (sym fault) (refl, same)
 
--- ---- how an audit ends
+-- ---- how it ends
 
 -- nothing is written where not all lines were taken
-pub audit-unread : (limits : LimitNumbers) (unread_before unread_after written : Option (List ℕ)) (fault : RunFault) (reads : ℕ)
+pub told-unread : (tell : Rows → List ℕ) (limits : LimitNumbers) (unread_before unread_after written : Option (List ℕ)) (fault : RunFault) (reads : ℕ)
     (reader_failed : Bool) (old new : Machine) → HasCause {T = Unit {0}} (Err fault) reader_failed reads false
     → HasTakenLines old unread_before unread_after new (Err fault)
-    → HasAudited limits unread_before unread_after written written (Err fault)
-audit-unread limits unread_before unread_after written Read reads reader_failed old new cause taken = record {
+    → HasToldOfRows tell limits unread_before unread_after written written (Err fault)
+told-unread tell limits unread_before unread_after written Read reads reader_failed old new cause taken = record {
   read = taken.read;
   written = [];
   consumed = taken.consumed;
   appended = Appends-nil written;
-  audited = refl;
+  told = refl;
   whole = tt;
   late = λ some. absurd (omega arith);
 }
-audit-unread limits unread_before unread_after written Write reads reader_failed old new cause taken =
+told-unread tell limits unread_before unread_after written Write reads reader_failed old new cause taken =
     let bad : false ≡ true = cause.1 in absurd (false≢true bad)
-audit-unread limits unread_before unread_after written Memory reads reader_failed old new cause taken = record {
+told-unread tell limits unread_before unread_after written Memory reads reader_failed old new cause taken = record {
   read = taken.read;
   written = [];
   consumed = taken.consumed;
   appended = Appends-nil written;
-  audited = (0, refl);
+  told = (0, refl);
   whole = tt;
   late = λ some. absurd (omega arith);
 }
 
--- nor where memory ran out while the agents were looked at
-pub audit-forgotten : (limits : LimitNumbers) (unread_before unread_after written : Option (List ℕ)) (new : Machine)
+-- nor where memory ran out while the rows were looked at
+pub told-forgotten : (tell : Rows → List ℕ) (limits : LimitNumbers) (unread_before unread_after written : Option (List ℕ)) (new : Machine)
     → HasTakenLines (opened limits) unread_before unread_after new (Ok tt)
-    → HasAudited limits unread_before unread_after written written (Err Memory)
-audit-forgotten limits unread_before unread_after written new taken = record {
+    → HasToldOfRows tell limits unread_before unread_after written written (Err Memory)
+told-forgotten tell limits unread_before unread_after written new taken = record {
   read = taken.read;
   written = [];
   consumed = taken.consumed;
   appended = Appends-nil written;
-  audited = (0, refl);
+  told = (0, refl);
   whole = tt;
   late = λ some. absurd (omega arith);
-}
-
--- the lines of the agents were written, or a front of them
-pub audit-ends : (limits : LimitNumbers) (unread_before unread_after written written_next : Option (List ℕ)) (new : Machine)
-    (lines : List AuditLine) (r : Result (Unit {0}) RunFault) (failed : Bool)
-    → HasTakenLines (opened limits) unread_before unread_after new (Ok tt)
-    → lines ≡ map (line_of new.rows) new.rows.agents → HasCause r false 0 failed
-    → OnOk r (Appends written written_next (flat_map audit_text lines))
-    → OnErr r (AppendsFrontOf written written_next (flat_map audit_text lines))
-    → HasAudited limits unread_before unread_after written written_next r
-audit-ends limits unread_before unread_after written written_next new lines (Ok done) failed taken told cause all front = record {
-  read = taken.read;
-  written = flat_map audit_text lines;
-  consumed = taken.consumed;
-  appended = all;
-  audited = text_due limits taken.read new lines taken.machine told;
-  whole = taken.whole;
-  late = λ some. taken.whole;
-}
-audit-ends limits unread_before unread_after written written_next new lines (Err Read) failed taken told cause all front =
-    absurd (⊎_elim (λ e. false≢true e) (λ e. omega arith) cause.0)
-audit-ends limits unread_before unread_after written written_next new lines (Err Write) failed taken told cause all front = record {
-  read = taken.read;
-  written = take front.0 (flat_map audit_text lines);
-  consumed = taken.consumed;
-  appended = front.1;
-  audited = (front.0, ap (take front.0) (text_due limits taken.read new lines taken.machine told));
-  whole = tt;
-  late = λ some. taken.whole;
-}
-audit-ends limits unread_before unread_after written written_next new lines (Err Memory) failed taken told cause all front = record {
-  read = taken.read;
-  written = take front.0 (flat_map audit_text lines);
-  consumed = taken.consumed;
-  appended = front.1;
-  audited = (front.0, ap (take front.0) (text_due limits taken.read new lines taken.machine told));
-  whole = tt;
-  late = λ some. taken.whole;
 }
 
 -- a fault of the writer is none of the reader
@@ -239,3 +248,9 @@ flushed-still (Ok done) flushed is = is
 flushed-still (Err Read) flushed is = is
 flushed-still (Err Write) flushed is = tt
 flushed-still (Err Memory) flushed is = is
+
+-- a text that was written whole has been flushed
+pub flushed-written : {T : Type 0} (r : Result T RunFault) (flushed : Bool) → IfErr r (λ fault. fault ≡ Write) → OnOk r (flushed ≡ true)
+    → HasFlushed r flushed
+flushed-written (Ok done) flushed fault is = is
+flushed-written {T} (Err e) flushed fault is = subst (λ (e : RunFault). HasFlushed {T = T} (Err e) flushed) (sym fault) tt

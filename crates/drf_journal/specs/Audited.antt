@@ -1,10 +1,12 @@
--- An audit of the agents, as they stand after the events of an input.
+-- An audit of the agents, as they stand after the events of an input, and an explanation of the next cycle.
 use Rattle.std.specs.Prelude.{◌≡◌, ℕ, ◌<◌, List, [], ◌∷◌, length, take, Option, Result, Ok, Err, OnOk}
 use Rattle.std.specs.List.{flat_map}
 use Rattle.std.specs.Io.KnownBytes.{Appends, Consumes, IsAtEnd}
 use Rattle.drf_audit.specs.Audit.{line_of}
 use Rattle.drf_audit.specs.AuditText.{audit_text}
 use Rattle.drf_core.specs.Machine.{Machine}
+use Rattle.drf_explain.specs.Explained.{explained}
+use Rattle.drf_explain.specs.ExplainedText.{explained_text}
 use Rattle.drf_lines.specs.Meaning.{meaning_of}
 use Rattle.drf_rows.specs.LimitNumbers.{LimitNumbers}
 use Rattle.drf_rows.specs.Step.{opening}
@@ -21,32 +23,50 @@ rows_after_lines limits rows [] = rows
 rows_after_lines limits rows (line ∷ lines) =
     rows_after_lines limits (rows_after_line limits rows (meaning_of line)) lines
 
--- the text that tells of the agents: a line for each, in order of registration
-abbrev pub agents_text : Rows → List ℕ
-agents_text rows = flat_map (λ agent. audit_text (line_of rows agent)) rows.agents
+-- ---- a text that tells of the rows after an input
 
--- the text that is due to the lines of an input
-unfoldable pub audit_of : LimitNumbers → List (List ℕ) → List ℕ
-audit_of limits lines = agents_text (rows_after_lines limits opening lines)
+-- the text that is due to the lines of an input, where `tell` is that of rows
+unfoldable pub told_of_lines : (Rows → List ℕ) → LimitNumbers → List (List ℕ) → List ℕ
+told_of_lines tell limits lines = tell (rows_after_lines limits opening lines)
 
 -- What was written for what was read: at `Ok` the whole text, and else a front of it.
-abbrev pub IsAudited : LimitNumbers → Result (Unit {0}) RunFault → List ℕ → List ℕ → Type 0
-IsAudited limits (Ok done) read written = written ≡ audit_of limits (lines_of read)
-IsAudited limits (Err Read) read written = written ≡ []
-IsAudited limits (Err Write) read written = (count : ℕ) × (written ≡ take count (audit_of limits (lines_of read)))
-IsAudited limits (Err Memory) read written = (count : ℕ) × (written ≡ take count (audit_of limits (lines_of read)))
+abbrev pub IsToldOfRows : (Rows → List ℕ) → LimitNumbers → Result (Unit {0}) RunFault → List ℕ → List ℕ → Type 0
+IsToldOfRows tell limits (Ok done) read written = written ≡ told_of_lines tell limits (lines_of read)
+IsToldOfRows tell limits (Err Read) read written = written ≡ []
+IsToldOfRows tell limits (Err Write) read written = (count : ℕ) × (written ≡ take count (told_of_lines tell limits (lines_of read)))
+IsToldOfRows tell limits (Err Memory) read written = (count : ℕ) × (written ≡ take count (told_of_lines tell limits (lines_of read)))
 
--- an audit took bytes from a reader and gave bytes to a writer, nothing before the input was at its end
-pub record HasAudited (limits : LimitNumbers)
+-- bytes were taken from a reader and given to a writer, nothing before the input was at its end
+pub record HasToldOfRows (tell : Rows → List ℕ) (limits : LimitNumbers)
     (unread_before unread_after written_before written_after : Option (List ℕ))
     (result : Result (Unit {0}) RunFault) : Type 0 where
   pub read : List ℕ
   pub written : List ℕ
   pub consumed : Consumes unread_before unread_after read
   pub appended : Appends written_before written_after written
-  pub audited : IsAudited limits result read written
+  pub told : IsToldOfRows tell limits result read written
   pub whole : OnOk result (IsAtEnd unread_after)
   pub late : 0 < length written → IsAtEnd unread_after
+
+-- ---- audits and explanations
+
+-- the text that tells of the agents: a line for each, in order of registration
+abbrev pub agents_text : Rows → List ℕ
+agents_text rows = flat_map (λ agent. audit_text (line_of rows agent)) rows.agents
+
+-- the text that tells of the cycle at a moment
+abbrev pub cycle_text : ℕ → Rows → List ℕ
+cycle_text at rows = explained_text (explained rows at)
+
+-- an audit took bytes from a reader and gave bytes to a writer
+abbrev pub HasAudited : LimitNumbers → (unread_before unread_after written_before written_after : Option (List ℕ))
+    → Result (Unit {0}) RunFault → Type 0
+HasAudited = HasToldOfRows agents_text
+
+-- and so did an explanation of the cycle at a moment
+abbrev pub HasExplained : ℕ → LimitNumbers → (unread_before unread_after written_before written_after : Option (List ℕ))
+    → Result (Unit {0}) RunFault → Type 0
+HasExplained at = HasToldOfRows (cycle_text at)
 
 -- the allocator has taken all lines of a reader
 pub record HasTakenLines (old : Machine) (unread_before unread_after : Option (List ℕ)) (new : Machine)

@@ -39,7 +39,7 @@ fn take_piece<S: Sorter>(
 }
 
 /// Takes the events of a reader's lines.
-fn take_lines<S: Sorter, R: Read>(
+pub(crate) fn take_lines<S: Sorter, R: Read>(
     alloc: Global,
     session: &mut Session<S>,
     reader: &mut Device<R>,
@@ -97,8 +97,30 @@ fn write_lines<W: Write>(
     Ok(())
 }
 
-/// Takes the events of a reader's lines, by the sorter that the program uses, and then writes what each agent has, what is
-/// free of it and how much is out, a line for each. Lines that are no events are passed over.
+/// Takes the events of a reader's lines, and then writes what each agent has, what is free of it and how much is out, a line for each.
+/// Lines that are no events are passed over.
+fn serve_audit<S: Sorter, R: Read, W: Write>(
+    rt: &(impl Threads + Sync),
+    alloc: Global,
+    session: &mut Session<S>,
+    reader: &mut Device<R>,
+    writer: &mut Device<W>,
+) -> Result<(), RunFault>
+    requires session { IsBegun session.old }
+    requires reader { IsNew reader.old.calls reader.old.failed }
+    requires writer { IsNew writer.old.calls writer.old.failed }
+    ensures audited { HasAudited session.old.machine.limits (R.remaining reader.old.inner) (R.remaining reader.new.inner)
+        (W.contents writer.old.inner) (W.contents writer.new.inner) result }
+    ensures cause { HasCause result reader.new.failed reader.new.calls writer.new.failed }
+    ensures flushed { writer.old.flushed ≡ true → HasFlushed result writer.new.flushed }
+    ensures reads { reader.new.calls ≤ 2 ^ 40 }
+{
+    take_lines(alloc, session, reader)?;
+    let lines = session.audit(rt, alloc)?;
+    write_lines(alloc, &lines, writer)
+}
+
+/// Audits the agents after a reader's lines, by the sorter that the program uses.
 pub fn run_audit<R: Read, W: Write>(
     rt: &(impl Threads + Sync),
     alloc: Global,
@@ -115,7 +137,5 @@ pub fn run_audit<R: Read, W: Write>(
     ensures reads { reader.new.calls ≤ 2 ^ 40 }
 {
     let mut session = Session::<ProgramSorter>::open(alloc, limits, false)?;
-    take_lines(alloc, &mut session, reader)?;
-    let lines = session.audit(rt, alloc)?;
-    write_lines(alloc, &lines, writer)
+    serve_audit(rt, alloc, &mut session, reader, writer)
 }

@@ -2,6 +2,9 @@
 ghost use Rattle.std.specs.Prelude.{◌≡◌, ◌⊎◌, ℕ, ◌+◌, ◌^◌, ◌<◌, ◌≤◌, [], ◌∷◌, ◌++◌, true, false, is_err, length, map, take, IfOk, OnOk, OnErr, IfErr};
 ghost use Rattle.std.specs.Io.KnownBytes.{Appends};
 ghost use Rattle.drf_audit.specs.Audit.{line_of};
+ghost use Rattle.drf_explain.specs.Explained.{explained};
+ghost use Rattle.drf_explain.specs.ExplainedText.{explained_text};
+ghost use Rattle.drf_rows.specs.declared.limits.TheConstants.{LATEST_MOMENT};
 ghost use Rattle.drf_journal.specs.Device.{AppendsFrontOf};
 ghost use Rattle.drf_journal.specs.State.{begun, after_piece, at_end, IsWithinLine, HasTakenAtMost, WaitsBelow, AnswersFrontOf};
 
@@ -11,6 +14,7 @@ use crate::fault::RunFault;
 use crate::open_line::{OpenLine, line_feed_in};
 use drf_audit::{AuditLine, audit};
 use drf_core::Core;
+use drf_explain::write_explained_lines;
 use drf_rows::Limits;
 use drf_sorter::Sorter;
 use std::alloc::{AllocError, Global};
@@ -141,6 +145,15 @@ impl<S: Sorter> Session<S> {
     {
         let rows = self.core.rows()?;
         audit(rt, alloc, &rows)
+    }
+
+    /// The lines that tell of the cycle at a moment, in milliseconds.
+    pub(crate) fn explain(&self, alloc: Global, at: u64) -> Result<Vec<u8>, AllocError>
+        requires { at ≤ LATEST_MOMENT }
+        ensures { IfOk result (λ text. text.items ≡ explained_text (explained self.now.machine.rows at)) }
+    {
+        let findings = self.core.explain(at)?;
+        write_explained_lines(alloc, &findings)
     }
 
     /// Writes the text that is not written yet, all in one. Where that fails, its front was written.

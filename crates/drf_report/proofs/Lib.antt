@@ -1,7 +1,9 @@
 pub mod ReportLemmas
+pub mod AmountLemmas
+pub mod ClientLemmas
 pub mod ReportPassed
-pub mod ReportCounts
 pub mod ReportSums
+pub mod ReportParts
 pub mod ReportLines
 pub mod ReportNodes
 pub mod WeighingLemmas

@@ -1,21 +1,25 @@
--- Nodes that are put in order, and what is summed up at them.
-use Rattle.std.specs.Prelude.{◌≡◌, ℕ, suc, ◌+◌, ◌<◌, List, [], ◌∷◌, ◌++◌, length, take, map, fold, flat_map, Some}
+-- Nodes that are put in order.
+use Rattle.std.specs.Prelude.{◌≡◌, ℕ, suc, ◌+◌, ◌<◌, Bool, List, [], ◌∷◌, ◌++◌, length, take, drop, map, fold, flat_map, Option, Some, None}
 use Rattle.std.specs.Ordering.{is_eq, match_ordering}
 use Rattle.std.specs.declared.cmp.Ordering.{Ordering}
 use Rattle.std.specs.declared.cmp.Ordering.TheVariants.{Less, Equal, Greater}
-use Rattle.std.specs.Map.{keys_of}
-use Rattle.std.specs.BTreeMap.{insert_entry, Updates}
-use Rattle.std.proofs.Common.{refl, sym, ap, ◌∙◌, inl, inr, add-one, get_or}
-use Rattle.std.proofs.lemmas.List.{append-nil, map_more, take_more}
-use Rattle.std.proofs.lemmas.Bool.{cases_Bool}
+use Rattle.std.specs.Map.{keys_of, lookup}
+use Rattle.std.specs.BTreeMap.{insert_entry}
+use Rattle.std.specs.List.Sorted.{IsStrictlySortedBy}
+use Rattle.std.proofs.lemmas.Map.{lookup-none}
+use Rattle.std.proofs.lemmas.Map.Keys.{sorted_tail}
+use Rattle.std.proofs.lemmas.Map.Entries.{none_below_head}
+use Rattle.std.proofs.lemmas.Cmp.{lists_total, nat_list_cmp_total}
+use Rattle.std.proofs.Common.{refl, sym, ap, ◌∙◌, cond, add-one, get_or}
+use Rattle.std.proofs.lemmas.List.{append-nil, map-append, map_more, take_more}
+use Rattle.std.proofs.Math.Seq.{split_at}
 use Rattle.std.proofs.lemmas.Grind.{flat_map-append, fold-append}
 use Rattle.drf_role.specs.Path.{Path}
 use Rattle.drf_rows.specs.Client.{Client, path_of}
 use Rattle.drf_rows.specs.Report.{path_cmp, with_node, nodes_to, nodes_on}
 use Rattle.drf_rows.specs.Held.{client_of, clients_in}
 use Rattle.drf_rows.specs.declared.rows.FrameworkRow.{FrameworkRow}
-use Rattle.drf_report.specs.declared.summary.Sum.{Sum}
-use Rattle.drf_report.specs.Reporting.{Sums, HoldNothing, with_clients}
+use Rattle.drf_report.specs.Reporting.{with_clients}
 
 -- ---- nodes in order
 
@@ -57,6 +61,12 @@ pub map_next : {X Y : Type 0} (f : X → Y) (xs : List X) (i : ℕ) (x : X) → 
     → map f (take (i + 1) xs) ≡ map f (take i xs) ++ f x ∷ []
 map_next {X} f xs i x within is = map_more f xs i x within ∙ ap (λ (y : X). map f (take i xs) ++ f y ∷ []) (sym is)
 
+pub parted_at : {X Y : Type 0} (f : X → Y) (xs : List X) (i : ℕ) (x : X) → i < length xs → x ≡ get_or xs i x
+    → map f xs ≡ map f (take i xs) ++ f x ∷ map f (drop (suc i) xs)
+parted_at {X} f xs i x within is =
+    ap (map f) (split_at xs i x within ∙ ap (λ (y : X). take i xs ++ y ∷ drop (suc i) xs) (sym is))
+    ∙ map-append f (take i xs) (x ∷ drop (suc i) xs)
+
 pub frameworks-more : (nodes : List Path) (fs : List FrameworkRow) (i : ℕ) (f : FrameworkRow) → i < length fs → f ≡ get_or fs i f
     → with_clients nodes (clients_in (take (i + 1) fs))
     ≡ with_clients (with_clients nodes (clients_in (take i fs))) (map (client_of f) f.clients)
@@ -69,15 +79,25 @@ frameworks-more nodes fs i f within is =
     ∙ ap (λ (cs : List Client). clients_in (take i fs) ++ cs) (append-nil own))
     ∙ with_clients-append nodes (clients_in (take i fs)) own
 
--- ---- what nodes hold
+-- ---- a node that is there
 
--- where one value was put, a node has it or what it had
-pub nothing-inserted : (old new : Sums) (node : Path) (s : Sum)
-    → Updates path_cmp old new node (Some s) → s.held ≡ [] → HoldNothing old → HoldNothing new
-nothing-inserted old new node s updates none before = λ n t found. elim (cases_Bool (is_eq (path_cmp node n))) [
-  | inl here ↦
-      let same : Some t ≡ Some s = sym found ∙ rw here at (updates.0 n) in
-      let e : t ≡ s = cc in
-      ap (λ (u : Sum). u.held) e ∙ none
-  | inr past ↦ before n t (sym (rw past at (updates.0 n)) ∙ found)
-]
+-- stays where it is
+pub with_node-found : {V : Type 0} (es : List (Path × V)) (node : Path) (v : V) → IsStrictlySortedBy path_cmp (keys_of es)
+    → lookup (λ k. is_eq (path_cmp node k)) es ≡ Some v → with_node (keys_of es) node ≡ keys_of es
+with_node-found [] node v sorted found = cc
+with_node-found {V} (e ∷ es) node v sorted found =
+    by (path_cmp node e.0) refl found (with_node-found es node v (sorted_tail path_cmp e.0 (keys_of es) sorted))
+  where
+    test : Path → Bool
+    test k = is_eq (path_cmp node k)
+
+    by : (o : Ordering) → path_cmp node e.0 ≡ o → cond (is_eq o) (Some e.1) (lookup test es) ≡ Some v
+        → (lookup test es ≡ Some v → with_node (keys_of es) node ≡ keys_of es)
+        → match_ordering o (node ∷ e.0 ∷ keys_of es) (e.0 ∷ keys_of es) (e.0 ∷ with_node (keys_of es) node) ≡ e.0 ∷ keys_of es
+    by Less below found later =
+        let none = lookup-none test (e ∷ es) (none_below_head (lists_total nat_list_cmp_total) node e es sorted below) in
+        let here : lookup test (e ∷ es) ≡ Some v = ap (λ o. cond (is_eq o) (Some e.1) (lookup test es)) below ∙ found in
+        let apart : ◌≡◌ {A = Option V} None (Some v) = sym none ∙ here in
+        cc
+    by Equal same found later = refl
+    by Greater above found later = ap (λ (ns : List Path). e.0 ∷ ns) (later found)

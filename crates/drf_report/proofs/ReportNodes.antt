@@ -26,7 +26,7 @@ use Rattle.drf_rows.specs.declared.report.NodeLine.{NodeLine}
 use Rattle.drf_rows.specs.declared.rows.Rows.{Rows}
 use Rattle.drf_report.specs.declared.summary.Sum.{Sum}
 use Rattle.drf_report.specs.Reporting.{Sums, AreSums, IsWhole, AreParts, line_with}
-use Rattle.drf_report.proofs.ReportSums.{amount-held_with}
+use Rattle.drf_report.proofs.ReportParts.{held_under-le}
 use Rattle.drf_report.proofs.ReportLines.{line-rows}
 
 -- ---- what holds of each node
@@ -88,7 +88,7 @@ module _ (rows : Rows) (consistent : IsConsistent rows) (few : length rows.agent
         omega (
           arith,
           ap (λ (es : List Entry). amount_of es label) (are n s some found).held,
-          amount-held_with [] (holdings_of rows) n label (bundles-consistent rows consistent),
+          held_under-le (holdings_of rows) n label (bundles-consistent rows consistent),
           held-le-total rows label consistent,
         )
 

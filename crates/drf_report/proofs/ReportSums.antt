@@ -1,244 +1,228 @@
 -- What is summed up at the nodes on the way to clients.
-use Rattle.std.specs.Prelude.{◌≡◌, ℕ, suc, ◌+◌, ◌^◌, ◌<◌, ◌≤◌, Bool, true, false, List, [], ◌∷◌, ◌++◌, length, take, drop, map, fold, filter, sum_by, Option, Some, None, IsSome, is_some}
+use Rattle.std.specs.Prelude.{◌≡◌, ℕ, suc, ◌+◌, ◌<◌, ◌≤◌, ◌||◌, Bool, true, false, List, [], ◌∷◌, ◌++◌, length, take, fold, filter, sum_by, Option, Some}
+use Rattle.std.specs.List.{AllByRecursion}
 use Rattle.std.specs.Ordering.{is_eq}
-use Rattle.std.specs.Option.{option_map, option_map_or}
-use Rattle.std.specs.BTreeMap.{get, keys, Updates}
-use Rattle.std.proofs.Common.{refl, sym, ap, subst, ◌∙◌, inl, inr, cond, arith, add-one, get_or}
-use Rattle.std.proofs.Math.Seq.{split_at}
-use Rattle.std.proofs.lemmas.Bool.{cases_Bool, false≢true}
-use Rattle.std.proofs.lemmas.List.{length-take-le, map-append}
+use Rattle.std.specs.Option.{unwrap_or}
+use Rattle.std.specs.BTreeMap.{get, Updates}
+use Rattle.std.proofs.Common.{refl, sym, ap, ◌∙◌, inl, inr, cond, arith, add-one}
+use Rattle.std.proofs.lemmas.Bool.{cases_Bool}
+use Rattle.std.proofs.lemmas.List.{length-take-le}
 use Rattle.std.proofs.lemmas.List.Elements.{filter-append}
-use Rattle.std.proofs.lemmas.List.Sums.{sum_by-cons, sum_by-append}
+use Rattle.std.proofs.lemmas.List.Sums.{sum_by-cons, sum_by-append, sum_by-le-sum_by}
 use Rattle.std.proofs.lemmas.Grind.{fold-append}
 use Rattle.drf_role.specs.Text.{Text}
 use Rattle.drf_role.specs.Path.{Path, begins_with}
-use Rattle.drf_bundle.specs.Quantities.{plus, amount_of}
-use Rattle.drf_bundle.specs.QuantitiesLaws.{amount-plus}
-use Rattle.drf_bundle.specs.UnitProofs.{quantities_no_zeros}
-use Rattle.drf_bundle.specs.Bundle.{quantities_of}
+use Rattle.drf_bundle.specs.Quantities.{HasNoZeros, plus, amount_of}
+use Rattle.drf_bundle.specs.QuantitiesLaws.{amount-plus, no_zeros-plus, no_zeros-empty, same_quantities}
 use Rattle.drf_bundle.specs.declared.quantities.Entry.{Entry}
-use Rattle.drf_rows.specs.Client.{path_of}
-use Rattle.drf_rows.specs.Held.{count_of}
-use Rattle.drf_rows.specs.Holdings.{Holding, holdings_of, amount_in, is_under, AreBundles}
+use Rattle.drf_rows.specs.ListLaws.{cond_le, sum_by-filter}
 use Rattle.drf_rows.specs.Report.{path_cmp}
-use Rattle.drf_rows.specs.declared.rows.Rows.{Rows}
 use Rattle.drf_report.specs.declared.summary.Sum.{Sum}
-use Rattle.drf_report.specs.Reporting.{Sums, HoldNothing, AreSums, is_passed, count_at, more, AddTo, CanAdd, AddAll, CanAddAll, held_with, sum_with}
-use Rattle.drf_report.proofs.ReportLemmas.{map_next}
+use Rattle.drf_report.specs.Reporting.{Sums, Part, is_passed, nothing, own_sum, sum_at, joined, AddAt, AddTo, CanAddAt, CanAdd, sum_with, AddAll, AreSummed, CanSum, CanAddAll}
 use Rattle.drf_report.proofs.ReportPassed.{tied, passed-later, passed-all}
 
--- ---- quantities are added along a path
+-- ---- lists of amounts are added one after another
 
--- what was there, where nothing was added yet
-sum_before : (quantities : List Entry) (s : Sum) (b : Bool) (o : Option Sum) → b ≡ false
-    → option_map (λ t. cond b (more quantities t) t) o ≡ Some s → o ≡ Some s
-sum_before quantities s b None none is = is
-sum_before quantities s true (Some t) none is = absurd (false≢true (sym none))
-sum_before quantities s false (Some t) none is = is
+module _ {X : Type 0} (amounts : X → List Entry) where
+  abbrev added : List Entry → List X → List Entry
+  added start xs = fold (λ sum x. plus sum (amounts x)) start xs
 
-sum_first : (f : Sum → Sum) (o : Option Sum) (s : Sum) → Some s ≡ option_map f o → (t : Sum) × (o ≡ Some t) × (s ≡ f t)
-sum_first f None s is = cc
-sum_first f (Some t) s is = (t, refl, let e : s ≡ f t = cc in e)
+  pub amount-added : (test : X → Bool) (start : List Entry) (xs : List X) (label : Text) → AllByRecursion (λ x. HasNoZeros (amounts x)) xs
+      → amount_of (added start (filter test xs)) label ≡ amount_of start label + sum_by (λ x. cond (test x) (amount_of (amounts x) label) 0) xs
+  amount-added test start [] label all = omega arith
+  amount-added test start (x ∷ xs) label all =
+      by (test x) (amount-added test start xs label all.1) (amount-added test (plus start (amounts x)) xs label all.1)
+      ∙ ap (λ n. amount_of start label + n) (sym (sum_by-cons part x xs))
+    where
+      part : X → ℕ
+      part x = cond (test x) (amount_of (amounts x) label) 0
 
-none_before : (f : Sum → Sum) (o : Option Sum) → option_map f o ≡ None → o ≡ None
-none_before f None is = refl
-none_before f (Some t) is = cc
+      by : (b : Bool) → amount_of (added start (filter test xs)) label ≡ amount_of start label + sum_by part xs
+          → amount_of (added (plus start (amounts x)) (filter test xs)) label ≡ amount_of (plus start (amounts x)) label + sum_by part xs
+          → amount_of (added start (cond b (x ∷ filter test xs) (filter test xs))) label
+          ≡ amount_of start label + (cond b (amount_of (amounts x) label) 0 + sum_by part xs)
+      by true past here = omega (arith, here, amount-plus start (amounts x) label all.0.in_order)
+      by false past here = omega (arith, past)
 
-module _ (path : Path) (i : ℕ) (quantities : List Entry) (old now : Sums) (within : i < length path)
-    (added : AddTo path i quantities old now) where
-  -- the next node holds what it held
-  sum_yet : (s : Sum) → get path_cmp now (take (i + 1) path) ≡ Some s → get path_cmp old (take (i + 1) path) ≡ Some s
-  sum_yet s found =
-      sum_before quantities s (is_passed path i (take (i + 1) path)) (get path_cmp old (take (i + 1) path))
-      (passed-later path i (i + 1) (omega arith) (omega arith))
-      (sym (added (take (i + 1) path)) ∙ found)
+  pub amount-added-le : (test : X → Bool) (start : List Entry) (xs : List X) (label : Text) → AllByRecursion (λ x. HasNoZeros (amounts x)) xs
+      → amount_of (added start (filter test xs)) label ≤ amount_of start label + sum_by (λ x. amount_of (amounts x) label) xs
+  amount-added-le test start xs label all =
+      omega (
+        arith,
+        amount-added test start xs label all,
+        sum_by-le-sum_by (λ (x : X). cond (test x) (amount_of (amounts x) label) 0) (λ (x : X). amount_of (amounts x) label) xs
+            (λ x. cond_le (test x) (amount_of (amounts x) label)),
+      )
 
-  -- it holds more
-  AddTo-more : (new : Sums) (s : Sum) → get path_cmp now (take (i + 1) path) ≡ Some s
-      → Updates path_cmp now new (take (i + 1) path) (Some (more quantities s))
-      → AddTo path (i + 1) quantities old new
-  AddTo-more new s found updates = λ n. rw add-one (elim (cases_Bool (is_eq (path_cmp (take (suc i) path) n))) [
-    | inl here ↦
-        let at : take (i + 1) path ≡ n = rw add-one (tied (take (suc i) path) n here) in
-        let had : get path_cmp old n ≡ Some s = subst (λ (m : Path). get path_cmp old m ≡ Some s) at (sum_yet s found) in
-        let has : get path_cmp new n ≡ Some (more quantities s) = updates.0 n ∙ ap (λ (b : Bool). cond b (Some (more quantities s)) (get path_cmp now n)) (ap (λ (k : ℕ). is_eq (path_cmp (take k path) n)) (add-one i) ∙ here) in
-        rw (here, had) has
-    | inr past ↦
-        let same : get path_cmp new n ≡ get path_cmp now n = updates.0 n ∙ ap (λ (b : Bool). cond b (Some (more quantities s)) (get path_cmp now n)) (ap (λ (k : ℕ). is_eq (path_cmp (take k path) n)) (add-one i) ∙ past) in
-        rw past (same ∙ added n)
-  ])
+  pub no_zeros-added : (start : List Entry) (xs : List X) → HasNoZeros start → AllByRecursion (λ x. HasNoZeros (amounts x)) xs
+      → HasNoZeros (added start xs)
+  no_zeros-added start [] one all = one
+  no_zeros-added start (x ∷ xs) one all =
+      no_zeros-added (plus start (amounts x)) xs (no_zeros-plus start (amounts x) one all.0) all.1
 
-  -- it is not there
-  AddTo-none : get path_cmp now (take (i + 1) path) ≡ None → AddTo path (i + 1) quantities old now
-  AddTo-none missing = λ n. rw add-one (elim (cases_Bool (is_eq (path_cmp (take (suc i) path) n))) [
-    | inl here ↦
-        let at : take (i + 1) path ≡ n = rw add-one (tied (take (suc i) path) n here) in
-        let gone : get path_cmp now n ≡ None = subst (λ (m : Path). get path_cmp now m ≡ None) at missing in
-        let never : get path_cmp old n ≡ None =
-        none_before (λ s. cond (is_passed path i n) (more quantities s) s) (get path_cmp old n) (sym (added n) ∙ gone) in
-        rw (here, never) gone
-    | inr past ↦ rw past (added n)
-  ])
+-- amounts that nothing is added to
+pub plus-nothing : (held : List Entry) → HasNoZeros held → plus [] held ≡ held
+plus-nothing held named =
+    same_quantities (plus [] held) held (no_zeros-plus [] held no_zeros-empty named) named
+    (λ label. omega (arith, amount-plus [] held label named.in_order))
 
--- ---- holdings are added one after another
+pub joined-nothing : (held : List Entry) (count : ℕ) → HasNoZeros held → own_sum held count ≡ joined nothing (own_sum held count)
+joined-nothing held count named =
+    let zero : count ≡ 0 + count = omega arith in
+    λ i. record { held = sym (plus-nothing held named) i; count = zero i }
 
-held_with-append : (held : List Entry) (first second : List Holding) (node : Path)
-    → held_with held (first ++ second) node ≡ held_with (held_with held first node) second node
-held_with-append held first second node =
-    let add : List Entry → Holding → List Entry = λ sum h. plus sum (quantities_of h.bundle) in
-    ap (fold add held) (filter-append (is_under node) first second)
-    ∙ fold-append add held (filter (is_under node) first) (filter (is_under node) second)
+-- ---- one node
 
-sum_with-append : (s : Sum) (first second : List Holding) (node : Path)
-    → sum_with (sum_with s first node) second node ≡ sum_with s (first ++ second) node
-sum_with-append s first second node = λ i. record s { held = sym (held_with-append s.held first second node) i }
+-- where its sum was put in its place
+pub AddAt-put : (now new : Sums) (node : Path) (more sum : Sum) → sum ≡ joined (sum_at now node) more
+    → Updates path_cmp now new node (Some sum) → AddAt node more now new
+AddAt-put now new node more sum is updates = λ n.
+    let told : sum_at new n ≡ unwrap_or (cond (is_eq (path_cmp node n)) (Some sum) (get path_cmp now n)) nothing =
+    ap (λ (o : Option Sum). unwrap_or o nothing) (updates.0 n) in
+    told ∙ elim (cases_Bool (is_eq (path_cmp node n))) [
+      | inl here ↦ rw here (is ∙ ap (λ (m : Path). joined (sum_at now m) more) (tied node n here))
+      | inr past ↦ rw past refl
+    ]
 
-sum_with-one : (s : Sum) (h : Holding) (node : Path)
-    → sum_with s (h ∷ []) node ≡ cond (is_under node h) (more (quantities_of h.bundle) s) s
-sum_with-one s h node = elim (cases_Bool (is_under node h)) [ inl here ↦ rw here refl | inr past ↦ rw past refl ]
+module _ (path : Path) (i : ℕ) (more : Sum) (old now : Sums) (within : i < length path) (added : AddTo path i more old now)
+    (node : Path) (is : node ≡ take (i + 1) path) where
+  -- the next node has what it had
+  yet : sum_at now node ≡ sum_at old node
+  yet =
+      added node
+      ∙ ap (λ (b : Bool). cond b (joined (sum_at old node) more) (sum_at old node))
+      (ap (is_passed path i) is ∙ passed-later path i (i + 1) (omega arith) (omega arith))
 
-both_mapped : (f g k : Sum → Sum) (o : Option Sum) → ((s : Sum) → g (f s) ≡ k s)
-    → option_map g (option_map f o) ≡ option_map k o
-both_mapped f g k None same = refl
-both_mapped f g k (Some s) same = ap Some (same s)
+  pub CanAdd-here : CanAdd more old → CanAddAt node more now
+  CanAdd-here can =
+      let room = can node (omega (arith, ap length is, length-take-le (i + 1) path (omega arith))) in
+      record {
+        no_zeros = room.no_zeros;
+        fits = λ label. omega (arith, room.fits label, ap (λ (s : Sum). amount_of s.held label) yet);
+        few = omega (arith, room.few, ap (λ (s : Sum). s.count) yet);
+      }
 
-AddAll-one : (h : Holding) (path : Path) (old new : Sums) → path ≡ path_of h.client
-    → AddTo path (length path) (quantities_of h.bundle) old new → AddAll (h ∷ []) old new
-AddAll-one h path old new of added = λ n some.
-    let under : is_passed path (length path) n ≡ is_under n h =
-    passed-all path n some ∙ ap (λ (p : Path). begins_with p n) of in
-    let one : (s : Sum) → cond (is_passed path (length path) n) (more (quantities_of h.bundle) s) s ≡ sum_with s (h ∷ []) n =
-    λ s. ap (λ (b : Bool). cond b (more (quantities_of h.bundle) s) s) under ∙ sym (sum_with-one s h n) in
-    added n ∙ (λ i. option_map (λ s. one s i) (get path_cmp old n))
+  pub AddTo-more : (new : Sums) → AddAt node more now new → AddTo path (i + 1) more old new
+  AddTo-more new put = λ n. rw add-one (by n (is_eq (path_cmp (take (suc i) path) n)) refl)
+    where
+      front : node ≡ take (suc i) path
+      front = is ∙ ap (λ (k : ℕ). take k path) (add-one i)
 
-pub AddAll-append : (first second : List Holding) (old now new : Sums)
-    → AddAll first old now → AddAll second now new → AddAll (first ++ second) old new
-AddAll-append first second old now new before later = λ n some.
-    later n some
-    ∙ ap (option_map (λ s. sum_with s second n)) (before n some)
-    ∙ both_mapped (λ s. sum_with s first n) (λ s. sum_with s second n) (λ s. sum_with s (first ++ second) n) (get path_cmp old n)
-    (λ s. sum_with-append s first second n)
+      by : (n : Path) (b : Bool) → is_eq (path_cmp (take (suc i) path) n) ≡ b
+          → sum_at new n ≡ cond (b || is_passed path i n) (joined (sum_at old n) more) (sum_at old n)
+      by n true here =
+          put n
+          ∙ ap (λ (b : Bool). cond b (joined (sum_at now n) more) (sum_at now n)) (ap (λ (m : Path). is_eq (path_cmp m n)) front ∙ here)
+          ∙ ap (λ (s : Sum). joined s more) (ap (sum_at now) (sym at) ∙ yet ∙ ap (sum_at old) at)
+        where
+          at : node ≡ n
+          at = front ∙ tied (take (suc i) path) n here
+      by n false past =
+          put n
+          ∙ ap (λ (b : Bool). cond b (joined (sum_at now n) more) (sum_at now n)) (ap (λ (m : Path). is_eq (path_cmp m n)) front ∙ past)
+          ∙ added n
 
--- where nothing was held, all is held now; and what was counted still is
-pub AreSums-added : (rows : Rows) (start sums : Sums) → HoldNothing start
-    → ((node : Path) → 1 ≤ length node → count_at start node ≡ count_of rows node)
-    → AddAll (holdings_of rows) start sums → AreSums rows sums
-AreSums-added rows start sums nothing counted added = λ n s some found.
-    let hs : List Holding = holdings_of rows in
-    let first = sum_first (λ t. sum_with t hs n) (get path_cmp start n) s (sym found ∙ added n some) in
-    record {
-      held = ap (λ (t : Sum). t.held) first.2 ∙ ap (λ (h : List Entry). held_with h hs n) (nothing n first.0 first.1);
-      count = ap (λ (t : Sum). t.count) first.2
-          ∙ sym (ap (λ (o : Option Sum). option_map_or (λ t. t.count) o 0) first.1)
-          ∙ counted n some;
-    }
+-- ---- clients one after another
 
--- ---- the sums fit
+sum_with-append : (s : Sum) (first second : List Part) (node : Path)
+    → sum_with s (first ++ second) node ≡ sum_with (sum_with s first node) second node
+sum_with-append s first second node =
+    let add : Sum → Part → Sum = λ t p. joined t p.1 in
+    let own : Part → Bool = λ p. begins_with p.0 node in
+    ap (fold add s) (filter-append own first second)
+    ∙ fold-append add s (filter own first) (filter own second)
 
-pub amount-held_with : (held : List Entry) (hs : List Holding) (node : Path) (label : Text) → AreBundles hs
-    → amount_of (held_with held hs node) label ≤ amount_of held label + sum_by (amount_in label) hs
-amount-held_with held [] node label all = omega arith
-amount-held_with held (h ∷ hs) node label all = elim (cases_Bool (is_under node h)) [
-  | inl here ↦ rw here (omega (
-    arith,
-    amount-held_with (plus held (quantities_of h.bundle)) hs node label all.1,
-    amount-plus held (quantities_of h.bundle) label (quantities_no_zeros h.bundle all.0).in_order,
-    sum_by-cons (amount_in label) h hs,
-  ))
-  | inr past ↦ rw past (omega (arith, amount-held_with held hs node label all.1, sum_by-cons (amount_in label) h hs))
-]
+sum_with-one : (s : Sum) (p : Part) (node : Path) → sum_with s (p ∷ []) node ≡ cond (begins_with p.0 node) (joined s p.1) s
+sum_with-one s p node = elim (cases_Bool (begins_with p.0 node)) [ inl here ↦ rw here refl | inr past ↦ rw past refl ]
 
-bundles_parted : (first second : List Holding) → AreBundles (first ++ second) → AreBundles first × AreBundles second
-bundles_parted [] second all = (tt, all)
-bundles_parted (h ∷ first) second all =
-    let later = bundles_parted first second all.1 in
+pub AddAll-more : (first : List Part) (p : Part) (old now new : Sums) → AddAll first old now → AddTo p.0 (length p.0) p.1 now new
+    → AddAll (first ++ p ∷ []) old new
+AddAll-more first p old now new before added = λ n some.
+    added n
+    ∙ ap (λ (b : Bool). cond b (joined (sum_at now n) p.1) (sum_at now n)) (passed-all p.0 n some)
+    ∙ sym (sum_with-one (sum_at now n) p n)
+    ∙ ap (λ (s : Sum). sum_with s (p ∷ []) n) (before n some)
+    ∙ sym (sum_with-append (sum_at old n) first (p ∷ []) n)
+
+pub AreSummed-more : (first second : List Part) (now new : Sums) → AreSummed first now → AddAll second now new
+    → AreSummed (first ++ second) new
+AreSummed-more first second now new before added = λ n some.
+    added n some
+    ∙ ap (λ (s : Sum). sum_with s second n) (before n some)
+    ∙ sym (sum_with-append nothing first second n)
+
+-- ---- the two parts of a sum
+
+pub held-added : (s : Sum) (ps : List Part) → (fold (λ t p. joined t p.1) s ps).held ≡ fold (λ q p. plus q p.1.held) s.held ps
+held-added s [] = refl
+held-added s (p ∷ ps) = held-added (joined s p.1) ps
+
+count-added : (s : Sum) (ps : List Part) → (fold (λ t p. joined t p.1) s ps).count ≡ s.count + sum_by (λ p. p.1.count) ps
+count-added s [] = omega arith
+count-added s (p ∷ ps) = omega (arith, count-added (joined s p.1) ps, sum_by-cons (λ (q : Part). q.1.count) p ps)
+
+pub count-with : (s : Sum) (parts : List Part) (node : Path)
+    → (sum_with s parts node).count ≡ s.count + sum_by (λ p. cond (begins_with p.0 node) p.1.count 0) parts
+count-with s parts node =
+    count-added s (filter (λ p. begins_with p.0 node) parts)
+    ∙ ap (λ (n : ℕ). s.count + n) (sum_by-filter (λ (p : Part). p.1.count) (λ p. begins_with p.0 node) parts)
+
+count-with-le : (s : Sum) (parts : List Part) (node : Path) → (sum_with s parts node).count ≤ s.count + sum_by (λ p. p.1.count) parts
+count-with-le s parts node =
+    omega (
+      arith,
+      count-with s parts node,
+      sum_by-le-sum_by (λ (p : Part). cond (begins_with p.0 node) p.1.count 0) (λ (p : Part). p.1.count) parts
+          (λ p. cond_le (begins_with p.0 node) p.1.count),
+    )
+
+amount-with-le : (s : Sum) (parts : List Part) (node : Path) (label : Text) → AllByRecursion (λ p. HasNoZeros p.1.held) parts
+    → amount_of (sum_with s parts node).held label ≤ amount_of s.held label + sum_by (λ p. amount_of p.1.held label) parts
+amount-with-le s parts node label all =
+    let whole : amount_of (sum_with s parts node).held label ≡ amount_of (fold (λ q p. plus q p.1.held) s.held (filter (λ p. begins_with p.0 node) parts)) label =
+    ap (λ (q : List Entry). amount_of q label) (held-added s (filter (λ p. begins_with p.0 node) parts)) in
+    let most : amount_of (fold (λ q p. plus q p.1.held) s.held (filter (λ p. begins_with p.0 node) parts)) label
+    ≤ amount_of s.held label + sum_by (λ p. amount_of p.1.held label) parts =
+    amount-added-le (λ (p : Part). p.1.held) (λ p. begins_with p.0 node) s.held parts label all in
+    omega (arith, whole, most)
+
+-- ---- there is room for the others
+
+each_parted : (P : Part → Type 0) (first second : List Part) → AllByRecursion P (first ++ second)
+    → AllByRecursion P first × AllByRecursion P second
+each_parted P [] second all = (tt, all)
+each_parted P (p ∷ first) second all =
+    let later = each_parted P first second all.1 in
     ((all.0, later.0), later.1)
 
-pub CanAddAll-nothing : (hs : List Holding) (sums : Sums)
-    → AreBundles hs → ((label : Text) → sum_by (amount_in label) hs < 2 ^ 64) → HoldNothing sums → CanAddAll hs sums
-CanAddAll-nothing hs sums all fits nothing = record {
-  bundles = all;
-  fits = λ n s some found label. omega (arith, fits label, ap (λ (es : List Entry). amount_of es label) (nothing n s found));
-}
-
-module _ (first second : List Holding) (old : Sums) (can : CanAddAll (first ++ second) old) where
-  pub CanAddAll-first : CanAddAll first old
-  CanAddAll-first = record {
-    bundles = (bundles_parted first second can.bundles).0;
-    fits = λ n s some found label. omega (arith, can.fits n s some found label, sum_by-append (amount_in label) first second);
+module _ (s : Sum) (first second : List Part) (can : CanSum s (first ++ second)) where
+  pub CanSum-first : CanSum s first
+  CanSum-first = record {
+    no_zeros = (each_parted (λ (p : Part). HasNoZeros p.1.held) first second can.no_zeros).0;
+    fits = λ label. omega (arith, can.fits label, sum_by-append (λ (p : Part). amount_of p.1.held label) first second);
+    few = omega (arith, can.few, sum_by-append (λ (p : Part). p.1.count) first second);
   }
 
-  -- once the first were added
-  pub CanAddAll-second : (now : Sums) → AddAll first old now → CanAddAll second now
-  CanAddAll-second now added =
-      let parts = bundles_parted first second can.bundles in
+  pub CanSum-second : (node : Path) → CanSum (sum_with s first node) second
+  CanSum-second node =
+      let parts = each_parted (λ (p : Part). HasNoZeros p.1.held) first second can.no_zeros in
       record {
-        bundles = parts.1;
-        fits = λ n s some found label.
-            let before = sum_first (λ t. sum_with t first n) (get path_cmp old n) s (sym found ∙ added n some) in
+        no_zeros = parts.1;
+        fits = λ label.
             omega (
               arith,
-              can.fits n before.0 some before.1 label,
-              amount-held_with before.0.held first n label parts.0,
-              ap (λ (t : Sum). amount_of t.held label) before.2,
-              sum_by-append (amount_in label) first second,
+              can.fits label,
+              amount-with-le s first node label parts.0,
+              sum_by-append (λ (p : Part). amount_of p.1.held label) first second,
             );
+        few = omega (arith, can.few, count-with-le s first node, sum_by-append (λ (p : Part). p.1.count) first second);
       }
 
--- ---- a loop over rows that hold something
-
-parted_at : {X : Type 0} (of : X → Holding) (xs : List X) (i : ℕ) (x : X) → i < length xs → x ≡ get_or xs i x
-    → map of xs ≡ map of (take i xs) ++ of x ∷ map of (drop (suc i) xs)
-parted_at {X} of xs i x within is =
-    ap (map of) (split_at xs i x within ∙ ap (λ (y : X). take i xs ++ y ∷ drop (suc i) xs) (sym is))
-    ∙ map-append of (take i xs) (x ∷ drop (suc i) xs)
-
-module _ {X : Type 0} (of : X → Holding) (xs : List X) (i : ℕ) (x : X) (within : i < length xs) (is : x ≡ get_or xs i x)
-    (old now : Sums) (added : AddAll (map of (take i xs)) old now) where
-  pub CanAdd-next : CanAddAll (map of xs) old → CanAdd (amount_of (quantities_of (of x).bundle)) now
-  CanAdd-next can = λ n s some found label.
-      let rest : List Holding = map of (drop (suc i) xs) in
-      let now_can = CanAddAll-second (map of (take i xs)) (of x ∷ rest) old
-      (subst (λ (hs : List Holding). CanAddAll hs old) (parted_at of xs i x within is) can) now added in
-      omega (arith, now_can.fits n s some found label, sum_by-cons (amount_in label) (of x) rest)
-
-  pub AddAll-next : (path : Path) (new : Sums) → path ≡ path_of (of x).client
-      → AddTo path (length path) (quantities_of (of x).bundle) now new → AddAll (map of (take (i + 1) xs)) old new
-  AddAll-next path new own more =
-      subst (λ (hs : List Holding). AddAll hs old new) (sym (map_next of xs i x within is))
-      (AddAll-append (map of (take i xs)) (of x ∷ []) old now new added (AddAll-one (of x) path now new own more))
-
--- ---- a node that is passed
-
-module _ (path : Path) (i : ℕ) (quantities : List Entry) (start now : Sums) (node : Path) (within : i < length path)
-    (is : node ≡ take (i + 1) path) (kept : keys now ≡ keys start) (added : AddTo path i quantities start now) where
-  pub add_more : (new : Sums) (s : Sum) (held : List Entry) (was : Option Sum)
-      → Some s ≡ get path_cmp now node → held ≡ plus s.held quantities → was ≡ get path_cmp now node
-      → Updates path_cmp now new node (Some (record s { held = held })) → (IsSome was → keys new ≡ keys now)
-      → record { nodes : keys new ≡ keys start; added : AddTo path (i + 1) quantities start new }
-  add_more new s held was found sum had updates stay =
-      let at : get path_cmp now (take (i + 1) path) ≡ Some s = ap (get path_cmp now) (sym is) ∙ sym found in
-      let put : Updates path_cmp now new (take (i + 1) path) (Some (more quantities s)) =
-      subst (λ (h : List Entry). Updates path_cmp now new (take (i + 1) path) (Some (record s { held = h }))) sum
-      (subst (λ (n : Path). Updates path_cmp now new n (Some (record s { held = held }))) is updates) in
-      record {
-        nodes = stay (ap is_some (had ∙ sym found)) ∙ kept;
-        added = AddTo-more path i quantities start now within added new s at put;
-      }
-
-  pub add_none : None ≡ get path_cmp now node
-      → record { nodes : keys now ≡ keys start; added : AddTo path (i + 1) quantities start now }
-  add_none missing = record {
-    nodes = kept;
-    added = AddTo-none path i quantities start now within added (ap (get path_cmp now) (sym is) ∙ sym missing);
-  }
-
--- and nothing is added beyond what fits
-pub fits_here : (path : Path) (i : ℕ) (quantities : List Entry) (start now : Sums) (node : Path) (s : Sum)
-    → i < length path → node ≡ take (i + 1) path → Some s ≡ get path_cmp now node
-    → AddTo path i quantities start now → CanAdd (amount_of quantities) start
-    → (label : Text) → amount_of s.held label + amount_of quantities label < 2 ^ 64
-fits_here path i quantities start now node s within is found added can =
-    let at : get path_cmp now (take (i + 1) path) ≡ Some s = ap (get path_cmp now) (sym is) ∙ sym found in
-    can (take (i + 1) path) s (omega (arith, length-take-le (i + 1) path (omega arith)))
-    (sum_yet path i quantities start now within added s at)
+pub CanAdd-first : (p : Part) (rest : List Part) (now : Sums) → CanAddAll (p ∷ rest) now → CanAdd p.1 now
+CanAdd-first p rest now can = λ n some.
+    let room = can n some in
+    record {
+      no_zeros = room.no_zeros.0;
+      fits = λ label. omega (arith, room.fits label, sum_by-cons (λ (q : Part). amount_of q.1.held label) p rest);
+      few = omega (arith, room.few, sum_by-cons (λ (q : Part). q.1.count) p rest);
+    }

@@ -1,2 +1,3 @@
+pub mod Clients
 pub mod Reporting
 pub mod Weighing

@@ -1,22 +1,23 @@
 -- What is reported, while it is summed up: nodes, with what each holds so far and the offers that it got.
-use Rattle.std.specs.Prelude.{◌≡◌, ℕ, zero, suc, ◌+◌, ◌^◌, ◌<◌, ◌≤◌, ◌||◌, Bool, false, cond, IsTrue, List, [], fold, filter, flat_map, length, take, sum_by, Some}
-use Rattle.std.specs.Option.{option_map, option_map_or}
+use Rattle.std.specs.Prelude.{◌≡◌, ℕ, zero, suc, ◌+◌, ◌^◌, ◌<◌, ◌≤◌, ◌||◌, Bool, false, cond, IsTrue, List, [], map, fold, filter, flat_map, length, take, sum_by, Some}
+use Rattle.std.specs.List.{AllByRecursion}
+use Rattle.std.specs.Option.{unwrap_or}
 use Rattle.std.specs.Ordering.{is_eq}
 use Rattle.std.specs.BTreeMap.{BTreeMap, get}
 use Rattle.drf_role.specs.Text.{Text}
 use Rattle.drf_role.specs.Path.{Path, begins_with}
-use Rattle.drf_bundle.specs.Quantities.{plus, amount_of, is_in_order}
-use Rattle.drf_bundle.specs.Bundle.{quantities_of}
+use Rattle.drf_bundle.specs.Quantities.{HasNoZeros, plus, amount_of, is_in_order}
 use Rattle.drf_bundle.specs.declared.quantities.Entry.{Entry}
 use Rattle.drf_rows.specs.Client.{Client, path_of}
 use Rattle.drf_rows.specs.Held.{client_of, count_of, weight_of}
-use Rattle.drf_rows.specs.Holdings.{Holding, holdings_of, amount_in, is_under, AreBundles}
+use Rattle.drf_rows.specs.Holdings.{holdings_of}
 use Rattle.drf_rows.specs.Report.{path_cmp, with_node, nodes_on, held_under, line_by}
 use Rattle.drf_rows.specs.declared.report.NodeLine.{NodeLine}
 use Rattle.drf_rows.specs.declared.rows.ClientRow.{ClientRow}
 use Rattle.drf_rows.specs.declared.rows.FrameworkRow.{FrameworkRow}
 use Rattle.drf_rows.specs.declared.rows.WeightRow.{WeightRow}
 use Rattle.drf_rows.specs.declared.rows.Rows.{Rows}
+use Rattle.drf_report.specs.Clients.{ClientSum, row_of}
 use Rattle.drf_report.specs.declared.summary.Sum.{Sum}
 
 -- ---- nodes
@@ -34,62 +35,78 @@ abbrev pub is_passed : Path → ℕ → Path → Bool
 is_passed path zero node = false
 is_passed path (suc n) node = is_eq (path_cmp (take (suc n) path) node) || is_passed path n node
 
--- ---- the offers that they got
+-- ---- what is summed at them
 
--- how many are counted at a node, 0 where it is not there
-abbrev pub count_at : Sums → Path → ℕ
-count_at sums node = option_map_or (λ s. s.count) (get path_cmp sums node) 0
+abbrev pub nothing : Sum
+nothing = record { held = []; count = 0 }
 
--- how many of some clients of a framework got that are clients of the node
-abbrev pub count_in : FrameworkRow → List ClientRow → Path → ℕ
-count_in f clients node = sum_by (λ c. c.count) (filter (λ c. begins_with (path_of (client_of f c)) node) clients)
+-- what is summed at a node, nothing where it is not there
+abbrev pub sum_at : Sums → Path → Sum
+sum_at sums node = unwrap_or (get path_cmp sums node) nothing
 
--- the nodes passed in n steps along the path count so many more, and all others what they counted
-abbrev pub CountTo : Path → ℕ → ℕ → Sums → Sums → Type 0
-CountTo path n count old new =
-    (node : Path) → count_at new node ≡ cond (is_passed path n node) (count_at old node + count) (count_at old node)
+-- what a client holds, and the offers that it got
+abbrev pub own_sum : List Entry → ℕ → Sum
+own_sum held count = record { held = held; count = count }
 
--- whichever node they are counted at, its count stays below 2^64
-abbrev pub CanCount : ℕ → Sums → Type 0
-CanCount count sums = (node : Path) → 1 ≤ length node → count_at sums node + count < 2 ^ 64
+abbrev pub joined : Sum → Sum → Sum
+joined s more = record { held = plus s.held more.held; count = s.count + more.count }
 
--- ---- what they hold
+-- one node has so much more, and all others what they had
+abbrev pub AddAt : Path → Sum → Sums → Sums → Type 0
+AddAt node more old new =
+    (n : Path) → sum_at new n ≡ cond (is_eq (path_cmp node n)) (joined (sum_at old n) more) (sum_at old n)
 
--- no node holds anything yet
-abbrev pub HoldNothing : Sums → Type 0
-HoldNothing sums = (node : Path) (s : Sum) → get path_cmp sums node ≡ Some s → s.held ≡ []
+-- the nodes passed in n steps along the path have it
+abbrev pub AddTo : Path → ℕ → Sum → Sums → Sums → Type 0
+AddTo path n more old new =
+    (node : Path) → sum_at new node ≡ cond (is_passed path n node) (joined (sum_at old node) more) (sum_at old node)
 
--- it holds the quantities more
-abbrev pub more : List Entry → Sum → Sum
-more quantities s = record s { held = plus s.held quantities }
+-- its labels are in order, and there is room for it at a node
+pub record CanAddAt (node : Path) (more : Sum) (sums : Sums) : Type 0 where
+  pub no_zeros : HasNoZeros more.held
+  pub fits : (label : Text) → amount_of (sum_at sums node).held label + amount_of more.held label < 2 ^ 64
+  pub few : (sum_at sums node).count + more.count < 2 ^ 64
 
--- the nodes passed in n steps along the path hold the quantities more, and all others what they held
-abbrev pub AddTo : Path → ℕ → List Entry → Sums → Sums → Type 0
-AddTo path n quantities old new =
-    (node : Path) → get path_cmp new node ≡ option_map (λ s. cond (is_passed path n node) (more quantities s) s) (get path_cmp old node)
+-- and at any node
+abbrev pub CanAdd : Sum → Sums → Type 0
+CanAdd more sums = (node : Path) → 1 ≤ length node → CanAddAt node more sums
 
--- whichever node they are added to, its amounts stay below 2^64
-abbrev pub CanAdd : (Text → ℕ) → Sums → Type 0
-CanAdd amounts sums =
-    (node : Path) (s : Sum) → 1 ≤ length node → get path_cmp sums node ≡ Some s
-    → (label : Text) → amount_of s.held label + amounts label < 2 ^ 64
+-- ---- clients one after another
 
--- what a node held, and then what its clients have of the holdings
-abbrev pub held_with : List Entry → List Holding → Path → List Entry
-held_with held holdings node = fold (λ sum h. plus sum (quantities_of h.bundle)) held (filter (is_under node) holdings)
+-- a client's path, and its own sum
+abbrev pub Part : Type 0
+Part = Path × Sum
 
-abbrev pub sum_with : Sum → List Holding → Path → Sum
-sum_with s holdings node = record s { held = held_with s.held holdings node }
+abbrev pub part_of : List ClientSum → FrameworkRow → ClientRow → Part
+part_of held f c = (path_of (client_of f c), own_sum (row_of held (path_of (client_of f c))) c.count)
 
--- each of the holdings was added to all nodes of its client
-abbrev pub AddAll : List Holding → Sums → Sums → Type 0
-AddAll holdings old new =
-    (node : Path) → 1 ≤ length node → get path_cmp new node ≡ option_map (λ s. sum_with s holdings node) (get path_cmp old node)
+abbrev pub parts_of : List ClientSum → FrameworkRow → List Part
+parts_of held f = map (part_of held f) f.clients
 
--- they are bundles, and there is room for all of them at each node
-pub record CanAddAll (holdings : List Holding) (sums : Sums) : Type 0 where
-  pub bundles : AreBundles holdings
-  pub fits : CanAdd (λ label. sum_by (amount_in label) holdings) sums
+abbrev pub parts_in : List ClientSum → List FrameworkRow → List Part
+parts_in held fs = flat_map (parts_of held) fs
+
+-- what a node had, and then what those have that are its own
+abbrev pub sum_with : Sum → List Part → Path → Sum
+sum_with s parts node = fold (λ t p. joined t p.1) s (filter (λ p. begins_with p.0 node) parts)
+
+-- each of them was added to all nodes of the client
+abbrev pub AddAll : List Part → Sums → Sums → Type 0
+AddAll parts old new = (node : Path) → 1 ≤ length node → sum_at new node ≡ sum_with (sum_at old node) parts node
+
+-- and nothing else was
+abbrev pub AreSummed : List Part → Sums → Type 0
+AreSummed parts sums = (node : Path) → 1 ≤ length node → sum_at sums node ≡ sum_with nothing parts node
+
+-- their labels are in order, and all of them fit
+pub record CanSum (had : Sum) (parts : List Part) : Type 0 where
+  pub no_zeros : AllByRecursion (λ p. HasNoZeros p.1.held) parts
+  pub fits : (label : Text) → amount_of had.held label + sum_by (λ p. amount_of p.1.held label) parts < 2 ^ 64
+  pub few : had.count + sum_by (λ p. p.1.count) parts < 2 ^ 64
+
+-- there is room for them at any node
+abbrev pub CanAddAll : List Part → Sums → Type 0
+CanAddAll parts sums = (node : Path) → 1 ≤ length node → CanSum (sum_at sums node) parts
 
 -- ---- all of it
 

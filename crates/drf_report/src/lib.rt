@@ -1,6 +1,7 @@
 //! The report of shares, made of the rows.
 #![tactic(auto)]
 
+mod clients;
 mod summary;
 mod weights;
 

@@ -1,24 +1,23 @@
-//! The report of shares. What a node holds, and how many offers its clients got, is summed from the rows along the paths of
-//! the clients; its shares are made of that.
-ghost use Rattle.std.specs.Prelude.{◌≡◌, ◌+◌, ◌<◌, ◌≤◌, ◌^◌, [], map, fold, flat_map, length, All, IfOk, true, OnOk, Some, sum_by};
+//! The report of shares. What a node holds, and how many offers its clients got, is summed along the path of each client, once;
+//! its shares are made of that.
+ghost use Rattle.std.specs.Prelude.{◌≡◌, ◌<◌, ◌≤◌, ◌^◌, [], map, fold, length, All, IfOk, true, OnOk, Some, sum_by};
 ghost use Rattle.std.specs.List.{AllByRecursion};
 ghost use Rattle.std.specs.BTreeMap.{get, keys};
 ghost use Rattle.drf_role.specs.Text.{Text};
-ghost use Rattle.drf_role.specs.Path.{Path};
-ghost use Rattle.drf_bundle.specs.Quantities.{amount_of};
-ghost use Rattle.drf_bundle.specs.Bundle.{quantities_of};
-ghost use Rattle.drf_rows.specs.Held.{client_of, cluster_total};
-ghost use Rattle.drf_rows.specs.Holdings.{of_offer, of_task, holdings_of, amount_in, AreBundles};
+ghost use Rattle.drf_rows.specs.Held.{client_of, clients_in, cluster_total};
+ghost use Rattle.drf_rows.specs.Holdings.{holdings_of, amount_in};
 ghost use Rattle.drf_rows.specs.Consistent.{IsConsistent, offers_counted};
 ghost use Rattle.drf_rows.specs.Report.{path_cmp, with_node, nodes_on, nodes_of, report_of};
 ghost use Rattle.drf_rows.specs.Weights.{are_weights};
-ghost use Rattle.drf_report.specs.Reporting.{with_clients, count_at, count_in, CountTo, CanCount, HoldNothing, AddTo, CanAdd, AddAll, CanAddAll, AreSums, IsWhole, IsPart, AreParts, line_with};
+ghost use Rattle.drf_report.specs.Reporting.{with_clients, nothing, own_sum, parts_of, parts_in, AddAt, CanAddAt, AddTo, CanAdd, AddAll, CanAddAll, AreSummed, CanSum, AreSums, IsWhole, IsPart, AreParts, line_with};
 
+use crate::clients::{add_to, held_by, held_by_clients};
 use crate::weights::Weights;
-use drf_bundle::{Bundle, Quantities};
+use drf_bundle::Quantities;
 use drf_role::{ClientPath, NodePath};
-use drf_rows::{FrameworkRow, NodeLine, OfferRow, Report, Rows, Table, TaskRow};
+use drf_rows::{FrameworkRow, NodeLine, Report, Rows, Table};
 use drf_sorter::{DEFAULT_WEIGHT, Share};
+use indexmap::IndexMap;
 use std::alloc::{AllocError, Global};
 use std::collections::BTreeMap;
 
@@ -29,140 +28,91 @@ struct Sum {
     count: u64,
 }
 
-/// How many offers are counted at a node so far, 0 where it is not there.
-fn count_at(sums: &BTreeMap<NodePath, Sum>, node: &NodePath) -> u64
-    ensures { result ≡ count_at sums.now node.now }
-{
-    match sums.get(node) {
-        Some(sum) => sum.count,
-        None => 0,
-    }
-}
-
-/// Puts the nodes of a client in their places, with nothing held, and counts the offers that it got.
-fn put_nodes(
-    alloc: Global,
+/// Adds to the sum of a node, which comes into its place where it is not there yet.
+fn add_at(
     sums: &mut BTreeMap<NodePath, Sum>,
-    client: &ClientPath,
+    node: NodePath,
+    held: &Quantities,
     count: u64,
 ) -> Result<(), AllocError>
-    requires nothing { HoldNothing sums.old }
-    requires fits { CanCount count sums.old }
+    requires { CanAddAt node (own_sum held.now count) sums.old }
+    ensures nodes { OnOk result (keys sums.new ≡ with_node (keys sums.old) node) }
+    ensures added { OnOk result (AddAt node (own_sum held.now count) sums.old sums.new) }
+{
+    if let Some(sum) = sums.get_mut(&node) {
+        sum.count += count;
+        return add_to(&mut sum.held, held);
+    }
+    let held = held.copy()?;
+    sums.insert(node, Sum { held, count })?;
+    Ok(())
+}
+
+/// Adds what a client holds, and the offers that it got, to the nodes on its path.
+fn add_client(
+    sums: &mut BTreeMap<NodePath, Sum>,
+    client: &ClientPath,
+    held: &Quantities,
+    count: u64,
+) -> Result<(), AllocError>
+    requires { CanAdd (own_sum held.now count) sums.old }
     ensures nodes { OnOk result (keys sums.new ≡ fold with_node (keys sums.old) (nodes_on client.now)) }
-    ensures nothing { OnOk result (HoldNothing sums.new) }
-    ensures counted { OnOk result (CountTo client.now (length client.now) count sums.old sums.new) }
+    ensures added { OnOk result (AddTo client.now (length client.now) (own_sum held.now count) sums.old sums.new) }
 {
     for i in 0..client.len() {
-        let path = client.node(i + 1)?;
-        let count = count_at(sums, &path) + count;
-        let held = Quantities::empty(alloc);
-        sums.insert(path, Sum { held, count })?;
+        let node = client.node(i + 1)?;
+        add_at(sums, node, held, count)?;
     }
     Ok(())
 }
 
-/// Puts the nodes of a framework's clients in their places.
-fn put_framework(
+/// Adds the clients of a framework.
+fn add_framework(
     alloc: Global,
     sums: &mut BTreeMap<NodePath, Sum>,
+    held: &IndexMap<ClientPath, Quantities>,
     framework: &FrameworkRow,
 ) -> Result<(), AllocError>
-    requires nothing { HoldNothing sums.old }
-    requires fits { CanCount (sum_by (λ c. c.count) framework.now.clients) sums.old }
+    requires { CanAddAll (parts_of held.now.entries framework.now) sums.old }
     ensures nodes { OnOk result (keys sums.new ≡ with_clients (keys sums.old) (map (client_of framework.now) framework.now.clients)) }
-    ensures nothing { OnOk result (HoldNothing sums.new) }
-    ensures counted { OnOk result ((node : Path) → 1 ≤ length node →
-        count_at sums.new node ≡ count_at sums.old node + count_in framework.now framework.now.clients node) }
+    ensures added { OnOk result (AddAll (parts_of held.now.entries framework.now) sums.old sums.new) }
 {
+    let none = Quantities::empty(alloc);
     for client in framework.clients.as_slice() {
         let path = ClientPath::new(alloc, &client.role, &framework.name)?;
-        put_nodes(alloc, sums, &path, client.count)?;
+        let own = held_by(held, &path, &none);
+        add_client(sums, &path, own, client.count)?;
     }
     Ok(())
 }
 
-/// The nodes of all clients, with the offers that were made and nothing held.
-fn nodes(alloc: Global, frameworks: &[FrameworkRow]) -> Result<BTreeMap<NodePath, Sum>, AllocError>
-    requires fits { offers_counted frameworks.now < 2 ^ 64 }
-    ensures nodes { IfOk result (λ sums. keys sums ≡ with_clients [] (flat_map (λ f. map (client_of f) f.clients) frameworks.now)) }
-    ensures nothing { IfOk result HoldNothing }
-    ensures counted { IfOk result (λ sums. (node : Path) → 1 ≤ length node →
-        count_at sums node ≡ sum_by (λ f. count_in f f.clients node) frameworks.now) }
+/// What each node holds, and the offers that its clients got, of all clients of the frameworks.
+fn sums_of(
+    alloc: Global,
+    held: &IndexMap<ClientPath, Quantities>,
+    frameworks: &[FrameworkRow],
+) -> Result<BTreeMap<NodePath, Sum>, AllocError>
+    requires { CanSum nothing (parts_in held.now.entries frameworks.now) }
+    ensures nodes { IfOk result (λ sums. keys sums ≡ with_clients [] (clients_in frameworks.now)) }
+    ensures summed { IfOk result (AreSummed (parts_in held.now.entries frameworks.now)) }
 {
     let mut sums = BTreeMap::new(alloc);
     for framework in frameworks {
-        put_framework(alloc, &mut sums, framework)?;
+        add_framework(alloc, &mut sums, held, framework)?;
     }
     Ok(sums)
 }
 
-/// Adds what a client holds to its nodes, those of them that are there.
-fn add_holding(
-    sums: &mut BTreeMap<NodePath, Sum>,
-    client: &ClientPath,
-    bundle: &Bundle,
-) -> Result<(), AllocError>
-    requires { CanAdd (amount_of (quantities_of bundle.now)) sums.old }
-    ensures nodes { OnOk result (keys sums.new ≡ keys sums.old) }
-    ensures added { OnOk result (AddTo client.now (length client.now) (quantities_of bundle.now) sums.old sums.new) }
-{
-    for i in 0..client.len() {
-        let node = client.node(i + 1)?;
-        if let Some(sum) = sums.get(&node) {
-            let held = sum.held.plus(bundle.quantities())?;
-            let count = sum.count;
-            sums.insert(node, Sum { held, count })?;
-        }
-    }
-    Ok(())
-}
-
-/// Adds what is offered to the nodes of the clients.
-fn add_offers(
-    alloc: Global,
-    sums: &mut BTreeMap<NodePath, Sum>,
-    offers: &[OfferRow],
-) -> Result<(), AllocError>
-    requires { CanAddAll (map of_offer offers.now) sums.old }
-    ensures nodes { OnOk result (keys sums.new ≡ keys sums.old) }
-    ensures added { OnOk result (AddAll (map of_offer offers.now) sums.old sums.new) }
-{
-    for offer in offers {
-        let client = ClientPath::new(alloc, &offer.role, &offer.framework)?;
-        add_holding(sums, &client, &offer.bundle)?;
-    }
-    Ok(())
-}
-
-/// Adds what tasks hold to the nodes of the clients.
-fn add_tasks(
-    alloc: Global,
-    sums: &mut BTreeMap<NodePath, Sum>,
-    tasks: &[TaskRow],
-) -> Result<(), AllocError>
-    requires { CanAddAll (map of_task tasks.now) sums.old }
-    ensures nodes { OnOk result (keys sums.new ≡ keys sums.old) }
-    ensures added { OnOk result (AddAll (map of_task tasks.now) sums.old sums.new) }
-{
-    for task in tasks {
-        let client = ClientPath::new(alloc, &task.role, &task.framework)?;
-        add_holding(sums, &client, &task.bundle)?;
-    }
-    Ok(())
-}
-
-/// What each node holds, in offers and in tasks, and the offers that its clients got.
+/// What each node holds, and the offers that its clients got.
 fn sums(alloc: Global, rows: &Rows) -> Result<BTreeMap<NodePath, Sum>, AllocError>
-    requires bundles { AreBundles (holdings_of rows.now) }
+    requires consistent { IsConsistent rows.now }
     requires fits { (label : Text) → sum_by (amount_in label) (holdings_of rows.now) < 2 ^ 64 }
     requires few { offers_counted rows.now.frameworks < 2 ^ 64 }
     ensures nodes { IfOk result (λ sums. keys sums ≡ nodes_of rows.now) }
     ensures sums { IfOk result (AreSums rows.now) }
 {
-    let mut sums = nodes(alloc, rows.frameworks.as_slice())?;
-    add_offers(alloc, &mut sums, rows.offers.as_slice())?;
-    add_tasks(alloc, &mut sums, rows.tasks.as_slice())?;
-    Ok(sums)
+    let held = held_by_clients(alloc, rows)?;
+    sums_of(alloc, &held, rows.frameworks.as_slice())
 }
 
 /// The line of a node.

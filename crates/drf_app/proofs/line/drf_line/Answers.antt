@@ -17,7 +17,9 @@ returns c =
     ∙ ap₂ with_subcommand top (ap (λ (a : App). a.top) c.in_ok-run.ensures) in
     let with_check = c.in_ok-subcommand-2.ensures.shape (local c.check_line-check.result (ap (λ (a : App). a.top.is_plain) c.check_line-check.ensures))
     ∙ ap₂ with_subcommand with_run (ap (λ (a : App). a.top) c.check_line-check.ensures) in
-    IfOk-weaker c.subcommand-3.result _ _
-    (λ line added. added.shape (local c.audit_line-audit.result (ap (λ (a : App). a.top.is_plain) c.audit_line-audit.ensures))
-    ∙ ap₂ with_subcommand with_check (ap (λ (a : App). a.top) c.audit_line-audit.ensures))
-    c.subcommand-3.ensures
+    let with_audit = c.in_ok-subcommand-3.ensures.shape (local c.audit_line-audit.result (ap (λ (a : App). a.top.is_plain) c.audit_line-audit.ensures))
+    ∙ ap₂ with_subcommand with_check (ap (λ (a : App). a.top) c.audit_line-audit.ensures) in
+    IfOk-weaker c.subcommand-4.result _ _
+    (λ line added. added.shape (local c.in_ok-explain.explain (ap (λ (a : App). a.top.is_plain) c.in_ok-explain.ensures))
+    ∙ ap₂ with_subcommand with_audit (ap (λ (a : App). a.top) c.in_ok-explain.ensures))
+    c.subcommand-4.ensures

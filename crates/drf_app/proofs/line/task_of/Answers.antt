@@ -4,7 +4,6 @@ use Rattle.clap.specs.Words.{App, IsParsedFrom, HasKind, fault_of, found_of, is_
 use Rattle.clap.specs.declared.parser.matches.ArgMatches.TheViews.{out-ArgMatches}
 use Rattle.clap.proofs.CallerLemmas.{subcommand_required}
 use Rattle.clap.proofs.WalkLemmas.{one_text-rows}
-use Rattle.drf_app.specs.Line.{drf_line}
 use Rattle.drf_app.proofs.Words.{entered, entered_some, is_run, local, out_of_memory, refused_as}
 use Rattle.drf_app.proofs.line.task_of.Goals as goal
 
@@ -34,8 +33,10 @@ unreachable-requires g c =
     let not_audit : subcommand_name_of c.in_ok-matches.matches ≡ Some (codes "audit") → ⊥ =
     λ named. let some : is_some c.subcommand_matches-2.result ≡ true = c.subcommand_matches-2.ensures.found.1 named in
     let bad : true ≡ false = cc in absurd (true≢false bad) in
-    let named = is_run (out-ArgMatches c.in_ok-matches.matches).subcommand words has rows not_check not_audit in
-    let bad : false ≡ true = c.in_default.ensures.found.1 named in
+    let not_explain : subcommand_name_of c.in_ok-matches.matches ≡ Some (codes "explain") → ⊥ =
+    λ named. let bad : false ≡ true = c.in_default.ensures.found.1 named in absurd (false≢true bad) in
+    let named = is_run (out-ArgMatches c.in_ok-matches.matches).subcommand words has rows not_check not_audit not_explain in
+    let bad : false ≡ true = c.in_default-subcommand_matches.ensures.found.1 named in
     absurd (false≢true bad)
 
 pub returns : goal.returns
@@ -44,14 +45,14 @@ returns g c =
     let form = c.in_ok-line.ensures in
     let rows = (c.in_ok-matches.ensures.ok.2 (ap is_simple form)).1 ∙ ap (λ (a : App). subcommand_of a words) form in
     let right = c.in_ok-matches.ensures.kinds (ap is_simple_and_free form) in
-    let found = found_of c.in-Some.run'.now in
+    let found = found_of c.in-Some-subcommand_matches.run'.now in
     let flag = one_text-rows found (codes "echo") in
     record {
       right = ap (λ (a : App). fault_of a words) (sym form) ∙ right;
       named = (
         rows_of found,
         sym rows ∙ entered (out-ArgMatches c.in_ok-matches.matches).subcommand (codes "run") (rows_of found)
-            (c.in-Some.ensures.found.0 refl) c.in-Some.ensures.rows,
+            (c.in-Some-subcommand_matches.ensures.found.0 refl) c.in-Some-subcommand_matches.ensures.rows,
         record {
           unsaid = λ e. c.get_flag.ensures.none (flag ∙ e);
           no = λ e. c.get_flag.ensures.other (flag ∙ e);
@@ -86,4 +87,21 @@ returns-then-is_some-2 g c =
     record {
       right = ap (λ (a : App). fault_of a words) (sym form) ∙ right;
       named = (some.0, sym rows ∙ some.1);
+    }
+
+pub returns-in-Some : goal.returns-in-Some
+returns-in-Some g c =
+    let words = map g.S.AsStr.text c.args.words.now in
+    let form = c.in_ok-line.ensures in
+    let rows = (c.in_ok-matches.ensures.ok.2 (ap is_simple form)).1 ∙ ap (λ (a : App). subcommand_of a words) form in
+    let right = c.in_ok-matches.ensures.kinds (ap is_simple_and_free form) in
+    let found = found_of c.in-Some.explain.now in
+    record {
+      right = ap (λ (a : App). fault_of a words) (sym form) ∙ right;
+      named = (
+        rows_of found,
+        sym rows ∙ entered (out-ArgMatches c.in_ok-matches.matches).subcommand (codes "explain") (rows_of found)
+            (c.in-Some.ensures.found.0 refl) c.in-Some.ensures.rows,
+        c.moment_of.ensures,
+      );
     }

@@ -1,8 +1,3 @@
-use Rattle.std.proofs.Common.{◌≡◌, ◌∙◌, List, ℕ, OnOk, OnErr, subst, sym}
-use Rattle.std.specs.Io.KnownBytes.{Appends}
-use Rattle.std.proofs.KnownBytes.{Appends-nil}
-use Rattle.std.proofs.lemmas.Result.{err_from_is_err_and}
-use Rattle.drf_journal.specs.Device.{AppendsFrontOf}
 use Rattle.drf_journal.proofs.Audits.{cause-written}
 use Rattle.drf_journal.proofs.audit.write_line.Goals as goal
 

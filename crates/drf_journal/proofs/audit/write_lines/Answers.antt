@@ -1,4 +1,3 @@
-use Rattle.std.proofs.Common.{◌≡◌}
 use Rattle.std.proofs.lemmas.Result.{err_from_is_err_and}
 use Rattle.drf_audit.specs.AuditText.{audit_text}
 use Rattle.drf_journal.proofs.Audits.{wrote-begins, wrote-element, wrote-element-front, wrote-all}

@@ -3,16 +3,12 @@ use Rattle.std.specs.Prelude.{map}
 use Rattle.std.specs.List.{AllByRecursion}
 use Rattle.drf_bundle.specs.Quantities.{without_zeros}
 use Rattle.drf_bundle.specs.declared.quantities.Entry.{Entry}
-use Rattle.drf_rows.specs.ConsistentLaws.{bundles-consistent}
 use Rattle.drf_rows.specs.Weights.{are_weights}
 use Rattle.drf_rows.specs.declared.rows.Rows.{Rows}
 use Rattle.drf_rows.specs.declared.rows.WeightRow.{WeightRow}
 use Rattle.drf_report.specs.Reporting.{AreParts, IsWhole, line_with}
 use Rattle.drf_report.proofs.ReportNodes.{HasPart, each_has_part, few_held, IsWhole-rows, AreParts-rows, lines-report, report_of-by}
 use Rattle.drf_report.proofs.summary.report.Goals as goal
-
-pub sums-requires-clause-bundles : goal.sums-requires-clause-bundles
-sums-requires-clause-bundles c = bundles-consistent c.args.rows.now c.requires.consistent
 
 pub sums-requires-clause-fits : goal.sums-requires-clause-fits
 sums-requires-clause-fits c = few_held c.args.rows.now c.requires.consistent c.requires.few_agents

@@ -1,0 +1,22 @@
+use Rattle.std.proofs.Common.{◌≡◌, length}
+use Rattle.drf_tables.specs.Drafts.{with_offers}
+use Rattle.drf_core.specs.Drafting.{IsDrafting, IsFreeAt}
+use Rattle.drf_core.specs.Entitling.{IsEntitled, IsQuotaOf}
+use Rattle.drf_core.proofs.ExplainLemmas.{AreTold}
+use Rattle.drf_core.proofs.explain.tell_clients.Given as goal
+
+-- to try the clients that wait, and to tell of them, gives what trying and telling of all gives
+abbrev pub invariant-loop-sorter : goal.invariant-loop-sorter
+invariant-loop-sorter g l = record {
+  drafting : IsDrafting (g.S.Sorter.content l.sorter) l.tables.rows l.drafts.offers.items;
+  told : AreTold l.tables.rows l.place (with_offers l.tables.rows l.initial.drafts.offers.items)
+      (with_offers l.tables.rows l.drafts.offers.items) (g.S.Sorter.queue l.sorter) l.initial.findings.items l.findings.items;
+  free : IsFreeAt (with_offers l.tables.rows l.drafts.offers.items) l.place l.free.bundle;
+  quota : IsQuotaOf (with_offers l.tables.rows l.drafts.offers.items) l.drafts.quota;
+  entitled : IsEntitled l.drafts.quota l.free.bundle l.free.entitled;
+  waiting : l.waiting ≡ length (g.S.Sorter.queue l.sorter);
+  lefts : l.drafts.lefts.items ≡ l.initial.drafts.lefts.items;
+}
+
+abbrev pub decreases-loop-sorter : goal.decreases-loop-sorter
+decreases-loop-sorter g l = length (g.S.Sorter.queue l.sorter)

@@ -1,0 +1,38 @@
+-- What is told of a cycle, agent by agent, while its offers are drafts.
+use Rattle.std.specs.Prelude.{◌≡◌, ℕ, ◌++◌, List, [], ◌∷◌, length, slice_get, Some, if◌then◌else◌, nat_lt}
+use Rattle.std.specs.Option.{option_map_or}
+use Rattle.drf_role.specs.Text.{Text}
+use Rattle.drf_role.specs.Path.{Path}
+use Rattle.drf_gates.specs.Quota.{Allowance}
+use Rattle.drf_bundle.specs.declared.resource.Resource.{Resource}
+use Rattle.drf_rows.specs.Client.{Client, path_of}
+use Rattle.drf_rows.specs.Cycle.{free_of, all_tried, turn_order}
+use Rattle.drf_rows.specs.declared.rows.AgentRow.{AgentRow}
+use Rattle.drf_rows.specs.declared.rows.Rows.{Rows}
+use Rattle.drf_explain.specs.Explained.{outcome, told_of_agent, told_of_all}
+use Rattle.drf_explain.specs.Gates.{AreGatesOf}
+use Rattle.drf_explain.specs.declared.finding.Finding.{Finding}
+use Rattle.drf_explain.specs.declared.finding.Finding.TheVariants.{Left, Tried}
+use Rattle.drf_explain.specs.declared.gates.Gates.{Gates}
+
+-- what is told of the agent at a place
+abbrev pub told_at : Rows → ℕ → List Finding
+told_at rows place = option_map_or (told_of_agent rows) (slice_get rows.agents place) []
+
+-- what is told of clients that are not tried
+abbrev pub left_told : Text → List Resource → ℕ → List Finding
+left_told agent left clients = if nat_lt 0 clients then Left agent left clients ∷ [] else []
+
+-- all clients were tried on the agent at that place, as far as what is left is worth an offer
+abbrev pub AreTried : Rows → Rows → ℕ → Type 0
+AreTried old new place = (agent : AgentRow) → slice_get old.agents place ≡ Some agent → new ≡ all_tried old agent (turn_order old)
+
+-- and that is told behind what was told before
+abbrev pub AreToldAt : Rows → ℕ → List Finding → List Finding → Type 0
+AreToldAt rows place before after = (agent : AgentRow) → slice_get rows.agents place ≡ Some agent
+    → after ≡ before ++ told_of_all rows agent (turn_order rows)
+
+-- the finding is what comes of the client of that path on the agent of that name, in all rows with those gates
+abbrev pub IsOutcomeOf : Rows → AgentRow → Path → Finding → Type 0
+IsOutcomeOf rows agent path finding = (client : Client) → path ≡ path_of client
+    → finding ≡ Tried agent.name (path_of client) (outcome rows agent client)

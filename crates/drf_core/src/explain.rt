@@ -1,0 +1,248 @@
+//! What the next cycle would offer, told client by client. It is tried on tables and a sorter that are thrown away.
+ghost use Rattle.std.specs.Prelude.{◌≡◌, true, ◌+◌, ◌<◌, ◌≤◌, List, ◌++◌, ◌∷◌, [], Some, length, slice_get, IfOk, OnOk};
+ghost use Rattle.std.specs.Option.{option_copied};
+ghost use Rattle.drf_role.specs.Path.{Path};
+ghost use Rattle.drf_rows.specs.Cycle.{free_of};
+ghost use Rattle.drf_rows.specs.Step.{live_rows};
+ghost use Rattle.drf_rows.specs.declared.limits.TheConstants.{LATEST_MOMENT};
+ghost use Rattle.drf_rows.specs.declared.rows.AgentRow.{AgentRow};
+ghost use Rattle.drf_rows.specs.declared.rows.Rows.{Rows};
+ghost use Rattle.drf_sorter.specs.Content.{IsOrderOf, IsSound};
+ghost use Rattle.drf_explain.specs.Explained.{explained, told_of_agents};
+ghost use Rattle.drf_explain.specs.Gates.{AreGatesOf};
+ghost use Rattle.drf_tables.specs.Drafts.{with_offers};
+ghost use Rattle.drf_core.specs.Drafting.{IsDrafting, HasLeft, turn_at};
+ghost use Rattle.drf_core.specs.Entitling.{IsQuotaOf};
+ghost use Rattle.drf_core.specs.Explaining.{AreToldAt, AreTried, IsOutcomeOf, left_told, told_at};
+ghost use Rattle.drf_core.specs.Kept.{IsKept};
+
+use crate::cycle::{Drafts, goes_on, quota_of, try_first};
+use crate::free::{Free, part_within};
+use drf_amount::Algebra;
+use drf_bundle::Bundle;
+use drf_explain::{Finding, Gates, suppressed};
+use drf_gates::Quota;
+use drf_role::{ClientPath, Name};
+use drf_rows::{Limits, Rows};
+use drf_sorter::Sorter;
+use drf_tables::{Left, Tables};
+use std::alloc::{AllocError, Global};
+
+/// How many clients are to be served.
+fn count_active<S: Sorter>(sorter: &mut S) -> Result<u64, AllocError>
+    requires { IsSound (S.content sorter.old) }
+    ensures count { IfOk result (λ count. (paths : List Path) × IsOrderOf (S.content sorter.old) paths × (count ≡ length paths)) }
+    ensures same { S.content sorter.new ≡ S.content sorter.old }
+{
+    let order = sorter.order()?;
+    Ok(order.len() as u64)
+}
+
+/// What comes of trying a client on an agent with those gates.
+fn outcome_of(
+    gates: &Gates,
+    quota: Option<&Quota>,
+    free: &Bundle,
+    agent: &Name,
+    client: &ClientPath,
+) -> Result<Finding, AllocError>
+    ensures { IfOk result (λ finding. (rows : Rows) (a : AgentRow) → AreGatesOf rows a gates.now → IsQuotaOf rows (option_copied quota.entry)
+        → free.now ≡ free_of rows a → agent.now ≡ a.name → IsOutcomeOf rows a client.now finding) }
+{
+    let part = free.part_for(client.role())?;
+    let bundle = part_within(quota, free, client.role())?;
+    let agent = agent.copy()?;
+    let path = client.copy()?;
+    let outcome = gates.outcome(quota, client, &part, bundle)?;
+    Ok(Finding::Tried {
+        agent,
+        client: path,
+        outcome,
+    })
+}
+
+/// Tells what comes of the client that is served next.
+fn tell_first<S: Sorter>(
+    sorter: &S,
+    gates: &Gates,
+    quota: Option<&Quota>,
+    free: &Bundle,
+    agent: &Name,
+    findings: &mut Vec<Finding>,
+) -> Result<(), AllocError>
+    ensures { OnOk result ((path : Path) (rows : Rows) (a : AgentRow) → slice_get (S.queue sorter.now) 0 ≡ Some path → AreGatesOf rows a gates.now
+        → IsQuotaOf rows (option_copied quota.entry) → free.now ≡ free_of rows a → agent.now ≡ a.name
+        → (finding : _) × IsOutcomeOf rows a path finding × (findings.new.items ≡ findings.old.items ++ finding ∷ [])) }
+{
+    let Some(client) = sorter.first() else {
+        return Ok(());
+    };
+    let finding = outcome_of(gates, quota, free, agent, client)?;
+    findings.push(finding)?;
+    Ok(())
+}
+
+/// Tells of the clients that are not tried, if there are any.
+fn tell_left(
+    agent: &Name,
+    left: &Bundle,
+    clients: u64,
+    findings: &mut Vec<Finding>,
+) -> Result<(), AllocError>
+    ensures { OnOk result (findings.new.items ≡ findings.old.items ++ left_told agent.now left.now clients) }
+{
+    if clients == 0 {
+        return Ok(());
+    }
+    let agent = agent.copy()?;
+    let left = left.copy()?;
+    findings.push(Finding::Left {
+        agent,
+        left,
+        clients,
+    })?;
+    Ok(())
+}
+
+/// Tries each client in order on an agent, until what is left is not worth an offer, and tells what comes of it.
+fn tell_clients<S: Sorter>(
+    gates: &Gates,
+    tables: &Tables,
+    sorter: &mut S,
+    place: usize,
+    drafts: &mut Drafts,
+    findings: &mut Vec<Finding>,
+) -> Result<(), AllocError>
+    requires drafting { IsDrafting (S.content sorter.old) tables.now.rows drafts.old.offers.items }
+    requires place { place < length tables.now.rows.agents }
+    requires settled { tables.now.settled ≡ true }
+    requires gates { (agent : AgentRow) → slice_get tables.now.rows.agents place ≡ Some agent → AreGatesOf tables.now.rows agent gates.now }
+    requires left { HasLeft tables.now.rows drafts.old.offers.items drafts.old.lefts.items place }
+    requires quota { IsQuotaOf (with_offers tables.now.rows drafts.old.offers.items) drafts.old.quota }
+    ensures drafting { IsDrafting (S.content sorter.new) tables.now.rows drafts.new.offers.items }
+    ensures tried { OnOk result (AreTried (with_offers tables.now.rows drafts.old.offers.items) (with_offers tables.now.rows drafts.new.offers.items) place) }
+    ensures told { OnOk result (AreToldAt (with_offers tables.now.rows drafts.old.offers.items) place findings.old.items findings.new.items) }
+    ensures left { OnOk result (HasLeft tables.now.rows drafts.new.offers.items drafts.new.lefts.items (place + 1)) }
+    ensures quota { OnOk result (IsQuotaOf (with_offers tables.now.rows drafts.new.offers.items) drafts.new.quota) }
+{
+    let agent = tables.agent_name(place);
+    let mut waiting = count_active(sorter)?;
+    sorter.fix_order()?;
+    let mut free = Free {
+        bundle: tables.free(place).copy()?,
+        entitled: None,
+    };
+    while goes_on(sorter, &free) {
+        tell_first(
+            sorter,
+            gates,
+            drafts.quota.as_ref(),
+            &free.bundle,
+            agent,
+            findings,
+        )?;
+        try_first(tables, sorter, place, &mut free, drafts)?;
+        sorter.pass();
+        waiting -= 1;
+    }
+    tell_left(agent, &free.bundle, waiting, findings)?;
+    let Free {
+        bundle,
+        entitled: _,
+    } = free;
+    drafts.lefts.push(Left {
+        agent: place,
+        free: bundle,
+    })?;
+    Ok(())
+}
+
+/// Tells of the turn of an agent.
+fn tell_turn<S: Sorter>(
+    alloc: Global,
+    rows: &Rows,
+    tables: &Tables,
+    sorter: &mut S,
+    place: usize,
+    drafts: &mut Drafts,
+    findings: &mut Vec<Finding>,
+) -> Result<(), AllocError>
+    requires rows { rows.now ≡ live_rows tables.now.rows }
+    requires drafting { IsDrafting (S.content sorter.old) tables.now.rows drafts.old.offers.items }
+    requires place { place < length tables.now.rows.agents }
+    requires settled { tables.now.settled ≡ true }
+    requires left { HasLeft tables.now.rows drafts.old.offers.items drafts.old.lefts.items place }
+    requires quota { IsQuotaOf (with_offers tables.now.rows drafts.old.offers.items) drafts.old.quota }
+    ensures drafting { IsDrafting (S.content sorter.new) tables.now.rows drafts.new.offers.items }
+    ensures turn { OnOk result (with_offers tables.now.rows drafts.new.offers.items
+        ≡ turn_at (with_offers tables.now.rows drafts.old.offers.items) place) }
+    ensures told { OnOk result (findings.new.items ≡ findings.old.items ++ told_at (with_offers tables.now.rows drafts.old.offers.items) place) }
+    ensures left { OnOk result (HasLeft tables.now.rows drafts.new.offers.items drafts.new.lefts.items (place + 1)) }
+    ensures quota { OnOk result (IsQuotaOf (with_offers tables.now.rows drafts.new.offers.items) drafts.new.quota) }
+{
+    let agent = tables.agent_name(place);
+    if !tables.is_active(place) {
+        let agent = agent.copy()?;
+        findings.push(Finding::Inactive { agent })?;
+        return Ok(());
+    }
+    if tables.free(place).entries().is_empty() {
+        let agent = agent.copy()?;
+        findings.push(Finding::NothingFree { agent })?;
+        return Ok(());
+    }
+    let gates = Gates::on(alloc, rows, agent)?;
+    tell_clients(&gates, tables, sorter, place, drafts, findings)?;
+    Ok(())
+}
+
+/// Tells of the turns of all agents.
+fn tell_turns<S: Sorter>(
+    alloc: Global,
+    rows: &Rows,
+    tables: &Tables,
+    sorter: &mut S,
+    drafts: &mut Drafts,
+    findings: &mut Vec<Finding>,
+) -> Result<(), AllocError>
+    requires rows { rows.now ≡ live_rows tables.now.rows }
+    requires drafting { IsDrafting (S.content sorter.old) tables.now.rows drafts.old.offers.items }
+    requires none { drafts.old.offers.items ≡ [] }
+    requires nothing_left { drafts.old.lefts.items ≡ [] }
+    requires settled { tables.now.settled ≡ true }
+    requires quota { IsQuotaOf tables.now.rows drafts.old.quota }
+    ensures { OnOk result (findings.new.items ≡ findings.old.items ++ told_of_agents tables.now.rows tables.now.rows.agents) }
+{
+    for place in 0..tables.agent_count() {
+        tell_turn(alloc, rows, tables, sorter, place, drafts, findings)?;
+    }
+    Ok(())
+}
+
+/// What the cycle at a moment, in milliseconds, would offer and to whom, and where it would offer nothing, why. Tables and sorter are
+/// not to be used again.
+pub fn explain<S: Sorter>(
+    alloc: Global,
+    limits: &Limits,
+    tables: &mut Tables,
+    sorter: &mut S,
+    at: u64,
+) -> Result<Vec<Finding>, AllocError>
+    requires kept { IsKept (S.content sorter.old) limits.now tables.old.rows }
+    requires early { at ≤ LATEST_MOMENT }
+    ensures { IfOk result (λ findings. findings.items ≡ explained tables.old.rows at) }
+{
+    let moment = tables.clock().max(at);
+    tables.set_clock(moment);
+    tables.settle()?;
+    let quota = quota_of(tables)?;
+    let rows = tables.rows()?;
+    let mut drafts = Drafts {
+        offers: Vec::new(alloc),
+        lefts: Vec::new(alloc),
+        quota,
+    };
+    let mut findings = suppressed(alloc, &rows)?;
+    tell_turns(alloc, &rows, tables, sorter, &mut drafts, &mut findings)?;
+    Ok(findings)
+}

@@ -1,0 +1,3 @@
+mod Found
+mod Reasons
+mod Rooms

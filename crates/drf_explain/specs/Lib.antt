@@ -1,0 +1,6 @@
+pub mod Explained
+pub mod ExplainedText
+pub mod ExplainedLaws
+pub mod ExplainedExamples
+pub mod Gates
+pub mod ReasonLaws

@@ -1,0 +1,113 @@
+-- What each reason says of the cycle: why a client gets nothing on an agent, what it gets, and from when on.
+use Rattle.std.specs.Prelude.{◌≡◌, ◌↔◌, ℕ, ◌<◌, ◌≤◌, true, false, List, Some, None, IsTrue, slice_get, codes}
+use Rattle.std.specs.List.{AllByRecursion}
+use Rattle.drf_role.specs.Text.{Text}
+use Rattle.drf_role.specs.Path.{Path}
+use Rattle.drf_bundle.specs.Bundle.{is_default, part_for, quantities_of}
+use Rattle.drf_bundle.specs.Quantities.{amount_of}
+use Rattle.drf_bundle.specs.declared.resource.Resource.{Resource}
+use Rattle.drf_rows.specs.Client.{Client}
+use Rattle.drf_rows.specs.Cycle.{free_of, is_allocatable, grant, at_moment}
+use Rattle.drf_rows.specs.Filters.{holds_back}
+use Rattle.drf_rows.specs.Offers.{is_empty}
+use Rattle.drf_rows.specs.Quota.{binds, consumption, entitlement, headroom_at, is_within, room_under}
+use Rattle.drf_rows.specs.declared.rows.AgentRow.{AgentRow}
+use Rattle.drf_rows.specs.declared.rows.FilterRow.{FilterRow}
+use Rattle.drf_rows.specs.declared.rows.LimitRow.{LimitRow}
+use Rattle.drf_rows.specs.declared.rows.Rows.{Rows}
+use Rattle.drf_explain.specs.Explained.{outcome}
+use Rattle.drf_explain.specs.declared.finding.Outcome.TheVariants.{Grant, HeldBack, OverLimit, BelowThreshold, ReservedForOthers}
+
+-- what a client's role may use of what is free on an agent
+abbrev pub usable : Rows → AgentRow → Client → List Resource
+usable rows agent client = part_for client.role (free_of rows agent)
+
+-- what limits leave of that: what the client may have
+abbrev pub entitled : Rows → AgentRow → Client → List Resource
+entitled rows agent client = entitlement rows (free_of rows agent) client
+
+-- how much of a scalar the client's role may use, in thousandths
+abbrev pub usable_amount : Rows → AgentRow → Client → Text → ℕ
+usable_amount rows agent client label = amount_of (quantities_of (usable rows agent client)) label
+
+-- ---- a grant
+
+-- a bundle is told to be granted where the cycle grants it, and there alone
+abbrev pub GrantIsGranted : Type 0
+GrantIsGranted =
+    (rows : Rows) (agent : AgentRow) (client : Client) (bundle : List Resource)
+    → (outcome rows agent client ≡ Grant bundle) ↔ (grant rows agent client ≡ Some bundle)
+
+-- ---- held back
+
+-- what the client may have is worth an offer, and filters hold it back, of which one ends then and none later: in a cycle before
+-- then the client is granted nothing, and in one at that moment or later it is granted all of it
+pub record IsHeldUntil (rows : Rows) (agent : AgentRow) (client : Client) (until : ℕ) : Type 0 where
+  pub worth : is_allocatable (entitled rows agent client) ≡ true
+  pub place : ℕ
+  pub row : FilterRow
+  pub stands : slice_get rows.filters place ≡ Some row
+  pub holds : IsTrue (holds_back rows.clock client agent.name (entitled rows agent client) row)
+  pub ends : row.until ≡ until
+  pub last : (other : ℕ) (f : FilterRow) → slice_get rows.filters other ≡ Some f
+      → IsTrue (holds_back rows.clock client agent.name (entitled rows agent client) f) → f.until ≤ until
+  pub before : (at : ℕ) → at < until → grant (at_moment rows at) agent client ≡ None
+  pub after : (at : ℕ) → until ≤ at → grant (at_moment rows at) agent client ≡ Some (entitled rows agent client)
+
+abbrev pub HeldBackIsHeldUntil : Type 0
+HeldBackIsHeldUntil =
+    (rows : Rows) (agent : AgentRow) (client : Client) (until : ℕ)
+    → outcome rows agent client ≡ HeldBack until → IsHeldUntil rows agent client until
+
+-- ---- over a limit
+
+-- the role has a limit that binds the client on the scalar and leaves too little of it, and no limit that binds leaves less: it is
+-- what the cycle cuts the scalar to
+pub record IsCutBelow (rows : Rows) (client : Client) (limited : Path) (label : Text) (least : ℕ) : Type 0 where
+  pub place : ℕ
+  pub row : LimitRow
+  pub stands : slice_get rows.limits place ≡ Some row
+  pub role : row.role ≡ limited
+  pub binding : IsTrue (binds client.role label row)
+  pub little : room_under (consumption rows) label row < least
+  pub cut : headroom_at rows client.role label ≡ Some (room_under (consumption rows) label row)
+  pub tightest : (other : ℕ) (l : LimitRow) → slice_get rows.limits other ≡ Some l
+      → IsTrue (binds client.role label l) → room_under (consumption rows) label row ≤ room_under (consumption rows) label l
+
+-- what the client's role may use is worth an offer, and what limits leave of it is not; the limit is one of `cpus` where enough
+-- of them may be used, and else one of `mem`
+pub record IsOverLimit (rows : Rows) (agent : AgentRow) (client : Client) (limited : Path) : Type 0 where
+  pub worth : is_allocatable (usable rows agent client) ≡ true
+  pub little : is_allocatable (entitled rows agent client) ≡ false
+  pub cpus : 10 ≤ usable_amount rows agent client (codes "cpus") → IsCutBelow rows client limited (codes "cpus") 10
+  pub mem : usable_amount rows agent client (codes "cpus") < 10 → IsCutBelow rows client limited (codes "mem") 32000
+
+abbrev pub OverLimitIsOverLimit : Type 0
+OverLimitIsOverLimit =
+    (rows : Rows) (agent : AgentRow) (client : Client) (limited : Path)
+    → outcome rows agent client ≡ OverLimit limited → IsOverLimit rows agent client limited
+
+-- ---- too little
+
+-- the client's role may use some of what is free, and that is not worth an offer
+pub record IsTooLittle (rows : Rows) (agent : AgentRow) (client : Client) : Type 0 where
+  pub some : is_empty (usable rows agent client) ≡ false
+  pub little : is_allocatable (usable rows agent client) ≡ false
+
+abbrev pub BelowThresholdIsTooLittle : Type 0
+BelowThresholdIsTooLittle =
+    (rows : Rows) (agent : AgentRow) (client : Client)
+    → outcome rows agent client ≡ BelowThreshold → IsTooLittle rows agent client
+
+-- ---- reserved
+
+-- the resource is reserved, for a role that is neither the client's nor above it
+pub record IsForOthers (client : Client) (r : Resource) : Type 0 where
+  pub reserved : is_default r.role ≡ false
+  pub apart : is_within r.role client.role ≡ false
+
+-- all that is free is reserved for others
+abbrev pub ReservedIsForOthers : Type 0
+ReservedIsForOthers =
+    (rows : Rows) (agent : AgentRow) (client : Client)
+    → outcome rows agent client ≡ ReservedForOthers → AllByRecursion (IsForOthers client) (free_of rows agent)

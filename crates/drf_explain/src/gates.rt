@@ -1,0 +1,283 @@
+//! What comes of trying a client on an agent.
+ghost use Rattle.std.specs.Prelude.{◌≡◌, max, filter, IfOk};
+ghost use Rattle.std.specs.Option.{option_copied};
+ghost use Rattle.drf_bundle.specs.Bundle.{covers};
+ghost use Rattle.drf_gates.specs.Quota.{used_at};
+ghost use Rattle.drf_rows.specs.Client.{Client, path_of};
+ghost use Rattle.drf_rows.specs.Cycle.{is_allocatable};
+ghost use Rattle.drf_rows.specs.Filters.{holds_back, is_on_agent};
+ghost use Rattle.drf_rows.specs.Quota.{binds, consumption, is_within, room_under};
+ghost use Rattle.drf_rows.specs.declared.rows.AgentRow.{AgentRow};
+ghost use Rattle.drf_rows.specs.declared.rows.Rows.{Rows};
+ghost use Rattle.drf_explain.specs.Explained.{held_until, limiting_role, outcome_by, shortage, tighter, tightest, worthy_scalar};
+ghost use Rattle.drf_explain.specs.Gates.{AreGatesOf, IsQuotaOf, client_at, joined, reduced};
+
+use crate::finding::Outcome;
+use drf_amount::Algebra;
+use drf_bundle::Bundle;
+use drf_gates::Quota;
+use drf_role::{ClientPath, Name, Role};
+use drf_rows::{Copied, FilterRow, LimitRow, Rows};
+use std::alloc::{AllocError, Global};
+
+/// What decides, beside what is free, what a client gets on an agent: the moment in milliseconds, the filters on that agent, and the
+/// limits of all roles.
+#[derive(Drop)]
+pub struct Gates<'a> {
+    agent: &'a Name,
+    moment: u64,
+    filters: Vec<FilterRow>,
+    limits: &'a [LimitRow],
+}
+
+/// Whether a bundle is worth an offer.
+fn is_worth_an_offer(bundle: &Bundle) -> bool
+    ensures { result ≡ is_allocatable bundle.now }
+{
+    let quantities = bundle.quantities();
+    10 <= quantities.get("cpus") || 32000 <= quantities.get("mem")
+}
+
+/// The scalar that makes a part worth an offer.
+fn worthy_scalar(part: &Bundle) -> &'static str
+    ensures { result.now ≡ worthy_scalar part.now }
+{
+    if 10 <= part.quantities().get("cpus") {
+        "cpus"
+    } else {
+        "mem"
+    }
+}
+
+/// Whether a role is the outer one or stands below it.
+fn is_within(outer: &Role, role: &Role) -> bool
+    ensures { result ≡ is_within outer.now role.now }
+{
+    role.is_within(outer)
+}
+
+/// Whether a limit is that of the role or of one above it, and names the scalar.
+fn binds(limit: &LimitRow, role: &Role, label: &str) -> bool
+    ensures { result ≡ binds role.now label.now limit.now }
+{
+    is_within(&limit.role, role) && limit.limit.is_named(label)
+}
+
+/// What a limit leaves of a scalar, in thousandths.
+fn room_under(quota: &Quota, label: &str, limit: &LimitRow) -> u64
+    ensures { result ≡ room_under (used_at quota.now.used) label.now limit.now }
+{
+    limit
+        .limit
+        .get(label)
+        .saturating_sub(quota.consumption(&limit.role, label))
+}
+
+/// Of two limits the one that leaves less of a scalar, and the first where they leave as much.
+fn tighter<'a>(
+    quota: &Quota,
+    label: &str,
+    first: &'a LimitRow,
+    second: &'a LimitRow,
+) -> &'a LimitRow
+    ensures { result.now ≡ tighter (room_under (used_at quota.now.used) label.now) first.now second.now }
+{
+    if room_under(quota, label, second) < room_under(quota, label, first) {
+        second
+    } else {
+        first
+    }
+}
+
+/// The tightest limit of those found before and one more, if that binds the role.
+fn tightest_with<'a>(
+    quota: &Quota,
+    role: &Role,
+    label: &str,
+    found: Option<&'a LimitRow>,
+    limit: &'a LimitRow,
+) -> Option<&'a LimitRow>
+    ensures { option_copied result ≡ reduced (binds role.now label.now) (λ l. l) (tighter (room_under (used_at quota.now.used) label.now)) (option_copied found.entry) limit.now }
+{
+    if !binds(limit, role, label) {
+        return found;
+    }
+    match found {
+        Some(first) => Some(tighter(quota, label, first, limit)),
+        None => Some(limit),
+    }
+}
+
+/// Of the limits that bind a role on a scalar the one that leaves least.
+fn tightest<'a>(
+    quota: &Quota,
+    limits: &'a [LimitRow],
+    role: &Role,
+    label: &str,
+) -> Option<&'a LimitRow>
+    ensures { option_copied result ≡ tightest limits.now (used_at quota.now.used) role.now label.now }
+{
+    let mut found = None;
+    for limit in limits {
+        found = tightest_with(quota, role, label, found, limit);
+    }
+    found
+}
+
+/// The role whose limit cuts most of what makes a part worth an offer.
+fn limiting_role(
+    quota: Option<&Quota>,
+    limits: &[LimitRow],
+    role: &Role,
+    part: &Bundle,
+) -> Result<Role, AllocError>
+    ensures { IfOk result (λ limiting. (rows : Rows) → IsQuotaOf rows (option_copied quota.entry) → limits.now ≡ rows.limits
+        → limiting ≡ limiting_role rows.limits (consumption rows) role.now part.now) }
+{
+    let Some(quota) = quota else {
+        return role.copy();
+    };
+    match tightest(quota, limits, role, worthy_scalar(part)) {
+        Some(limit) => limit.role.copy(),
+        None => role.copy(),
+    }
+}
+
+/// Why a client of the role is offered nothing of a part of which limits leave too little.
+fn shortage(
+    quota: Option<&Quota>,
+    limits: &[LimitRow],
+    role: &Role,
+    part: &Bundle,
+) -> Result<Outcome, AllocError>
+    ensures { IfOk result (λ why. (rows : Rows) → IsQuotaOf rows (option_copied quota.entry) → limits.now ≡ rows.limits
+        → why ≡ shortage rows.limits (consumption rows) role.now part.now) }
+{
+    if is_worth_an_offer(part) {
+        let role = limiting_role(quota, limits, role, part)?;
+        return Ok(Outcome::OverLimit { role });
+    }
+    if part.entries().is_empty() {
+        return Ok(Outcome::ReservedForOthers);
+    }
+    Ok(Outcome::BelowThreshold)
+}
+
+/// Whether the first bundle has all that the second has.
+fn covers(whole: &Bundle, part: &Bundle) -> bool
+    ensures { result ≡ covers whole.now part.now }
+{
+    whole.covers(part)
+}
+
+/// Whether a filter is in force at a moment and holds the bundle back from the client on the agent.
+fn holds_back(
+    filter: &FilterRow,
+    moment: u64,
+    client: &ClientPath,
+    agent: &Name,
+    bundle: &Bundle,
+) -> bool
+    ensures { result ≡ holds_back moment (client_at client.now) agent.now bundle.now filter.now }
+{
+    moment < filter.until
+        && (filter.role == *client.role() && filter.framework == *client.framework())
+        && filter.agent == *agent
+        && covers(&filter.bundle, bundle)
+}
+
+/// The greater of a number and of one that may be known.
+fn greater(known: Option<u64>, number: u64) -> u64
+    ensures { result ≡ joined max known number }
+{
+    match known {
+        Some(other) => other.max(number),
+        None => number,
+    }
+}
+
+/// The greatest end of filters that hold the bundle back, as far as it is known, and with one more filter.
+fn held_with(
+    filter: &FilterRow,
+    moment: u64,
+    client: &ClientPath,
+    agent: &Name,
+    bundle: &Bundle,
+    until: Option<u64>,
+) -> Option<u64>
+    ensures { result ≡ reduced (holds_back moment (client_at client.now) agent.now bundle.now) (λ f. f.until) max until filter.now }
+{
+    if !holds_back(filter, moment, client, agent, bundle) {
+        return until;
+    }
+    Some(greater(until, filter.until))
+}
+
+/// The greatest end of the filters that hold the bundle back from the client on the agent.
+fn held_until(
+    filters: &[FilterRow],
+    moment: u64,
+    client: &ClientPath,
+    agent: &Name,
+    bundle: &Bundle,
+) -> Option<u64>
+    ensures { result ≡ held_until filters.now moment (client_at client.now) agent.now bundle.now }
+{
+    let mut until = None;
+    for filter in filters {
+        until = held_with(filter, moment, client, agent, bundle, until);
+    }
+    until
+}
+
+/// The filters on an agent, copied.
+fn filters_on(
+    alloc: Global,
+    filters: &[FilterRow],
+    agent: &Name,
+) -> Result<Vec<FilterRow>, AllocError>
+    ensures { IfOk result (λ kept. kept.items ≡ filter (is_on_agent agent.now) filters.now) }
+{
+    let mut kept = Vec::new(alloc);
+    for filter in filters {
+        if filter.agent == *agent {
+            kept.push(filter.copy()?)?;
+        }
+    }
+    Ok(kept)
+}
+
+impl<'a> Gates<'a> {
+    /// What decides on the agent of that name.
+    pub fn on(alloc: Global, rows: &'a Rows, agent: &'a Name) -> Result<Gates<'a>, AllocError>
+        ensures { IfOk result (λ gates. (a : AgentRow) → agent.now ≡ a.name → AreGatesOf rows.now a gates) }
+    {
+        let filters = filters_on(alloc, rows.filters.as_slice(), agent)?;
+        Ok(Gates {
+            agent,
+            moment: rows.clock,
+            filters,
+            limits: rows.limits.as_slice(),
+        })
+    }
+
+    /// What comes of trying a client whose role may use that part of what is free, of which limits leave that bundle.
+    pub fn outcome(
+        &self,
+        quota: Option<&Quota>,
+        client: &ClientPath,
+        part: &Bundle,
+        bundle: Bundle,
+    ) -> Result<Outcome, AllocError>
+        ensures { IfOk result (λ outcome. (rows : Rows) (agent : AgentRow) (of : Client) → AreGatesOf rows agent self.now
+            → IsQuotaOf rows (option_copied quota.entry) → client.now ≡ path_of of → outcome ≡ outcome_by rows agent of part.now bundle) }
+    {
+        if !is_worth_an_offer(&bundle) {
+            return shortage(quota, self.limits, client.role(), part);
+        }
+        match held_until(&self.filters, self.moment, client, self.agent, &bundle) {
+            Some(until) => Ok(Outcome::HeldBack { until }),
+            None => Ok(Outcome::Grant(bundle)),
+        }
+    }
+}

@@ -1,0 +1,35 @@
+//! Laws of the definition, and a cluster of which it is computed. The functions do nothing: what they promise is proved of the
+//! definition alone.
+#![tactic(auto, unfolding(drf_rows::specs::Share::is_ahead, drf_rows::specs::Held::standing_of, drf_rows::specs::Cycle::free_of, drf_rows::specs::Cycle::with_offer, drf_rows::specs::Cycle::turn, drf_rows::specs::Cycle::cycle, drf_rows::specs::Share::common_divisor, drf_rows::specs::Report::report_of, drf_rows::specs::Step::refusal_of, drf_rows::specs::Step::effect, drf_rows::specs::Step::rows_after, crate::specs::Explained::explained))]
+
+ghost use Rattle.std.specs.Prelude.{◌≡◌, ◌∷◌, []};
+ghost use Rattle.drf_rows.specs.Examples.{cpus, mem};
+ghost use Rattle.drf_explain.specs.Explained.{explained};
+ghost use Rattle.drf_explain.specs.ExplainedExamples.{nothing_rows, nothing_told};
+ghost use Rattle.drf_explain.specs.ExplainedLaws.{GrantsAreOffers, LiveRowsAreExplained};
+ghost use Rattle.drf_explain.specs.ReasonLaws.{BelowThresholdIsTooLittle, GrantIsGranted, HeldBackIsHeldUntil, OverLimitIsOverLimit, ReservedIsForOthers};
+ghost use Rattle.drf_explain.specs.declared.finding.Outcome.TheVariants.{Grant, HeldBack};
+
+/// The grants that an explanation tells are, in order, the offers of the definition's cycle, and filters that have run out change no
+/// line of it.
+pub fn explained_law()
+    ensures grants { GrantsAreOffers }
+    ensures live { LiveRowsAreExplained }
+{}
+
+/// What an outcome says of the cycle. A grant is what the cycle grants. What is held back is granted from the moment that is told, and
+/// not before. A role over its limit has the tightest limit of those that cut what the client may have below the threshold. Otherwise
+/// what the client's role may use is below it, or all that is free is reserved for roles that are neither the client's nor above it.
+pub fn reasons_law()
+    ensures granted { GrantIsGranted }
+    ensures held_back { HeldBackIsHeldUntil }
+    ensures over_limit { OverLimitIsOverLimit }
+    ensures below_threshold { BelowThresholdIsTooLittle }
+    ensures reserved { ReservedIsForOthers }
+{}
+
+/// What is told of a cluster in which each cause stands once: until a filter has run out, and then.
+pub fn explained_example()
+    ensures before { explained nothing_rows 4999 ≡ nothing_told (HeldBack 5000) }
+    ensures after { explained nothing_rows 5000 ≡ nothing_told (Grant (cpus 4000 ∷ mem 1024000 ∷ [])) }
+{}

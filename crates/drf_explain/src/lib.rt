@@ -1,0 +1,14 @@
+//! Why clients get nothing: what the next cycle would offer, client by client, and where it offers nothing, why.
+#![tactic(auto)]
+
+mod finding;
+mod gates;
+mod laws;
+mod line;
+mod suppression;
+
+pub use finding::{Finding, Outcome};
+pub use gates::Gates;
+pub use laws::{explained_example, explained_law, reasons_law};
+pub use line::{write_explained_line, write_explained_lines};
+pub use suppression::suppressed;

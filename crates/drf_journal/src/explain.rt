@@ -1,0 +1,63 @@
+//! An explanation of the next cycle, as it would come after the events of a stream of lines.
+ghost use Rattle.std.specs.Prelude.{◌≡◌, ◌≤◌, ◌^◌, true};
+ghost use Rattle.drf_rows.specs.declared.limits.TheConstants.{LATEST_MOMENT};
+ghost use Rattle.drf_journal.specs.Audited.{HasExplained};
+ghost use Rattle.drf_journal.specs.Device.{IsNew};
+ghost use Rattle.drf_journal.specs.Ended.{HasCause, HasFlushed};
+ghost use Rattle.drf_journal.specs.State.{IsBegun};
+
+use crate::audit::take_lines;
+use crate::device::{Device, write_whole};
+use crate::engine::ProgramSorter;
+use crate::fault::RunFault;
+use crate::session::Session;
+use drf_rows::Limits;
+use drf_sorter::Sorter;
+use std::alloc::Global;
+use std::io::{Read, Write};
+
+/// Takes the events of a reader's lines, and then writes what a cycle at that moment, in milliseconds, would offer and to whom, and
+/// where it would offer nothing, why. The clock never goes back: 0 is the moment at which it stands. Lines that are no events are
+/// passed over.
+fn serve_explain<S: Sorter, R: Read, W: Write>(
+    alloc: Global,
+    session: &mut Session<S>,
+    at: u64,
+    reader: &mut Device<R>,
+    writer: &mut Device<W>,
+) -> Result<(), RunFault>
+    requires session { IsBegun session.old }
+    requires early { at ≤ LATEST_MOMENT }
+    requires reader { IsNew reader.old.calls reader.old.failed }
+    requires writer { IsNew writer.old.calls writer.old.failed }
+    ensures explained { HasExplained at session.old.machine.limits (R.remaining reader.old.inner) (R.remaining reader.new.inner)
+        (W.contents writer.old.inner) (W.contents writer.new.inner) result }
+    ensures cause { HasCause result reader.new.failed reader.new.calls writer.new.failed }
+    ensures flushed { writer.old.flushed ≡ true → HasFlushed result writer.new.flushed }
+    ensures reads { reader.new.calls ≤ 2 ^ 40 }
+{
+    take_lines(alloc, session, reader)?;
+    let text = session.explain(alloc, at)?;
+    write_whole(writer, &text)
+}
+
+/// Explains the cycle at a moment, as it would come after a reader's lines, by the sorter that the program uses.
+pub fn run_explain<R: Read, W: Write>(
+    alloc: Global,
+    limits: Limits,
+    at: u64,
+    reader: &mut Device<R>,
+    writer: &mut Device<W>,
+) -> Result<(), RunFault>
+    requires early { at ≤ LATEST_MOMENT }
+    requires reader { IsNew reader.old.calls reader.old.failed }
+    requires writer { IsNew writer.old.calls writer.old.failed }
+    ensures explained { HasExplained at limits (R.remaining reader.old.inner) (R.remaining reader.new.inner)
+        (W.contents writer.old.inner) (W.contents writer.new.inner) result }
+    ensures cause { HasCause result reader.new.failed reader.new.calls writer.new.failed }
+    ensures flushed { writer.old.flushed ≡ true → HasFlushed result writer.new.flushed }
+    ensures reads { reader.new.calls ≤ 2 ^ 40 }
+{
+    let mut session = Session::<ProgramSorter>::open(alloc, limits, false)?;
+    serve_explain(alloc, &mut session, at, reader, writer)
+}

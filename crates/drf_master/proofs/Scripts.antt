@@ -1,0 +1,313 @@
+-- Scripts that are run.
+use Rattle.std.proofs.Common.{◌≡◌, ℕ, suc, ◌+◌, ◌<◌, ◌⊎◌, inl, inr, List, [], ◌∷◌, ◌++◌, length, Result, Ok, Err, map, slice_index_or, refl, sym, ap, subst, ◌∙◌, append_assoc, arith}
+use Rattle.std.proofs.Math.Nat.{eq-or-lt_of_le}
+use Rattle.std.proofs.lemmas.List.{append-nil, length-append, length-map, map_push}
+use Rattle.std.proofs.lemmas.List.Elements.{All-cons, All-head, All-nil, All-tail}
+use Rattle.std.specs.Global.{Vec}
+use Rattle.std.specs.Prelude.{All}
+use Rattle.drf_board.specs.History.{IsLegal}
+use Rattle.drf_board.specs.declared.entry.Entry.{Entry}
+use Rattle.drf_rows.specs.LimitNumbers.{LimitNumbers}
+use Rattle.drf_rows.specs.declared.event.Event.{Event}
+use Rattle.drf_rows.specs.declared.reply.Reply.{Reply}
+use Rattle.drf_master.specs.Closing.{AreOf, IsCloseFault}
+use Rattle.drf_master.specs.Matching.{IsShuffle, receipts_of}
+use Rattle.drf_master.specs.Receipts.{Held}
+use Rattle.drf_master.specs.Scripts.{receipt, AreAsked, AreDone, AreNumbered, AreReceipts, DidJob, DidJobs, HasCalled, HasDriven, HasRun, HasStopped, HaveAllRun, HaveRun, HoldsBelow, IsCallStop, IsClosingFault, IsDriveFault, IsFirstFault, IsJobFault, IsMisfitOf, IsRunFault, IsThrough}
+use Rattle.drf_master.specs.declared.driving.Done.{Done}
+use Rattle.drf_master.specs.declared.driving.DriveFault.{DriveFault}
+use Rattle.drf_master.specs.declared.driving.DriveFault.TheVariants.{Stopped, Memory, Close}
+use Rattle.drf_master.specs.declared.driving.Job.{Job}
+use Rattle.drf_master.specs.declared.matching.CloseFault.{CloseFault}
+use Rattle.drf_master.specs.declared.matching.CloseFault.TheVariants as why
+use Rattle.drf_master.specs.declared.pass.Receipt.{Receipt}
+
+-- ---- a list that a loop goes through
+
+front-less : {X : Type 0} (front rest : List X) (x : X) → length front < length (front ++ x ∷ rest)
+front-less [] rest x = omega arith
+front-less (y ∷ front) rest x = omega (arith, front-less front rest x)
+
+pub less-of_split : {X : Type 0} (xs front left rest : List X) (x : X) → xs ≡ front ++ left → left ≡ x ∷ rest → length front < length xs
+less-of_split xs front left rest x whole split =
+    subst (λ (l : List _). length front < length l) (sym (whole ∙ ap (λ (l : List _). front ++ l) split)) (front-less front rest x)
+
+pub whole-next : {X : Type 0} (xs front left rest : List X) (x : X) → xs ≡ front ++ left → left ≡ x ∷ rest → xs ≡ (front ++ x ∷ []) ++ rest
+whole-next xs front left rest x whole split = whole ∙ (ap (λ (l : List _). front ++ l) split ∙ sym (append_assoc front (x ∷ []) rest))
+
+-- ---- one script
+
+are-push : (rs : List Receipt) (es : List Event) (ys : List Reply) (place : ℕ) (e : Event) (y : Reply) → AreReceipts rs es ys
+    → AreReceipts (rs ++ receipt place e y ∷ []) (es ++ e ∷ []) (ys ++ y ∷ [])
+are-push [] [] [] place e y are = (refl, tt)
+are-push (r ∷ rs) (e' ∷ es) (y' ∷ ys) place e y are = (are.0, are-push rs es ys place e y are.1)
+are-push [] [] (y' ∷ ys) place e y are = absurd are
+are-push [] (e' ∷ es) [] place e y are = absurd are
+are-push [] (e' ∷ es) (y' ∷ ys) place e y are = absurd are
+are-push (r ∷ rs) [] [] place e y are = absurd are
+are-push (r ∷ rs) [] (y' ∷ ys) place e y are = absurd are
+are-push (r ∷ rs) (e' ∷ es) [] place e y are = absurd are
+
+as-many : (rs : List Receipt) (es : List Event) (ys : List Reply) → AreReceipts rs es ys → length ys ≡ length es
+as-many [] [] [] are = refl
+as-many (r ∷ rs) (e ∷ es) (y ∷ ys) are = ap (λ (n : ℕ). suc n) (as-many rs es ys are.1)
+as-many [] [] (y ∷ ys) are = absurd are
+as-many [] (e ∷ es) [] are = absurd are
+as-many [] (e ∷ es) (y ∷ ys) are = absurd are
+as-many (r ∷ rs) [] [] are = absurd are
+as-many (r ∷ rs) [] (y ∷ ys) are = absurd are
+as-many (r ∷ rs) (e ∷ es) [] are = absurd are
+
+run-starts : (old : List Receipt) → HasRun old [] [] old
+run-starts old = record { added = []; receipts = sym (append-nil old); are = tt }
+
+run-goes_on : (old mid new : List Receipt) (es : List Event) (ys : List Reply) (place : ℕ) (e : Event) (y : Reply) → HasRun old es ys mid
+    → new ≡ mid ++ receipt place e y ∷ [] → HasRun old (es ++ e ∷ []) (ys ++ y ∷ []) new
+run-goes_on old mid new es ys place e y run more = record {
+  added = run.added ++ receipt place e y ∷ [];
+  receipts = more ∙ (ap (λ (l : List Receipt). l ++ receipt place e y ∷ []) run.receipts ∙ append_assoc old run.added (receipt place e y ∷ []));
+  are = are-push run.added es ys place e y run.are;
+}
+
+holds-push : (asked : ℕ → Type 0) (calls : ℕ) → HoldsBelow asked calls → asked calls → HoldsBelow asked (suc calls)
+holds-push asked calls below last call few = elim (eq-or-lt_of_le {n = call} {m = calls} (omega (arith, few))) [
+  | inl same ↦ subst asked (sym same) last
+  | inr less ↦ below call less
+]
+
+length-push : (es : List Event) (e : Event) → length (es ++ e ∷ []) ≡ suc (length es)
+length-push [] e = refl
+length-push (e' ∷ es) e = ap (λ (n : ℕ). suc n) (length-push es e)
+
+pub through-starts : (asked : ℕ → Type 0) (old : Held) → IsThrough asked old [] [] old
+through-starts asked old = record { key = refl; run = run-starts old.receipts; calls = λ call few. absurd (omega (arith, few)) }
+
+pub through-goes_on : (asked : ℕ → Type 0) (old mid new : Held) (es : List Event) (ys : List Reply) (e : Event) (y : Reply) → IsThrough asked old es ys mid
+    → HasCalled mid new e y → asked (length ys) → IsThrough asked old (es ++ e ∷ []) (ys ++ y ∷ []) new
+through-goes_on asked old mid new es ys e y so_far called last = record {
+  key = called.key ∙ so_far.key;
+  run = run-goes_on old.receipts mid.receipts new.receipts es ys called.place e y so_far.run called.receipts;
+  calls = subst (HoldsBelow asked) (sym (length-push es e))
+      (holds-push asked (length es) so_far.calls (subst asked (as-many so_far.run.added es ys so_far.run.are) last));
+}
+
+pub through-count : (asked : ℕ → Type 0) (old new : Held) (es : List Event) (ys : List Reply) → IsThrough asked old es ys new → length ys ≡ length es
+through-count asked old new es ys so_far = as-many so_far.run.added es ys so_far.run.are
+
+pub stopped-at : (asked stops : ℕ → Type 0) (old mid : Held) (script es : List Event) (ys : List Reply) (fault : DriveFault) → IsThrough asked old es ys mid
+    → length es < length script → IsCallStop (stops (length ys)) fault → IsJobFault asked stops (length script) fault
+stopped-at asked stops old mid script es ys Stopped so_far few stop =
+    let same = as-many so_far.run.added es ys so_far.run.are in
+    record { call = length es; few = few; stopped = subst stops same stop; before = so_far.calls }
+stopped-at asked stops old mid script es ys Memory so_far few stop = tt
+stopped-at asked stops old mid script es ys (Close fault) so_far few stop = absurd stop
+
+-- ---- jobs
+
+front-all : {X : Type 0} (xs front rest : List X) → xs ≡ front ++ rest → length rest ≡ 0 → front ≡ xs
+front-all xs front [] whole none = sym (whole ∙ append-nil front)
+front-all xs front (y ∷ rest) whole none = absurd (omega (arith, none))
+
+numbered-push : (n : ℕ) (jobs : List Job) (job : Job) → AreNumbered n jobs → job.worker ≡ n + length jobs → AreNumbered n (jobs ++ job ∷ [])
+numbered-push n [] job are next = (omega (arith, next), tt)
+numbered-push n (j ∷ jobs) job are next = (are.0, numbered-push (n + 1) jobs job are.1 (omega (arith, next)))
+
+-- what jobs were made of, and what is left
+pub record IsShared (passes : List Held) (scripts : List (Vec Event)) (jobs : List Job) (ps : List Held) (ss : List (Vec Event)) : Type 0 where
+  pub own : passes ≡ map (λ j. j.pass) jobs ++ ps
+  pub given : scripts ≡ map (λ j. j.script) jobs ++ ss
+  pub numbers : AreNumbered 0 jobs
+
+pub shared-next : (passes : List Held) (scripts : List (Vec Event)) (jobs : List Job) (ps rest : List Held) (ss others : List (Vec Event)) (job : Job)
+    → IsShared passes scripts jobs ps ss → ps ≡ job.pass ∷ rest → ss ≡ job.script ∷ others → job.worker ≡ length jobs
+    → IsShared passes scripts (jobs ++ job ∷ []) rest others
+shared-next passes scripts jobs ps rest ss others job is split split_scripts next = record {
+  own = whole-next passes (map (λ (j : Job). j.pass) jobs) ps rest job.pass is.own split
+      ∙ ap (λ (l : List Held). l ++ rest) (sym (map_push (λ (j : Job). j.pass) jobs job));
+  given = whole-next scripts (map (λ (j : Job). j.script) jobs) ss others job.script is.given split_scripts
+      ∙ ap (λ (l : List (Vec Event)). l ++ others) (sym (map_push (λ (j : Job). j.script) jobs job));
+  numbers = numbered-push 0 jobs job is.numbers (omega (arith, next));
+}
+
+none-left : (n a b p s : ℕ) → p ≡ n + a → s ≡ n + b → s ≡ p → (a ≡ 0) ⊎ (b ≡ 0) → (a ≡ 0) × (b ≡ 0)
+none-left n a b p s passes scripts count (inl none) = (none, omega (arith, passes, scripts, count, none))
+none-left n a b p s passes scripts count (inr none) = (omega (arith, passes, scripts, count, none), none)
+
+pub shared-end : (passes : List Held) (scripts : List (Vec Event)) (jobs : List Job) (ps : List Held) (ss : List (Vec Event))
+    → IsShared passes scripts jobs ps ss → length scripts ≡ length passes → (length ps ≡ 0) ⊎ (length ss ≡ 0)
+    → (map (λ j. j.pass) jobs ≡ passes) × (map (λ j. j.script) jobs ≡ scripts)
+shared-end passes scripts jobs ps ss is count ended =
+    let own = ap (λ (l : List Held). length l) is.own
+    ∙ (length-append (map (λ (j : Job). j.pass) jobs) ps ∙ ap (λ (n : ℕ). n + length ps) (length-map jobs (λ (j : Job). j.pass))) in
+    let given = ap (λ (l : List (Vec Event)). length l) is.given
+    ∙ (length-append (map (λ (j : Job). j.script) jobs) ss ∙ ap (λ (n : ℕ). n + length ss) (length-map jobs (λ (j : Job). j.script))) in
+    let none = none-left (length jobs) (length ps) (length ss) (length passes) (length scripts) own given count ended in
+    (front-all passes (map (λ (j : Job). j.pass) jobs) ps is.own none.0, front-all scripts (map (λ (j : Job). j.script) jobs) ss is.given none.1)
+
+pub did-jobs : (asked stops : ℕ → ℕ → Type 0) (jobs : List Job) (results : List (Result Done DriveFault)) → length results ≡ length jobs
+    → ((i : ℕ) (d : Result Done DriveFault) (e : Job) → i < length jobs → DidJob asked stops (slice_index_or jobs i e) (slice_index_or results i d))
+    → DidJobs asked stops jobs results
+did-jobs asked stops [] [] count each = tt
+did-jobs asked stops [] (r ∷ results) count each = absurd (omega (arith, count))
+did-jobs asked stops (j ∷ jobs) [] count each = absurd (omega (arith, count))
+did-jobs asked stops (j ∷ jobs) (r ∷ results) count each =
+    (each 0 r j (omega arith), did-jobs asked stops jobs results (omega (arith, count)) (λ i d e below. each (suc i) d e (omega (arith, below))))
+
+-- ---- all results
+
+pub done-push : (results : List (Result Done DriveFault)) (passes : List Held) (replies : List (Vec Reply)) (done : Done) → AreDone results passes replies
+    → AreDone (results ++ Ok done ∷ []) (passes ++ done.pass ∷ []) (replies ++ done.replies ∷ [])
+done-push [] [] [] done are = (refl, (refl, tt))
+done-push (Ok d ∷ rs) (p ∷ ps) (y ∷ ys) done are = (are.0, (are.1.0, done-push rs ps ys done are.1.1))
+done-push (Ok d ∷ rs) [] [] done are = absurd are
+done-push (Ok d ∷ rs) [] (y ∷ ys) done are = absurd are
+done-push (Ok d ∷ rs) (p ∷ ps) [] done are = absurd are
+done-push (Err f ∷ rs) ps ys done are = absurd are
+done-push [] [] (y ∷ ys) done are = absurd are
+done-push [] (p ∷ ps) [] done are = absurd are
+done-push [] (p ∷ ps) (y ∷ ys) done are = absurd are
+
+-- after results that are done the next one's fault is the first
+pub first-fault : (results : List (Result Done DriveFault)) (passes : List Held) (replies : List (Vec Reply)) (fault : DriveFault)
+    (rest : List (Result Done DriveFault)) → AreDone results passes replies → IsFirstFault (results ++ Err fault ∷ rest) fault
+first-fault [] passes replies fault rest are = refl
+first-fault (Ok d ∷ rs) (p ∷ ps) (y ∷ ys) fault rest are = first-fault rs ps ys fault rest are.1.1
+first-fault (Ok d ∷ rs) [] [] fault rest are = absurd are
+first-fault (Ok d ∷ rs) [] (y ∷ ys) fault rest are = absurd are
+first-fault (Ok d ∷ rs) (p ∷ ps) [] fault rest are = absurd are
+first-fault (Err f ∷ rs) ps ys fault rest are = absurd are
+
+pub done-lengths : (results : List (Result Done DriveFault)) (passes : List Held) (replies : List (Vec Reply)) → AreDone results passes replies
+    → (length passes ≡ length results) × (length replies ≡ length results)
+done-lengths [] [] [] are = (refl, refl)
+done-lengths (Ok d ∷ rs) (p ∷ ps) (y ∷ ys) are =
+    let more = done-lengths rs ps ys are.1.1 in
+    (ap (λ (n : ℕ). suc n) more.0, ap (λ (n : ℕ). suc n) more.1)
+done-lengths (Ok d ∷ rs) [] [] are = absurd are
+done-lengths (Ok d ∷ rs) [] (y ∷ ys) are = absurd are
+done-lengths (Ok d ∷ rs) (p ∷ ps) [] are = absurd are
+done-lengths (Err f ∷ rs) ps ys are = absurd are
+done-lengths [] [] (y ∷ ys) are = absurd are
+done-lengths [] (p ∷ ps) [] are = absurd are
+done-lengths [] (p ∷ ps) (y ∷ ys) are = absurd are
+
+-- What all jobs that were done come to.
+record IsAllThrough (asked : ℕ → ℕ → Type 0) (worker key : ℕ) (jobs : List Job) (passes : List Held) (replies : List (Vec Reply)) : Type 0 where
+  own : AreOf key passes
+  run : HaveRun (map (λ j. j.pass) jobs) (map (λ j. j.script) jobs) replies (receipts_of passes)
+  calls : AreAsked asked worker (map (λ j. j.script) jobs)
+
+all-through : (asked stops : ℕ → ℕ → Type 0) (n key : ℕ) (jobs : List Job) (results : List (Result Done DriveFault)) (passes : List Held)
+    (replies : List (Vec Reply)) → AreOf key (map (λ j. j.pass) jobs) → AreNumbered n jobs → DidJobs asked stops jobs results
+    → AreDone results passes replies → IsAllThrough asked n key jobs passes replies
+all-through asked stops n key [] [] [] [] own numbers did are = record { own = All-nil (λ (h : Held). h.key ≡ key); run = tt; calls = tt }
+all-through asked stops n key (j ∷ js) (Ok d ∷ rs) (p ∷ ps) (y ∷ ys) own numbers did are =
+    let rest = all-through asked stops (n + 1) key js rs ps ys (All-tail (λ (h : Held). h.key ≡ key) j.pass (map (λ j. j.pass) js) own) numbers.1 did.1 are.1.1 in
+    let here : IsThrough (asked n) j.pass j.script.items y.items p =
+    subst (λ (x : ℕ × (Held × Vec Reply)). IsThrough (asked x.0) j.pass j.script.items x.1.1.items x.1.0) (λ i. (numbers.0 i, (are.0 i, are.1.0 i))) did.0 in
+    record { own = All-cons (λ (h : Held). h.key ≡ key) p ps (here.key ∙ All-head (λ (h : Held). h.key ≡ key) j.pass (map (λ j. j.pass) js) own) rest.own; run = (here.run, rest.run); calls = (here.calls, rest.calls) }
+all-through asked stops n key [] [] [] (y ∷ ys) own numbers did are = absurd are
+all-through asked stops n key [] [] (p ∷ ps) [] own numbers did are = absurd are
+all-through asked stops n key [] [] (p ∷ ps) (y ∷ ys) own numbers did are = absurd are
+all-through asked stops n key [] (r ∷ rs) ps ys own numbers did are = absurd did
+all-through asked stops n key (j ∷ js) [] ps ys own numbers did are = absurd did
+all-through asked stops n key (j ∷ js) (Err f ∷ rs) ps ys own numbers did are = absurd are
+all-through asked stops n key (j ∷ js) (Ok d ∷ rs) [] [] own numbers did are = absurd are
+all-through asked stops n key (j ∷ js) (Ok d ∷ rs) [] (y ∷ ys) own numbers did are = absurd are
+all-through asked stops n key (j ∷ js) (Ok d ∷ rs) (p ∷ ps) [] own numbers did are = absurd are
+
+pub all-run : (asked stops : ℕ → ℕ → Type 0) (key : ℕ) (jobs : List Job) (results : List (Result Done DriveFault)) (own : List Held)
+    (scripts : List (Vec Event)) (passes : List Held) (replies : List (Vec Reply)) → AreOf key own → map (λ j. j.pass) jobs ≡ own
+    → map (λ j. j.script) jobs ≡ scripts → AreNumbered 0 jobs → DidJobs asked stops jobs results → AreDone results passes replies
+    → HaveAllRun asked key own scripts passes replies
+all-run asked stops key jobs results own scripts passes replies are_own same_passes same_scripts numbers did are =
+    let all = all-through asked stops 0 key jobs results passes replies (subst (AreOf key) (sym same_passes) are_own) numbers did are in
+    record {
+      own = are_own;
+      own_done = all.own;
+      run = subst (λ (x : List Held × List (Vec Event)). HaveRun x.0 x.1 replies (receipts_of passes)) (λ i. (same_passes i, same_scripts i)) all.run;
+      calls = subst (AreAsked asked 0) same_scripts all.calls;
+    }
+
+pub own-jobs : (key : ℕ) (jobs : List Job) → AreOf key (map (λ j. j.pass) jobs) → All (λ (j : Job). j.pass.key ≡ key) jobs
+own-jobs key [] own = All-nil (λ (j : Job). j.pass.key ≡ key)
+own-jobs key (j ∷ jobs) own =
+    All-cons (λ (j : Job). j.pass.key ≡ key) j jobs (All-head (λ (h : Held). h.key ≡ key) j.pass (map (λ j. j.pass) jobs) own)
+    (own-jobs key jobs (All-tail (λ (h : Held). h.key ≡ key) j.pass (map (λ j. j.pass) jobs) own))
+
+-- ---- faults
+
+-- why the first job that was not done to its end was not
+abbrev job-fault : (asked stops : ℕ → ℕ → Type 0) → ℕ → List (Vec Event) → DriveFault → Type 0
+job-fault asked stops n scripts Stopped = HasStopped asked stops n scripts
+job-fault asked stops n scripts Memory = Unit {0}
+job-fault asked stops n scripts (Close fault) = ⊥
+
+fault-here : (asked stops : ℕ → ℕ → Type 0) (n : ℕ) (s : Vec Event) (ss : List (Vec Event)) (fault : DriveFault)
+    → IsJobFault (asked n) (stops n) (length s.items) fault → job-fault asked stops n (s ∷ ss) fault
+fault-here asked stops n s ss Stopped is = inl is
+fault-here asked stops n s ss Memory is = tt
+fault-here asked stops n s ss (Close fault) is = absurd is
+
+fault-later : (asked stops : ℕ → ℕ → Type 0) (n : ℕ) (s : Vec Event) (ss : List (Vec Event)) (fault : DriveFault)
+    → HoldsBelow (asked n) (length s.items) → job-fault asked stops (n + 1) ss fault → job-fault asked stops n (s ∷ ss) fault
+fault-later asked stops n s ss Stopped done is = inr (done, is)
+fault-later asked stops n s ss Memory done is = tt
+fault-later asked stops n s ss (Close fault) done is = absurd is
+
+first-job : (asked stops : ℕ → ℕ → Type 0) (n : ℕ) (jobs : List Job) (results : List (Result Done DriveFault)) (fault : DriveFault)
+    → AreNumbered n jobs → DidJobs asked stops jobs results → IsFirstFault results fault → job-fault asked stops n (map (λ j. j.script) jobs) fault
+first-job asked stops n (j ∷ js) (Ok d ∷ rs) fault numbers did first =
+    fault-later asked stops n j.script (map (λ j. j.script) js) fault (subst (λ (m : ℕ). HoldsBelow (asked m) (length j.script.items)) numbers.0 did.0.calls)
+    (first-job asked stops (n + 1) js rs fault numbers.1 did.1 first)
+first-job asked stops n (j ∷ js) (Err f ∷ rs) fault numbers did first =
+    fault-here asked stops n j.script (map (λ j. j.script) js) fault
+    (subst (λ (x : ℕ × DriveFault). IsJobFault (asked x.0) (stops x.0) (length j.script.items) x.1) (λ i. (numbers.0 i, sym first i)) did.0)
+first-job asked stops n [] [] fault numbers did first = absurd first
+first-job asked stops n [] (r ∷ rs) fault numbers did first = absurd did
+first-job asked stops n (j ∷ js) [] fault numbers did first = absurd did
+
+as-run-fault : (asked stops : ℕ → ℕ → Type 0) (key : ℕ) (own : List Held) (scripts : List (Vec Event)) (fault : DriveFault) → AreOf key own
+    → job-fault asked stops 0 scripts fault → IsRunFault asked stops key own scripts fault
+as-run-fault asked stops key own scripts Stopped are_own is = (are_own, is)
+as-run-fault asked stops key own scripts Memory are_own is = are_own
+as-run-fault asked stops key own scripts (Close fault) are_own is = absurd is
+
+pub run-fault : (asked stops : ℕ → ℕ → Type 0) (key : ℕ) (jobs : List Job) (results : List (Result Done DriveFault)) (own : List Held)
+    (scripts : List (Vec Event)) (fault : DriveFault) → AreOf key own → map (λ j. j.script) jobs ≡ scripts → AreNumbered 0 jobs
+    → DidJobs asked stops jobs results → IsFirstFault results fault → IsRunFault asked stops key own scripts fault
+run-fault asked stops key jobs results own scripts fault are_own same_scripts numbers did first =
+    as-run-fault asked stops key own scripts fault are_own
+    (subst (λ (ss : List (Vec Event)). job-fault asked stops 0 ss fault) same_scripts (first-job asked stops 0 jobs results fault numbers did first))
+
+pub drive-fault : (given : LimitNumbers) (asked stops : ℕ → ℕ → Type 0) (key : ℕ) (own : List Held) (scripts : List (Vec Event)) (fault : DriveFault)
+    → IsRunFault asked stops key own scripts fault → IsDriveFault given asked stops key own scripts fault
+drive-fault given asked stops key own scripts Stopped is = is
+drive-fault given asked stops key own scripts Memory is = is
+drive-fault given asked stops key own scripts (Close why.Stranger) is = is
+drive-fault given asked stops key own scripts (Close why.Missing) is = absurd is
+drive-fault given asked stops key own scripts (Close (why.Mismatch place)) is = absurd is
+drive-fault given asked stops key own scripts (Close why.Memory) is = absurd is
+
+pub closing-fault : (given : LimitNumbers) (asked : ℕ → ℕ → Type 0) (key : ℕ) (own : List Held) (scripts : List (Vec Event)) (done : List Held) (replies : List (Vec Reply))
+    (journal : List Entry) (fault : CloseFault) → HaveAllRun asked key own scripts done replies → IsLegal given journal → IsCloseFault journal key done fault
+    → IsClosingFault given asked key own scripts fault
+closing-fault given asked key own scripts done replies journal why.Stranger all legal is = absurd (is all.own_done)
+closing-fault given asked key own scripts done replies journal why.Missing all legal is =
+    record { own = all.own; calls = all.calls; journal = journal; legal = legal; replies = replies; lists = receipts_of done; run = all.run; misfit = is.1 }
+closing-fault given asked key own scripts done replies journal (why.Mismatch place) all legal is =
+    record { own = all.own; calls = all.calls; journal = journal; legal = legal; replies = replies; lists = receipts_of done; run = all.run; misfit = is.1 }
+closing-fault given asked key own scripts done replies journal why.Memory all legal is =
+    record { own = all.own; calls = all.calls; journal = journal; legal = legal; replies = replies; lists = receipts_of done; run = all.run; misfit = is.1 }
+
+pub misfit-fault : (given : LimitNumbers) (asked stops : ℕ → ℕ → Type 0) (key : ℕ) (own : List Held) (scripts : List (Vec Event)) (done : List Held)
+    (replies : List (Vec Reply)) (fault : DriveFault) → HaveAllRun asked key own scripts done replies → IsMisfitOf given key done fault
+    → IsDriveFault given asked stops key own scripts fault
+misfit-fault given asked stops key own scripts done replies Stopped all is = absurd is
+misfit-fault given asked stops key own scripts done replies Memory all is = absurd is
+misfit-fault given asked stops key own scripts done replies (Close fault) all is =
+    closing-fault given asked key own scripts done replies is.0 fault all is.1.0 is.1.1
+
+pub has-driven : (asked : ℕ → ℕ → Type 0) (key : ℕ) (own : List Held) (scripts : List (Vec Event)) (done : List Held) (replies : List (Vec Reply))
+    (journal : List Entry) → HaveAllRun asked key own scripts done replies → IsShuffle journal (receipts_of done) → HasDriven own scripts replies journal
+has-driven asked key own scripts done replies journal all shuffle = record { lists = receipts_of done; run = all.run; shuffle = shuffle }

@@ -1,0 +1,5 @@
+use Rattle.drf_master.proofs.Sames.{paths_same}
+use Rattle.drf_master.proofs.same.RoleSame.same.Goals as goal
+
+pub returns : goal.returns
+returns c = paths_same c.eq.result c.args.self.now c.args.other.now c.eq.ensures

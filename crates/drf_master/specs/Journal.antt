@@ -1,0 +1,57 @@
+-- What a book is to its callers.
+use Rattle.std.specs.Prelude.{◌≡◌, ℕ, ◌≤◌, List, [], ◌∷◌, ◌++◌, length, take, Option, Some, None, refl}
+use Rattle.std.specs.Coded.{Coded, code_by, coded×, coded_ℕ}
+use Rattle.drf_board.specs.Boards.{entries_code}
+use Rattle.drf_board.specs.History.{IsLegal, rows_of}
+use Rattle.drf_board.specs.declared.entry.Entry.{Entry}
+use Rattle.drf_core.specs.Machine.{Engine}
+use Rattle.drf_rows.specs.LimitNumbers.{LimitNumbers}
+use Rattle.drf_rows.specs.Step.{live_rows}
+use Rattle.drf_rows.specs.contracts.limits.Limits as limits
+
+-- its limits, its journal, and for how many more entries it has room
+pub record Journal : Type 0 where
+  pub limits : LimitNumbers
+  pub entries : List Entry
+  pub room : ℕ
+
+-- by it a proof tells two of them apart
+abbrev pub journal_code : Coded Journal
+journal_code = code_by (LimitNumbers × (List Entry × ℕ)) (coded× limits.the_row.coded (coded× entries_code coded_ℕ)) (λ j. (j.limits, (j.entries, j.room)))
+    (λ p. record { limits = p.0; entries = p.1.0; room = p.1.1 }) (λ _. refl)
+
+-- the same journal, perhaps with other room
+pub record IsSameJournal (old new : Journal) : Type 0 where
+  pub limits : new.limits ≡ old.limits
+  pub entries : new.entries ≡ old.entries
+
+-- exactly this entry was added
+pub record Adds (old new : Journal) (entry : Entry) : Type 0 where
+  pub limits : new.limits ≡ old.limits
+  pub entries : new.entries ≡ old.entries ++ entry ∷ []
+
+-- a core under these limits has taken exactly the events of these entries, as far as its live rows tell
+pub record IsRunOf (given : LimitNumbers) (entries : List Entry) (engine : Engine) : Type 0 where
+  pub limits : engine.limits ≡ given
+  pub rows : live_rows engine.rows ≡ live_rows (rows_of given entries)
+
+-- the entry may be added to the entries, after which this is the core
+pub record IsNext (given : LimitNumbers) (entries : List Entry) (engine : Engine) (entry : Entry) : Type 0 where
+  pub legal : IsLegal given (entries ++ entry ∷ [])
+  pub run : IsRunOf given (entries ++ entry ∷ []) engine
+
+-- a core that has taken the first so many of the entries
+pub record HasTaken (given : LimitNumbers) (entries : List Entry) (engine : Engine) (taken : ℕ) : Type 0 where
+  pub few : taken ≤ length entries
+  pub run : IsRunOf given (take taken entries) engine
+
+abbrev pub HasTakenIfAny : LimitNumbers → List Entry → Option Engine → ℕ → Type 0
+HasTakenIfAny given entries None taken = Unit {0}
+HasTakenIfAny given entries (Some engine) taken = HasTaken given entries engine taken
+
+-- What holds of a book at all times: its journal is legal, its core is the run of that, and its second core, if there is one, has taken
+-- the first so many entries.
+pub record IsBook (entries : List Entry) (core : Engine) (second : Option Engine) (taken : ℕ) : Type 0 where
+  pub legal : IsLegal core.limits entries
+  pub run : IsRunOf core.limits entries core
+  pub second_run : HasTakenIfAny core.limits entries second taken

@@ -1,0 +1,7 @@
+pub mod Receipts
+pub mod Matching
+pub mod Tallies
+pub mod Journal
+pub mod Calling
+pub mod Closing
+pub mod Scripts

@@ -1,0 +1,193 @@
+//! A core with its journal.
+ghost use Rattle.std.specs.Prelude.{◌≡◌, ◌<◌, ◌^◌, ◌++◌, ◌∷◌, [], length, IfOk, IfErr, OnOk, OnErr};
+ghost use Rattle.drf_board.specs.History.{IsLegal, entry};
+ghost use Rattle.drf_master.specs.Journal.{Adds, IsNext, IsRunOf, IsSameJournal};
+ghost use Rattle.drf_master.specs.Matching.{IsShuffle, IsFault, receipts_of};
+ghost use Rattle.drf_master.specs.declared.matching.CloseFault.TheVariants.{Memory};
+ghost use Rattle.drf_rows.specs.Report.{report_of};
+
+use crate::follower::Second;
+use crate::matching::{CloseFault, matches};
+use crate::pass::Pass;
+use drf_board::Entry;
+use drf_core::Core;
+use drf_rows::{Copied, Event, Limits, Reply, Report};
+use drf_sorter::Sorter;
+use std::alloc::{AllocError, Global};
+use std::marker::Model;
+use std::mem::replace;
+
+/// A core, and the journal of what it was asked and what it answered: the core is the run of the journal's events, and each reply is
+/// the definition's. Contracts see its limits and its journal.
+#[derive(Drop)]
+pub struct Book<S: Sorter> {
+    core: Core<S>,
+    // Another core, behind that one, which works out what comes next.
+    second: Second<S>,
+    entries: Vec<Entry>,
+}
+
+impl<S: Sorter> Model for Book<S> {
+    ghost use Rattle.std.specs.Prelude.{◌-◌, vec_len, vec_capacity};
+    ghost use Rattle.drf_master.specs.Journal.{Journal, journal_code, IsBook};
+
+    ghost Value = { Journal };
+
+    ghost coded = { journal_code };
+
+    ghost view = { λ b. record { limits = b.core.limits; entries = b.entries.items; room = vec_capacity b.entries - vec_len b.entries } };
+
+    ghost invariant = { λ b. IsBook b.entries.items b.core b.second.core b.second.taken };
+}
+
+/// The core after one event more, and the entry that is to be added.
+#[derive(Drop)]
+pub struct Next<S: Sorter> {
+    pub(crate) core: Core<S>,
+    pub(crate) entry: Entry,
+}
+
+impl<S: Sorter> Next<S> {
+    /// The event with its reply.
+    pub fn entry(&self) -> &Entry
+        ensures { result.now ≡ self.now.entry }
+    {
+        &self.entry
+    }
+
+    pub fn reply(&self) -> &Reply
+        ensures { result.now ≡ self.now.entry.reply }
+    {
+        &self.entry.reply
+    }
+
+    /// The report of shares after the event.
+    pub fn report(&self) -> Result<Report, AllocError>
+        ensures { IfOk result (λ report. report ≡ report_of self.now.core.rows) }
+    {
+        self.core.report()
+    }
+}
+
+impl<S: Sorter> Book<S> {
+    /// A core that was just opened, and an empty journal.
+    pub fn open(alloc: Global, limits: Limits) -> Result<Book<S>, AllocError>
+        ensures limits { IfOk result (λ book. book.limits ≡ limits) }
+        ensures entries { IfOk result (λ book. book.entries ≡ []) }
+    {
+        Ok(Book {
+            core: Core::open(alloc, limits)?,
+            second: Second::empty(),
+            entries: Vec::new(alloc),
+        })
+    }
+
+    /// How many entries the journal has.
+    pub fn len(&self) -> u64
+        ensures count { result ≡ length self.now.entries }
+        ensures few { result < 2 ^ 63 }
+    {
+        self.entries.len() as u64
+    }
+
+    /// The journal, which is legal.
+    pub fn entries(&self) -> &[Entry]
+        ensures entries { result.now ≡ self.now.entries }
+        ensures legal { IsLegal self.now.limits self.now.entries }
+    {
+        self.entries.as_slice()
+    }
+
+    /// The core, which is the run of the journal.
+    pub fn core(&self) -> &Core<S>
+        ensures { IsRunOf self.now.limits self.now.entries result.now }
+    {
+        &self.core
+    }
+
+    // The core after an event, and the reply to it. The journal stays as it is, and has room for one entry more.
+    fn work_out(&mut self, event: &Event) -> Result<(Core<S>, Reply), AllocError>
+        ensures same { IsSameJournal self.old self.new }
+        ensures next { IfOk result (λ r. IsNext self.new.limits self.new.entries r.0 (entry event.now r.1)) }
+        ensures room { OnOk result (0 < self.new.room) }
+    {
+        self.entries.reserve(1)?;
+        let worked = self
+            .second
+            .work_out(&self.core, self.entries.as_slice(), event)?;
+        Ok(worked)
+    }
+
+    /// Works out what comes of an event, and makes room for its entry. The journal stays as it is.
+    pub fn prepare(&mut self, event: Event) -> Result<Next<S>, AllocError>
+        ensures same { IsSameJournal self.old self.new }
+        ensures next { IfOk result (λ next. IsNext self.new.limits self.new.entries next.core next.entry) }
+        ensures event { IfOk result (λ next. next.entry.event ≡ event) }
+        ensures room { OnOk result (0 < self.new.room) }
+    {
+        match self.work_out(&event) {
+            Ok((core, reply)) => Ok(Next {
+                core,
+                entry: Entry { event, reply },
+            }),
+            Err(error) => {
+                drop(event);
+                Err(error)
+            }
+        }
+    }
+
+    /// Adds what was prepared, and answers its place in the journal, from 0. It takes no memory. The core from before is now the one
+    /// behind.
+    pub fn settle(&mut self, next: Next<S>) -> u64
+        requires next { IsNext self.old.limits self.old.entries next.core next.entry }
+        requires room { 0 < self.old.room }
+        ensures place { result ≡ length self.old.entries }
+        ensures added { Adds self.old self.new next.entry }
+    {
+        let Next { core, entry } = next;
+        let place = self.entries.len();
+        self.second.keep(replace(&mut self.core, core), place);
+        self.entries.push_reserved(entry);
+        place as u64
+    }
+
+    /// Takes an event, and answers its reply and its place. Where it finds no memory the journal stays as it is.
+    pub fn take(&mut self, event: Event) -> Result<(Reply, u64), AllocError>
+        ensures place { IfOk result (λ r. r.1 ≡ length self.old.entries) }
+        ensures added { IfOk result (λ r. Adds self.old self.new (entry event r.0)) }
+        ensures err { OnErr result (IsSameJournal self.old self.new) }
+    {
+        let next = self.prepare(event)?;
+        self.settle_copied(next)
+    }
+
+    // Adds what was prepared, and answers a copy of its reply and its place.
+    fn settle_copied(&mut self, next: Next<S>) -> Result<(Reply, u64), AllocError>
+        requires next { IsNext self.old.limits self.old.entries next.core next.entry }
+        requires room { 0 < self.old.room }
+        ensures place { IfOk result (λ r. r.1 ≡ length self.old.entries) }
+        ensures reply { IfOk result (λ r. r.0 ≡ next.entry.reply) }
+        ensures added { OnOk result (Adds self.old self.new next.entry) }
+        ensures err { OnErr result (self.new ≡ self.old) }
+    {
+        match next.reply().copy() {
+            Ok(reply) => Ok((reply, self.settle(next))),
+            Err(error) => {
+                drop(next);
+                Err(error)
+            }
+        }
+    }
+
+    /// Compares the journal with the receipts of passes. `Ok` is told exactly where the journal is a shuffle of them: each entry is one
+    /// receipt's, and those of a pass stand in its order. Otherwise the first fault is told, and of several places the least; `Memory`
+    /// may come before `Mismatch`. It never tells `Stranger`, and takes a time that is linear in journal and receipts.
+    pub fn matches(&self, passes: &[Pass]) -> Result<(), CloseFault>
+        ensures ok { OnOk result (IsShuffle self.now.entries (receipts_of passes.now)) }
+        ensures err { IfErr result (IsFault self.now.entries (receipts_of passes.now)) }
+        ensures exact { IsShuffle self.now.entries (receipts_of passes.now) → IfErr result (λ fault. fault ≡ Memory) }
+    {
+        matches(*self.entries.allocator(), self.entries.as_slice(), passes)
+    }
+}

@@ -1,0 +1,200 @@
+//! What the lock of a master holds.
+ghost use Rattle.std.specs.Prelude.{◌≡◌, ◌+◌, ◌<◌, ◌^◌, ◌++◌, ◌∷◌, [], length, IfOk, OnOk, OnErr};
+ghost use Rattle.drf_board.specs.Boards.{HasPublished};
+ghost use Rattle.drf_board.specs.History.{IsLegal, entry};
+ghost use Rattle.drf_master.specs.Journal.{Adds, IsNext};
+
+use crate::book::{Book, Next};
+use crate::pass::Receipt;
+use drf_board::{Board, Entry, Naming, Sheet, Told};
+use drf_rows::{Copied, Event, Reply};
+use drf_tree::TreeSorter;
+use std::alloc::AllocError;
+use std::marker::Model;
+use std::sync::Wait;
+
+/// The sorter of a master's core.
+pub type MasterSorter = TreeSorter;
+
+/// A book, and the board that shows it. Contracts see it as its journal, which by this type is the list of the board.
+pub struct Desk<K: Naming, R: Wait + Drop> {
+    book: Book<MasterSorter>,
+    board: Board<K, R>,
+}
+
+impl<K: Naming, R: Wait + Drop> Model for Desk<K, R> {
+    ghost use Rattle.std.specs.Prelude.{◌≡◌, List};
+    ghost use Rattle.drf_board.specs.Boards.{entries_code};
+    ghost use Rattle.drf_board.specs.declared.entry.Entry.{Entry};
+
+    ghost Value = { List Entry };
+
+    ghost coded = { entries_code };
+
+    ghost view = { λ d. d.book.entries };
+
+    ghost invariant = { λ d. (d.board.entries ≡ d.book.entries) × (d.book.limits ≡ K.slate.limits) };
+}
+
+impl<K: Naming, R: Wait + Drop> Drop for Desk<K, R> {
+    fn drop(self) {
+        drop(self.into_book());
+    }
+}
+
+/// What a call is answered: the reply, its place in the journal, counted from 0, and the list that viewers of this master may learn.
+#[derive(Drop)]
+pub struct Answer<K: Naming> {
+    pub reply: Reply,
+    pub place: u64,
+    pub told: Told<K>,
+}
+
+// What a caller keeps of what was prepared.
+#[derive(Drop)]
+struct Copies {
+    kept: Entry,
+    reply: Reply,
+}
+
+fn copies_of(next: &Next<MasterSorter>) -> Result<Copies, AllocError>
+    ensures kept { IfOk result (λ copies. copies.kept ≡ next.now.entry) }
+    ensures reply { IfOk result (λ copies. copies.reply ≡ next.now.entry.reply) }
+{
+    let kept = next.entry().copy()?;
+    Ok(Copies {
+        kept,
+        reply: next.reply().copy()?,
+    })
+}
+
+// Shows what was prepared, after so many entries. The sheet is made for viewers alone.
+fn show<K: Naming, R: Wait + Drop>(
+    board: &mut Board<K, R>,
+    place: u64,
+    next: &Next<MasterSorter>,
+) -> Result<Told<K>, AllocError>
+    requires place { (place ≡ length board.old.entries) × (place < 2 ^ 63) }
+    requires next { IsNext K.slate.limits board.old.entries next.now.core next.now.entry }
+    ensures ok { OnOk result (HasPublished board.old board.new next.now.entry) }
+    ensures told { IfOk result (λ told. told ≡ board.new.entries) }
+    ensures err { OnErr result (board.new ≡ board.old) }
+{
+    let Entry { event, reply } = next.entry();
+    if board.viewers() == 0 {
+        return Ok(board.publish_unseen(event, reply));
+    }
+    let report = next.report()?;
+    let sheet = Sheet {
+        events: place + 1,
+        report,
+    };
+    board.publish(sheet, event, reply)
+}
+
+// Copies what was prepared, and then shows it.
+fn show_copied<K: Naming, R: Wait + Drop>(
+    board: &mut Board<K, R>,
+    place: u64,
+    next: &Next<MasterSorter>,
+) -> Result<(Copies, Told<K>), AllocError>
+    requires place { (place ≡ length board.old.entries) × (place < 2 ^ 63) }
+    requires next { IsNext K.slate.limits board.old.entries next.now.core next.now.entry }
+    ensures kept { IfOk result (λ r. r.0.kept ≡ next.now.entry) }
+    ensures reply { IfOk result (λ r. r.0.reply ≡ next.now.entry.reply) }
+    ensures ok { OnOk result (HasPublished board.old board.new next.now.entry) }
+    ensures told { IfOk result (λ r. r.1 ≡ board.new.entries) }
+    ensures err { OnErr result (board.new ≡ board.old) }
+{
+    let copies = copies_of(next)?;
+    match show(board, place, next) {
+        Ok(told) => Ok((copies, told)),
+        Err(error) => {
+            drop(copies);
+            Err(error)
+        }
+    }
+}
+
+// Shows what was prepared, and then adds it to the book. All that asks for memory comes before anything is shown.
+fn answer_prepared<K: Naming, R: Wait + Drop>(
+    book: &mut Book<MasterSorter>,
+    board: &mut Board<K, R>,
+    next: Next<MasterSorter>,
+) -> Result<(Answer<K>, Receipt), AllocError>
+    requires entries { board.old.entries ≡ book.old.entries }
+    requires limits { book.old.limits ≡ K.slate.limits }
+    requires next { IsNext book.old.limits book.old.entries next.core next.entry }
+    requires room { 0 < book.old.room }
+    ensures added { OnOk result (Adds book.old book.new next.entry) }
+    ensures shown { OnOk result (board.new.entries ≡ book.new.entries) }
+    ensures reply { IfOk result (λ r. r.0.reply ≡ next.entry.reply) }
+    ensures place { IfOk result (λ r. r.0.place ≡ length book.old.entries) }
+    ensures told { IfOk result (λ r. r.0.told ≡ book.new.entries) }
+    ensures receipt { IfOk result (λ r. r.1 ≡ record { place = r.0.place; entry = next.entry }) }
+    ensures err { OnErr result ((book.new ≡ book.old) × (board.new ≡ board.old)) }
+{
+    match show_copied(board, book.len(), &next) {
+        Ok((copies, told)) => {
+            let place = book.settle(next);
+            let Copies { kept, reply } = copies;
+            let receipt = Receipt { place, entry: kept };
+            Ok((Answer { reply, place, told }, receipt))
+        }
+        Err(error) => {
+            drop(next);
+            Err(error)
+        }
+    }
+}
+
+impl<K: Naming, R: Wait + Drop> Desk<K, R> {
+    /// A book with its board. It takes no memory.
+    pub fn new(book: Book<MasterSorter>, board: Board<K, R>) -> Desk<K, R>
+        requires entries { board.entries ≡ book.entries }
+        requires limits { book.limits ≡ K.slate.limits }
+        ensures { result ≡ book.entries }
+    {
+        Desk { book, board }
+    }
+
+    /// Takes an event, a refused one too, and shows what comes of it. Where it finds no memory, journal and board stay as they are.
+    pub fn answer(&mut self, event: Event) -> Result<Answer<K>, AllocError>
+        ensures journal { IfOk result (λ answer. self.new ≡ self.old ++ entry event answer.reply ∷ []) }
+        ensures told { IfOk result (λ answer. answer.told ≡ self.new) }
+        ensures place { IfOk result (λ answer. answer.place ≡ length self.old) }
+        ensures legal { OnOk result (IsLegal K.slate.limits self.new) }
+        ensures err { OnErr result (self.new ≡ self.old) }
+    {
+        let (answer, _receipt) = self.answer_with_receipt(event)?;
+        Ok(answer)
+    }
+
+    /// The same, with a receipt.
+    pub(crate) fn answer_with_receipt(
+        &mut self,
+        event: Event,
+    ) -> Result<(Answer<K>, Receipt), AllocError>
+        ensures journal { IfOk result (λ r. self.new ≡ self.old ++ entry event r.0.reply ∷ []) }
+        ensures told { IfOk result (λ r. r.0.told ≡ self.new) }
+        ensures place { IfOk result (λ r. r.0.place ≡ length self.old) }
+        ensures legal { OnOk result (IsLegal K.slate.limits self.new) }
+        ensures receipt { IfOk result (λ r. r.1 ≡ record { place = r.0.place; entry = entry event r.0.reply }) }
+        ensures err { OnErr result (self.new ≡ self.old) }
+    {
+        let next = self.book.prepare(event)?;
+        answer_prepared(&mut self.book, &mut self.board, next)
+    }
+
+    /// The book, which nobody shows any more. Viewers then read no sheet.
+    pub fn into_book(self) -> Book<MasterSorter>
+        ensures entries { result.entries ≡ self }
+        ensures limits { result.limits ≡ K.slate.limits }
+    {
+        let Desk {
+            book,
+            board: _board,
+        } = self;
+        book
+    }
+}

@@ -1,0 +1,278 @@
+//! Scripts of events that threads run on one master, each on a pass of its own.
+ghost use Rattle.std.specs.Prelude.{◌≡◌, ◌≤◌, [], All, length, map, vec_capacity, IfOk, IfErr, OnOk};
+ghost use Rattle.drf_board.specs.History.{IsLegal};
+ghost use Rattle.drf_master.specs.Closing.{AreOf, IsClosed};
+ghost use Rattle.drf_master.specs.Scripts.{AreAsked, AreDone, AreNumbered, DidJob, DidJobs, HasCalled, HasDriven, HaveAllRun, IsAsked, IsCallStop, IsDriveFault, IsFirstFault, IsMisfitOf, IsRunFault};
+
+use crate::book::Book;
+use crate::desk::MasterSorter;
+use crate::gate::Gate;
+use crate::master::{Master, are_of};
+use crate::matching::CloseFault;
+use crate::pass::Pass;
+use drf_board::Naming;
+use drf_rows::{Event, Reply};
+use std::alloc::{AllocError, Global};
+use std::sync::Wait;
+use std::thread;
+use std::thread::Threads;
+
+/// Why scripts did not run to their ends. Of the faults of several workers that of the first is told.
+#[derive(Clone, Copy, Debug, PartialEq, Eq)]
+pub enum DriveFault {
+    /// The gate stopped a worker.
+    Stopped,
+    /// There is no memory for threads, calls or replies.
+    Memory,
+    /// The passes do not fit.
+    Close(CloseFault),
+}
+
+impl From<AllocError> for DriveFault {
+    ghost use Rattle.std.specs.Prelude.{◌≡◌};
+    ghost use Rattle.drf_master.specs.declared.driving.DriveFault.TheVariants.{Memory};
+
+    ghost from_gives = { λ _ gives. gives ≡ Memory };
+
+    fn from(_error: AllocError) -> DriveFault {
+        DriveFault::Memory
+    }
+}
+
+/// The book of a master that was driven and closed, and the replies to each script.
+#[derive(Drop)]
+pub struct Driven {
+    pub book: Book<MasterSorter>,
+    pub replies: Vec<Vec<Reply>>,
+}
+
+/// What one thread is to do.
+#[derive(Drop)]
+pub struct Job {
+    pub worker: u64,
+    pub pass: Pass,
+    pub script: Vec<Event>,
+}
+
+/// What one thread did.
+#[derive(Drop)]
+pub struct Done {
+    pub pass: Pass,
+    pub replies: Vec<Reply>,
+}
+
+// Makes one call by a pass of this master, and asks the gate round it.
+fn run_call<K: Naming, R: Wait + Drop, W: Wait, G: Gate>(
+    rt: &W,
+    master: &Master<K, R>,
+    gate: &G,
+    worker: u64,
+    call: u64,
+    pass: &mut Pass,
+    event: Event,
+) -> Result<Reply, DriveFault>
+    requires own { pass.old.key ≡ master.now.key }
+    ensures called { IfOk result (HasCalled pass.old pass.new event) }
+    ensures asked { OnOk result (IsAsked (G.lets gate.now) (G.sees gate.now) worker call) }
+    ensures fault { IfErr result (IsCallStop (G.stops gate.now worker call)) }
+{
+    if !gate.before(worker, call) {
+        drop(event);
+        return Err(DriveFault::Stopped);
+    }
+    // A pass of this master is refused for want of memory alone.
+    let Ok(answer) = master.call(rt, pass, event) else {
+        return Err(DriveFault::Memory);
+    };
+    gate.after(worker, call);
+    Ok(answer.reply)
+}
+
+// Makes the calls of a script in order.
+fn run_script<K: Naming, R: Wait + Drop, W: Wait, G: Gate>(
+    rt: &W,
+    alloc: Global,
+    master: &Master<K, R>,
+    gate: &G,
+    job: Job,
+) -> Result<Done, DriveFault>
+    requires own { job.pass.key ≡ master.now.key }
+    ensures { DidJob (IsAsked (G.lets gate.now) (G.sees gate.now)) (G.stops gate.now) job result }
+{
+    let Job {
+        worker,
+        mut pass,
+        script,
+    } = job;
+    let mut replies = Vec::with_capacity(alloc, script.len())?;
+    for event in script {
+        let call = replies.len() as u64;
+        let reply = run_call(rt, master, gate, worker, call, &mut pass, event)?;
+        replies.push_reserved(reply);
+    }
+    Ok(Done { pass, replies })
+}
+
+// Runs each job on a thread of its own: the jobs are halved until each has a thread to itself, and all threads are joined.
+fn run_all<
+    K: Naming + Send + Sync,
+    R: Wait + Drop + Send + Sync,
+    W: Threads + Wait + Sync,
+    G: Gate + Sync,
+>(
+    rt: &W,
+    alloc: Global,
+    master: &Master<K, R>,
+    gate: &G,
+    jobs: Vec<Job>,
+) -> Result<Vec<Result<Done, DriveFault>>, AllocError>
+    requires own { All (λ job. job.pass.key ≡ master.now.key) jobs.items }
+    ensures count { IfOk result (λ results. length results.items ≡ length jobs.items) }
+    ensures did { IfOk result (λ results. DidJobs (IsAsked (G.lets gate.now) (G.sees gate.now)) (G.stops gate.now) jobs.items results.items) }
+{
+    let results = thread::map_vec(
+        rt,
+        jobs,
+        &|job: Job| -> Result<Done, DriveFault>
+            requires { job.pass.key ≡ master.now.key }
+            ensures { DidJob (IsAsked (G.lets gate.entry.now) (G.sees gate.entry.now)) (G.stops gate.entry.now) job result }
+        { run_script(rt, alloc, master, gate, job) },
+    )?;
+    Ok(results)
+}
+
+// A job for each pass with its script.
+fn jobs_of(
+    alloc: Global,
+    passes: Vec<Pass>,
+    scripts: Vec<Vec<Event>>,
+) -> Result<Vec<Job>, AllocError>
+    requires { length scripts.items ≡ length passes.items }
+    ensures passes { IfOk result (λ jobs. map (λ job. job.pass) jobs.items ≡ passes.items) }
+    ensures scripts { IfOk result (λ jobs. map (λ job. job.script) jobs.items ≡ scripts.items) }
+    ensures numbers { IfOk result (λ jobs. AreNumbered 0 jobs.items) }
+{
+    let mut jobs = Vec::with_capacity(alloc, passes.len())?;
+    for (pass, script) in passes.into_iter().zip(scripts) {
+        let worker = jobs.len() as u64;
+        jobs.push(Job {
+            worker,
+            pass,
+            script,
+        })?;
+    }
+    Ok(jobs)
+}
+
+// The passes and replies of jobs that were all done, or the fault of the first that was not. It takes no memory, so that no other
+// fault is told in place of that one.
+fn all_done(
+    mut passes: Vec<Pass>,
+    mut replies: Vec<Vec<Reply>>,
+    results: Vec<Result<Done, DriveFault>>,
+) -> Result<(Vec<Pass>, Vec<Vec<Reply>>), DriveFault>
+    requires passes { passes.items ≡ [] }
+    requires replies { replies.items ≡ [] }
+    requires room { (length results.items ≤ vec_capacity passes) × (length results.items ≤ vec_capacity replies) }
+    ensures done { IfOk result (λ r. AreDone results.items r.0.items r.1.items) }
+    ensures fault { IfErr result (IsFirstFault results.items) }
+{
+    for result in results {
+        let done = result?;
+        passes.push_reserved(done.pass);
+        replies.push_reserved(done.replies);
+    }
+    Ok((passes, replies))
+}
+
+// Runs each script on a thread and a pass of its own. A pass of another master is told before any thread starts.
+fn run_scripts<
+    K: Naming + Send + Sync,
+    R: Wait + Drop + Send + Sync,
+    W: Threads + Wait + Sync,
+    G: Gate + Sync,
+>(
+    rt: &W,
+    alloc: Global,
+    master: &Master<K, R>,
+    passes: Vec<Pass>,
+    gate: &G,
+    scripts: Vec<Vec<Event>>,
+) -> Result<(Vec<Pass>, Vec<Vec<Reply>>), DriveFault>
+    requires { length scripts.items ≡ length passes.items }
+    ensures run { IfOk result (λ r. HaveAllRun (IsAsked (G.lets gate.now) (G.sees gate.now)) master.now.key passes.items scripts.items r.0.items r.1.items) }
+    ensures fault { IfErr result (IsRunFault (IsAsked (G.lets gate.now) (G.sees gate.now)) (G.stops gate.now) master.now.key passes.items scripts.items) }
+{
+    if !are_of(master.key(), &passes) {
+        return Err(DriveFault::Close(CloseFault::Stranger));
+    }
+    let jobs = jobs_of(alloc, passes, scripts)?;
+    let done = Vec::with_capacity(alloc, jobs.len())?;
+    let replies = Vec::with_capacity(alloc, jobs.len())?;
+    let results = run_all(rt, alloc, master, gate, jobs)?;
+    all_done(done, replies, results)
+}
+
+// Closes a master. What does not fit goes.
+fn close_or_fault<K: Naming, R: Wait + Drop>(
+    master: Master<K, R>,
+    passes: Vec<Pass>,
+) -> Result<Book<MasterSorter>, DriveFault>
+    ensures closed { IfOk result (λ book. IsClosed K.slate.limits book master.key passes.items) }
+    ensures fault { IfErr result (IsMisfitOf K.slate.limits master.key passes.items) }
+{
+    match master.close(passes) {
+        Ok(book) => Ok(book),
+        Err(refused) => Err(DriveFault::Close(refused.into_fault())),
+    }
+}
+
+// Closes the master of scripts that were run, with these replies.
+fn close_driven<K: Naming, R: Wait + Drop>(
+    master: Master<K, R>,
+    passes: Vec<Pass>,
+    replies: Vec<Vec<Reply>>,
+) -> Result<Driven, DriveFault>
+    ensures closed { IfOk result (λ driven. IsClosed K.slate.limits driven.book master.key passes.items) }
+    ensures replies { IfOk result (λ driven. driven.replies ≡ replies) }
+    ensures fault { IfErr result (IsMisfitOf K.slate.limits master.key passes.items) }
+{
+    match close_or_fault(master, passes) {
+        Ok(book) => Ok(Driven { book, replies }),
+        Err(fault) => {
+            drop(replies);
+            Err(fault)
+        }
+    }
+}
+
+/// Runs each script on a thread and a pass of its own, asks the gate round each call, joins all threads and closes the master. A pass
+/// of another master is told before any thread starts. After a fault the master and the passes are gone.
+pub fn drive<
+    K: Naming + Send + Sync,
+    R: Wait + Drop + Send + Sync,
+    W: Threads + Wait + Sync,
+    G: Gate + Sync,
+>(
+    rt: &W,
+    alloc: Global,
+    master: Master<K, R>,
+    passes: Vec<Pass>,
+    gate: &G,
+    scripts: Vec<Vec<Event>>,
+) -> Result<Driven, DriveFault>
+    requires { length scripts.items ≡ length passes.items }
+    ensures legal { IfOk result (λ driven. IsLegal K.slate.limits driven.book.entries) }
+    ensures own { OnOk result (AreOf master.key passes.items) }
+    ensures driven { IfOk result (λ driven. HasDriven passes.items scripts.items driven.replies.items driven.book.entries) }
+    ensures asked { OnOk result (AreAsked (IsAsked (G.lets gate.now) (G.sees gate.now)) 0 scripts.items) }
+    ensures fault { IfErr result (IsDriveFault K.slate.limits (IsAsked (G.lets gate.now) (G.sees gate.now)) (G.stops gate.now) master.key passes.items scripts.items) }
+{
+    match run_scripts(rt, alloc, &master, passes, gate, scripts) {
+        Ok((passes, replies)) => close_driven(master, passes, replies),
+        Err(fault) => {
+            drop(master);
+            Err(fault)
+        }
+    }
+}

@@ -1,0 +1,75 @@
+//! What a caller holds.
+ghost use Rattle.std.specs.Prelude.{◌≡◌, ◌<◌, [], OnOk};
+ghost use Rattle.drf_master.specs.Receipts.{IsSamePass, Keeps};
+
+use drf_board::Entry;
+use std::alloc::{AllocError, Global};
+use std::marker::Model;
+
+/// Where a call stands in the journal, counted from 0, and what it was.
+#[derive(Debug, Drop)]
+pub struct Receipt {
+    pub place: u64,
+    pub entry: Entry,
+}
+
+/// The right to call a master, with a receipt for each call that was made.
+#[derive(Drop)]
+pub struct Pass {
+    key: u64,
+    receipts: Vec<Receipt>,
+}
+
+impl Model for Pass {
+    ghost use Rattle.std.specs.Prelude.{◌-◌, vec_len, vec_capacity};
+    ghost use Rattle.drf_master.specs.Receipts.{Held, held_code};
+
+    ghost Value = { Held };
+
+    ghost coded = { held_code };
+
+    ghost view = { λ p. record { key = p.key; receipts = p.receipts.items; room = vec_capacity p.receipts - vec_len p.receipts } };
+}
+
+impl Pass {
+    /// A pass of the master with the key, without receipts.
+    pub(crate) fn new(alloc: Global, key: u64) -> Pass
+        ensures key { result.key ≡ key }
+        ensures empty { result.receipts ≡ [] }
+    {
+        Pass {
+            key,
+            receipts: Vec::new(alloc),
+        }
+    }
+
+    /// The key of its master.
+    pub fn key(&self) -> u64
+        ensures { result ≡ self.now.key }
+    {
+        self.key
+    }
+
+    /// The receipts, in the order of the calls.
+    pub fn receipts(&self) -> &[Receipt]
+        ensures { result.now ≡ self.now.receipts }
+    {
+        self.receipts.as_slice()
+    }
+
+    /// Makes room for one receipt more.
+    pub(crate) fn reserve(&mut self) -> Result<(), AllocError>
+        ensures same { IsSamePass self.old self.new }
+        ensures room { OnOk result (0 < self.new.room) }
+    {
+        self.receipts.reserve(1)
+    }
+
+    /// Adds a receipt. It takes no memory.
+    pub(crate) fn keep(&mut self, receipt: Receipt)
+        requires room { 0 < self.old.room }
+        ensures { Keeps self.old self.new receipt.place receipt.entry }
+    {
+        self.receipts.push_reserved(receipt);
+    }
+}

@@ -1,0 +1,5 @@
+pub mod Cuts
+pub mod Contents
+pub mod Scripts
+pub mod Sent
+pub mod Endings

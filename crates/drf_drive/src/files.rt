@@ -1,0 +1,39 @@
+//! Files by name.
+ghost use Rattle.std.specs.Prelude.{◌≡◌, map, IfOk, IfErr, IfSome};
+ghost use Rattle.drf_drive.specs.Files.{AreContents, IsFileFault, IsUnread, bytes_of};
+
+use drf_journal::RunFault;
+use std::alloc::Global;
+use std::convert::AsStr;
+
+/// Where files are found by name.
+pub trait FileBytes {
+    ghost use Rattle.std.specs.Prelude.{ℕ, List, Option, None};
+
+    // What the file of a name has, where that is known.
+    ghost known: { Self → List ℕ → Option (List ℕ) } = { λ _ _. None };
+
+    /// All bytes of a file. The fault is `Read`, or `Memory`.
+    fn bytes(&mut self, name: &str) -> Result<Vec<u8>, RunFault>
+        ensures whole { IfOk result (λ bytes. IfSome (known self.old name.now) (λ content. bytes.items ≡ content)) }
+        ensures fault { IfErr result (IsFileFault (known self.old name.now)) }
+        ensures same { known self.new ≡ known self.old };
+}
+
+/// The bytes of all files, in order.
+pub(crate) fn read_files<F: FileBytes, S: AsStr>(
+    alloc: Global,
+    files: &mut F,
+    names: &[S],
+) -> Result<Vec<Vec<u8>>, RunFault>
+    ensures contents { IfOk result (λ contents. AreContents (F.known files.old) (map S.text names.now) (bytes_of contents.items)) }
+    ensures fault { IfErr result (IsUnread (F.known files.old) (map S.text names.now)) }
+{
+    let mut contents = Vec::new(alloc);
+    for name in names {
+        contents.reserve(1)?;
+        let bytes = files.bytes(name.as_str())?;
+        contents.push_reserved(bytes);
+    }
+    Ok(contents)
+}

@@ -1,0 +1,96 @@
+//! Files that are run on threads.
+ghost use Rattle.std.specs.Prelude.{◌≡◌, ◌<◌, ◌≤◌, length, map, true, false, OnOk, IfOk, IfErr};
+ghost use Rattle.drf_board.specs.History.{IsLegal};
+ghost use Rattle.drf_drive.specs.Driven.{HasDrivenFiles, IsRunFault, IsShuffleOf};
+ghost use Rattle.drf_drive.specs.JournalText.{is_write_fault};
+
+use crate::files::FileBytes;
+use crate::journal::write_journal;
+use crate::script::{ScriptFault, read_scripts};
+use drf_board::{Brand, Naming, Slate};
+use drf_journal::{Device, RunFault};
+use drf_master::{CloseFault, DriveFault, Driven, Master, OpenGate, drive};
+use drf_rows::{Event, Limits};
+use std::alloc::Global;
+use std::convert::AsStr;
+use std::io::Write;
+use std::sync::Wait;
+use std::thread::Threads;
+
+/// The key of the one master and its passes.
+const KEY: u64 = 0;
+
+impl From<DriveFault> for ScriptFault {
+    ghost use Rattle.drf_drive.specs.Driven.{IsRunFault};
+
+    ghost from_gives = { λ _ gives. IsRunFault gives };
+
+    fn from(fault: DriveFault) -> ScriptFault {
+        match fault {
+            DriveFault::Memory | DriveFault::Close(CloseFault::Memory) => {
+                ScriptFault::Run(RunFault::Memory)
+            }
+            _ => ScriptFault::Close,
+        }
+    }
+}
+
+// Runs scripts on a master whose slate has that name, which nobody looks at.
+fn run_named<K: Naming + Send + Sync, W: Threads + Wait + Sync>(
+    rt: &W,
+    alloc: Global,
+    limits: Limits,
+    slate: Slate,
+    scripts: Vec<Vec<Event>>,
+) -> Result<Driven, DriveFault>
+    requires named { slate.name ≡ K.slate }
+    requires limits { limits ≡ slate.name.limits }
+    requires count { (1 ≤ length scripts.items) × (length scripts.items ≤ 64) }
+    ensures legal { IfOk result (λ driven. IsLegal limits driven.book.entries) }
+    ensures shuffle { IfOk result (λ driven. IsShuffleOf scripts.items driven.book.entries) }
+{
+    let count = scripts.len() as u64;
+    let (master, passes, _viewers) = Master::<K, &W>::open(rt, alloc, KEY, limits, count, slate)?;
+    drive(rt, alloc, master, passes, &OpenGate, scripts)
+}
+
+// Runs each script on a thread of its own.
+fn run_scripts<W: Threads + Wait + Sync>(
+    rt: &W,
+    alloc: Global,
+    limits: Limits,
+    scripts: Vec<Vec<Event>>,
+) -> Result<Driven, ScriptFault>
+    requires count { (1 ≤ length scripts.items) × (length scripts.items ≤ 64) }
+    ensures legal { IfOk result (λ driven. IsLegal limits driven.book.entries) }
+    ensures shuffle { IfOk result (λ driven. IsShuffleOf scripts.items driven.book.entries) }
+    ensures fault { IfErr result IsRunFault }
+{
+    let slate = Slate::open(0, limits)?;
+    Ok(run_named::<Brand, W>(rt, alloc, limits, slate, scripts)?)
+}
+
+/// Reads files of event lines, at most 64, runs each on a thread of its own, on one master, and writes the journal: for each call the line of
+/// the event and that of the reply. All files are read before any line is looked at. A line that is no event is told, the first one of the
+/// first file that has one, and nothing runs then.
+pub fn run_drive<W: Threads + Wait + Sync, F: FileBytes, S: AsStr, O: Write>(
+    rt: &W,
+    alloc: Global,
+    limits: Limits,
+    files: &mut F,
+    names: &[S],
+    writer: &mut Device<O>,
+) -> Result<(), ScriptFault>
+    requires few { length names.now ≤ 64 }
+    requires writer { writer.old.failed ≡ false }
+    ensures driven { HasDrivenFiles limits (F.known files.old) (map S.text names.now) (O.contents writer.old.inner) (O.contents writer.new.inner) result }
+    ensures failed { writer.new.failed ≡ is_write_fault result }
+    ensures flushed { OnOk result (writer.new.flushed ≡ true) }
+{
+    let scripts = read_scripts(alloc, files, names)?;
+    if scripts.is_empty() {
+        return write_journal(alloc, &[], writer);
+    }
+    let driven = run_scripts(rt, alloc, limits, scripts)?;
+    write_journal(alloc, driven.book.entries(), writer)
+}

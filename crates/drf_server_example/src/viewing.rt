@@ -1,0 +1,106 @@
+//! Reports that viewers read while others call the master.
+ghost use Rattle.std.specs.Prelude.{◌≡◌};
+ghost use Rattle.drf_rows.specs.LimitNumbers.{ceilings};
+
+use crate::calls::call_line;
+use crate::events::{SMALL_AGENT, append_reply};
+use anyhow::{Context, Result};
+use drf_board::{Brand, Naming, Sheet, Slate, Viewer};
+use drf_master::{Master, Pass};
+use drf_rows::Limits;
+use drf_text::write_quantities;
+use std::alloc::Global;
+use std::fmt::Write;
+use std::sync::Wait;
+
+fn append_shown(alloc: Global, told: &mut String, sheet: &Sheet) -> Result<()> {
+    let total = write_quantities(alloc, &sheet.report.total)?;
+    Ok(write!(told, " {} events ({total});", sheet.events)?)
+}
+
+fn append_sheet<K: Naming>(alloc: Global, told: &mut String, viewer: &mut Viewer<K>) -> Result<()> {
+    match viewer.read() {
+        Ok(sheet) => append_shown(alloc, told, &sheet),
+        Err(fault) => Ok(write!(told, " {fault:?};")?),
+    }
+}
+
+fn append_sheets<K: Naming>(
+    alloc: Global,
+    told: &mut String,
+    viewers: &mut [Viewer<K>],
+) -> Result<()> {
+    for viewer in viewers.iter_mut() {
+        append_sheet(alloc, told, viewer)?;
+    }
+    Ok(())
+}
+
+/// Tries to add an agent twice. The first viewer learns the second call, and the other learns nothing: both read it.
+fn watch<K: Naming, R: Wait + Drop, W: Wait>(
+    rt: &W,
+    alloc: Global,
+    told: &mut String,
+    master: &Master<K, R>,
+    pass: &mut Pass,
+    viewers: &mut [Viewer<K>],
+) -> Result<()> {
+    append_sheets(alloc, told, viewers)?;
+    call_line(rt, alloc, master, pass, SMALL_AGENT)?;
+    let answer = call_line(rt, alloc, master, pass, SMALL_AGENT)?;
+    if let Some(first) = viewers.first_mut() {
+        first.learn(&answer.told);
+    }
+    append_reply(alloc, told, &answer.reply)?;
+    told.push(';')?;
+    append_sheets(alloc, told, viewers)
+}
+
+fn watch_first<K: Naming, R: Wait + Drop, W: Wait>(
+    rt: &W,
+    alloc: Global,
+    told: &mut String,
+    master: &Master<K, R>,
+    passes: &mut [Pass],
+    viewers: &mut [Viewer<K>],
+) -> Result<()> {
+    let pass = passes.first_mut().context("no pass")?;
+    watch(rt, alloc, told, master, pass, viewers)
+}
+
+fn watched_named<K: Naming, W: Wait>(
+    rt: &W,
+    alloc: Global,
+    told: &mut String,
+    slate: Slate,
+) -> Result<()>
+    requires named { slate.name ≡ K.slate }
+    requires limits { slate.name.limits ≡ ceilings }
+{
+    let (master, mut passes, mut viewers) = Master::<K, &W>::open(
+        rt,
+        alloc,
+        1,
+        Limits::full(),
+        1,
+        slate,
+    )?;
+    watch_first(
+        rt,
+        alloc,
+        told,
+        &master,
+        passes.as_mut_slice(),
+        viewers.as_mut_slice(),
+    )?;
+    drop(master);
+    append_sheets(alloc, told, viewers.as_mut_slice())
+}
+
+/// What two viewers read at first, after two calls, and once the master is gone.
+pub fn by_two<W: Wait>(rt: &W, alloc: Global, told: &mut String) -> Result<()> {
+    told.push_str("two viewers:")?;
+    let slate = Slate::open(2, Limits::full())?;
+    watched_named::<Brand, W>(rt, alloc, told, slate)?;
+    Ok(told.push('\n')?)
+}

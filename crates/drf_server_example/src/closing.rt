@@ -1,54 +1,107 @@
-//! Masters that are called and then closed, with all passes that called, or with others. Each has the key 1 and two passes.
+//! Masters of two passes that are called and then closed: with all passes that called, or with others.
 ghost use Rattle.std.specs.Prelude.{◌≡◌};
 ghost use Rattle.drf_rows.specs.LimitNumbers.{ceilings};
 
-use crate::calls::{call_all, passes_of_another};
-use crate::events::{AGENT, FRAMEWORK, OTHER_AGENT};
-use anyhow::Result;
+use crate::lines::{AGENT, FRAMEWORK, OTHER_AGENT};
+use anyhow::{Context, Result};
 use drf_board::{Brand, Naming, Slate};
-use drf_master::{CloseRefused, Master, Pass};
+use drf_lines::read_event;
+use drf_master::{Answer, CloseRefused, Master, Pass};
 use drf_rows::Limits;
 use std::alloc::Global;
 use std::fmt::Write;
 use std::sync::Wait;
 
-/// Tells why a master was not closed with so many of its own passes and some of another, and whether the book that is handed back
-/// matches all its own.
-fn append_refused(
-    told: &mut String,
-    refused: CloseRefused,
-    count: usize,
-    rest: Vec<Pass>,
-) -> Result<()> {
-    let CloseRefused {
-        fault,
-        book,
-        mut passes,
-    } = refused;
-    passes.truncate(count);
-    for pass in rest {
-        passes.push(pass)?;
-    }
-    let is_own = book.matches(&passes).is_ok();
-    Ok(writeln!(told, "{fault:?}; the book matches its own passes: {is_own}")?)
+/// Makes a call by one of the passes: its event is that of a line.
+pub fn call<K: Naming, R: Wait + Drop, W: Wait>(
+    rt: &W,
+    alloc: Global,
+    master: &Master<K, R>,
+    passes: &mut [Pass],
+    (place, line): (usize, &str),
+) -> Result<Answer<K>> {
+    let pass = passes.get_mut(place).context("no such pass")?;
+    let event = read_event(alloc, line.as_bytes())?;
+    master
+        .call(rt, pass, event)
+        .ok()
+        .context("a call was not made")
 }
 
-/// Closes a master with so many of its own passes and some of another.
-fn append_closed<K: Naming, R: Wait + Drop>(
-    told: &mut String,
-    master: Master<K, R>,
-    mut passes: Vec<Pass>,
-    count: usize,
-    others: Vec<Pass>,
+/// Makes calls, each by the pass at the place that is beside its line.
+fn call_all<K: Naming, R: Wait + Drop, W: Wait>(
+    rt: &W,
+    alloc: Global,
+    master: &Master<K, R>,
+    passes: &mut [Pass],
+    calls: &[(usize, &str)],
 ) -> Result<()> {
-    let rest = passes.split_off(count)?;
-    for pass in others {
-        passes.push(pass)?;
+    for (place, line) in calls {
+        call(rt, alloc, master, passes, (*place, line))?;
     }
-    match master.close(passes) {
-        Ok(book) => Ok(writeln!(told, "closed with {} entries", book.len())?),
-        Err(refused) => append_refused(told, refused, count, rest),
-    }
+    Ok(())
+}
+
+fn passes_named<K: Naming, W: Wait>(
+    rt: &W,
+    alloc: Global,
+    key: u64,
+    slate: Slate,
+    calls: &[(usize, &str)],
+) -> Result<Vec<Pass>>
+    requires named { slate.name ≡ K.slate }
+    requires limits { slate.name.limits ≡ ceilings }
+{
+    let (master, mut passes, _viewers) = Master::<K, &W>::open(
+        rt,
+        alloc,
+        key,
+        Limits::full(),
+        1,
+        slate,
+    )?;
+    call_all(rt, alloc, &master, passes.as_mut_slice(), calls)?;
+    Ok(passes)
+}
+
+/// The one pass of another master, which is gone, with the receipts of its calls.
+pub fn passes_of_another<W: Wait>(
+    rt: &W,
+    alloc: Global,
+    key: u64,
+    calls: &[(usize, &str)],
+) -> Result<Vec<Pass>> {
+    let slate = Slate::open(0, Limits::full())?;
+    passes_named::<Brand, W>(rt, alloc, key, slate, calls)
+}
+
+/// Makes calls. Then so many of the passes stay, the others are put behind them, and the rest is handed back.
+fn exchange<K: Naming, R: Wait + Drop, W: Wait>(
+    rt: &W,
+    alloc: Global,
+    master: &Master<K, R>,
+    passes: &mut Vec<Pass>,
+    calls: &[(usize, &str)],
+    count: usize,
+    others: &mut Vec<Pass>,
+) -> Result<Vec<Pass>> {
+    call_all(rt, alloc, master, passes.as_mut_slice(), calls)?;
+    let rest = passes.split_off(count.min(passes.len()))?;
+    passes.append(others)?;
+    Ok(rest)
+}
+
+/// Tells why a master was not closed, and whether all its own passes match the book that is handed back.
+fn append_refused(
+    told: &mut String,
+    refused: &mut CloseRefused,
+    count: usize,
+    rest: &mut Vec<Pass>,
+) -> Result<()> {
+    refused.passes.truncate(count);
+    refused.passes.append(rest)?;
+    let is_own = refused.book.matches(&refused.passes).is_ok();
+    Ok(writeln!(told, " {:?}, own passes match: {is_own}", refused.fault)?)
 }
 
 fn closed_named<K: Naming, W: Wait>(
@@ -56,9 +109,9 @@ fn closed_named<K: Naming, W: Wait>(
     alloc: Global,
     told: &mut String,
     slate: Slate,
-    calls: &[&[&str]],
+    calls: &[(usize, &str)],
     count: usize,
-    others: Vec<Pass>,
+    others: &mut Vec<Pass>,
 ) -> Result<()>
     requires named { slate.name ≡ K.slate }
     requires limits { slate.name.limits ≡ ceilings }
@@ -71,66 +124,41 @@ fn closed_named<K: Naming, W: Wait>(
         2,
         slate,
     )?;
-    call_all(rt, alloc, &master, passes.as_mut_slice(), calls)?;
-    append_closed(told, master, passes, count, others)
+    let mut rest = exchange(rt, alloc, &master, &mut passes, calls, count, others)?;
+    match master.close(passes) {
+        Ok(book) => Ok(writeln!(told, " closed, {} entries", book.len())?),
+        Err(mut refused) => append_refused(told, &mut refused, count, &mut rest),
+    }
 }
 
-/// The passes make calls, and so many of them close the master, with some of another.
+/// The passes of a master make calls, and so many of them close it, with passes of another.
 fn closed<W: Wait>(
     rt: &W,
     alloc: Global,
     told: &mut String,
-    calls: &[&[&str]],
+    calls: &[(usize, &str)],
     count: usize,
-    others: Vec<Pass>,
+    mut others: Vec<Pass>,
 ) -> Result<()> {
     let slate = Slate::open(0, Limits::full())?;
-    closed_named::<Brand, W>(rt, alloc, told, slate, calls, count, others)
+    closed_named::<Brand, W>(rt, alloc, told, slate, calls, count, &mut others)
 }
 
-/// The first pass makes all calls, and closes the master alone.
-pub fn with_the_only_caller<W: Wait>(rt: &W, alloc: Global, told: &mut String) -> Result<()> {
-    told.push_str("the only caller: ")?;
-    closed(rt, alloc, told, &[&[AGENT, FRAMEWORK]], 1, Vec::new(alloc))
-}
-
-/// Each pass makes a call, and both close the master.
-pub fn with_both<W: Wait>(rt: &W, alloc: Global, told: &mut String) -> Result<()> {
-    told.push_str("both callers: ")?;
-    closed(
-        rt,
-        alloc,
-        told,
-        &[&[AGENT], &[FRAMEWORK]],
-        2,
-        Vec::new(alloc),
-    )
-}
-
-/// Each pass makes a call, and the first is to close the master alone.
-pub fn with_one_too_few<W: Wait>(rt: &W, alloc: Global, told: &mut String) -> Result<()> {
-    told.push_str("one of both callers: ")?;
-    closed(
-        rt,
-        alloc,
-        told,
-        &[&[AGENT], &[FRAMEWORK]],
-        1,
-        Vec::new(alloc),
-    )
-}
-
-/// The first pass is to close the master, with a pass of a master with another key in place of the second.
-pub fn with_a_stranger<W: Wait>(rt: &W, alloc: Global, told: &mut String) -> Result<()> {
-    told.push_str("a pass of another key: ")?;
-    let mut strangers = passes_of_another(rt, alloc, 2, &[])?;
-    strangers.truncate(1);
-    closed(rt, alloc, told, &[&[AGENT], &[FRAMEWORK]], 1, strangers)
-}
-
-/// Passes of another master with the same key, which made another call, are to close the master.
-pub fn with_other_receipts<W: Wait>(rt: &W, alloc: Global, told: &mut String) -> Result<()> {
-    told.push_str("passes with other receipts: ")?;
-    let others = passes_of_another(rt, alloc, 1, &[&[OTHER_AGENT]])?;
-    closed(rt, alloc, told, &[&[AGENT]], 0, others)
+/// The passes that called close the master, and then passes that do not fit it: too few, one of another key, or others of the same
+/// key, which made another call.
+pub fn closed_by_each<W: Wait>(rt: &W, alloc: Global, told: &mut String) -> Result<()> {
+    let by_first = [(0, AGENT), (0, FRAMEWORK)];
+    let by_both = [(0, AGENT), (1, FRAMEWORK)];
+    told.push_str("the only caller:")?;
+    closed(rt, alloc, told, &by_first, 1, Vec::new(alloc))?;
+    told.push_str("both callers:")?;
+    closed(rt, alloc, told, &by_both, 2, Vec::new(alloc))?;
+    told.push_str("one of both callers:")?;
+    closed(rt, alloc, told, &by_both, 1, Vec::new(alloc))?;
+    told.push_str("a pass of another key:")?;
+    let strangers = passes_of_another(rt, alloc, 2, &[])?;
+    closed(rt, alloc, told, &by_both, 1, strangers)?;
+    told.push_str("a pass with another receipt:")?;
+    let others = passes_of_another(rt, alloc, 1, &[(0, OTHER_AGENT)])?;
+    closed(rt, alloc, told, &[(0, AGENT)], 0, others)
 }

@@ -2,10 +2,11 @@
 ghost use Rattle.std.specs.Prelude.{◌≡◌, ◌≤◌, length};
 ghost use Rattle.drf_rows.specs.LimitNumbers.{ceilings};
 
-use crate::calls::passes_of_another;
-use crate::events::{AGENT, CYCLE, FRAMEWORK, append_reply, events_of};
+use crate::closing::passes_of_another;
+use crate::lines::{AGENT, CYCLE, FRAMEWORK, append_reply};
 use anyhow::{Context, Result, bail};
 use drf_board::{Brand, Naming, Slate};
+use drf_lines::read_event;
 use drf_master::{DriveFault, Driven, Gate, Master, OpenGate, Pass, drive};
 use drf_rows::{Event, Limits, Reply};
 use std::alloc::Global;
@@ -46,12 +47,12 @@ impl Gate for Meeting {
     fn after(&self, _worker: u64, _call: u64) {}
 }
 
-/// Opens a master of so many passes as there are scripts, and drives it.
-fn driven_named<K: Naming + Send + Sync, W: Threads + Wait + Sync, G: Gate + Sync>(
+/// Drives a master of as many passes as there are scripts.
+fn driven_named<K: Naming + Send + Sync, W: Threads + Wait + Sync>(
     rt: &W,
     alloc: Global,
     slate: Slate,
-    gate: &G,
+    meeting: &Meeting,
     scripts: Vec<Vec<Event>>,
 ) -> Result<Driven, DriveFault>
     requires named { slate.name ≡ K.slate }
@@ -67,113 +68,116 @@ fn driven_named<K: Naming + Send + Sync, W: Threads + Wait + Sync, G: Gate + Syn
         count,
         slate,
     )?;
-    drive(rt, alloc, master, passes, gate, scripts)
+    drive(rt, alloc, master, passes, meeting, scripts)
 }
 
-fn driven<W: Threads + Wait + Sync, G: Gate + Sync>(
+/// Runs scripts on a master of their own. Their first calls meet.
+fn driven<W: Threads + Wait + Sync>(
     rt: &W,
     alloc: Global,
-    gate: &G,
     scripts: Vec<Vec<Event>>,
 ) -> Result<Driven> {
     if scripts.is_empty() || scripts.len() > 64 {
-        bail!("a drive is of 1 to 64 scripts");
+        bail!("1 to 64 scripts can be driven");
     }
+    let meeting = Meeting {
+        all: scripts.len() as u64,
+        came: AtomicU64::new(0),
+    };
     let slate = Slate::open(0, Limits::full())?;
-    driven_named::<Brand, W, G>(rt, alloc, slate, gate, scripts)
+    driven_named::<Brand, W>(rt, alloc, slate, &meeting, scripts)
         .ok()
         .context("not driven")
 }
 
-/// Drives a master by passes that another master gave.
-fn driven_by<K: Naming + Send + Sync, W: Threads + Wait + Sync>(
+fn fault_of_strangers<K: Naming + Send + Sync, W: Threads + Wait + Sync>(
     rt: &W,
     alloc: Global,
     slate: Slate,
     passes: Vec<Pass>,
     scripts: Vec<Vec<Event>>,
-) -> Result<Driven, DriveFault>
+) -> Result<DriveFault>
     requires named { slate.name ≡ K.slate }
     requires limits { slate.name.limits ≡ ceilings }
     requires count { length scripts.items ≡ length passes.items }
 {
-    let (master, _own, _viewers) = Master::<K, &W>::open(rt, alloc, 1, Limits::full(), 2, slate)?;
+    let (master, _own, _viewers) = Master::<K, &W>::open(rt, alloc, 1, Limits::full(), 1, slate)?;
     drive(rt, alloc, master, passes, &OpenGate, scripts)
+        .err()
+        .context("driven by strangers")
 }
 
-/// A master with another key gave the passes.
-pub fn by_strangers<W: Threads + Wait + Sync>(
+/// A drive by a pass of another key is refused before any call.
+pub fn driven_by_strangers<W: Threads + Wait + Sync>(
     rt: &W,
     alloc: Global,
     told: &mut String,
 ) -> Result<()> {
     let passes = passes_of_another(rt, alloc, 2, &[])?;
-    let scripts = scripts_of(alloc, passes.len())?;
-    let slate = Slate::open(0, Limits::full())?;
-    match driven_by::<Brand, W>(rt, alloc, slate, passes, scripts) {
-        Ok(_) => Ok(told.push_str("driven by strangers\n")?),
-        Err(fault) => Ok(writeln!(told, "a drive by passes of another key: {fault:?}")?),
+    let mut scripts = Vec::new(alloc);
+    scripts.push(script_of(alloc, &[AGENT])?)?;
+    if scripts.len() != passes.len() {
+        bail!("a script for each pass can be driven");
     }
+    let slate = Slate::open(0, Limits::full())?;
+    let fault = fault_of_strangers::<Brand, W>(rt, alloc, slate, passes, scripts)?;
+    Ok(writeln!(told, "a drive by a pass of another key: {fault:?}")?)
 }
 
-fn append_replies(alloc: Global, told: &mut String, replies: &[Vec<Reply>]) -> Result<()> {
-    for reply in replies.iter().flatten() {
+fn script_of(alloc: Global, lines: &[&str]) -> Result<Vec<Event>> {
+    let mut script = Vec::new(alloc);
+    for line in lines {
+        script.push(read_event(alloc, line.as_bytes())?)?;
+    }
+    Ok(script)
+}
+
+fn append_replies(alloc: Global, told: &mut String, driven: &Driven) -> Result<()> {
+    for reply in driven.replies.iter().flatten() {
         append_reply(alloc, told, reply)?;
     }
     Ok(told.push('\n')?)
 }
 
 /// One script of three events: one thread makes three calls.
-pub fn one_script<W: Threads + Wait + Sync>(
+pub fn driven_alone<W: Threads + Wait + Sync>(
     rt: &W,
     alloc: Global,
     told: &mut String,
 ) -> Result<()> {
     told.push_str("one script:")?;
     let mut scripts = Vec::new(alloc);
-    scripts.push(events_of(alloc, &[AGENT, FRAMEWORK, CYCLE])?)?;
-    let driven = driven(rt, alloc, &OpenGate, scripts)?;
-    append_replies(alloc, told, &driven.replies)
+    scripts.push(script_of(alloc, &[AGENT, FRAMEWORK, CYCLE])?)?;
+    let driven = driven(rt, alloc, scripts)?;
+    append_replies(alloc, told, &driven)
 }
 
-fn script_of(alloc: Global, number: usize) -> Result<Vec<Event>> {
+fn script_at(alloc: Global, place: usize) -> Result<Vec<Event>> {
     let line = format!(in alloc;
-        "{{\"event\":\"add_framework\",\"framework\":\"f{number}\",\"roles\":[\"a\"]}}"
+        r#"{{"event":"add_framework","framework":"f{place}","roles":["a"]}}"#
     )?;
-    events_of(alloc, &[line.as_str()])
+    script_of(alloc, &[line.as_str()])
 }
 
-/// So many scripts, each of which adds a framework of its own.
-fn scripts_of(alloc: Global, count: usize) -> Result<Vec<Vec<Event>>> {
-    let mut scripts = Vec::new(alloc);
-    for number in 0..count {
-        scripts.push(script_of(alloc, number)?)?;
-    }
-    Ok(scripts)
-}
-
-/// Each framework is registered once, so that each call stands in the journal once.
 fn append_frameworks(told: &mut String, driven: &Driven) -> Result<()> {
-    let rows = driven.book.core().rows()?;
-    let (entries, frameworks) = (driven.book.len(), rows.frameworks.len());
+    let frameworks = driven.book.core().rows()?.frameworks.len();
+    let (scripts, entries) = (driven.replies.len(), driven.book.len());
     Ok(writeln!(
         told,
-        "{} scripts that meet: {entries} entries, {frameworks} frameworks",
-        driven.replies.len()
+        "{scripts} scripts that meet: {entries} entries, {frameworks} frameworks"
     )?)
 }
 
-/// As many scripts as a master may have passes, the first calls of which wait for one another.
-pub fn sixty_four_scripts<W: Threads + Wait + Sync>(
+/// As many scripts as a master may have passes: each adds a framework, so that as many frameworks are as many calls, each once.
+pub fn driven_side_by_side<W: Threads + Wait + Sync>(
     rt: &W,
     alloc: Global,
     told: &mut String,
 ) -> Result<()> {
-    let scripts = scripts_of(alloc, 64)?;
-    let meeting = Meeting {
-        all: 64,
-        came: AtomicU64::new(0),
-    };
-    let driven = driven(rt, alloc, &meeting, scripts)?;
+    let mut scripts = Vec::new(alloc);
+    for place in 0..64 {
+        scripts.push(script_at(alloc, place)?)?;
+    }
+    let driven = driven(rt, alloc, scripts)?;
     append_frameworks(told, &driven)
 }

@@ -2,11 +2,9 @@
 //! and closes it. Each line of its output tells how one use of the master went, whichever thread was first.
 #![tactic(auto)]
 
-mod books;
-mod calls;
 mod closing;
 mod driving;
-mod events;
+mod lines;
 mod viewing;
 
 use anyhow::Result;
@@ -17,16 +15,12 @@ use std::sync::Wait;
 use std::thread::Threads;
 
 fn serve<R: Threads + Wait + Sync>(rt: &R, alloc: Global, told: &mut String) -> Result<()> {
-    closing::with_the_only_caller(rt, alloc, told)?;
-    closing::with_both(rt, alloc, told)?;
-    closing::with_one_too_few(rt, alloc, told)?;
-    closing::with_a_stranger(rt, alloc, told)?;
-    closing::with_other_receipts(rt, alloc, told)?;
-    books::takes(alloc, told)?;
-    viewing::by_two(rt, alloc, told)?;
-    driving::by_strangers(rt, alloc, told)?;
-    driving::one_script(rt, alloc, told)?;
-    driving::sixty_four_scripts(rt, alloc, told)
+    closing::closed_by_each(rt, alloc, told)?;
+    lines::taken_by_a_book(alloc, told)?;
+    viewing::read_by_two(rt, alloc, told)?;
+    driving::driven_by_strangers(rt, alloc, told)?;
+    driving::driven_alone(rt, alloc, told)?;
+    driving::driven_side_by_side(rt, alloc, told)
 }
 
 fn main(rt: HostRuntime) -> io::Result<()> {

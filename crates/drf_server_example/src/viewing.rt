@@ -1,10 +1,10 @@
-//! Reports that viewers read while others call the master.
+//! Reports that viewers read without the lock of the master.
 ghost use Rattle.std.specs.Prelude.{◌≡◌};
 ghost use Rattle.drf_rows.specs.LimitNumbers.{ceilings};
 
-use crate::calls::call_line;
-use crate::events::{SMALL_AGENT, append_reply};
-use anyhow::{Context, Result};
+use crate::closing::call;
+use crate::lines::{SMALL_AGENT, append_reply};
+use anyhow::Result;
 use drf_board::{Brand, Naming, Sheet, Slate, Viewer};
 use drf_master::{Master, Pass};
 use drf_rows::Limits;
@@ -25,7 +25,7 @@ fn append_sheet<K: Naming>(alloc: Global, told: &mut String, viewer: &mut Viewer
     }
 }
 
-fn append_sheets<K: Naming>(
+fn append_all<K: Naming>(
     alloc: Global,
     told: &mut String,
     viewers: &mut [Viewer<K>],
@@ -42,30 +42,17 @@ fn watch<K: Naming, R: Wait + Drop, W: Wait>(
     alloc: Global,
     told: &mut String,
     master: &Master<K, R>,
-    pass: &mut Pass,
+    passes: &mut [Pass],
     viewers: &mut [Viewer<K>],
 ) -> Result<()> {
-    append_sheets(alloc, told, viewers)?;
-    call_line(rt, alloc, master, pass, SMALL_AGENT)?;
-    let answer = call_line(rt, alloc, master, pass, SMALL_AGENT)?;
+    append_all(alloc, told, viewers)?;
+    call(rt, alloc, master, passes, (0, SMALL_AGENT))?;
+    let answer = call(rt, alloc, master, passes, (0, SMALL_AGENT))?;
     if let Some(first) = viewers.first_mut() {
         first.learn(&answer.told);
     }
     append_reply(alloc, told, &answer.reply)?;
-    told.push(';')?;
-    append_sheets(alloc, told, viewers)
-}
-
-fn watch_first<K: Naming, R: Wait + Drop, W: Wait>(
-    rt: &W,
-    alloc: Global,
-    told: &mut String,
-    master: &Master<K, R>,
-    passes: &mut [Pass],
-    viewers: &mut [Viewer<K>],
-) -> Result<()> {
-    let pass = passes.first_mut().context("no pass")?;
-    watch(rt, alloc, told, master, pass, viewers)
+    append_all(alloc, told, viewers)
 }
 
 fn watched_named<K: Naming, W: Wait>(
@@ -85,7 +72,7 @@ fn watched_named<K: Naming, W: Wait>(
         1,
         slate,
     )?;
-    watch_first(
+    watch(
         rt,
         alloc,
         told,
@@ -94,11 +81,11 @@ fn watched_named<K: Naming, W: Wait>(
         viewers.as_mut_slice(),
     )?;
     drop(master);
-    append_sheets(alloc, told, viewers.as_mut_slice())
+    append_all(alloc, told, viewers.as_mut_slice())
 }
 
 /// What two viewers read at first, after two calls, and once the master is gone.
-pub fn by_two<W: Wait>(rt: &W, alloc: Global, told: &mut String) -> Result<()> {
+pub fn read_by_two<W: Wait>(rt: &W, alloc: Global, told: &mut String) -> Result<()> {
     told.push_str("two viewers:")?;
     let slate = Slate::open(2, Limits::full())?;
     watched_named::<Brand, W>(rt, alloc, told, slate)?;

@@ -1,5 +1,6 @@
 //! Scripts of events that run side by side, each on a thread and a pass of its own.
-ghost use Rattle.std.specs.Prelude.{◌≡◌, ◌≤◌, length};
+ghost use Rattle.std.specs.Prelude.{◌≡◌, ◌≤◌, length, IfOk};
+ghost use Rattle.drf_board.specs.History.{IsLegal};
 ghost use Rattle.drf_rows.specs.LimitNumbers.{ceilings};
 
 use crate::closing::passes_of_another;
@@ -58,6 +59,7 @@ fn driven_named<K: Naming + Send + Sync, W: Threads + Wait + Sync>(
     requires named { slate.name ≡ K.slate }
     requires limits { slate.name.limits ≡ ceilings }
     requires count { (1 ≤ length scripts.items) × (length scripts.items ≤ 64) }
+    ensures legal { IfOk result (λ driven. IsLegal ceilings driven.book.entries) }
 {
     let count = scripts.len() as u64;
     let (master, passes, _viewers) = Master::<K, &W>::open(
@@ -71,12 +73,15 @@ fn driven_named<K: Naming + Send + Sync, W: Threads + Wait + Sync>(
     drive(rt, alloc, master, passes, meeting, scripts)
 }
 
-/// Runs scripts on a master of their own. Their first calls meet.
+/// Runs scripts on a master of their own. Their first calls meet. Whichever thread was first, the journal is legal: its replies are
+/// those to its events, one after the other.
 fn driven<W: Threads + Wait + Sync>(
     rt: &W,
     alloc: Global,
     scripts: Vec<Vec<Event>>,
-) -> Result<Driven> {
+) -> Result<Driven>
+    ensures legal { IfOk result (λ driven. IsLegal ceilings driven.book.entries) }
+{
     if scripts.is_empty() || scripts.len() > 64 {
         bail!("1 to 64 scripts can be driven");
     }
@@ -85,9 +90,10 @@ fn driven<W: Threads + Wait + Sync>(
         came: AtomicU64::new(0),
     };
     let slate = Slate::open(0, Limits::full())?;
-    driven_named::<Brand, W>(rt, alloc, slate, &meeting, scripts)
-        .ok()
-        .context("not driven")
+    match driven_named::<Brand, W>(rt, alloc, slate, &meeting, scripts) {
+        Ok(driven) => Ok(driven),
+        Err(fault) => bail!("not driven: {fault:?}"),
+    }
 }
 
 fn fault_of_strangers<K: Naming + Send + Sync, W: Threads + Wait + Sync>(

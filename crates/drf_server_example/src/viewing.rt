@@ -15,7 +15,8 @@ use std::sync::Wait;
 
 fn append_shown(alloc: Global, told: &mut String, sheet: &Sheet) -> Result<()> {
     let total = write_quantities(alloc, &sheet.report.total)?;
-    Ok(write!(told, " {} events ({total});", sheet.events)?)
+    let nodes = sheet.report.nodes.len();
+    Ok(write!(told, " {} events ({total}), {nodes} nodes;", sheet.events)?)
 }
 
 fn append_sheet<K: Naming>(alloc: Global, told: &mut String, viewer: &mut Viewer<K>) -> Result<()> {

@@ -3,9 +3,10 @@ ghost use Rattle.std.specs.Prelude.{◌≡◌, ◌+◌, ◌<◌, ◌^◌, ◌++�
 ghost use Rattle.drf_board.specs.Boards.{HasPublished};
 ghost use Rattle.drf_board.specs.History.{IsLegal, entry};
 ghost use Rattle.drf_master.specs.Journal.{Adds, IsNext};
+ghost use Rattle.drf_master.specs.Receipts.{IsSamePass, Keeps};
 
 use crate::book::{Book, Next};
-use crate::pass::Receipt;
+use crate::pass::{Pass, Receipt};
 use drf_board::{Board, Entry, Naming, Sheet, Told};
 use drf_rows::{Copied, Event, Reply};
 use drf_tree::TreeSorter;
@@ -171,7 +172,7 @@ impl<K: Naming, R: Wait + Drop> Desk<K, R> {
     }
 
     /// The same, with a receipt.
-    pub(crate) fn answer_with_receipt(
+    fn answer_with_receipt(
         &mut self,
         event: Event,
     ) -> Result<(Answer<K>, Receipt), AllocError>
@@ -184,6 +185,25 @@ impl<K: Naming, R: Wait + Drop> Desk<K, R> {
     {
         let next = self.book.prepare(event)?;
         answer_prepared(&mut self.book, &mut self.board, next)
+    }
+
+    /// The same, and the pass, which has room for it, gets a receipt: journal, board and pass change together, or none of them.
+    pub(crate) fn answer_to(
+        &mut self,
+        pass: &mut Pass,
+        event: Event,
+    ) -> Result<Answer<K>, AllocError>
+        requires room { 0 < pass.old.room }
+        ensures journal { IfOk result (λ answer. self.new ≡ self.old ++ entry event answer.reply ∷ []) }
+        ensures told { IfOk result (λ answer. answer.told ≡ self.new) }
+        ensures place { IfOk result (λ answer. answer.place ≡ length self.old) }
+        ensures legal { OnOk result (IsLegal K.slate.limits self.new) }
+        ensures kept { IfOk result (λ answer. Keeps pass.old pass.new answer.place (entry event answer.reply)) }
+        ensures err { OnErr result ((self.new ≡ self.old) × IsSamePass pass.old pass.new) }
+    {
+        let (answer, receipt) = self.answer_with_receipt(event)?;
+        pass.keep(receipt);
+        Ok(answer)
     }
 
     /// The book, which nobody shows any more. Viewers then read no sheet.

@@ -175,9 +175,7 @@ impl<K: Naming, R: Wait + Drop> Master<K, R> {
         ensures err { OnErr result (IsSamePass pass.old pass.new) }
         ensures fault { IfErr result (IsCallFault self.now.key pass.old) }
     {
-        let (answer, receipt) = self.desk.lock(rt).answer_with_receipt(event)?;
-        pass.keep(receipt);
-        Ok(answer)
+        Ok(self.desk.lock(rt).answer_to(pass, event)?)
     }
 
     /// Takes the book out of the lock. `Ok` is told where the passes are the master's and the journal is a shuffle of their receipts:

@@ -1,9 +1,9 @@
 -- What is told of a cycle, client by client and agent by agent.
-use Rattle.std.proofs.Common.{◌≡◌, ℕ, ◌+◌, ◌<◌, ◌≤◌, zero, suc, Bool, true, false, ◌&&◌, List, [], ◌∷◌, ◌++◌, Option, Some, None, length, map, drop, refl, sym, ap, subst, ◌∙◌, cond, arith, append_assoc, append-nil}
-use Rattle.std.specs.Prelude.{slice_get, is_some, filter, nat_lt, max}
+use Rattle.std.proofs.Common.{◌≡◌, ℕ, ◌+◌, ◌<◌, suc, Bool, true, false, ◌&&◌, List, [], ◌∷◌, ◌++◌, Option, Some, None, length, map, drop, refl, sym, ap, subst, ◌∙◌, cond, arith, append_assoc}
+use Rattle.std.specs.Prelude.{slice_get, is_some, filter, max}
 use Rattle.std.specs.List.{AllByRecursion}
 use Rattle.std.specs.Option.{option_map_or}
-use Rattle.std.proofs.lemmas.Bool.{and_parts, lt-ltb}
+use Rattle.std.proofs.lemmas.Bool.{lt-ltb}
 use Rattle.std.proofs.lemmas.List.{length-map}
 use Rattle.drf_role.specs.Path.{Path, role_part}
 use Rattle.drf_role.specs.PathLaws.{role_part-client_path}
@@ -20,7 +20,6 @@ use Rattle.drf_rows.specs.Quota.{entitlement}
 use Rattle.drf_rows.specs.Step.{live_rows}
 use Rattle.drf_rows.specs.declared.rows.AgentRow.{AgentRow}
 use Rattle.drf_rows.specs.declared.rows.FilterRow.{FilterRow}
-use Rattle.drf_rows.specs.declared.rows.LimitRow.{LimitRow}
 use Rattle.drf_rows.specs.declared.rows.OfferRow.{OfferRow}
 use Rattle.drf_rows.specs.declared.rows.Rows.{Rows}
 use Rattle.drf_explain.specs.Explained.{outcome, outcome_by, told_of_all, told_of_active, told_of_agent, after_agent, told_of_agents, suppressed_of, explained}
@@ -35,7 +34,7 @@ use Rattle.drf_tables.specs.Drafts.{with_offers}
 use Rattle.drf_tables.specs.DraftLaws.{agents-with_offers}
 use Rattle.drf_core.specs.Drafting.{IsDrafting, IsTried, is_open_at, turn_at}
 use Rattle.drf_core.specs.Entitling.{IsEntitlement, IsQuotaOf}
-use Rattle.drf_core.specs.Explaining.{AreToldAt, AreTried, IsOutcomeOf, left_told, told_at}
+use Rattle.drf_core.specs.Explaining.{IsOutcomeOf, left_told, told_at}
 use Rattle.drf_core.proofs.CycleLemmas.{begins_at}
 use Rattle.drf_core.proofs.TurnLemmas.{AreWaiting, element_at, ordered_from, turn_at-closed}
 

@@ -1,19 +1,16 @@
 -- What is told of a cycle, agent by agent, while its offers are drafts.
-use Rattle.std.specs.Prelude.{◌≡◌, ℕ, ◌++◌, List, [], ◌∷◌, length, slice_get, Some, if◌then◌else◌, nat_lt}
+use Rattle.std.specs.Prelude.{◌≡◌, ℕ, ◌++◌, List, [], ◌∷◌, slice_get, Some, if◌then◌else◌, nat_lt}
 use Rattle.std.specs.Option.{option_map_or}
 use Rattle.drf_role.specs.Text.{Text}
 use Rattle.drf_role.specs.Path.{Path}
-use Rattle.drf_gates.specs.Quota.{Allowance}
 use Rattle.drf_bundle.specs.declared.resource.Resource.{Resource}
 use Rattle.drf_rows.specs.Client.{Client, path_of}
-use Rattle.drf_rows.specs.Cycle.{free_of, all_tried, turn_order}
+use Rattle.drf_rows.specs.Cycle.{all_tried, turn_order}
 use Rattle.drf_rows.specs.declared.rows.AgentRow.{AgentRow}
 use Rattle.drf_rows.specs.declared.rows.Rows.{Rows}
 use Rattle.drf_explain.specs.Explained.{outcome, told_of_agent, told_of_all}
-use Rattle.drf_explain.specs.Gates.{AreGatesOf}
 use Rattle.drf_explain.specs.declared.finding.Finding.{Finding}
 use Rattle.drf_explain.specs.declared.finding.Finding.TheVariants.{Left, Tried}
-use Rattle.drf_explain.specs.declared.gates.Gates.{Gates}
 
 -- what is told of the agent at a place
 abbrev pub told_at : Rows → ℕ → List Finding

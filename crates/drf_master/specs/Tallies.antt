@@ -1,5 +1,5 @@
 -- What a comparison has found out once it has looked at some receipts.
-use Rattle.std.specs.Prelude.{◌≡◌, ℕ, ◌+◌, ◌<◌, ◌≤◌, Bool, false, cond, nat_le, List, [], ◌∷◌, length, Option, Some, None, MatchBool, slice_index_or}
+use Rattle.std.specs.Prelude.{◌≡◌, ℕ, ◌+◌, ◌<◌, Bool, false, cond, nat_le, List, [], ◌∷◌, length, Option, Some, None, MatchBool, slice_index_or}
 use Rattle.drf_board.specs.declared.entry.Entry.{Entry}
 use Rattle.drf_master.specs.Matching.{AreAllJournals, IsLeast, IsWrong, times}
 use Rattle.drf_master.specs.declared.pass.Receipt.{Receipt}

@@ -1,8 +1,6 @@
-use Rattle.std.proofs.Common.{◌≡◌, ◌≤◌, List, refl, sym, ap, subst, ◌∙◌, arith, length}
+use Rattle.std.proofs.Common.{◌≡◌, sym, ap, subst, ◌∙◌, arith, length}
 use Rattle.std.specs.Prelude.{max}
-use Rattle.drf_rows.specs.declared.rows.AgentRow.{AgentRow}
 use Rattle.drf_rows.specs.declared.rows.Rows.{Rows}
-use Rattle.drf_rows.specs.declared.limits.TheConstants.{LATEST_MOMENT}
 use Rattle.drf_core.specs.Entitling.{IsQuotaOf}
 use Rattle.drf_core.proofs.CycleLemmas.{drafting-begins}
 use Rattle.drf_core.proofs.ExplainLemmas.{explained-is}

@@ -1,8 +1,5 @@
-use Rattle.std.proofs.Common.{◌∙◌, subst}
+use Rattle.std.proofs.Common.{◌∙◌}
 use Rattle.std.specs.Option.{option_copied}
-use Rattle.drf_role.specs.Path.{Path}
-use Rattle.drf_bundle.specs.Bundle.{part_for}
-use Rattle.drf_core.specs.Entitling.{IsEntitlement}
 use Rattle.drf_core.proofs.ExplainLemmas.{finding-is}
 use Rattle.drf_core.proofs.explain.outcome_of.Goals as goal
 

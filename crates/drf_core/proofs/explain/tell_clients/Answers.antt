@@ -1,8 +1,6 @@
-use Rattle.std.proofs.Common.{◌≡◌, ◌≤◌, ◌+◌, true, false, ◌∷◌, ◌++◌, [], Some, length, map, drop, refl, sym, ap, subst, ◌∙◌, arith}
+use Rattle.std.proofs.Common.{◌≡◌, ◌+◌, true, false, ◌∷◌, ◌++◌, [], Some, length, map, drop, refl, sym, ap, subst, ◌∙◌, arith}
 use Rattle.std.specs.Prelude.{slice_get, is_some, ◌&&◌}
-use Rattle.std.specs.Option.{option_copied}
 use Rattle.std.proofs.lemmas.Bool.{and_parts}
-use Rattle.drf_role.specs.Path.{Path}
 use Rattle.drf_rows.specs.Cycle.{all_tried, free_of, is_allocatable, turn_order}
 use Rattle.drf_rows.specs.Consistent.{are_distinct}
 use Rattle.drf_rows.specs.declared.rows.AgentRow.{AgentRow}
@@ -10,7 +8,7 @@ use Rattle.drf_rows.specs.declared.rows.Rows.{Rows}
 use Rattle.drf_sorter.specs.Content.{Content}
 use Rattle.drf_tables.specs.Drafts.{with_offers}
 use Rattle.drf_tables.specs.DraftLaws.{agents-with_offers}
-use Rattle.drf_core.specs.Drafting.{IsDrafting, IsFreeAt}
+use Rattle.drf_core.specs.Drafting.{IsDrafting}
 use Rattle.drf_core.specs.Explaining.{left_told}
 use Rattle.drf_core.proofs.ExplainLemmas.{gates-drafts, told-begins, as_many, one_fewer, told-passed, told-over, waiting_of}
 use Rattle.drf_core.proofs.TurnLemmas.{HasLeft-turn, free-before, element_at, sound_now, waiting-first, waiting-over, first_of_queue, queue_falls}

@@ -1,5 +1,4 @@
-use Rattle.std.proofs.Common.{◌≡◌, Some, None, ◌∙◌, sym, ap, subst}
-use Rattle.std.specs.Prelude.{slice_get}
+use Rattle.std.proofs.Common.{◌≡◌, Some, None, ◌∙◌, subst}
 use Rattle.drf_role.specs.Path.{Path}
 use Rattle.drf_core.specs.Explaining.{IsOutcomeOf}
 use Rattle.drf_core.proofs.explain.tell_first.Goals as goal

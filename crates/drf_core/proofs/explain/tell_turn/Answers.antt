@@ -1,14 +1,11 @@
-use Rattle.std.proofs.Common.{◌≡◌, true, false, ◌∷◌, ◌++◌, [], Bool, List, Some, length, refl, sym, ap, subst, ◌∙◌, arith}
-use Rattle.std.specs.Prelude.{slice_get}
+use Rattle.std.proofs.Common.{◌≡◌, true, false, ◌∷◌, ◌++◌, [], List, sym, ap, subst, ◌∙◌}
 use Rattle.drf_bundle.specs.declared.resource.Resource.{Resource}
 use Rattle.drf_rows.specs.Cycle.{free_of}
 use Rattle.drf_rows.specs.Offers.{is_empty}
-use Rattle.drf_rows.specs.declared.rows.AgentRow.{AgentRow}
 use Rattle.drf_rows.specs.declared.rows.Rows.{Rows}
 use Rattle.drf_explain.specs.Gates.{AreGatesOf}
 use Rattle.drf_explain.specs.declared.finding.Finding.TheVariants.{Inactive, NothingFree}
 use Rattle.drf_tables.specs.Drafts.{with_offers}
-use Rattle.drf_tables.specs.DraftLaws.{agents-with_offers}
 use Rattle.drf_core.proofs.ExplainLemmas.{agent_in, gates-live, turn_at-idle, turn_at-full, turn_at-tried, told_at-idle, told_at-full, told_at-tried}
 use Rattle.drf_core.proofs.RefusalLemmas.{no_length}
 use Rattle.drf_core.proofs.TurnLemmas.{HasLeft-closed, free-before}

@@ -1,4 +1,4 @@
-use Rattle.std.proofs.Common.{◌≡◌, ◌+◌, ◌<◌, ◌^◌, Bool, List, arith}
+use Rattle.std.proofs.Common.{◌+◌, ◌<◌, ◌^◌, Bool, List, arith}
 use Rattle.drf_role.specs.Path.{Path}
 use Rattle.drf_role.specs.Text.{Text}
 use Rattle.drf_bundle.specs.Value.{Thousandths}

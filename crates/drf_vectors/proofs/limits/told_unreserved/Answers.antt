@@ -1,5 +1,4 @@
-use Rattle.std.proofs.Common.{◌≡◌, ◌+◌, ◌<◌, ◌^◌, Bool, true, false, cond, List, arith}
-use Rattle.drf_role.specs.Path.{Path}
+use Rattle.std.proofs.Common.{◌+◌, ◌<◌, ◌^◌, Bool, true, false, cond, List, arith}
 use Rattle.drf_role.specs.Text.{Text}
 use Rattle.drf_bundle.specs.Value.{Thousandths}
 use Rattle.drf_bundle.specs.Bundle.{IsBundle}

@@ -2,31 +2,11 @@
 #![tactic(auto)]
 
 use drf_app::{command, no_words};
-use drf_drive::FileBytes;
-use drf_journal::{Device, RunFault};
+use drf_drive::SystemFiles;
+use drf_journal::Device;
 use std::env::Env;
-use std::io::ErrorKind;
 use std::process::ExitCode;
-use std::rt::Files;
-use std::{env, fs, io};
-
-/// The files of the system.
-#[derive(Drop)]
-struct SystemFiles<'a, R> {
-    rt: &'a R,
-}
-
-impl<R: Files + AllocGlobal> FileBytes for SystemFiles<'_, R> {
-    fn bytes(&mut self, name: &str) -> Result<Vec<u8>, RunFault> {
-        match fs::read(self.rt, name) {
-            Ok(bytes) => Ok(bytes),
-            Err(error) => match error.kind() {
-                ErrorKind::OutOfMemory => Err(RunFault::Memory),
-                _ => Err(RunFault::Read),
-            },
-        }
-    }
-}
+use std::{env, io};
 
 fn words<R: Env + AllocGlobal>(rt: &R) -> io::Result<Vec<String>> {
     Ok(env::args(rt)?.collect::<Vec<String>>(rt.alloc())?)

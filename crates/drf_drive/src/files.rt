@@ -5,6 +5,9 @@ ghost use Rattle.drf_drive.specs.Files.{AreContents, IsFileFault, IsUnread, byte
 use drf_journal::RunFault;
 use std::alloc::Global;
 use std::convert::AsStr;
+use std::fs;
+use std::io::ErrorKind;
+use std::rt::Files;
 
 /// Where files are found by name.
 pub trait FileBytes {
@@ -18,6 +21,24 @@ pub trait FileBytes {
         ensures whole { IfOk result (λ bytes. IfSome (known self.old name.now) (λ content. bytes.items ≡ content)) }
         ensures fault { IfErr result (IsFileFault (known self.old name.now)) }
         ensures same { known self.new ≡ known self.old };
+}
+
+/// The files of the system, of which nothing is known before they are read.
+#[derive(Drop)]
+pub struct SystemFiles<'a, R> {
+    pub rt: &'a R,
+}
+
+impl<R: Files + AllocGlobal> FileBytes for SystemFiles<'_, R> {
+    fn bytes(&mut self, name: &str) -> Result<Vec<u8>, RunFault> {
+        match fs::read(self.rt, name) {
+            Ok(bytes) => Ok(bytes),
+            Err(error) => match error.kind() {
+                ErrorKind::OutOfMemory => Err(RunFault::Memory),
+                _ => Err(RunFault::Read),
+            },
+        }
+    }
 }
 
 /// The bytes of all files, in order.

@@ -1,7 +1,7 @@
 //! Files that are run on threads.
 ghost use Rattle.std.specs.Prelude.{◌≡◌, ◌<◌, ◌≤◌, length, map, true, false, OnOk, IfOk, IfErr};
 ghost use Rattle.drf_board.specs.History.{IsLegal};
-ghost use Rattle.drf_drive.specs.Driven.{HasDrivenFiles, IsRunFault, IsShuffleOf};
+ghost use Rattle.drf_drive.specs.Driven.{HasDrivenFiles, IsRunFault, IsShuffleOf, told_as};
 ghost use Rattle.drf_drive.specs.JournalText.{is_write_fault};
 
 use crate::files::FileBytes;
@@ -21,9 +21,10 @@ use std::thread::Threads;
 const KEY: u64 = 0;
 
 impl From<DriveFault> for ScriptFault {
-    ghost use Rattle.drf_drive.specs.Driven.{IsRunFault};
+    ghost use Rattle.std.specs.Prelude.{◌≡◌};
+    ghost use Rattle.drf_drive.specs.Driven.{told_as};
 
-    ghost from_gives = { λ _ gives. IsRunFault gives };
+    ghost from_gives = { λ fault gives. gives ≡ told_as fault };
 
     fn from(fault: DriveFault) -> ScriptFault {
         match fault {
@@ -48,6 +49,7 @@ fn run_named<K: Naming + Send + Sync, W: Threads + Wait + Sync>(
     requires count { (1 ≤ length scripts.items) × (length scripts.items ≤ 64) }
     ensures legal { IfOk result (λ driven. IsLegal limits driven.book.entries) }
     ensures shuffle { IfOk result (λ driven. IsShuffleOf scripts.items driven.book.entries) }
+    ensures fault { IfErr result (λ fault. IsRunFault limits scripts.items (told_as fault)) }
 {
     let count = scripts.len() as u64;
     let (master, passes, _viewers) = Master::<K, &W>::open(rt, alloc, KEY, limits, count, slate)?;
@@ -64,7 +66,7 @@ fn run_scripts<W: Threads + Wait + Sync>(
     requires count { (1 ≤ length scripts.items) × (length scripts.items ≤ 64) }
     ensures legal { IfOk result (λ driven. IsLegal limits driven.book.entries) }
     ensures shuffle { IfOk result (λ driven. IsShuffleOf scripts.items driven.book.entries) }
-    ensures fault { IfErr result IsRunFault }
+    ensures fault { IfErr result (IsRunFault limits scripts.items) }
 {
     let slate = Slate::open(0, limits)?;
     Ok(run_named::<Brand, W>(rt, alloc, limits, slate, scripts)?)

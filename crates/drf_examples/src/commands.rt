@@ -5,8 +5,8 @@
 //! several orders is told by what `check` says of it, behind `?`.
 use crate::streams::{Bounds, Full, NO_BOUNDS, Slow};
 use drf_app::command;
-use drf_drive::FileBytes;
-use drf_journal::{Device, RunFault};
+use drf_drive::SystemFiles;
+use drf_journal::Device;
 use std::alloc::{AllocError, Global};
 use std::rt::{Files, Runtime};
 use std::sync::Wait;
@@ -195,21 +195,6 @@ fn is_text<R: Files + Threads + Wait + Sync + AllocGlobal>(
     Ok(text == whole.as_slice())
 }
 
-/// The files of the examples.
-#[derive(Drop)]
-struct DataFiles<'a, R> {
-    rt: &'a R,
-}
-
-impl<R: Files + AllocGlobal> FileBytes for DataFiles<'_, R> {
-    fn bytes(&mut self, name: &str) -> Result<Vec<u8>, RunFault> {
-        match fs::read(self.rt, name) {
-            Ok(bytes) => Ok(bytes),
-            Err(_) => Err(RunFault::Read),
-        }
-    }
-}
-
 /// What a command did.
 #[derive(Drop)]
 struct Done {
@@ -228,7 +213,7 @@ fn done_by<R: Files + Threads + Wait + Sync + AllocGlobal>(
     let mut reader = Device::new(Slow::new(input, bounds));
     let mut writer = Device::new(Full::new(alloc, bounds));
     let mut errors = Device::new(Full::new(alloc, NO_BOUNDS));
-    let mut files = DataFiles { rt };
+    let mut files = SystemFiles { rt };
     let status = command(
         rt,
         alloc,

@@ -172,10 +172,7 @@ impl<K: Naming, R: Wait + Drop> Desk<K, R> {
     }
 
     /// The same, with a receipt.
-    fn answer_with_receipt(
-        &mut self,
-        event: Event,
-    ) -> Result<(Answer<K>, Receipt), AllocError>
+    fn answer_with_receipt(&mut self, event: Event) -> Result<(Answer<K>, Receipt), AllocError>
         ensures journal { IfOk result (λ r. self.new ≡ self.old ++ entry event r.0.reply ∷ []) }
         ensures told { IfOk result (λ r. r.0.told ≡ self.new) }
         ensures place { IfOk result (λ r. r.0.place ≡ length self.old) }

@@ -38,7 +38,7 @@ pub record IsJournalOfFiles (limits : LimitNumbers) (known : Known) (names : Lis
   pub shuffle : IsShuffleOf scripts journal
 
 -- Scripts were run to their ends, by passes that had not called before, but the journal that was found, which is legal, is no shuffle of
--- the receipts that there are then. Neither is handed to anyone.
+-- the receipts that there are then. Nobody is handed either, so this says that there are such, not which.
 pub record HasMisfit (limits : LimitNumbers) (scripts : List (Vec Event)) : Type 0 where
   pub passes : List Held
   pub unused : All (λ pass. pass.receipts ≡ []) passes

@@ -1,5 +1,5 @@
 //! A drive of files, and what is told of it.
-ghost use Rattle.std.specs.Prelude.{◌≡◌, ◌≤◌, ◌++◌, [], false, length, map, slice_get, unwrap_or, IfOk, OnOk, decimal, string_bytes};
+ghost use Rattle.std.specs.Prelude.{◌≡◌, ◌≤◌, ◌++◌, [], true, false, length, map, slice_get, unwrap_or, IfOk, OnOk, decimal, string_bytes};
 ghost use Rattle.drf_app.specs.Done.{HasDriven, Stream, stream_of};
 ghost use Rattle.drf_app.specs.Drives.{HasToldDrive, bad_line, fault_words};
 
@@ -91,10 +91,11 @@ pub(crate) fn drive_files<F: FileBytes, W: Write, E: Write>(
     requires few { length names.now ≤ 64 }
     requires output { output.old.failed ≡ false }
     requires errors { errors.old.failed ≡ false }
-    ensures { (input : Stream) → HasDriven (F.known files.old) (map (λ name. name.now) names.now)
+    ensures driven { (input : Stream) → HasDriven (F.known files.old) (map (λ name. name.now) names.now)
         (record { input = input; output = stream_of W.contents output.old; errors = stream_of E.contents errors.old })
         (record { input = input; output = stream_of W.contents output.new; errors = stream_of E.contents errors.new })
         result }
+    ensures flushed { output.old.flushed ≡ true → output.new.failed ≡ false → output.new.flushed ≡ true }
 {
     let ended = run_drive(rt, alloc, Limits::full(), files, names, output);
     tell_end(alloc, names, ended, errors)

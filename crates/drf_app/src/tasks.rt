@@ -1,5 +1,5 @@
 //! A whole command.
-ghost use Rattle.std.specs.Prelude.{◌≡◌, ◌≤◌, ◌^◌, map};
+ghost use Rattle.std.specs.Prelude.{◌≡◌, ◌≤◌, ◌^◌, map, true, false};
 ghost use Rattle.drf_journal.specs.Device.{IsNew};
 ghost use Rattle.drf_app.specs.Done.{HasDone, HasObeyed, stream_of};
 ghost use Rattle.drf_app.specs.Line.{IsWithinBounds};
@@ -35,6 +35,7 @@ fn perform<F: FileBytes, R: Read, W: Write, E: Write>(
         (record { input = stream_of R.remaining input.old; output = stream_of W.contents output.old; errors = stream_of E.contents errors.old })
         (record { input = stream_of R.remaining input.new; output = stream_of W.contents output.new; errors = stream_of E.contents errors.new })
         result }
+    ensures flushed { output.old.flushed ≡ true → output.new.failed ≡ false → output.new.flushed ≡ true }
     ensures reads { input.new.calls ≤ 2 ^ 40 }
 {
     match task {
@@ -77,6 +78,7 @@ pub fn command<S: AsStr, F: FileBytes, R: Read, W: Write, E: Write>(
         (record { input = stream_of R.remaining input.old; output = stream_of W.contents output.old; errors = stream_of E.contents errors.old })
         (record { input = stream_of R.remaining input.new; output = stream_of W.contents output.new; errors = stream_of E.contents errors.new })
         result }
+    ensures flushed { output.old.flushed ≡ true → output.new.failed ≡ false → output.new.flushed ≡ true }
     ensures reads { input.new.calls ≤ 2 ^ 40 }
 {
     match task_of(alloc, words) {

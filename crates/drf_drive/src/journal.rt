@@ -32,6 +32,7 @@ fn send_long<W: Write>(text: &mut Vec<u8>, writer: &mut Device<W>) -> Result<(),
     ensures ok { OnOk result (HasSent (W.contents writer.old.inner) (W.contents writer.new.inner) text.old.items text.new.items) }
     ensures err { OnErr result (AppendsFrontOf (W.contents writer.old.inner) (W.contents writer.new.inner) text.old.items) }
     ensures cause { HasCause result false 0 writer.new.failed }
+    ensures flushed { writer.old.flushed ≡ true → writer.new.failed ≡ false → writer.new.flushed ≡ true }
 {
     if text.len() < LARGE {
         return Ok(());
@@ -51,7 +52,7 @@ fn write_entries<W: Write>(
     ensures ok { OnOk result (Appends (W.contents writer.old.inner) (W.contents writer.new.inner) (journal_text entries.now)) }
     ensures err { OnErr result (AppendsFrontOf (W.contents writer.old.inner) (W.contents writer.new.inner) (journal_text entries.now)) }
     ensures cause { HasCause result false 0 writer.new.failed }
-    ensures flushed { OnOk result (writer.new.flushed ≡ true) }
+    ensures flushed { writer.old.flushed ≡ true → writer.new.failed ≡ false → writer.new.flushed ≡ true }
 {
     let mut text = Vec::new(alloc);
     for entry in entries {
@@ -71,7 +72,7 @@ pub(crate) fn write_journal<W: Write>(
     ensures ok { OnOk result (Appends (W.contents writer.old.inner) (W.contents writer.new.inner) (journal_text entries.now)) }
     ensures err { IfErr result (IsCutOff (W.contents writer.old.inner) (W.contents writer.new.inner) (journal_text entries.now)) }
     ensures failed { writer.new.failed ≡ is_write_fault result }
-    ensures flushed { OnOk result (writer.new.flushed ≡ true) }
+    ensures flushed { writer.old.flushed ≡ true → writer.new.failed ≡ false → writer.new.flushed ≡ true }
 {
     write_entries(alloc, entries, writer)?;
     Ok(())

@@ -87,7 +87,7 @@ pub fn run_drive<W: Threads + Wait + Sync, F: FileBytes, S: AsStr, O: Write>(
     requires writer { writer.old.failed ≡ false }
     ensures driven { HasDrivenFiles limits (F.known files.old) (map S.text names.now) (O.contents writer.old.inner) (O.contents writer.new.inner) result }
     ensures failed { writer.new.failed ≡ is_write_fault result }
-    ensures flushed { OnOk result (writer.new.flushed ≡ true) }
+    ensures flushed { writer.old.flushed ≡ true → writer.new.failed ≡ false → writer.new.flushed ≡ true }
 {
     let scripts = read_scripts(alloc, files, names)?;
     if scripts.is_empty() {

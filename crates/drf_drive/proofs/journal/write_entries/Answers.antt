@@ -34,6 +34,7 @@ loop-entry-preserved g c =
     record {
       sent = sent-more _ _ _ _ _ _ waits c.in_ok-send_long.ensures.ok;
       sound = c.in_ok-send_long.ensures.cause.1;
+      flushed = λ was. c.in_ok-send_long.ensures.flushed (c.loop-entry.invariant.flushed was) c.in_ok-send_long.ensures.cause.1;
     }
 
 pub returns-clause-err : goal.returns-clause-err

@@ -1,4 +1,4 @@
-use Rattle.std.proofs.Common.{◌≡◌, false, take}
+use Rattle.std.proofs.Common.{◌≡◌, true, false, take}
 use Rattle.drf_drive.specs.JournalText.{HasSent, journal_text}
 use Rattle.drf_drive.proofs.journal.write_entries.Given as goal
 
@@ -8,4 +8,5 @@ invariant-loop-entry g l = record {
   sent : HasSent (g.W.Write.contents l.fn.writer.inner) (g.W.Write.contents l.writer.inner)
       (journal_text (take l.entry-index l.entries)) l.text.items;
   sound : l.writer.failed ≡ false;
+  flushed : l.fn.writer.flushed ≡ true → l.writer.flushed ≡ true;
 }

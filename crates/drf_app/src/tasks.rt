@@ -18,6 +18,7 @@ use std::io::{Read, Write};
 use std::sync::Wait;
 use std::thread::Threads;
 
+#[tactic(auto, using(crate::proofs::Flushed::flushed_unless_failed))]
 fn perform<F: FileBytes, R: Read, W: Write, E: Write>(
     rt: &(impl Threads + Wait + Sync),
     alloc: Global,

@@ -2,11 +2,10 @@
 use Rattle.std.proofs.Common.{◌≡◌, ℕ, ◌+◌, ◌<◌, ◌≤◌, List, [], ◌∷◌, ◌++◌, length, map, get_or, take, drop, sym, ap, ◌∙◌, subst, suc, add-one, take-append-drop}
 use Rattle.std.proofs.Math.Seq.{take-suc, drop-cons}
 use Rattle.std.proofs.lemmas.List.{map-append, take_all}
-use Rattle.std.specs.Prelude.{IfSome}
 use Rattle.std.specs.Global.{Vec}
 use Rattle.drf_journal.specs.declared.fault.RunFault.{RunFault}
 use Rattle.drf_journal.specs.declared.fault.RunFault.TheVariants.{Read, Write, Memory}
-use Rattle.drf_drive.specs.Files.{Known, AreContents, IsFileFault, IsUnread, bytes_of}
+use Rattle.drf_drive.specs.Files.{Known, AreContents, IsFileFault, IsUnread, MayHave, bytes_of}
 
 -- ---- a list up to an element
 
@@ -30,7 +29,7 @@ module _ {X : Type 0} (xs : List X) (i : ℕ) (x : X) (inside : i < length xs) (
 -- ---- the bytes of files
 
 contents-push : (known : Known) (names : List (List ℕ)) (contents : List (List ℕ)) (name bytes : List ℕ)
-    → AreContents known names contents → IfSome (known name) (λ content. bytes ≡ content)
+    → AreContents known names contents → MayHave (known name) bytes
     → AreContents known (names ++ name ∷ []) (contents ++ bytes ∷ [])
 contents-push known [] [] name bytes are is = (is, tt)
 contents-push known [] (c ∷ contents) name bytes are is = absurd are
@@ -40,7 +39,7 @@ contents-push known (n ∷ names) (c ∷ contents) name bytes are is = (are.0, c
 -- one file more
 pub contents-next : {X : Type 0} (text : X → List ℕ) (known : Known) (xs : List X) (i : ℕ) (x : X) → i < length xs → x ≡ get_or xs i x
     → (contents : List (Vec ℕ)) (bytes : Vec ℕ) → AreContents known (map text (take i xs)) (bytes_of contents)
-    → IfSome (known (text x)) (λ content. bytes.items ≡ content)
+    → MayHave (known (text x)) bytes.items
     → AreContents known (map text (take (i + 1) xs)) (bytes_of (contents ++ bytes ∷ []))
 contents-next text known xs i x inside is contents bytes are one =
     let added : bytes_of (contents ++ bytes ∷ []) ≡ bytes_of contents ++ bytes.items ∷ [] =

@@ -1,6 +1,6 @@
 //! Files by name.
-ghost use Rattle.std.specs.Prelude.{◌≡◌, map, IfOk, IfErr, IfSome};
-ghost use Rattle.drf_drive.specs.Files.{AreContents, IsFileFault, IsUnread, bytes_of};
+ghost use Rattle.std.specs.Prelude.{◌≡◌, map, IfOk, IfErr};
+ghost use Rattle.drf_drive.specs.Files.{AreContents, IsFileFault, IsUnread, MayHave, bytes_of};
 
 use drf_journal::RunFault;
 use std::alloc::Global;
@@ -11,14 +11,15 @@ use std::rt::Files;
 
 /// Where files are found by name.
 pub trait FileBytes {
-    ghost use Rattle.std.specs.Prelude.{ℕ, List, Option, None};
+    ghost use Rattle.std.specs.Prelude.{ℕ, List};
+    ghost use Rattle.drf_drive.specs.Files.{Content, unknown};
 
-    // What the file of a name has, where that is known.
-    ghost known: { Self → List ℕ → Option (List ℕ) } = { λ _ _. None };
+    // What is known of the file of a name.
+    ghost known: { Self → List ℕ → Content } = { λ _ _. unknown };
 
     /// All bytes of a file. The fault is `Read`, or `Memory`.
     fn bytes(&mut self, name: &str) -> Result<Vec<u8>, RunFault>
-        ensures whole { IfOk result (λ bytes. IfSome (known self.old name.now) (λ content. bytes.items ≡ content)) }
+        ensures whole { IfOk result (λ bytes. MayHave (known self.old name.now) bytes.items) }
         ensures fault { IfErr result (IsFileFault (known self.old name.now)) }
         ensures same { known self.new ≡ known self.old };
 }

@@ -20,10 +20,11 @@ abbrev pub journal_code : Coded Journal
 journal_code = code_by (LimitNumbers × (List Entry × ℕ)) (coded× limits.the_row.coded (coded× entries_code coded_ℕ)) (λ j. (j.limits, (j.entries, j.room)))
     (λ p. record { limits = p.0; entries = p.1.0; room = p.1.1 }) (λ _. refl)
 
--- the same journal, perhaps with other room
+-- the same journal, perhaps with more room
 pub record IsSameJournal (old new : Journal) : Type 0 where
   pub limits : new.limits ≡ old.limits
   pub entries : new.entries ≡ old.entries
+  pub room : old.room ≤ new.room
 
 -- exactly this entry was added
 pub record Adds (old new : Journal) (entry : Entry) : Type 0 where

@@ -17,7 +17,8 @@ use std::sync::Wait;
 use std::thread;
 use std::thread::Threads;
 
-/// Why scripts did not run to their ends. Of the faults of several workers that of the first is told.
+/// Why scripts did not run to their ends. Of the faults of several workers that of the first is told, or `Memory` where none is left for what
+/// the threads did.
 #[derive(Clone, Copy, Debug, PartialEq, Eq)]
 pub enum DriveFault {
     /// The gate stopped a worker.
@@ -262,6 +263,7 @@ pub fn drive<
     scripts: Vec<Vec<Event>>,
 ) -> Result<Driven, DriveFault>
     requires { length scripts.items ≡ length passes.items }
+    ensures limits { IfOk result (λ driven. driven.book.limits ≡ K.slate.limits) }
     ensures legal { IfOk result (λ driven. IsLegal K.slate.limits driven.book.entries) }
     ensures own { OnOk result (AreOf master.key passes.items) }
     ensures driven { IfOk result (λ driven. HasDriven passes.items scripts.items driven.replies.items driven.book.entries) }

@@ -1,8 +1,7 @@
 use Rattle.std.proofs.Common.{◌≡◌, ℕ, ◌+◌, List, [], ◌∷◌, ◌++◌, map, take, ◌∙◌, sym, subst}
-use Rattle.std.specs.Prelude.{IfSome}
 use Rattle.std.specs.Global.{Vec}
 use Rattle.std.proofs.lemmas.Result.{err_from_is_err_and}
-use Rattle.drf_drive.specs.Files.{Known, AreContents, IsFileFault, bytes_of}
+use Rattle.drf_drive.specs.Files.{Known, AreContents, IsFileFault, MayHave, bytes_of}
 use Rattle.drf_drive.proofs.Contents.{contents-fault, contents-next}
 use Rattle.drf_drive.proofs.files.read_files.Goals as goal
 
@@ -20,8 +19,8 @@ loop-name-preserved g c =
     let known = g.F.FileBytes.known c.args.files.now in
     let bytes = c.in_ok-bytes.bytes in
     let old = c.loop-name.contents.items in
-    let whole = subst (λ (name : List ℕ). IfSome (known name) (λ content. bytes.items ≡ content)) c.as_str.ensures
-    (subst (λ (k : Known). IfSome (k c.as_str.result.now) (λ content. bytes.items ≡ content)) c.loop-name.invariant.same c.in_ok-bytes.ensures.whole) in
+    let whole = subst (λ (name : List ℕ). MayHave (known name) bytes.items) c.as_str.ensures
+    (subst (λ (k : Known). MayHave (k c.as_str.result.now) bytes.items) c.loop-name.invariant.same c.in_ok-bytes.ensures.whole) in
     let items : c.push_reserved.new.self.items ≡ old ++ bytes ∷ [] = cc (c.push_reserved.ensures.items, c.reserve.ensures.items) in
     record {
       same = c.bytes.ensures.same ∙ c.loop-name.invariant.same;

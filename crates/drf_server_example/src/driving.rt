@@ -3,8 +3,8 @@ ghost use Rattle.std.specs.Prelude.{◌≡◌, ◌≤◌, length, IfOk};
 ghost use Rattle.drf_board.specs.History.{IsLegal};
 ghost use Rattle.drf_rows.specs.LimitNumbers.{ceilings};
 
-use crate::closing::passes_of_another;
 use crate::lines::{AGENT, CYCLE, FRAMEWORK, append_reply};
+use crate::strangers::passes_of_another;
 use anyhow::{Context, Result, bail};
 use drf_board::{Brand, Naming, Slate};
 use drf_lines::read_event;
@@ -174,14 +174,15 @@ fn append_frameworks(told: &mut String, driven: &Driven) -> Result<()> {
     )?)
 }
 
-/// As many scripts as a master may have passes: each adds a framework, so that as many frameworks are as many calls, each once.
+/// So many scripts, each of which adds a framework: as many frameworks are as many calls, each once.
 pub fn driven_side_by_side<W: Threads + Wait + Sync>(
     rt: &W,
     alloc: Global,
     told: &mut String,
+    count: usize,
 ) -> Result<()> {
     let mut scripts = Vec::new(alloc);
-    for place in 0..64 {
+    for place in 0..count {
         scripts.push(script_at(alloc, place)?)?;
     }
     let driven = driven(rt, alloc, scripts)?;

@@ -1,11 +1,15 @@
-//! Events as lines, and a book, which takes them for one caller.
+//! Calls by the lines of their events, and what comes of them as text.
+use crate::call;
 use anyhow::{Context, Result};
-use drf_lines::{read_event, write_reply};
-use drf_master::{Book, MasterSorter};
-use drf_rows::{Limits, Reply};
+use drf_board::{Naming, Sheet, Viewer};
+use drf_lines::write_reply;
+use drf_master::{Master, Pass};
+use drf_rows::Reply;
+use drf_text::write_quantities;
 use std::alloc::Global;
 use std::fmt::Write;
 use std::str;
+use std::sync::Wait;
 
 pub const AGENT: &str = r#"{"event":"add_agent","agent":"n1","total":"cpus:4;mem:1024"}"#;
 
@@ -17,6 +21,20 @@ pub const FRAMEWORK: &str = r#"{"event":"add_framework","framework":"f1","roles"
 
 pub const CYCLE: &str = r#"{"event":"cycle","at":0}"#;
 
+/// Makes calls in order.
+pub fn call_all<K: Naming, R: Wait + Drop, W: Wait>(
+    rt: &W,
+    alloc: Global,
+    master: &Master<K, R>,
+    passes: &mut [Pass],
+    lines: &[&str],
+) -> Result<()> {
+    for line in lines {
+        call(rt, alloc, master, passes, line)?;
+    }
+    Ok(())
+}
+
 /// Adds the line of a reply, without its line feed.
 pub fn append_reply(alloc: Global, told: &mut String, reply: &Reply) -> Result<()> {
     let line = write_reply(alloc, reply)?;
@@ -24,23 +42,21 @@ pub fn append_reply(alloc: Global, told: &mut String, reply: &Reply) -> Result<(
     Ok(write!(told, " {}", text.trim_end())?)
 }
 
-fn take(alloc: Global, told: &mut String, book: &mut Book<MasterSorter>, line: &str) -> Result<()> {
-    let event = read_event(alloc, line.as_bytes())?;
-    let (reply, place) = book.take(event)?;
-    write!(told, " {place}")?;
-    append_reply(alloc, told, &reply)
+fn append_shown(alloc: Global, told: &mut String, sheet: &Sheet) -> Result<()> {
+    let total = write_quantities(alloc, &sheet.report.total)?;
+    let nodes = sheet.report.nodes.len();
+    Ok(write!(told, " {} events ({total}), {nodes} nodes;", sheet.events)?)
 }
 
-fn take_all(alloc: Global, told: &mut String, book: &mut Book<MasterSorter>) -> Result<()> {
-    for line in [AGENT, FRAMEWORK, CYCLE] {
-        take(alloc, told, book, line)?;
+/// Adds what each viewer is shown.
+pub fn append_sheets<K: Naming>(
+    alloc: Global,
+    told: &mut String,
+    viewers: &mut [Viewer<K>],
+) -> Result<()> {
+    for viewer in viewers.iter_mut() {
+        let sheet = viewer.read().ok().context("no sheet")?;
+        append_shown(alloc, told, &sheet)?;
     }
-    Ok(writeln!(told, "; {} entries", book.len())?)
-}
-
-/// A book takes three events, and tells of each its place and the reply.
-pub fn taken_by_a_book(alloc: Global, told: &mut String) -> Result<()> {
-    told.push_str("a book:")?;
-    let mut book = Book::open(alloc, Limits::full())?;
-    take_all(alloc, told, &mut book)
+    Ok(())
 }

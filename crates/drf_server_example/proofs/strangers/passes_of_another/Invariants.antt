@@ -1,4 +1,4 @@
-use Rattle.drf_server_example.proofs.closing.passes_of_another.Given as goal
+use Rattle.drf_server_example.proofs.strangers.passes_of_another.Given as goal
 
 -- its own slate
 abbrev pub ghosts-passes_named : goal.ghosts-passes_named

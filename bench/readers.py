@@ -1,7 +1,7 @@
 #!/usr/bin/env python3
 """Times viewers that read while calls go on: calls and reads a second, with so many viewers on threads of their own.
 
-    bench/readers.py           1, 8 and 64 viewers, 20000 calls each
+    bench/readers.py           none, 1, 8 and 64 viewers, 5000 calls each
     bench/readers.py 100       a hundredth of the calls, for a try"""
 import os
 import subprocess
@@ -10,7 +10,7 @@ import time
 
 ROOT = os.path.dirname(os.path.dirname(os.path.realpath(__file__)))
 PROGRAM = f"{ROOT}/crates/drf_server_example/out/drf_server_example"
-CALLS = 20_000 // (int(sys.argv[1]) if len(sys.argv) > 1 else 1)
+CALLS = 5_000 // (int(sys.argv[1]) if len(sys.argv) > 1 else 1)
 
 
 def reads_of(viewers):

@@ -4,7 +4,7 @@ ghost use Rattle.drf_rows.specs.LimitNumbers.{ceilings};
 
 use crate::call;
 use crate::lines::{AGENT, CYCLE, FRAMEWORK, call_all};
-use anyhow::{Context, Result, bail};
+use anyhow::{Result, bail};
 use drf_board::{Brand, Naming, Slate, Viewer};
 use drf_master::{Master, Pass};
 use drf_rows::Limits;
@@ -81,9 +81,14 @@ fn readers_named<K: Naming + Send + Sync, W: Threads + Wait + Sync>(
     read_beside(rt, alloc, &master, &mut passes, &mut viewers, calls)
 }
 
-fn number_at(words: &[String], place: usize) -> Result<u64> {
-    let word = words.get(place).context("readers VIEWERS CALLS")?;
-    Ok(word.parse::<u64>()?)
+fn asked(words: &[String]) -> Result<(u64, u64)> {
+    let [_, word, viewers, calls] = words else {
+        bail!("the words are: readers VIEWERS CALLS");
+    };
+    if word.as_str() != "readers" {
+        bail!("not known: {word}");
+    }
+    Ok((viewers.parse::<u64>()?, calls.parse::<u64>()?))
 }
 
 /// What the words `readers VIEWERS CALLS` ask for: at most 64 viewers read while so many cycles are called.
@@ -93,7 +98,7 @@ pub fn read_by_many<W: Threads + Wait + Sync>(
     told: &mut String,
     words: &[String],
 ) -> Result<()> {
-    let (viewers, calls) = (number_at(words, 2)?, number_at(words, 3)?);
+    let (viewers, calls) = asked(words)?;
     if viewers > 64 {
         bail!("at most 64 viewers can read");
     }

@@ -63,3 +63,8 @@ written-ends limits known names journal right (Err (Run Write)) old new ok err =
 written-ends limits known names journal right (Err (Run Memory)) old new ok err = inr (record { journal = journal; right = right; appended = err })
 written-ends limits known names journal right (Err (Line bad)) old new ok err = absurd err
 written-ends limits known names journal right (Err Close) old new ok err = absurd err
+
+-- no files have no scripts
+pub scripts-none : (known : Known) (names : List (List ℕ)) → length names ≡ 0 → HasScripts known names []
+scripts-none known [] none = record { contents = []; read = tt; meant = tt }
+scripts-none known (n ∷ names) none = absurd (omega arith)

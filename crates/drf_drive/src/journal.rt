@@ -1,5 +1,5 @@
 //! The text of a journal.
-ghost use Rattle.std.specs.Prelude.{◌≡◌, ◌++◌, true, false, OnOk, OnErr, IfErr};
+ghost use Rattle.std.specs.Prelude.{◌≡◌, ◌++◌, [], true, false, OnOk, OnErr, IfErr};
 ghost use Rattle.std.specs.Io.KnownBytes.{Appends};
 ghost use Rattle.drf_journal.specs.Device.{AppendsFrontOf};
 ghost use Rattle.drf_journal.specs.Ended.{HasCause};
@@ -76,4 +76,19 @@ pub(crate) fn write_journal<W: Write>(
 {
     write_entries(alloc, entries, writer)?;
     Ok(())
+}
+
+/// Writes the journal of no calls.
+pub(crate) fn write_nothing<W: Write>(
+    alloc: Global,
+    writer: &mut Device<W>,
+) -> Result<(), ScriptFault>
+    requires { writer.old.failed ≡ false }
+    ensures ok { OnOk result (Appends (W.contents writer.old.inner) (W.contents writer.new.inner) (journal_text [])) }
+    ensures err { IfErr result (IsCutOff (W.contents writer.old.inner) (W.contents writer.new.inner) (journal_text [])) }
+    ensures failed { writer.new.failed ≡ is_write_fault result }
+    ensures flushed { writer.old.flushed ≡ true → writer.new.failed ≡ false → writer.new.flushed ≡ true }
+{
+    let none = [];
+    write_journal(alloc, &none, writer)
 }

@@ -1,11 +1,14 @@
 //! Files that are run on threads.
-ghost use Rattle.std.specs.Prelude.{◌≡◌, ◌<◌, ◌≤◌, length, map, true, false, OnOk, IfOk, IfErr};
+ghost use Rattle.std.specs.Prelude.{◌≡◌, ◌<◌, ◌≤◌, ℕ, List, [], length, map, true, false, OnOk, IfOk, IfErr};
+ghost use Rattle.std.specs.Io.KnownBytes.{Appends};
 ghost use Rattle.drf_board.specs.History.{IsLegal};
 ghost use Rattle.drf_drive.specs.Driven.{HasDrivenFiles, IsRunFault, IsShuffleOf, told_as};
-ghost use Rattle.drf_drive.specs.JournalText.{is_write_fault};
+ghost use Rattle.drf_drive.specs.Files.{Known};
+ghost use Rattle.drf_drive.specs.JournalText.{IsCutOff, is_write_fault, journal_text};
+ghost use Rattle.drf_drive.specs.Scripts.{HasScripts};
 
 use crate::files::FileBytes;
-use crate::journal::write_journal;
+use crate::journal::{write_journal, write_nothing};
 use crate::script::{ScriptFault, read_scripts};
 use drf_board::{Brand, Naming, Slate};
 use drf_journal::{Device, RunFault};
@@ -72,6 +75,39 @@ fn run_scripts<W: Threads + Wait + Sync>(
     Ok(run_named::<Brand, W>(rt, alloc, limits, slate, scripts)?)
 }
 
+// Writes the journal of a drive, which then goes.
+fn write_driven<O: Write>(
+    alloc: Global,
+    driven: Driven,
+    writer: &mut Device<O>,
+) -> Result<(), ScriptFault>
+    requires { writer.old.failed ≡ false }
+    ensures ok { OnOk result (Appends (O.contents writer.old.inner) (O.contents writer.new.inner) (journal_text driven.book.entries)) }
+    ensures err { IfErr result (IsCutOff (O.contents writer.old.inner) (O.contents writer.new.inner) (journal_text driven.book.entries)) }
+    ensures failed { writer.new.failed ≡ is_write_fault result }
+    ensures flushed { writer.old.flushed ≡ true → writer.new.failed ≡ false → writer.new.flushed ≡ true }
+{
+    write_journal(alloc, driven.book.entries(), writer)
+}
+
+// Runs scripts, which are what the lines of some files mean, and writes the journal.
+fn drive_scripts<W: Threads + Wait + Sync, O: Write>(
+    rt: &W,
+    alloc: Global,
+    limits: Limits,
+    scripts: Vec<Vec<Event>>,
+    writer: &mut Device<O>,
+) -> Result<(), ScriptFault>
+    requires count { (1 ≤ length scripts.items) × (length scripts.items ≤ 64) }
+    requires writer { writer.old.failed ≡ false }
+    ensures driven { (known : Known) → (names : List (List ℕ)) → HasScripts known names scripts.items → HasDrivenFiles limits known names (O.contents writer.old.inner) (O.contents writer.new.inner) result }
+    ensures failed { writer.new.failed ≡ is_write_fault result }
+    ensures flushed { writer.old.flushed ≡ true → writer.new.failed ≡ false → writer.new.flushed ≡ true }
+{
+    let driven = run_scripts(rt, alloc, limits, scripts)?;
+    write_driven(alloc, driven, writer)
+}
+
 /// Reads files of event lines, at most 64, runs each on a thread of its own, on one master, and writes the journal: for each call the line of
 /// the event and that of the reply. All files are read before any line is looked at. A line that is no event is told, the first one of the
 /// first file that has one, and nothing runs then.
@@ -89,10 +125,9 @@ pub fn run_drive<W: Threads + Wait + Sync, F: FileBytes, S: AsStr, O: Write>(
     ensures failed { writer.new.failed ≡ is_write_fault result }
     ensures flushed { writer.old.flushed ≡ true → writer.new.failed ≡ false → writer.new.flushed ≡ true }
 {
-    let scripts = read_scripts(alloc, files, names)?;
-    if scripts.is_empty() {
-        return write_journal(alloc, &[], writer);
+    if names.is_empty() {
+        return write_nothing(alloc, writer);
     }
-    let driven = run_scripts(rt, alloc, limits, scripts)?;
-    write_journal(alloc, driven.book.entries(), writer)
+    let scripts = read_scripts(alloc, files, names)?;
+    drive_scripts(rt, alloc, limits, scripts, writer)
 }

@@ -12,3 +12,4 @@ pub mod ArrivalLemmas
 pub mod EffectLemmas
 pub mod ServedLemmas
 pub mod TurnLemmas
+pub mod LineLemmas

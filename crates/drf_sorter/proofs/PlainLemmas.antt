@@ -54,7 +54,7 @@ sum_of_node f node clients =
     (ap (λ cs. sum_by f cs) (filter-map (λ c. begins_with c.path node) ranked clients)
     ∙ sum_by-map f ranked (filter (λ x. begins_with x.path node) clients))
 
-held-standing : (sorter : PlainSorter) (node : List (List ℕ)) (label : List ℕ)
+pub held-standing : (sorter : PlainSorter) (node : List (List ℕ)) (label : List ℕ)
     → held_by sorter.clients.items node label ≡ (plain_standing sorter).held node label
 unfolding standing_in
 held-standing sorter node label = sum_of_node (λ c. c.held label) node sorter.clients.items
@@ -68,7 +68,7 @@ total-standing : (sorter : PlainSorter) → sorter.total ≡ (plain_standing sor
 unfolding standing_in
 total-standing sorter = refl
 
-weight-standing : (sorter : PlainSorter) (node : List (List ℕ))
+pub weight-standing : (sorter : PlainSorter) (node : List (List ℕ))
     → weight_of sorter.weights.items node ≡ (plain_standing sorter).weight node
 unfolding standing_in
 weight-standing sorter node = refl

@@ -11,3 +11,5 @@ pub mod Candidates
 pub mod Laws
 pub mod Examples
 pub mod Served
+pub mod Lines
+pub mod LineLaws

@@ -1,12 +1,14 @@
 //! The clients of a sorter that lists them, and those of one node.
 ghost use Rattle.std.specs.Prelude.{◌≡◌, ◌<◌, ◌^◌, IfOk};
 ghost use Rattle.std.specs.List.{list_any};
+ghost use Rattle.drf_bundle.specs.Quantities.{amount_of};
 ghost use Rattle.drf_role.specs.Path.{begins_with};
+ghost use Rattle.drf_role.specs.Text.{Text};
 
 use crate::key::Holding;
 use drf_bundle::Quantities;
 use drf_role::{ClientPath, NodePath};
-use std::alloc::AllocError;
+use std::alloc::{AllocError, Global};
 
 /// A client with what it holds, and the number of offers that were made to it.
 #[derive(Debug, Drop)]
@@ -53,7 +55,7 @@ pub struct NodeClients<'a> {
 }
 
 impl<'a> NodeClients<'a> {
-    ghost use Rattle.drf_sorter.specs.Plain.{count_by};
+    ghost use Rattle.drf_sorter.specs.Plain.{count_by, held_by};
 
     /// Whether the node has a client.
     pub fn has_some(&self) -> bool
@@ -76,6 +78,22 @@ impl<'a> NodeClients<'a> {
             }
         }
         count
+    }
+
+    /// What they hold together.
+    pub fn held(&self, alloc: Global) -> Result<Quantities, AllocError>
+        requires { (label : Text) → held_by self.now.clients.now self.now.node.now label < 2 ^ 64 }
+        ensures { IfOk result (λ held. (label : Text) → amount_of held label ≡ held_by self.now.clients.now self.now.node.now label) }
+    {
+        let mut held = Quantities::empty(alloc);
+        for client in self.clients {
+            if begins_with(&client.path, self.node) {
+                // Its labels are in order.
+                let _ = client.held.entries();
+                held = held.plus(&client.held)?;
+            }
+        }
+        Ok(held)
     }
 }
 

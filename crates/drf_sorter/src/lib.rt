@@ -6,6 +6,7 @@ mod client;
 mod examples;
 mod key;
 mod laws;
+mod lines;
 mod plain;
 mod share;
 mod sorter;
@@ -16,6 +17,7 @@ pub use laws::{
     arrival_law, change_law, client_order_law, everyone_is_served_law, lowest_terms_law,
     share_order_law, sibling_law, weight_law,
 };
+pub use lines::{NodeLines, node_line};
 pub use plain::{DEFAULT_WEIGHT, PlainSorter};
 pub use share::Share;
 pub use sorter::Sorter;

@@ -1,21 +1,23 @@
 //! A sorter over a list of clients.
-ghost use Rattle.std.specs.Prelude.{◌≡◌, ◌≤◌, ◌<◌, ◌+◌, [], ◌∷◌, ◌++◌, All, IfOk, IsTrue, length, map, take};
+ghost use Rattle.std.specs.Prelude.{◌≡◌, ◌≤◌, ◌<◌, ◌+◌, [], ◌∷◌, ◌++◌, All, IfOk, IsTrue, OnOk, length, map, take, true};
 ghost use Rattle.std.specs.Option.{option_copied};
-ghost use Rattle.std.specs.List.{IsDistinct, IsDistinct-prop, find, position};
-ghost use Rattle.drf_role.specs.Path.{same_path};
+ghost use Rattle.std.specs.List.{AllByRecursion, IsDistinct, IsDistinct-prop, find, position};
+ghost use Rattle.drf_role.specs.Path.{Path, begins_with, same_path};
 ghost use Rattle.drf_rows.specs.Held.{weight_of};
 ghost use Rattle.drf_rows.specs.Weights.{are_weights};
-ghost use Rattle.drf_sorter.specs.Content.{IsSound, active_paths};
+ghost use Rattle.drf_sorter.specs.Content.{IsSound, active_paths, has_client, has_node};
 ghost use Rattle.drf_sorter.specs.Keys.{keys_of, key_by};
+ghost use Rattle.drf_sorter.specs.Lines.{IsLineOf, has_line};
 
 use crate::candidate::Candidate;
 use crate::client::{Client, NodeClients};
 use crate::key::{Key, KeyCount, weighted_share};
+use crate::lines::{NodeLines, node_line};
 use crate::share::Share;
 use crate::sorter::Sorter;
 use drf_bundle::Quantities;
 use drf_role::{ClientPath, NodePath, Role};
-use drf_rows::WeightRow;
+use drf_rows::{NodeLine, WeightRow};
 use indexmap::IndexSet;
 use std::alloc::{AllocError, Global};
 
@@ -189,6 +191,39 @@ impl PlainSorter {
         }
         Ok(candidates)
     }
+
+    /// The line of a node that has clients.
+    fn line(&self, node: NodePath) -> Result<NodeLine, AllocError>
+        requires sound { IsSound (plain_content self.now) }
+        requires clients { has_node (plain_content self.now) node ≡ true }
+        ensures path { IfOk result (λ line. line.path ≡ node) }
+        ensures line { IfOk result (IsLineOf (plain_content self.now)) }
+    {
+        // A node has a part.
+        let _ = node.len();
+        let clients = NodeClients {
+            clients: &self.clients,
+            node: &node,
+        };
+        let held = clients.held(self.alloc())?;
+        let count = clients.count();
+        Ok(node_line(&self.total, self.weight_of(&node), node, held, count))
+    }
+
+    /// Puts the lines of the nodes on a client's path into their places.
+    fn put_lines(&self, lines: &mut NodeLines, path: &ClientPath) -> Result<(), AllocError>
+        requires sound { IsSound (plain_content self.now) }
+        requires client { has_client (plain_content self.now) path.now ≡ true }
+        requires each { AllByRecursion (IsLineOf (plain_content self.now)) lines.old }
+        ensures each { OnOk result (AllByRecursion (IsLineOf (plain_content self.now)) lines.new) }
+        ensures stay { OnOk result ((node : Path) → has_line lines.old node ≡ true → has_line lines.new node ≡ true) }
+        ensures put { OnOk result ((node : Path) → 1 ≤ length node → begins_with path.now node ≡ true → has_line lines.new node ≡ true) }
+    {
+        for i in 0..path.len() {
+            lines.put(self.line(path.node(i + 1)?)?)?;
+        }
+        Ok(())
+    }
 }
 
 impl Sorter for PlainSorter {
@@ -334,6 +369,14 @@ impl Sorter for PlainSorter {
         let share = weighted_share(&self.total, DEFAULT_WEIGHT, &clients);
         let weighted = weighted_share(&self.total, self.weight_of(node), &clients);
         Some((share, weighted, clients.count()))
+    }
+
+    fn lines(&self) -> Result<Vec<NodeLine>, AllocError> {
+        let mut lines = NodeLines::new(self.alloc());
+        for client in &self.clients {
+            self.put_lines(&mut lines, &client.path)?;
+        }
+        lines.into_vec(self.alloc())
     }
 
     fn copy(&self) -> Result<PlainSorter, AllocError> {

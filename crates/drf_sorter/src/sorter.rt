@@ -2,11 +2,13 @@ ghost use Rattle.std.specs.Prelude.{◌≡◌, ◌≤◌, ◌+◌, ◌↔◌, �
 ghost use Rattle.drf_role.specs.Path.{Path};
 ghost use Rattle.drf_sorter.specs.Work.{Work, Adds, IsRepaired};
 ghost use Rattle.drf_sorter.specs.Content.{Content, IsSound, IsOrderOf, HasChargeAt, HoldsAt, activated, charged, discharged, empty, has_client, has_node, has_weight, refunded, with_change, with_client, with_weight, without_client};
+ghost use Rattle.drf_sorter.specs.Lines.{AreLinesOf};
 ghost use Rattle.drf_sorter.specs.Share.{IsShareOf};
 
 use crate::share::Share;
 use drf_bundle::Quantities;
 use drf_role::{ClientPath, NodePath, Role};
+use drf_rows::NodeLine;
 use std::alloc::{AllocError, Global};
 
 /// Clients, and the order in which they are served. From the top of the role tree down, the sibling of the least
@@ -148,6 +150,11 @@ pub trait Sorter: Sized + Drop {
         requires { IsSound (content self.now) }
         ensures known { IsSome result ↔ IsTrue (has_node (content self.now) node.now) }
         ensures share { IfSome result (IsShareOf (content self.now) node.now) };
+
+    /// A line of each node that has clients, in order of path: what they hold, its shares, and their offers.
+    fn lines(&self) -> Result<Vec<NodeLine>, AllocError>
+        requires { IsSound (content self.now) }
+        ensures { IfOk result (λ lines. AreLinesOf (content self.now) lines.items) };
 
     /// A sorter of its own that holds the same.
     fn copy(&self) -> Result<Self, AllocError>

@@ -1,0 +1,50 @@
+-- The lines of nodes in a report, by what a sorter holds.
+use Rattle.std.specs.Prelude.{◌≡◌, ◌≤◌, ℕ, Bool, true, IsTrue, List, [], ◌∷◌, map, length}
+use Rattle.std.specs.List.{AllByRecursion, list_any}
+use Rattle.std.specs.Ordering.{match_ordering}
+use Rattle.drf_bundle.specs.Quantities.{HasNoZeros, amount_of}
+use Rattle.drf_bundle.specs.declared.quantities.Entry.{Entry}
+use Rattle.drf_role.specs.Text.{Text}
+use Rattle.drf_role.specs.Path.{Path, same_path}
+use Rattle.drf_rows.specs.Laws.{are_in_order}
+use Rattle.drf_rows.specs.Report.{line_by, path_cmp, terms_of}
+use Rattle.drf_rows.specs.Share.{share_of, weighted_share_of}
+use Rattle.drf_rows.specs.declared.report.NodeLine.{NodeLine}
+use Rattle.drf_sorter.specs.Content.{Content, has_node, standing_in}
+
+abbrev pub paths_of : List NodeLine → List Path
+paths_of lines = map (λ l. l.path) lines
+
+-- there is a line of that node
+abbrev pub has_line : List NodeLine → Path → Bool
+has_line lines node = list_any (same_path node) (paths_of lines)
+
+-- the line is that of a node which has clients, and tells what they hold
+pub record IsLineOf (content : Content) (line : NodeLine) : Type 0 where
+  pub some : 1 ≤ length line.path
+  pub clients : has_node content line.path ≡ true
+  pub no_zeros : HasNoZeros line.held
+  pub held : (label : Text) → amount_of line.held label ≡ (standing_in content).held line.path label
+  pub share : line.share ≡ terms_of (share_of (standing_in content) line.path)
+  pub weighted : line.weighted ≡ terms_of (weighted_share_of (standing_in content) line.path)
+  pub count : line.count ≡ (standing_in content).count line.path
+
+-- a line of each node that has clients, in order of path
+pub record AreLinesOf (content : Content) (lines : List NodeLine) : Type 0 where
+  pub each : AllByRecursion (IsLineOf content) lines
+  pub every : (node : Path) → 1 ≤ length node → has_node content node ≡ true → has_line lines node ≡ true
+  pub in_order : IsTrue (are_in_order (paths_of lines))
+
+-- lines in order of path, one more put in its place; it stands for one of the same path
+abbrev pub with_line : List NodeLine → NodeLine → List NodeLine
+with_line [] line = line ∷ []
+with_line (l ∷ ls) line = match_ordering (path_cmp line.path l.path) (line ∷ l ∷ ls) (line ∷ ls) (l ∷ with_line ls line)
+
+-- each line stands at its path
+abbrev pub AreAtPaths : List (Path × NodeLine) → Type 0
+AreAtPaths entries = AllByRecursion (λ e. e.0 ≡ e.1.path) entries
+
+-- the line of a node of that weight, in thousandths, that holds so much of the total and got so many offers
+abbrev pub line_with : List Entry → ℕ → Path → List Entry → ℕ → NodeLine
+line_with total weight path held count =
+    line_by (record { held = λ _. amount_of held; count = λ _. count; total = total; weight = λ _. weight }) path held

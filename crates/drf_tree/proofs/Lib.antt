@@ -44,3 +44,4 @@ pub mod GrowLemmas
 pub mod LeafLemmas
 pub mod WeighLemmas
 pub mod ShareLemmas
+pub mod LineLemmas

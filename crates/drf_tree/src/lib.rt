@@ -5,6 +5,7 @@ mod charge;
 mod copied;
 mod family;
 mod laws;
+mod lines;
 mod marks;
 mod members;
 mod node;

@@ -3,6 +3,7 @@ use crate::tree::{ROOT, Tree};
 use crate::walk::Walk;
 use drf_bundle::Quantities;
 use drf_role::{ClientPath, NodePath, Role};
+use drf_rows::NodeLine;
 use drf_sorter::{DEFAULT_WEIGHT, PlainSorter, Share, Sorter};
 use std::alloc::{AllocError, Global};
 use std::marker::Model;
@@ -167,6 +168,10 @@ impl Sorter for TreeSorter {
         let share = Share::of(self.ledger.total(), DEFAULT_WEIGHT, &sum.held);
         let weighted = Share::of(self.ledger.total(), sum.weight, &sum.held);
         Some((share, weighted, sum.count))
+    }
+
+    fn lines(&self) -> Result<Vec<NodeLine>, AllocError> {
+        self.tree.lines(&self.ledger)
     }
 
     fn copy(&self) -> Result<Self, AllocError> {

@@ -1,0 +1,15 @@
+use Rattle.std.proofs.Common.{◌≡◌, ◌<◌, ℕ, true}
+use Rattle.std.specs.List.{AllByRecursion}
+use Rattle.drf_sorter.specs.Content.{has_node}
+use Rattle.drf_sorter.specs.Lines.{IsLineOf, has_line}
+use Rattle.drf_sorter.specs.Plain.{plain_content}
+use Rattle.drf_tree.specs.Nodes.{is_live, path_at}
+use Rattle.drf_tree.proofs.tree.Tree.lines.Given as goal
+
+abbrev pub invariant-loop-node : goal.invariant-loop-node
+invariant-loop-node l = record {
+  each : AllByRecursion (IsLineOf (plain_content l.ledger)) l.lines;
+  every : (k : ℕ) → k < l.node → is_live l.self.places.items k ≡ true
+      → has_node (plain_content l.ledger) (path_at l.self.places.items k) ≡ true
+      → has_line l.lines (path_at l.self.places.items k) ≡ true;
+}

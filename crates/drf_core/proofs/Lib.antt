@@ -27,3 +27,4 @@ pub mod WorkLemmas
 pub mod AcceptLemmas
 pub mod StepLemmas
 pub mod AllowanceLemmas
+pub mod ReportLemmas

@@ -125,7 +125,7 @@ impl<S: Sorter> Core<S> {
     pub fn report(&self) -> Result<Report, AllocError>
         ensures { IfOk result (λ report. report ≡ report_of self.now.rows) }
     {
-        report(self.alloc, &self.tables)
+        report(&self.tables, &self.sorter)
     }
 
     /// What a cycle at that moment, in milliseconds, would offer and to whom, and where it would offer nothing, why. The clock never

@@ -108,6 +108,6 @@ pub fn apply<S: Sorter>(
             let lines = cycle(alloc, limits, tables, sorter, at)?;
             Ok(Reply::Offers(Table::from_vec(lines)))
         }
-        Event::Report => Ok(Reply::Report(report(alloc, tables)?)),
+        Event::Report => Ok(Reply::Report(report(tables, sorter)?)),
     }
 }

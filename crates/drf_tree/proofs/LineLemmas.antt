@@ -1,5 +1,5 @@
 -- The lines of the nodes, by their sums.
-use Rattle.std.specs.Prelude.{◌≡◌, ◌≤◌, ◌<◌, ◌+◌, ℕ, zero, suc, Bool, true, false, List, [], ◌∷◌, ◌++◌, Option, Some, length, map, slice_get, take}
+use Rattle.std.specs.Prelude.{◌≡◌, ◌≤◌, ◌<◌, ◌+◌, ℕ, zero, suc, true, List, [], ◌∷◌, ◌++◌, Option, Some, length, map, slice_get, take}
 use Rattle.std.specs.List.{list_any, AllByRecursion}
 use Rattle.std.specs.Option.{is_some, option_map_or}
 use Rattle.std.proofs.Common.{refl, sym, ap, subst, ◌∙◌, inl, inr, arith}
@@ -68,10 +68,10 @@ child_named places node name [] all some = absurd (false≢true some)
 child_named places node name (c ∷ cs) all some =
     elim (or_cases (same_text name (child_name c)) (list_any (same_text name) (map child_name cs)) some) [
       | inl here ↦ record {
-          node = c.node;
-          there = node_from_live places c.node all.0.live;
-          at = all.0.path ∙ ap (λ (t : Text). path_at places node ++ t ∷ []) (sym (same_from_test name (child_name c) here));
-        }
+        node = c.node;
+        there = node_from_live places c.node all.0.live;
+        at = all.0.path ∙ ap (λ (t : Text). path_at places node ++ t ∷ []) (sym (same_from_test name (child_name c) here));
+      }
       | inr past ↦ child_named places node name cs all.1 past
     ]
 

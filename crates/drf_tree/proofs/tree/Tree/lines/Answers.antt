@@ -1,4 +1,4 @@
-use Rattle.std.proofs.Common.{◌≡◌, ap, arith, subst, sym, true}
+use Rattle.std.proofs.Common.{◌≡◌, arith, subst, sym, true}
 use Rattle.std.proofs.lemmas.Result.{IfOk-weaker}
 use Rattle.drf_role.specs.Path.{Path}
 use Rattle.drf_sorter.specs.Content.{has_node}

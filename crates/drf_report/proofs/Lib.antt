@@ -1,9 +1,0 @@
-pub mod ReportLemmas
-pub mod AmountLemmas
-pub mod ClientLemmas
-pub mod ReportPassed
-pub mod ReportSums
-pub mod ReportParts
-pub mod ReportLines
-pub mod ReportNodes
-pub mod WeighingLemmas

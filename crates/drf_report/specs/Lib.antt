@@ -1,3 +1,0 @@
-pub mod Clients
-pub mod Reporting
-pub mod Weighing

@@ -1,5 +1,5 @@
 -- The lines of a sorter of the rows are those of the report.
-use Rattle.std.specs.Prelude.{◌≡◌, ℕ, ◌≤◌, Bool, true, false, not, ◌&&◌, ◌||◌, IsTrue, List, [], ◌∷◌, ◌++◌, length, map, fold, filter, flat_map}
+use Rattle.std.specs.Prelude.{◌≡◌, ◌≤◌, Bool, true, false, not, ◌&&◌, ◌||◌, IsTrue, List, [], ◌∷◌, length, map, fold, filter, flat_map}
 use Rattle.std.specs.List.{AllByRecursion, list_all, list_any}
 use Rattle.std.specs.Ordering.{nat_cmp, is_lt, is_eq, ordering_reverse}
 use Rattle.std.specs.Cmp.Lexicographic.{slice_cmp, lists_total, lists_ties, texts_ties, nat_list_cmp_total}
@@ -13,7 +13,7 @@ use Rattle.drf_role.specs.TextLaws.{less_from_test}
 use Rattle.drf_role.specs.Path.{Path, begins_with, same_path}
 use Rattle.drf_role.specs.PathLaws.{same_path-true, same_path_itself}
 use Rattle.drf_bundle.specs.Bundle.{quantities_of}
-use Rattle.drf_bundle.specs.Quantities.{amount_of, is_in_order, plus, without_zeros}
+use Rattle.drf_bundle.specs.Quantities.{is_in_order, plus, without_zeros}
 use Rattle.drf_bundle.specs.QuantitiesLaws.{amount-without_zeros, in_order-plus, no_zeros-without_zeros, same_quantities}
 use Rattle.drf_bundle.specs.declared.quantities.Entry.{Entry}
 use Rattle.drf_rows.specs.Client.{Client, path_of}
@@ -27,11 +27,10 @@ use Rattle.drf_rows.specs.Report.{path_cmp, held_under, node_line, nodes_of, rep
 use Rattle.drf_rows.specs.ReportLaws.{amount-held_under, nodes_begin_paths, nodes_rise}
 use Rattle.drf_rows.specs.Share.{Standing, share_of, weighted_share_of}
 use Rattle.drf_rows.specs.declared.report.NodeLine.{NodeLine}
-use Rattle.drf_rows.specs.declared.report.Report.{Report}
 use Rattle.drf_rows.specs.declared.rows.ClientRow.{ClientRow}
 use Rattle.drf_rows.specs.declared.rows.FrameworkRow.{FrameworkRow}
 use Rattle.drf_rows.specs.declared.rows.Rows.{Rows}
-use Rattle.drf_sorter.specs.Content.{Ranked, has_node, standing_in}
+use Rattle.drf_sorter.specs.Content.{Ranked, has_node}
 use Rattle.drf_sorter.specs.Lines.{AreLinesOf, IsLineOf, has_line, paths_of}
 use Rattle.drf_core.specs.Content.{content_of, ranked}
 use Rattle.drf_core.proofs.ContentClient.{ranked_all}
@@ -88,7 +87,7 @@ same_in_order : (ps qs : List Path) → are_in_order ps ≡ true → are_in_orde
 same_in_order [] [] first second same = refl
 same_in_order [] (q ∷ qs) first second same = absurd (false≢true (same q ∙ has_itself q qs))
 same_in_order (p ∷ ps) [] first second same = absurd (false≢true (sym (same p) ∙ has_itself p ps))
-same_in_order (p ∷ ps) (q ∷ qs) first second same = by (path_cmp p q) refl
+same_in_order (p ∷ ps) (q ∷ qs) first second same = by (path_cmp p q) refl (same_in_order ps qs)
   where
     left : (list_all (is_below p) ps ≡ true) × (are_in_order ps ≡ true)
     left = and_parts (list_all (is_below p) ps) (are_in_order ps) first
@@ -96,16 +95,17 @@ same_in_order (p ∷ ps) (q ∷ qs) first second same = by (path_cmp p q) refl
     right : (list_all (is_below q) qs ≡ true) × (are_in_order qs ≡ true)
     right = and_parts (list_all (is_below q) qs) (are_in_order qs) second
 
-    by : (o : Ordering) → path_cmp p q ≡ o → p ∷ ps ≡ q ∷ qs
-    by Less is =
+    by : (o : Ordering) → path_cmp p q ≡ o
+        → (are_in_order ps ≡ true → are_in_order qs ≡ true → SameMembers ps qs → ps ≡ qs) → p ∷ ps ≡ q ∷ qs
+    by Less is later =
         let below : is_below p q ≡ true = ap is_lt is in
         absurd (false≢true (sym (none_of p (q ∷ qs) (and_from (is_below p q) (list_all (is_below p) qs) below
         (not_first p q qs below right.0))) ∙ sym (same p) ∙ has_itself p ps))
-    by Equal is =
+    by Equal is later =
         let head : p ≡ q = same_path-true p q (same_as_tie p q ∙ ap is_eq is) in
-        let rest = same_in_order ps qs left.1 right.1 (same_rest p q ps qs head left.0 right.0 same) in
+        let rest = later left.1 right.1 (same_rest p q ps qs head left.0 right.0 same) in
         λ i. head i ∷ rest i
-    by Greater is =
+    by Greater is later =
         let below : is_below q p ≡ true = ap is_lt ((lists_total nat_list_cmp_total).antisymm q p ∙ ap ordering_reverse is) in
         absurd (false≢true (sym (none_of q (p ∷ ps) (and_from (is_below q p) (list_all (is_below q) ps) below
         (not_first q p ps below left.0))) ∙ same q ∙ has_itself q qs))

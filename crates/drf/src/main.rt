@@ -1,7 +1,8 @@
-//! The program `drf`, on the words of its command line and the three standard streams.
+//! The program `drf`, on the words of its command line, files and the three standard streams.
 #![tactic(auto)]
 
 use drf_app::{command, no_words};
+use drf_drive::SystemFiles;
 use drf_journal::Device;
 use std::env::Env;
 use std::process::ExitCode;
@@ -12,6 +13,7 @@ fn words<R: Env + AllocGlobal>(rt: &R) -> io::Result<Vec<String>> {
 }
 
 fn main(rt: HostRuntime) -> ExitCode {
+    let mut files = SystemFiles { rt: &rt };
     let mut input = Device::new(rt.stdin());
     let mut output = Device::new(rt.stdout());
     let mut errors = Device::new(rt.stderr());
@@ -20,6 +22,7 @@ fn main(rt: HostRuntime) -> ExitCode {
             &rt,
             rt.alloc(),
             &words,
+            &mut files,
             &mut input,
             &mut output,
             &mut errors,

@@ -1,9 +1,10 @@
 -- What the words of a command line were found to be.
-use Rattle.std.specs.Prelude.{◌≡◌, ◌⊎◌, ◌&&◌, not, Bool, true, false, List, [], ◌∷◌, Option, Some, None, Box, codes, is_some, find, option_map, option_and_then, Result, Ok, Err, IsErrAnd, MatchResult}
+use Rattle.std.specs.Prelude.{◌≡◌, ◌⊎◌, ◌&&◌, not, Bool, true, false, List, [], ◌∷◌, Option, Some, None, Box, codes, is_some, find, length, map, take, unwrap_or, option_map, option_and_then, Result, Ok, Err, IsErrAnd, MatchResult}
 use Rattle.std.specs.Box.{box_value}
-use Rattle.std.proofs.Common.{refl, sym, ap, subst, inl, inr, ⊎_elim}
+use Rattle.std.proofs.Common.{refl, sym, ap, subst, inl, inr, ⊎_elim, arith}
+use Rattle.std.proofs.lemmas.List.{length-map, length-take}
 use Rattle.std.proofs.lemmas.Bool.{false≢true}
-use Rattle.clap.specs.Words.{Row, Shape, Text, app_of, built, found_of, rows_of, subcommand_of, subcommand_rows}
+use Rattle.clap.specs.Words.{Row, Shape, Text, all_of, app_of, built, found_of, rows_of, subcommand_of, subcommand_rows}
 use Rattle.clap.specs.Simple.{argument_words, label_of, names_of, rows_at}
 use Rattle.clap.specs.Walk.{answers_to, is_empty, stop_after}
 use Rattle.clap.specs.declared.builder.command.Command.{Command}
@@ -13,9 +14,9 @@ use Rattle.clap.specs.declared.parser.matches.SubCommand.{SubCommand}
 use Rattle.clap.specs.Words.{kind_of}
 use Rattle.clap.specs.declared.error.Error.{Error}
 use Rattle.clap.specs.declared.error.kind.ErrorKind.TheVariants.{OutOfMemory}
-use Rattle.drf_app.specs.Line.{drf_line, Asks, IsEarly, IsNamed, IsRefused}
+use Rattle.drf_app.specs.Line.{drf_line, Asks, IsWithinBounds, IsNamed, IsRefused}
 use Rattle.drf_app.specs.declared.line.Task.{Task}
-use Rattle.drf_app.specs.declared.line.Task.TheVariants.{Run, Check, Audit, Explain}
+use Rattle.drf_app.specs.declared.line.Task.TheVariants.{Run, Check, Audit, Explain, Drive}
 
 -- the name of one of the commands
 abbrev IsNameOf : List Shape → Text → Type 0
@@ -65,11 +66,12 @@ module _ {Z : Type 0} where
   -- the command that was entered is `run`, if it is no other
   pub is_run : (o : Option (Box SubCommand Z)) (words : List Text) → is_some o ≡ true
       → subcommand_rows o ≡ subcommand_of drf_line words → (name_in o ≡ Some (codes "check") → ⊥) → (name_in o ≡ Some (codes "audit") → ⊥)
-      → (name_in o ≡ Some (codes "explain") → ⊥) → name_in o ≡ Some (codes "run")
-  is_run None words some e not_check not_audit not_explain = cc
-  is_run (Some b) words some e not_check not_audit not_explain =
+      → (name_in o ≡ Some (codes "explain") → ⊥) → (name_in o ≡ Some (codes "drive") → ⊥) → name_in o ≡ Some (codes "run")
+  is_run None words some e not_check not_audit not_explain not_drive = cc
+  is_run (Some b) words some e not_check not_audit not_explain not_drive =
       let among = entered_among (built drf_line).subs _ (stop_after (built drf_line).top.rules (names_of (built drf_line)) (argument_words drf_line words)) (sym e) in
-      let other = ⊎_elim (λ named. not_check (ap Some named)) (⊎_elim (λ named. not_audit (ap Some named)) (⊎_elim (λ named. not_explain (ap Some named)) (λ none. none))) in
+      let other = ⊎_elim (λ named. not_check (ap Some named)) (⊎_elim (λ named. not_audit (ap Some named)) (⊎_elim (λ named. not_explain (ap Some named))
+      (⊎_elim (λ named. not_drive (ap Some named)) (λ none. none)))) in
       ap Some (⊎_elim (λ named. named) (λ later. absurd (other later)) among)
 
 no_globals : (a b c rest : Bool) → a && (not b && (not c && rest)) ≡ true → c ≡ false
@@ -96,9 +98,15 @@ pub refused_as : (words : List Text) (r : Result Task Error) (error : Error) →
 refused_as words (Ok task) error same refused = absurd same
 refused_as words (Err e) error same refused = subst (λ (x : Error). IsRefused words x) (sym same) refused
 
--- a task that words name has no moment that is too late
-pub early_named : (words : List Text) (task : Task) → IsNamed words task → IsEarly task
-early_named words (Run echo) named = tt
-early_named words Check named = tt
-early_named words Audit named = tt
-early_named words (Explain at) named = named.2.early
+-- a task that words name has no moment that is too late, and no more than 64 files
+pub bounds_named : (words : List Text) (task : Task) → IsNamed words task → IsWithinBounds task
+bounds_named words (Run echo) named = tt
+bounds_named words Check named = tt
+bounds_named words Audit named = tt
+bounds_named words (Explain at) named = named.2.early
+bounds_named words (Drive files) named =
+    let all : length (map (λ file. file.now) files.items) ≡ length (take 64 (unwrap_or (all_of (codes "FILE") named.0) [])) =
+    ap length named.2.named in
+    let count = length-map files.items (λ file. file.now) in
+    let most = length-take 64 (unwrap_or (all_of (codes "FILE") named.0) []) in
+    omega (arith, all, count, most)

@@ -1,10 +1,14 @@
 -- What a command has read, written and told, and its status.
-use Rattle.std.specs.Prelude.{◌≡◌, ℕ, Bool, ◌⊎◌, List, Option, Result, OnOk, IfErr, is_err}
+use Rattle.std.specs.Prelude.{◌≡◌, ℕ, Bool, ◌⊎◌, List, map, Option, Result, OnOk, IfErr, is_err}
 use Rattle.std.specs.Io.KnownBytes.{IsAtEnd}
 use Rattle.clap.specs.Words.{kind_of}
 use Rattle.clap.specs.declared.error.Error.{Error}
 use Rattle.clap.specs.declared.error.kind.ErrorKind.{ErrorKind}
 use Rattle.clap.specs.declared.error.kind.ErrorKind.TheVariants.{OutOfMemory, DisplayHelp, DisplayVersion}
+use Rattle.drf_drive.specs.Driven.{HasDrivenFiles}
+use Rattle.drf_drive.specs.Files.{Known}
+use Rattle.drf_drive.specs.JournalText.{is_write_fault}
+use Rattle.drf_drive.specs.declared.script.ScriptFault.{ScriptFault}
 use Rattle.drf_rows.specs.LimitNumbers.{ceilings}
 use Rattle.drf_journal.specs.Audited.{HasAudited, HasExplained as HasExplainedLines}
 use Rattle.drf_journal.specs.Ended.{HasAnswered, HasCause}
@@ -12,11 +16,12 @@ use Rattle.drf_journal.specs.declared.device.Device.{Device}
 use Rattle.drf_journal.specs.declared.fault.RunFault.{RunFault}
 use Rattle.drf_journal.specs.declared.journal.Verdict.{Verdict}
 use Rattle.drf_journal.specs.declared.fault.RunFault.TheVariants.{Write, Memory}
+use Rattle.drf_app.specs.Drives.{HasToldDrive}
 use Rattle.drf_app.specs.Line.{Asks, IsRefused}
 use Rattle.drf_app.specs.Told.{IsTold, IsToldOf, fault_line, status_of}
 use Rattle.drf_app.specs.Verdicts.{IsJudged, check_status}
 use Rattle.drf_app.specs.declared.line.Task.{Task}
-use Rattle.drf_app.specs.declared.line.Task.TheVariants.{Run, Check, Audit, Explain}
+use Rattle.drf_app.specs.declared.line.Task.TheVariants.{Run, Check, Audit, Explain, Drive}
 
 -- a stream: what is still to be read or what was written, where that is known, how often it was called, and whether it failed
 pub record Stream : Type 0 where
@@ -66,6 +71,14 @@ pub record HasExplainedCycle (at : ℕ) (old new : Streams) (answer : ℕ) : Typ
   pub status : answer ≡ status_of ended
   pub told : IsToldOf ended old.errors.bytes new.errors.bytes new.errors.failed
 
+-- a drive of the files of these names, within the full limits
+pub record HasDriven (known : Known) (names : List (List ℕ)) (old new : Streams) (answer : ℕ) : Type 0 where
+  pub ended : Result (Unit {0}) ScriptFault
+  pub input : new.input ≡ old.input
+  pub driven : HasDrivenFiles ceilings known names old.output.bytes new.output.bytes ended
+  pub cause : new.output.failed ≡ is_write_fault ended
+  pub told : HasToldDrive names ended answer old.errors.bytes new.errors.bytes new.errors.failed
+
 -- memory ran out before anything was written
 pub record HasNoMemory (old new : Streams) (answer : ℕ) : Type 0 where
   pub input : new.input ≡ old.input
@@ -99,15 +112,16 @@ HasRefused DisplayHelp old new answer = HasShown old new answer ⊎ HasNoMemory 
 HasRefused DisplayVersion old new answer = HasShown old new answer ⊎ HasNoMemory old new answer
 HasRefused mistake old new answer = HasExplained old new answer ⊎ HasNoMemory old new answer
 
--- what is done for a task
-abbrev pub HasDone : Task → Streams → Streams → ℕ → Type 0
-HasDone (Run echo) old new answer = HasRun echo old new answer
-HasDone Check old new answer = HasChecked old new answer
-HasDone Audit old new answer = HasAudit old new answer
-HasDone (Explain at) old new answer = HasExplainedCycle at old new answer
+-- what is done for a task, where so much is known of files
+abbrev pub HasDone : Known → Task → Streams → Streams → ℕ → Type 0
+HasDone known (Run echo) old new answer = HasRun echo old new answer
+HasDone known Check old new answer = HasChecked old new answer
+HasDone known Audit old new answer = HasAudit old new answer
+HasDone known (Explain at) old new answer = HasExplainedCycle at old new answer
+HasDone known (Drive files) old new answer = HasDriven known (map (λ file. file.now) files.items) old new answer
 
 -- what the words ask for was done, or they were refused
-abbrev pub HasObeyed : List (List ℕ) → Streams → Streams → ℕ → Type 0
-HasObeyed words old new answer =
-    ((task : Task) × Asks words task × HasDone task old new answer)
+abbrev pub HasObeyed : Known → List (List ℕ) → Streams → Streams → ℕ → Type 0
+HasObeyed known words old new answer =
+    ((task : Task) × Asks words task × HasDone known task old new answer)
     ⊎ ((error : Error) × IsRefused words error × HasRefused (kind_of error) old new answer)

@@ -1,14 +1,14 @@
 -- The form of the command line, and what its words ask for.
-use Rattle.std.specs.Prelude.{◌≡◌, ◌≤◌, ⊤, ℕ, Bool, true, false, List, [], Some, None, codes}
+use Rattle.std.specs.Prelude.{◌≡◌, ◌≤◌, ⊤, ℕ, Bool, true, false, List, [], length, map, take, Some, None, codes, unwrap_or}
 use Rattle.std.specs.Str.Parse.{IsNumeral, digits_value, without_leading_plus}
-use Rattle.clap.specs.Words.{App, Row, Rule, Shape, Text, HasKind, fault_of, new_app, new_rule, one_of, subcommand_of, with_rule, with_subcommand}
+use Rattle.clap.specs.Words.{App, Row, Rule, Shape, Text, HasKind, all_of, fault_of, new_app, new_rule, one_of, subcommand_of, with_rule, with_subcommand}
 use Rattle.clap.specs.Simple.{on_top}
-use Rattle.clap.specs.declared.builder.action.ArgAction.TheVariants.{Set, SetTrue}
+use Rattle.clap.specs.declared.builder.action.ArgAction.TheVariants.{Append, Set, SetTrue}
 use Rattle.clap.specs.declared.builder.value_parser.ValueParser.TheVariants.{Unsigned}
 use Rattle.clap.specs.declared.error.Error.{Error}
 use Rattle.drf_rows.specs.declared.limits.TheConstants.{LATEST_MOMENT}
 use Rattle.drf_app.specs.declared.line.Task.{Task}
-use Rattle.drf_app.specs.declared.line.Task.TheVariants.{Run, Check, Audit, Explain}
+use Rattle.drf_app.specs.declared.line.Task.TheVariants.{Run, Check, Audit, Explain, Drive}
 
 abbrev pub echo_flag : Rule
 echo_flag = record (new_rule (codes "echo")) { long = Some (codes "echo"); action = Some SetTrue }
@@ -32,14 +32,25 @@ moment_option = record (new_rule (codes "at")) { long = Some (codes "at"); actio
 abbrev pub explain_line : App
 explain_line = with_rule (new_app (codes "explain")) moment_option
 
+-- `drive FILE..`, of 1 to 64 files
+abbrev pub file_words : Rule
+file_words = record (new_rule (codes "FILE")) {
+  required = true;
+  range = Some (record { start_inclusive = 1; end_inclusive = 64 });
+  action = Some Append;
+}
+
+abbrev pub drive_line : App
+drive_line = with_rule (new_app (codes "drive")) file_words
+
 -- `drf COMMAND`, which has a version
 abbrev pub drf_top : Shape → Shape
 drf_top s = record s { subcommand_required = true; has_version = true; disable_help_subcommand = true }
 
 abbrev pub drf_line : App
 drf_line =
-    with_subcommand (with_subcommand (with_subcommand (with_subcommand (on_top drf_top (new_app (codes "drf"))) run_line.top) check_line.top)
-    audit_line.top) explain_line.top
+    with_subcommand (with_subcommand (with_subcommand (with_subcommand (with_subcommand (on_top drf_top (new_app (codes "drf"))) run_line.top)
+    check_line.top) audit_line.top) explain_line.top) drive_line.top
 
 -- what the words of a command say of a flag
 pub record HasFlag (rows : List Row) (name : Text) (is_set : Bool) : Type 0 where
@@ -55,6 +66,10 @@ pub record SaysMoment (rows : List Row) (at : ℕ) : Type 0 where
       → digits_value 10 (without_leading_plus text) ≤ LATEST_MOMENT → at ≡ digits_value 10 (without_leading_plus text)
   pub early : at ≤ LATEST_MOMENT
 
+-- files are those that the words of a command name, or the first 64 of them; right words name no more
+pub record SaysFiles (rows : List Row) (files : List Text) : Type 0 where
+  pub named : files ≡ take 64 (unwrap_or (all_of (codes "FILE") rows) [])
+
 -- the words name the command of the task, and what they say of its flags is the task's
 abbrev pub IsNamed : List Text → Task → Type 0
 IsNamed words (Run echo) =
@@ -63,13 +78,16 @@ IsNamed words Check = (rows : List Row) × (subcommand_of drf_line words ≡ Som
 IsNamed words Audit = (rows : List Row) × (subcommand_of drf_line words ≡ Some (codes "audit", rows))
 IsNamed words (Explain at) =
     (rows : List Row) × (subcommand_of drf_line words ≡ Some (codes "explain", rows)) × SaysMoment rows at
+IsNamed words (Drive files) =
+    (rows : List Row) × (subcommand_of drf_line words ≡ Some (codes "drive", rows)) × SaysFiles rows (map (λ file. file.now) files.items)
 
--- the moment of a task, if it has one, is no later than the latest
-abbrev pub IsEarly : Task → Type 0
-IsEarly (Run echo) = ⊤
-IsEarly Check = ⊤
-IsEarly Audit = ⊤
-IsEarly (Explain at) = at ≤ LATEST_MOMENT
+-- the moment of a task, if it has one, is no later than the latest, and its files are no more than 64
+abbrev pub IsWithinBounds : Task → Type 0
+IsWithinBounds (Run echo) = ⊤
+IsWithinBounds Check = ⊤
+IsWithinBounds Audit = ⊤
+IsWithinBounds (Explain at) = at ≤ LATEST_MOMENT
+IsWithinBounds (Drive files) = length files.items ≤ 64
 
 -- the words, of which the first is the program's name, ask for the task: nothing is wrong with them, and they name it
 pub record Asks (words : List Text) (task : Task) : Type 0 where

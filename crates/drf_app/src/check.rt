@@ -1,5 +1,5 @@
 //! The check of a journal, and what is said of it.
-ghost use Rattle.std.specs.Prelude.{◌≡◌, ◌≤◌, ◌^◌, false, IfOk, string_bytes};
+ghost use Rattle.std.specs.Prelude.{◌≡◌, ◌≤◌, ◌^◌, true, false, IfOk, string_bytes};
 ghost use Rattle.drf_journal.specs.Device.{IsNew};
 ghost use Rattle.drf_journal.specs.Ended.{HasCause};
 ghost use Rattle.drf_app.specs.Verdicts.{verdict_line, verdict_status, IsSaid, IsJudged};
@@ -28,6 +28,7 @@ fn verdict_line(alloc: Global, verdict: Verdict) -> Result<String, AllocError>
 fn say<W: Write>(alloc: Global, verdict: Verdict, output: &mut Device<W>) -> Result<(), RunFault>
     requires { output.old.failed ≡ false }
     ensures said { IsSaid verdict result (W.contents output.old.inner) (W.contents output.new.inner) output.new.failed }
+    ensures flushed { output.old.flushed ≡ true → output.new.failed ≡ false → output.new.flushed ≡ true }
 {
     let line = verdict_line(alloc, verdict)?;
     write_whole(output, line.as_str().as_bytes())
@@ -43,6 +44,7 @@ pub(crate) fn check<R: Read, W: Write>(
     requires output { IsNew output.old.calls output.old.failed }
     ensures judged { IsJudged (R.remaining input.old.inner) result (W.contents output.old.inner) (W.contents output.new.inner) }
     ensures cause { HasCause result input.new.failed input.new.calls output.new.failed }
+    ensures flushed { output.old.flushed ≡ true → output.new.failed ≡ false → output.new.flushed ≡ true }
     ensures reads { input.new.calls ≤ 2 ^ 40 }
 {
     let verdict = verify(alloc, Limits::full(), input)?;

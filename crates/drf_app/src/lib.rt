@@ -2,6 +2,7 @@
 #![tactic(auto)]
 
 mod check;
+mod drive;
 mod line;
 mod refusal;
 mod tasks;

@@ -1,5 +1,5 @@
 //! Words that ask for no task: for help or the version, or a mistake.
-ghost use Rattle.std.specs.Prelude.{◌≡◌, false};
+ghost use Rattle.std.specs.Prelude.{◌≡◌, true, false};
 ghost use Rattle.clap.specs.Words.{kind_of};
 ghost use Rattle.drf_journal.specs.declared.fault.RunFault.{RunFault};
 ghost use Rattle.drf_app.specs.Done.{Stream, HasRefused, stream_of};
@@ -20,10 +20,11 @@ pub(crate) fn refuse<W: Write, E: Write>(
 ) -> u8
     requires output { output.old.failed ≡ false }
     requires errors { errors.old.failed ≡ false }
-    ensures { (input : Stream) → HasRefused (kind_of error.now)
+    ensures refused { (input : Stream) → HasRefused (kind_of error.now)
         (record { input = input; output = stream_of W.contents output.old; errors = stream_of E.contents errors.old })
         (record { input = input; output = stream_of W.contents output.new; errors = stream_of E.contents errors.new })
         result }
+    ensures flushed { output.old.flushed ≡ true → output.new.failed ≡ false → output.new.flushed ≡ true }
 {
     if error.kind() == ErrorKind::OutOfMemory {
         return finish::<(), E>(Err(RunFault::Memory), errors);

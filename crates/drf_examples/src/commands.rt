@@ -1,12 +1,15 @@
 //! Commands on words: each line of `commands` has the stream that fails, if one does, the status, the words, the input,
 //! and the first lines that are written and that are told, or `@` and a file with the whole text, with `|` between them. The
 //! input is a file, or the journal of an example, which may have a line spoilt. `*` and a number stand for so many agents that
-//! are offered whole, in place of the input's file, and for the text that an audit of them writes.
+//! are offered whole, in place of the input's file, and for the text that an audit of them writes. A journal whose lines may stand in
+//! several orders is told by what `check` says of it, behind `?`.
 use crate::streams::{Bounds, Full, NO_BOUNDS, Slow};
 use drf_app::command;
+use drf_drive::SystemFiles;
 use drf_journal::Device;
 use std::alloc::{AllocError, Global};
 use std::rt::{Files, Runtime};
+use std::sync::Wait;
 use std::thread::Threads;
 use std::{fs, io};
 
@@ -164,15 +167,29 @@ fn bounds_of(failing: &str) -> Bounds {
     }
 }
 
-/// Whether a text is that of the file behind `@` or of the agents behind `*`, or else begins with that line.
-fn is_text<R: Files + AllocGlobal>(rt: &R, text: &[u8], wanted: &str) -> io::Result<bool> {
+/// Whether a text begins with that line.
+fn begins_with(text: &[u8], line: &str) -> bool {
+    let first = text.split(|byte| *byte == b'\n').next().unwrap_or(&[]);
+    first == line.as_bytes()
+}
+
+/// Whether a text is that of the file behind `@` or of the agents behind `*`, or a journal of which `check` says what stands behind
+/// `?`, or else begins with that line.
+fn is_text<R: Files + Threads + Wait + Sync + AllocGlobal>(
+    rt: &R,
+    text: &[u8],
+    wanted: &str,
+) -> io::Result<bool> {
+    if let Some(verdict) = wanted.strip_prefix('?') {
+        let checked = done_by(rt, &["drf", "check"], text, NO_BOUNDS);
+        return Ok(begins_with(&checked.written, verdict));
+    }
     if let Some(count) = wanted.strip_prefix('*') {
         let whole = audit_of(rt.alloc(), count)?;
         return Ok(text == whole.as_slice());
     }
     let Some(file) = wanted.strip_prefix('@') else {
-        let first = text.split(|byte| *byte == b'\n').next().unwrap_or(&[]);
-        return Ok(first == wanted.as_bytes());
+        return Ok(begins_with(text, wanted));
     };
     let whole = fs::read(rt, file)?;
     Ok(text == whole.as_slice())
@@ -186,7 +203,7 @@ struct Done {
     told: Vec<u8>,
 }
 
-fn done_by<R: Threads + Sync + AllocGlobal>(
+fn done_by<R: Files + Threads + Wait + Sync + AllocGlobal>(
     rt: &R,
     words: &[&str],
     input: &[u8],
@@ -196,7 +213,16 @@ fn done_by<R: Threads + Sync + AllocGlobal>(
     let mut reader = Device::new(Slow::new(input, bounds));
     let mut writer = Device::new(Full::new(alloc, bounds));
     let mut errors = Device::new(Full::new(alloc, NO_BOUNDS));
-    let status = command(rt, alloc, words, &mut reader, &mut writer, &mut errors);
+    let mut files = SystemFiles { rt };
+    let status = command(
+        rt,
+        alloc,
+        words,
+        &mut files,
+        &mut reader,
+        &mut writer,
+        &mut errors,
+    );
     Done {
         status,
         written: writer.into_inner().into_taken(),
@@ -204,13 +230,17 @@ fn done_by<R: Threads + Sync + AllocGlobal>(
     }
 }
 
-fn is_done<R: Files + AllocGlobal>(rt: &R, done: &Done, wanted: Wanted) -> io::Result<bool> {
+fn is_done<R: Files + Threads + Wait + Sync + AllocGlobal>(
+    rt: &R,
+    done: &Done,
+    wanted: Wanted,
+) -> io::Result<bool> {
     let is_written = is_text(rt, &done.written, wanted.written)?;
     let is_told = is_text(rt, &done.told, wanted.told)?;
     Ok(done.status == wanted.status && is_written && is_told)
 }
 
-fn is_exact<R: Files + Threads + Sync + AllocGlobal>(rt: &R, row: &str) -> io::Result<bool> {
+fn is_exact<R: Files + Threads + Wait + Sync + AllocGlobal>(rt: &R, row: &str) -> io::Result<bool> {
     let Some(wanted) = wanted_of(row) else {
         return Ok(false);
     };
@@ -220,7 +250,7 @@ fn is_exact<R: Files + Threads + Sync + AllocGlobal>(rt: &R, row: &str) -> io::R
     is_done(rt, &done, wanted)
 }
 
-pub fn run_all<R: Runtime + Threads + Sync + AllocGlobal>(rt: &R) -> io::Result<()> {
+pub fn run_all<R: Runtime + Threads + Wait + Sync + AllocGlobal>(rt: &R) -> io::Result<()> {
     let list = fs::read_to_string(rt, "commands")?;
     let (mut commands, mut others) = (0u64, 0u64);
     for row in list.as_str().lines() {

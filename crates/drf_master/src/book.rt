@@ -105,6 +105,18 @@ impl<S: Sorter> Book<S> {
         &self.core
     }
 
+    /// The journal, without the core.
+    pub fn into_entries(self) -> Vec<Entry>
+        ensures { result.items ≡ self.entries }
+    {
+        let Book {
+            core: _core,
+            second: _second,
+            entries,
+        } = self;
+        entries
+    }
+
     // The core after an event, and the reply to it. The journal stays as it is, and has room for one entry more.
     fn work_out(&mut self, event: &Event) -> Result<(Core<S>, Reply), AllocError>
         ensures same { IsSameJournal self.old self.new }

@@ -10,7 +10,7 @@ use crate::gate::Gate;
 use crate::master::{Master, are_of};
 use crate::matching::CloseFault;
 use crate::pass::Pass;
-use drf_board::Naming;
+use drf_board::{Entry, Naming};
 use drf_rows::{Event, Reply};
 use std::alloc::{AllocError, Global};
 use std::sync::Wait;
@@ -45,6 +45,19 @@ impl From<AllocError> for DriveFault {
 pub struct Driven {
     pub book: Book<MasterSorter>,
     pub replies: Vec<Vec<Reply>>,
+}
+
+impl Driven {
+    /// The journal, without the core and the replies.
+    pub fn into_entries(self) -> Vec<Entry>
+        ensures { result.items ≡ self.book.entries }
+    {
+        let Driven {
+            book,
+            replies: _replies,
+        } = self;
+        book.into_entries()
+    }
 }
 
 /// What one thread is to do.

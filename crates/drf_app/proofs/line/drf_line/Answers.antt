@@ -19,7 +19,9 @@ returns c =
     ∙ ap₂ with_subcommand with_run (ap (λ (a : App). a.top) c.check_line-check.ensures) in
     let with_audit = c.in_ok-subcommand-3.ensures.shape (local c.audit_line-audit.result (ap (λ (a : App). a.top.is_plain) c.audit_line-audit.ensures))
     ∙ ap₂ with_subcommand with_check (ap (λ (a : App). a.top) c.audit_line-audit.ensures) in
-    IfOk-weaker c.subcommand-4.result _ _
-    (λ line added. added.shape (local c.in_ok-explain.explain (ap (λ (a : App). a.top.is_plain) c.in_ok-explain.ensures))
-    ∙ ap₂ with_subcommand with_audit (ap (λ (a : App). a.top) c.in_ok-explain.ensures))
-    c.subcommand-4.ensures
+    let with_explain = c.in_ok-subcommand-4.ensures.shape (local c.in_ok-explain.explain (ap (λ (a : App). a.top.is_plain) c.in_ok-explain.ensures))
+    ∙ ap₂ with_subcommand with_audit (ap (λ (a : App). a.top) c.in_ok-explain.ensures) in
+    IfOk-weaker c.subcommand-5.result _ _
+    (λ line added. added.shape (local c.in_ok-drive.drive (ap (λ (a : App). a.top.is_plain) c.in_ok-drive.ensures))
+    ∙ ap₂ with_subcommand with_explain (ap (λ (a : App). a.top) c.in_ok-drive.ensures))
+    c.subcommand-5.ensures

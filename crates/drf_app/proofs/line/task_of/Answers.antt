@@ -35,8 +35,10 @@ unreachable-requires g c =
     let bad : true ≡ false = cc in absurd (true≢false bad) in
     let not_explain : subcommand_name_of c.in_ok-matches.matches ≡ Some (codes "explain") → ⊥ =
     λ named. let bad : false ≡ true = c.in_default.ensures.found.1 named in absurd (false≢true bad) in
-    let named = is_run (out-ArgMatches c.in_ok-matches.matches).subcommand words has rows not_check not_audit not_explain in
-    let bad : false ≡ true = c.in_default-subcommand_matches.ensures.found.1 named in
+    let not_drive : subcommand_name_of c.in_ok-matches.matches ≡ Some (codes "drive") → ⊥ =
+    λ named. let bad : false ≡ true = c.in_default-subcommand_matches.ensures.found.1 named in absurd (false≢true bad) in
+    let named = is_run (out-ArgMatches c.in_ok-matches.matches).subcommand words has rows not_check not_audit not_explain not_drive in
+    let bad : false ≡ true = c.in_default-subcommand_matches-2.ensures.found.1 named in
     absurd (false≢true bad)
 
 pub returns : goal.returns
@@ -45,14 +47,14 @@ returns g c =
     let form = c.in_ok-line.ensures in
     let rows = (c.in_ok-matches.ensures.ok.2 (ap is_simple form)).1 ∙ ap (λ (a : App). subcommand_of a words) form in
     let right = c.in_ok-matches.ensures.kinds (ap is_simple_and_free form) in
-    let found = found_of c.in-Some-subcommand_matches.run'.now in
+    let found = found_of c.in-Some-subcommand_matches-2.run'.now in
     let flag = one_text-rows found (codes "echo") in
     record {
       right = ap (λ (a : App). fault_of a words) (sym form) ∙ right;
       named = (
         rows_of found,
         sym rows ∙ entered (out-ArgMatches c.in_ok-matches.matches).subcommand (codes "run") (rows_of found)
-            (c.in-Some-subcommand_matches.ensures.found.0 refl) c.in-Some-subcommand_matches.ensures.rows,
+            (c.in-Some-subcommand_matches-2.ensures.found.0 refl) c.in-Some-subcommand_matches-2.ensures.rows,
         record {
           unsaid = λ e. c.get_flag.ensures.none (flag ∙ e);
           no = λ e. c.get_flag.ensures.other (flag ∙ e);
@@ -103,5 +105,25 @@ returns-in-Some g c =
         sym rows ∙ entered (out-ArgMatches c.in_ok-matches.matches).subcommand (codes "explain") (rows_of found)
             (c.in-Some.ensures.found.0 refl) c.in-Some.ensures.rows,
         c.moment_of.ensures,
+      );
+    }
+
+pub returns-in_err-files : goal.returns-in_err-files
+returns-in_err-files g c = out_of_memory (map g.S.AsStr.text c.args.words.now) c.from_residual-in_err-files.result c.from_residual-in_err-files.ensures.1
+
+pub returns-in-Some-subcommand_matches : goal.returns-in-Some-subcommand_matches
+returns-in-Some-subcommand_matches g c =
+    let words = map g.S.AsStr.text c.args.words.now in
+    let form = c.in_ok-line.ensures in
+    let rows = (c.in_ok-matches.ensures.ok.2 (ap is_simple form)).1 ∙ ap (λ (a : App). subcommand_of a words) form in
+    let right = c.in_ok-matches.ensures.kinds (ap is_simple_and_free form) in
+    let found = found_of c.in-Some-subcommand_matches.drive.now in
+    record {
+      right = ap (λ (a : App). fault_of a words) (sym form) ∙ right;
+      named = (
+        rows_of found,
+        sym rows ∙ entered (out-ArgMatches c.in_ok-matches.matches).subcommand (codes "drive") (rows_of found)
+            (c.in-Some-subcommand_matches.ensures.found.0 refl) c.in-Some-subcommand_matches.ensures.rows,
+        c.in_ok-files.ensures,
       );
     }

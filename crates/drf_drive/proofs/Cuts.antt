@@ -1,0 +1,51 @@
+-- Where bytes are cut into lines.
+use Rattle.std.proofs.Common.{◌≡◌, ◌==◌, if◌then◌else◌, ℕ, ◌+◌, ◌<◌, Bool, false, List, [], ◌∷◌, ◌++◌, length, get_or, take, drop, refl, sym, ap, ◌∙◌, suc, add-one, take-append-drop, arith}
+use Rattle.std.proofs.Math.Seq.{drop-cons}
+use Rattle.std.specs.List.{slice_split}
+use Rattle.std.proofs.lemmas.Bool.{ne_eqb}
+use Rattle.std.proofs.lemmas.List.Splits.{slice_split_at, slice_split_none, length-slice_split}
+use Rattle.drf_journal.specs.Lines.{is_line_feed, all_but_last, last_part, ended_lines_of, open_line_of, lines_of}
+use Rattle.drf_drive.specs.Cut.{IsWithinLine}
+
+abbrev last_line : List ℕ → List (List ℕ)
+last_line line = if length line == 0 then [] else line ∷ []
+
+first_ended : (front : List ℕ) (parts : List (List ℕ)) → 0 < length parts
+    → all_but_last (front ∷ parts) ≡ front ∷ all_but_last parts
+first_ended front [] some = absurd (omega arith)
+first_ended front (part ∷ parts) some = refl
+
+first_passed : (front : List ℕ) (parts : List (List ℕ)) → 0 < length parts → last_part (front ∷ parts) ≡ last_part parts
+first_passed front [] some = absurd (omega arith)
+first_passed front (part ∷ parts) some = refl
+
+pub lines-nil : lines_of [] ≡ []
+unfolding lines_of ended_lines_of open_line_of
+lines-nil = refl
+
+-- a line that a line feed ends is the first
+pub lines-feed : (line rest : List ℕ) → IsWithinLine line → lines_of (line ++ 10 ∷ rest) ≡ line ∷ lines_of rest
+unfolding lines_of ended_lines_of open_line_of
+lines-feed line rest within =
+    let parts = slice_split_at is_line_feed line 10 rest within refl in
+    let some : 0 < length (slice_split is_line_feed rest) = omega (arith, length-slice_split is_line_feed rest) in
+    let ended = ap all_but_last parts ∙ first_ended line (slice_split is_line_feed rest) some in
+    let open_part = ap last_part parts ∙ first_passed line (slice_split is_line_feed rest) some in
+    λ i. ended i ++ last_line (open_part i)
+
+-- a line that goes on to the end is the only one
+pub lines-alone : (line : List ℕ) → IsWithinLine line → 0 < length line → lines_of line ≡ line ∷ lines_of []
+unfolding lines_of ended_lines_of open_line_of
+lines-alone line within some =
+    let parts = slice_split_none is_line_feed line within in
+    let test : (length line == 0) ≡ false = ne_eqb (length line) 0 (λ e. omega arith) in
+    (λ i. ap all_but_last parts i ++ last_line (ap last_part parts i)) ∙ ap (λ (t : Bool). if t then [] else line ∷ []) test
+
+-- bytes that are cut at a line feed
+pub lines-cut : (bytes : List ℕ) (at : ℕ) → at < length bytes → get_or bytes at 0 ≡ 10 → IsWithinLine (take at bytes)
+    → lines_of bytes ≡ take at bytes ∷ lines_of (drop (at + 1) bytes)
+lines-cut bytes at inside feed within =
+    ap lines_of (sym (take-append-drop at bytes)
+    ∙ ap (λ l. take at bytes ++ l) (drop-cons bytes at 0 inside ∙ ap (λ b. b ∷ drop (suc at) bytes) feed
+    ∙ ap (λ n. 10 ∷ drop n bytes) (sym (add-one at))))
+    ∙ lines-feed (take at bytes) (drop (at + 1) bytes) within

@@ -1,0 +1,6 @@
+pub mod Cuts
+pub mod Contents
+pub mod Scripts
+pub mod Sent
+pub mod Endings
+pub mod Misfits

@@ -1,0 +1,5 @@
+use Rattle.drf_drive.proofs.run.run_scripts.Given as goal
+
+-- its own slate
+abbrev pub ghosts-run_named : goal.ghosts-run_named
+ghosts-run_named g a = record { slate = a.slate.name }

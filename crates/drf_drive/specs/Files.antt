@@ -1,0 +1,59 @@
+-- The bytes of files.
+use Rattle.std.specs.Prelude.{◌≡◌, ⊤, ℕ, List, [], ◌∷◌, ◌++◌, map}
+use Rattle.std.specs.Global.{Vec}
+use Rattle.drf_journal.specs.declared.fault.RunFault.{RunFault}
+use Rattle.drf_journal.specs.declared.fault.RunFault.TheVariants.{Read, Write, Memory}
+
+-- what is known of a file
+pub data Content : Type 0 where
+  -- nothing
+  unknown : Content
+  -- that it cannot be read
+  unreadable : Content
+  -- what it has
+  has : List ℕ → Content
+
+-- what is known of each file by its name
+abbrev pub Known : Type 0
+Known = List ℕ → Content
+
+-- a file may have these bytes
+abbrev pub MayHave : Content → List ℕ → Type 0
+MayHave unknown bytes = ⊤
+MayHave unreadable bytes = ⊥
+MayHave (has content) bytes = bytes ≡ content
+
+-- a file may be one that cannot be read
+abbrev pub MayBeUnreadable : Content → Type 0
+MayBeUnreadable unknown = ⊤
+MayBeUnreadable unreadable = ⊤
+MayBeUnreadable (has content) = ⊥
+
+-- why a file gave no bytes
+abbrev pub IsFileFault : Content → RunFault → Type 0
+IsFileFault content Read = MayBeUnreadable content
+IsFileFault content Write = ⊥
+IsFileFault content Memory = ⊤
+
+abbrev pub bytes_of : List (Vec ℕ) → List (List ℕ)
+bytes_of contents = map (λ bytes. bytes.items) contents
+
+-- what the files of these names have, in their order; all of them were read
+abbrev pub AreContents : Known → List (List ℕ) → List (List ℕ) → Type 0
+AreContents known [] [] = Unit {0}
+AreContents known (name ∷ names) (bytes ∷ contents) = MayHave (known name) bytes × AreContents known names contents
+AreContents known _ _ = ⊥
+
+-- one of the files cannot be read
+pub record HasUnread (known : Known) (names : List (List ℕ)) : Type 0 where
+  pub before : List (List ℕ)
+  pub name : List ℕ
+  pub after : List (List ℕ)
+  pub one : names ≡ before ++ name ∷ after
+  pub unread : MayBeUnreadable (known name)
+
+-- why not all were read
+abbrev pub IsUnread : Known → List (List ℕ) → RunFault → Type 0
+IsUnread known names Read = HasUnread known names
+IsUnread known names Write = ⊥
+IsUnread known names Memory = ⊤

@@ -1,0 +1,5 @@
+pub mod Cut
+pub mod Files
+pub mod Scripts
+pub mod JournalText
+pub mod Driven

@@ -1,0 +1,102 @@
+-- What the lines of files mean.
+use Rattle.std.specs.Prelude.{◌≡◌, ⊤, ℕ, ◌+◌, List, [], ◌∷◌, ◌++◌, length, map, Result, Ok, Err}
+use Rattle.std.specs.Global.{Vec}
+use Rattle.drf_journal.specs.Lines.{lines_of}
+use Rattle.drf_journal.specs.declared.fault.RunFault.TheVariants.{Memory}
+use Rattle.drf_lines.specs.Meaning.{meaning_of}
+use Rattle.drf_lines.specs.declared.fault.LineFault.{LineFault}
+use Rattle.drf_rows.specs.declared.event.Event.{Event}
+use Rattle.drf_drive.specs.Files.{Known, AreContents, IsUnread}
+use Rattle.drf_drive.specs.declared.script.BadLine.{BadLine}
+use Rattle.drf_drive.specs.declared.script.ScriptFault.{ScriptFault}
+use Rattle.drf_drive.specs.declared.script.ScriptFault.TheVariants.{Run, Line, Close}
+
+-- what the lines of a file mean, line by line
+abbrev pub meanings_of : List ℕ → List (Result Event LineFault)
+meanings_of bytes = map meaning_of (lines_of bytes)
+
+-- that these are all events
+abbrev pub as_meant : List Event → List (Result Event LineFault)
+as_meant events = map (λ (event : Event). Ok event) events
+
+-- the events are what the lines of a file mean
+abbrev pub IsScript : List ℕ → List Event → Type 0
+IsScript bytes events = meanings_of bytes ≡ as_meant events
+
+-- each of the scripts is what the lines of its file mean
+abbrev pub AreScripts : List (List ℕ) → List (Vec Event) → Type 0
+AreScripts [] [] = Unit {0}
+AreScripts (bytes ∷ contents) (script ∷ scripts) = IsScript bytes script.items × AreScripts contents scripts
+AreScripts _ _ = ⊥
+
+-- ---- the first line that is no event
+
+-- the lines before it are events; its number counts from 1
+pub record IsFirstBadLine (bytes : List ℕ) (number : ℕ) (fault : LineFault) : Type 0 where
+  pub before : List Event
+  pub after : List (Result Event LineFault)
+  pub lines : meanings_of bytes ≡ as_meant before ++ Err fault ∷ after
+  pub place : number ≡ length before + 1
+
+-- all lines of the files before it are events; its file counts from 0
+pub record IsFirstBad (contents : List (List ℕ)) (bad : BadLine) : Type 0 where
+  pub before : List (List ℕ)
+  pub bytes : List ℕ
+  pub after : List (List ℕ)
+  pub files : contents ≡ before ++ bytes ∷ after
+  pub place : bad.file ≡ length before
+  pub scripts : List (Vec Event)
+  pub good : AreScripts before scripts
+  pub first : IsFirstBadLine bytes bad.line bad.fault
+
+-- ---- why there are no scripts
+
+-- a line of a file, with its number, is no event, or memory ran out
+abbrev pub IsNoEvent : ℕ → ℕ → List ℕ → ScriptFault → Type 0
+IsNoEvent file number line (Run Memory) = ⊤
+IsNoEvent file number line (Line bad) = (bad.file ≡ file) × ((bad.line ≡ number) × (meaning_of line ≡ Err bad.fault))
+IsNoEvent file number line _ = ⊥
+
+-- a file has a bad line, or memory ran out
+abbrev pub HasBadLine : ℕ → List ℕ → ScriptFault → Type 0
+HasBadLine file bytes (Run Memory) = ⊤
+HasBadLine file bytes (Line bad) = (bad.file ≡ file) × IsFirstBadLine bytes bad.line bad.fault
+HasBadLine file bytes _ = ⊥
+
+-- one of the files does
+abbrev pub HaveBadLine : List (List ℕ) → ScriptFault → Type 0
+HaveBadLine contents (Run Memory) = ⊤
+HaveBadLine contents (Line bad) = IsFirstBad contents bad
+HaveBadLine contents _ = ⊥
+
+-- the files of these names were read, and one of them has a bad line
+pub record HasRefused (known : Known) (names : List (List ℕ)) (bad : BadLine) : Type 0 where
+  pub contents : List (List ℕ)
+  pub read : AreContents known names contents
+  pub first : IsFirstBad contents bad
+
+-- a file cannot be read, or one has a bad line, or memory ran out
+abbrev pub IsUnreadable : Known → List (List ℕ) → ScriptFault → Type 0
+IsUnreadable known names (Run fault) = IsUnread known names fault
+IsUnreadable known names (Line bad) = HasRefused known names bad
+IsUnreadable known names Close = ⊥
+
+-- ---- scripts
+
+-- the scripts are what the lines of the files of these names mean
+pub record HasScripts (known : Known) (names : List (List ℕ)) (scripts : List (Vec Event)) : Type 0 where
+  pub contents : List (List ℕ)
+  pub read : AreContents known names contents
+  pub meant : AreScripts contents scripts
+
+-- the event of a line comes last
+pub record Takes (line : List ℕ) (old new : List Event) : Type 0 where
+  pub event : Event
+  pub meant : meaning_of line ≡ Ok event
+  pub added : new ≡ old ++ event ∷ []
+
+-- the script of a file comes last
+pub record TakesScript (bytes : List ℕ) (old new : List (Vec Event)) : Type 0 where
+  pub script : Vec Event
+  pub meant : IsScript bytes script.items
+  pub added : new ≡ old ++ script ∷ []

@@ -1,0 +1,12 @@
+//! Scripts of events in files: each file runs on a thread of its own, on one master, whose journal is written.
+#![tactic(auto)]
+
+mod files;
+mod journal;
+mod lines;
+mod run;
+mod script;
+
+pub use files::{FileBytes, SystemFiles};
+pub use run::run_drive;
+pub use script::{BadLine, ScriptFault};

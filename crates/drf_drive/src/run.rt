@@ -1,0 +1,120 @@
+//! Files that are run on threads.
+ghost use Rattle.std.specs.Prelude.{◌≡◌, ◌<◌, ◌≤◌, ℕ, List, [], length, map, true, false, OnOk, IfOk, IfErr};
+ghost use Rattle.drf_board.specs.History.{IsLegal};
+ghost use Rattle.drf_drive.specs.Driven.{HasDrivenFiles, IsRunFault, IsShuffleOf, told_as};
+ghost use Rattle.drf_drive.specs.Files.{Known};
+ghost use Rattle.drf_drive.specs.JournalText.{is_write_fault};
+ghost use Rattle.drf_drive.specs.Scripts.{HasScripts};
+
+use crate::files::FileBytes;
+use crate::journal::{write_journal, write_nothing};
+use crate::script::{ScriptFault, read_scripts};
+use drf_board::{Brand, Entry, Naming, Slate};
+use drf_journal::{Device, RunFault};
+use drf_master::{CloseFault, DriveFault, Master, OpenGate, drive};
+use drf_rows::{Event, Limits};
+use std::alloc::Global;
+use std::convert::AsStr;
+use std::io::Write;
+use std::sync::Wait;
+use std::thread::Threads;
+
+/// The key of the one master and its passes.
+const KEY: u64 = 0;
+
+impl From<DriveFault> for ScriptFault {
+    ghost use Rattle.std.specs.Prelude.{◌≡◌};
+    ghost use Rattle.drf_drive.specs.Driven.{told_as};
+
+    ghost from_gives = { λ fault gives. gives ≡ told_as fault };
+
+    fn from(fault: DriveFault) -> ScriptFault {
+        match fault {
+            DriveFault::Memory | DriveFault::Close(CloseFault::Memory) => {
+                ScriptFault::Run(RunFault::Memory)
+            }
+            _ => ScriptFault::Close,
+        }
+    }
+}
+
+// Runs scripts on a master whose slate has that name, which nobody looks at.
+fn run_named<K: Naming + Send + Sync, W: Threads + Wait + Sync>(
+    rt: &W,
+    alloc: Global,
+    limits: Limits,
+    slate: Slate,
+    scripts: Vec<Vec<Event>>,
+) -> Result<Vec<Entry>, DriveFault>
+    requires named { slate.name ≡ K.slate }
+    requires limits { limits ≡ slate.name.limits }
+    requires count { (1 ≤ length scripts.items) × (length scripts.items ≤ 64) }
+    ensures legal { IfOk result (λ journal. IsLegal limits journal.items) }
+    ensures shuffle { IfOk result (λ journal. IsShuffleOf scripts.items journal.items) }
+    ensures fault { IfErr result (λ fault. IsRunFault limits scripts.items (told_as fault)) }
+{
+    let count = scripts.len() as u64;
+    let (master, passes, _viewers) = Master::<K, &W>::open(rt, alloc, KEY, limits, count, slate)?;
+    match drive(rt, alloc, master, passes, &OpenGate, scripts) {
+        Ok(driven) => Ok(driven.into_entries()),
+        Err(fault) => Err(fault),
+    }
+}
+
+// Runs each script on a thread of its own.
+fn run_scripts<W: Threads + Wait + Sync>(
+    rt: &W,
+    alloc: Global,
+    limits: Limits,
+    scripts: Vec<Vec<Event>>,
+) -> Result<Vec<Entry>, ScriptFault>
+    requires count { (1 ≤ length scripts.items) × (length scripts.items ≤ 64) }
+    ensures legal { IfOk result (λ journal. IsLegal limits journal.items) }
+    ensures shuffle { IfOk result (λ journal. IsShuffleOf scripts.items journal.items) }
+    ensures fault { IfErr result (IsRunFault limits scripts.items) }
+{
+    let slate = Slate::open(0, limits)?;
+    Ok(run_named::<Brand, W>(rt, alloc, limits, slate, scripts)?)
+}
+
+// Runs scripts, which are what the lines of some files mean, and writes the journal.
+fn drive_scripts<W: Threads + Wait + Sync, O: Write>(
+    rt: &W,
+    alloc: Global,
+    limits: Limits,
+    scripts: Vec<Vec<Event>>,
+    writer: &mut Device<O>,
+) -> Result<(), ScriptFault>
+    requires count { (1 ≤ length scripts.items) × (length scripts.items ≤ 64) }
+    requires writer { writer.old.failed ≡ false }
+    ensures driven { (known : Known) → (names : List (List ℕ)) → HasScripts known names scripts.items → HasDrivenFiles limits known names (O.contents writer.old.inner) (O.contents writer.new.inner) result }
+    ensures failed { writer.new.failed ≡ is_write_fault result }
+    ensures flushed { writer.old.flushed ≡ true → writer.new.failed ≡ false → writer.new.flushed ≡ true }
+{
+    let journal = run_scripts(rt, alloc, limits, scripts)?;
+    write_journal(alloc, journal.as_slice(), writer)
+}
+
+/// Reads files of event lines, at most 64, runs each on a thread of its own, on one master, and writes the journal: for each call the line of
+/// the event and that of the reply. All files are read before any line is looked at. A line that is no event is told, the first one of the
+/// first file that has one, and nothing runs then.
+pub fn run_drive<W: Threads + Wait + Sync, F: FileBytes, S: AsStr, O: Write>(
+    rt: &W,
+    alloc: Global,
+    limits: Limits,
+    files: &mut F,
+    names: &[S],
+    writer: &mut Device<O>,
+) -> Result<(), ScriptFault>
+    requires few { length names.now ≤ 64 }
+    requires writer { writer.old.failed ≡ false }
+    ensures driven { HasDrivenFiles limits (F.known files.old) (map S.text names.now) (O.contents writer.old.inner) (O.contents writer.new.inner) result }
+    ensures failed { writer.new.failed ≡ is_write_fault result }
+    ensures flushed { writer.old.flushed ≡ true → writer.new.failed ≡ false → writer.new.flushed ≡ true }
+{
+    if names.is_empty() {
+        return write_nothing(alloc, writer);
+    }
+    let scripts = read_scripts(alloc, files, names)?;
+    drive_scripts(rt, alloc, limits, scripts, writer)
+}

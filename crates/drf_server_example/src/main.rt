@@ -1,0 +1,159 @@
+//! A server in short. `serve` opens a master, `call` and `append_sheets` are what its threads do, and `close` compares its journal with
+//! the receipts. What owns a master or its book does nothing else: its drop is long, and each branch beside it would prove it again.
+#![tactic(auto)]
+
+ghost use Rattle.std.specs.Prelude.{◌≡◌};
+ghost use Rattle.drf_rows.specs.LimitNumbers.{ceilings};
+
+use anyhow::{Context, Result, bail};
+use drf_board::{Brand, Entry, Naming, Sheet, Slate, Viewer};
+use drf_lines::{read_event, write_reply};
+use drf_master::{Answer, CloseFault, CloseRefused, Master, Pass};
+use drf_rows::{Limits, Reply};
+use drf_text::write_quantities;
+use std::alloc::Global;
+use std::fmt::Write;
+use std::sync::Wait;
+use std::{io, str};
+
+const AGENT: &str = r#"{"event":"add_agent","agent":"n1","total":"cpus:1"}"#;
+
+// Calls by a pass: the event of the line is taken as one step, and the pass keeps a receipt for it. Threads share the master; each has a
+// pass of its own.
+fn call<K: Naming, R: Wait + Drop, W: Wait>(
+    rt: &W,
+    alloc: Global,
+    master: &Master<K, R>,
+    passes: &mut [Pass],
+    line: &str,
+) -> Result<Answer<K>> {
+    let event = read_event(alloc, line.as_bytes())?;
+    let pass = passes.first_mut().context("no pass")?;
+    master.call(rt, pass, event).ok().context("not called")
+}
+
+fn append_reply(alloc: Global, told: &mut String, reply: &Reply) -> Result<()> {
+    let line = write_reply(alloc, reply)?;
+    let text = str::from_utf8(&line).ok().context("no text")?;
+    Ok(write!(told, " {}", text.trim_end())?)
+}
+
+fn append_sheet(alloc: Global, told: &mut String, sheet: &Sheet) -> Result<()> {
+    let total = write_quantities(alloc, &sheet.report.total)?;
+    let nodes = sheet.report.nodes.len();
+    Ok(write!(told, " {} events ({total}), {nodes} nodes;", sheet.events)?)
+}
+
+// Adds what each viewer is shown. A viewer waits for nobody.
+fn append_sheets<K: Naming>(
+    alloc: Global,
+    told: &mut String,
+    viewers: &mut [Viewer<K>],
+) -> Result<()> {
+    for viewer in viewers.iter_mut() {
+        let sheet = viewer.read().ok().context("no sheet")?;
+        append_sheet(alloc, told, &sheet)?;
+    }
+    Ok(())
+}
+
+// Calls twice, and reads before and after.
+fn call_and_read<K: Naming, R: Wait + Drop, W: Wait>(
+    rt: &W,
+    alloc: Global,
+    told: &mut String,
+    master: &Master<K, R>,
+    passes: &mut [Pass],
+    viewers: &mut [Viewer<K>],
+) -> Result<()> {
+    append_sheets(alloc, told, viewers)?;
+    call(rt, alloc, master, passes, AGENT)?;
+    // Now the agent is there. That it comes again is refused, which is an answer like any other.
+    let answer = call(rt, alloc, master, passes, AGENT)?;
+    append_reply(alloc, told, &answer.reply)?;
+    // What a viewer has learnt is on each sheet that it reads from then on.
+    if let Some(first) = viewers.first_mut() {
+        first.learn(&answer.told);
+    }
+    append_sheets(alloc, told, viewers)
+}
+
+// The book and the passes go.
+fn fault_of(refused: CloseRefused) -> CloseFault {
+    let fault = refused.fault;
+    drop(refused);
+    fault
+}
+
+// The journal, where it is a shuffle of the receipts of all passes. Else the book and the passes would come with the fault.
+fn close<K: Naming, R: Wait + Drop>(
+    master: Master<K, R>,
+    passes: Vec<Pass>,
+) -> Result<Vec<Entry>, CloseFault> {
+    match master.close(passes) {
+        Ok(book) => Ok(book.into_entries()),
+        Err(refused) => Err(fault_of(refused)),
+    }
+}
+
+fn append_closed(told: &mut String, closed: &Result<Vec<Entry>, CloseFault>) -> Result<()> {
+    match closed {
+        Ok(entries) => Ok(writeln!(told, " closed, {} entries", entries.len())?),
+        Err(fault) => bail!("not closed: {fault:?}"),
+    }
+}
+
+fn append_used(
+    told: &mut String,
+    used: Result<()>,
+    closed: Result<Vec<Entry>, CloseFault>,
+) -> Result<()> {
+    used?;
+    append_closed(told, &closed)
+}
+
+// No branch stands between what is owned here: the borrow checker would prove the drops in each anew.
+fn use_and_close<K: Naming, R: Wait + Drop, W: Wait>(
+    rt: &W,
+    alloc: Global,
+    told: &mut String,
+    master: Master<K, R>,
+    mut passes: Vec<Pass>,
+    mut viewers: Vec<Viewer<K>>,
+) -> Result<()> {
+    let used = call_and_read(rt, alloc, told, &master, &mut passes, &mut viewers);
+    let closed = close(master, passes);
+    drop(viewers);
+    append_used(told, used, closed)
+}
+
+// Opens a master of key 1 with one pass. A slate is for one master and its viewers, and what opens the master is generic in the slate's
+// name, so that what one master tells is never taken for what another tells.
+fn serve_named<K: Naming, W: Wait>(
+    rt: &W,
+    alloc: Global,
+    told: &mut String,
+    slate: Slate,
+) -> Result<()>
+    requires named { slate.name ≡ K.slate }
+    requires limits { slate.name.limits ≡ ceilings }
+{
+    let (master, passes, viewers) = Master::<K, &W>::open(rt, alloc, 1, Limits::full(), 1, slate)?;
+    use_and_close(rt, alloc, told, master, passes, viewers)
+}
+
+// Makes the slate, for two viewers, and calls what opens its master with `Brand`.
+fn serve<W: Wait>(rt: &W, alloc: Global, told: &mut String) -> Result<()> {
+    let slate = Slate::open(2, Limits::full())?;
+    serve_named::<Brand, W>(rt, alloc, told, slate)
+}
+
+fn main(rt: HostRuntime) -> io::Result<()> {
+    let mut told = String::new(rt.alloc());
+    let served = serve(&rt, rt.alloc(), &mut told);
+    print!(&rt; "two viewers, an agent twice:{told}")?;
+    match served {
+        Ok(()) => Ok(()),
+        Err(fault) => println!(&rt; "not served: {fault}"),
+    }
+}

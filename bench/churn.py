@@ -24,6 +24,10 @@ class Talk:
         self.program = subprocess.Popen(words, stdin=subprocess.PIPE, stdout=subprocess.PIPE, text=True)
         self.lines = []
 
+    def is_over(self):
+        """Whether no further cycle is to come."""
+        return False
+
     def ask(self, event, **keys):
         self.lines.append(line(event, **keys))
         self.program.stdin.write(self.lines[-1] + "\n")
@@ -47,15 +51,17 @@ def part_of(chance, offer):
     return f"cpus:{min(cpus, chance.randint(1, 4))};mem:{min(mem, chance.choice((512, 1024, 4096)))}"
 
 
-def churn(words, agents=500, frameworks=100, cycles=40):
-    """The lines, as the program that these words start answers them."""
-    talk, chance, ends = Talk(words), random.Random(1), {}
+def churn(talk, agents=500, frameworks=100, cycles=40):
+    """Asks the lines, as the answers have it, and gives them back."""
+    chance, ends = random.Random(1), {}
     for i in range(agents):
         talk.ask("add_agent", agent=f"n{i}", total=f"cpus:{4 << i % 4};mem:{8192 << i % 4}")
     for i in range(frameworks):
         talk.ask("add_framework", framework=f"f{i}", roles=[f"r{i % 10}/q{i % 3}"])
     for turn in range(cycles):
         at = turn * PERIOD
+        if talk.is_over():
+            break
         for framework, task in ends.pop(turn, []):
             talk.ask("finish", framework=framework, task=task)
         for offer in talk.ask("cycle", at=at)["offers"]:
@@ -70,4 +76,4 @@ def churn(words, agents=500, frameworks=100, cycles=40):
 
 
 if __name__ == "__main__":
-    sys.stdout.writelines(f"{it}\n" for it in churn(sys.argv[1:]))
+    sys.stdout.writelines(f"{it}\n" for it in churn(Talk(sys.argv[1:])))

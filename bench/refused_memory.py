@@ -1,15 +1,19 @@
 #!/usr/bin/env python3
-"""Refuses each growth of memory in turn, once, while the program takes the events of examples/: what was written must be whole
-lines of a front of the answers, and the status and the line on standard error must say that memory ended; or else all was
-answered. It needs a C compiler.
+"""Refuses each growth of memory in turn, once, while the program takes events: what was written must be whole lines of a front
+of the answers, and the status and the line on standard error must say that memory ended; or else all was answered. Of files
+that are driven side by side no two journals need be the same, nor the growths of two runs: what was written must be a journal
+that the program's own check finds good, with all events unless memory ended. It needs a C compiler.
 
-    bench/refused_memory.py            the program that ./drf builds
-    bench/refused_memory.py PROGRAM    another one"""
+    bench/refused_memory.py                  the program that ./drf builds, on lines that use every event
+    bench/refused_memory.py PROGRAM          another one
+    bench/refused_memory.py PROGRAM whole    on the lines of examples/ too, in some minutes"""
 import glob
+import json
 import os
 import subprocess
 import sys
 import tempfile
+from multiprocessing.pool import ThreadPool
 
 ROOT = os.path.dirname(os.path.dirname(os.path.realpath(__file__)))
 SHIM = r"""
@@ -17,11 +21,9 @@ SHIM = r"""
 #include <dlfcn.h>
 #include <errno.h>
 #include <stdlib.h>
-static long left = -1;
-static int refused(void) {
-    if (left < 0) left = atol(getenv("REFUSED_GROWTH"));
-    return left > 0 && --left == 0;
-}
+static long left;
+__attribute__((constructor)) static void begin(void) { left = atol(getenv("REFUSED_GROWTH")); }
+static int refused(void) { return left > 0 && __atomic_sub_fetch(&left, 1, __ATOMIC_SEQ_CST) == 0; }
 void *malloc(size_t size) {
     static void *(*real)(size_t);
     if (!real) real = dlsym(RTLD_NEXT, "malloc");
@@ -36,8 +38,17 @@ void *realloc(void *kept, size_t size) {
 }
 """
 COMMANDS = [["run"], ["run", "--echo"], ["audit"], ["explain"], ["check"]]
+# So many ports that the journal of a drive is written in several pieces.
+PORTS = ",".join(f"{port}-{port}" for port in range(0, 8000, 2))
+# What each file of a drive has.
+SCRIPTS = [
+    [{"event": "add_agent", "agent": f"n{number}", "total": f"cpus:4;ports:[{PORTS}]"} for number in range(3)] + [{"event": "report"}],
+    [{"event": "add_framework", "framework": f"f{number}", "roles": ["a/b", "c"]} for number in range(3)] + [{"event": "report"}],
+    [{"event": "cycle", "at": moment} for moment in range(4)] + [{"event": "rescind", "offer": 1}],
+]
 # So many refusals in a row that change nothing are the end: no growth is left.
 QUIET = 100
+SIDE_BY_SIDE = 2
 
 
 def ran(program, words, given, shim, growth):
@@ -46,48 +57,80 @@ def ran(program, words, given, shim, growth):
     return done.returncode, done.stdout, done.stderr
 
 
-def is_right(whole, refused):
-    status, written, told = refused
+def is_right(whole, done):
+    status, written, told = done
     if status == 0:
         return written == whole[1] and told == b""
     return status == 1 and told == b"drf: out of memory\n" and whole[1].startswith(written) and written[-1:] in (b"", b"\n")
 
 
-def sweep(program, words, given, shim):
+def is_right_drive(program, shim, done):
+    status, written, told = done
+    checked = ran(program, ["check"], written, shim, 0)[1]
+    if status == 0:
+        return checked == b"good %d\n" % sum(map(len, SCRIPTS)) and told == b""
+    return status == 1 and told == b"drf: out of memory\n" and checked.startswith(b"good ") and written[-1:] in (b"", b"\n")
+
+
+def sweep(pool, run, is_right):
     """How many growths were refused, after how many of them all was answered, and those after which something was wrong."""
-    whole = ran(program, words, given, shim, 0)
     growth, quiet, went_on, wrong = 0, 0, 0, []
     while quiet < QUIET:
-        growth += 1
-        refused = ran(program, words, given, shim, growth)
-        quiet = quiet + 1 if refused == whole else 0
-        went_on += refused == whole
-        if not is_right(whole, refused):
-            wrong.append(growth)
-    return growth - QUIET, went_on - QUIET, wrong
+        growths = range(growth + 1, growth + 1 + QUIET)
+        done = pool.map(run, growths)
+        for growth, one in zip(growths, done):
+            quiet = quiet + 1 if one[0] == 0 else 0
+            went_on += one[0] == 0
+            if not is_right(one):
+                wrong.append(growth)
+    return growth - quiet, went_on - quiet, wrong
 
 
-def main(program):
+def tell(words, sums):
+    print(f"{' '.join(words):12}{sums[0]:7} growths refused, after {sums[1]} all was answered, {sums[2]} differences", flush=True)
+
+
+def sweep_examples(pool, names, program, words, shim):
+    sums = [0, 0, 0]
+    for name in names:
+        given = open(name, "rb").read()
+        if words == ["check"]:
+            given = ran(program, ["run", "--echo"], given, shim, 0)[1]
+        whole = ran(program, words, given, shim, 0)
+        refused, went_on, wrong = sweep(pool, lambda growth: ran(program, words, given, shim, growth), lambda done: is_right(whole, done))
+        sums = [sums[0] + refused, sums[1] + went_on, sums[2] + len(wrong)]
+        if wrong:
+            print(f"{os.path.basename(name)}: wrong after {wrong[:9]}")
+    tell(words, sums)
+
+
+def sweep_drive(pool, program, room, shim):
+    names = []
+    for number, events in enumerate(SCRIPTS):
+        names.append(f"{room}/{number}.jsonl")
+        with open(names[-1], "w") as script:
+            script.writelines(json.dumps(event) + "\n" for event in events)
+    words = ["drive", *names]
+    refused, went_on, wrong = sweep(pool, lambda growth: ran(program, words, b"", shim, growth), lambda done: is_right_drive(program, shim, done))
+    if wrong:
+        print(f"drive: wrong after {wrong[:9]}")
+    tell(["drive"], [refused, went_on, len(wrong)])
+
+
+def main(program=None, extent=""):
     if not program:
         # builds the program where it must
         subprocess.run([f"{ROOT}/drf", "run"], stdin=subprocess.DEVNULL, check=True)
         program = f"{ROOT}/crates/drf/out/drf"
-    with tempfile.TemporaryDirectory() as room:
+    names = [f"{ROOT}/bench/every_event.jsonl"] + (sorted(glob.glob(f"{ROOT}/examples/*.jsonl")) if extent == "whole" else [])
+    with tempfile.TemporaryDirectory() as room, ThreadPool(SIDE_BY_SIDE) as pool:
         with open(f"{room}/shim.c", "w") as source:
             source.write(SHIM)
         subprocess.run(["cc", "-O2", "-shared", "-fPIC", "-o", f"{room}/shim.so", f"{room}/shim.c", "-ldl"], check=True)
         for words in COMMANDS:
-            sums = [0, 0, 0]
-            for name in sorted(glob.glob(f"{ROOT}/examples/*.jsonl")):
-                given = open(name, "rb").read()
-                if words == ["check"]:
-                    given = ran(program, ["run", "--echo"], given, f"{room}/shim.so", 0)[1]
-                refused, went_on, wrong = sweep(program, words, given, f"{room}/shim.so")
-                sums = [sums[0] + refused, sums[1] + went_on, sums[2] + len(wrong)]
-                if wrong:
-                    print(f"{os.path.basename(name)}: wrong after {wrong[:9]}")
-            print(f"{' '.join(words):12}{sums[0]:7} growths refused, after {sums[1]} all was answered, {sums[2]} differences", flush=True)
+            sweep_examples(pool, names, program, words, f"{room}/shim.so")
+        sweep_drive(pool, program, room, f"{room}/shim.so")
 
 
 if __name__ == "__main__":
-    main(sys.argv[1] if len(sys.argv) > 1 else "")
+    main(*sys.argv[1:3])

@@ -9,7 +9,7 @@ import subprocess
 import sys
 import tempfile
 
-from churn import churn, line
+from churn import Talk, churn, line
 
 ROOT = os.path.dirname(os.path.dirname(os.path.realpath(__file__)))
 PROGRAM = f"{ROOT}/crates/drf/out/drf"
@@ -97,7 +97,7 @@ def main():
     print(f"{'input':45}{'lines':>9}{'seconds':>9}{'lines/s':>10}{'MB/s':>8}{'peak MB':>9}")
     for name, lines in INPUTS.items():
         show(name, lines)
-    show("a cluster in use, 500 agents, 100 frameworks", churn([PROGRAM, "run"], 500 // SHORTER or 1, 100 // SHORTER or 1))
+    show("a cluster in use, 500 agents, 100 frameworks", churn(Talk([PROGRAM, "run"]), 500 // SHORTER or 1, 100 // SHORTER or 1))
     print(f"cores: {os.cpu_count()}")
 
 

@@ -1,0 +1,76 @@
+#!/usr/bin/env python3
+"""Keeps a cluster in use for a million events, and tells how much memory the program has on the way: it must not have grown by a
+tenth after the first of ten parts. Then the same lines are run for a journal, which must check as good.
+
+    bench/long_life.py                 the program that ./drf builds, 100,000 events
+    bench/long_life.py PROGRAM         another one
+    bench/long_life.py PROGRAM whole   1,000,000 events, in some minutes"""
+import os
+import re
+import subprocess
+import sys
+import tempfile
+import time
+
+from churn import Talk, churn
+
+ROOT = os.path.dirname(os.path.dirname(os.path.realpath(__file__)))
+PARTS = 10
+
+
+class Lines:
+    """Lines in a file, of which the last is at hand."""
+
+    def __init__(self, path):
+        self.file, self.count, self.last = open(path, "w"), 0, ""
+
+    def append(self, line):
+        self.file.write(line + "\n")
+        self.count, self.last = self.count + 1, line
+
+    def __getitem__(self, place):
+        return self.last
+
+
+class Watched(Talk):
+    """A talk of so many lines at least, with the kilobytes that the program has at the end of each part."""
+
+    def __init__(self, words, path, count):
+        super().__init__(words)
+        self.lines, self.part, self.kilobytes = Lines(path), count // PARTS, []
+
+    def ask(self, event, **keys):
+        reply = super().ask(event, **keys)
+        if self.lines.count % self.part == 0:
+            status = open(f"/proc/{self.program.pid}/status").read()
+            self.kilobytes.append(int(re.search(r"VmRSS:\s+(\d+)", status)[1]))
+        return reply
+
+    def is_over(self):
+        return self.lines.count >= PARTS * self.part
+
+
+def main(program=None, extent=""):
+    if not program:
+        # builds the program where it must
+        subprocess.run([f"{ROOT}/drf", "run"], stdin=subprocess.DEVNULL, check=True)
+        program = f"{ROOT}/crates/drf/out/drf"
+    count = 1_000_000 if extent == "whole" else 100_000
+    with tempfile.TemporaryDirectory() as room:
+        began = time.monotonic()
+        talk = Watched([program, "run"], f"{room}/lines", count)
+        churn(talk, cycles=count)
+        talk.lines.file.close()
+        first, most = talk.kilobytes[0], max(talk.kilobytes)
+        print(f"{talk.lines.count} events in {time.monotonic() - began:.0f} s: {first} KB after a tenth, {most} KB at most later; {talk.kilobytes}", flush=True)
+        with open(f"{room}/lines") as lines, open(f"{room}/journal", "w") as journal:
+            subprocess.run([program, "run", "--echo"], stdin=lines, stdout=journal, check=True)
+        with open(f"{room}/journal") as journal:
+            told = subprocess.run([program, "check"], stdin=journal, capture_output=True, text=True).stdout
+        print(told, end="")
+        if told != f"good {talk.lines.count}\n" or most * 10 > first * 11:
+            raise SystemExit("not as it must be")
+
+
+if __name__ == "__main__":
+    main(*sys.argv[1:3])

@@ -1,0 +1,116 @@
+#!/usr/bin/env python3
+"""Makes calls of the libraries again and again, each time with the next growth of memory refused, until none was refused: each event
+as a step of the allocator, as a call of a master that is watched, and as an entry of a book; all events as one list, one input and
+one journal; each line as a text; and calls below the allocator. At want of memory what stands must be what stood before, and the call made
+again must answer as if nothing had been; an event that is refused by its number must be so at every growth, but for what README's late
+refusals allow. It needs a C compiler, and a build of the program whose sources are bench/refused_calls/*.txt, as main.rt and its modules.
+
+    bench/refused_calls.py SWEEPS DRF          SWEEPS is that build, DRF the program that checks journals and answers lines
+    bench/refused_calls.py SWEEPS DRF whole    on the lines of examples/ too"""
+import glob
+import json
+import os
+import subprocess
+import sys
+import tempfile
+
+ROOT = os.path.dirname(os.path.dirname(os.path.realpath(__file__)))
+# A size that nobody asks for tells which growth is refused, and another asks whether one was.
+SHIM = r"""
+#define _GNU_SOURCE
+#include <dlfcn.h>
+#include <errno.h>
+#include <stdlib.h>
+static long left;
+static int was;
+static int refused(size_t size) {
+    if (size >> 62 == 1) { left = size & 0xffffffff; was = 0; return 1; }
+    if (size == 7654321) { left = 0; return was; }
+    if (left > 0 && --left == 0) { was = 1; return 1; }
+    return 0;
+}
+void *malloc(size_t size) {
+    static void *(*real)(size_t);
+    if (!real) real = dlsym(RTLD_NEXT, "malloc");
+    if (refused(size)) { errno = ENOMEM; return NULL; }
+    return real(size);
+}
+void *realloc(void *kept, size_t size) {
+    static void *(*real)(void *, size_t);
+    if (!real) real = dlsym(RTLD_NEXT, "realloc");
+    if (refused(size)) { errno = ENOMEM; return NULL; }
+    return real(kept, size);
+}
+"""
+# Which refusals of which events may be answered by want of memory.
+LATE = {"reserve": {15, 16}, "unreserve": {15}, "set_agent": {15, 18, 19}}
+
+
+class Sums:
+    def __init__(self):
+        self.cases, self.wrong = {}, []
+
+    def add(self, what, refused, answered, late, wrong):
+        before = self.cases.get(what, (0, 0, 0))
+        self.cases[what] = tuple(map(sum, zip(before, (refused, answered, late))))
+        if wrong:
+            self.wrong.append(what)
+
+    def tell(self):
+        for what, (refused, answered, late) in self.cases.items():
+            print(f"{what:30}{refused:7} growths refused, after {answered} all was answered, after {late} no late refusal was told, or the writer failed")
+        print(f"{len(self.wrong)} differences", *self.wrong[:9])
+
+
+def rows(told):
+    """The lines of figures, each a text and four numbers, and the journals behind the lines `journal`."""
+    figures, journals = [], []
+    for line in told.splitlines():
+        if line == "journal":
+            journals.append([])
+        elif "\t" in line:
+            what, *numbers = line.split("\t")
+            figures.append((what, *map(int, numbers)))
+        elif line:
+            journals[-1].append(line + "\n")
+    return figures, ["".join(journal) for journal in journals]
+
+
+def sweep_steps(sums, told, events, replies):
+    figures, _ = rows(told)
+    for event, reply, (line, refused, answered, late, wrong) in zip(events, replies, figures, strict=True):
+        kind, number = json.loads(event)["event"], json.loads(reply).get("refused")
+        is_right = line == reply and not wrong and (not late or number in LATE.get(kind, ()))
+        sums.add("Core::step", refused, answered, late, not is_right)
+
+
+def main(sweeps, program, extent=""):
+    names = [f"{ROOT}/bench/every_event.jsonl", f"{ROOT}/bench/twelve_agents.jsonl"] + (sorted(glob.glob(f"{ROOT}/examples/*.jsonl")) if extent == "whole" else [])
+    sums = Sums()
+    with tempfile.TemporaryDirectory() as room:
+        with open(f"{room}/shim.c", "w") as source:
+            source.write(SHIM)
+        subprocess.run(["cc", "-O2", "-shared", "-fPIC", "-o", f"{room}/shim.so", f"{room}/shim.c", "-ldl"], check=True)
+
+        def ran(words, given, shim=""):
+            known = {**os.environ, "LD_PRELOAD": shim}
+            return subprocess.run(words, input=given, capture_output=True, text=True, env=known, check=True, timeout=600).stdout
+
+        for name in names:
+            given = open(name).read()
+            events, replies = given.splitlines(), ran([program, "run"], given).splitlines()
+            sweep_steps(sums, ran([sweeps, "steps"], given, f"{room}/shim.so"), events, replies)
+            for word in ("inputs", "masters"):
+                figures, journals = rows(ran([sweeps, word], given, f"{room}/shim.so"))
+                for figure in figures:
+                    sums.add(*figure)
+                for journal in journals:
+                    if ran([program, "check"], journal) != f"good {len(events)}\n" or journal.splitlines()[1::2] != replies:
+                        sums.wrong.append(f"a journal of {word}")
+        for figure in rows(ran([sweeps, "calls"], "", f"{room}/shim.so"))[0]:
+            sums.add(*figure)
+    sums.tell()
+
+
+if __name__ == "__main__":
+    main(*sys.argv[1:4])

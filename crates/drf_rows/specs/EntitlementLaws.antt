@@ -177,7 +177,7 @@ units-clip limits key p (r ∷ rs) ordered each =
 -- ---- the headroom names what limits bind
 
 module _ (consumed : Consumed) (role : Path) (label : Text) where
-  some_room : (ls : List LimitRow) → is_some (headroom_under ls consumed role label) ≡ list_any (binds role label) ls
+  pub some_room : (ls : List LimitRow) → is_some (headroom_under ls consumed role label) ≡ list_any (binds role label) ls
   some_room [] = refl
   some_room (l ∷ ls) = elim (cases_Bool (binds role label l)) [
     | inl here ↦ ap (λ ns. is_some (reduce min ns)) (rooms-here consumed role label l ls here) ∙ sym (ap (λ b. b || list_any (binds role label) ls) here)
@@ -186,7 +186,7 @@ module _ (consumed : Consumed) (role : Path) (label : Text) where
         ∙ sym (ap (λ b. b || list_any (binds role label) ls) past)
   ]
 
-  limited-binds : (ls : List LimitRow) → list_any (λ n. same_text n label) (limited_names ls role) ≡ list_any (binds role label) ls
+  pub limited-binds : (ls : List LimitRow) → list_any (λ n. same_text n label) (limited_names ls role) ≡ list_any (binds role label) ls
   limited-binds [] = refl
   limited-binds (l ∷ ls) = by (is_within l.role role) (limited-binds ls)
     where
@@ -199,7 +199,7 @@ module _ (consumed : Consumed) (role : Path) (label : Text) where
           ∙ (λ i. list_any-map (λ n. same_text n label) (λ (e : Entry). e.label) l.limit i || later i)
       by false later = later
 
-named-puts : (v : Text → ℕ) (label : Text) (room : List Entry) (ns : List Text)
+pub named-puts : (v : Text → ℕ) (label : Text) (room : List Entry) (ns : List Text)
     → is_named (fold (put v label) room ns) label ≡ (is_named room label || list_any (λ n. same_text n label) ns)
 named-puts v label room [] = or_nothing (is_named room label)
   where

@@ -11,5 +11,6 @@ pub mod Candidates
 pub mod Laws
 pub mod Examples
 pub mod Served
+pub mod SortedLaws
 pub mod Lines
 pub mod LineLaws

@@ -13,12 +13,12 @@ use Rattle.drf_bundle.specs.declared.quantities.Entry.{Entry}
 use Rattle.drf_bundle.specs.declared.resource.Resource.{Resource}
 use Rattle.drf_rows.specs.Consistent.{IsFilter, IsConsistent}
 use Rattle.drf_rows.specs.Cycle.{at_moment}
-use Rattle.drf_rows.specs.EndingLaws.{offer_at-place, held-offer_at, held_where-accepted}
+use Rattle.drf_rows.specs.laws.EndingLaws.{offer_at-place, held-offer_at, held_where-accepted}
 use Rattle.drf_rows.specs.Endings.{without_ended, one_offer}
 use Rattle.drf_rows.specs.Holdings.{is_of}
 use Rattle.drf_rows.specs.Offers.{CanStart, offer_accepted, offer_declined, filter_of, filters_with, has_offer, is_task_known, left_of_offer, offer_at, refused_until, refuses_all, refuses_rest, task_of}
 use Rattle.drf_rows.specs.Step.{effect}
-use Rattle.drf_rows.specs.TaskLaws.{HasAll, units-covers_all}
+use Rattle.drf_rows.specs.laws.TaskLaws.{HasAll, units-covers_all}
 use Rattle.drf_rows.specs.Tasks.{Start, uses, covers_all, IsTaskList}
 use Rattle.drf_rows.specs.declared.event.Accept as accepting
 use Rattle.drf_rows.specs.declared.event.Decline as declining

@@ -9,7 +9,7 @@ use Rattle.drf_bundle.specs.Bundle.{quantities_of}
 use Rattle.drf_bundle.specs.declared.resource.Resource.{Resource}
 use Rattle.drf_rows.specs.LimitNumbers.{LimitNumbers}
 use Rattle.drf_rows.specs.Held.{cluster_total}
-use Rattle.drf_rows.specs.ReportedShares.{small_total}
+use Rattle.drf_rows.specs.laws.ReportedShares.{small_total}
 use Rattle.drf_rows.specs.Step.{refusal_of, effect}
 use Rattle.drf_rows.specs.Members.{has_framework, with_agent, new_client, distinct}
 use Rattle.drf_rows.specs.Consistent.{IsConsistent}

@@ -8,7 +8,7 @@ use Rattle.drf_bundle.specs.declared.resource.Resource.{Resource}
 use Rattle.drf_rows.specs.Client.{Client}
 use Rattle.drf_rows.specs.Held.{clients_of}
 use Rattle.drf_rows.specs.Cycle.{grant, count_offer, new_offer, with_offer, tried, all_tried, turn_order, turn, turns, cycle}
-use Rattle.drf_rows.specs.CycleLaws.{clients_of-with_offer}
+use Rattle.drf_rows.specs.laws.CycleLaws.{clients_of-with_offer}
 use Rattle.drf_rows.specs.LimitNumbers.{LimitNumbers}
 use Rattle.drf_rows.specs.Consistent.{IsConsistent}
 use Rattle.drf_rows.specs.Step.{new_offers, refusal_of, effect}

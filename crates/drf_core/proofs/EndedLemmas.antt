@@ -11,7 +11,7 @@ use Rattle.drf_rows.specs.Client.{Client}
 use Rattle.drf_rows.specs.Held.{cluster_total, is_registered}
 use Rattle.drf_rows.specs.Holdings.{is_of}
 use Rattle.drf_rows.specs.Endings.{Ending, ends_offer, ends_task, without_ended, offers_on, all_on, all_of}
-use Rattle.drf_rows.specs.ListLaws.{filter-again}
+use Rattle.drf_rows.specs.laws.ListLaws.{filter-again}
 use Rattle.drf_rows.specs.Members.{with_activity, with_suppression, revived, agent_removed, framework_removed}
 use Rattle.drf_rows.specs.Filters.{filters_without_agent, filters_without_client, filters_without_framework}
 use Rattle.drf_rows.specs.Consistent.{AreFrameworks}

@@ -4,10 +4,10 @@ use Rattle.std.specs.Prelude.{slice_get}
 use Rattle.drf_rows.specs.LimitNumbers.{LimitNumbers, IsWithinCeilings}
 use Rattle.drf_rows.specs.Step.{opening, live_rows, first_case, refusal_of, effect, answer, rows_after, rows_after_all, reply_to, replies_to}
 use Rattle.drf_rows.specs.Consistent.{IsConsistent, IsNumberedByEvents}
-use Rattle.drf_rows.specs.StepLaws.{reply_to-refused, reply_to-accepted, rows_after-refused, rows_after-accepted}
-use Rattle.drf_rows.specs.RunLaws.{rows_after_all-append, replies_to-append}
-use Rattle.drf_rows.specs.LiveLaws.{reply_to-same_live, rows_after-same_live}
-use Rattle.drf_rows.specs.RegistrationLaws.{IsConsistent-opening}
+use Rattle.drf_rows.specs.laws.StepLaws.{reply_to-refused, reply_to-accepted, rows_after-refused, rows_after-accepted}
+use Rattle.drf_rows.specs.laws.RunLaws.{rows_after_all-append, replies_to-append}
+use Rattle.drf_rows.specs.laws.LiveLaws.{reply_to-same_live, rows_after-same_live}
+use Rattle.drf_rows.specs.laws.RegistrationLaws.{IsConsistent-opening}
 use Rattle.drf_rows.specs.declared.event.Event.{Event}
 use Rattle.drf_rows.specs.declared.event.Event.TheVariants.{AddAgent, RemoveAgent, ActivateAgent, DeactivateAgent, SetAgent, AddFramework, RemoveFramework, Accept, Decline, Rescind, Finish, Suppress, Revive, Reserve, Unreserve, SetWeight, SetLimit, Cycle, Report}
 use Rattle.drf_rows.specs.declared.reply.Refusal.{Refusal}

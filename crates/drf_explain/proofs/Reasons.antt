@@ -8,11 +8,11 @@ use Rattle.drf_role.specs.Text.{Text, same_text}
 use Rattle.drf_role.specs.TextLaws.{same_from_test}
 use Rattle.drf_role.specs.Path.{Path, begins_with}
 use Rattle.drf_bundle.specs.Bundle.{covers, clip, clipped, cut, is_default, is_for, part_for, quantities_of, stock}
-use Rattle.drf_bundle.specs.KeyLaws.{unit_of, where-cons, unit-here, unit-none}
-use Rattle.drf_bundle.specs.PartLaws.{keeps-clipped}
+use Rattle.drf_bundle.specs.laws.KeyLaws.{unit_of, where-cons, unit-here, unit-none}
+use Rattle.drf_bundle.specs.laws.PartLaws.{keeps-clipped}
 use Rattle.drf_bundle.specs.Quantities.{amount_of, is_named}
-use Rattle.drf_bundle.specs.RestLaws.{where-changed-cons}
-use Rattle.drf_bundle.specs.SumLaws.{of_name, amount-quantities_of}
+use Rattle.drf_bundle.specs.laws.RestLaws.{where-changed-cons}
+use Rattle.drf_bundle.specs.laws.SumLaws.{of_name, amount-quantities_of}
 use Rattle.drf_bundle.specs.Value.{Thousandths, units_in}
 use Rattle.drf_bundle.specs.declared.quantities.Entry.{Entry}
 use Rattle.drf_bundle.specs.declared.resource.Resource.{Resource}
@@ -21,10 +21,10 @@ use Rattle.drf_bundle.specs.declared.value.Value.TheVariants.{Scalar, Ranges, It
 use Rattle.drf_rows.specs.Client.{Client}
 use Rattle.drf_rows.specs.Cycle.{free_of, is_allocatable, grant, at_moment}
 use Rattle.drf_rows.specs.Filters.{is_in_force, is_of_client, is_on_agent, holds_back, is_held_back}
-use Rattle.drf_rows.specs.EntitlementLaws.{some_room, limited-binds, named-puts}
+use Rattle.drf_rows.specs.laws.EntitlementLaws.{some_room, limited-binds, named-puts}
 use Rattle.drf_rows.specs.Offers.{is_empty}
 use Rattle.drf_rows.specs.Quota.{binds, consumption, headroom, headroom_at, limited_names, room_under}
-use Rattle.drf_rows.specs.QuotaLaws.{headroom_le, named_put}
+use Rattle.drf_rows.specs.laws.QuotaLaws.{headroom_le, named_put}
 use Rattle.drf_rows.specs.declared.rows.AgentRow.{AgentRow}
 use Rattle.drf_rows.specs.declared.rows.FilterRow.{FilterRow}
 use Rattle.drf_rows.specs.declared.rows.LimitRow.{LimitRow}

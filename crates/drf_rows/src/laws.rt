@@ -5,16 +5,16 @@
 ghost use Rattle.std.specs.Prelude.{◌≡◌, [], ◌∷◌, codes};
 ghost use Rattle.drf_rows.specs.LimitNumbers.{ceilings};
 ghost use Rattle.drf_rows.specs.Step.{opening, replies_to};
-ghost use Rattle.drf_rows.specs.Laws.{NoneBeforeItself, AtMostOneBefore, OneServingOrder, TooLittleIsNotGranted, FirstIsGrantedAll, CasesRise, LeastIsTold, RefusedChangesNothing, AcceptedIsCounted, RunsGoOn, LiveRowsReply, LiveRowsGoOn, LiveRowsRun, HeldIsReported, CountIsReported, TotalIsReported, AmountsAreAboveZero, SharesAreLowest, NodesRise, NodesBeginPaths};
-ghost use Rattle.drf_rows.specs.LifeLaws.{AcceptedStartsTasks, DeclinedAtOnceIsUndone, FinishedIsGivenBack, FiltersGoWithTheirOwner, OtherFiltersStay, SuppressionIsItsClients, SuppressedIsNotOffered, NumbersAreNew, OtherAgentsStay, OtherFrameworksStay, OtherHoldingsStay, EndedIsGone, RemovedIsGone, ActivityIsItsAgents, CycleOnlyOffers};
-ghost use Rattle.drf_rows.specs.Examples.{one_cycle, two_cycles, two_cycles_replies, two_frameworks, two_frameworks_replies, replies_with, not_offered, offered_whole, refused_as_too_large, one_agent, two_agents, two_events, two_names, three_names, one_framework, one_client, two_registrations, one_role, roles_listed, reserved_for_eng, reserved_for_eng_replies, cpus, cpus_for, mem, gpus};
-ghost use Rattle.drf_rows.specs.OrderExamples.{served, offered, half_at_work, close_shares, equal_shares, weighted_shares, shares_of, first_agent, second_agent, idle_agent, role_tree, more_for_ops, half_weight_of_eng, nothing_held};
+ghost use Rattle.drf_rows.specs.laws.Laws.{NoneBeforeItself, AtMostOneBefore, OneServingOrder, TooLittleIsNotGranted, FirstIsGrantedAll, CasesRise, LeastIsTold, RefusedChangesNothing, AcceptedIsCounted, RunsGoOn, LiveRowsReply, LiveRowsGoOn, LiveRowsRun, HeldIsReported, CountIsReported, TotalIsReported, AmountsAreAboveZero, SharesAreLowest, NodesRise, NodesBeginPaths};
+ghost use Rattle.drf_rows.specs.laws.LifeLaws.{AcceptedStartsTasks, DeclinedAtOnceIsUndone, FinishedIsGivenBack, FiltersGoWithTheirOwner, OtherFiltersStay, SuppressionIsItsClients, SuppressedIsNotOffered, NumbersAreNew, OtherAgentsStay, OtherFrameworksStay, OtherHoldingsStay, EndedIsGone, RemovedIsGone, ActivityIsItsAgents, CycleOnlyOffers};
+ghost use Rattle.drf_rows.specs.examples.Examples.{one_cycle, two_cycles, two_cycles_replies, two_frameworks, two_frameworks_replies, replies_with, not_offered, offered_whole, refused_as_too_large, one_agent, two_agents, two_events, two_names, three_names, one_framework, one_client, two_registrations, one_role, roles_listed, reserved_for_eng, reserved_for_eng_replies, cpus, cpus_for, mem, gpus};
+ghost use Rattle.drf_rows.specs.examples.OrderExamples.{served, offered, half_at_work, close_shares, equal_shares, weighted_shares, shares_of, first_agent, second_agent, idle_agent, role_tree, more_for_ops, half_weight_of_eng, nothing_held};
 ghost use Rattle.drf_rows.specs.Report.{report_of};
-ghost use Rattle.drf_rows.specs.ReportExamples.{tree_at_work, tree_report, one_weighted, weighted_report, nothing_there, nothing_report, reserved_held, reserved_report, two_reports, two_reports_replies};
-ghost use Rattle.drf_rows.specs.LifeExamples.{a_task, a_task_replies, two_tasks, two_tasks_replies, a_filter, a_filter_replies, a_clock, a_clock_replies, a_year, a_year_replies, one_filter, two_filters, two_filters_replies, taking_part, taking_part_replies, refused, refused_replies};
-ghost use Rattle.drf_rows.specs.FilterExamples.{whose_filter, whose_filter_replies, a_rest, a_rest_replies, a_later_decline, a_later_decline_replies, at_the_limit, at_the_limit_replies, two_roles, two_roles_replies, one_role_revives, one_role_revives_replies, who_leaves, who_leaves_replies};
-ghost use Rattle.drf_rows.specs.WeightLaws.{RoleHasItsWeight, OthersKeepTheirWeight, EachHasOneRow};
-ghost use Rattle.drf_rows.specs.WeightExamples.{bounds, bounds_replies, replaced, weights_after, replaced_rows, one_weight, one_weight_replies, replies_by_weight, third_to};
+ghost use Rattle.drf_rows.specs.examples.ReportExamples.{tree_at_work, tree_report, one_weighted, weighted_report, nothing_there, nothing_report, reserved_held, reserved_report, two_reports, two_reports_replies};
+ghost use Rattle.drf_rows.specs.examples.LifeExamples.{a_task, a_task_replies, two_tasks, two_tasks_replies, a_filter, a_filter_replies, a_clock, a_clock_replies, a_year, a_year_replies, one_filter, two_filters, two_filters_replies, taking_part, taking_part_replies, refused, refused_replies};
+ghost use Rattle.drf_rows.specs.examples.FilterExamples.{whose_filter, whose_filter_replies, a_rest, a_rest_replies, a_later_decline, a_later_decline_replies, at_the_limit, at_the_limit_replies, two_roles, two_roles_replies, one_role_revives, one_role_revives_replies, who_leaves, who_leaves_replies};
+ghost use Rattle.drf_rows.specs.laws.WeightLaws.{RoleHasItsWeight, OthersKeepTheirWeight, EachHasOneRow};
+ghost use Rattle.drf_rows.specs.examples.WeightExamples.{bounds, bounds_replies, replaced, weights_after, replaced_rows, one_weight, one_weight_replies, replies_by_weight, third_to};
 
 use crate::reply::{Refusal, Reply};
 

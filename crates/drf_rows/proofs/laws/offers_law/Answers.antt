@@ -1,4 +1,4 @@
-use Rattle.drf_rows.specs.OfferedLaws.{suppressed_is_not_offered, numbers_are_new}
+use Rattle.drf_rows.specs.laws.OfferedLaws.{suppressed_is_not_offered, numbers_are_new}
 use Rattle.drf_rows.proofs.laws.offers_law.Goals as goal
 
 pub returns-clause-suppressed : goal.returns-clause-suppressed

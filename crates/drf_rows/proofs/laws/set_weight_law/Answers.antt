@@ -1,4 +1,4 @@
-use Rattle.drf_rows.specs.WeightLaws.{role_has_its_weight, others_keep_their_weight, each_has_one_row}
+use Rattle.drf_rows.specs.laws.WeightLaws.{role_has_its_weight, others_keep_their_weight, each_has_one_row}
 use Rattle.drf_rows.proofs.laws.set_weight_law.Goals as goal
 
 pub returns-clause-set : goal.returns-clause-set

@@ -13,7 +13,7 @@ ghost use Rattle.drf_rows.specs.Report.{report_of};
 ghost use Rattle.drf_rows.specs.ReportExamples.{tree_at_work, tree_report, one_weighted, weighted_report, nothing_there, nothing_report, reserved_held, reserved_report, two_reports, two_reports_replies};
 ghost use Rattle.drf_rows.specs.LifeExamples.{a_task, a_task_replies, two_tasks, two_tasks_replies, a_filter, a_filter_replies, a_clock, a_clock_replies, a_year, a_year_replies, one_filter, two_filters, two_filters_replies, taking_part, taking_part_replies, refused, refused_replies};
 ghost use Rattle.drf_rows.specs.FilterExamples.{whose_filter, whose_filter_replies, a_rest, a_rest_replies, a_later_decline, a_later_decline_replies, at_the_limit, at_the_limit_replies, two_roles, two_roles_replies, one_role_revives, one_role_revives_replies, who_leaves, who_leaves_replies};
-ghost use Rattle.drf_rows.specs.WeightLaws.{RoleHasItsWeight, OthersKeepTheirWeight, EachHasOneRow};
+ghost use Rattle.drf_rows.specs.WeightLaws.{RoleHasItsWeight, OthersKeepTheirWeight, EachHasOneRow, NoRoleHasTwoRows};
 ghost use Rattle.drf_rows.specs.WeightExamples.{bounds, bounds_replies, replaced, weights_after, replaced_rows, one_weight, one_weight_replies, replies_by_weight, third_to};
 
 use crate::reply::{Refusal, Reply};
@@ -153,11 +153,13 @@ pub fn order_example()
     ensures below { served nothing_held ≡ codes "f2" ∷ codes "f1" ∷ [] }
 {}
 
-/// An event that sets a weight changes the weight of its role, and no other; each role keeps one row.
+/// An event that sets a weight changes the weight of its role, and no other; each role keeps one row, and in no run from the
+/// start has a role two.
 pub fn set_weight_law()
     ensures set { RoleHasItsWeight }
     ensures others { OthersKeepTheirWeight }
     ensures one_row { EachHasOneRow }
+    ensures run { NoRoleHasTwoRows }
 {}
 
 /// Weights are from a thousandth to 1000, a row that is replaced keeps its place, and the heavier of two roles that hold

@@ -6,9 +6,9 @@ use Rattle.drf_bundle.specs.declared.resource.Resource.{Resource}
 use Rattle.drf_bundle.specs.declared.value.Value.TheVariants.{Scalar}
 use Rattle.drf_rows.specs.LimitNumbers.{LimitNumbers, ceilings}
 use Rattle.drf_rows.specs.declared.event.Event.{Event}
-use Rattle.drf_rows.specs.declared.event.Event.TheVariants.{AddAgent, AddFramework, Cycle}
+use Rattle.drf_rows.specs.declared.event.Event.TheVariants.{AddAgent, DeactivateAgent, SetAgent, AddFramework, Cycle}
 use Rattle.drf_rows.specs.declared.reply.OfferLine.{OfferLine}
-use Rattle.drf_rows.specs.declared.reply.Refusal.TheVariants.{TooLarge}
+use Rattle.drf_rows.specs.declared.reply.Refusal.TheVariants.{TooLarge, TooMany}
 use Rattle.drf_rows.specs.declared.reply.Reply.{Reply}
 use Rattle.drf_rows.specs.declared.reply.Reply.TheVariants.{Done, Offers, Refused}
 use Rattle.drf_rows.specs.Step.{opening, replies_to}
@@ -158,6 +158,19 @@ three_names =
     ∷ AddAgent (codes "n3") (mem 1000 ∷ [])
     ∷ []
 
+-- the names of an agent that is not active count too
+abbrev pub names_kept : List Event
+names_kept =
+    AddAgent (codes "n1") (cpus 1000 ∷ mem 1000 ∷ [])
+    ∷ DeactivateAgent (codes "n1")
+    ∷ AddAgent (codes "n2") (gpus 1000 ∷ [])
+    ∷ AddAgent (codes "n3") (mem 1000 ∷ [])
+    ∷ SetAgent (codes "n3") (gpus 1000 ∷ [])
+    ∷ []
+
+abbrev pub names_kept_replies : List Reply
+names_kept_replies = Done ∷ Done ∷ Refused TooMany ∷ Done ∷ Refused TooMany ∷ []
+
 -- one framework, or one client, more than the limit of one
 abbrev pub one_framework : LimitNumbers
 one_framework = record ceilings { frameworks = 1 }
@@ -168,7 +181,7 @@ one_client = record ceilings { clients = 1 }
 abbrev pub two_registrations : List Event
 two_registrations = framework_in (codes "f1") (codes "a") ∷ framework_in (codes "f2") (codes "a") ∷ []
 
--- a role listed twice is one role; one more is over the limit of one
+-- a role listed twice is one role, and one client; one more is over the limit of one
 abbrev pub one_role : LimitNumbers
 one_role = record ceilings { roles = 1 }
 

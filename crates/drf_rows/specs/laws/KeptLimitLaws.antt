@@ -2,7 +2,7 @@
 use Rattle.std.specs.Prelude.{◌≡◌, ℕ, ◌+◌, ◌≤◌, max, Bool, true, false, not, List, [], ◌∷◌, ◌++◌, map, filter, sum_by, slice_get, Option, Some, None, IsTrue}
 use Rattle.std.specs.List.{list_all, AllByRecursion}
 use Rattle.std.specs.Option.{option_map_or}
-use Rattle.std.proofs.Common.{refl, ap, ◌∙◌, inl, inr, cond, arith}
+use Rattle.std.proofs.Common.{refl, ap, subst, ◌∙◌, inl, inr, cond, arith}
 use Rattle.std.proofs.lemmas.Bool.{cases_Bool, and_parts, not-true}
 use Rattle.std.proofs.lemmas.List.Sums.{sum_by-append}
 use Rattle.drf_role.specs.Text.{Text, same_text}
@@ -23,7 +23,8 @@ use Rattle.drf_rows.specs.Quota.{unreserved_in, reserved_in, held_unreserved, re
 use Rattle.drf_rows.specs.laws.QuotaLaws.{cycle_keeps_limits}
 use Rattle.drf_rows.specs.laws.ReservationLaws.{IsAsked, reserving_keeps_limits, moved_is_consumed, consumption-with_total}
 use Rattle.drf_rows.specs.laws.ConsumptionLaws.{every, rest_is_consumed_no_longer}
-use Rattle.drf_rows.specs.Step.{refusal_of, effect, rows_after, rows_after_all}
+use Rattle.drf_rows.specs.laws.LiveLaws.{rows_after-live}
+use Rattle.drf_rows.specs.Step.{live_rows, refusal_of, effect, rows_after, rows_after_all}
 use Rattle.drf_rows.specs.laws.StepLaws.{rows_after-refused, rows_after-accepted}
 use Rattle.drf_rows.specs.Tasks.{uses}
 use Rattle.drf_rows.specs.Totals.{agent_at}
@@ -61,11 +62,11 @@ IsGivenBundles (Reserve agent role resources) = IsAsked role resources
 IsGivenBundles (Unreserve agent role resources) = IsAsked role resources
 IsGivenBundles other = Unit {0}
 
--- rows are consistent before each event of a run, as those of an allocator are
+-- live rows are consistent before each event of a run, as those of an allocator are
 abbrev pub StayConsistent : LimitNumbers → Rows → List Event → Type 0
 StayConsistent limits rows [] = Unit {0}
 StayConsistent limits rows (event ∷ events) =
-    IsConsistent rows × IsGivenBundles event × StayConsistent limits (rows_after limits rows event) events
+    IsConsistent (live_rows rows) × IsGivenBundles event × StayConsistent limits (rows_after limits rows event) events
 
 abbrev pub RunsKeepLimits : Type 0
 RunsKeepLimits =
@@ -234,25 +235,26 @@ limits_stay rows Report kind = refl
 
 -- ---- a step, and a run
 
-module _ (limits : LimitNumbers) (rows : Rows) (event : Event) (label : Text) (place : ℕ) (l : LimitRow) (consistent : IsConsistent rows)
-    (given : IsGivenBundles event) (kind : changes_totals event ≡ false) (at : slice_get rows.limits place ≡ Some l)
+module _ (limits : LimitNumbers) (rows : Rows) (event : Event) (label : Text) (place : ℕ) (l : LimitRow)
+    (consistent : IsConsistent (live_rows rows)) (given : IsGivenBundles event) (kind : changes_totals event ≡ false) (at : slice_get rows.limits place ≡ Some l)
     (named : IsTrue (is_named l.limit label)) where
   abbrev KeepsBoth : Rows → Type 0
   KeepsBoth after =
       (after.limits ≡ rows.limits) × (consumption after l.role label ≤ max (amount_of l.limit label) (consumption rows l.role label))
 
+  -- after each event the live rows are the same, whatever filters are spent before it
   step_keeps : KeepsBoth (rows_after limits rows event)
-  step_keeps = by (refusal_of limits rows event) refl
+  step_keeps = subst (λ (after : Rows). KeepsBoth after) (rows_after-live limits rows event) (by (refusal_of limits (live_rows rows) event) refl)
     where
-      by : (f : Option Refusal) → refusal_of limits rows event ≡ f → KeepsBoth (rows_after limits rows event)
+      by : (f : Option Refusal) → refusal_of limits (live_rows rows) event ≡ f → KeepsBoth (rows_after limits (live_rows rows) event)
       by None accepted =
-          let is = rows_after-accepted limits rows event accepted in
-          let kept = effect_keeps limits rows label place l consistent at named event given kind accepted in (
-            ap (λ (r : Rows). r.limits) is ∙ limits_stay rows event kind,
+          let is = rows_after-accepted limits (live_rows rows) event accepted in
+          let kept = effect_keeps limits (live_rows rows) label place l consistent at named event given kind accepted in (
+            ap (λ (r : Rows). r.limits) is ∙ limits_stay (live_rows rows) event kind,
             omega (arith, kept, ap (λ (r : Rows). consumption r l.role label) is),
           )
       by (Some refusal) refused =
-          let is = rows_after-refused limits rows event refusal refused in (
+          let is = rows_after-refused limits (live_rows rows) event refusal refused in (
             ap (λ (r : Rows). r.limits) is,
             omega (arith, ap (λ (r : Rows). consumption r l.role label) is),
           )

@@ -9,7 +9,7 @@ use Rattle.drf_rows.specs.LimitNumbers.{LimitNumbers}
 use Rattle.drf_rows.specs.Client.{Client}
 use Rattle.drf_rows.specs.Holdings.{of_offer}
 use Rattle.drf_rows.specs.Held.{client_of}
-use Rattle.drf_rows.specs.Filters.{is_of_client, is_on_agent}
+use Rattle.drf_rows.specs.Filters.{is_of_client, is_on_agent, is_held_back}
 use Rattle.drf_rows.specs.Consistent.{IsConsistent}
 use Rattle.drf_rows.specs.Cycle.{free_of, new_offer, with_offer, cycle}
 use Rattle.drf_rows.specs.Endings.{is_task}
@@ -135,6 +135,13 @@ SuppressedIsNotOffered =
     (rows : Rows) (client : Client) (at : ℕ)
     → is_suppressed rows client ≡ true
     → list_any (λ o. is_same_client client (of_offer o).client) (new_offers rows (cycle rows at)) ≡ false
+
+-- no cycle offers a client what a filter that is then in force holds back from it there
+abbrev pub FilteredIsNotOffered : Type 0
+FilteredIsNotOffered =
+    (rows : Rows) (at : ℕ)
+    → list_any (λ o. is_held_back rows.filters (max rows.clock at) (of_offer o).client o.agent o.bundle) (new_offers rows (cycle rows at))
+    ≡ false
 
 -- the numbers are those from one to before another, in order
 abbrev pub CountUp : ℕ → List ℕ → ℕ → Type 0

@@ -1,9 +1,9 @@
 -- To whom a cycle makes offers, and with what numbers.
-use Rattle.std.specs.Prelude.{◌≡◌, ℕ, zero, suc, ◌+◌, Bool, true, false, not, ◌||◌, List, [], ◌∷◌, ◌++◌, length, map, filter, drop, Option, Some, None}
+use Rattle.std.specs.Prelude.{◌≡◌, ℕ, zero, suc, ◌+◌, Bool, true, false, not, ◌||◌, List, [], ◌∷◌, ◌++◌, length, map, filter, drop, Option, Some, None, if◌then◌else◌}
 use Rattle.std.specs.List.{list_all, list_any, flat_map, AllByRecursion}
 use Rattle.std.specs.Option.{option_map_or}
 use Rattle.std.proofs.Common.{refl, sym, ap, subst, ◌∙◌, inl, inr}
-use Rattle.std.proofs.lemmas.Bool.{cases_Bool, and_parts}
+use Rattle.std.proofs.lemmas.Bool.{cases_Bool, and_parts, not-true}
 use Rattle.std.proofs.lemmas.List.{map-append, append-nil, append_assoc}
 use Rattle.std.proofs.Math.Seq.{drop-append_seam}
 use Rattle.drf_role.specs.Path.{same_path}
@@ -13,13 +13,16 @@ use Rattle.drf_rows.specs.Client.{Client, path_of}
 use Rattle.drf_rows.specs.Share.{Standing, stands_before}
 use Rattle.drf_rows.specs.Holdings.{of_offer}
 use Rattle.drf_rows.specs.Held.{client_of, active_clients, standing_of}
-use Rattle.drf_rows.specs.Cycle.{grant, new_offer, with_offer, tried, all_tried, first_of, without, serving_order, turn, turn_order, turns, at_moment, cycle}
+use Rattle.drf_rows.specs.Quota.{entitlement}
+use Rattle.drf_rows.specs.Filters.{is_held_back}
+use Rattle.drf_rows.specs.Cycle.{free_of, is_allocatable, is_grantable, grant, new_offer, with_offer, tried, all_tried, first_of, without, serving_order, turn, turn_order, turns, at_moment, cycle}
 use Rattle.drf_rows.specs.laws.CycleLaws.{active_clients-with_offer}
 use Rattle.drf_rows.specs.Offers.{offer_at, offer_accepted, offer_declined}
 use Rattle.drf_rows.specs.Tasks.{Start}
 use Rattle.drf_rows.specs.laws.ListLaws.{each_append, each_map, each_filter, each_find, each_true, any_fails}
 use Rattle.drf_rows.specs.Step.{refusal_of, effect, answer, line_told, new_offers, rows_after, rows_after_all, reply_to, replies_to}
-use Rattle.drf_rows.specs.laws.LifeLaws.{is_same_client, SuppressedIsNotOffered, CountUp, lines_told, NumbersAreNew}
+use Rattle.drf_rows.specs.laws.LiveLaws.{kept-turns}
+use Rattle.drf_rows.specs.laws.LifeLaws.{is_same_client, SuppressedIsNotOffered, FilteredIsNotOffered, CountUp, lines_told, NumbersAreNew}
 use Rattle.drf_rows.specs.declared.event.Event.{Event}
 use Rattle.drf_rows.specs.declared.event.Event.TheVariants.{AddAgent, RemoveAgent, ActivateAgent, DeactivateAgent, SetAgent, AddFramework, RemoveFramework, Accept, Decline, Rescind, Finish, Suppress, Revive, Reserve, Unreserve, SetWeight, SetLimit, Cycle, Report}
 use Rattle.drf_rows.specs.declared.reply.OfferLine.{OfferLine}
@@ -58,38 +61,64 @@ each_served P s (suc n) clients all = by (first_of s clients) refl (each_served 
 
 -- ---- the offers of a cycle
 
--- offers were made, with the next numbers, and each to a client of which something holds, as of all that are active
+-- a filter in force holds the offer back
+abbrev is_stopped : Rows → OfferRow → Bool
+is_stopped rows o = is_held_back rows.filters rows.clock (of_offer o).client o.agent o.bundle
+
+-- what a client is granted no filter holds back
+not_stopped : (rows : Rows) (agent : AgentRow) (client : Client) (bundle : List Resource) → grant rows agent client ≡ Some bundle
+    → is_held_back rows.filters rows.clock client agent.name bundle ≡ false
+not_stopped rows agent client bundle = by (entitlement rows (free_of rows agent) client)
+  where
+    at : (part : List Resource) (b : Bool) → is_grantable rows agent client part ≡ b → (if b then Some part else None) ≡ Some bundle
+        → is_held_back rows.filters rows.clock client agent.name bundle ≡ false
+    at part true right granted =
+        let held : List Resource → Bool = λ part. is_held_back rows.filters rows.clock client agent.name part in
+        let same : part ≡ bundle = cc in
+        ap held (sym same) ∙ not-true (held part) (and_parts (is_allocatable part) (not (held part)) right).1
+    at part false past granted = cc
+
+    by : (part : List Resource) → (if is_grantable rows agent client part then Some part else None) ≡ Some bundle
+        → is_held_back rows.filters rows.clock client agent.name bundle ≡ false
+    by part = at part (is_grantable rows agent client part) refl
+
+-- offers were made, with the next numbers, and each to a client of which something holds, as of all that are active; no filter
+-- holds one back
 record Offered (P : Client → Type 0) (start after : Rows) : Type 0 where
   made : List OfferRow
   offers : after.offers ≡ start.offers ++ made
   each : AllByRecursion (λ o. P (of_offer o).client) made
+  let_through : AllByRecursion (λ o. is_stopped after o ≡ false) made
   numbers : CountUp start.next_offer (map (λ o. o.number) made) after.next_offer
   active : AllByRecursion P (active_clients after)
 
 module _ (P : Client → Type 0) (start : Rows) where
   offered-none : AllByRecursion P (active_clients start) → Offered P start start
-  offered-none all = record { made = []; offers = sym (append-nil start.offers); each = tt; numbers = refl; active = all }
+  offered-none all = record { made = []; offers = sym (append-nil start.offers); each = tt; let_through = tt; numbers = refl; active = all }
 
-  offered-more : (rows : Rows) (agent : AgentRow) (client : Client) (bundle : List Resource) → P client → Offered P start rows
+  offered-more : (rows : Rows) (agent : AgentRow) (client : Client) (bundle : List Resource) → P client
+      → is_held_back rows.filters rows.clock client agent.name bundle ≡ false → Offered P start rows
       → Offered P start (with_offer rows (new_offer rows agent client bundle))
   unfolding with_offer
-  offered-more rows agent client bundle right so =
+  offered-more rows agent client bundle right free so =
       let o : OfferRow = new_offer rows agent client bundle in
       record {
         made = so.made ++ o ∷ [];
         offers = ap (λ (os : List OfferRow). os ++ o ∷ []) so.offers ∙ append_assoc start.offers so.made (o ∷ []);
         each = each_append (λ o. P (of_offer o).client) so.made (o ∷ []) so.each (right, tt);
+        let_through = each_append (λ o. is_stopped rows o ≡ false) so.made (o ∷ []) so.let_through (free, tt);
         numbers = subst (λ (ns : List ℕ). CountUp start.next_offer ns (rows.next_offer + 1)) (sym (map-append (λ (o : OfferRow). o.number) so.made (o ∷ [])))
             (count_up-append start.next_offer (map (λ o. o.number) so.made) (rows.next_offer ∷ []) rows.next_offer (rows.next_offer + 1) so.numbers (refl, refl));
         active = subst (AllByRecursion P) (sym (active_clients-with_offer rows o)) so.active;
       }
 
   offered-tried : (rows : Rows) (agent : AgentRow) (client : Client) → P client → Offered P start rows → Offered P start (tried rows agent client)
-  offered-tried rows agent client right so = by (grant rows agent client)
+  offered-tried rows agent client right so = by (grant rows agent client) refl
     where
-      by : (granted : Option (List Resource)) → Offered P start (option_map_or (λ bundle. with_offer rows (new_offer rows agent client bundle)) granted rows)
-      by None = so
-      by (Some bundle) = offered-more rows agent client bundle right so
+      by : (granted : Option (List Resource)) → grant rows agent client ≡ granted
+          → Offered P start (option_map_or (λ bundle. with_offer rows (new_offer rows agent client bundle)) granted rows)
+      by None found = so
+      by (Some bundle) found = offered-more rows agent client bundle right (not_stopped rows agent client bundle found) so
 
   offered-all_tried : (rows : Rows) (agent : AgentRow) (clients : List Client) → AllByRecursion P clients → Offered P start rows
       → Offered P start (all_tried rows agent clients)
@@ -111,7 +140,14 @@ module _ (P : Client → Type 0) (rows : Rows) (at : ℕ) (all : AllByRecursion 
   unfolding cycle
   offered =
       let so = offered-turns P (at_moment rows at) (at_moment rows at) (filter (λ a. a.active) rows.agents) (offered-none P (at_moment rows at) all) in
-      record { made = so.made; offers = so.offers; each = so.each; numbers = so.numbers; active = so.active }
+      record {
+        made = so.made;
+        offers = so.offers;
+        each = so.each;
+        let_through = so.let_through;
+        numbers = so.numbers;
+        active = so.active;
+      }
 
   offered_new : new_offers rows (cycle rows at) ≡ offered.made
   offered_new = ap (drop (length rows.offers)) offered.offers ∙ drop-append_seam rows.offers offered.made
@@ -155,6 +191,18 @@ suppressed_is_not_offered rows client at silent =
     let all = all_others client rows.frameworks silent in
     ap (list_any (λ o. is_same_client client (of_offer o).client)) (offered_new (IsOther client) rows at all)
     ∙ any_fails (λ o. is_same_client client (of_offer o).client) (offered (IsOther client) rows at all).made (offered (IsOther client) rows at all).each
+
+-- ---- what filters hold back
+
+pub filtered_is_not_offered : FilteredIsNotOffered
+unfolding cycle
+filtered_is_not_offered rows at =
+    let Any : Client → Type 0 = λ c. ◌≡◌ {A = Bool} true true in
+    let all = each_true (active_clients rows) in
+    let after : Rows = cycle rows at in
+    let kept = kept-turns (at_moment rows at) (filter (λ a. a.active) rows.agents) in
+    (λ i. list_any (λ o. is_held_back (sym kept.0 i) (sym kept.1 i) (of_offer o).client o.agent o.bundle) (offered_new Any rows at all i))
+    ∙ any_fails (is_stopped after) (offered Any rows at all).made (offered Any rows at all).let_through
 
 -- ---- the numbers that a run tells
 

@@ -1,15 +1,23 @@
 -- What an event that sets a weight changes: the weight of its role, and no other. Weights stay in their range.
-use Rattle.std.specs.Prelude.{◌≡◌, ℕ, ◌≤◌, true, false, not, nat_le, IsTrue, List, [], ◌∷◌, map}
+use Rattle.std.specs.Prelude.{◌≡◌, ℕ, ◌+◌, ◌≤◌, true, false, not, nat_le, IsTrue, List, [], ◌∷◌, map, Option, Some, None}
+use Rattle.std.specs.Option.{option_map_or}
 use Rattle.std.proofs.Common.{refl, ap, ◌∙◌, inl, inr, arith}
 use Rattle.std.proofs.lemmas.Bool.{cases_Bool, and_parts, and_from, leb-true}
 use Rattle.drf_role.specs.Path.{Path, same_path}
 use Rattle.drf_role.specs.PathLaws.{same_path_itself, same_path-true}
 use Rattle.drf_rows.specs.Held.{weight_of}
 use Rattle.drf_rows.specs.Weights.{is_weight, are_weights, weights_with}
-use Rattle.drf_rows.specs.Step.{effect}
+use Rattle.drf_rows.specs.LimitNumbers.{LimitNumbers}
+use Rattle.drf_rows.specs.Cycle.{at_moment}
+use Rattle.drf_rows.specs.Offers.{offer_at, offer_accepted, offer_declined}
+use Rattle.drf_rows.specs.laws.OthersLaws.{cycle_only_offers}
+use Rattle.drf_rows.specs.Step.{opening, refusal_of, effect, rows_after, rows_after_all}
 use Rattle.drf_rows.specs.Consistent.{are_distinct_roles, IsConsistent}
 use Rattle.drf_rows.specs.laws.ListLaws.{none_has}
-use Rattle.drf_rows.specs.declared.event.Event.TheVariants.{SetWeight}
+use Rattle.drf_rows.specs.declared.event.Event.{Event}
+use Rattle.drf_rows.specs.declared.event.Event.TheVariants.{AddAgent, RemoveAgent, ActivateAgent, DeactivateAgent, SetAgent, AddFramework, RemoveFramework, Accept, Decline, Rescind, Finish, Suppress, Revive, Reserve, Unreserve, SetWeight, SetLimit, Cycle, Report}
+use Rattle.drf_rows.specs.declared.reply.Refusal.{Refusal}
+use Rattle.drf_rows.specs.declared.rows.OfferRow.{OfferRow}
 use Rattle.drf_rows.specs.declared.rows.WeightRow.{WeightRow}
 use Rattle.drf_rows.specs.declared.rows.Rows.{Rows}
 
@@ -38,6 +46,11 @@ EachHasOneRow =
     (rows : Rows) (role : Path) (weight : ℕ)
     → are_distinct_roles (weighed_roles rows) ≡ true
     → are_distinct_roles (weighed_roles (after rows role weight)) ≡ true
+
+-- and so in no run from the start has a role two
+abbrev pub NoRoleHasTwoRows : Type 0
+NoRoleHasTwoRows =
+    (limits : LimitNumbers) (events : List Event) → are_distinct_roles (weighed_roles (rows_after_all limits opening events)) ≡ true
 
 -- ---- the range of weights
 
@@ -151,3 +164,58 @@ others_keep_their_weight rows role weight node other = weight_of-other role weig
 pub each_has_one_row : EachHasOneRow
 unfolding effect
 each_has_one_row rows role weight apart = distinct-with role weight rows.weights apart
+
+-- ---- a run
+
+-- no other event touches weights
+rows_stay_apart : (rows : Rows) (event : Event) → are_distinct_roles (weighed_roles rows) ≡ true
+    → are_distinct_roles (weighed_roles (effect rows event)) ≡ true
+unfolding effect
+rows_stay_apart rows (AddAgent agent total) apart = apart
+rows_stay_apart rows (RemoveAgent agent) apart = apart
+rows_stay_apart rows (ActivateAgent agent) apart = apart
+rows_stay_apart rows (DeactivateAgent agent) apart = apart
+rows_stay_apart rows (SetAgent agent total) apart = apart
+rows_stay_apart rows (AddFramework framework roles) apart = apart
+rows_stay_apart rows (RemoveFramework framework) apart = apart
+rows_stay_apart rows (Accept a) apart = by (offer_at rows a.offer)
+  where
+    by : (f : Option OfferRow)
+        → are_distinct_roles (weighed_roles (option_map_or (λ o. offer_accepted (at_moment rows a.at) o a.tasks a.refuse_ms) f rows)) ≡ true
+    by None = apart
+    by (Some o) = apart
+rows_stay_apart rows (Decline d) apart = by (offer_at rows d.offer)
+  where
+    by : (f : Option OfferRow)
+        → are_distinct_roles (weighed_roles (option_map_or (λ o. offer_declined (at_moment rows d.at) o d.refuse_ms) f rows)) ≡ true
+    by None = apart
+    by (Some o) = apart
+rows_stay_apart rows (Rescind offer) apart = apart
+rows_stay_apart rows (Finish framework task) apart = apart
+rows_stay_apart rows (Suppress framework role) apart = apart
+rows_stay_apart rows (Revive framework role) apart = apart
+rows_stay_apart rows (Reserve agent role resources) apart = apart
+rows_stay_apart rows (Unreserve agent role resources) apart = apart
+rows_stay_apart rows (SetWeight role weight) apart = distinct-with role weight rows.weights apart
+rows_stay_apart rows (SetLimit role limit) apart = apart
+rows_stay_apart rows (Cycle at) apart =
+    ap (λ (r : Rows). are_distinct_roles (weighed_roles r)) (cycle_only_offers rows at).0 ∙ apart
+rows_stay_apart rows Report apart = apart
+
+step_apart : (limits : LimitNumbers) (rows : Rows) (event : Event) → are_distinct_roles (weighed_roles rows) ≡ true
+    → are_distinct_roles (weighed_roles (rows_after limits rows event)) ≡ true
+unfolding rows_after
+step_apart limits rows event apart = by (refusal_of limits rows event)
+  where
+    by : (f : Option Refusal)
+        → are_distinct_roles (weighed_roles (option_map_or (λ refusal. rows) f (record (effect rows event) { accepted = rows.accepted + 1 }))) ≡ true
+    by None = rows_stay_apart rows event apart
+    by (Some refusal) = apart
+
+run_apart : (limits : LimitNumbers) (rows : Rows) (events : List Event) → are_distinct_roles (weighed_roles rows) ≡ true
+    → are_distinct_roles (weighed_roles (rows_after_all limits rows events)) ≡ true
+run_apart limits rows [] apart = apart
+run_apart limits rows (event ∷ events) apart = run_apart limits (rows_after limits rows event) events (step_apart limits rows event apart)
+
+pub no_role_has_two_rows : NoRoleHasTwoRows
+no_role_has_two_rows limits events = run_apart limits opening events refl

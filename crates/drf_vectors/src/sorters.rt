@@ -1,9 +1,9 @@
 //! The orders of a sorter of two clients, before and after the first is charged, and under another total; and whether it made no
 //! more keys for each than are allowed.
-ghost use Rattle.std.specs.Prelude.{◌≡◌, ◌<◌, ◌^◌, List, ℕ, IfOk, IsOk, OnOk};
-ghost use Rattle.drf_bundle.specs.Quantities.{amount_of, covers};
+ghost use Rattle.std.specs.Prelude.{◌≡◌, IfOk, IsOk, OnOk};
+ghost use Rattle.drf_bundle.specs.Quantities.{covers};
 ghost use Rattle.drf_sorter.specs.Content.{IsSound, empty};
-ghost use Rattle.drf_vectors.specs.TwoClients.{IsCovered, AreSmall, both_added};
+ghost use Rattle.drf_vectors.specs.TwoClients.{AreSmall, IsCovered, both_added};
 
 use crate::paths::client;
 use crate::quantities::read;

@@ -1,6 +1,6 @@
 use Rattle.std.proofs.Common.{◌≡◌, ◌<◌, ◌^◌, ℕ, List, true, IsTrue, refl, ◌∙◌, arith}
 use Rattle.drf_bundle.specs.Quantities.{amount_of, covers}
-use Rattle.drf_bundle.specs.QuantitiesLaws.{covers_at}
+use Rattle.drf_bundle.specs.laws.QuantitiesLaws.{covers_at}
 use Rattle.drf_bundle.specs.declared.quantities.Entry.{Entry}
 use Rattle.drf_role.specs.PathLaws.{same_path_itself, same_path-swap}
 use Rattle.drf_sorter.specs.Content.{Content, IsSound, charged, has_client, with_change}

@@ -1,4 +1,4 @@
-ghost use Rattle.std.specs.Prelude.{◌≡◌, IfOk, OnErr};
+ghost use Rattle.std.specs.Prelude.{◌≡◌, ◌⊎◌, IfOk, OnErr};
 ghost use mathlib.Core.List.{IsPrefix};
 ghost use Rattle.drf_board.specs.History.{IsLegal};
 ghost use Rattle.drf_board.specs.Sheets.{IsSheet};
@@ -94,6 +94,7 @@ impl<K: Naming> Viewer<K> {
     pub fn learn(&mut self, told: &Told<K>)
         ensures later { IsPrefix self.old self.new }
         ensures told { IsPrefix told.now self.new }
+        ensures own { (self.new ≡ self.old) ⊎ (self.new ≡ told.now) }
     {
         let prefix = told.prefix();
         if self.prefix.begins(prefix) {

@@ -44,7 +44,8 @@ def turn(own, chance, number, agents, frameworks):
         case 2:
             return [line("set_weight", role=role, weight=f"{chance.randint(1, 9)}.5")]
         case 3:
-            return [line("set_limit", role=own, limit=f"cpus:{chance.randint(1, 99)};mem:{chance.randint(1, 99)}000")]
+            moved = [line(event, agent=agent, role=role, resources="cpus:1;mem:64") for event in ("reserve", "unreserve")]
+            return [line("deactivate_agent", agent=agent), *moved, line("activate_agent", agent=agent)]
         case 4:
             return [line("remove_agent", agent=agent), line("add_agent", agent=agent, total="cpus:8;mem:4096;ports:[31000-32000]")]
         case 5:

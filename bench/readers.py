@@ -13,11 +13,11 @@ from churn import Talk, churn
 from unproved import ROOT, build
 
 VIEWERS = (1, 8, 64)
-AGENTS, FRAMEWORKS, CYCLES = 100, 20, 40
+AGENTS, FRAMEWORKS, CALLS = 50, 20, 300
 
 
 def main(program, readers=None):
-    lines = "".join(f"{line}\n" for line in churn(Talk([program, "run"]), AGENTS, FRAMEWORKS, CYCLES))
+    lines = "".join(f"{line}\n" for line in churn(Talk([program, "run"]), AGENTS, FRAMEWORKS)[:CALLS])
     with tempfile.TemporaryDirectory() as room:
         if not readers:
             readers = f"{room}/readers"

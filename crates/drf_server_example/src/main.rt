@@ -1,5 +1,5 @@
-//! A server in short. `serve` opens a master, `call` and `append_sheets` are what its threads do, and `close` compares its journal with
-//! the receipts. What owns a master or its book does nothing else: its drop is long, and each branch beside it would prove it again.
+//! A server in short. `serve` opens a master, `call` and `append_sheets` are what its threads do, two of them side by side, and `close`
+//! compares its journal with the receipts. What owns a master or its book does nothing else: its drop is long, and each branch beside it would prove it again.
 #![tactic(auto)]
 
 ghost use Rattle.std.specs.Prelude.{◌≡◌};
@@ -14,9 +14,14 @@ use drf_text::write_quantities;
 use std::alloc::Global;
 use std::fmt::Write;
 use std::sync::Wait;
+use std::thread::{Threads, join};
 use std::{io, str};
 
 const AGENT: &str = r#"{"event":"add_agent","agent":"n1","total":"cpus:1"}"#;
+
+const OTHER_AGENT: &str = r#"{"event":"add_agent","agent":"n2","total":"cpus:2"}"#;
+
+const FRAMEWORK: &str = r#"{"event":"add_framework","framework":"f1","roles":["eng"]}"#;
 
 // Calls by a pass: the event of the line is taken as one step, and the pass keeps a receipt for it. Threads share the master; each has a
 // pass of its own.
@@ -78,6 +83,49 @@ fn call_and_read<K: Naming, R: Wait + Drop, W: Wait>(
     append_sheets(alloc, told, viewers)
 }
 
+fn call_once<K: Naming, R: Wait + Drop, W: Wait>(
+    rt: &W,
+    alloc: Global,
+    master: &Master<K, R>,
+    passes: &mut [Pass],
+    line: &str,
+) -> Result<()> {
+    call(rt, alloc, master, passes, line)?;
+    Ok(())
+}
+
+// Two threads call, each by a pass of its own. Either may be first.
+fn call_side_by_side<K: Naming + Send + Sync, W: Threads + Wait + Sync>(
+    rt: &W,
+    alloc: Global,
+    master: &Master<K, &W>,
+    passes: &mut [Pass],
+) -> Result<()> {
+    let half = passes.len() / 2;
+    let (front, back) = passes.split_at_mut(half);
+    let (one, other) = join(
+        rt,
+        || call_once(rt, alloc, master, front, OTHER_AGENT),
+        || call_once(rt, alloc, master, back, FRAMEWORK),
+    );
+    one?;
+    other
+}
+
+fn use_master<K: Naming + Send + Sync, W: Threads + Wait + Sync>(
+    rt: &W,
+    alloc: Global,
+    told: &mut String,
+    master: &Master<K, &W>,
+    passes: &mut [Pass],
+    viewers: &mut [Viewer<K>],
+) -> Result<()> {
+    call_and_read(rt, alloc, told, master, passes, viewers)?;
+    call_side_by_side(rt, alloc, master, passes)?;
+    told.push_str(" two threads call;")?;
+    append_sheets(alloc, told, viewers)
+}
+
 // The book and the passes go.
 fn fault_of(refused: CloseRefused) -> CloseFault {
     let fault = refused.fault;
@@ -113,23 +161,23 @@ fn append_used(
 }
 
 // No branch stands between what is owned here: the borrow checker would prove the drops in each anew.
-fn use_and_close<K: Naming, R: Wait + Drop, W: Wait>(
+fn use_and_close<K: Naming + Send + Sync, W: Threads + Wait + Sync>(
     rt: &W,
     alloc: Global,
     told: &mut String,
-    master: Master<K, R>,
+    master: Master<K, &W>,
     mut passes: Vec<Pass>,
     mut viewers: Vec<Viewer<K>>,
 ) -> Result<()> {
-    let used = call_and_read(rt, alloc, told, &master, &mut passes, &mut viewers);
+    let used = use_master(rt, alloc, told, &master, &mut passes, &mut viewers);
     let closed = close(master, passes);
     drop(viewers);
     append_used(told, used, closed)
 }
 
-// Opens a master of key 1 with one pass. A slate is for one master and its viewers, and what opens the master is generic in the slate's
+// Opens a master of key 1 with two passes. A slate is for one master and its viewers, and what opens the master is generic in the slate's
 // name, so that what one master tells is never taken for what another tells.
-fn serve_named<K: Naming, W: Wait>(
+fn serve_named<K: Naming + Send + Sync, W: Threads + Wait + Sync>(
     rt: &W,
     alloc: Global,
     told: &mut String,
@@ -138,12 +186,12 @@ fn serve_named<K: Naming, W: Wait>(
     requires named { slate.name ≡ K.slate }
     requires limits { slate.name.limits ≡ ceilings }
 {
-    let (master, passes, viewers) = Master::<K, &W>::open(rt, alloc, 1, Limits::full(), 1, slate)?;
+    let (master, passes, viewers) = Master::<K, &W>::open(rt, alloc, 1, Limits::full(), 2, slate)?;
     use_and_close(rt, alloc, told, master, passes, viewers)
 }
 
 // Makes the slate, for two viewers, and calls what opens its master with `Brand`.
-fn serve<W: Wait>(rt: &W, alloc: Global, told: &mut String) -> Result<()> {
+fn serve<W: Threads + Wait + Sync>(rt: &W, alloc: Global, told: &mut String) -> Result<()> {
     let slate = Slate::open(2, Limits::full())?;
     serve_named::<Brand, W>(rt, alloc, told, slate)
 }

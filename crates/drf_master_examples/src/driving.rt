@@ -46,16 +46,16 @@ impl Gate for Meeting {
     fn after(&self, _worker: u64, _call: u64) {}
 }
 
-/// What is left of a drive: the journal, and the replies to each script.
+/// What comes of a drive: the journal, and the replies to each script.
 #[derive(Drop)]
-struct Told {
+struct Outcome {
     entries: Vec<Entry>,
     replies: Vec<Vec<Reply>>,
 }
 
-fn told_of(driven: Driven) -> Told {
+fn outcome_of(driven: Driven) -> Outcome {
     let Driven { book, replies } = driven;
-    Told {
+    Outcome {
         entries: book.into_entries(),
         replies,
     }
@@ -68,11 +68,11 @@ fn drive_by<K: Naming + Send + Sync, W: Threads + Wait + Sync>(
     passes: Vec<Pass>,
     meeting: &Meeting,
     scripts: Vec<Vec<Event>>,
-) -> Result<Told, DriveFault>
+) -> Result<Outcome, DriveFault>
     requires { length scripts.items ≡ length passes.items }
 {
     match drive(rt, alloc, master, passes, meeting, scripts) {
-        Ok(driven) => Ok(told_of(driven)),
+        Ok(driven) => Ok(outcome_of(driven)),
         Err(fault) => Err(fault),
     }
 }
@@ -95,7 +95,7 @@ fn drive_named<K: Naming + Send + Sync, W: Threads + Wait + Sync>(
     meeting: &Meeting,
     others: Vec<Pass>,
     scripts: Vec<Vec<Event>>,
-) -> Result<Told, DriveFault>
+) -> Result<Outcome, DriveFault>
     requires named { slate.name ≡ K.slate }
     requires limits { slate.name.limits ≡ ceilings }
     requires count { (1 ≤ length scripts.items) × (length scripts.items ≤ 64) }
@@ -125,7 +125,7 @@ fn drive_scripts<W: Threads + Wait + Sync>(
     alloc: Global,
     others: Vec<Pass>,
     scripts: Vec<Vec<Event>>,
-) -> Result<Told, DriveFault>
+) -> Result<Outcome, DriveFault>
     requires { (1 ≤ length scripts.items) × (length scripts.items ≤ 64) }
 {
     let meeting = Meeting {
@@ -156,7 +156,7 @@ pub fn append_strangers<W: Threads + Wait + Sync>(
 fn append_replies(
     alloc: Global,
     told: &mut String,
-    driven: &Result<Told, DriveFault>,
+    driven: &Result<Outcome, DriveFault>,
 ) -> Result<()> {
     match driven {
         Ok(driven) => {
@@ -224,7 +224,7 @@ fn append_entries(alloc: Global, told: &mut String, entries: &[Entry], count: us
 fn append_driven(
     alloc: Global,
     told: &mut String,
-    driven: &Result<Told, DriveFault>,
+    driven: &Result<Outcome, DriveFault>,
     count: usize,
 ) -> Result<()> {
     match driven {

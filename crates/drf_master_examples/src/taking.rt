@@ -3,15 +3,19 @@ use crate::lines::{AGENT, CYCLE, FRAMEWORK, append_reply};
 use anyhow::Result;
 use drf_lines::read_event;
 use drf_master::{Book, MasterSorter};
-use drf_rows::Limits;
+use drf_rows::{Limits, Reply};
 use std::alloc::Global;
 use std::fmt::Write;
+
+fn append_placed(alloc: Global, told: &mut String, place: u64, reply: &Reply) -> Result<()> {
+    write!(told, " {place}")?;
+    append_reply(alloc, told, reply)
+}
 
 fn take(alloc: Global, told: &mut String, book: &mut Book<MasterSorter>, line: &str) -> Result<()> {
     let event = read_event(alloc, line.as_bytes())?;
     let (reply, place) = book.take(event)?;
-    write!(told, " {place}")?;
-    append_reply(alloc, told, &reply)
+    append_placed(alloc, told, place, &reply)
 }
 
 fn take_all(alloc: Global, told: &mut String, book: &mut Book<MasterSorter>) -> Result<()> {

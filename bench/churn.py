@@ -1,7 +1,7 @@
 #!/usr/bin/env python3
 """Writes the lines of a cluster in use: cycles, offers that are accepted in part or declined, tasks that end. What comes
-depends on what is offered, so the lines are made by talking to the program, a line at a time; a reply that is not as
-expected ends it.
+depends on what is offered, so the lines are made by talking to the program, which is waited for at each cycle; a reply that is
+not as expected ends it.
 
     bench/churn.py PROGRAM WORD.. > FILE     the program's lines, for 500 agents, 100 frameworks and 40 cycles"""
 import json
@@ -11,6 +11,8 @@ import sys
 
 # milliseconds from one cycle to the next
 PERIOD = 1000
+# So many short replies wait in a pipe.
+UNREAD = 256
 
 
 def line(event, **keys):
@@ -22,22 +24,32 @@ class Talk:
 
     def __init__(self, words):
         self.program = subprocess.Popen(words, stdin=subprocess.PIPE, stdout=subprocess.PIPE, text=True)
-        self.lines = []
+        self.lines, self.unread = [], 0
 
     def is_over(self):
         """Whether no further cycle is to come."""
         return False
 
+    def read_replies(self):
+        """The last of the replies that were not read yet."""
+        self.program.stdin.flush()
+        for _ in range(self.unread):
+            reply = json.loads(self.program.stdout.readline())
+            if reply != {"ok": True} and "offers" not in reply:
+                raise SystemExit(f"{self.lines[-1]}\nor a line of the {self.unread} up to it was answered by {reply}")
+        self.unread = 0
+        return reply
+
     def ask(self, event, **keys):
         self.lines.append(line(event, **keys))
         self.program.stdin.write(self.lines[-1] + "\n")
-        self.program.stdin.flush()
-        reply = json.loads(self.program.stdout.readline())
-        if reply != {"ok": True} and "offers" not in reply:
-            raise SystemExit(f"{self.lines[-1]}\nwas answered by {reply}")
-        return reply
+        self.unread += 1
+        if event == "cycle" or self.unread == UNREAD:
+            return self.read_replies()
 
     def close(self):
+        if self.unread:
+            self.read_replies()
         self.program.stdin.close()
         self.program.wait()
 

@@ -2,11 +2,12 @@
 """Makes calls of the libraries again and again, each time with the next growth of memory refused, until none was refused: each event
 as a step of the allocator, as a call of a master that is watched, and as an entry of a book; all events as one list, one input and
 one journal; each line as a text; and calls below the allocator. At want of memory what stands must be what stood before, and the call made
-again must answer as if nothing had been; an event that is refused by its number must be so at every growth, but for what README's late
-refusals allow. It needs a C compiler, and a build of the program whose sources are bench/refused_calls/*.txt, as main.rt and its modules.
+again must answer as if nothing had been; an event that is refused by its number must be so at every growth, but for late refusals. It
+needs a C compiler. SWEEPS is the program of bench/refused_calls, DRF the one that checks journals and answers lines.
 
-    bench/refused_calls.py SWEEPS DRF          SWEEPS is that build, DRF the program that checks journals and answers lines
-    bench/refused_calls.py SWEEPS DRF whole    on the lines of examples/ too"""
+    bench/refused_calls.py                     builds both (SWEEPS without proofs, by bench/unproved.py)
+    bench/refused_calls.py SWEEPS DRF          other builds
+    bench/refused_calls.py SWEEPS DRF whole    on the lines of examples/ too; - for SWEEPS or DRF builds it"""
 import glob
 import json
 import os
@@ -14,8 +15,9 @@ import subprocess
 import sys
 import tempfile
 
-ROOT = os.path.dirname(os.path.dirname(os.path.realpath(__file__)))
-# A size that nobody asks for tells which growth is refused, and another asks whether one was.
+from unproved import ROOT, build
+
+# A size that nobody asks for tells which growth is refused, and another asks whether one was. An audit asks by several threads.
 SHIM = r"""
 #define _GNU_SOURCE
 #include <dlfcn.h>
@@ -26,7 +28,7 @@ static int was;
 static int refused(size_t size) {
     if (size >> 62 == 1) { left = size & 0xffffffff; was = 0; return 1; }
     if (size == 7654321) { left = 0; return was; }
-    if (left > 0 && --left == 0) { was = 1; return 1; }
+    if (left > 0 && __atomic_sub_fetch(&left, 1, __ATOMIC_SEQ_CST) == 0) { was = 1; return 1; }
     return 0;
 }
 void *malloc(size_t size) {
@@ -84,10 +86,26 @@ def sweep_steps(sums, told, events, replies):
         sums.add("Core::step", refused, answered, late, not is_right)
 
 
-def main(sweeps, program, extent=""):
+def sweep_journals(sums, told, word, replies, check):
+    figures, journals = rows(told)
+    for figure in figures:
+        sums.add(*figure)
+    for journal in journals:
+        if check(journal) != f"good {len(replies)}\n" or journal.splitlines()[1::2] != replies:
+            sums.wrong.append(f"a journal of {word}")
+
+
+def main(sweeps="-", program="-", extent=""):
     names = [f"{ROOT}/bench/every_event.jsonl", f"{ROOT}/bench/twelve_agents.jsonl"] + (sorted(glob.glob(f"{ROOT}/examples/*.jsonl")) if extent == "whole" else [])
     sums = Sums()
+    if program == "-":
+        # builds the program where it must
+        subprocess.run([f"{ROOT}/drf", "run"], stdin=subprocess.DEVNULL, check=True)
+        program = f"{ROOT}/crates/drf/out/drf"
     with tempfile.TemporaryDirectory() as room:
+        if sweeps == "-":
+            sweeps = f"{room}/sweeps"
+            build(f"{ROOT}/bench/refused_calls", sweeps, is_checked=True)
         with open(f"{room}/shim.c", "w") as source:
             source.write(SHIM)
         subprocess.run(["cc", "-O2", "-shared", "-fPIC", "-o", f"{room}/shim.so", f"{room}/shim.c", "-ldl"], check=True)
@@ -101,16 +119,13 @@ def main(sweeps, program, extent=""):
             events, replies = given.splitlines(), ran([program, "run"], given).splitlines()
             sweep_steps(sums, ran([sweeps, "steps"], given, f"{room}/shim.so"), events, replies)
             for word in ("inputs", "masters"):
-                figures, journals = rows(ran([sweeps, word], given, f"{room}/shim.so"))
-                for figure in figures:
-                    sums.add(*figure)
-                for journal in journals:
-                    if ran([program, "check"], journal) != f"good {len(events)}\n" or journal.splitlines()[1::2] != replies:
-                        sums.wrong.append(f"a journal of {word}")
+                sweep_journals(sums, ran([sweeps, word], given, f"{room}/shim.so"), word, replies, lambda journal: ran([program, "check"], journal))
         for figure in rows(ran([sweeps, "calls"], "", f"{room}/shim.so"))[0]:
             sums.add(*figure)
     sums.tell()
 
 
 if __name__ == "__main__":
+    if len(sys.argv) > 4 or sys.argv[1:2] == ["--help"]:
+        sys.exit(__doc__)
     main(*sys.argv[1:4])

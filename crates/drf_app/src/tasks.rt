@@ -61,8 +61,8 @@ fn perform<F: FileBytes, R: Read, W: Write, E: Write>(
 }
 
 /// Does what the words ask for, of which the first is the program's name: reads `input` or `files`, writes `output`, tells faults on
-/// `errors`, a line each, and gives the program's status. That is 0, 1 where a file or a stream failed or memory ran out, 2 where
-/// the words ask for nothing that there is, or 3 where a journal is wrong or a line of a file is no event.
+/// `errors`, and gives the program's status. That is 0, 1 where a file or a stream failed, memory ran out or a drive did not close, 2
+/// where the words ask for nothing that there is, or 3 where a journal is wrong or a line of a file is no event.
 pub fn command<S: AsStr, F: FileBytes, R: Read, W: Write, E: Write>(
     rt: &(impl Threads + Wait + Sync),
     alloc: Global,

@@ -8,7 +8,7 @@ use Rattle.drf_board.specs.declared.entry.Entry.{Entry}
 abbrev pub entries_code : Coded (List Entry)
 entries_code = coded_list entry.the_row.coded
 
--- all that was published, in order, and how many viewers look at it
+-- all that was published, in order, and for how many viewers it was opened
 pub record Published : Type 0 where
   pub entries : List Entry
   pub viewers : ℕ

@@ -16,8 +16,8 @@ use std::alloc::{AllocError, Global};
 use std::marker::Model;
 use std::sync::Wait;
 
-/// Shows what was published last. Contracts see it as the list of all that was published, and how many viewers look at it. It stands
-/// under the lock of whoever publishes; viewers do not take that.
+/// Shows what was published last, though no clause says so. Contracts see it as the list of all that was published, and for how many
+/// viewers it was opened. It stands under the lock of whoever publishes; viewers do not take that.
 #[derive(Drop)]
 pub struct Board<K: Naming, R: Wait + Drop>
 where
@@ -46,7 +46,7 @@ impl<K: Naming, R: Wait + Drop> Board<K, R>
 where
     Pane<K>: Shows,
 {
-    /// A board of the slate that K names, which shows the sheet of no events, and its viewers.
+    /// A board of the slate that K names, with nothing published, and its viewers, which have seen nothing.
     pub fn open(
         rt: R,
         alloc: Global,
@@ -74,7 +74,7 @@ where
         Ok((board, readers))
     }
 
-    /// How many viewers look at it. Where there are none, nobody asks for a sheet, and `publish_unseen` serves.
+    /// For how many viewers it was opened. Where there are none, nobody asks for a sheet, and `publish_unseen` serves.
     pub fn viewers(&self) -> u64
         ensures { result ≡ self.now.viewers }
     {

@@ -1,4 +1,4 @@
-ghost use Rattle.std.specs.Prelude.{◌≡◌, IfOk, OnErr};
+ghost use Rattle.std.specs.Prelude.{◌≡◌, ◌⊎◌, IfOk, OnErr};
 ghost use mathlib.Core.List.{IsPrefix};
 ghost use Rattle.drf_board.specs.History.{IsLegal};
 ghost use Rattle.drf_board.specs.Sheets.{IsSheet};
@@ -14,7 +14,7 @@ use std::marker::Model;
 /// Why a viewer was shown nothing. It has then seen what it had seen before.
 #[derive(Clone, Copy, Debug, PartialEq, Eq)]
 pub enum ViewFault {
-    /// The board is gone.
+    /// The board is gone, though no clause says so.
     Closed,
     /// There is no memory for the sheet.
     Memory,
@@ -68,9 +68,9 @@ impl<K: Naming> Viewer<K> {
         Viewer { handle, prefix }
     }
 
-    /// The sheet of a legal list with which the history begins, and which begins with all that this viewer saw before and all that it
-    /// learnt: what it reads never goes back. It waits for nobody. `Closed` is for a board that is gone,
-    /// and for a sheet older than what was seen, which no board shows.
+    /// The sheet of a legal list that begins with all that this viewer saw before and all that it learnt: what it reads never goes back.
+    /// That the history begins with that list is known by the type of a prefix, and stands in no clause. It waits for nobody. `Closed` is
+    /// for a board that is gone; a sheet older than what was seen, which `publish` does not leave behind, would be told so too.
     pub fn read(&mut self) -> Result<Sheet, ViewFault>
         ensures later { IsPrefix self.old self.new }
         ensures legal { IsLegal K.slate.limits self.new }
@@ -94,6 +94,7 @@ impl<K: Naming> Viewer<K> {
     pub fn learn(&mut self, told: &Told<K>)
         ensures later { IsPrefix self.old self.new }
         ensures told { IsPrefix told.now self.new }
+        ensures own { (self.new ≡ self.old) ⊎ (self.new ≡ told.now) }
     {
         let prefix = told.prefix();
         if self.prefix.begins(prefix) {

@@ -7,7 +7,7 @@ use Rattle.std.proofs.lemmas.List.{take_all, drop_all, get_or-append_right, get_
 use Rattle.std.proofs.lemmas.List.Edits.{map_over_more}
 use Rattle.drf_role.specs.TextLaws.{cases_same}
 use Rattle.drf_bundle.specs.Quantities.{amount_of, is_named, is_in_order, with_amount, plus, minus, covers}
-use Rattle.drf_bundle.specs.QuantitiesLaws.{stands_first, amount_first, amount_head, amount-with, covers_at, unnamed_in}
+use Rattle.drf_bundle.specs.laws.QuantitiesLaws.{stands_first, amount_first, amount_head, amount-with, covers_at, unnamed_in}
 use Rattle.drf_bundle.specs.Places.{IsAt}
 use Rattle.drf_bundle.proofs.PlaceLemmas.{amount_at}
 use Rattle.drf_bundle.specs.declared.quantities.Entry.{Entry}

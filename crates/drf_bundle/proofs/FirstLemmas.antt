@@ -13,10 +13,10 @@ use Rattle.drf_amount.specs.declared.algebra.AlgebraFault.TheVariants as fault
 use Rattle.drf_role.specs.Text.{Text, same_text}
 use Rattle.drf_role.specs.TextLaws.{cmp_itself, cmp_below, below_from_cmp, above_from_cmp, below_other, above_other}
 use Rattle.drf_bundle.specs.Value.{Point, Thousandths, IsGiven, is_same_kind, share_members}
-use Rattle.drf_bundle.specs.ValueLaws.{units-most}
+use Rattle.drf_bundle.specs.laws.ValueLaws.{units-most}
 use Rattle.drf_bundle.specs.Bundle.{Key, key_of, same_key, is_in_order, stock}
-use Rattle.drf_bundle.specs.KeyLaws.{cases_below, below_from_name, Has, where-cons, unit-none}
-use Rattle.drf_bundle.specs.SumLaws.{of_name}
+use Rattle.drf_bundle.specs.laws.KeyLaws.{cases_below, below_from_name, Has, where-cons, unit-none}
+use Rattle.drf_bundle.specs.laws.SumLaws.{of_name}
 use Rattle.drf_bundle.specs.Places.{IsKeyGap, IsNameGap}
 use Rattle.drf_bundle.specs.Union.{has_other_kind, is_reserved_elsewhere, is_too_much, union_refusal}
 use Rattle.drf_bundle.specs.declared.resource.Resource.{Resource}

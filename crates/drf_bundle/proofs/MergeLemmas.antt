@@ -9,8 +9,8 @@ use Rattle.drf_role.specs.Text.{Text, same_text, text_below}
 use Rattle.drf_role.specs.TextLaws.{cases_cmp, same_from_test, same_from_cmp, below_from_cmp, above_from_cmp, below_other, above_other, below_trans, cmp_itself, test_from_same}
 use Rattle.drf_bundle.specs.Value.{clash_in}
 use Rattle.drf_bundle.specs.Bundle.{key_of, key_cmp, key_below, is_in_order, merged, clashes_with_some, have_clash}
-use Rattle.drf_bundle.specs.KeyLaws.{stands_first, cases_below}
-use Rattle.drf_bundle.specs.JoinLaws.{both_of, merged-empty}
+use Rattle.drf_bundle.specs.laws.KeyLaws.{stands_first, cases_below}
+use Rattle.drf_bundle.specs.laws.JoinLaws.{both_of, merged-empty}
 use Rattle.drf_bundle.specs.Sides.{side_of, next_side, names_cmp, none_before}
 use Rattle.drf_bundle.specs.declared.merge.Side.TheVariants.{Left, Right, Both}
 use Rattle.drf_bundle.specs.declared.resource.Resource.{Resource}

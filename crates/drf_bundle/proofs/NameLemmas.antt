@@ -10,7 +10,7 @@ use Rattle.std.proofs.lemmas.List.{get_or-drop, length-drop}
 use Rattle.drf_role.specs.Text.{Text, same_text, text_below}
 use Rattle.drf_role.specs.TextLaws.{same_from_test, test_from_same, below_from_cmp, below_other, below_trans}
 use Rattle.drf_bundle.specs.Bundle.{key_of, is_in_order}
-use Rattle.drf_bundle.specs.KeyLaws.{cases_below}
+use Rattle.drf_bundle.specs.laws.KeyLaws.{cases_below}
 use Rattle.drf_bundle.specs.declared.resource.Resource.{Resource}
 use Rattle.drf_bundle.proofs.SearchLemmas.{in_order_at}
 

@@ -11,7 +11,7 @@ use Rattle.std.proofs.lemmas.List.Sorted.{searchable_from_sorted}
 use Rattle.drf_role.specs.Text.{same_text, text_below}
 use Rattle.drf_role.specs.TextLaws.{same_from_cmp, same_from_test, test_from_same, cmp_below, cmp_above, cmp_itself, above_from_cmp, below_other, above_other}
 use Rattle.drf_bundle.specs.Quantities.{amount_of, is_named, is_in_order, with_amount}
-use Rattle.drf_bundle.specs.QuantitiesLaws.{stands_first, amount-with}
+use Rattle.drf_bundle.specs.laws.QuantitiesLaws.{stands_first, amount-with}
 use Rattle.drf_bundle.specs.Places.{IsAt, IsGapFor}
 use Rattle.drf_bundle.specs.declared.quantities.Entry.{Entry}
 

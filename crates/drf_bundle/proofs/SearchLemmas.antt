@@ -11,8 +11,8 @@ use Rattle.std.proofs.lemmas.List.Recursion.{and_at}
 use Rattle.std.proofs.lemmas.List.Sorted.{searchable_from_sorted}
 use Rattle.drf_role.specs.TextLaws.{less_from_test, cmp_itself}
 use Rattle.drf_bundle.specs.Bundle.{Key, key_of, key_cmp, key_below, same_key, is_in_order, value_at, merged}
-use Rattle.drf_bundle.specs.KeyLaws.{cases_key, key_trans, key_less, key_greater, key_equal, same_key_itself, below_other, above_other, Has, stands_first}
-use Rattle.drf_bundle.specs.JoinLaws.{both_of, merged-empty}
+use Rattle.drf_bundle.specs.laws.KeyLaws.{cases_key, key_trans, key_less, key_greater, key_equal, same_key_itself, below_other, above_other, Has, stands_first}
+use Rattle.drf_bundle.specs.laws.JoinLaws.{both_of, merged-empty}
 use Rattle.drf_bundle.specs.Places.{IsKeyAt, IsKeyGap}
 use Rattle.drf_bundle.specs.declared.resource.Resource.{Resource}
 

@@ -6,10 +6,10 @@ use Rattle.std.proofs.lemmas.List.Sums.{sum_by-cons, sum_by-append}
 use Rattle.drf_bundle.specs.Value.{Point}
 use Rattle.drf_role.specs.Text.{Text}
 use Rattle.drf_bundle.specs.Bundle.{Key, units, stock, IsBundle, join, rest}
-use Rattle.drf_bundle.specs.BundleLaws.{known_by_units, bundle-empty}
-use Rattle.drf_bundle.specs.FitLaws.{join_some}
-use Rattle.drf_bundle.specs.RestLaws.{units-rest, bundle-rest}
-use Rattle.drf_bundle.specs.UnitProofs.{join_by_units}
+use Rattle.drf_bundle.specs.laws.BundleLaws.{known_by_units, bundle-empty}
+use Rattle.drf_bundle.specs.laws.FitLaws.{join_some}
+use Rattle.drf_bundle.specs.laws.RestLaws.{units-rest, bundle-rest}
+use Rattle.drf_bundle.specs.laws.UnitProofs.{join_by_units}
 use Rattle.drf_bundle.specs.declared.resource.Resource.{Resource}
 
 -- what is left of a bundle when parts are taken from it, one after another

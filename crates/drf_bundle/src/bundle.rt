@@ -5,7 +5,7 @@ ghost use Rattle.drf_bundle.specs.Bundle.{IsBundle, IsKept, amount, join, refusa
 ghost use Rattle.drf_bundle.specs.Value.{Thousandths, units_in, IsGiven};
 ghost use Rattle.drf_bundle.specs.Quantities.{amount_of};
 ghost use Rattle.drf_bundle.specs.Places.{IsKeyAt, IsKeyGap};
-ghost use Rattle.drf_bundle.specs.BundleLaws.{bundle_laws};
+ghost use Rattle.drf_bundle.specs.laws.BundleLaws.{bundle_laws};
 
 use crate::merge::{have_clash, merged};
 use crate::quantities::Quantities;

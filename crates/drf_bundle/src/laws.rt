@@ -1,7 +1,7 @@
 //! Laws of amounts by label and of bundles by their units. A call does nothing: its contract is the law.
-ghost use Rattle.drf_bundle.specs.Laws.{SetsOneAmount, NamesOneLabel, SettingKeepsOrder, AmountsAdd, SumNamesBoth, AddingKeepsOrder, SumHasNoZeros, AddingCommutes, AddingAssociates, AmountsFall, NamesStay, LoweringKeepsOrder, ZerosCountNothing, NoZerosAreLeft, CoversByAmounts, KnownByAmounts};
+ghost use Rattle.drf_bundle.specs.laws.Laws.{SetsOneAmount, NamesOneLabel, SettingKeepsOrder, AmountsAdd, SumNamesBoth, AddingKeepsOrder, SumHasNoZeros, AddingCommutes, AddingAssociates, AmountsFall, NamesStay, LoweringKeepsOrder, ZerosCountNothing, NoZerosAreLeft, CoversByAmounts, KnownByAmounts};
 ghost use Rattle.drf_bundle.specs.Taken.{TakenAndLeftJoin, OnlyTheRestJoins};
-ghost use Rattle.drf_bundle.specs.UnitLaws.{KnownByUnits, JoinHasUnitsOfBoth, StocksAdd, CoversByUnits, RestHasTheOthers, RestIsBundle, RestAndPartJoin, QuantitiesSumScalars, QuantitiesHaveNoZeros, QuantitiesAdd, PartIsCovered, ClippedIsCovered, MovedIsBundle, MovedKeepsStocks, UnionIsBundle, UnionHasUnits};
+ghost use Rattle.drf_bundle.specs.laws.UnitLaws.{KnownByUnits, JoinHasUnitsOfBoth, StocksAdd, CoversByUnits, RestHasTheOthers, RestIsBundle, RestAndPartJoin, QuantitiesSumScalars, QuantitiesHaveNoZeros, QuantitiesAdd, PartIsCovered, ClippedIsCovered, MovedIsBundle, MovedKeepsStocks, UnionIsBundle, UnionHasUnits};
 
 /// What setting an amount does.
 pub fn setting_law()

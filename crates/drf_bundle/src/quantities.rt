@@ -146,8 +146,7 @@ impl Quantities {
     {
         let mut sum = self.copy()?;
         for entry in other.entries() {
-            let had = sum.get(entry.label.text());
-            sum.set(entry.label.copy()?, had + entry.amount.thousandths())?;
+            sum.add(&entry.label, entry.amount.thousandths())?;
         }
         Ok(sum)
     }

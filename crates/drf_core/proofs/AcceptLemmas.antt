@@ -1,4 +1,4 @@
--- What the tables and the sorter stand at once an offer is accepted or declined.
+-- What the tables and the sorter hold once an offer is accepted or declined.
 use Rattle.std.proofs.Common.{◌≡◌, ℕ, ◌≤◌, Bool, true, false, List, [], ◌∷◌, ◌++◌, Option, Some, None, map, refl, sym, ap, subst, ◌∙◌, arith}
 use Rattle.std.specs.Prelude.{is_some, max, not, if◌then◌else◌}
 use Rattle.std.specs.Option.{option_map_or}
@@ -13,12 +13,12 @@ use Rattle.drf_bundle.specs.declared.quantities.Entry.{Entry}
 use Rattle.drf_bundle.specs.declared.resource.Resource.{Resource}
 use Rattle.drf_rows.specs.Consistent.{IsFilter, IsConsistent}
 use Rattle.drf_rows.specs.Cycle.{at_moment}
-use Rattle.drf_rows.specs.EndingLaws.{offer_at-place, held-offer_at, held_where-accepted}
+use Rattle.drf_rows.specs.laws.EndingLaws.{offer_at-place, held-offer_at, held_where-accepted}
 use Rattle.drf_rows.specs.Endings.{without_ended, one_offer}
 use Rattle.drf_rows.specs.Holdings.{is_of}
 use Rattle.drf_rows.specs.Offers.{CanStart, offer_accepted, offer_declined, filter_of, filters_with, has_offer, is_task_known, left_of_offer, offer_at, refused_until, refuses_all, refuses_rest, task_of}
 use Rattle.drf_rows.specs.Step.{effect}
-use Rattle.drf_rows.specs.TaskLaws.{HasAll, units-covers_all}
+use Rattle.drf_rows.specs.laws.TaskLaws.{HasAll, units-covers_all}
 use Rattle.drf_rows.specs.Tasks.{Start, uses, covers_all, IsTaskList}
 use Rattle.drf_rows.specs.declared.event.Accept as accepting
 use Rattle.drf_rows.specs.declared.event.Decline as declining
@@ -31,7 +31,6 @@ use Rattle.drf_sorter.specs.Content.{Content, has_client, with_change, refunded,
 use Rattle.drf_tables.specs.Ended.{CanAccept, with_accepted}
 use Rattle.drf_core.specs.Accepting.{IsEnough, filter_if}
 use Rattle.drf_core.specs.Content.{content_of}
-use Rattle.drf_core.specs.Kept.{StandAt}
 use Rattle.drf_core.proofs.ContentEnded.{GaveBack, content_of-gave_back, HoldsAt-gave_back}
 use Rattle.drf_core.proofs.EndedLemmas.{known-client}
 use Rattle.drf_core.proofs.Welcome.{IsWelcomeAccept}
@@ -162,15 +161,14 @@ module _ (rows : Rows) (number : ℕ) (o : OfferRow) (starts : List Start) (at r
   pub held-accepted : HoldsAt content path quantities
   held-accepted = subst (λ (k : Content). HoldsAt k path quantities) (sym sorted) (HoldsAt-gave_back rows new path quantities gave)
 
-  pub applied_accept : (tables : Rows) (after : Content) → tables ≡ offer_accepted (at_moment rows at) o starts refuse_ms
+  pub sorted-accepted : (tables : Rows) (after : Content) → tables ≡ offer_accepted (at_moment rows at) o starts refuse_ms
       → after ≡ with_change content path (refunded quantities)
-      → StandAt (offer_accepted (at_moment rows at) o starts refuse_ms) tables after
-  applied_accept tables after same changed = record {
-    same = same;
-    sorted = changed
-        ∙ ap (λ (k : Content). with_change k path (refunded quantities)) sorted
-        ∙ content_of-gave_back rows new path quantities gave;
-  }
+      → after ≡ content_of tables
+  sorted-accepted tables after same changed =
+      changed
+      ∙ ap (λ (k : Content). with_change k path (refunded quantities)) sorted
+      ∙ content_of-gave_back rows new path quantities gave
+      ∙ sym (ap content_of same)
 
 -- ---- it is declined
 
@@ -180,37 +178,36 @@ pub sorted-declined : (rows tables : Rows) (filters : List FilterRow) (moment : 
 unfolding content_of
 sorted-declined rows tables filters moment content sorted same = sorted ∙ sym (ap content_of same)
 
-pub applied_decline : (rows middle tables : Rows) (number : ℕ) (o : OfferRow) (at moment refuse_ms : ℕ) (content : Content)
+pub rows_declined : (rows middle tables : Rows) (number : ℕ) (o : OfferRow) (at moment refuse_ms : ℕ)
     → offer_at rows number ≡ Some o → moment ≡ max rows.clock at
     → middle ≡ record rows { filters = filters_with (record rows { clock = moment }) (refuses_all refuse_ms) o o.bundle refuse_ms; clock = moment }
-    → StandAt (without_ended middle (one_offer number)) tables content
-    → StandAt (offer_declined (at_moment rows at) o refuse_ms) tables content
-applied_decline rows middle tables number o at moment refuse_ms content found later same ended =
+    → tables ≡ without_ended middle (one_offer number)
+    → tables ≡ offer_declined (at_moment rows at) o refuse_ms
+rows_declined rows middle tables number o at moment refuse_ms found later same ended =
     let number_is : number ≡ o.number = sym (offer_at-place rows number o found).1 in
-    let rows_is : without_ended middle (one_offer number) ≡ offer_declined (at_moment rows at) o refuse_ms
-    = ap (λ (r : Rows). without_ended r (one_offer number)) same
+    ended
+    ∙ ap (λ (r : Rows). without_ended r (one_offer number)) same
     ∙ (λ i. record (without_ended rows (one_offer (number_is i))) {
       filters = filters_with (record rows { clock = later i }) (refuses_all refuse_ms) o o.bundle refuse_ms;
       clock = later i;
-    }) in
-    subst (λ (r : Rows). StandAt r tables content) rows_is ended
+    })
 
 -- ---- the effects
 
-pub effect-accept : (rows tables : Rows) (a : accepting.Accept) (content : Content)
+pub effect-accept : (rows tables : Rows) (a : accepting.Accept)
     → has_offer rows a.offer ≡ true
-    → ((o : OfferRow) → offer_at rows a.offer ≡ Some o → StandAt (offer_accepted (at_moment rows a.at) o a.tasks a.refuse_ms) tables content)
-    → StandAt (effect rows (Accept a)) tables content
+    → ((o : OfferRow) → offer_at rows a.offer ≡ Some o → tables ≡ offer_accepted (at_moment rows a.at) o a.tasks a.refuse_ms)
+    → tables ≡ effect rows (Accept a)
 unfolding effect
-effect-accept rows tables a content stands each =
+effect-accept rows tables a stands each =
     let one = some_offer rows a.offer stands in
     rw one.at (each one.offer one.at)
 
-pub effect-decline : (rows tables : Rows) (d : declining.Decline) (content : Content)
+pub effect-decline : (rows tables : Rows) (d : declining.Decline)
     → has_offer rows d.offer ≡ true
-    → ((o : OfferRow) → offer_at rows d.offer ≡ Some o → StandAt (offer_declined (at_moment rows d.at) o d.refuse_ms) tables content)
-    → StandAt (effect rows (Decline d)) tables content
+    → ((o : OfferRow) → offer_at rows d.offer ≡ Some o → tables ≡ offer_declined (at_moment rows d.at) o d.refuse_ms)
+    → tables ≡ effect rows (Decline d)
 unfolding effect
-effect-decline rows tables d content stands each =
+effect-decline rows tables d stands each =
     let one = some_offer rows d.offer stands in
     rw one.at (each one.offer one.at)

@@ -17,10 +17,10 @@ use Rattle.drf_rows.specs.Holdings.{Holding, holdings_of, held_where, amount_in,
 use Rattle.drf_rows.specs.Held.{client_of, clients_of, active_clients, held_by, count_of, cluster_total, weight_of, is_registered}
 use Rattle.drf_rows.specs.Share.{Standing, is_serving_order}
 use Rattle.drf_rows.specs.Cycle.{first_of, without, serving_order, turn_order}
-use Rattle.drf_rows.specs.ServingOrder.{serving_order-unique}
+use Rattle.drf_rows.specs.laws.ServingOrder.{serving_order-unique}
 use Rattle.drf_rows.specs.Consistent.{IsConsistent}
-use Rattle.drf_rows.specs.ConsistentLaws.{has_its_role}
-use Rattle.drf_rows.specs.ListLaws.{sum_by-filter, sum_by-as_one, each_append, each_from, each_map, each_filter, each_find, each_found}
+use Rattle.drf_rows.specs.laws.ConsistentLaws.{has_its_role}
+use Rattle.drf_rows.specs.laws.ListLaws.{sum_by-filter, sum_by-as_one, each_append, each_from, each_map, each_filter, each_find, each_found}
 use Rattle.drf_rows.specs.declared.rows.ClientRow.{ClientRow}
 use Rattle.drf_rows.specs.declared.rows.FrameworkRow.{FrameworkRow}
 use Rattle.drf_rows.specs.declared.rows.Rows.{Rows}

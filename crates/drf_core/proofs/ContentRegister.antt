@@ -15,12 +15,12 @@ use Rattle.drf_bundle.specs.Bundle.{quantities_of}
 use Rattle.drf_bundle.specs.declared.resource.Resource.{Resource}
 use Rattle.drf_rows.specs.Client.{Client, path_of}
 use Rattle.drf_rows.specs.Holdings.{Holding, holdings_of, held_where, amount_in, is_of}
-use Rattle.drf_rows.specs.HoldingsLaws.{held_where-cons}
+use Rattle.drf_rows.specs.laws.HoldingsLaws.{held_where-cons}
 use Rattle.drf_rows.specs.Held.{cluster_total, is_registered}
 use Rattle.drf_rows.specs.Members.{has_framework, with_agent, new_client}
 use Rattle.drf_rows.specs.Consistent.{IsHeld, IsConsistent}
-use Rattle.drf_rows.specs.ConsistentLaws.{has_its_role, is_row_of}
-use Rattle.drf_rows.specs.ListLaws.{list_any-both}
+use Rattle.drf_rows.specs.laws.ConsistentLaws.{has_its_role, is_row_of}
+use Rattle.drf_rows.specs.laws.ListLaws.{list_any-both}
 use Rattle.drf_rows.specs.declared.rows.AgentRow.{AgentRow}
 use Rattle.drf_rows.specs.declared.rows.ClientRow.{ClientRow}
 use Rattle.drf_rows.specs.declared.rows.FrameworkRow.{FrameworkRow}

@@ -8,7 +8,7 @@ use Rattle.drf_bundle.specs.declared.resource.Resource.{Resource}
 use Rattle.drf_rows.specs.Client.{Client}
 use Rattle.drf_rows.specs.Held.{clients_of}
 use Rattle.drf_rows.specs.Cycle.{grant, count_offer, new_offer, with_offer, tried, all_tried, turn_order, turn, turns, cycle}
-use Rattle.drf_rows.specs.CycleLaws.{clients_of-with_offer}
+use Rattle.drf_rows.specs.laws.CycleLaws.{clients_of-with_offer}
 use Rattle.drf_rows.specs.LimitNumbers.{LimitNumbers}
 use Rattle.drf_rows.specs.Consistent.{IsConsistent}
 use Rattle.drf_rows.specs.Step.{new_offers, refusal_of, effect}
@@ -171,13 +171,13 @@ unfolding content_of
 content_of-clock rows clock = refl
 
 -- there are no drafts yet
-pub drafting-begins : (content : Content) (limits : LimitNumbers) (rows tables : Rows) (clock : ℕ) (offers : List OfferRow) → IsKept content limits rows
-    → clock ≤ LATEST_MOMENT → tables ≡ record rows { clock = clock } → offers ≡ [] → IsDrafting content tables offers
-drafting-begins content limits rows tables clock offers kept moment same none =
+pub drafting-begins : (content : Content) (limits : LimitNumbers) (rows tables : Rows) (clock : ℕ) (offers : List OfferRow) → content ≡ content_of rows
+    → IsKept limits rows → clock ≤ LATEST_MOMENT → tables ≡ record rows { clock = clock } → offers ≡ [] → IsDrafting content tables offers
+drafting-begins content limits rows tables clock offers sorted kept moment same none =
     let events : rows.accepted ≤ 4294967295 = omega (arith, kept.few.events, kept.few.ceilings.events.1) in
     let numbered : rows.next_offer ≤ 1 + rows.accepted * 2 ^ 24 = kept.numbered in
     rw (same, none) (record {
-      sorted = kept.sorted ∙ sym (content_of-clock rows clock);
+      sorted = sorted ∙ sym (content_of-clock rows clock);
       consistent = consistent-clock rows clock kept.consistent moment;
       clients = tt;
       few_agents = omega (arith, kept.few.agents, kept.few.ceilings.agents.1);

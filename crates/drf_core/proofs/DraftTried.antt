@@ -11,11 +11,11 @@ use Rattle.drf_bundle.specs.Value.{Point}
 use Rattle.drf_bundle.specs.Bundle.{Key, IsBundle, units, rest, quantities_of}
 use Rattle.drf_bundle.specs.declared.resource.Resource.{Resource}
 use Rattle.drf_gates.specs.Quota.{Allowance}
-use Rattle.drf_rows.specs.ListLaws.{each_at}
+use Rattle.drf_rows.specs.laws.ListLaws.{each_at}
 use Rattle.drf_rows.specs.Client.{Client, path_of}
 use Rattle.drf_rows.specs.Holdings.{of_offer}
 use Rattle.drf_rows.specs.Cycle.{free_of, grant, is_grantable, new_offer, with_offer, tried}
-use Rattle.drf_rows.specs.CycleLaws.{bundle-free_of, free_of-with_offer, bundle-entitlement, units-entitlement}
+use Rattle.drf_rows.specs.laws.CycleLaws.{bundle-free_of, free_of-with_offer, bundle-entitlement, units-entitlement}
 use Rattle.drf_rows.specs.Consistent.{IsAgent, IsConsistent}
 use Rattle.drf_rows.specs.Held.{is_registered}
 use Rattle.drf_rows.specs.Quota.{entitlement}
@@ -33,7 +33,7 @@ use Rattle.drf_core.proofs.DraftLemmas.{with_offers-push, is_registered-with_off
 use Rattle.drf_core.proofs.ContentOffer.{content_of-with_offer}
 use Rattle.drf_core.proofs.ContentRegister.{has_client-registered}
 use Rattle.drf_core.proofs.ContentSound.{IsSound-content_of}
-use Rattle.drf_rows.specs.ConsistentLaws.{bundles-consistent, IsConsistent-with_offer}
+use Rattle.drf_rows.specs.laws.ConsistentLaws.{bundles-consistent, IsConsistent-with_offer}
 
 -- clients with one path are one
 pub path_of-injective : (c d : Client) → path_of c ≡ path_of d → c ≡ d

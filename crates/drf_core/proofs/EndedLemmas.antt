@@ -1,4 +1,4 @@
--- What the tables and the sorter stand at once something has ended.
+-- What the tables and the sorter hold once something has ended.
 use Rattle.std.proofs.Common.{◌≡◌, Bool, true, false, List, [], ◌∷◌, Some, refl, sym, ap, subst, ◌∙◌, inl, inr}
 use Rattle.std.specs.Prelude.{not, filter, find}
 use Rattle.std.specs.List.{list_any}
@@ -11,7 +11,7 @@ use Rattle.drf_rows.specs.Client.{Client}
 use Rattle.drf_rows.specs.Held.{cluster_total, is_registered}
 use Rattle.drf_rows.specs.Holdings.{is_of}
 use Rattle.drf_rows.specs.Endings.{Ending, ends_offer, ends_task, without_ended, offers_on, all_on, all_of}
-use Rattle.drf_rows.specs.ListLaws.{filter-again}
+use Rattle.drf_rows.specs.laws.ListLaws.{filter-again}
 use Rattle.drf_rows.specs.Members.{with_activity, with_suppression, revived, agent_removed, framework_removed}
 use Rattle.drf_rows.specs.Filters.{filters_without_agent, filters_without_client, filters_without_framework}
 use Rattle.drf_rows.specs.Consistent.{AreFrameworks}
@@ -24,7 +24,6 @@ use Rattle.drf_sorter.specs.Content as sorter
 use Rattle.drf_tables.specs.Ended.{HasEnded}
 use Rattle.drf_tables.specs.declared.ending.Held.{Held}
 use Rattle.drf_core.specs.Content.{content_of}
-use Rattle.drf_core.specs.Kept.{StandAt}
 use Rattle.drf_core.specs.Registering.{AreKnown, client_paths, without_all}
 use Rattle.drf_core.proofs.ContentEnded.{GaveBack, content_of-gave_back, HoldsAt-gave_back}
 use Rattle.drf_core.proofs.ContentMembers.{content_of-filters, content_of-activity, content_of-suppression, content_of-agent_removed}
@@ -71,44 +70,41 @@ nothing_left rows middle ending same =
 
 -- ---- agents
 
-pub applied_activation : (rows tables : Rows) (name : Text) (content : Content)
-    → content ≡ content_of rows → tables ≡ record rows { agents = with_activity rows name true }
-    → StandAt (effect rows (ActivateAgent name)) tables content
-unfolding effect
-applied_activation rows tables name content sorted set = record {
-  same = set;
-  sorted = sorted ∙ sym (content_of-activity rows name true);
-}
+pub sorted-activity : (rows tables : Rows) (name : Text) (active : Bool) (content : Content)
+    → content ≡ content_of rows → tables ≡ record rows { agents = with_activity rows name active } → content ≡ content_of tables
+sorted-activity rows tables name active content sorted set =
+    sorted ∙ sym (ap content_of set ∙ content_of-activity rows name active)
 
-pub applied_deactivation : (rows middle tables : Rows) (name : Text) (content : Content)
-    → StandAt (without_ended rows (offers_on name)) middle content
-    → tables ≡ record middle { agents = with_activity middle name false }
-    → StandAt (effect rows (DeactivateAgent name)) tables content
+pub effect-activated : (rows tables : Rows) (name : Text) → tables ≡ record rows { agents = with_activity rows name true }
+    → tables ≡ effect rows (ActivateAgent name)
 unfolding effect
-applied_deactivation rows middle tables name content ended set = record {
-  same = set ∙ (λ i. record (ended.same i) { agents = with_activity (ended.same i) name false });
-  sorted = ended.sorted ∙ sym (content_of-activity (without_ended rows (offers_on name)) name false);
-}
+effect-activated rows tables name set = set
 
-pub applied_departure : (rows middle tables : Rows) (name : Text) (content after : Content) (total : List Entry)
-    → StandAt (without_ended rows (all_on name)) middle content
+pub effect-deactivated : (rows middle tables : Rows) (name : Text) → middle ≡ without_ended rows (offers_on name)
+    → tables ≡ record middle { agents = with_activity middle name false } → tables ≡ effect rows (DeactivateAgent name)
+unfolding effect
+effect-deactivated rows middle tables name ended set =
+    set ∙ (λ i. record (ended i) { agents = with_activity (ended i) name false })
+
+pub effect-departed : (rows middle tables : Rows) (name : Text) → middle ≡ without_ended rows (all_on name)
+    → tables ≡ agent_removed middle name → tables ≡ effect rows (RemoveAgent name)
+unfolding effect
+effect-departed rows middle tables name ended removed =
+    let twice = ended_twice rows (all_on name) in
+    removed
+    ∙ ap (λ (r : Rows). agent_removed r name) ended
+    ∙ (λ i. record (twice i) { agents = filter (λ a. not (same_text a.name name)) rows.agents; filters = filters_without_agent name rows.filters })
+
+pub sorted-departed : (middle tables : Rows) (name : Text) (content after : Content) (total : List Entry)
+    → content ≡ content_of middle → without_ended middle (all_on name) ≡ middle
     → tables ≡ agent_removed middle name
     → after ≡ record content { total = total }
-    → total ≡ cluster_total (filter (λ a. not (same_text a.name name)) rows.agents)
-    → StandAt (effect rows (RemoveAgent name)) tables after
-unfolding effect
-applied_departure rows middle tables name content after total ended removed set sum =
-    let start : Rows = without_ended rows (all_on name) in
-    let twice = ended_twice rows (all_on name) in
-    let same : agent_removed start name ≡ agent_removed rows name
-    = λ i. record (twice i) { agents = filter (λ a. not (same_text a.name name)) rows.agents; filters = filters_without_agent name rows.filters } in
-    record {
-      same = removed ∙ ap (λ (r : Rows). agent_removed r name) ended.same ∙ same;
-      sorted = set
-          ∙ (λ i. record (ended.sorted i) { total = sum i })
-          ∙ sym (content_of-agent_removed start name twice)
-          ∙ ap content_of same;
-    }
+    → total ≡ cluster_total (filter (λ a. not (same_text a.name name)) middle.agents)
+    → after ≡ content_of tables
+sorted-departed middle tables name content after total sorted nothing removed set sum =
+    set
+    ∙ (λ i. record (sorted i) { total = sum i })
+    ∙ sym (ap content_of removed ∙ content_of-agent_removed middle name nothing)
 
 -- ---- frameworks
 
@@ -127,33 +123,33 @@ one_found p (x ∷ xs) some = elim (cases_Bool (p x)) [
 ]
 
 -- its clients can be removed from the sorter
-pub AreKnown-ended : (rows : Rows) (name : Text) (f : FrameworkRow) (content : Content) (paths : List Path)
-    → AreFrameworks rows.frameworks → find (λ f. same_text f.name name) rows.frameworks ≡ Some f
-    → content ≡ content_of (without_ended rows (all_of name)) → paths ≡ client_paths name f.clients
+pub AreKnown-ended : (middle : Rows) (name : Text) (f : FrameworkRow) (content : Content) (paths : List Path)
+    → AreFrameworks middle.frameworks → find (λ f. same_text f.name name) middle.frameworks ≡ Some f
+    → content ≡ content_of middle → paths ≡ client_paths name f.clients
     → AreKnown content paths
-AreKnown-ended rows name f content paths right found sorted same =
-    rw (sorted, same) (AreKnown-removing (without_ended rows (all_of name)) name f right found)
+AreKnown-ended middle name f content paths right found sorted same = rw (sorted, same) (AreKnown-removing middle name f right found)
 
-pub applied_leaving : (rows middle tables : Rows) (name : Text) (f : FrameworkRow) (content after : Content) (paths : List Path)
-    → AreFrameworks rows.frameworks → find (λ f. same_text f.name name) rows.frameworks ≡ Some f
-    → StandAt (without_ended rows (all_of name)) middle content
+pub sorted-left : (middle tables : Rows) (name : Text) (f : FrameworkRow) (content after : Content) (paths : List Path)
+    → AreFrameworks middle.frameworks → find (λ f. same_text f.name name) middle.frameworks ≡ Some f
+    → content ≡ content_of middle → without_ended middle (all_of name) ≡ middle
     → tables ≡ framework_removed middle name
     → after ≡ without_all content paths
     → paths ≡ client_paths name f.clients
-    → StandAt (effect rows (RemoveFramework name)) tables after
+    → after ≡ content_of tables
+sorted-left middle tables name f content after paths right found sorted nothing removed taken told =
+    taken
+    ∙ (λ i. without_all (sorted i) (told i))
+    ∙ content_of-framework_removed middle name f right found nothing
+    ∙ sym (ap content_of removed)
+
+pub effect-left : (rows middle tables : Rows) (name : Text) → middle ≡ without_ended rows (all_of name)
+    → tables ≡ framework_removed middle name → tables ≡ effect rows (RemoveFramework name)
 unfolding effect
-applied_leaving rows middle tables name f content after paths right found ended removed taken told =
-    let start : Rows = without_ended rows (all_of name) in
+effect-left rows middle tables name ended removed =
     let twice = ended_twice rows (all_of name) in
-    let same : framework_removed start name ≡ framework_removed rows name
-    = λ i. record (twice i) { frameworks = filter (λ f. not (same_text f.name name)) rows.frameworks; filters = filters_without_framework name rows.filters } in
-    record {
-      same = removed ∙ ap (λ (r : Rows). framework_removed r name) ended.same ∙ same;
-      sorted = taken
-          ∙ (λ i. without_all (ended.sorted i) (told i))
-          ∙ content_of-framework_removed start name f right found twice
-          ∙ ap content_of same;
-    }
+    removed
+    ∙ ap (λ (r : Rows). framework_removed r name) ended
+    ∙ (λ i. record (twice i) { frameworks = filter (λ f. not (same_text f.name name)) rows.frameworks; filters = filters_without_framework name rows.filters })
 
 -- ---- clients
 
@@ -164,31 +160,36 @@ pub known-client : (rows : Rows) (role : Path) (framework : Text) (content : Con
 known-client rows role framework content path sorted is known =
     (λ i. has_client (sorted i) (is i)) ∙ has_client-registered rows (record { role = role; framework = framework }) known
 
-pub applied_suppression : (rows tables : Rows) (role : Path) (framework : Text) (content after : Content) (path : Path)
+pub sorted-suppressed : (rows tables : Rows) (role : Path) (framework : Text) (content after : Content) (path : Path)
     → content ≡ content_of rows → path ≡ client_path role framework
     → tables ≡ record rows { frameworks = with_suppression rows (record { role = role; framework = framework }) true }
     → after ≡ with_change content path (sorter.activated false)
-    → StandAt (effect rows (Suppress framework role)) tables after
-unfolding effect
-applied_suppression rows tables role framework content after path sorted is set changed = record {
-  same = set;
-  sorted = changed
-      ∙ (λ i. with_change (sorted i) (is i) (sorter.activated false))
-      ∙ sym (content_of-suppression rows (record { role = role; framework = framework }) true);
-}
+    → after ≡ content_of tables
+sorted-suppressed rows tables role framework content after path sorted is set changed =
+    changed
+    ∙ (λ i. with_change (sorted i) (is i) (sorter.activated false))
+    ∙ sym (ap content_of set ∙ content_of-suppression rows (record { role = role; framework = framework }) true)
 
-pub applied_revival : (rows tables : Rows) (role : Path) (framework : Text) (content after : Content) (path : Path)
+pub effect-suppressed : (rows tables : Rows) (role : Path) (framework : Text)
+    → tables ≡ record rows { frameworks = with_suppression rows (record { role = role; framework = framework }) true }
+    → tables ≡ effect rows (Suppress framework role)
+unfolding effect
+effect-suppressed rows tables role framework set = set
+
+pub sorted-revived : (rows tables : Rows) (role : Path) (framework : Text) (content after : Content) (path : Path)
     → content ≡ content_of rows → path ≡ client_path role framework
     → tables ≡ revived rows (record { role = role; framework = framework })
     → after ≡ with_change content path (sorter.activated true)
-    → StandAt (effect rows (Revive framework role)) tables after
-unfolding effect
-applied_revival rows tables role framework content after path sorted is set changed =
+    → after ≡ content_of tables
+sorted-revived rows tables role framework content after path sorted is set changed =
     let client : Client = record { role = role; framework = framework } in
-    record {
-      same = set;
-      sorted = changed
-          ∙ (λ i. with_change (sorted i) (is i) (sorter.activated true))
-          ∙ sym (content_of-suppression rows client false)
-          ∙ sym (content_of-filters (record rows { frameworks = with_suppression rows client false }) (filters_without_client client rows.filters));
-    }
+    changed
+    ∙ (λ i. with_change (sorted i) (is i) (sorter.activated true))
+    ∙ sym (content_of-suppression rows client false)
+    ∙ sym (content_of-filters (record rows { frameworks = with_suppression rows client false }) (filters_without_client client rows.filters))
+    ∙ sym (ap content_of set)
+
+pub effect-revived : (rows tables : Rows) (role : Path) (framework : Text)
+    → tables ≡ revived rows (record { role = role; framework = framework }) → tables ≡ effect rows (Revive framework role)
+unfolding effect
+effect-revived rows tables role framework set = set

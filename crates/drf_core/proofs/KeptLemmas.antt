@@ -22,20 +22,19 @@ use Rattle.drf_rows.specs.Quota.{limits_with}
 use Rattle.drf_bundle.specs.Bundle.{relabel}
 use Rattle.drf_rows.specs.declared.rows.LimitRow.{LimitRow}
 use Rattle.drf_rows.specs.Weights.{weights_with}
-use Rattle.drf_rows.specs.RegistrationLaws.{framework_added, length-clients_of-framework_added}
+use Rattle.drf_rows.specs.laws.RegistrationLaws.{framework_added, length-clients_of-framework_added}
 use Rattle.drf_rows.specs.Consistent.{IsConsistent, IsFilter, IsNumberedByEvents}
-use Rattle.drf_rows.specs.ConsistentLaws.{conserved-consistent, conserved-live, numbers_within}
+use Rattle.drf_rows.specs.laws.ConsistentLaws.{conserved-consistent, conserved-live, numbers_within}
 use Rattle.drf_rows.specs.declared.event.Event.{Event}
 use Rattle.drf_rows.specs.declared.event.Event.TheVariants.{AddAgent, RemoveAgent, ActivateAgent, DeactivateAgent, SetAgent, AddFramework, RemoveFramework, Accept, Decline, Rescind, Finish, Suppress, Revive, Reserve, Unreserve, SetWeight, SetLimit, Cycle, Report}
 use Rattle.drf_rows.specs.declared.rows.AgentRow.{AgentRow}
 use Rattle.drf_rows.specs.Filters.{is_in_force}
-use Rattle.drf_rows.specs.ListLaws.{each_from, each_filter, length-filter_le}
-use Rattle.drf_rows.specs.MemberLaws.{IsConsistent-filters_kept}
+use Rattle.drf_rows.specs.laws.ListLaws.{each_from, each_filter, length-filter_le}
+use Rattle.drf_rows.specs.laws.MemberLaws.{IsConsistent-filters_kept}
 use Rattle.drf_rows.specs.declared.rows.FilterRow.{FilterRow}
 use Rattle.drf_rows.specs.declared.rows.FrameworkRow.{FrameworkRow}
 use Rattle.drf_rows.specs.declared.rows.OfferRow.{OfferRow}
 use Rattle.drf_rows.specs.declared.rows.Rows.{Rows}
-use Rattle.drf_sorter.specs.Content.{Content}
 use Rattle.drf_core.specs.Kept.{AreFew, IsKept}
 use Rattle.drf_core.specs.Machine.{IsSafe}
 use Rattle.drf_core.proofs.CycleLemmas.{turns-clients, turns-tables, turns-next_offer}
@@ -352,7 +351,7 @@ module _ (limits : LimitNumbers) (rows : Rows) (few : AreFew limits rows) (numbe
 
 -- ---- at all times
 
-module _ (content : Content) (limits : LimitNumbers) (rows : Rows) (kept : IsKept content limits rows) where
+module _ (limits : LimitNumbers) (rows : Rows) (kept : IsKept limits rows) where
   pub few_agents_kept : length rows.agents ≤ 4096
   few_agents_kept = omega (arith, kept.few.agents, kept.few.ceilings.agents.1)
 
@@ -378,11 +377,11 @@ pub consistent-live : (rows : Rows) → IsConsistent rows → IsConsistent (live
 consistent-live rows consistent = IsConsistent-filters_kept rows (is_in_force rows.clock) consistent
 
 -- what callers see of a core that is kept
-pub safe_kept : (content : Content) (limits : LimitNumbers) (rows : Rows) → IsKept content limits rows → IsSafe (live_rows rows)
-safe_kept content limits rows kept = record {
+pub safe_kept : (limits : LimitNumbers) (rows : Rows) → IsKept limits rows → IsSafe (live_rows rows)
+safe_kept limits rows kept = record {
   consistent = consistent-live rows kept.consistent;
   conserved = conserved-live rows (conserved-consistent rows kept.consistent);
-  numbers = numbers_bounded content limits rows kept;
-  next_offer = few_offers_kept content limits rows kept;
+  numbers = numbers_bounded limits rows kept;
+  next_offer = few_offers_kept limits rows kept;
   filters = filters_bounded rows kept.consistent;
 }

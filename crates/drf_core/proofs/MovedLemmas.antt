@@ -1,6 +1,6 @@
 -- What the sorter holds once a part of an agent moves, a limit is set, or a total is another; and that cases of refusal come in two parts.
 use Rattle.std.proofs.Common.{◌≡◌, ◌<◌, ◌≤◌, ◌^◌, true, false, List, ◌++◌, length, Some, None, refl, sym, ap, ◌∙◌, arith}
-use Rattle.std.specs.Prelude.{Bool, not, filter, Result, Ok, Err, OnOk, OnErr}
+use Rattle.std.specs.Prelude.{Bool, not, filter}
 use Rattle.std.proofs.lemmas.Bool.{not-false}
 use Rattle.drf_role.specs.Text.{Text, same_text}
 use Rattle.drf_role.specs.Path.{Path}
@@ -12,14 +12,14 @@ use Rattle.drf_rows.specs.LimitNumbers.{LimitNumbers}
 use Rattle.drf_rows.specs.Consistent.{IsConsistent, IsAgent}
 use Rattle.drf_rows.specs.Cycle.{free_of}
 use Rattle.drf_rows.specs.Held.{cluster_total}
-use Rattle.drf_rows.specs.ListLaws.{each_filter, length-filter_le}
+use Rattle.drf_rows.specs.laws.ListLaws.{each_filter, length-filter_le}
 use Rattle.drf_rows.specs.Members.{has_agent}
 use Rattle.drf_rows.specs.Quota.{limits_with}
-use Rattle.drf_rows.specs.ReportedShares.{small_total}
-use Rattle.drf_rows.specs.ReservationLaws.{IsAsked, can_move-reserve, can_move-unreserve, can_exchange-reserve, can_exchange-unreserve, found_known}
+use Rattle.drf_rows.specs.laws.ReportedShares.{small_total}
+use Rattle.drf_rows.specs.laws.ReservationLaws.{IsAsked, can_move-reserve, can_move-unreserve, can_exchange-reserve, can_exchange-unreserve, found_known}
 use Rattle.drf_rows.specs.Step.{cases_of, refusal_of, effect}
 use Rattle.drf_rows.specs.Totals.{CanExchange, agent_at, exchanged, with_total, with_other_total}
-use Rattle.drf_rows.specs.TotalsLaws.{cluster_total-exchanged, cluster_total-other_total}
+use Rattle.drf_rows.specs.laws.TotalsLaws.{cluster_total-exchanged, cluster_total-other_total}
 use Rattle.drf_rows.specs.declared.limits.TheConstants.{LARGEST_AMOUNT}
 use Rattle.drf_rows.specs.declared.event.Event.{Event}
 use Rattle.drf_rows.specs.declared.event.Event.TheVariants.{AddAgent, RemoveAgent, ActivateAgent, DeactivateAgent, SetAgent, AddFramework, RemoveFramework, Accept, Decline, Rescind, Finish, Suppress, Revive, Reserve, Unreserve, SetWeight, SetLimit, Cycle, Report}
@@ -29,7 +29,6 @@ use Rattle.drf_rows.specs.declared.rows.Rows.{Rows}
 use Rattle.drf_sorter.specs.Content.{Content}
 use Rattle.drf_tables.specs.Changing.{CanExchangeOn, CanHaveTotal}
 use Rattle.drf_core.specs.Content.{content_of}
-use Rattle.drf_core.specs.Kept.{StandAt}
 use Rattle.drf_core.specs.Refusing.{early_cases_of, late_cases_of}
 use Rattle.drf_core.proofs.Welcome.{no_case_of, small_amounts}
 
@@ -143,19 +142,21 @@ content_of-other_total rows name a total consistent found right =
     let same = cluster_total-other_total rows name a total consistent found right in
     λ i. record { clients = (content_of rows).clients; total = sym same i; weights = rows.weights }
 
-pub applied_total : (rows tables : Rows) (agent : Text) (total : List Resource) (sum : List Entry) (before after : Content)
+pub sorted-total : (rows tables : Rows) (agent : Text) (total : List Resource) (sum : List Entry) (before after : Content)
     → before ≡ content_of rows → IsConsistent rows → CanHaveTotal rows agent total
     → tables ≡ record rows { agents = with_other_total rows agent total }
     → sum ≡ plus (cluster_total (filter (λ b. not (same_text b.name agent)) rows.agents)) (quantities_of total)
     → after ≡ record before { total = sum }
-    → StandAt (effect rows (SetAgent agent total)) tables after
+    → after ≡ content_of tables
+sorted-total rows tables agent total sum before after sorted consistent can same is set =
+    set
+    ∙ (λ i. record (sorted i) { total = is i })
+    ∙ sym (ap content_of same ∙ content_of-other_total rows agent can.row total consistent can.found (record { total = can.bundle; small = can.small }))
+
+pub effect-total : (rows tables : Rows) (agent : Text) (total : List Resource)
+    → tables ≡ record rows { agents = with_other_total rows agent total } → tables ≡ effect rows (SetAgent agent total)
 unfolding effect
-applied_total rows tables agent total sum before after sorted consistent can same is set = record {
-  same = same;
-  sorted = set
-      ∙ (λ i. record (sorted i) { total = is i })
-      ∙ sym (content_of-other_total rows agent can.row total consistent can.found (record { total = can.bundle; small = can.small }));
-}
+effect-total rows tables agent total same = same
 
 -- ---- a limit
 
@@ -171,16 +172,3 @@ effect-limit rows tables role limit same = same
 pub content_of-limit : (rows : Rows) (role : Path) (limit : List Entry) → content_of (effect rows (SetLimit role limit)) ≡ content_of rows
 unfolding effect
 content_of-limit rows role limit = content_of-limits rows (limits_with rows.limits role limit)
-
--- ---- what leaves the sorter alone
-
-pub stand_alone : {T E : Type 0} (r : Result T E) (rows tables after : Rows) (content : Content) → content ≡ content_of rows
-    → OnOk r (tables ≡ after) → OnOk r (content_of tables ≡ content_of rows) → OnOk r (StandAt after tables content)
-stand_alone (Ok t) rows tables after content sorted same alike =
-    record { same = same; sorted = sorted ∙ sym alike ∙ ap content_of same }
-stand_alone (Err e) rows tables after content sorted same alike = tt
-
-pub stand_still : {T E : Type 0} (r : Result T E) (rows tables : Rows) (content : Content) → content ≡ content_of rows
-    → OnErr r (tables ≡ rows) → OnErr r (StandAt rows tables content)
-stand_still (Ok t) rows tables content sorted same = tt
-stand_still (Err e) rows tables content sorted same = record { same = same; sorted = sorted }

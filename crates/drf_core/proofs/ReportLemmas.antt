@@ -14,17 +14,17 @@ use Rattle.drf_role.specs.Path.{Path, begins_with, same_path}
 use Rattle.drf_role.specs.PathLaws.{same_path-true, same_path_itself}
 use Rattle.drf_bundle.specs.Bundle.{quantities_of}
 use Rattle.drf_bundle.specs.Quantities.{is_in_order, plus, without_zeros}
-use Rattle.drf_bundle.specs.QuantitiesLaws.{amount-without_zeros, in_order-plus, no_zeros-without_zeros, same_quantities}
+use Rattle.drf_bundle.specs.laws.QuantitiesLaws.{amount-without_zeros, in_order-plus, no_zeros-without_zeros, same_quantities}
 use Rattle.drf_bundle.specs.declared.quantities.Entry.{Entry}
 use Rattle.drf_rows.specs.Client.{Client, path_of}
 use Rattle.drf_rows.specs.Consistent.{IsConsistent}
-use Rattle.drf_rows.specs.ConsistentLaws.{bundles-consistent}
+use Rattle.drf_rows.specs.laws.ConsistentLaws.{bundles-consistent}
 use Rattle.drf_rows.specs.Held.{client_of, clients_in, clients_of, cluster_total, held_by, standing_of}
 use Rattle.drf_rows.specs.Holdings.{Holding, holdings_of, is_under}
-use Rattle.drf_rows.specs.Laws.{are_in_order, paths_told}
+use Rattle.drf_rows.specs.laws.Laws.{are_in_order, paths_told}
 use Rattle.drf_rows.specs.Offers.{is_empty}
 use Rattle.drf_rows.specs.Report.{path_cmp, held_under, node_line, nodes_of, report_of, terms_of}
-use Rattle.drf_rows.specs.ReportLaws.{amount-held_under, nodes_begin_paths, nodes_rise}
+use Rattle.drf_rows.specs.laws.ReportLaws.{amount-held_under, nodes_begin_paths, nodes_rise}
 use Rattle.drf_rows.specs.Share.{Standing, share_of, weighted_share_of}
 use Rattle.drf_rows.specs.declared.report.NodeLine.{NodeLine}
 use Rattle.drf_rows.specs.declared.rows.ClientRow.{ClientRow}

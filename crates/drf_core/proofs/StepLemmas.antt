@@ -4,22 +4,19 @@ use Rattle.std.specs.Prelude.{slice_get}
 use Rattle.drf_rows.specs.LimitNumbers.{LimitNumbers, IsWithinCeilings}
 use Rattle.drf_rows.specs.Step.{opening, live_rows, first_case, refusal_of, effect, answer, rows_after, rows_after_all, reply_to, replies_to}
 use Rattle.drf_rows.specs.Consistent.{IsConsistent, IsNumberedByEvents}
-use Rattle.drf_rows.specs.StepLaws.{reply_to-refused, reply_to-accepted, rows_after-refused, rows_after-accepted}
-use Rattle.drf_rows.specs.RunLaws.{rows_after_all-append, replies_to-append}
-use Rattle.drf_rows.specs.LiveLaws.{reply_to-same_live, rows_after-same_live}
-use Rattle.drf_rows.specs.RegistrationLaws.{IsConsistent-opening}
+use Rattle.drf_rows.specs.laws.StepLaws.{reply_to-refused, reply_to-accepted, rows_after-refused, rows_after-accepted}
+use Rattle.drf_rows.specs.laws.RunLaws.{rows_after_all-append, replies_to-append}
+use Rattle.drf_rows.specs.laws.LiveLaws.{reply_to-same_live, rows_after-same_live}
+use Rattle.drf_rows.specs.laws.RegistrationLaws.{IsConsistent-opening}
 use Rattle.drf_rows.specs.declared.event.Event.{Event}
 use Rattle.drf_rows.specs.declared.event.Event.TheVariants.{AddAgent, RemoveAgent, ActivateAgent, DeactivateAgent, SetAgent, AddFramework, RemoveFramework, Accept, Decline, Rescind, Finish, Suppress, Revive, Reserve, Unreserve, SetWeight, SetLimit, Cycle, Report}
 use Rattle.drf_rows.specs.declared.reply.Refusal.{Refusal}
 use Rattle.drf_rows.specs.declared.reply.Reply.{Reply}
 use Rattle.drf_rows.specs.declared.reply.Reply.TheVariants.{Refused}
 use Rattle.drf_rows.specs.declared.rows.Rows.{Rows}
-use Rattle.drf_sorter.specs.Content.{Content, empty}
 use Rattle.drf_core.specs.Machine.{Engine, IsAfter, IsAfterAll}
-use Rattle.drf_core.specs.Content.{content_of}
 use Rattle.drf_core.specs.Kept.{AreFew, IsKept}
 use Rattle.drf_core.specs.Refusing.{cases_of_agent, cases_of_move, early_refusal_of}
-use Rattle.drf_core.proofs.ContentMembers.{content_of-filters}
 use Rattle.drf_core.proofs.KeptLemmas.{IsCountable, countable_after}
 use Rattle.drf_core.proofs.RefusalLemmas.{told_early}
 
@@ -29,10 +26,8 @@ take_one_more [] i x at = cc
 take_one_more (y ∷ xs) zero x at = let same : y ≡ x = cc in ap (λ z. z ∷ []) same
 take_one_more (y ∷ xs) (suc i) x at = rw (add-one (suc i)) (ap (λ zs. y ∷ zs) (rw (add-one i) at (take_one_more xs i x at)))
 
-pub IsKept-opening : (content : Content) (limits : LimitNumbers) (rows : Rows) → rows ≡ opening → content ≡ empty → IsWithinCeilings limits → IsKept content limits rows
-unfolding content_of
-IsKept-opening content limits rows opens nothing within = rw (opens, nothing) (record {
-  sorted = refl;
+pub IsKept-opening : (limits : LimitNumbers) (rows : Rows) → rows ≡ opening → IsWithinCeilings limits → IsKept limits rows
+IsKept-opening limits rows opens within = rw opens (record {
   consistent = IsConsistent-opening;
   few = record { ceilings = within; agents = omega arith; frameworks = omega arith; clients = omega arith; weights = omega arith; events = omega arith };
   numbered = omega arith;
@@ -41,10 +36,9 @@ IsKept-opening content limits rows opens nothing within = rw (opens, nothing) (r
 -- ---- a step
 
 -- filters are forgotten
-pub IsKept-forgot : (content : Content) (limits : LimitNumbers) (rows new : Rows) → IsKept content limits rows
-    → new ≡ record rows { filters = new.filters } → IsConsistent new → IsKept content limits new
-IsKept-forgot content limits rows new kept same right = record {
-  sorted = kept.sorted ∙ sym (ap content_of same ∙ content_of-filters rows new.filters);
+pub IsKept-forgot : (limits : LimitNumbers) (rows new : Rows) → IsKept limits rows
+    → new ≡ record rows { filters = new.filters } → IsConsistent new → IsKept limits new
+IsKept-forgot limits rows new kept same right = record {
   consistent = right;
   few = rw same (record {
     ceilings = kept.few.ceilings;
@@ -58,16 +52,16 @@ IsKept-forgot content limits rows new kept same right = record {
 }
 
 -- rows that stand for old ones: kept, and with the same live rows
-pub record IsReady (content : Content) (limits : LimitNumbers) (old rows : Rows) : Type 0 where
-  pub kept : IsKept content limits rows
+pub record IsReady (limits : LimitNumbers) (old rows : Rows) : Type 0 where
+  pub kept : IsKept limits rows
   pub live : live_rows rows ≡ live_rows old
 
 -- filters were forgotten, and then a test of refusal left the rows alone
-pub IsReady-tested : (content : Content) (limits : LimitNumbers) (old forgot tested : Rows) → IsKept content limits old
+pub IsReady-tested : (limits : LimitNumbers) (old forgot tested : Rows) → IsKept limits old
     → live_rows forgot ≡ live_rows old → forgot ≡ record old { filters = forgot.filters } → IsConsistent forgot → tested ≡ forgot
-    → IsReady content limits old tested
-IsReady-tested content limits old forgot tested kept live others right same =
-    subst (IsReady content limits old) (sym same) (record { kept = IsKept-forgot content limits old forgot kept others right; live = live })
+    → IsReady limits old tested
+IsReady-tested limits old forgot tested kept live others right same =
+    subst (IsReady limits old) (sym same) (record { kept = IsKept-forgot limits old forgot kept others right; live = live })
 
 -- what is answered to an event that is not refused is no refusal
 answer_told : (before after : Rows) (event : Event) (refusal : Refusal) → answer before after event ≡ Refused refusal → Some refusal ≡ None
@@ -154,7 +148,7 @@ early_none limits rows event none = by (early_refusal_of limits rows event) refl
         case ∙ told
 
 -- an event that was applied and counted
-module _ (limits : LimitNumbers) (rows tables counted : Rows) (event : Event) (before : Content) (kept : IsKept before limits rows)
+module _ (limits : LimitNumbers) (rows tables counted : Rows) (event : Event) (kept : IsKept limits rows)
     (none : refusal_of limits rows event ≡ None) (applied : tables ≡ effect rows event)
     (is_counted : counted ≡ record tables { accepted = tables.accepted + 1 }) where
   countable : IsCountable limits rows (effect rows event)
@@ -172,10 +166,8 @@ module _ (limits : LimitNumbers) (rows tables counted : Rows) (event : Event) (b
   pub accepted-applied : tables.accepted ≡ rows.accepted
   accepted-applied = ap (λ (r : Rows). r.accepted) applied ∙ countable.accepted
 
-  pub IsKept-counted : (after : Content) → after ≡ content_of (effect rows event) → IsConsistent counted → IsKept after limits counted
-  unfolding content_of
-  IsKept-counted after sorted right = record {
-    sorted = sorted ∙ sym (ap content_of counted_is);
+  pub IsKept-counted : IsConsistent counted → IsKept limits counted
+  IsKept-counted right = record {
     consistent = right;
     few = subst (AreFew limits) (sym counted_is) countable.few;
     numbered = subst IsNumberedByEvents (sym counted_is) countable.numbered;

@@ -11,11 +11,11 @@ use Rattle.drf_role.specs.Path.{Path}
 use Rattle.drf_bundle.specs.declared.resource.Resource.{Resource}
 use Rattle.drf_rows.specs.Client.{Client, path_of}
 use Rattle.drf_rows.specs.Cycle.{free_of, grant, is_allocatable, new_offer, with_offer, tried, all_tried, turn, turn_order}
-use Rattle.drf_rows.specs.CycleLaws.{free_of-with_offer_other, all_tried_none}
-use Rattle.drf_rows.specs.ListLaws.{each_from}
+use Rattle.drf_rows.specs.laws.CycleLaws.{free_of-with_offer_other, all_tried_none}
+use Rattle.drf_rows.specs.laws.ListLaws.{each_from}
 use Rattle.drf_rows.specs.Consistent.{are_distinct}
 use Rattle.drf_rows.specs.Held.{is_registered}
-use Rattle.drf_rows.specs.ConsistentLaws.{same_text-swap}
+use Rattle.drf_rows.specs.laws.ConsistentLaws.{same_text-swap}
 use Rattle.drf_rows.specs.declared.rows.AgentRow.{AgentRow}
 use Rattle.drf_rows.specs.declared.rows.OfferRow.{OfferRow}
 use Rattle.drf_rows.specs.declared.rows.Rows.{Rows}

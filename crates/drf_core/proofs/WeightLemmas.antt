@@ -1,5 +1,5 @@
 -- Weights of roles: how many rows there are, and that a cycle leaves them alone.
-use Rattle.std.proofs.Common.{◌≡◌, ℕ, ◌+◌, ◌≤◌, Bool, true, false, List, [], ◌∷◌, Option, Some, None, length, refl, ap, ◌∙◌, inl, inr, arith, nat_lt}
+use Rattle.std.proofs.Common.{◌≡◌, ℕ, ◌+◌, ◌≤◌, Bool, true, false, List, [], ◌∷◌, Option, Some, None, length, refl, sym, ap, ◌∙◌, inl, inr, arith, nat_lt}
 use Rattle.std.specs.List.{list_any}
 use Rattle.std.specs.Option.{option_map_or}
 use Rattle.std.proofs.lemmas.Bool.{cases_Bool, ltb-false}
@@ -16,7 +16,6 @@ use Rattle.drf_rows.specs.declared.rows.WeightRow.{WeightRow}
 use Rattle.drf_rows.specs.declared.rows.Rows.{Rows}
 use Rattle.drf_sorter.specs.Content.{Content, with_weight}
 use Rattle.drf_core.specs.Content.{content_of}
-use Rattle.drf_core.specs.Kept.{StandAt}
 
 -- ---- how many rows there are
 
@@ -70,13 +69,16 @@ weights-turns rows (agent ∷ agents) =
 
 -- ---- a weight that is set
 
-pub applied_weight : (rows tables : Rows) (role : Path) (weight : ℕ) (before after : Content)
+pub effect-weight : (rows tables : Rows) (role : Path) (weight : ℕ)
+    → tables ≡ record rows { weights = weights_with rows.weights role weight } → tables ≡ effect rows (SetWeight role weight)
+unfolding effect
+effect-weight rows tables role weight same = same
+
+pub sorted-weight : (rows tables : Rows) (role : Path) (weight : ℕ) (before after : Content)
     → before ≡ content_of rows
     → tables ≡ record rows { weights = weights_with rows.weights role weight }
     → after ≡ with_weight before role weight
-    → StandAt (effect rows (SetWeight role weight)) tables after
-unfolding effect content_of
-applied_weight rows tables role weight before after sorted same set = record {
-  same = same;
-  sorted = set ∙ ap (λ (c : Content). with_weight c role weight) sorted;
-}
+    → after ≡ content_of tables
+unfolding content_of
+sorted-weight rows tables role weight before after sorted same set =
+    set ∙ ap (λ (c : Content). with_weight c role weight) sorted ∙ sym (ap content_of same)

@@ -1,11 +1,9 @@
--- What holds between the parts of a core at all times.
-use Rattle.std.specs.Prelude.{◌≡◌, ◌≤◌, length}
+-- What holds of the rows of a core at all times.
+use Rattle.std.specs.Prelude.{◌≤◌, length}
 use Rattle.drf_rows.specs.LimitNumbers.{LimitNumbers, IsWithinCeilings}
 use Rattle.drf_rows.specs.Held.{clients_of}
 use Rattle.drf_rows.specs.Consistent.{IsConsistent, IsNumberedByEvents}
 use Rattle.drf_rows.specs.declared.rows.Rows.{Rows}
-use Rattle.drf_sorter.specs.Content.{Content}
-use Rattle.drf_core.specs.Content.{content_of}
 
 -- agents, frameworks, clients, weights and accepted events are within the limits, and the limits within their ceilings
 pub record AreFew (limits : LimitNumbers) (rows : Rows) : Type 0 where
@@ -16,14 +14,8 @@ pub record AreFew (limits : LimitNumbers) (rows : Rows) : Type 0 where
   pub weights : length rows.weights ≤ limits.weights
   pub events : rows.accepted ≤ limits.events
 
--- the sorter holds what the rows say, and the rows are consistent, within the limits, and numbered by their events
-pub record IsKept (content : Content) (limits : LimitNumbers) (rows : Rows) : Type 0 where
-  pub sorted : content ≡ content_of rows
+-- the rows are consistent, within the limits, and numbered by their events
+pub record IsKept (limits : LimitNumbers) (rows : Rows) : Type 0 where
   pub consistent : IsConsistent rows
   pub few : AreFew limits rows
   pub numbered : IsNumberedByEvents rows
-
--- tables and sorter stand at some rows
-pub record StandAt (rows tables : Rows) (content : Content) : Type 0 where
-  pub same : tables ≡ rows
-  pub sorted : content ≡ content_of rows

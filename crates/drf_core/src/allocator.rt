@@ -3,14 +3,10 @@ ghost use Rattle.drf_sorter.specs.Work.{Adds};
 ghost use Rattle.drf_core.specs.Working.{allowance, allowance_of_all};
 ghost use Rattle.drf_core.specs.Machine.{IsOpened, IsSafe, IsSame, IsAfter, IsAfterAll, HasRun};
 
-use crate::apply::apply;
-use crate::explain::explain;
-use crate::refusal::refusal;
-use crate::report::report;
+use crate::cluster::Cluster;
 use drf_explain::Finding;
 use drf_rows::{Event, Limits, Reply, Report, Rows};
 use drf_sorter::Sorter;
-use drf_tables::Tables;
 use std::alloc::{AllocError, Global};
 use std::marker::Model;
 
@@ -19,8 +15,7 @@ use std::marker::Model;
 pub struct Core<S: Sorter> {
     alloc: Global,
     limits: Limits,
-    tables: Tables,
-    sorter: S,
+    cluster: Cluster<S>,
 }
 
 impl<S: Sorter> Model for Core<S> {
@@ -32,9 +27,9 @@ impl<S: Sorter> Model for Core<S> {
 
     ghost use Rattle.drf_core.specs.Kept.{IsKept};
 
-    ghost view = { λ c. record { limits = c.limits; rows = c.tables.rows; work = S.work c.sorter } };
+    ghost view = { λ c. record { limits = c.limits; rows = c.cluster.rows; work = c.cluster.work } };
 
-    ghost invariant = { λ c. IsKept (S.content c.sorter) c.limits c.tables.rows };
+    ghost invariant = { λ c. IsKept c.limits c.cluster.rows };
 }
 
 impl<S: Sorter> Core<S> {
@@ -54,8 +49,7 @@ impl<S: Sorter> Core<S> {
         Ok(Core {
             alloc,
             limits,
-            tables: Tables::new(alloc),
-            sorter: S::open(alloc)?,
+            cluster: Cluster::open(alloc)?,
         })
     }
 
@@ -72,18 +66,12 @@ impl<S: Sorter> Core<S> {
         ensures safe { IsSafe (live_rows self.new.rows) }
         ensures work { OnOk result (MatchOption (allowance self.old.limits self.old.rows event) (Unit {0}) (Adds S.COUNTED self.old.work self.new.work)) }
     {
-        self.tables.forget_spent();
-        if let Some(refusal) = refusal(&self.limits, &mut self.tables, &event)? {
+        self.cluster.forget_spent();
+        if let Some(refusal) = self.cluster.refusal(&self.limits, &event)? {
             return Ok(Reply::Refused(refusal));
         }
-        let reply = apply(
-            self.alloc,
-            &self.limits,
-            &mut self.tables,
-            &mut self.sorter,
-            event,
-        )?;
-        self.tables.count_event();
+        let reply = self.cluster.apply(self.alloc, &self.limits, event)?;
+        self.cluster.count_event();
         Ok(reply)
     }
 
@@ -118,14 +106,14 @@ impl<S: Sorter> Core<S> {
         ensures content { S.content result.now ≡ content_of self.now.rows }
         ensures work { S.work result.now ≡ self.now.work }
     {
-        &self.sorter
+        self.cluster.sorter()
     }
 
     /// What there is, and who holds what of it.
     pub fn report(&self) -> Result<Report, AllocError>
         ensures { IfOk result (λ report. report ≡ report_of self.now.rows) }
     {
-        report(&self.tables, &self.sorter)
+        self.cluster.report()
     }
 
     /// What a cycle at that moment, in milliseconds, would offer and to whom, and where it would offer nothing, why. The clock never
@@ -134,9 +122,7 @@ impl<S: Sorter> Core<S> {
         requires { at ≤ LATEST_MOMENT }
         ensures { IfOk result (λ findings. findings.items ≡ explained (live_rows self.now.rows) at) }
     {
-        let mut tables = self.tables.copy()?;
-        let mut sorter = self.sorter.copy()?;
-        explain(self.alloc, &self.limits, &mut tables, &mut sorter, at)
+        self.cluster.explain(self.alloc, &self.limits, at)
     }
 
     /// An allocator of its own with the same rows and limits.
@@ -146,8 +132,7 @@ impl<S: Sorter> Core<S> {
         Ok(Core {
             alloc: self.alloc,
             limits: self.limits,
-            tables: self.tables.copy()?,
-            sorter: self.sorter.copy()?,
+            cluster: self.cluster.copy()?,
         })
     }
 
@@ -156,6 +141,6 @@ impl<S: Sorter> Core<S> {
         ensures rows { IfOk result (λ rows. rows ≡ live_rows self.now.rows) }
         ensures safe { IfOk result IsSafe }
     {
-        self.tables.rows()
+        self.cluster.rows()
     }
 }

@@ -10,14 +10,14 @@ ghost use Rattle.drf_rows.specs.Step.{line_told, new_offers, refusal_of, effect}
 ghost use Rattle.drf_rows.specs.declared.event.Event.TheVariants.{Cycle};
 ghost use Rattle.drf_tables.specs.Drafts.{with_offers};
 ghost use Rattle.drf_core.specs.Content.{content_of};
-ghost use Rattle.drf_core.specs.Kept.{AreFew, IsKept};
+ghost use Rattle.drf_core.specs.Kept.{IsKept};
 ghost use Rattle.drf_core.specs.Entitling.{IsEntitled, IsQuotaOf};
 ghost use Rattle.drf_rows.specs.declared.rows.Rows.{Rows};
 ghost use Rattle.drf_core.specs.Drafting.{IsDrafting, CanCount, IsRegisteredPath, IsFreeAt, IsTried, HasLeft, is_open_at, turn_at, turns_of};
-ghost use Rattle.drf_core.specs.Kept.{StandAt};
 ghost use Rattle.drf_sorter.specs.Work.{Adds};
 ghost use Rattle.drf_core.specs.Working.{AddsDrafts, nodes_of, offered_to, touched};
 
+use crate::cluster::Cluster;
 use crate::free::{Free, grant, is_worth_an_offer};
 use drf_amount::Algebra;
 use drf_bundle::Bundle;
@@ -253,7 +253,8 @@ fn offer_all<S: Sorter>(
     requires drafting { IsDrafting (S.content sorter.old) tables.old.rows drafts.old.offers.items }
     requires none { drafts.old.offers.items ≡ [] }
     requires nothing_left { drafts.old.lefts.items ≡ [] }
-    ensures ok { OnOk result (StandAt (turns_of tables.old.rows) tables.new.rows (S.content sorter.new)) }
+    ensures ok { OnOk result (tables.new.rows ≡ turns_of tables.old.rows) }
+    ensures sorted { OnOk result (S.content sorter.new ≡ content_of tables.new.rows) }
     ensures lines { IfOk result (λ lines. lines.items ≡ map line_told (new_offers tables.old.rows (turns_of tables.old.rows))) }
     ensures err { OnErr result (tables.new.rows ≡ tables.old.rows) }
     ensures drafting { OnErr result (IsDrafting (S.content sorter.new) tables.old.rows drafts.new.offers.items) }
@@ -270,36 +271,37 @@ fn offer_all<S: Sorter>(
     Ok(lines)
 }
 
-/// The allocation cycle, at a moment in milliseconds.
-pub fn cycle<S: Sorter>(
-    alloc: Global,
-    limits: &Limits,
-    tables: &mut Tables,
-    sorter: &mut S,
-    at: u64,
-) -> Result<Vec<OfferLine>, AllocError>
-    requires kept { IsKept (S.content sorter.old) limits.now tables.old.rows }
-    requires welcome { refusal_of limits.now tables.old.rows (Cycle at) ≡ None }
-    ensures lines { IfOk result (λ lines. lines.items ≡ map line_told (new_offers tables.old.rows (effect tables.old.rows (Cycle at)))) }
-    ensures ok { OnOk result (StandAt (effect tables.old.rows (Cycle at)) tables.new.rows (S.content sorter.new)) }
-    ensures err { OnErr result (StandAt tables.old.rows tables.new.rows (S.content sorter.new)) }
-    ensures counted { OnOk result (tables.old.rows.limits ≢ [] → tables.new.counted ≡ true) }
-    ensures work { OnOk result (Adds S.COUNTED (S.work sorter.old) (S.work sorter.new) (nodes_of (touched tables.old.rows (Cycle at)))) }
-{
-    // The moment is put back if memory ends.
-    let before = tables.clock();
-    tables.set_clock(before.max(at));
-    let mut drafts = Drafts {
-        offers: Vec::new(alloc),
-        lefts: Vec::new(alloc),
-        quota: None,
-    };
-    match offer_all(alloc, tables, sorter, &mut drafts) {
-        Ok(lines) => Ok(lines),
-        Err(error) => {
-            take_back(tables, sorter, &mut drafts.offers);
-            tables.set_clock(before);
-            Err(error)
+impl<S: Sorter> Cluster<S> {
+    /// The allocation cycle, at a moment in milliseconds.
+    pub(crate) fn cycle(
+        &mut self,
+        alloc: Global,
+        limits: &Limits,
+        at: u64,
+    ) -> Result<Vec<OfferLine>, AllocError>
+        requires kept { IsKept limits.now self.old.rows }
+        requires welcome { refusal_of limits.now self.old.rows (Cycle at) ≡ None }
+        ensures lines { IfOk result (λ lines. lines.items ≡ map line_told (new_offers self.old.rows (effect self.old.rows (Cycle at)))) }
+        ensures ok { OnOk result (self.new.rows ≡ effect self.old.rows (Cycle at)) }
+        ensures err { OnErr result (self.new.rows ≡ self.old.rows) }
+        ensures counted { OnOk result (self.old.rows.limits ≢ [] → self.new.counted ≡ true) }
+        ensures work { OnOk result (Adds S.COUNTED self.old.work self.new.work (nodes_of (touched self.old.rows (Cycle at)))) }
+    {
+        // The moment is put back if memory ends.
+        let before = self.tables.clock();
+        self.tables.set_clock(before.max(at));
+        let mut drafts = Drafts {
+            offers: Vec::new(alloc),
+            lefts: Vec::new(alloc),
+            quota: None,
+        };
+        match offer_all(alloc, &mut self.tables, &mut self.sorter, &mut drafts) {
+            Ok(lines) => Ok(lines),
+            Err(error) => {
+                take_back(&self.tables, &mut self.sorter, &mut drafts.offers);
+                self.tables.set_clock(before);
+                Err(error)
+            }
         }
     }
 }

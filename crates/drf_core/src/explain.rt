@@ -11,11 +11,13 @@ ghost use Rattle.drf_sorter.specs.Content.{IsOrderOf, IsSound};
 ghost use Rattle.drf_explain.specs.Explained.{explained, told_of_agents};
 ghost use Rattle.drf_explain.specs.Gates.{AreGatesOf};
 ghost use Rattle.drf_tables.specs.Drafts.{with_offers};
+ghost use Rattle.drf_core.specs.Content.{content_of};
 ghost use Rattle.drf_core.specs.Drafting.{IsDrafting, HasLeft, turn_at};
 ghost use Rattle.drf_core.specs.Entitling.{IsQuotaOf};
 ghost use Rattle.drf_core.specs.Explaining.{AreToldAt, AreTried, IsOutcomeOf, left_told, told_at};
 ghost use Rattle.drf_core.specs.Kept.{IsKept};
 
+use crate::cluster::Cluster;
 use crate::cycle::{Drafts, goes_on, quota_of, try_first};
 use crate::free::{Free, part_within};
 use drf_amount::Algebra;
@@ -221,14 +223,15 @@ fn tell_turns<S: Sorter>(
 
 /// What the cycle at a moment, in milliseconds, would offer and to whom, and where it would offer nothing, why. Tables and sorter are
 /// not to be used again.
-pub fn explain<S: Sorter>(
+fn explain<S: Sorter>(
     alloc: Global,
     limits: &Limits,
     tables: &mut Tables,
     sorter: &mut S,
     at: u64,
 ) -> Result<Vec<Finding>, AllocError>
-    requires kept { IsKept (S.content sorter.old) limits.now tables.old.rows }
+    requires sorted { S.content sorter.old ≡ content_of tables.old.rows }
+    requires kept { IsKept limits.now tables.old.rows }
     requires early { at ≤ LATEST_MOMENT }
     ensures { IfOk result (λ findings. findings.items ≡ explained tables.old.rows at) }
 {
@@ -245,4 +248,22 @@ pub fn explain<S: Sorter>(
     let mut findings = suppressed(alloc, &rows)?;
     tell_turns(alloc, &rows, tables, sorter, &mut drafts, &mut findings)?;
     Ok(findings)
+}
+
+impl<S: Sorter> Cluster<S> {
+    /// What the cycle at a moment, in milliseconds, would offer and to whom, and where it would offer nothing, why.
+    pub(crate) fn explain(
+        &self,
+        alloc: Global,
+        limits: &Limits,
+        at: u64,
+    ) -> Result<Vec<Finding>, AllocError>
+        requires kept { IsKept limits.now self.now.rows }
+        requires early { at ≤ LATEST_MOMENT }
+        ensures { IfOk result (λ findings. findings.items ≡ explained self.now.rows at) }
+    {
+        let mut tables = self.tables.copy()?;
+        let mut sorter = self.sorter.copy()?;
+        explain(alloc, limits, &mut tables, &mut sorter, at)
+    }
 }

@@ -4,17 +4,16 @@ ghost use Rattle.drf_rows.specs.Members.{distinct, has_framework, new_client};
 ghost use Rattle.drf_rows.specs.Step.{refusal_of, effect, is_in_role};
 ghost use Rattle.drf_rows.specs.declared.event.Event.TheVariants.{AddFramework, RemoveFramework, Suppress, Revive};
 ghost use Rattle.drf_rows.specs.declared.reply.Reply.TheVariants.{Done};
-ghost use Rattle.drf_core.specs.Content.{content_of};
-ghost use Rattle.drf_core.specs.Kept.{IsKept, StandAt};
+ghost use Rattle.drf_core.specs.Kept.{IsKept};
 ghost use Rattle.drf_sorter.specs.Work.{Adds};
 ghost use Rattle.drf_core.specs.Working.{nodes_of, touched};
 ghost use Rattle.drf_core.specs.Registering.{AreKnown, AreNew, client_paths, with_all, without_all};
 
-use crate::ending::end;
+use crate::cluster::Cluster;
 use drf_role::{ClientPath, Name, Role};
 use drf_rows::{ClientRow, Limits, Reply, Table};
 use drf_sorter::Sorter;
-use drf_tables::{Ending, Tables};
+use drf_tables::Ending;
 use std::alloc::{AllocError, Global};
 
 /// The roles of a list, each once, where it first stands.
@@ -81,31 +80,6 @@ fn add_clients<S: Sorter>(sorter: &mut S, paths: &[ClientPath]) -> Result<(), Al
     }
 }
 
-/// A framework registers.
-pub fn add_framework<S: Sorter>(
-    alloc: Global,
-    limits: &Limits,
-    tables: &mut Tables,
-    sorter: &mut S,
-    framework: Name,
-    roles: Table<Role>,
-) -> Result<Reply, AllocError>
-    requires kept { IsKept (S.content sorter.old) limits.now tables.old.rows }
-    requires welcome { refusal_of limits.now tables.old.rows (AddFramework framework roles) ≡ None }
-    ensures reply { IfOk result (λ reply. reply ≡ Done) }
-    ensures ok { OnOk result (StandAt (effect tables.old.rows (AddFramework framework roles)) tables.new.rows (S.content sorter.new)) }
-    ensures work { OnOk result (Adds S.COUNTED (S.work sorter.old) (S.work sorter.new) (nodes_of (touched tables.old.rows (AddFramework framework roles)))) }
-    ensures err { OnErr result (StandAt tables.old.rows tables.new.rows (S.content sorter.new)) }
-{
-    let roles = distinct_roles(alloc, roles)?;
-    let clients = new_clients(alloc, roles)?;
-    let paths = client_paths(alloc, &framework, clients.as_slice())?;
-    tables.reserve_framework()?;
-    add_clients(sorter, &paths)?;
-    tables.add_framework(framework, clients);
-    Ok(Reply::Done)
-}
-
 /// Removes clients from the sorter.
 fn remove_clients<S: Sorter>(sorter: &mut S, paths: &[ClientPath])
     requires { AreKnown (S.content sorter.old) paths.now }
@@ -117,66 +91,87 @@ fn remove_clients<S: Sorter>(sorter: &mut S, paths: &[ClientPath])
     }
 }
 
-/// A framework leaves, and all that it holds ends.
-pub fn remove_framework<S: Sorter>(
-    alloc: Global,
-    limits: &Limits,
-    tables: &mut Tables,
-    sorter: &mut S,
-    framework: &Name,
-) -> Result<Reply, AllocError>
-    requires kept { IsKept (S.content sorter.old) limits.now tables.old.rows }
-    requires known { has_framework tables.old.rows framework.now ≡ true }
-    ensures reply { IfOk result (λ reply. reply ≡ Done) }
-    ensures ok { OnOk result (StandAt (effect tables.old.rows (RemoveFramework framework.now)) tables.new.rows (S.content sorter.new)) }
-    ensures work { OnOk result (Adds S.COUNTED (S.work sorter.old) (S.work sorter.new) (nodes_of (touched tables.old.rows (RemoveFramework framework.now)))) }
-    ensures err { OnErr result (StandAt tables.old.rows tables.new.rows (S.content sorter.new)) }
-{
-    let paths = client_paths(alloc, framework, tables.clients(framework))?;
-    end(tables, sorter, Ending::AllOf(framework));
-    remove_clients(sorter, &paths);
-    tables.remove_framework(framework);
-    Ok(Reply::Done)
-}
+impl<S: Sorter> Cluster<S> {
+    /// A framework registers.
+    pub(crate) fn add_framework(
+        &mut self,
+        alloc: Global,
+        limits: &Limits,
+        framework: Name,
+        roles: Table<Role>,
+    ) -> Result<Reply, AllocError>
+        requires kept { IsKept limits.now self.old.rows }
+        requires welcome { refusal_of limits.now self.old.rows (AddFramework framework roles) ≡ None }
+        ensures reply { IfOk result (λ reply. reply ≡ Done) }
+        ensures ok { OnOk result (self.new.rows ≡ effect self.old.rows (AddFramework framework roles)) }
+        ensures work { OnOk result (Adds S.COUNTED self.old.work self.new.work (nodes_of (touched self.old.rows (AddFramework framework roles)))) }
+        ensures err { OnErr result (self.new.rows ≡ self.old.rows) }
+    {
+        let roles = distinct_roles(alloc, roles)?;
+        let clients = new_clients(alloc, roles)?;
+        let paths = client_paths(alloc, &framework, clients.as_slice())?;
+        self.tables.reserve_framework()?;
+        add_clients(&mut self.sorter, &paths)?;
+        self.tables.add_framework(framework, clients);
+        Ok(Reply::Done)
+    }
 
-/// A framework is no longer served in a role.
-pub fn suppress<S: Sorter>(
-    alloc: Global,
-    tables: &mut Tables,
-    sorter: &mut S,
-    framework: &Name,
-    role: &Role,
-) -> Result<Reply, AllocError>
-    requires sorted { S.content sorter.old ≡ content_of tables.old.rows }
-    requires known { is_in_role tables.old.rows framework.now role.now ≡ true }
-    ensures reply { IfOk result (λ reply. reply ≡ Done) }
-    ensures ok { OnOk result (StandAt (effect tables.old.rows (Suppress framework.now role.now)) tables.new.rows (S.content sorter.new)) }
-    ensures work { OnOk result (Adds S.COUNTED (S.work sorter.old) (S.work sorter.new) (nodes_of (touched tables.old.rows (Suppress framework.now role.now)))) }
-    ensures err { OnErr result (StandAt tables.old.rows tables.new.rows (S.content sorter.new)) }
-{
-    let path = ClientPath::new(alloc, role, framework)?;
-    tables.suppress(framework, role);
-    sorter.set_active(&path, false);
-    Ok(Reply::Done)
-}
+    /// A framework leaves, and all that it holds ends.
+    pub(crate) fn remove_framework(
+        &mut self,
+        alloc: Global,
+        limits: &Limits,
+        framework: &Name,
+    ) -> Result<Reply, AllocError>
+        requires kept { IsKept limits.now self.old.rows }
+        requires known { has_framework self.old.rows framework.now ≡ true }
+        ensures reply { IfOk result (λ reply. reply ≡ Done) }
+        ensures ok { OnOk result (self.new.rows ≡ effect self.old.rows (RemoveFramework framework.now)) }
+        ensures work { OnOk result (Adds S.COUNTED self.old.work self.new.work (nodes_of (touched self.old.rows (RemoveFramework framework.now)))) }
+        ensures err { OnErr result (self.new.rows ≡ self.old.rows) }
+    {
+        let paths = client_paths(alloc, framework, self.tables.clients(framework))?;
+        self.end(Ending::AllOf(framework));
+        remove_clients(&mut self.sorter, &paths);
+        self.tables.remove_framework(framework);
+        Ok(Reply::Done)
+    }
 
-/// A framework is served in a role again, and refuses nothing there any more.
-pub fn revive<S: Sorter>(
-    alloc: Global,
-    tables: &mut Tables,
-    sorter: &mut S,
-    framework: &Name,
-    role: &Role,
-) -> Result<Reply, AllocError>
-    requires sorted { S.content sorter.old ≡ content_of tables.old.rows }
-    requires known { is_in_role tables.old.rows framework.now role.now ≡ true }
-    ensures reply { IfOk result (λ reply. reply ≡ Done) }
-    ensures ok { OnOk result (StandAt (effect tables.old.rows (Revive framework.now role.now)) tables.new.rows (S.content sorter.new)) }
-    ensures work { OnOk result (Adds S.COUNTED (S.work sorter.old) (S.work sorter.new) (nodes_of (touched tables.old.rows (Revive framework.now role.now)))) }
-    ensures err { OnErr result (StandAt tables.old.rows tables.new.rows (S.content sorter.new)) }
-{
-    let path = ClientPath::new(alloc, role, framework)?;
-    tables.revive(framework, role);
-    sorter.set_active(&path, true);
-    Ok(Reply::Done)
+    /// A framework is no longer served in a role.
+    pub(crate) fn suppress(
+        &mut self,
+        alloc: Global,
+        framework: &Name,
+        role: &Role,
+    ) -> Result<Reply, AllocError>
+        requires { is_in_role self.old.rows framework.now role.now ≡ true }
+        ensures reply { IfOk result (λ reply. reply ≡ Done) }
+        ensures ok { OnOk result (self.new.rows ≡ effect self.old.rows (Suppress framework.now role.now)) }
+        ensures work { OnOk result (Adds S.COUNTED self.old.work self.new.work (nodes_of (touched self.old.rows (Suppress framework.now role.now)))) }
+        ensures err { OnErr result (self.new.rows ≡ self.old.rows) }
+    {
+        let path = ClientPath::new(alloc, role, framework)?;
+        self.tables.suppress(framework, role);
+        self.sorter.set_active(&path, false);
+        Ok(Reply::Done)
+    }
+
+    /// A framework is served in a role again, and refuses nothing there any more.
+    pub(crate) fn revive(
+        &mut self,
+        alloc: Global,
+        framework: &Name,
+        role: &Role,
+    ) -> Result<Reply, AllocError>
+        requires { is_in_role self.old.rows framework.now role.now ≡ true }
+        ensures reply { IfOk result (λ reply. reply ≡ Done) }
+        ensures ok { OnOk result (self.new.rows ≡ effect self.old.rows (Revive framework.now role.now)) }
+        ensures work { OnOk result (Adds S.COUNTED self.old.work self.new.work (nodes_of (touched self.old.rows (Revive framework.now role.now)))) }
+        ensures err { OnErr result (self.new.rows ≡ self.old.rows) }
+    {
+        let path = ClientPath::new(alloc, role, framework)?;
+        self.tables.revive(framework, role);
+        self.sorter.set_active(&path, true);
+        Ok(Reply::Done)
+    }
 }

@@ -4,6 +4,7 @@
 mod agents;
 mod allocator;
 mod apply;
+mod cluster;
 mod cycle;
 mod ending;
 mod explain;

@@ -9,13 +9,11 @@ ghost use Rattle.drf_rows.specs.declared.limits.TheConstants.{LATEST_MOMENT};
 ghost use Rattle.drf_rows.specs.declared.reply.Reply.TheVariants.{Done};
 ghost use Rattle.drf_rows.specs.declared.rows.OfferRow.{OfferRow};
 ghost use Rattle.drf_core.specs.Accepting.{IsEnough, filter_if};
-ghost use Rattle.drf_core.specs.Content.{content_of};
-ghost use Rattle.drf_core.specs.Kept.{StandAt};
 ghost use Rattle.drf_rows.specs.Endings.{one_offer, one_task};
 ghost use Rattle.drf_sorter.specs.Work.{Adds};
 ghost use Rattle.drf_core.specs.Working.{losers, nodes_of};
 
-use crate::ending::end;
+use crate::cluster::Cluster;
 use drf_amount::Algebra;
 use drf_bundle::Bundle;
 use drf_role::{ClientPath, Name};
@@ -63,36 +61,6 @@ fn filter_rest(
     Ok(Some(filter_row(offer, rest, moment, refuse_ms)?))
 }
 
-/// A framework starts tasks with parts of an offer. The rest is free, and is refused for a time.
-pub fn accept<S: Sorter>(
-    alloc: Global,
-    tables: &mut Tables,
-    sorter: &mut S,
-    accept: Accept,
-) -> Result<Reply, AllocError>
-    requires sorted { S.content sorter.old ≡ content_of tables.old.rows }
-    requires consistent { IsConsistent tables.old.rows }
-    requires enough { IsEnough tables.old.rows accept.offer accept.tasks }
-    requires early { accept.at ≤ LATEST_MOMENT }
-    ensures reply { IfOk result (λ reply. reply ≡ Done) }
-    ensures ok { OnOk result ((o : OfferRow) → offer_at tables.old.rows accept.offer ≡ Some o
-        → StandAt (offer_accepted (at_moment tables.old.rows accept.at) o accept.tasks accept.refuse_ms) tables.new.rows (S.content sorter.new)) }
-    ensures err { OnErr result (StandAt tables.old.rows tables.new.rows (S.content sorter.new)) }
-    ensures work { OnOk result (Adds S.COUNTED (S.work sorter.old) (S.work sorter.new) (nodes_of (losers tables.old.rows (one_offer accept.offer)))) }
-{
-    // The proof learns that the tasks use bundles by this call alone.
-    let _ = accept.tasks.as_slice();
-    let offer = tables.offer(accept.offer).unwrap();
-    let moment = tables.clock().max(accept.at);
-    let rest = accept.tasks.rest_of(&offer.bundle)?;
-    let client = ClientPath::new(alloc, &offer.role, &offer.framework)?;
-    let filter = filter_rest(offer, &rest, moment, accept.refuse_ms)?;
-    tables.accept(accept.offer, accept.tasks, &rest, filter)?;
-    tables.set_clock(moment);
-    sorter.refund(&client, rest.quantities());
-    Ok(Reply::Done)
-}
-
 /// An offer is refused whole, if for any time.
 fn refuse_offer(
     tables: &mut Tables,
@@ -115,56 +83,71 @@ fn refuse_offer(
     tables.add_filter(filter)
 }
 
-/// A framework gives an offer back, and refuses it for a time.
-pub fn decline<S: Sorter>(
-    tables: &mut Tables,
-    sorter: &mut S,
-    decline: &Decline,
-) -> Result<Reply, AllocError>
-    requires sorted { S.content sorter.old ≡ content_of tables.old.rows }
-    requires consistent { IsConsistent tables.old.rows }
-    requires offer { has_offer tables.old.rows decline.now.offer ≡ true }
-    requires early { decline.now.at ≤ LATEST_MOMENT }
-    ensures reply { IfOk result (λ reply. reply ≡ Done) }
-    ensures ok { OnOk result ((o : OfferRow) → offer_at tables.old.rows decline.now.offer ≡ Some o
-        → StandAt (offer_declined (at_moment tables.old.rows decline.now.at) o decline.now.refuse_ms) tables.new.rows (S.content sorter.new)) }
-    ensures err { OnErr result (StandAt tables.old.rows tables.new.rows (S.content sorter.new)) }
-    ensures work { OnOk result (Adds S.COUNTED (S.work sorter.old) (S.work sorter.new) (nodes_of (losers tables.old.rows (one_offer decline.now.offer)))) }
-{
-    let moment = tables.clock().max(decline.at);
-    refuse_offer(tables, decline.offer, moment, decline.refuse_ms)?;
-    tables.set_clock(moment);
-    end(tables, sorter, Ending::Offer(decline.offer));
-    Ok(Reply::Done)
-}
+impl<S: Sorter> Cluster<S> {
+    /// A framework starts tasks with parts of an offer. The rest is free, and is refused for a time.
+    pub(crate) fn accept(&mut self, alloc: Global, accept: Accept) -> Result<Reply, AllocError>
+        requires consistent { IsConsistent self.old.rows }
+        requires enough { IsEnough self.old.rows accept.offer accept.tasks }
+        requires early { accept.at ≤ LATEST_MOMENT }
+        ensures reply { IfOk result (λ reply. reply ≡ Done) }
+        ensures ok { OnOk result ((o : OfferRow) → offer_at self.old.rows accept.offer ≡ Some o
+            → self.new.rows ≡ offer_accepted (at_moment self.old.rows accept.at) o accept.tasks accept.refuse_ms) }
+        ensures err { OnErr result (self.new.rows ≡ self.old.rows) }
+        ensures work { OnOk result (Adds S.COUNTED self.old.work self.new.work (nodes_of (losers self.old.rows (one_offer accept.offer)))) }
+    {
+        // The proof learns that the tasks use bundles by this call alone.
+        let _ = accept.tasks.as_slice();
+        let offer = self.tables.offer(accept.offer).unwrap();
+        let moment = self.tables.clock().max(accept.at);
+        let rest = accept.tasks.rest_of(&offer.bundle)?;
+        let client = ClientPath::new(alloc, &offer.role, &offer.framework)?;
+        let filter = filter_rest(offer, &rest, moment, accept.refuse_ms)?;
+        self.tables
+            .accept(accept.offer, accept.tasks, &rest, filter)?;
+        self.tables.set_clock(moment);
+        self.sorter.refund(&client, rest.quantities());
+        Ok(Reply::Done)
+    }
 
-/// An offer is taken back.
-pub fn rescind<S: Sorter>(tables: &mut Tables, sorter: &mut S, number: u64) -> Reply
-    requires { S.content sorter.old ≡ content_of tables.old.rows }
-    ensures reply { result ≡ Done }
-    ensures rows { StandAt (effect tables.old.rows (Rescind number)) tables.new.rows (S.content sorter.new) }
-    ensures work { Adds S.COUNTED (S.work sorter.old) (S.work sorter.new) (nodes_of (losers tables.old.rows (one_offer number))) }
-{
-    end(tables, sorter, Ending::Offer(number));
-    Reply::Done
-}
+    /// A framework gives an offer back, and refuses it for a time.
+    pub(crate) fn decline(&mut self, decline: &Decline) -> Result<Reply, AllocError>
+        requires consistent { IsConsistent self.old.rows }
+        requires offer { has_offer self.old.rows decline.now.offer ≡ true }
+        requires early { decline.now.at ≤ LATEST_MOMENT }
+        ensures reply { IfOk result (λ reply. reply ≡ Done) }
+        ensures ok { OnOk result ((o : OfferRow) → offer_at self.old.rows decline.now.offer ≡ Some o
+            → self.new.rows ≡ offer_declined (at_moment self.old.rows decline.now.at) o decline.now.refuse_ms) }
+        ensures err { OnErr result (self.new.rows ≡ self.old.rows) }
+        ensures work { OnOk result (Adds S.COUNTED self.old.work self.new.work (nodes_of (losers self.old.rows (one_offer decline.now.offer)))) }
+    {
+        let moment = self.tables.clock().max(decline.at);
+        refuse_offer(&mut self.tables, decline.offer, moment, decline.refuse_ms)?;
+        self.tables.set_clock(moment);
+        self.end(Ending::Offer(decline.offer));
+        Ok(Reply::Done)
+    }
 
-/// A task ends.
-pub fn finish<S: Sorter>(
-    tables: &mut Tables,
-    sorter: &mut S,
-    framework: &Name,
-    task: &Name,
-) -> Reply
-    requires { S.content sorter.old ≡ content_of tables.old.rows }
-    ensures reply { result ≡ Done }
-    ensures rows { StandAt (effect tables.old.rows (Finish framework.now task.now)) tables.new.rows (S.content sorter.new) }
-    ensures work { Adds S.COUNTED (S.work sorter.old) (S.work sorter.new) (nodes_of (losers tables.old.rows (one_task framework.now task.now))) }
-{
-    let ending = Ending::Task {
-        framework,
-        name: task,
-    };
-    end(tables, sorter, ending);
-    Reply::Done
+    /// An offer is taken back.
+    pub(crate) fn rescind(&mut self, number: u64) -> Reply
+        ensures reply { result ≡ Done }
+        ensures rows { self.new.rows ≡ effect self.old.rows (Rescind number) }
+        ensures work { Adds S.COUNTED self.old.work self.new.work (nodes_of (losers self.old.rows (one_offer number))) }
+    {
+        self.end(Ending::Offer(number));
+        Reply::Done
+    }
+
+    /// A task ends.
+    pub(crate) fn finish(&mut self, framework: &Name, task: &Name) -> Reply
+        ensures reply { result ≡ Done }
+        ensures rows { self.new.rows ≡ effect self.old.rows (Finish framework.now task.now) }
+        ensures work { Adds S.COUNTED self.old.work self.new.work (nodes_of (losers self.old.rows (one_task framework.now task.now))) }
+    {
+        let ending = Ending::Task {
+            framework,
+            name: task,
+        };
+        self.end(ending);
+        Reply::Done
+    }
 }

@@ -2,16 +2,16 @@
 ghost use Rattle.std.specs.Prelude.{◌≡◌, None, IfOk, OnOk, OnErr, IsTrue};
 ghost use Rattle.drf_bundle.specs.Bundle.{is_unreserved, relabel};
 ghost use Rattle.drf_rows.specs.Consistent.{IsConsistent};
-ghost use Rattle.drf_rows.specs.ReservationLaws.{IsAsked};
+ghost use Rattle.drf_rows.specs.laws.ReservationLaws.{IsAsked};
 ghost use Rattle.drf_rows.specs.Step.{refusal_of, effect};
 ghost use Rattle.drf_rows.specs.declared.event.Event.TheVariants.{Reserve, Unreserve};
 ghost use Rattle.drf_rows.specs.declared.reply.Reply.TheVariants.{Done};
-ghost use Rattle.drf_core.specs.Content.{content_of};
 
+use crate::cluster::Cluster;
 use drf_bundle::Bundle;
 use drf_role::{Name, Role};
 use drf_rows::{Limits, Reply};
-use drf_tables::Tables;
+use drf_sorter::Sorter;
 use std::alloc::AllocError;
 
 /// The resources with all of them reserved for the role.
@@ -26,42 +26,44 @@ fn reserved(role: &Role, resources: &Bundle) -> Result<Bundle, AllocError>
     resources.relabel(role)
 }
 
-/// What is free for everyone is reserved for a role.
-pub fn reserve(
-    limits: &Limits,
-    tables: &mut Tables,
-    agent: &Name,
-    role: &Role,
-    resources: &Bundle,
-) -> Result<Reply, AllocError>
-    requires consistent { IsConsistent tables.old.rows }
-    requires welcome { refusal_of limits.now tables.old.rows (Reserve agent.now role.now resources.now) ≡ None }
-    ensures reply { IfOk result (λ reply. reply ≡ Done) }
-    ensures ok { OnOk result (tables.new.rows ≡ effect tables.old.rows (Reserve agent.now role.now resources.now)) }
-    ensures content { OnOk result (content_of tables.new.rows ≡ content_of tables.old.rows) }
-    ensures err { OnErr result (tables.new.rows ≡ tables.old.rows) }
-{
-    let moved = reserved(role, resources)?;
-    tables.exchange(agent, resources, &moved)?;
-    Ok(Reply::Done)
-}
+impl<S: Sorter> Cluster<S> {
+    /// What is free for everyone is reserved for a role.
+    pub(crate) fn reserve(
+        &mut self,
+        limits: &Limits,
+        agent: &Name,
+        role: &Role,
+        resources: &Bundle,
+    ) -> Result<Reply, AllocError>
+        requires consistent { IsConsistent self.old.rows }
+        requires welcome { refusal_of limits.now self.old.rows (Reserve agent.now role.now resources.now) ≡ None }
+        ensures reply { IfOk result (λ reply. reply ≡ Done) }
+        ensures ok { OnOk result (self.new.rows ≡ effect self.old.rows (Reserve agent.now role.now resources.now)) }
+        ensures err { OnErr result (self.new.rows ≡ self.old.rows) }
+        ensures work { self.new.work ≡ self.old.work }
+    {
+        let moved = reserved(role, resources)?;
+        self.tables.exchange(agent, resources, &moved)?;
+        Ok(Reply::Done)
+    }
 
-/// What is free and reserved for a role is for everyone again.
-pub fn unreserve(
-    limits: &Limits,
-    tables: &mut Tables,
-    agent: &Name,
-    role: &Role,
-    resources: &Bundle,
-) -> Result<Reply, AllocError>
-    requires consistent { IsConsistent tables.old.rows }
-    requires welcome { refusal_of limits.now tables.old.rows (Unreserve agent.now role.now resources.now) ≡ None }
-    ensures reply { IfOk result (λ reply. reply ≡ Done) }
-    ensures ok { OnOk result (tables.new.rows ≡ effect tables.old.rows (Unreserve agent.now role.now resources.now)) }
-    ensures content { OnOk result (content_of tables.new.rows ≡ content_of tables.old.rows) }
-    ensures err { OnErr result (tables.new.rows ≡ tables.old.rows) }
-{
-    let moved = reserved(role, resources)?;
-    tables.exchange(agent, &moved, resources)?;
-    Ok(Reply::Done)
+    /// What is free and reserved for a role is for everyone again.
+    pub(crate) fn unreserve(
+        &mut self,
+        limits: &Limits,
+        agent: &Name,
+        role: &Role,
+        resources: &Bundle,
+    ) -> Result<Reply, AllocError>
+        requires consistent { IsConsistent self.old.rows }
+        requires welcome { refusal_of limits.now self.old.rows (Unreserve agent.now role.now resources.now) ≡ None }
+        ensures reply { IfOk result (λ reply. reply ≡ Done) }
+        ensures ok { OnOk result (self.new.rows ≡ effect self.old.rows (Unreserve agent.now role.now resources.now)) }
+        ensures err { OnErr result (self.new.rows ≡ self.old.rows) }
+        ensures work { self.new.work ≡ self.old.work }
+    {
+        let moved = reserved(role, resources)?;
+        self.tables.exchange(agent, &moved, resources)?;
+        Ok(Reply::Done)
+    }
 }

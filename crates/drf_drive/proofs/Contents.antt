@@ -55,13 +55,16 @@ contents-all text known xs i contents past are = subst (λ (l : List _). AreCont
 
 -- or one that gives none
 pub contents-fault : {X : Type 0} (text : X → List ℕ) (known : Known) (xs : List X) (i : ℕ) (x : X) → i < length xs → x ≡ get_or xs i x
+    → (contents : List (List ℕ)) → AreContents known (map text (take i xs)) contents
     → (fault : RunFault) → IsFileFault (known (text x)) fault → IsUnread known (map text xs) fault
-contents-fault text known xs i x inside is Read none = record {
+contents-fault text known xs i x inside is contents are Read none = record {
   before = map text (take i xs);
   name = text x;
   after = map text (drop (i + 1) xs);
   one = map-cut-next xs i x inside is text;
+  contents = contents;
+  read = are;
   unread = none;
 }
-contents-fault text known xs i x inside is Write none = none
-contents-fault text known xs i x inside is Memory none = tt
+contents-fault text known xs i x inside is contents are Write none = none
+contents-fault text known xs i x inside is contents are Memory none = tt

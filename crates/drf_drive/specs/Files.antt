@@ -44,12 +44,14 @@ AreContents known [] [] = Unit {0}
 AreContents known (name ∷ names) (bytes ∷ contents) = MayHave (known name) bytes × AreContents known names contents
 AreContents known _ _ = ⊥
 
--- one of the files cannot be read
+-- one of the files cannot be read; all before it were
 pub record HasUnread (known : Known) (names : List (List ℕ)) : Type 0 where
   pub before : List (List ℕ)
   pub name : List ℕ
   pub after : List (List ℕ)
   pub one : names ≡ before ++ name ∷ after
+  pub contents : List (List ℕ)
+  pub read : AreContents known before contents
   pub unread : MayBeUnreadable (known name)
 
 -- why not all were read

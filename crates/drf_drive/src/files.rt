@@ -24,7 +24,7 @@ pub trait FileBytes {
         ensures same { known self.new ≡ known self.old };
 }
 
-/// The files of the system, of which nothing is known before they are read.
+/// The files of the system, of which no clause knows anything.
 #[derive(Drop)]
 pub struct SystemFiles<'a, R> {
     pub rt: &'a R,

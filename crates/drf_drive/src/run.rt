@@ -96,8 +96,8 @@ fn drive_scripts<W: Threads + Wait + Sync, O: Write>(
 }
 
 /// Reads files of event lines, at most 64, runs each on a thread of its own, on one master, and writes the journal: for each call the line of
-/// the event and that of the reply. All files are read before any line is looked at. A line that is no event is told, the first one of the
-/// first file that has one, and nothing runs then.
+/// the event and that of the reply. A file that cannot be read is told before any line that is no event, and of such lines the first one of
+/// the first file that has one. Nothing is written then.
 pub fn run_drive<W: Threads + Wait + Sync, F: FileBytes, S: AsStr, O: Write>(
     rt: &W,
     alloc: Global,

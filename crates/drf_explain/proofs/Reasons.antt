@@ -1,5 +1,5 @@
 -- What each reason says of the cycle, from the definition of what comes of a client.
-use Rattle.std.specs.Prelude.{◌≡◌, ◌⊎◌, ◌↔◌, ℕ, zero, suc, ◌<◌, ◌≤◌, max, min, Bool, true, false, not, ◌&&◌, ◌||◌, List, [], ◌∷◌, map, fold, filter, flat_map, slice_get, Option, Some, None, is_some, if◌then◌else◌, nat_lt, nat_le, codes}
+use Rattle.std.specs.Prelude.{◌≡◌, ◌⊎◌, ◌↔◌, ℕ, zero, suc, ◌<◌, ◌≤◌, max, min, Bool, true, false, not, ◌&&◌, ◌||◌, List, [], ◌∷◌, map, fold, filter, slice_get, Option, Some, None, is_some, if◌then◌else◌, nat_lt, nat_le, codes}
 use Rattle.std.specs.List.{list_any, reduce, AllByRecursion}
 use Rattle.std.specs.Option.{option_map_or}
 use Rattle.std.proofs.Common.{refl, sym, ap, subst, ◌∙◌, inl, inr, cond, arith}
@@ -8,12 +8,11 @@ use Rattle.drf_role.specs.Text.{Text, same_text}
 use Rattle.drf_role.specs.TextLaws.{same_from_test}
 use Rattle.drf_role.specs.Path.{Path, begins_with}
 use Rattle.drf_bundle.specs.Bundle.{covers, clip, clipped, cut, is_default, is_for, part_for, quantities_of, stock}
-use Rattle.drf_bundle.specs.KeyLaws.{unit_of, where-cons, unit-here, unit-none}
-use Rattle.drf_bundle.specs.PartLaws.{keeps-clipped}
-use Rattle.drf_bundle.specs.Quantities.{amount_of, is_named, names_of}
-use Rattle.drf_bundle.specs.QuantitiesLaws.{named-with, or_none}
-use Rattle.drf_bundle.specs.RestLaws.{where-changed-cons}
-use Rattle.drf_bundle.specs.SumLaws.{of_name, amount-quantities_of}
+use Rattle.drf_bundle.specs.laws.KeyLaws.{unit_of, where-cons, unit-here, unit-none}
+use Rattle.drf_bundle.specs.laws.PartLaws.{keeps-clipped}
+use Rattle.drf_bundle.specs.Quantities.{amount_of, is_named}
+use Rattle.drf_bundle.specs.laws.RestLaws.{where-changed-cons}
+use Rattle.drf_bundle.specs.laws.SumLaws.{of_name, amount-quantities_of}
 use Rattle.drf_bundle.specs.Value.{Thousandths, units_in}
 use Rattle.drf_bundle.specs.declared.quantities.Entry.{Entry}
 use Rattle.drf_bundle.specs.declared.resource.Resource.{Resource}
@@ -22,10 +21,10 @@ use Rattle.drf_bundle.specs.declared.value.Value.TheVariants.{Scalar, Ranges, It
 use Rattle.drf_rows.specs.Client.{Client}
 use Rattle.drf_rows.specs.Cycle.{free_of, is_allocatable, grant, at_moment}
 use Rattle.drf_rows.specs.Filters.{is_in_force, is_of_client, is_on_agent, holds_back, is_held_back}
-use Rattle.drf_rows.specs.ListLaws.{list_any-map}
+use Rattle.drf_rows.specs.laws.EntitlementLaws.{some_room, limited-binds, named-puts}
 use Rattle.drf_rows.specs.Offers.{is_empty}
-use Rattle.drf_rows.specs.Quota.{Consumed, binds, consumption, headroom, headroom_at, headroom_under, is_within, limited_names, room_under}
-use Rattle.drf_rows.specs.QuotaLaws.{any_append, headroom_le, named_put, put, rooms-here, rooms-past}
+use Rattle.drf_rows.specs.Quota.{binds, consumption, headroom, headroom_at, limited_names, room_under}
+use Rattle.drf_rows.specs.laws.QuotaLaws.{headroom_le, named_put}
 use Rattle.drf_rows.specs.declared.rows.AgentRow.{AgentRow}
 use Rattle.drf_rows.specs.declared.rows.FilterRow.{FilterRow}
 use Rattle.drf_rows.specs.declared.rows.LimitRow.{LimitRow}
@@ -249,45 +248,6 @@ module _ (limits : List Entry) (label : Text) (least : ℕ) (high : is_named lim
   left-amount : (rs : List Resource) → least ≤ amount_of (quantities_of rs) label → least ≤ amount_of (quantities_of (clip limits rs)) label
   left-amount rs enough =
       omega (arith, enough, amount-quantities_of rs label, amount-quantities_of (clip limits rs) label, left-stock rs)
-
--- ---- the headroom names what limits bind
-
-module _ (consumed : Consumed) (role : Path) (label : Text) where
-  some_room : (ls : List LimitRow) → is_some (headroom_under ls consumed role label) ≡ list_any (binds role label) ls
-  some_room [] = refl
-  some_room (l ∷ ls) = elim (cases_Bool (binds role label l)) [
-    | inl here ↦ ap (λ ns. is_some (reduce min ns)) (rooms-here consumed role label l ls here) ∙ sym (ap (λ b. b || list_any (binds role label) ls) here)
-    | inr past ↦
-        ap (λ ns. is_some (reduce min ns)) (rooms-past consumed role label l ls past) ∙ some_room ls
-        ∙ sym (ap (λ b. b || list_any (binds role label) ls) past)
-  ]
-
-  limited-binds : (ls : List LimitRow) → list_any (λ n. same_text n label) (limited_names ls role) ≡ list_any (binds role label) ls
-  limited-binds [] = refl
-  limited-binds (l ∷ ls) = by (is_within l.role role) (limited-binds ls)
-    where
-      by : (b : Bool) → list_any (λ n. same_text n label) (limited_names ls role) ≡ list_any (binds role label) ls
-          → list_any (λ n. same_text n label) (flat_map (λ (m : LimitRow). names_of m.limit)
-          (cond b (l ∷ filter (λ m. is_within m.role role) ls) (filter (λ m. is_within m.role role) ls)))
-          ≡ ((b && is_named l.limit label) || list_any (binds role label) ls)
-      by true later =
-          any_append (λ n. same_text n label) (names_of l.limit) (limited_names ls role)
-          ∙ (λ i. list_any-map (λ n. same_text n label) (λ (e : Entry). e.label) l.limit i || later i)
-      by false later = later
-
-named-puts : (v : Text → ℕ) (label : Text) (room : List Entry) (ns : List Text)
-    → is_named (fold (put v label) room ns) label ≡ (is_named room label || list_any (λ n. same_text n label) ns)
-named-puts v label room [] = or_none (is_named room label)
-named-puts v label room (n ∷ ns) =
-    named-puts v label (put v label room n) ns
-    ∙ ap (λ b. b || list_any (λ n. same_text n label) ns) (named-with room n (v n) label)
-    ∙ turned (same_text n label) (is_named room label) (list_any (λ n. same_text n label) ns)
-  where
-    turned : (a b c : Bool) → ((a || b) || c) ≡ (b || (a || c))
-    turned true true c = refl
-    turned true false c = refl
-    turned false true c = refl
-    turned false false c = refl
 
 -- ---- a headroom that cuts too much
 

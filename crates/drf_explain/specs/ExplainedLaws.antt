@@ -12,10 +12,10 @@ use Rattle.drf_bundle.specs.Bundle.{covers, part_for}
 use Rattle.drf_bundle.specs.declared.resource.Resource.{Resource}
 use Rattle.drf_rows.specs.Client.{Client, path_of}
 use Rattle.drf_rows.specs.Cycle.{free_of, is_allocatable, grant, new_offer, with_offer, tried, all_tried, turn_order, turn, turns, at_moment, cycle}
-use Rattle.drf_rows.specs.CycleLaws.{all_tried_none}
+use Rattle.drf_rows.specs.laws.CycleLaws.{all_tried_none}
 use Rattle.drf_rows.specs.Filters.{is_in_force, in_force, is_of_client, is_on_agent, holds_back, is_held_back}
 use Rattle.drf_rows.specs.Held.{standing_of}
-use Rattle.drf_rows.specs.LiveLaws.{kept-turns}
+use Rattle.drf_rows.specs.laws.LiveLaws.{kept-turns}
 use Rattle.drf_rows.specs.Offers.{is_empty}
 use Rattle.drf_rows.specs.Quota.{consumption, entitlement}
 use Rattle.drf_rows.specs.Step.{live_rows, new_offers}

@@ -10,14 +10,14 @@ use Rattle.drf_role.specs.Path.{Path}
 use Rattle.drf_role.specs.Parts.{parts_of, text_of}
 use Rattle.drf_bundle.specs.Value.{Thousandths, units_in}
 use Rattle.drf_bundle.specs.Quantities.{amount_of, with_amount}
-use Rattle.drf_bundle.specs.QuantitiesLaws.{amount-with}
+use Rattle.drf_bundle.specs.laws.QuantitiesLaws.{amount-with}
 use Rattle.drf_bundle.specs.Bundle.{IsResource, IsBundle, is_default, key_of, same_key}
-use Rattle.drf_bundle.specs.KeyLaws.{where-cons}
+use Rattle.drf_bundle.specs.laws.KeyLaws.{where-cons}
 use Rattle.drf_bundle.specs.declared.quantities.Entry.{Entry}
 use Rattle.drf_bundle.specs.declared.resource.Resource.{Resource}
-use Rattle.drf_rows.specs.ConsistentLaws.{same_text-swap}
+use Rattle.drf_rows.specs.laws.ConsistentLaws.{same_text-swap}
 use Rattle.drf_rows.specs.Quota.{reserves, unreserved_in, reserved_in}
-use Rattle.drf_rows.specs.QuotaLaws.{no_text, parts_le}
+use Rattle.drf_rows.specs.laws.QuotaLaws.{no_text, parts_le}
 use Rattle.drf_gates.specs.Quota.{Allowance, AreRaised, IsRaised, IsRaisedBy, IsSame, amount_in_one, one_entry, unreserved_one, reserved_one, counted, used_where}
 
 -- the element that is read is the first of those that are left

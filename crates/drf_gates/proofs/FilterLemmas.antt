@@ -7,13 +7,13 @@ use Rattle.std.proofs.lemmas.List.Folds.{Any-from_list_any, list_any-from_Any, l
 use Rattle.drf_role.specs.TextLaws.{same_itself, same_from_test}
 use Rattle.drf_role.specs.PathLaws.{same_path_itself, same_path-true}
 use Rattle.drf_bundle.specs.Bundle.{IsBundle, covers}
-use Rattle.drf_bundle.specs.UnitProofs.{covers_by_units}
+use Rattle.drf_bundle.specs.laws.UnitProofs.{covers_by_units}
 use Rattle.drf_bundle.specs.declared.resource.Resource.{Resource}
 use Rattle.drf_role.specs.Text.{Text, same_text}
 use Rattle.drf_role.specs.Path.{same_path}
 use Rattle.drf_rows.specs.Client.{Client}
 use Rattle.drf_rows.specs.Filters.{is_in_force, in_force, is_of_client, is_on_agent, holds_back, is_held_back}
-use Rattle.drf_rows.specs.ListLaws.{length-filter_le}
+use Rattle.drf_rows.specs.laws.ListLaws.{length-filter_le}
 use Rattle.drf_rows.specs.declared.rows.FilterRow.{FilterRow}
 use Rattle.drf_gates.specs.Laws.{LessIsHeldBack, HeldBackIsRefused}
 use Rattle.drf_gates.specs.Chains.{IsLast, IsChained}

@@ -15,7 +15,7 @@ use Rattle.drf_lines.specs.Meaning.{meaning_of}
 use Rattle.drf_lines.specs.declared.fault.LineFault.{LineFault}
 use Rattle.drf_rows.specs.Cycle.{free_of}
 use Rattle.drf_rows.specs.LimitNumbers.{LimitNumbers}
-use Rattle.drf_rows.specs.LiveLaws.{rows_after-same_live, live_rows-twice}
+use Rattle.drf_rows.specs.laws.LiveLaws.{rows_after-same_live, live_rows-twice}
 use Rattle.drf_rows.specs.Step.{opening, live_rows, rows_after}
 use Rattle.drf_rows.specs.declared.event.Event.{Event}
 use Rattle.drf_rows.specs.declared.rows.Rows.{Rows}

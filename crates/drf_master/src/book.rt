@@ -192,9 +192,10 @@ impl<S: Sorter> Book<S> {
         }
     }
 
-    /// Compares the journal with the receipts of passes. `Ok` is told exactly where the journal is a shuffle of them: each entry is one
-    /// receipt's, and those of a pass stand in its order. Otherwise the first fault is told, and of several places the least; `Memory`
-    /// may come before `Mismatch`. It never tells `Stranger`, and takes a time that is linear in journal and receipts.
+    /// Compares the journal with the receipts of passes. Where there is memory, `Ok` is told exactly where the journal is a shuffle of them:
+    /// each entry is one receipt's, and those of a pass stand in its order. Otherwise the first fault is told, and of several places the
+    /// least; want of memory is told only where none is missing. It never tells `Stranger`, and takes a time that is linear in journal and
+    /// receipts.
     pub fn matches(&self, passes: &[Pass]) -> Result<(), CloseFault>
         ensures ok { OnOk result (IsShuffle self.now.entries (receipts_of passes.now)) }
         ensures err { IfErr result (IsFault self.now.entries (receipts_of passes.now)) }

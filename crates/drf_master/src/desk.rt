@@ -203,7 +203,7 @@ impl<K: Naming, R: Wait + Drop> Desk<K, R> {
         Ok(answer)
     }
 
-    /// The book, which nobody shows any more. Viewers then read no sheet.
+    /// The book, which nobody shows any more.
     pub fn into_book(self) -> Book<MasterSorter>
         ensures entries { result.entries ≡ self }
         ensures limits { result.limits ≡ K.slate.limits }

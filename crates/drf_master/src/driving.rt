@@ -17,8 +17,8 @@ use std::sync::Wait;
 use std::thread;
 use std::thread::Threads;
 
-/// Why scripts did not run to their ends. Of the faults of several workers that of the first is told, or `Memory` where none is left for what
-/// the threads did.
+/// Why scripts did not run to their ends. A pass of another key is told before all else, and of the faults of several workers that of the
+/// first. `Memory` may come in place of any but a stranger: no clause says where it was wanting.
 #[derive(Clone, Copy, Debug, PartialEq, Eq)]
 pub enum DriveFault {
     /// The gate stopped a worker.
@@ -199,7 +199,7 @@ fn all_done(
     Ok((passes, replies))
 }
 
-// Runs each script on a thread and a pass of its own. A pass of another master is told before any thread starts.
+// Runs each script on a thread and a pass of its own. A pass of another key is told before any thread starts.
 fn run_scripts<
     K: Naming + Send + Sync,
     R: Wait + Drop + Send + Sync,
@@ -261,7 +261,8 @@ fn close_driven<K: Naming, R: Wait + Drop>(
 }
 
 /// Runs each script on a thread and a pass of its own, asks the gate round each call, joins all threads and closes the master. A pass
-/// of another master is told before any thread starts. After a fault the master and the passes are gone.
+/// of another key is told before all else, and before any thread starts, though no clause says that. After a fault the master and the
+/// passes are gone.
 pub fn drive<
     K: Naming + Send + Sync,
     R: Wait + Drop + Send + Sync,

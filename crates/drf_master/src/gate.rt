@@ -1,8 +1,8 @@
 //! When the workers of a drive go on.
 ghost use Rattle.std.specs.Prelude.{MatchBool};
 
-/// Is asked by each worker round each of its calls, outside the lock. Workers and calls are counted from 0. A gate of which nothing is
-/// to be known says `Unit {0}` of each call.
+/// Is asked by each worker round each of its calls; that it is outside the lock, before and after the call, no clause says. Workers and calls
+/// are counted from 0. A gate of which nothing is to be known says `Unit {0}` of each call.
 pub trait Gate {
     ghost use Rattle.std.specs.Prelude.{ℕ};
 

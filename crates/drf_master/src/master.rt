@@ -16,10 +16,10 @@ use drf_rows::{Event, Limits};
 use std::alloc::{AllocError, Global};
 use std::sync::{Mutex, Wait};
 
-/// Why a call was not made. Nothing was changed then.
+/// Why a call was not made. The pass is as it was; that journal and board are, the clause of `Desk::answer` says, and none of a call.
 #[derive(Clone, Copy, Debug, PartialEq, Eq)]
 pub enum CallFault {
-    /// The pass is of another master.
+    /// The pass has another key.
     Stranger,
     /// There is no memory for the call.
     Memory,
@@ -95,8 +95,8 @@ fn compare(key: u64, book: &Book<MasterSorter>, passes: &[Pass]) -> Result<(), C
 }
 
 impl<K: Naming, R: Wait + Drop> Master<K, R> {
-    /// A master that nobody has called, its passes, and the viewers of the slate that K names. The master keeps `rt` to wait for viewers
-    /// when it is dropped.
+    /// A master, its passes, which hold no receipts, and the viewers of the slate that K names, which have seen nothing. That its journal is
+    /// empty stands in no clause. The master keeps `rt` to wait for viewers when it is dropped.
     pub fn open(
         rt: R,
         alloc: Global,
@@ -178,8 +178,9 @@ impl<K: Naming, R: Wait + Drop> Master<K, R> {
         Ok(self.desk.lock(rt).answer_to(pass, event)?)
     }
 
-    /// Takes the book out of the lock. `Ok` is told where the passes are the master's and the journal is a shuffle of their receipts:
-    /// each call once, in its caller's order, with the reply that the caller was told. Otherwise the first fault is told.
+    /// Takes the book out of the lock. `Ok` is told only where the passes have the master's key and the journal is a shuffle of their receipts:
+    /// each call once, in its caller's order, with the reply that the caller was told. Otherwise the first fault is told; where no receipt is
+    /// missing, it may be `Memory`.
     pub fn close(self, passes: Vec<Pass>) -> Result<Book<MasterSorter>, CloseRefused>
         ensures closed { IfOk result (λ book. IsClosed K.slate.limits book self.key passes.items) }
         ensures kept { IfErr result (λ refused. refused.passes.items ≡ passes.items) }

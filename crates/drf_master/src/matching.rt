@@ -10,10 +10,11 @@ use crate::same::Same;
 use drf_board::Entry;
 use std::alloc::{AllocError, Global};
 
-/// Why passes do not fit a journal. Of several faults the first of this list is told, and of several places the least.
+/// Why passes do not fit a journal. Of several faults the first of this list is told, and of several places the least; `Memory` may come
+/// before `Mismatch`.
 #[derive(Clone, Copy, Debug, PartialEq, Eq)]
 pub enum CloseFault {
-    /// A pass is of another master.
+    /// A pass has another key than the master.
     Stranger,
     /// The passes hold fewer receipts than the journal has entries.
     Missing,
@@ -128,9 +129,10 @@ impl Tally {
     }
 }
 
-/// Compares a journal with the receipts that passes hold: a call for each entry, and each pass's calls in their order. `Ok` is told
-/// exactly where the journal is a shuffle of the receipts, or else the first fault that holds, `Missing` before `Mismatch` at the least
-/// wrong place; `Memory` may come before `Mismatch`. It never tells `Stranger`, and takes time linear in journal and receipts.
+/// Compares a journal with the receipts that passes hold: a call for each entry, and each pass's calls in their order. Where there is
+/// memory, `Ok` is told exactly where the journal is a shuffle of the receipts, or else the first fault that holds, `Missing` before
+/// `Mismatch` at the least wrong place; want of it is told only where none is missing. It never tells `Stranger`, and takes time linear
+/// in journal and receipts.
 pub fn matches(alloc: Global, journal: &[Entry], passes: &[Pass]) -> Result<(), CloseFault>
     ensures ok { OnOk result (IsShuffle journal.now (receipts_of passes.now)) }
     ensures err { IfErr result (IsFault journal.now (receipts_of passes.now)) }

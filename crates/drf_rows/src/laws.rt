@@ -5,16 +5,16 @@
 ghost use Rattle.std.specs.Prelude.{◌≡◌, [], ◌∷◌, codes};
 ghost use Rattle.drf_rows.specs.LimitNumbers.{ceilings};
 ghost use Rattle.drf_rows.specs.Step.{opening, replies_to};
-ghost use Rattle.drf_rows.specs.Laws.{NoneBeforeItself, AtMostOneBefore, OneServingOrder, TooLittleIsNotGranted, FirstIsGrantedAll, CasesRise, LeastIsTold, RefusedChangesNothing, AcceptedIsCounted, RunsGoOn, LiveRowsReply, LiveRowsGoOn, LiveRowsRun, HeldIsReported, CountIsReported, TotalIsReported, AmountsAreAboveZero, SharesAreLowest, NodesRise, NodesBeginPaths};
-ghost use Rattle.drf_rows.specs.LifeLaws.{AcceptedStartsTasks, DeclinedAtOnceIsUndone, FinishedIsGivenBack, FiltersGoWithTheirOwner, OtherFiltersStay, SuppressionIsItsClients, SuppressedIsNotOffered, NumbersAreNew, OtherAgentsStay, OtherFrameworksStay, OtherHoldingsStay, EndedIsGone, RemovedIsGone, ActivityIsItsAgents, CycleOnlyOffers};
-ghost use Rattle.drf_rows.specs.Examples.{one_cycle, two_cycles, two_cycles_replies, two_frameworks, two_frameworks_replies, replies_with, not_offered, offered_whole, refused_as_too_large, one_agent, two_agents, two_events, two_names, three_names, one_framework, one_client, two_registrations, one_role, roles_listed, reserved_for_eng, reserved_for_eng_replies, cpus, cpus_for, mem, gpus};
-ghost use Rattle.drf_rows.specs.OrderExamples.{served, offered, half_at_work, close_shares, equal_shares, weighted_shares, shares_of, first_agent, second_agent, idle_agent, role_tree, more_for_ops, half_weight_of_eng, nothing_held};
+ghost use Rattle.drf_rows.specs.laws.Laws.{NoneBeforeItself, AtMostOneBefore, OneServingOrder, TooLittleIsNotGranted, FirstIsGrantedAll, CasesRise, LeastIsTold, RefusedChangesNothing, AcceptedIsCounted, RunsGoOn, LiveRowsReply, LiveRowsGoOn, LiveRowsRun, HeldIsReported, CountIsReported, TotalIsReported, AmountsAreAboveZero, SharesAreLowest, NodesRise, NodesBeginPaths};
+ghost use Rattle.drf_rows.specs.laws.LifeLaws.{AcceptedStartsTasks, DeclinedAtOnceIsUndone, FinishedIsGivenBack, FiltersGoWithTheirOwner, OtherFiltersStay, SuppressionIsItsClients, SuppressedIsNotOffered, FilteredIsNotOffered, NumbersAreNew, OtherAgentsStay, OtherFrameworksStay, OtherHoldingsStay, EndedIsGone, RemovedIsGone, ActivityIsItsAgents, CycleOnlyOffers};
+ghost use Rattle.drf_rows.specs.examples.Examples.{one_cycle, two_cycles, two_cycles_replies, two_frameworks, two_frameworks_replies, replies_with, not_offered, offered_whole, refused_as_too_large, one_agent, two_agents, two_events, two_names, three_names, names_kept, names_kept_replies, one_framework, one_client, two_registrations, one_role, roles_listed, reserved_for_eng, reserved_for_eng_replies, cpus, cpus_for, mem, gpus};
+ghost use Rattle.drf_rows.specs.examples.OrderExamples.{served, offered, half_at_work, close_shares, equal_shares, weighted_shares, shares_of, first_agent, second_agent, idle_agent, role_tree, more_for_ops, half_weight_of_eng, nothing_held};
 ghost use Rattle.drf_rows.specs.Report.{report_of};
-ghost use Rattle.drf_rows.specs.ReportExamples.{tree_at_work, tree_report, one_weighted, weighted_report, nothing_there, nothing_report, reserved_held, reserved_report, two_reports, two_reports_replies};
-ghost use Rattle.drf_rows.specs.LifeExamples.{a_task, a_task_replies, two_tasks, two_tasks_replies, a_filter, a_filter_replies, a_clock, a_clock_replies, a_year, a_year_replies, one_filter, two_filters, two_filters_replies, taking_part, taking_part_replies, refused, refused_replies};
-ghost use Rattle.drf_rows.specs.FilterExamples.{whose_filter, whose_filter_replies, a_rest, a_rest_replies, a_later_decline, a_later_decline_replies, at_the_limit, at_the_limit_replies, two_roles, two_roles_replies, one_role_revives, one_role_revives_replies, who_leaves, who_leaves_replies};
-ghost use Rattle.drf_rows.specs.WeightLaws.{RoleHasItsWeight, OthersKeepTheirWeight, EachHasOneRow};
-ghost use Rattle.drf_rows.specs.WeightExamples.{bounds, bounds_replies, replaced, weights_after, replaced_rows, one_weight, one_weight_replies, replies_by_weight, third_to};
+ghost use Rattle.drf_rows.specs.examples.ReportExamples.{tree_at_work, tree_report, one_weighted, weighted_report, nothing_there, nothing_report, reserved_held, reserved_report, two_reports, two_reports_replies};
+ghost use Rattle.drf_rows.specs.examples.LifeExamples.{a_task, a_task_replies, two_tasks, two_tasks_replies, a_filter, a_filter_replies, a_clock, a_clock_replies, a_year, a_year_replies, one_filter, two_filters, two_filters_replies, taking_part, taking_part_replies, refused, refused_replies};
+ghost use Rattle.drf_rows.specs.examples.FilterExamples.{whose_filter, whose_filter_replies, a_rest, a_rest_replies, a_later_decline, a_later_decline_replies, at_the_limit, at_the_limit_replies, two_roles, two_roles_replies, one_role_revives, one_role_revives_replies, who_leaves, who_leaves_replies};
+ghost use Rattle.drf_rows.specs.laws.WeightLaws.{RoleHasItsWeight, OthersKeepTheirWeight, EachHasOneRow, NoRoleHasTwoRows};
+ghost use Rattle.drf_rows.specs.examples.WeightExamples.{bounds, bounds_replies, replaced, weights_after, replaced_rows, one_weight, one_weight_replies, replies_by_weight, third_to};
 
 use crate::reply::{Refusal, Reply};
 
@@ -76,9 +76,11 @@ pub fn others_law()
     ensures cycle { CycleOnlyOffers }
 {}
 
-/// A cycle offers nothing to a client that is suppressed, and no number is given to two offers.
+/// A cycle offers nothing to a client that is suppressed, and nothing that a filter in force then holds back; no number is
+/// given to two offers.
 pub fn offers_law()
     ensures suppressed { SuppressedIsNotOffered }
+    ensures filtered { FilteredIsNotOffered }
     ensures numbers { NumbersAreNew }
 {}
 
@@ -121,16 +123,19 @@ pub fn inactive_example()
 {}
 
 /// Of a scalar on one agent the largest amount is accepted, and one thousandth more is not; a limit of one or two of agents,
-/// names of scalars, frameworks, clients, roles or events refuses one more.
+/// names of scalars, frameworks, clients, roles or events refuses one more. Names count while their agent is known, active or
+/// not, and a role that is listed twice is one role and one client.
 pub fn limits_example()
     ensures largest { replies_with (cpus 1099511627775 ∷ []) ≡ offered_whole (cpus 1099511627775 ∷ []) }
     ensures too_large { replies_with (cpus 1099511627776 ∷ []) ≡ refused_as_too_large }
     ensures reserved { replies_with (cpus 1099511627775 ∷ cpus_for (codes "eng") 1 ∷ []) ≡ refused_as_too_large }
     ensures agents { replies_to one_agent opening two_agents ≡ Reply.Done ∷ Reply.Refused Refusal.TooMany ∷ [] }
     ensures names { replies_to two_names opening three_names ≡ Reply.Done ∷ Reply.Refused Refusal.TooMany ∷ Reply.Done ∷ [] }
+    ensures names_kept { replies_to two_names opening names_kept ≡ names_kept_replies }
     ensures frameworks { replies_to one_framework opening two_registrations ≡ Reply.Done ∷ Reply.Refused Refusal.TooMany ∷ [] }
     ensures clients { replies_to one_client opening two_registrations ≡ Reply.Done ∷ Reply.Refused Refusal.TooMany ∷ [] }
     ensures roles { replies_to one_role opening roles_listed ≡ Reply.Done ∷ Reply.Refused Refusal.TooMany ∷ [] }
+    ensures clients_listed { replies_to one_client opening roles_listed ≡ Reply.Done ∷ Reply.Refused Refusal.TooMany ∷ [] }
     ensures events { replies_to two_events opening one_cycle ≡ Reply.Done ∷ Reply.Done ∷ Reply.Refused Refusal.HistoryFull ∷ [] }
 {}
 
@@ -148,11 +153,13 @@ pub fn order_example()
     ensures below { served nothing_held ≡ codes "f2" ∷ codes "f1" ∷ [] }
 {}
 
-/// An event that sets a weight changes the weight of its role, and no other; each role keeps one row.
+/// An event that sets a weight changes the weight of its role, and no other; each role keeps one row, and in no run from the
+/// start has a role two.
 pub fn set_weight_law()
     ensures set { RoleHasItsWeight }
     ensures others { OthersKeepTheirWeight }
     ensures one_row { EachHasOneRow }
+    ensures run { NoRoleHasTwoRows }
 {}
 
 /// Weights are from a thousandth to 1000, a row that is replaced keeps its place, and the heavier of two roles that hold

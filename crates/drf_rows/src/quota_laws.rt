@@ -4,16 +4,16 @@
 ghost use Rattle.std.specs.Prelude.{◌≡◌};
 ghost use Rattle.drf_rows.specs.LimitNumbers.{ceilings};
 ghost use Rattle.drf_rows.specs.Step.{opening, replies_to};
-ghost use Rattle.drf_rows.specs.QuotaExamples.{no_cpus, no_cpus_replies, limit_in_cycle, limit_in_cycle_replies, reserved_below, reserved_below_replies, two_limits, two_limits_replies, cut_and_declined, cut_and_declined_replies, beyond_limit, beyond_limit_replies, moved_twice, moved_twice_replies, other_totals, other_totals_replies, limits_refused, limits_refused_replies, one_limit, more_limits, more_limits_replies};
-ghost use Rattle.drf_rows.specs.PortExamples.{PortsAreNotLimited, SomePortsAreReserved, NoPortIsShared, SomePortIsShared};
-ghost use Rattle.drf_rows.specs.QuotaLaws.{GrantKeepsLimits, CycleKeepsLimits, SpentLimitLeavesNothing, ConsumptionIsPartOfTotal};
-ghost use Rattle.drf_rows.specs.ReservationLaws.{ReservedIsGivenBack, ReservingKeepsLimits, MovedIsConsumed, ChangedAgentKeepsAll};
-ghost use Rattle.drf_rows.specs.EntitlementLaws.{EntitledByUnits};
-ghost use Rattle.drf_rows.specs.ConsumptionLaws.{RolesAboveConsumeMore, RestIsConsumedNoLonger, ConsumptionIsSmall};
-ghost use Rattle.drf_rows.specs.MovingLaws.{MovedOnly, ReservedCanBeGivenBack, GivenBackCanBeReserved, WithinLimitsItIsAdmitted, RefusedWouldPass, LimitsRefuseNothingElse};
-ghost use Rattle.drf_rows.specs.HeldForLaws.{ReservedIsHeldByItsRole};
-ghost use Rattle.drf_rows.specs.KeptLimitLaws.{ChangedAgentIsConsumed, RunsKeepLimits};
-ghost use Rattle.drf_rows.specs.LimitLaws.{RoleHasItsLimit, OthersKeepTheirLimit, LimitTakesNothing};
+ghost use Rattle.drf_rows.specs.examples.QuotaExamples.{no_cpus, no_cpus_replies, limit_in_cycle, limit_in_cycle_replies, reserved_below, reserved_below_replies, two_limits, two_limits_replies, cut_and_declined, cut_and_declined_replies, beyond_limit, beyond_limit_replies, moved_twice, moved_twice_replies, other_totals, other_totals_replies, limits_refused, limits_refused_replies, one_limit, more_limits, more_limits_replies};
+ghost use Rattle.drf_rows.specs.examples.PortExamples.{PortsAreNotLimited, SomePortsAreReserved, NoPortIsShared, SomePortIsShared};
+ghost use Rattle.drf_rows.specs.laws.QuotaLaws.{GrantKeepsLimits, CycleKeepsLimits, SpentLimitLeavesNothing, ConsumptionIsPartOfTotal};
+ghost use Rattle.drf_rows.specs.laws.ReservationLaws.{ReservedIsGivenBack, ReservingKeepsLimits, MovedIsConsumed, ChangedAgentKeepsAll};
+ghost use Rattle.drf_rows.specs.laws.EntitlementLaws.{EntitledByUnits};
+ghost use Rattle.drf_rows.specs.laws.ConsumptionLaws.{RolesAboveConsumeMore, RestIsConsumedNoLonger, ConsumptionIsSmall};
+ghost use Rattle.drf_rows.specs.laws.MovingLaws.{MovedOnly, ReservedCanBeGivenBack, GivenBackCanBeReserved, WithinLimitsItIsAdmitted, RefusedWouldPass, LimitsRefuseNothingElse};
+ghost use Rattle.drf_rows.specs.laws.HeldForLaws.{ReservedIsHeldByItsRole};
+ghost use Rattle.drf_rows.specs.laws.KeptLimitLaws.{ChangedAgentIsConsumed, RunsKeepLimits};
+ghost use Rattle.drf_rows.specs.laws.LimitLaws.{RoleHasItsLimit, OthersKeepTheirLimit, LimitTakesNothing};
 
 /// An offer of what a client may have of a bundle takes neither its role nor a role above it over a limit, and so no cycle does.
 /// A limit that is at most the consumption leaves nothing, and no role consumes more than there is.

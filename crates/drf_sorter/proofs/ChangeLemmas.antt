@@ -11,7 +11,7 @@ use Rattle.std.proofs.lemmas.List.Quantifiers.{position-Some}
 use Rattle.std.proofs.lemmas.List.{map_push, length-map, get_or-map, take_more}
 use Rattle.std.proofs.lemmas.Map.Keys.{IsDistinct-head, IsDistinct-tail, IsDistinct-push}
 use Rattle.drf_bundle.specs.Quantities.{amount_of, is_in_order, plus, minus}
-use Rattle.drf_bundle.specs.QuantitiesLaws.{amount-plus, amount-minus}
+use Rattle.drf_bundle.specs.laws.QuantitiesLaws.{amount-plus, amount-minus}
 use Rattle.drf_bundle.specs.declared.quantities.Entry.{Entry}
 use Rattle.drf_role.specs.Path.{same_path}
 use Rattle.drf_sorter.specs.declared.client.Client.{Client}

@@ -14,21 +14,21 @@ use Rattle.drf_bundle.specs.declared.quantities.Entry.{Entry}
 use Rattle.drf_role.specs.Text.{Text}
 use Rattle.drf_role.specs.Path.{Path, begins_with, same_path}
 use Rattle.drf_role.specs.PathLaws.{same_path-true}
-use Rattle.drf_rows.specs.Laws.{are_in_order}
-use Rattle.drf_rows.specs.LowestLaws.{lowest_terms-same}
+use Rattle.drf_rows.specs.laws.Laws.{are_in_order}
+use Rattle.drf_rows.specs.laws.LowestLaws.{lowest_terms-same}
 use Rattle.drf_rows.specs.Report.{path_cmp}
-use Rattle.drf_rows.specs.ReportLaws.{begins_take}
-use Rattle.drf_rows.specs.ReportedShares.{small_entries, part_of_greatest}
+use Rattle.drf_rows.specs.laws.ReportLaws.{begins_take}
+use Rattle.drf_rows.specs.laws.ReportedShares.{small_entries, part_of_greatest}
 use Rattle.drf_rows.specs.Share.{lowest_terms}
 use Rattle.drf_rows.specs.declared.report.NodeLine.{NodeLine}
 use Rattle.drf_sorter.specs.Content.{Content, Ranked, has_client, has_node}
 use Rattle.drf_sorter.specs.Fractions.{dominant_of, weigh}
-use Rattle.drf_sorter.specs.FractionLaws.{same_as_weighed}
-use Rattle.drf_sorter.specs.LineLaws.{has_line-new, has_line-others, same_from_tie}
+use Rattle.drf_sorter.specs.laws.FractionLaws.{same_as_weighed}
+use Rattle.drf_sorter.specs.laws.LineLaws.{has_line-new, has_line-others, same_from_tie}
 use Rattle.drf_sorter.specs.Lines.{AreAtPaths, has_line, paths_of, with_line}
 use Rattle.drf_sorter.proofs.PrefixLemmas.{begins_short, begins_to}
 use Rattle.drf_sorter.specs.Share.{fraction_of}
-use Rattle.drf_sorter.specs.ShareLaws.{above_zero, below_128}
+use Rattle.drf_sorter.specs.laws.ShareLaws.{above_zero, below_128}
 use Rattle.drf_sorter.specs.declared.share.Share.{Share}
 
 -- a share of weight 1 has the terms of the dominant share

@@ -19,9 +19,9 @@ use Rattle.drf_sorter.specs.declared.key.Key.{Key}
 use Rattle.drf_sorter.specs.declared.candidate.Candidate.{Candidate}
 use Rattle.drf_sorter.specs.Candidates.{HasKeys}
 use Rattle.drf_role.specs.PathLaws.{client_paths-apart}
-use Rattle.drf_sorter.specs.OrderLaws.{is_lt-keys, stands_before-total}
+use Rattle.drf_sorter.specs.laws.OrderLaws.{is_lt-keys, stands_before-total}
 use Rattle.drf_sorter.specs.Keys.{key_by, key_cmp}
-use Rattle.drf_sorter.specs.ShareLaws.{share_total}
+use Rattle.drf_sorter.specs.laws.ShareLaws.{share_total}
 
 -- ---- the order of candidates
 

@@ -10,12 +10,12 @@ use Rattle.std.proofs.lemmas.List.Sums.{AllPass-from_list_all}
 use Rattle.drf_role.specs.Text.{text_below}
 use Rattle.drf_role.specs.TextLaws.{below_other}
 use Rattle.drf_bundle.specs.Quantities.{amount_of, is_in_order}
-use Rattle.drf_bundle.specs.QuantitiesLaws.{amount_head}
+use Rattle.drf_bundle.specs.laws.QuantitiesLaws.{amount_head}
 use Rattle.drf_bundle.specs.declared.quantities.Entry.{Entry}
 use Rattle.drf_rows.specs.Share.{Fraction, is_less, greater}
 use Rattle.drf_sorter.specs.declared.share.Share.{Share}
 use Rattle.drf_sorter.specs.Fractions.{fraction_cmp, weigh, dominant_of}
-use Rattle.drf_sorter.specs.FractionLaws.{nat_cmp-scale, product_above, is_lt-fraction_cmp}
+use Rattle.drf_sorter.specs.laws.FractionLaws.{nat_cmp-scale, product_above, is_lt-fraction_cmp}
 use Rattle.drf_sorter.specs.Share.{fraction_of, share_cmp}
 
 -- one weight on both sides does not matter

@@ -6,7 +6,7 @@ use Rattle.std.proofs.lemmas.List.Quantifiers.{position-Some}
 use Rattle.drf_role.specs.Path.{same_path}
 use Rattle.drf_rows.specs.declared.rows.WeightRow.{WeightRow}
 use Rattle.drf_rows.specs.Weights.{is_weight, are_weights, weights_with}
-use Rattle.drf_rows.specs.WeightLaws.{in_range}
+use Rattle.drf_rows.specs.laws.WeightLaws.{in_range}
 use Rattle.drf_sorter.specs.Content.{Content}
 use Rattle.drf_sorter.specs.Plain.{plain_content}
 use Rattle.drf_sorter.specs.declared.plain.PlainSorter.{PlainSorter}

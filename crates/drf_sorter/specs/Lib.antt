@@ -1,15 +1,11 @@
 pub mod Content
 pub mod Work
 pub mod Fractions
-pub mod FractionLaws
 pub mod Share
-pub mod ShareLaws
 pub mod Keys
-pub mod OrderLaws
 pub mod Plain
 pub mod Candidates
-pub mod Laws
-pub mod Examples
 pub mod Served
 pub mod Lines
-pub mod LineLaws
+pub mod laws
+pub mod examples

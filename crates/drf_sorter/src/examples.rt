@@ -4,7 +4,7 @@
 ghost use Rattle.std.specs.Prelude.{◌≡◌, [], ◌∷◌, false, IsTrue};
 ghost use Rattle.drf_rows.specs.Share.{is_serving_order, lowest_terms, share_of, weighted_share_of};
 ghost use Rattle.drf_sorter.specs.Content.{has_node, standing_in};
-ghost use Rattle.drf_sorter.specs.Examples.{client_of_eng, client_of_eng_mark, client_of_eng_web, client_of_ops, dev, eng, eng_has_half_weight, four_charges, ops_gave_back, three_charges, two_clients};
+ghost use Rattle.drf_sorter.specs.examples.Examples.{client_of_eng, client_of_eng_mark, client_of_eng_web, client_of_ops, dev, eng, eng_has_half_weight, four_charges, ops_gave_back, three_charges, two_clients};
 
 /// Three clients share 8 cpus along the role tree.
 pub fn order_of_three_example()

@@ -4,7 +4,7 @@ ghost use Rattle.std.specs.Prelude.{◌≡◌, ◌≤◌, true, false, not};
 ghost use Rattle.std.specs.Ordering.{is_lt, is_eq};
 ghost use Rattle.drf_role.specs.Path.{Path, begins_with};
 ghost use Rattle.drf_rows.specs.Share.{Standing, is_less, is_same, stands_before};
-ghost use Rattle.drf_sorter.specs.Laws.{ArrivalDoesNotMatter, ClientsHaveDefaultWeight, HeavierHasLess, LesserNameFirst, LowestIsFound, NothingIsZero, OneLowestForm, ProductsFit, SameLowestForm, SuppressedCounts, UndoneChargeChangesNothing};
+ghost use Rattle.drf_sorter.specs.laws.Laws.{ArrivalDoesNotMatter, ClientsHaveDefaultWeight, HeavierHasLess, LesserNameFirst, LowestIsFound, NothingIsZero, OneLowestForm, ProductsFit, SameLowestForm, SuppressedCounts, UndoneChargeChangesNothing};
 ghost use Rattle.drf_sorter.specs.Served.{EachBeforeAllLater, EachHasItsTurn, EachIsServedOnce};
 ghost use Rattle.drf_sorter.specs.Share.{fraction_of, share_cmp, share_eq};
 ghost use Rattle.drf_sorter.specs.declared.share.Share.{Share};

@@ -2,7 +2,7 @@
 ghost use Rattle.std.specs.Prelude.{◌≡◌, ◌≤◌, ◌<◌, ◌^◌, [], IfOk, IsTrue, OnOk};
 ghost use Rattle.drf_bundle.specs.Quantities.{amount_of, is_in_order};
 ghost use Rattle.drf_role.specs.Text.{Text};
-ghost use Rattle.drf_rows.specs.Laws.{are_in_order};
+ghost use Rattle.drf_rows.specs.laws.Laws.{are_in_order};
 ghost use Rattle.drf_sorter.specs.Lines.{line_with, paths_of, with_line};
 
 use crate::plain::DEFAULT_WEIGHT;

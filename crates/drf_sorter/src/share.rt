@@ -78,7 +78,7 @@ fn cross_product(part: u64, whole: u64, weight: u64) -> u128
 impl PartialEq for Share {
     ghost use Rattle.std.specs.Cmp;
     ghost use Rattle.drf_sorter.specs.Share.{share_eq};
-    ghost use Rattle.drf_sorter.specs.ShareLaws.{share_equiv};
+    ghost use Rattle.drf_sorter.specs.laws.ShareLaws.{share_equiv};
 
     ghost eq = { share_eq };
 
@@ -91,7 +91,7 @@ impl PartialEq for Share {
 }
 
 impl Eq for Share {
-    ghost use Rattle.drf_sorter.specs.ShareLaws.{share_equiv};
+    ghost use Rattle.drf_sorter.specs.laws.ShareLaws.{share_equiv};
 
     ghost laws = { share_equiv };
 }
@@ -99,7 +99,7 @@ impl Eq for Share {
 impl PartialOrd for Share {
     ghost use Rattle.std.specs.Ordering.{as_partial_cmp};
     ghost use Rattle.drf_sorter.specs.Share.{share_cmp};
-    ghost use Rattle.drf_sorter.specs.ShareLaws.{share_partial};
+    ghost use Rattle.drf_sorter.specs.laws.ShareLaws.{share_partial};
 
     ghost partial_cmp = { as_partial_cmp share_cmp };
 
@@ -113,7 +113,7 @@ impl PartialOrd for Share {
 impl Ord for Share {
     ghost use Rattle.std.specs.Prelude.{refl};
     ghost use Rattle.drf_sorter.specs.Share.{share_cmp};
-    ghost use Rattle.drf_sorter.specs.ShareLaws.{share_total, share_ties};
+    ghost use Rattle.drf_sorter.specs.laws.ShareLaws.{share_total, share_ties};
 
     ghost cmp = { share_cmp };
 

@@ -10,17 +10,17 @@ use Rattle.std.proofs.lemmas.List.Folds.{find_at}
 use Rattle.indexmap.specs.IndexMap.{insert_entry}
 use Rattle.drf_role.specs.Text.{Text, same_text}
 use Rattle.drf_bundle.specs.Quantities.{amount_of, plus}
-use Rattle.drf_bundle.specs.QuantitiesLaws.{amount-plus}
-use Rattle.drf_bundle.specs.UnitProofs.{quantities_no_zeros}
+use Rattle.drf_bundle.specs.laws.QuantitiesLaws.{amount-plus}
+use Rattle.drf_bundle.specs.laws.UnitProofs.{quantities_no_zeros}
 use Rattle.drf_bundle.specs.Bundle.{quantities_of}
 use Rattle.drf_bundle.specs.declared.quantities.Entry.{Entry}
 use Rattle.drf_rows.specs.Held.{cluster_total}
 use Rattle.drf_rows.specs.Cycle.{free_of}
 use Rattle.drf_rows.specs.Members.{has_agent, has_framework}
 use Rattle.drf_rows.specs.Consistent.{IsAgent}
-use Rattle.drf_rows.specs.ConsistentLaws.{same_text-swap}
+use Rattle.drf_rows.specs.laws.ConsistentLaws.{same_text-swap}
 use Rattle.drf_rows.specs.Totals.{agent_at as found_agent}
-use Rattle.drf_rows.specs.RegistrationLaws.{agent_added, framework_added}
+use Rattle.drf_rows.specs.laws.RegistrationLaws.{agent_added, framework_added}
 use Rattle.drf_rows.specs.declared.limits.TheConstants.{LARGEST_AMOUNT}
 use Rattle.drf_rows.specs.declared.rows.AgentRow.{AgentRow}
 use Rattle.drf_rows.specs.declared.rows.ClientRow.{ClientRow}
@@ -31,7 +31,7 @@ use Rattle.drf_tables.specs.DraftLaws.{offers_added, with_offers-added}
 use Rattle.drf_tables.specs.Counting.{counting_all}
 use Rattle.drf_tables.specs.Inside.{agent_row, framework_row, framework_rows, rows_of, rows_in, IsKnown}
 use Rattle.drf_rows.specs.Holdings.{holdings_of}
-use Rattle.drf_rows.specs.ListLaws.{each_at}
+use Rattle.drf_rows.specs.laws.ListLaws.{each_at}
 use Rattle.drf_bundle.specs.declared.resource.Resource.{Resource}
 use Rattle.drf_holdings.specs.Stored.{Standing}
 use Rattle.drf_tables.specs.declared.tables.Agent.{Agent}

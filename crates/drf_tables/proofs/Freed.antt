@@ -5,14 +5,14 @@ use Rattle.std.proofs.Common.{refl, sym, ap, subst, ◌∙◌, arith}
 use Rattle.drf_role.specs.Text.{Text, same_text}
 use Rattle.drf_bundle.specs.Value.{Point}
 use Rattle.drf_bundle.specs.Bundle.{Key, IsBundle, join, units}
-use Rattle.drf_bundle.specs.BundleLaws.{known_by_units}
-use Rattle.drf_bundle.specs.FitLaws.{join_some}
+use Rattle.drf_bundle.specs.laws.BundleLaws.{known_by_units}
+use Rattle.drf_bundle.specs.laws.FitLaws.{join_some}
 use Rattle.drf_bundle.specs.Taken.{units_of_all, rest_of_all, bundle-rest_of_all, units-rest_of_all}
 use Rattle.drf_bundle.specs.declared.resource.Resource.{Resource}
 use Rattle.drf_rows.specs.Consistent.{IsAgent, IsCovered}
-use Rattle.drf_rows.specs.ConsistentLaws.{same_text-swap}
+use Rattle.drf_rows.specs.laws.ConsistentLaws.{same_text-swap}
 use Rattle.drf_rows.specs.Holdings.{Holding, AreBundles, parts_on}
-use Rattle.drf_rows.specs.HoldingsLaws.{each_part}
+use Rattle.drf_rows.specs.laws.HoldingsLaws.{each_part}
 use Rattle.drf_tables.specs.Changing.{changed, freed, joined_free}
 use Rattle.drf_tables.specs.Inside.{agent_row, IsKnown}
 use Rattle.drf_tables.specs.declared.tables.Agent.{Agent}

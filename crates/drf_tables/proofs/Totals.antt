@@ -5,13 +5,13 @@ use Rattle.std.proofs.Common.{sym, subst, arith}
 use Rattle.drf_role.specs.Text.{Text, same_text}
 use Rattle.drf_bundle.specs.Bundle.{quantities_of}
 use Rattle.drf_bundle.specs.Quantities.{plus, minus, covers, is_in_order, without_zeros, HasNoZeros}
-use Rattle.drf_bundle.specs.QuantitiesLaws.{amount-minus, amount-without_zeros, covers_from, in_order-minus, no_zeros-empty, no_zeros-plus, no_zeros-without_zeros, same_quantities}
-use Rattle.drf_bundle.specs.UnitProofs.{quantities_no_zeros}
+use Rattle.drf_bundle.specs.laws.QuantitiesLaws.{amount-minus, amount-without_zeros, covers_from, in_order-minus, no_zeros-empty, no_zeros-plus, no_zeros-without_zeros, same_quantities}
+use Rattle.drf_bundle.specs.laws.UnitProofs.{quantities_no_zeros}
 use Rattle.drf_bundle.specs.declared.quantities.Entry.{Entry}
 use Rattle.drf_rows.specs.Consistent.{IsAgent, AreAgents}
 use Rattle.drf_rows.specs.Held.{cluster_total}
-use Rattle.drf_rows.specs.ListLaws.{each_filter, each_find}
-use Rattle.drf_rows.specs.MemberLaws.{amount-without_named}
+use Rattle.drf_rows.specs.laws.ListLaws.{each_filter, each_find}
+use Rattle.drf_rows.specs.laws.MemberLaws.{amount-without_named}
 use Rattle.drf_rows.specs.declared.rows.AgentRow.{AgentRow}
 
 no_zeros-added : (start : List Entry) (agents : List AgentRow) → HasNoZeros start → AllByRecursion IsAgent agents

@@ -13,9 +13,9 @@ use Rattle.drf_amount.specs.declared.algebra.AlgebraFault.{AlgebraFault}
 use Rattle.drf_amount.specs.declared.algebra.AlgebraFault.TheVariants as refused
 use Rattle.drf_bundle.specs.Value.{Point, Thousandths, units_in, amount_in, is_same_kind, share_members}
 use Rattle.drf_bundle.specs.Bundle.{Key, key_of, key_below, same_key, is_in_order, stock, IsResource, Fits, IsBundle, merged, filled_of, refusal, join_or}
-use Rattle.drf_bundle.specs.BundleLaws.{bundle-empty}
-use Rattle.drf_bundle.specs.FitLaws.{stock_has, fits_less, stock_of_both, IsFree, free_from_refusal, join_fits}
-use Rattle.drf_bundle.specs.KeyLaws.{cases_key, stands_first, unit_of, where-cons}
+use Rattle.drf_bundle.specs.laws.BundleLaws.{bundle-empty}
+use Rattle.drf_bundle.specs.laws.FitLaws.{stock_has, fits_less, stock_of_both, IsFree, free_from_refusal, join_fits}
+use Rattle.drf_bundle.specs.laws.KeyLaws.{cases_key, stands_first, unit_of, where-cons}
 use Rattle.drf_bundle.specs.Union.{has_other_kind, is_reserved_elsewhere, is_too_much, union_refusal, with_united}
 use Rattle.drf_bundle.specs.declared.resource.Resource.{Resource}
 use Rattle.drf_text.specs.Meaning.{after, text_fault_of, put_or, put, meaning_from}

@@ -7,7 +7,7 @@ use Rattle.std.specs.Prelude.{IsTrue, nat_lt}
 use Rattle.drf_role.specs.Text.{Text, text_below}
 use Rattle.drf_role.specs.TextLaws.{below_other, cmp_above}
 use Rattle.drf_bundle.specs.Quantities.{amount_of, is_in_order, with_amount}
-use Rattle.drf_bundle.specs.QuantitiesLaws.{stands_first}
+use Rattle.drf_bundle.specs.laws.QuantitiesLaws.{stands_first}
 use Rattle.drf_bundle.specs.declared.quantities.Entry.{Entry}
 use Rattle.drf_bundle.specs.declared.value.Value.TheVariants.{Scalar}
 use Rattle.drf_text.specs.Blanks.{is_blank}

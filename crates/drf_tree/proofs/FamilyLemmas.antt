@@ -10,7 +10,7 @@ use Rattle.std.specs.Ordering.{is_lt}
 use Rattle.std.specs.String.{string_bytes}
 use Rattle.std.proofs.Common.{refl, sym, ap, ◌∙◌, inl, inr, arith}
 use Rattle.std.proofs.lemmas.List.{take-append-drop}
-use Rattle.drf_rows.specs.EndingLaws.{split_at}
+use Rattle.drf_rows.specs.laws.EndingLaws.{split_at}
 use Rattle.std.proofs.lemmas.Bool.{true≢false, cases_Bool, and_from, and_parts, eqb-true, not-true}
 use Rattle.std.proofs.lemmas.Cmp.{then_total, on_total}
 use Rattle.std.proofs.lemmas.List.MinMax.{ranks_by}
@@ -19,7 +19,7 @@ use Rattle.std.proofs.lemmas.Option.{slice_get_read}
 use Rattle.drf_sorter.specs.declared.key.Key as made
 use Rattle.drf_sorter.specs.Keys.{key_by, key_cmp}
 use Rattle.drf_sorter.proofs.ChangeLemmas.{position-none}
-use Rattle.drf_sorter.specs.ShareLaws.{share_total}
+use Rattle.drf_sorter.specs.laws.ShareLaws.{share_total}
 use Rattle.drf_tree.specs.declared.family.Child.{Child}
 use Rattle.drf_tree.specs.Family.{IsWith, are_sorted, has_child, is_before, is_not_behind, seen}
 

@@ -13,9 +13,9 @@ use Rattle.drf_role.specs.TextLaws.{same_itself}
 use Rattle.drf_role.specs.Path.{Path}
 use Rattle.drf_rows.specs.Share.{Fraction, Standing, is_ahead}
 use Rattle.drf_sorter.specs.Fractions.{fraction_cmp}
-use Rattle.drf_sorter.specs.FractionLaws.{fraction_cmp-antisymm, fraction_cmp-congr}
+use Rattle.drf_sorter.specs.laws.FractionLaws.{fraction_cmp-antisymm, fraction_cmp-congr}
 use Rattle.drf_sorter.specs.Keys.{Key, key_by, key_cmp, key_of}
-use Rattle.drf_sorter.specs.OrderLaws.{is_ahead-is, is_ahead-total, weighted_share-above}
+use Rattle.drf_sorter.specs.laws.OrderLaws.{is_ahead-is, is_ahead-total, weighted_share-above}
 use Rattle.drf_sorter.specs.Served.{Weighs}
 use Rattle.drf_tree.specs.declared.family.Child.{Child}
 use Rattle.drf_tree.specs.Family.{IsSameKey, are_sorted, child_name, is_not_behind}

@@ -9,7 +9,7 @@ use Rattle.drf_role.specs.Path.{Path}
 use Rattle.drf_role.specs.Text.{Text, same_text}
 use Rattle.drf_role.specs.TextLaws.{same_from_test}
 use Rattle.drf_sorter.specs.Content.{Content, has_node, standing_in}
-use Rattle.drf_sorter.specs.LineLaws.{IsLineOf-with}
+use Rattle.drf_sorter.specs.laws.LineLaws.{IsLineOf-with}
 use Rattle.drf_sorter.specs.Lines.{IsLineOf, line_with}
 use Rattle.drf_tree.specs.declared.family.Child.{Child}
 use Rattle.drf_tree.specs.declared.node.Place.{Place}

@@ -13,13 +13,13 @@ use Rattle.drf_role.specs.Text.{Text, same_text}
 use Rattle.drf_role.specs.TextLaws.{same_itself}
 use Rattle.drf_role.specs.Path.{Path, begins_with, same_path}
 use Rattle.drf_rows.specs.Held.{weight_of}
-use Rattle.drf_rows.specs.ListLaws.{each_from_both}
+use Rattle.drf_rows.specs.laws.ListLaws.{each_from_both}
 use Rattle.drf_rows.specs.Weights.{are_weights}
 use Rattle.drf_rows.specs.declared.rows.WeightRow.{WeightRow}
 use Rattle.drf_sorter.specs.Content.{Content, IsSound, standing_in}
 use Rattle.drf_sorter.specs.Fractions.{dominant_of, fraction_cmp, weigh}
 use Rattle.drf_sorter.specs.Keys.{Key, key_by, key_of}
-use Rattle.drf_sorter.specs.OrderLaws.{weighted_share-above}
+use Rattle.drf_sorter.specs.laws.OrderLaws.{weighted_share-above}
 use Rattle.drf_sorter.specs.Plain.{plain_content}
 use Rattle.drf_sorter.specs.Served.{Weighs}
 use Rattle.drf_sorter.specs.declared.plain.PlainSorter.{PlainSorter}

@@ -7,7 +7,7 @@ use Rattle.drf_role.specs.Path.{Path, begins_with}
 use Rattle.drf_role.specs.Text.{Text}
 use Rattle.drf_rows.specs.Share.{share_of}
 use Rattle.drf_sorter.specs.Content.{Content, IsSound, Ranked, has_node, standing_in}
-use Rattle.drf_sorter.specs.FractionLaws.{same_as_weighed}
+use Rattle.drf_sorter.specs.laws.FractionLaws.{same_as_weighed}
 use Rattle.drf_sorter.specs.Fractions.{dominant_of, weigh}
 use Rattle.drf_sorter.specs.Share.{IsShareOf, fraction_of}
 use Rattle.drf_sorter.specs.declared.share.Share.{Share}

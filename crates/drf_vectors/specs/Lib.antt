@@ -1,1 +1,2 @@
 pub mod OneAgent
+pub mod TwoClients

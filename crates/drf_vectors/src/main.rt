@@ -1,5 +1,5 @@
-//! Answers questions about names, roles, paths, sets, amounts, pools, limits, audits and boards, one a line: the vectors of the
-//! libraries.
+//! Answers questions about names, roles, paths, sets, amounts, pools, limits, sorters, audits and boards, one a line: the vectors of
+//! the libraries.
 #![tactic(auto)]
 
 mod amounts;
@@ -10,6 +10,7 @@ mod paths;
 mod pools;
 mod quantities;
 mod shares;
+mod sorters;
 mod texts;
 mod words;
 
@@ -85,6 +86,7 @@ fn answer(alloc: Global, told: &mut String, kind: &str, text: &str) -> Result<()
         "pool_of_bundles" => pools::answers::<Bundle>(alloc, told, text),
         "quantities" => quantities::compared(alloc, told, text),
         "shares" => shares::compared(told, text),
+        "sorter" => sorters::answers(alloc, told),
         "quota" => limits::answers(alloc, told, text),
         "consumed_of" => limits::of_bundle(alloc, told, text),
         _ => answer_of_texts(alloc, told, kind, text),

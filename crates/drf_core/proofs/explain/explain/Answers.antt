@@ -23,7 +23,7 @@ pub tell_turns-requires-clause-drafting : goal.tell_turns-requires-clause-drafti
 tell_turns-requires-clause-drafting g c =
     let b = (goal.at.tell_turns-requires-clause-drafting g c).After-quota_of in
     drafting-begins (g.S.Sorter.content c.args.sorter.now) c.args.limits.now c.args.tables.now.rows c.quota_of.new.tables.rows c.max-moment.result c.new.result.items
-    c.requires.kept (omega (arith, c.requires.kept.consistent.early, c.requires.early, c.max-moment.ensures, c.clock.ensures)) (moved g b) c.new.ensures.items
+    c.requires.sorted c.requires.kept (omega (arith, c.requires.kept.consistent.early, c.requires.early, c.max-moment.ensures, c.clock.ensures)) (moved g b) c.new.ensures.items
 
 pub tell_turns-requires-clause-quota : goal.tell_turns-requires-clause-quota
 tell_turns-requires-clause-quota g c =

@@ -1,6 +1,6 @@
 use Rattle.std.proofs.Common.{◌≡◌, Some, sym, ap, ◌∙◌}
 use Rattle.std.specs.Prelude.{option_copied}
-use Rattle.drf_rows.specs.EndingLaws.{held-offer_at}
+use Rattle.drf_rows.specs.laws.EndingLaws.{held-offer_at}
 use Rattle.drf_rows.specs.Offers.{offer_at}
 use Rattle.drf_rows.specs.declared.rows.OfferRow.{OfferRow}
 use Rattle.drf_rows.specs.declared.rows.Rows.{Rows}

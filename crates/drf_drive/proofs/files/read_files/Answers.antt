@@ -12,7 +12,8 @@ returns-in_err-bytes-clause-fault g c =
     let told = subst (λ (name : List ℕ). IsFileFault (known name) fault) c.as_str.ensures
     (subst (λ (k : Known). IsFileFault (k c.as_str.result.now) fault) c.loop-name.invariant.same c.in_err-bytes.ensures.fault) in
     let p = err_from_is_err_and c.from_residual-in_err-bytes.result c.from_residual-in_err-bytes.ensures.1 in
-    rw (p.1, p.2) (contents-fault g.S.AsStr.text known c.args.names.now c.loop-name.name-index c.name-item.result c.loop-name-test.true c.name-item.is fault told)
+    rw (p.1, p.2) (contents-fault g.S.AsStr.text known c.args.names.now c.loop-name.name-index c.name-item.result c.loop-name-test.true c.name-item.is
+    (bytes_of c.loop-name.contents.items) c.loop-name.invariant.read fault told)
 
 pub loop-name-preserved : goal.loop-name-preserved
 loop-name-preserved g c =

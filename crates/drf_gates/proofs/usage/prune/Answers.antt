@@ -1,6 +1,6 @@
 use Rattle.std.proofs.Common.{ap, ◌∙◌}
 use Rattle.drf_bundle.specs.Quantities.{amount_of}
-use Rattle.drf_bundle.specs.QuantitiesLaws.{amount-without_zeros}
+use Rattle.drf_bundle.specs.laws.QuantitiesLaws.{amount-without_zeros}
 use Rattle.drf_bundle.specs.declared.quantities.Entry.{Entry}
 use Rattle.std.proofs.Common.{List}
 use Rattle.drf_gates.proofs.usage.prune.Goals as goal

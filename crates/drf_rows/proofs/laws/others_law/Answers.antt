@@ -1,5 +1,5 @@
-use Rattle.drf_rows.specs.OthersLaws.{other_agents_stay, other_frameworks_stay, other_holdings_stay, ended_is_gone, removed_is_gone, activity_is_its_agents, cycle_only_offers}
-use Rattle.drf_rows.specs.SuppressionLaws.{suppression_is_its_clients}
+use Rattle.drf_rows.specs.laws.OthersLaws.{other_agents_stay, other_frameworks_stay, other_holdings_stay, ended_is_gone, removed_is_gone, activity_is_its_agents, cycle_only_offers}
+use Rattle.drf_rows.specs.laws.SuppressionLaws.{suppression_is_its_clients}
 use Rattle.drf_rows.proofs.laws.others_law.Goals as goal
 
 pub returns-clause-agents : goal.returns-clause-agents

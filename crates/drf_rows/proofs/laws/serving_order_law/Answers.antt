@@ -1,4 +1,4 @@
-use Rattle.drf_rows.specs.ServingOrder.{stands_before_itself, stands_before-back, serving_order-unique}
+use Rattle.drf_rows.specs.laws.ServingOrder.{stands_before_itself, stands_before-back, serving_order-unique}
 use Rattle.drf_rows.proofs.laws.serving_order_law.Goals as goal
 
 pub returns-clause-irreflexive : goal.returns-clause-irreflexive

@@ -1,5 +1,5 @@
-use Rattle.drf_rows.specs.StepLaws.{cases_rise, least_is_told, reply_to-refused, rows_after-refused, reply_to-accepted, rows_after-accepted}
-use Rattle.drf_rows.specs.RunLaws.{replies_to-append, rows_after_all-append}
+use Rattle.drf_rows.specs.laws.StepLaws.{cases_rise, least_is_told, reply_to-refused, rows_after-refused, reply_to-accepted, rows_after-accepted}
+use Rattle.drf_rows.specs.laws.RunLaws.{replies_to-append, rows_after_all-append}
 use Rattle.drf_rows.proofs.laws.step_law.Goals as goal
 
 pub returns-clause-rising : goal.returns-clause-rising

@@ -1,4 +1,4 @@
-use Rattle.drf_rows.specs.CycleLaws.{all_tried_none, all_tried_first}
+use Rattle.drf_rows.specs.laws.CycleLaws.{all_tried_none, all_tried_first}
 use Rattle.drf_rows.proofs.laws.turn_law.Goals as goal
 
 pub returns-clause-little : goal.returns-clause-little

@@ -1,4 +1,4 @@
-use Rattle.drf_rows.specs.MovingLaws.{refused_would_pass, limits_refuse_nothing_else}
+use Rattle.drf_rows.specs.laws.MovingLaws.{refused_would_pass, limits_refuse_nothing_else}
 use Rattle.drf_rows.proofs.quota_laws.limit_refusals_law.Goals as goal
 
 pub returns : goal.returns

@@ -1,4 +1,4 @@
-use Rattle.drf_rows.specs.QuotaLaws.{grant_keeps_limits, cycle_keeps_limits, spent_limit_leaves_nothing, consumption_is_part_of_total}
+use Rattle.drf_rows.specs.laws.QuotaLaws.{grant_keeps_limits, cycle_keeps_limits, spent_limit_leaves_nothing, consumption_is_part_of_total}
 use Rattle.drf_rows.proofs.quota_laws.limits_law.Goals as goal
 
 pub returns : goal.returns

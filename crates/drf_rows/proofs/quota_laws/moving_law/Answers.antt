@@ -1,4 +1,4 @@
-use Rattle.drf_rows.specs.MovingLaws.{moved_only, reserved_can_be_given_back, given_back_can_be_reserved, within_limits_it_is_admitted}
+use Rattle.drf_rows.specs.laws.MovingLaws.{moved_only, reserved_can_be_given_back, given_back_can_be_reserved, within_limits_it_is_admitted}
 use Rattle.drf_rows.proofs.quota_laws.moving_law.Goals as goal
 
 pub returns : goal.returns

@@ -1,4 +1,4 @@
-use Rattle.drf_rows.specs.ReservationLaws.{reserved_is_given_back, reserving_keeps_limits, moved_is_consumed}
+use Rattle.drf_rows.specs.laws.ReservationLaws.{reserved_is_given_back, reserving_keeps_limits, moved_is_consumed}
 use Rattle.drf_rows.proofs.quota_laws.reservations_law.Goals as goal
 
 pub returns : goal.returns

@@ -1,4 +1,4 @@
-use Rattle.drf_rows.specs.LimitLaws.{role_has_its_limit, others_keep_their_limit, limit_takes_nothing}
+use Rattle.drf_rows.specs.laws.LimitLaws.{role_has_its_limit, others_keep_their_limit, limit_takes_nothing}
 use Rattle.drf_rows.proofs.quota_laws.set_limit_law.Goals as goal
 
 pub returns : goal.returns

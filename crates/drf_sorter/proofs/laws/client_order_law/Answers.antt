@@ -1,5 +1,5 @@
-use Rattle.drf_rows.specs.ServingOrder.{stands_before-back}
-use Rattle.drf_sorter.specs.OrderLaws.{stands_before-total, stands_before-transitive}
+use Rattle.drf_rows.specs.laws.ServingOrder.{stands_before-back}
+use Rattle.drf_sorter.specs.laws.OrderLaws.{stands_before-total, stands_before-transitive}
 use Rattle.drf_sorter.proofs.laws.client_order_law.Goals as goal
 
 pub returns-clause-asymmetric : goal.returns-clause-asymmetric

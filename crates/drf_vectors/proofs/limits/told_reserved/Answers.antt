@@ -5,7 +5,7 @@ use Rattle.drf_bundle.specs.Value.{Thousandths}
 use Rattle.drf_bundle.specs.Bundle.{IsBundle}
 use Rattle.drf_bundle.specs.declared.resource.Resource.{Resource}
 use Rattle.drf_rows.specs.Quota.{reserved_in}
-use Rattle.drf_rows.specs.QuotaLaws.{parts_le}
+use Rattle.drf_rows.specs.laws.QuotaLaws.{parts_le}
 use Rattle.drf_vectors.proofs.limits.told_reserved.Goals as goal
 
 reserved_fits : (test : Path → Bool) (bundle : List Resource) (label : Text) → IsBundle bundle → 0 + reserved_in test label bundle < 2 ^ 64

@@ -1,4 +1,4 @@
-use Rattle.drf_bundle.specs.QuantitiesLaws.{covers-plus}
+use Rattle.drf_bundle.specs.laws.QuantitiesLaws.{covers-plus}
 use Rattle.drf_vectors.proofs.quantities.append_sum.Goals as goal
 
 -- a sum covers each of its parts

@@ -2,7 +2,7 @@ use Rattle.std.proofs.Common.{ℕ, ◌<◌, ◌^◌, List, arith}
 use Rattle.std.proofs.lemmas.Bool.{cond_both}
 use Rattle.drf_role.specs.Text.{same_text}
 use Rattle.drf_bundle.specs.Quantities.{amount_of, with_amount}
-use Rattle.drf_bundle.specs.QuantitiesLaws.{amount-with}
+use Rattle.drf_bundle.specs.laws.QuantitiesLaws.{amount-with}
 use Rattle.drf_bundle.specs.declared.quantities.Entry.{Entry}
 use Rattle.drf_vectors.proofs.quantities.read.Goals as goal
 

@@ -1,6 +1,6 @@
 use Rattle.std.proofs.Common.{ap, ◌∙◌, subst, take_all, List}
 use Rattle.drf_bundle.specs.Bundle.{IsBundle, clip}
-use Rattle.drf_bundle.specs.PartLaws.{bundle-clip}
+use Rattle.drf_bundle.specs.laws.PartLaws.{bundle-clip}
 use Rattle.drf_bundle.specs.declared.resource.Resource.{Resource}
 use Rattle.drf_bundle.proofs.bundle.Bundle.clip.Goals as goal
 

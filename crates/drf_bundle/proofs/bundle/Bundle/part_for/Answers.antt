@@ -1,6 +1,6 @@
 use Rattle.std.proofs.Common.{ap, ◌∙◌, subst, take_all, List}
 use Rattle.drf_bundle.specs.Bundle.{IsBundle, part_for}
-use Rattle.drf_bundle.specs.PartLaws.{bundle-part_for}
+use Rattle.drf_bundle.specs.laws.PartLaws.{bundle-part_for}
 use Rattle.drf_bundle.specs.declared.resource.Resource.{Resource}
 use Rattle.drf_bundle.proofs.bundle.Bundle.part_for.Goals as goal
 

@@ -1,7 +1,7 @@
 use Rattle.std.proofs.Common.{ap, sym, ◌∙◌, subst, take_all, List}
 use Rattle.drf_role.specs.Parts.{parts_of}
 use Rattle.drf_bundle.specs.Bundle.{IsBundle, relabel}
-use Rattle.drf_bundle.specs.PartLaws.{bundle-relabel}
+use Rattle.drf_bundle.specs.laws.PartLaws.{bundle-relabel}
 use Rattle.drf_bundle.specs.declared.resource.Resource.{Resource}
 use Rattle.drf_bundle.proofs.bundle.Bundle.relabel.Goals as goal
 

@@ -1,6 +1,6 @@
 use Rattle.std.proofs.Common.{ap, ◌∙◌, subst, take_all, List}
 use Rattle.drf_bundle.specs.Bundle.{IsBundle, rest}
-use Rattle.drf_bundle.specs.RestLaws.{bundle-rest}
+use Rattle.drf_bundle.specs.laws.RestLaws.{bundle-rest}
 use Rattle.drf_bundle.specs.declared.resource.Resource.{Resource}
 use Rattle.drf_bundle.proofs.bundle.Bundle.rest.Goals as goal
 

@@ -2,13 +2,13 @@ use Rattle.std.proofs.Common.{◌≡◌, List, [], ◌∷◌, None, Some, sym, a
 use Rattle.std.proofs.lemmas.Bool.{false≢true}
 use Rattle.drf_role.specs.Parts.{parts_of}
 use Rattle.drf_bundle.specs.Value.{Thousandths}
-use Rattle.drf_bundle.specs.ValueLaws.{units-most}
+use Rattle.drf_bundle.specs.laws.ValueLaws.{units-most}
 use Rattle.drf_bundle.specs.Bundle.{key_of, stock, merged}
 use Rattle.drf_bundle.specs.Quantities.{amount_of}
 use Rattle.drf_bundle.specs.Places.{IsNameGap}
-use Rattle.drf_bundle.specs.SumLaws.{amount-kept}
+use Rattle.drf_bundle.specs.laws.SumLaws.{amount-kept}
 use Rattle.drf_bundle.specs.Union.{IsPiece, union_refusal}
-use Rattle.drf_bundle.specs.UnionLaws.{union_empty, union_filled, some_in, kept-merged}
+use Rattle.drf_bundle.specs.laws.UnionLaws.{union_empty, union_filled, some_in, kept-merged}
 use Rattle.drf_bundle.specs.declared.resource.Resource.{Resource}
 use Rattle.drf_bundle.proofs.FirstLemmas.{key_gap, stock_first, first_is_free}
 use Rattle.drf_bundle.proofs.bundle.Bundle.unite_first.Goals as goal

@@ -4,9 +4,9 @@ use Rattle.drf_role.specs.Parts.{parts_of}
 use Rattle.drf_bundle.specs.Value.{Thousandths}
 use Rattle.drf_bundle.specs.Bundle.{stock}
 use Rattle.drf_bundle.specs.Quantities.{amount_of}
-use Rattle.drf_bundle.specs.SumLaws.{amount-kept}
+use Rattle.drf_bundle.specs.laws.SumLaws.{amount-kept}
 use Rattle.drf_bundle.specs.Union.{IsPiece, union_refusal}
-use Rattle.drf_bundle.specs.UnionLaws.{room_from_refusal, room_fits, union_empty, some_in, kept-merged}
+use Rattle.drf_bundle.specs.laws.UnionLaws.{room_from_refusal, room_fits, union_empty, some_in, kept-merged}
 use Rattle.drf_bundle.specs.declared.resource.Resource.{Resource}
 use Rattle.drf_bundle.proofs.bundle.Bundle.unite_further.Goals as goal
 

@@ -1,6 +1,6 @@
 use Rattle.std.proofs.Common.{◌≡◌, None, sym, ◌∙◌}
 use Rattle.drf_bundle.specs.Bundle.{merged, refusal}
-use Rattle.drf_bundle.specs.FitLaws.{free_from_refusal, join_of_free}
+use Rattle.drf_bundle.specs.laws.FitLaws.{free_from_refusal, join_of_free}
 use Rattle.drf_bundle.proofs.bundle.BundleAlgebra.try_join.Goals as goal
 
 pub new-requires : goal.new-requires

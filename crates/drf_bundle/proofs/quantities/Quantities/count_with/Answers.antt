@@ -2,7 +2,7 @@ use Rattle.std.proofs.Common.{◌∙◌, List, length, ap, sym, arith}
 use Rattle.std.proofs.lemmas.List.{drop_all}
 use Rattle.drf_bundle.specs.declared.quantities.Entry.{Entry}
 use Rattle.drf_bundle.specs.Quantities.{is_named}
-use Rattle.drf_bundle.specs.QuantitiesLaws.{length-plus, unnamed_in}
+use Rattle.drf_bundle.specs.laws.QuantitiesLaws.{length-plus, unnamed_in}
 use Rattle.drf_bundle.proofs.ChangeLemmas.{unnamed_from}
 use Rattle.drf_bundle.proofs.quantities.Quantities.count_with.Goals.{then-not-is_named, else-not-is_named}
 use Rattle.drf_bundle.proofs.quantities.Quantities.count_with.Goals as goal

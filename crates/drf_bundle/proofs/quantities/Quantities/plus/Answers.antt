@@ -1,4 +1,4 @@
-use Rattle.std.proofs.Common.{◌≡◌, ◌+◌, refl, arith, ap, ◌∙◌}
+use Rattle.std.proofs.Common.{◌≡◌, ◌+◌, refl, arith}
 use Rattle.std.proofs.lemmas.List.{drop_all}
 use Rattle.drf_bundle.specs.Quantities.{amount_of, with_amount}
 use Rattle.drf_bundle.proofs.ChangeLemmas.{sum_fits, added_whole, added_fits, added_in_order}
@@ -11,17 +11,15 @@ loop-entry-init c = rw (c.in_ok-sum.ensures, c.entries-entry-items.ensures.value
   in_order = c.entries-entry-items.ensures.in_order;
 })
 
-pub overflow_add-had : goal.overflow_add-had
-overflow_add-had c =
+pub add-requires : goal.add-requires
+add-requires c =
     let fits = sum_fits _ _ _ _ c.loop-entry-test.true c.entry-item.is c.loop-entry.invariant.fits in
-    let had = c.get-had.ensures ∙ ap (amount_of c.loop-entry.sum) c.text.ensures.text in
-    omega (arith, fits, had)
+    omega (arith, fits, c.thousandths.ensures)
 
 pub loop-entry-preserved : goal.loop-entry-preserved
 loop-entry-preserved c =
     let e = c.entry-item.result in
-    let had = c.get-had.ensures ∙ ap (amount_of c.loop-entry.sum) c.text.ensures.text in
-    let made : c.set.new.self ≡ with_amount c.loop-entry.sum e.label (amount_of c.loop-entry.sum e.label + e.amount) = cc (c.in_ok-set.ensures.ok, c.in_ok-copy.ensures, c.thousandths.ensures, had) in
+    let made : c.add.new.self ≡ with_amount c.loop-entry.sum e.label (amount_of c.loop-entry.sum e.label + e.amount) = cc (c.in_ok-add.ensures.ok, c.thousandths.ensures) in
     let so_far = c.loop-entry.invariant in
     rw made (record {
       whole = added_whole _ _ _ _ c.loop-entry-test.true c.entry-item.is _ so_far.whole;

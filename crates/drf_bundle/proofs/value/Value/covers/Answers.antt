@@ -3,7 +3,7 @@ use Rattle.std.specs.Cmp.{nat_cmp_total}
 use Rattle.std.specs.Cmp.Lexicographic.{nat_list_cmp_total}
 use Rattle.std.specs.FinSet as set
 use Rattle.drf_role.specs.Name.{IsLabel}
-use Rattle.drf_bundle.specs.ValueLaws.{texts_apart}
+use Rattle.drf_bundle.specs.laws.ValueLaws.{texts_apart}
 use Rattle.drf_bundle.proofs.ValueAnswers.{scalar_covers, set_covers}
 use Rattle.drf_bundle.proofs.value.Value.covers.Goals as goal
 

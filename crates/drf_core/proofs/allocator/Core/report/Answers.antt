@@ -7,8 +7,8 @@ report-requires-clause-consistent g c = c.self.invariant.consistent
 
 pub report-requires-clause-few_agents : goal.report-requires-clause-few_agents
 report-requires-clause-few_agents g c =
-    few_agents_kept (g.S.Sorter.content c.self.inside.sorter) c.self.inside.limits c.self.inside.tables.rows c.self.invariant
+    few_agents_kept c.self.inside.limits c.self.inside.cluster.rows c.self.invariant
 
 pub report-requires-clause-few_offers : goal.report-requires-clause-few_offers
 report-requires-clause-few_offers g c =
-    omega (arith, few_offers_kept (g.S.Sorter.content c.self.inside.sorter) c.self.inside.limits c.self.inside.tables.rows c.self.invariant)
+    omega (arith, few_offers_kept c.self.inside.limits c.self.inside.cluster.rows c.self.invariant)

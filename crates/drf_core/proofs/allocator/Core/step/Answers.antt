@@ -10,12 +10,12 @@ use Rattle.drf_core.proofs.Welcome.{room_for}
 use Rattle.drf_core.proofs.StepLemmas.{IsKept-forgot, IsReady-tested, refused_from, welcome_from, accepted_from, early_from, early_none, rows_after-counted, accepted-applied, IsKept-counted}
 use Rattle.drf_core.specs.Working.{allowance, allowed}
 use Rattle.drf_core.proofs.AllowanceLemmas.{allowance-refused, allowance-accepted}
-use Rattle.drf_sorter.specs.Work.{Adds}
+use Rattle.drf_sorter.specs.Work.{Work, Adds, debt}
 use Rattle.drf_core.proofs.allocator.Core.step.Goals as goal
 
 pub refusal-requires-clause-few : goal.refusal-requires-clause-few
 refusal-requires-clause-few g c =
-    (IsKept-forgot (g.S.Sorter.content c.self.inside.sorter) c.self.inside.limits c.self.inside.tables.rows c.forget_spent.new.self.rows
+    (IsKept-forgot c.self.inside.limits c.self.inside.cluster.rows c.forget_spent.new.self.rows
     c.self.invariant c.forget_spent.ensures.others c.forget_spent.ensures.consistent).few
 
 pub refusal-requires-clause-consistent : goal.refusal-requires-clause-consistent
@@ -28,11 +28,10 @@ on_err (Err fault) fact = fact
 -- a test of refusal that found no memory
 pub invariant_of-self : goal.invariant_of-self
 invariant_of-self g c =
-    let content = g.S.Sorter.content c.self.inside.sorter in
     let limits = c.self.inside.limits in
-    let old : Rows = c.self.inside.tables.rows in
-    let rows : Rows = c.refusal.new.tables.rows in
-    let ready = IsReady-tested content limits old c.forget_spent.new.self.rows rows c.self.invariant c.forget_spent.ensures.live
+    let old : Rows = c.self.inside.cluster.rows in
+    let rows : Rows = c.refusal.new.self.rows in
+    let ready = IsReady-tested limits old c.forget_spent.new.self.rows rows c.self.invariant c.forget_spent.ensures.live
     c.forget_spent.ensures.others c.forget_spent.ensures.consistent c.refusal.ensures.same in
     ready.kept
 
@@ -40,26 +39,24 @@ pub returns-in_err-refusal-clause-not_refused : goal.returns-in_err-refusal-clau
 returns-in_err-refusal-clause-not_refused g c =
     on_err c.from_residual.result
     (subst (λ (m : Engine). early_refusal_of m.limits m.rows c.args.event ≡ None) c.self.view_is
-    (early_from c.self.inside.limits c.forget_spent.new.self.rows c.self.inside.tables.rows c.args.event c.forget_spent.ensures.live c.in_err-refusal.ensures.early))
+    (early_from c.self.inside.limits c.forget_spent.new.self.rows c.self.inside.cluster.rows c.args.event c.forget_spent.ensures.live c.in_err-refusal.ensures.early))
 
 pub returns-in_err-refusal-clause-safe : goal.returns-in_err-refusal-clause-safe
 returns-in_err-refusal-clause-safe g c =
-    let content = g.S.Sorter.content c.self.inside.sorter in
     let limits = c.self.inside.limits in
-    let old : Rows = c.self.inside.tables.rows in
-    let rows : Rows = c.refusal.new.tables.rows in
-    let ready = IsReady-tested content limits old c.forget_spent.new.self.rows rows c.self.invariant c.forget_spent.ensures.live
+    let old : Rows = c.self.inside.cluster.rows in
+    let rows : Rows = c.refusal.new.self.rows in
+    let ready = IsReady-tested limits old c.forget_spent.new.self.rows rows c.self.invariant c.forget_spent.ensures.live
     c.forget_spent.ensures.others c.forget_spent.ensures.consistent c.refusal.ensures.same in
-    safe_kept content limits rows ready.kept
+    safe_kept limits rows ready.kept
 
 -- a refused event
 pub returns-in-Some-clause-reply : goal.returns-in-Some-clause-reply
 returns-in-Some-clause-reply g c =
-    let content = g.S.Sorter.content c.self.inside.sorter in
     let limits = c.self.inside.limits in
-    let old : Rows = c.self.inside.tables.rows in
-    let rows : Rows = c.refusal.new.tables.rows in
-    let ready = IsReady-tested content limits old c.forget_spent.new.self.rows rows c.self.invariant c.forget_spent.ensures.live
+    let old : Rows = c.self.inside.cluster.rows in
+    let rows : Rows = c.refusal.new.self.rows in
+    let ready = IsReady-tested limits old c.forget_spent.new.self.rows rows c.self.invariant c.forget_spent.ensures.live
     c.forget_spent.ensures.others c.forget_spent.ensures.consistent c.refusal.ensures.same in
     let case = ap (λ (r : Rows). refusal_of limits r c.args.event) c.refusal.ensures.same ∙ sym c.in_ok-refusal.ensures.value ∙ c.in-Some.is in
     (refused_from limits rows old c.args.event ready.live c.in-Some.refusal case).0
@@ -67,11 +64,10 @@ returns-in-Some-clause-reply g c =
 
 pub returns-in-Some-clause-ok : goal.returns-in-Some-clause-ok
 returns-in-Some-clause-ok g c =
-    let content = g.S.Sorter.content c.self.inside.sorter in
     let limits = c.self.inside.limits in
-    let old : Rows = c.self.inside.tables.rows in
-    let rows : Rows = c.refusal.new.tables.rows in
-    let ready = IsReady-tested content limits old c.forget_spent.new.self.rows rows c.self.invariant c.forget_spent.ensures.live
+    let old : Rows = c.self.inside.cluster.rows in
+    let rows : Rows = c.refusal.new.self.rows in
+    let ready = IsReady-tested limits old c.forget_spent.new.self.rows rows c.self.invariant c.forget_spent.ensures.live
     c.forget_spent.ensures.others c.forget_spent.ensures.consistent c.refusal.ensures.same in
     let case = ap (λ (r : Rows). refusal_of limits r c.args.event) c.refusal.ensures.same ∙ sym c.in_ok-refusal.ensures.value ∙ c.in-Some.is in
     record {
@@ -82,46 +78,42 @@ returns-in-Some-clause-ok g c =
 
 pub invariant_of-self-in-Some : goal.invariant_of-self-in-Some
 invariant_of-self-in-Some g c =
-    let content = g.S.Sorter.content c.self.inside.sorter in
     let limits = c.self.inside.limits in
-    let old : Rows = c.self.inside.tables.rows in
-    let rows : Rows = c.refusal.new.tables.rows in
-    let ready = IsReady-tested content limits old c.forget_spent.new.self.rows rows c.self.invariant c.forget_spent.ensures.live
+    let old : Rows = c.self.inside.cluster.rows in
+    let rows : Rows = c.refusal.new.self.rows in
+    let ready = IsReady-tested limits old c.forget_spent.new.self.rows rows c.self.invariant c.forget_spent.ensures.live
     c.forget_spent.ensures.others c.forget_spent.ensures.consistent c.refusal.ensures.same in
     ready.kept
 
 pub returns-in-Some-clause-safe : goal.returns-in-Some-clause-safe
 returns-in-Some-clause-safe g c =
-    let content = g.S.Sorter.content c.self.inside.sorter in
     let limits = c.self.inside.limits in
-    let old : Rows = c.self.inside.tables.rows in
-    let rows : Rows = c.refusal.new.tables.rows in
-    let ready = IsReady-tested content limits old c.forget_spent.new.self.rows rows c.self.invariant c.forget_spent.ensures.live
+    let old : Rows = c.self.inside.cluster.rows in
+    let rows : Rows = c.refusal.new.self.rows in
+    let ready = IsReady-tested limits old c.forget_spent.new.self.rows rows c.self.invariant c.forget_spent.ensures.live
     c.forget_spent.ensures.others c.forget_spent.ensures.consistent c.refusal.ensures.same in
-    safe_kept content limits rows ready.kept
+    safe_kept limits rows ready.kept
 
 pub returns-in-Some-clause-work : goal.returns-in-Some-clause-work
 returns-in-Some-clause-work g c =
-    let content = g.S.Sorter.content c.self.inside.sorter in
     let limits = c.self.inside.limits in
-    let old : Rows = c.self.inside.tables.rows in
-    let rows : Rows = c.refusal.new.tables.rows in
-    let ready = IsReady-tested content limits old c.forget_spent.new.self.rows rows c.self.invariant c.forget_spent.ensures.live
+    let old : Rows = c.self.inside.cluster.rows in
+    let rows : Rows = c.refusal.new.self.rows in
+    let ready = IsReady-tested limits old c.forget_spent.new.self.rows rows c.self.invariant c.forget_spent.ensures.live
     c.forget_spent.ensures.others c.forget_spent.ensures.consistent c.refusal.ensures.same in
     let case = ap (λ (r : Rows). refusal_of limits r c.args.event) c.refusal.ensures.same ∙ sym c.in_ok-refusal.ensures.value ∙ c.in-Some.is in
-    let work = g.S.Sorter.work c.self.inside.sorter in
+    let same = c.refusal.ensures.work ∙ c.forget_spent.ensures.work in
     let nothing : allowance limits old c.args.event ≡ Some 0 = allowance-refused limits rows old c.args.event ready.live c.in-Some.refusal case in
-    subst (λ (m : Engine). MatchOption (allowance m.limits m.rows c.args.event) (Unit {0}) (Adds g.S.Sorter.COUNTED m.work work)) c.self.view_is
-    (rw nothing (λ counted. omega arith))
+    subst (λ (m : Engine). MatchOption (allowance m.limits m.rows c.args.event) (Unit {0}) (Adds g.S.Sorter.COUNTED m.work c.refusal.new.self.work)) c.self.view_is
+    (rw nothing (λ counted. omega (arith, ap debt same)))
 
 -- an accepted one
 pub apply-requires-clause-kept : goal.apply-requires-clause-kept
 apply-requires-clause-kept g c =
-    let content = g.S.Sorter.content c.self.inside.sorter in
     let limits = c.self.inside.limits in
-    let old : Rows = c.self.inside.tables.rows in
-    let rows : Rows = c.refusal.new.tables.rows in
-    let ready = IsReady-tested content limits old c.forget_spent.new.self.rows rows c.self.invariant c.forget_spent.ensures.live
+    let old : Rows = c.self.inside.cluster.rows in
+    let rows : Rows = c.refusal.new.self.rows in
+    let ready = IsReady-tested limits old c.forget_spent.new.self.rows rows c.self.invariant c.forget_spent.ensures.live
     c.forget_spent.ensures.others c.forget_spent.ensures.consistent c.refusal.ensures.same in
     ready.kept
 
@@ -131,25 +123,23 @@ apply-requires-clause-welcome g c =
 
 pub count_event-requires : goal.count_event-requires
 count_event-requires g c =
-    let content = g.S.Sorter.content c.self.inside.sorter in
     let limits = c.self.inside.limits in
-    let old : Rows = c.self.inside.tables.rows in
-    let rows : Rows = c.refusal.new.tables.rows in
-    let ready = IsReady-tested content limits old c.forget_spent.new.self.rows rows c.self.invariant c.forget_spent.ensures.live
+    let old : Rows = c.self.inside.cluster.rows in
+    let rows : Rows = c.refusal.new.self.rows in
+    let ready = IsReady-tested limits old c.forget_spent.new.self.rows rows c.self.invariant c.forget_spent.ensures.live
     c.forget_spent.ensures.others c.forget_spent.ensures.consistent c.refusal.ensures.same in
     let none = ap (λ (r : Rows). refusal_of limits r c.args.event) c.refusal.ensures.same ∙ sym c.in_ok-refusal.ensures.value ∙ c.in_default.is in
     let room = room_for limits rows c.args.event none in
-    let same = accepted-applied limits rows c.apply.new.tables.rows (record c.apply.new.tables.rows { accepted = c.apply.new.tables.rows.accepted + 1 }) c.args.event
-    content ready.kept none c.in_ok-reply.ensures.ok.same refl in
+    let same = accepted-applied limits rows c.apply.new.self.rows (record c.apply.new.self.rows { accepted = c.apply.new.self.rows.accepted + 1 }) c.args.event
+    ready.kept none c.in_ok-reply.ensures.ok refl in
     omega (arith, same, room, c.self.invariant.few.ceilings.events.1)
 
 pub returns-clause-reply : goal.returns-clause-reply
 returns-clause-reply g c =
-    let content = g.S.Sorter.content c.self.inside.sorter in
     let limits = c.self.inside.limits in
-    let old : Rows = c.self.inside.tables.rows in
-    let rows : Rows = c.refusal.new.tables.rows in
-    let ready = IsReady-tested content limits old c.forget_spent.new.self.rows rows c.self.invariant c.forget_spent.ensures.live
+    let old : Rows = c.self.inside.cluster.rows in
+    let rows : Rows = c.refusal.new.self.rows in
+    let ready = IsReady-tested limits old c.forget_spent.new.self.rows rows c.self.invariant c.forget_spent.ensures.live
     c.forget_spent.ensures.others c.forget_spent.ensures.consistent c.refusal.ensures.same in
     let none = ap (λ (r : Rows). refusal_of limits r c.args.event) c.refusal.ensures.same ∙ sym c.in_ok-refusal.ensures.value ∙ c.in_default.is in
     c.in_ok-reply.ensures.reply
@@ -158,15 +148,14 @@ returns-clause-reply g c =
 
 pub returns-clause-ok : goal.returns-clause-ok
 returns-clause-ok g c =
-    let content = g.S.Sorter.content c.self.inside.sorter in
     let limits = c.self.inside.limits in
-    let old : Rows = c.self.inside.tables.rows in
-    let rows : Rows = c.refusal.new.tables.rows in
-    let ready = IsReady-tested content limits old c.forget_spent.new.self.rows rows c.self.invariant c.forget_spent.ensures.live
+    let old : Rows = c.self.inside.cluster.rows in
+    let rows : Rows = c.refusal.new.self.rows in
+    let ready = IsReady-tested limits old c.forget_spent.new.self.rows rows c.self.invariant c.forget_spent.ensures.live
     c.forget_spent.ensures.others c.forget_spent.ensures.consistent c.refusal.ensures.same in
     let none = ap (λ (r : Rows). refusal_of limits r c.args.event) c.refusal.ensures.same ∙ sym c.in_ok-refusal.ensures.value ∙ c.in_default.is in
-    let stepped = rows_after-counted limits rows c.apply.new.tables.rows c.count_event.new.self.rows c.args.event
-    content ready.kept none c.in_ok-reply.ensures.ok.same c.count_event.ensures.counted in
+    let stepped = rows_after-counted limits rows c.apply.new.self.rows c.count_event.new.self.rows c.args.event
+    ready.kept none c.in_ok-reply.ensures.ok c.count_event.ensures.counted in
     record {
       limits = ap (λ (m : Engine). m.limits) c.self.view_is;
       rows = ap live_rows stepped
@@ -176,11 +165,10 @@ returns-clause-ok g c =
 
 pub returns-in_err-reply-clause-not_refused : goal.returns-in_err-reply-clause-not_refused
 returns-in_err-reply-clause-not_refused g c =
-    let content = g.S.Sorter.content c.self.inside.sorter in
     let limits = c.self.inside.limits in
-    let old : Rows = c.self.inside.tables.rows in
-    let rows : Rows = c.refusal.new.tables.rows in
-    let ready = IsReady-tested content limits old c.forget_spent.new.self.rows rows c.self.invariant c.forget_spent.ensures.live
+    let old : Rows = c.self.inside.cluster.rows in
+    let rows : Rows = c.refusal.new.self.rows in
+    let ready = IsReady-tested limits old c.forget_spent.new.self.rows rows c.self.invariant c.forget_spent.ensures.live
     c.forget_spent.ensures.others c.forget_spent.ensures.consistent c.refusal.ensures.same in
     let none = ap (λ (r : Rows). refusal_of limits r c.args.event) c.refusal.ensures.same ∙ sym c.in_ok-refusal.ensures.value ∙ c.in_default.is in
     on_err c.from_residual-in_err-reply.result
@@ -189,52 +177,48 @@ returns-in_err-reply-clause-not_refused g c =
 
 pub returns-in_err-reply-clause-safe : goal.returns-in_err-reply-clause-safe
 returns-in_err-reply-clause-safe g c =
-    let content = g.S.Sorter.content c.self.inside.sorter in
     let limits = c.self.inside.limits in
-    let old : Rows = c.self.inside.tables.rows in
-    let rows : Rows = c.refusal.new.tables.rows in
-    let ready = IsReady-tested content limits old c.forget_spent.new.self.rows rows c.self.invariant c.forget_spent.ensures.live
+    let old : Rows = c.self.inside.cluster.rows in
+    let rows : Rows = c.refusal.new.self.rows in
+    let ready = IsReady-tested limits old c.forget_spent.new.self.rows rows c.self.invariant c.forget_spent.ensures.live
     c.forget_spent.ensures.others c.forget_spent.ensures.consistent c.refusal.ensures.same in
-    subst (λ (r : Rows). IsSafe (live_rows r)) (sym c.in_err-reply.ensures.err.same) (safe_kept content limits rows ready.kept)
+    subst (λ (r : Rows). IsSafe (live_rows r)) (sym c.in_err-reply.ensures.err) (safe_kept limits rows ready.kept)
 
 pub invariant_of-self-2 : goal.invariant_of-self-2
 invariant_of-self-2 g c =
-    let content = g.S.Sorter.content c.self.inside.sorter in
     let limits = c.self.inside.limits in
-    let old : Rows = c.self.inside.tables.rows in
-    let rows : Rows = c.refusal.new.tables.rows in
-    let ready = IsReady-tested content limits old c.forget_spent.new.self.rows rows c.self.invariant c.forget_spent.ensures.live
+    let old : Rows = c.self.inside.cluster.rows in
+    let rows : Rows = c.refusal.new.self.rows in
+    let ready = IsReady-tested limits old c.forget_spent.new.self.rows rows c.self.invariant c.forget_spent.ensures.live
     c.forget_spent.ensures.others c.forget_spent.ensures.consistent c.refusal.ensures.same in
     let none = ap (λ (r : Rows). refusal_of limits r c.args.event) c.refusal.ensures.same ∙ sym c.in_ok-refusal.ensures.value ∙ c.in_default.is in
-    IsKept-counted limits rows c.apply.new.tables.rows c.count_event.new.self.rows c.args.event content ready.kept none
-    c.in_ok-reply.ensures.ok.same c.count_event.ensures.counted
-    (g.S.Sorter.content c.apply.new.sorter) c.in_ok-reply.ensures.ok.sorted c.count_event.ensures.consistent
+    IsKept-counted limits rows c.apply.new.self.rows c.count_event.new.self.rows c.args.event ready.kept none
+    c.in_ok-reply.ensures.ok c.count_event.ensures.counted c.count_event.ensures.consistent
 
 pub returns-clause-safe : goal.returns-clause-safe
 returns-clause-safe g c =
-    let content = g.S.Sorter.content c.self.inside.sorter in
     let limits = c.self.inside.limits in
-    let old : Rows = c.self.inside.tables.rows in
-    let rows : Rows = c.refusal.new.tables.rows in
-    let ready = IsReady-tested content limits old c.forget_spent.new.self.rows rows c.self.invariant c.forget_spent.ensures.live
+    let old : Rows = c.self.inside.cluster.rows in
+    let rows : Rows = c.refusal.new.self.rows in
+    let ready = IsReady-tested limits old c.forget_spent.new.self.rows rows c.self.invariant c.forget_spent.ensures.live
     c.forget_spent.ensures.others c.forget_spent.ensures.consistent c.refusal.ensures.same in
     let none = ap (λ (r : Rows). refusal_of limits r c.args.event) c.refusal.ensures.same ∙ sym c.in_ok-refusal.ensures.value ∙ c.in_default.is in
-    safe_kept (g.S.Sorter.content c.apply.new.sorter) limits c.count_event.new.self.rows
-    (IsKept-counted limits rows c.apply.new.tables.rows c.count_event.new.self.rows c.args.event content ready.kept none
-    c.in_ok-reply.ensures.ok.same c.count_event.ensures.counted
-    (g.S.Sorter.content c.apply.new.sorter) c.in_ok-reply.ensures.ok.sorted c.count_event.ensures.consistent)
+    safe_kept limits c.count_event.new.self.rows
+    (IsKept-counted limits rows c.apply.new.self.rows c.count_event.new.self.rows c.args.event ready.kept none
+    c.in_ok-reply.ensures.ok c.count_event.ensures.counted c.count_event.ensures.consistent)
 
 -- what the sorter owes more
 pub returns-clause-work : goal.returns-clause-work
 returns-clause-work g c =
-    let content = g.S.Sorter.content c.self.inside.sorter in
     let limits = c.self.inside.limits in
-    let old : Rows = c.self.inside.tables.rows in
-    let rows : Rows = c.refusal.new.tables.rows in
-    let ready = IsReady-tested content limits old c.forget_spent.new.self.rows rows c.self.invariant c.forget_spent.ensures.live
+    let old : Rows = c.self.inside.cluster.rows in
+    let rows : Rows = c.refusal.new.self.rows in
+    let ready = IsReady-tested limits old c.forget_spent.new.self.rows rows c.self.invariant c.forget_spent.ensures.live
     c.forget_spent.ensures.others c.forget_spent.ensures.consistent c.refusal.ensures.same in
     let none = ap (λ (r : Rows). refusal_of limits r c.args.event) c.refusal.ensures.same ∙ sym c.in_ok-refusal.ensures.value ∙ c.in_default.is in
-    let work = g.S.Sorter.work c.apply.new.sorter in
+    let before = c.refusal.ensures.work ∙ c.forget_spent.ensures.work in
     let same : allowed rows c.args.event ≡ allowance limits old c.args.event = allowance-accepted limits rows old c.args.event ready.live none in
-    subst (λ (m : Engine). MatchOption (allowance m.limits m.rows c.args.event) (Unit {0}) (Adds g.S.Sorter.COUNTED m.work work)) c.self.view_is
-    (subst (λ (o : Option ℕ). MatchOption o (Unit {0}) (Adds g.S.Sorter.COUNTED (g.S.Sorter.work c.self.inside.sorter) work)) same c.in_ok-reply.ensures.work)
+    let Within : Option ℕ → Work → Work → Type 0 = λ most old new. MatchOption most (Unit {0}) (Adds g.S.Sorter.COUNTED old new) in
+    subst (λ (m : Engine). Within (allowance m.limits m.rows c.args.event) m.work c.count_event.new.self.work) c.self.view_is
+    (rw c.count_event.ensures.work (subst (λ (w : Work). Within (allowance limits old c.args.event) w c.apply.new.self.work) before
+    (subst (λ (o : Option ℕ). Within o c.refusal.new.self.work c.apply.new.self.work) same c.in_ok-reply.ensures.work)))

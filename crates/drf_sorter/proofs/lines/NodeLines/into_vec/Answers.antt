@@ -1,6 +1,6 @@
 use Rattle.std.proofs.Common.{IsTrue, subst, ◌∙◌, ap, List}
 use Rattle.drf_role.specs.Path.{Path}
-use Rattle.drf_rows.specs.Laws.{are_in_order}
+use Rattle.drf_rows.specs.laws.Laws.{are_in_order}
 use Rattle.drf_sorter.specs.Lines.{paths_of}
 use Rattle.drf_sorter.proofs.LineLemmas.{in_order-sorted, keys-at_paths}
 use Rattle.drf_sorter.proofs.lines.NodeLines.into_vec.Goals as goal

@@ -1,5 +1,5 @@
 use Rattle.std.proofs.Common.{ap}
-use Rattle.drf_bundle.specs.QuantitiesLaws.{covers_from}
+use Rattle.drf_bundle.specs.laws.QuantitiesLaws.{covers_from}
 use Rattle.drf_sorter.specs.declared.client.Client.{Client}
 use Rattle.drf_sorter.specs.Content.{Holds, refunded}
 use Rattle.drf_sorter.proofs.ChangeLemmas.{place-found, at_found, known-found, refunded_is, changed_one, with_clients}

@@ -1,8 +1,8 @@
 use Rattle.std.proofs.Common.{◌≡◌, ◌*◌, ap}
 use Rattle.std.specs.Int.{IsGcd}
-use Rattle.drf_rows.specs.LowestLaws.{IsLowest-by, lowest_terms-by}
+use Rattle.drf_rows.specs.laws.LowestLaws.{IsLowest-by, lowest_terms-by}
 use Rattle.drf_sorter.specs.Share.{fraction_of}
-use Rattle.drf_sorter.specs.ShareLaws.{above_zero, below_128}
+use Rattle.drf_sorter.specs.laws.ShareLaws.{above_zero, below_128}
 use Rattle.drf_sorter.proofs.share.Share.lowest.Goals as goal
 
 pub returns-clause-lowest : goal.returns-clause-lowest

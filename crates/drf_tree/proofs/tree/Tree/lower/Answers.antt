@@ -1,5 +1,5 @@
 use Rattle.std.proofs.Common.{◌≡◌, ◌-◌, refl, ap, ◌∙◌, arith}
-use Rattle.drf_bundle.specs.QuantitiesLaws.{covers_from}
+use Rattle.drf_bundle.specs.laws.QuantitiesLaws.{covers_from}
 use Rattle.drf_tree.specs.declared.node.Sum.{Sum}
 use Rattle.drf_tree.specs.Nodes.{parent_at}
 use Rattle.drf_tree.proofs.ClimbLemmas.{climb_less, climb_on, climb_start, climb_step, climb_was, marking_start, marking_step}

@@ -3,7 +3,7 @@ use Rattle.std.proofs.Common.{sym, ◌∙◌, inl, inr}
 use Rattle.std.proofs.lemmas.Bool.{cases_Bool}
 use Rattle.drf_bundle.specs.declared.quantities.Entry.{Entry}
 use Rattle.drf_role.specs.Path.{Path}
-use Rattle.drf_rows.specs.ListLaws.{each_from}
+use Rattle.drf_rows.specs.laws.ListLaws.{each_from}
 use Rattle.drf_sorter.specs.Content.{Content, standing_in}
 use Rattle.drf_tree.specs.declared.node.Sum.{Sum}
 use Rattle.drf_tree.specs.Nodes.{children_at, is_live}

@@ -6,7 +6,7 @@ use Rattle.drf_bundle.specs.Quantities.{is_in_order}
 use Rattle.drf_bundle.specs.declared.quantities.Entry.{Entry}
 use Rattle.drf_role.specs.Path.{Path}
 use Rattle.drf_rows.specs.declared.report.NodeLine.{NodeLine}
-use Rattle.drf_sorter.specs.LineLaws.{each-with, has_line-new, has_line-others}
+use Rattle.drf_sorter.specs.laws.LineLaws.{each-with, has_line-new, has_line-others}
 use Rattle.drf_sorter.specs.Lines.{IsLineOf, has_line, line_with, with_line}
 use Rattle.drf_sorter.specs.Plain.{plain_content}
 use Rattle.drf_tree.specs.Nodes.{path_at}

@@ -1,0 +1,15 @@
+-- Theorems about the definitions beside this folder.
+pub mod Laws
+pub mod QuantitiesLaws
+pub mod ValueLaws
+pub mod KeyLaws
+pub mod JoinLaws
+pub mod FitLaws
+pub mod RestLaws
+pub mod BundleLaws
+pub mod PartLaws
+pub mod SumLaws
+pub mod UnionLaws
+pub mod OneLaws
+pub mod UnitLaws
+pub mod UnitProofs

@@ -1,0 +1,71 @@
+use Rattle.std.proofs.Common.{◌≡◌, ◌++◌, ◌∷◌, [], List, length, ap, sym, subst, ◌∙◌, arith}
+use Rattle.std.specs.Prelude.{map, sum_by}
+use Rattle.std.specs.List.{AllByRecursion}
+use Rattle.drf_role.specs.Path.{Path}
+use Rattle.drf_rows.specs.Members.{distinct, has_framework, new_client}
+use Rattle.drf_rows.specs.Step.{effect}
+use Rattle.drf_rows.specs.declared.event.Event.TheVariants.{AddFramework}
+use Rattle.drf_rows.specs.Consistent.{are_distinct_roles}
+use Rattle.drf_rows.specs.declared.rows.ClientRow.{ClientRow}
+use Rattle.drf_rows.specs.declared.rows.Rows.{Rows}
+use Rattle.drf_sorter.specs.Content.{Content}
+use Rattle.drf_core.specs.Registering.{AreNew, client_paths, with_all}
+use Rattle.drf_core.proofs.RegisterLemmas.{distinct_apart, roles_of_new, uncounted_new, AreNew-registering}
+use Rattle.drf_core.proofs.Welcome.{welcome_framework}
+use Rattle.drf_core.proofs.ApplyLemmas.{sorted-framework, effect-framework}
+use Rattle.drf_core.proofs.WorkLemmas.{nodes_of-new}
+use Rattle.drf_core.proofs.cluster.Cluster.add_framework.Goals as goal
+
+pub add_clients-requires : goal.add_clients-requires
+add_clients-requires g c =
+    let rows : Rows = c.self.inside.tables.rows in
+    let kept = rw (← c.self.view_is) at c.requires.kept in
+    let welcome = welcome_framework c.args.limits.now rows c.args.framework c.args.roles (rw (← c.self.view_is) at c.requires.welcome) in
+    let made = c.as_slice.ensures ∙ c.in_ok-clients.ensures ∙ ap (map new_client) c.in_ok-roles.ensures in
+    let paths : client_paths c.args.framework (map new_client (distinct c.args.roles)) ≡ c.deref.result.now
+    = ap (client_paths c.args.framework) (sym made) ∙ sym c.in_ok-paths.ensures ∙ sym c.deref.ensures.value in
+    subst (AreNew (g.S.Sorter.content c.self.inside.sorter)) paths
+    (subst (λ (k : Content). AreNew k (client_paths c.args.framework (map new_client (distinct c.args.roles)))) (sym c.self.invariant)
+    (AreNew-registering rows c.args.framework kept.consistent welcome.new c.args.roles))
+
+pub add_framework-requires-clause-new : goal.add_framework-requires-clause-new
+add_framework-requires-clause-new g c =
+    ap (λ (r : Rows). has_framework r c.args.framework) c.reserve_framework.ensures.same
+    ∙ (welcome_framework c.args.limits.now c.self.inside.tables.rows c.args.framework c.args.roles (rw (← c.self.view_is) at c.requires.welcome)).new
+
+pub add_framework-requires-clause-roles : goal.add_framework-requires-clause-roles
+add_framework-requires-clause-roles g c =
+    ap are_distinct_roles (ap (map (λ (x : ClientRow). x.role)) (c.in_ok-clients.ensures ∙ ap (map new_client) c.in_ok-roles.ensures) ∙ roles_of_new (distinct c.args.roles))
+    ∙ distinct_apart c.args.roles
+
+pub add_framework-requires-clause-uncounted : goal.add_framework-requires-clause-uncounted
+add_framework-requires-clause-uncounted g c =
+    subst (AllByRecursion (λ (x : ClientRow). x.count ≡ 0)) (sym c.in_ok-clients.ensures) (uncounted_new c.in_ok-roles.roles.items)
+
+pub invariant_of-self-2 : goal.invariant_of-self-2
+invariant_of-self-2 g c =
+    let rows : Rows = c.self.inside.tables.rows in
+    let kept = rw (← c.self.view_is) at c.requires.kept in
+    let welcome = welcome_framework c.args.limits.now rows c.args.framework c.args.roles (rw (← c.self.view_is) at c.requires.welcome) in
+    let content = g.S.Sorter.content c.self.inside.sorter in
+    let made = c.in_ok-clients.ensures ∙ ap (map new_client) c.in_ok-roles.ensures in
+    let same : c.add_framework.new.self.rows ≡ effect rows (AddFramework c.args.framework c.args.roles) =
+    effect-framework rows c.add_framework.new.self.rows c.args.framework c.args.roles c.in_ok-clients.clients made
+    (c.add_framework.ensures ∙ (λ i. record (c.reserve_framework.ensures.same i) { frameworks = (c.reserve_framework.ensures.same i).frameworks ++ record { name = c.args.framework; clients = c.in_ok-clients.clients } ∷ [] })) in
+    sorted-framework rows c.add_framework.new.self.rows c.args.framework c.args.roles content (g.S.Sorter.content c.add_clients.new.sorter)
+    c.self.invariant kept.consistent welcome.new same
+    (c.in_ok-add_clients.ensures.ok
+    ∙ ap (with_all content) (c.deref.ensures.value ∙ c.in_ok-paths.ensures ∙ ap (client_paths c.args.framework) (c.as_slice.ensures ∙ made)))
+
+pub returns-clause-ok : goal.returns-clause-ok
+returns-clause-ok g c =
+    rw (← c.self.view_is) (effect-framework c.self.inside.tables.rows c.add_framework.new.self.rows c.args.framework c.args.roles c.in_ok-clients.clients
+    (c.in_ok-clients.ensures ∙ ap (map new_client) c.in_ok-roles.ensures)
+    (c.add_framework.ensures ∙ (λ i. record (c.reserve_framework.ensures.same i) { frameworks = (c.reserve_framework.ensures.same i).frameworks ++ record { name = c.args.framework; clients = c.in_ok-clients.clients } ∷ [] })))
+
+pub returns-clause-work : goal.returns-clause-work
+returns-clause-work g c =
+    let paths : c.deref.result.now ≡ client_paths c.args.framework (map new_client (distinct c.args.roles)) =
+    c.deref.ensures.value ∙ c.in_ok-paths.ensures ∙ ap (client_paths c.args.framework) (c.as_slice.ensures ∙ c.in_ok-clients.ensures ∙ ap (map new_client) c.in_ok-roles.ensures) in
+    rw (← c.self.view_is) (λ counted.
+    omega (arith, c.in_ok-add_clients.ensures.work counted, ap (λ (ps : List Path). sum_by length ps) paths, nodes_of-new c.args.framework (distinct c.args.roles)))

@@ -1,0 +1,20 @@
+use Rattle.std.proofs.Common.{◌≡◌, ◌+◌, ◌≤◌, IsTrue}
+use Rattle.drf_rows.specs.Endings.{without_ended}
+use Rattle.drf_rows.specs.Ended.{ending_of}
+use Rattle.drf_tables.specs.Ended.{left_to_end}
+use Rattle.drf_sorter.specs.Work.{debt}
+use Rattle.drf_core.specs.Content.{content_of}
+use Rattle.drf_core.specs.Working.{losers, nodes_of}
+use Rattle.drf_core.proofs.cluster.Cluster.end.Given as goal
+
+-- what ended was given back, and the rest is still to end
+abbrev pub invariant-loop-held : goal.invariant-loop-held
+invariant-loop-held g l = record {
+  sorted : g.S.Sorter.content l.self-inside.sorter ≡ content_of l.self-inside.tables.rows;
+  work : IsTrue g.S.Sorter.COUNTED → debt (g.S.Sorter.work l.self-inside.sorter) + nodes_of (losers l.self-inside.tables.rows (ending_of l.ending))
+      ≤ debt (g.S.Sorter.work l.initial.self-inside.sorter) + nodes_of (losers l.initial.self-inside.tables.rows (ending_of l.ending));
+  later : without_ended l.self-inside.tables.rows (ending_of l.ending) ≡ without_ended l.initial.self-inside.tables.rows (ending_of l.ending);
+}
+
+abbrev pub decreases-loop-held : goal.decreases-loop-held
+decreases-loop-held g l = left_to_end l.self-inside.tables.rows (ending_of l.ending)

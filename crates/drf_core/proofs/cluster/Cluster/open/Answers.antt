@@ -1,0 +1,7 @@
+use Rattle.std.proofs.Common.{sym, ap, refl, ◌∙◌}
+use Rattle.drf_core.specs.Content.{content_of}
+use Rattle.drf_core.proofs.cluster.Cluster.open.Goals as goal
+
+pub invariant_of-result : goal.invariant_of-result
+unfolding content_of
+invariant_of-result g c = c.in_ok-open.ensures.empty ∙ sym (ap content_of c.new.ensures.rows)

@@ -1,0 +1,32 @@
+use Rattle.std.proofs.Common.{◌≡◌, ap, sym, ◌∙◌}
+use Rattle.drf_rows.specs.Step.{effect}
+use Rattle.drf_rows.specs.declared.event.Event.TheVariants.{Reserve}
+use Rattle.drf_rows.specs.declared.rows.Rows.{Rows}
+use Rattle.drf_core.specs.Content.{content_of}
+use Rattle.drf_core.proofs.MovedLemmas.{unreserved-reserve, exchange-reserve, effect-reserved, content_of-reserved}
+use Rattle.drf_core.proofs.cluster.Cluster.reserve.Goals as goal
+
+pub reserved-requires : goal.reserved-requires
+reserved-requires g c =
+    unreserved-reserve c.args.limits.now c.args.self.now.rows c.args.agent.now c.args.role.now c.args.resources.now c.requires.welcome
+
+pub exchange-requires : goal.exchange-requires
+exchange-requires g c = rw c.in_ok-moved.ensures.moved (
+    exchange-reserve c.args.limits.now c.self.inside.tables.rows c.args.agent.now c.args.role.now c.args.resources.now
+    (rw (← c.self.view_is) at c.requires.welcome) (rw (← c.self.view_is) at c.requires.consistent) c.reserved.ensures.asked)
+
+pub invariant_of-self-2 : goal.invariant_of-self-2
+invariant_of-self-2 g c =
+    let rows : Rows = c.self.inside.tables.rows in
+    let same : c.exchange.new.self.rows ≡ effect rows (Reserve c.args.agent.now c.args.role.now c.args.resources.now) =
+    effect-reserved rows c.exchange.new.self.rows c.args.agent.now c.args.role.now c.args.resources.now c.in_ok-moved.moved
+    c.in_ok-moved.ensures.moved c.in_ok-exchange.ensures.ok in
+    c.self.invariant
+    ∙ sym (ap content_of same
+    ∙ content_of-reserved c.args.limits.now rows c.args.agent.now c.args.role.now c.args.resources.now
+    (rw (← c.self.view_is) at c.requires.welcome) (rw (← c.self.view_is) at c.requires.consistent) c.reserved.ensures.asked)
+
+pub returns-clause-ok : goal.returns-clause-ok
+returns-clause-ok g c =
+    rw (← c.self.view_is) (effect-reserved c.self.inside.tables.rows c.exchange.new.self.rows c.args.agent.now c.args.role.now c.args.resources.now
+    c.in_ok-moved.moved c.in_ok-moved.ensures.moved c.in_ok-exchange.ensures.ok)

@@ -1,0 +1,111 @@
+//! The rows, and a sorter that holds what they say.
+ghost use Rattle.std.specs.Prelude.{◌≡◌, ◌+◌, ◌<◌, ◌^◌, None, IfOk, OnErr};
+ghost use Rattle.drf_rows.specs.Consistent.{IsConsistent};
+ghost use Rattle.drf_rows.specs.Step.{opening, live_rows, refusal_of};
+ghost use Rattle.drf_core.specs.Content.{content_of};
+ghost use Rattle.drf_core.specs.Kept.{AreFew};
+ghost use Rattle.drf_core.specs.Refusing.{early_refusal_of};
+
+use crate::refusal::refusal;
+use drf_rows::{Event, Limits, Refusal, Rows};
+use drf_sorter::Sorter;
+use drf_tables::Tables;
+use std::alloc::{AllocError, Global};
+use std::marker::Model;
+
+/// The rows, and a sorter that holds what they say.
+#[derive(Drop)]
+pub(crate) struct Cluster<S: Sorter> {
+    pub(crate) tables: Tables,
+    pub(crate) sorter: S,
+}
+
+impl<S: Sorter> Model for Cluster<S> {
+    ghost use Rattle.std.specs.Prelude.{◌≡◌};
+    ghost use Rattle.drf_core.specs.Cluster.{ClusterState, cluster_code};
+
+    ghost Value = { ClusterState };
+
+    ghost coded = { cluster_code };
+
+    ghost use Rattle.drf_core.specs.Content.{content_of};
+
+    ghost view = { λ c. record { rows = c.tables.rows; counted = c.tables.counted; work = S.work c.sorter } };
+
+    ghost invariant = { λ c. S.content c.sorter ≡ content_of c.tables.rows };
+}
+
+impl<S: Sorter> Cluster<S> {
+    /// A cluster with no rows.
+    pub(crate) fn open(alloc: Global) -> Result<Cluster<S>, AllocError>
+        ensures rows { IfOk result (λ cluster. cluster.rows ≡ opening) }
+        ensures work { IfOk result (λ cluster. cluster.work ≡ record { made = 0; marked = 0 }) }
+    {
+        Ok(Cluster {
+            tables: Tables::new(alloc),
+            sorter: S::open(alloc)?,
+        })
+    }
+
+    /// A cluster of its own with the same rows.
+    pub(crate) fn copy(&self) -> Result<Cluster<S>, AllocError>
+        ensures rows { IfOk result (λ cluster. cluster.rows ≡ self.now.rows) }
+        ensures work { IfOk result (λ cluster. cluster.work ≡ self.now.work) }
+    {
+        Ok(Cluster {
+            tables: self.tables.copy()?,
+            sorter: self.sorter.copy()?,
+        })
+    }
+
+    /// Drops filters that have run out, when the filters have become many.
+    pub(crate) fn forget_spent(&mut self)
+        ensures live { live_rows self.new.rows ≡ live_rows self.old.rows }
+        ensures others { self.new.rows ≡ record self.old.rows { filters = self.new.rows.filters } }
+        ensures consistent { IsConsistent self.new.rows }
+        ensures work { self.new.work ≡ self.old.work }
+    {
+        self.tables.forget_spent();
+    }
+
+    /// Why an event is refused, if it is. No row changes.
+    pub(crate) fn refusal(
+        &mut self,
+        limits: &Limits,
+        event: &Event,
+    ) -> Result<Option<Refusal>, AllocError>
+        requires few { AreFew limits.now self.old.rows }
+        requires consistent { IsConsistent self.old.rows }
+        ensures value { IfOk result (λ refusal. refusal ≡ refusal_of limits.now self.old.rows event.now) }
+        ensures early { OnErr result (early_refusal_of limits.now self.old.rows event.now ≡ None) }
+        ensures same { self.new.rows ≡ self.old.rows }
+        ensures work { self.new.work ≡ self.old.work }
+    {
+        refusal(limits, &mut self.tables, event)
+    }
+
+    /// Counts an accepted event.
+    pub(crate) fn count_event(&mut self)
+        requires { self.old.rows.accepted + 1 < 2 ^ 64 }
+        ensures counted { self.new.rows ≡ record self.old.rows { accepted = self.old.rows.accepted + 1 } }
+        ensures consistent { IsConsistent self.new.rows }
+        ensures work { self.new.work ≡ self.old.work }
+    {
+        self.tables.count_event();
+    }
+
+    /// The sorter: the order of its clients, and its work.
+    pub(crate) fn sorter(&self) -> &S
+        ensures content { S.content result.now ≡ content_of self.now.rows }
+        ensures work { S.work result.now ≡ self.now.work }
+    {
+        &self.sorter
+    }
+
+    /// The live rows.
+    pub(crate) fn rows(&self) -> Result<Rows, AllocError>
+        ensures { IfOk result (λ rows. rows ≡ live_rows self.now.rows) }
+    {
+        self.tables.rows()
+    }
+}

@@ -1,0 +1,295 @@
+-- What is proved of offers, tasks and filters, from their making to their end, and of what each event leaves as it was.
+use Rattle.std.specs.Prelude.{◌≡◌, ℕ, ◌+◌, ◌≤◌, ◌==◌, max, Bool, true, false, not, ◌&&◌, ◌||◌, List, [], ◌∷◌, ◌++◌, length, map, filter, count_by, drop, flat_map, slice_get, Some}
+use Rattle.std.specs.List.{list_all, list_any}
+use Rattle.drf_role.specs.Text.{Text, same_text}
+use Rattle.drf_role.specs.Path.{Path, same_path}
+use Rattle.drf_bundle.specs.Bundle.{join}
+use Rattle.drf_bundle.specs.declared.resource.Resource.{Resource}
+use Rattle.drf_rows.specs.LimitNumbers.{LimitNumbers}
+use Rattle.drf_rows.specs.Client.{Client}
+use Rattle.drf_rows.specs.Holdings.{of_offer}
+use Rattle.drf_rows.specs.Held.{client_of}
+use Rattle.drf_rows.specs.Filters.{is_of_client, is_on_agent, is_held_back}
+use Rattle.drf_rows.specs.Consistent.{IsConsistent}
+use Rattle.drf_rows.specs.Cycle.{free_of, new_offer, with_offer, cycle}
+use Rattle.drf_rows.specs.Endings.{is_task}
+use Rattle.drf_rows.specs.Members.{has_agent, has_framework}
+use Rattle.drf_rows.specs.Offers.{offer_at}
+use Rattle.drf_rows.specs.Tasks.{Start}
+use Rattle.drf_rows.specs.Step.{effect, new_offers, rows_after, rows_after_all, replies_to}
+use Rattle.drf_rows.specs.declared.rows.AgentRow.{AgentRow}
+use Rattle.drf_rows.specs.declared.rows.ClientRow.{ClientRow}
+use Rattle.drf_rows.specs.declared.rows.FrameworkRow.{FrameworkRow}
+use Rattle.drf_rows.specs.declared.rows.FilterRow.{FilterRow}
+use Rattle.drf_rows.specs.declared.rows.OfferRow.{OfferRow}
+use Rattle.drf_rows.specs.declared.rows.TaskRow.{TaskRow}
+use Rattle.drf_rows.specs.declared.rows.Rows.{Rows}
+use Rattle.drf_rows.specs.declared.event.Accept as accepting
+use Rattle.drf_rows.specs.declared.event.Event.{Event}
+use Rattle.drf_rows.specs.declared.event.Event.TheVariants.{AddAgent, RemoveAgent, ActivateAgent, DeactivateAgent, SetAgent, AddFramework, RemoveFramework, Accept, Decline, Rescind, Finish, Suppress, Revive, Reserve, Unreserve, Cycle}
+use Rattle.drf_rows.specs.declared.reply.OfferLine.{OfferLine}
+use Rattle.drf_rows.specs.declared.reply.Reply.{Reply}
+use Rattle.drf_rows.specs.declared.reply.Reply.TheVariants.{Offers}
+
+-- an offer that is declined at once, for no time, leaves the rows as they were, but for the clock, the counts and the
+-- next number
+abbrev pub DeclinedAtOnceIsUndone : Type 0
+DeclinedAtOnceIsUndone =
+    (rows : Rows) (agent : AgentRow) (client : Client) (bundle : List Resource) (at : ℕ)
+    → IsConsistent rows
+    → let o : OfferRow = new_offer rows agent client bundle in
+    effect (with_offer rows o) (Decline (record { framework = client.framework; offer = o.number; at = at; refuse_ms = 0 }))
+    ≡ record rows { frameworks = (with_offer rows o).frameworks; next_offer = rows.next_offer + 1; clock = max rows.clock at }
+
+-- a task that finishes goes, nothing else of the rows changes, and its agent gets back exactly what it used
+abbrev pub FinishedIsGivenBack : Type 0
+FinishedIsGivenBack =
+    (rows : Rows) (before later : List TaskRow) (t : TaskRow) (agent : AgentRow) (place : ℕ)
+    → IsConsistent rows
+    → rows.tasks ≡ before ++ t ∷ later
+    → slice_get rows.agents place ≡ Some agent
+    → let after : Rows = effect rows (Finish t.framework t.name) in
+    (after ≡ record rows { tasks = before ++ later })
+    × (same_text t.agent agent.name ≡ true → join (free_of rows agent) t.bundle ≡ Some (free_of after agent))
+    × (same_text t.agent agent.name ≡ false → free_of after agent ≡ free_of rows agent)
+
+-- an offer that is accepted goes, and leaves its tasks behind those that run, in their order: each its client's, on its agent,
+-- with the part that it uses. The clock moves, one filter of the client there may be added, and nothing else of the rows changes
+abbrev pub AcceptedStartsTasks : Type 0
+AcceptedStartsTasks =
+    (rows : Rows) (a : accepting.Accept) (o : OfferRow)
+    → offer_at rows a.offer ≡ Some o
+    → let started : Start → TaskRow
+    = λ s. record { name = s.0; agent = o.agent; framework = o.framework; role = o.role; bundle = s.1 } in
+    let after : Rows = effect rows (Accept a) in
+    let added : List FilterRow = drop (length rows.filters) after.filters in
+    (after
+    ≡ record rows {
+      offers = filter (λ p. not (p.number == a.offer)) rows.offers;
+      tasks = rows.tasks ++ map started a.tasks;
+      filters = rows.filters ++ added;
+      clock = max rows.clock a.at;
+    })
+    × (length added ≤ 1)
+    × (list_all (λ f. is_of_client (of_offer o).client f && is_on_agent o.agent f) added ≡ true)
+
+-- no filter outlives its agent, its framework, or the next revival of its client
+abbrev pub FiltersGoWithTheirOwner : Type 0
+FiltersGoWithTheirOwner =
+    (rows : Rows) (agent framework : Text) (client : Client)
+    → (list_any (is_on_agent agent) (effect rows (RemoveAgent agent)).filters ≡ false)
+    × (list_any (λ f. same_text f.framework framework) (effect rows (RemoveFramework framework)).filters ≡ false)
+    × (list_any (is_of_client client) (effect rows (Revive client.framework client.role)).filters ≡ false)
+
+-- the others stay: those on other agents, of other frameworks, and of other clients
+abbrev pub OtherFiltersStay : Type 0
+OtherFiltersStay =
+    (rows : Rows) (agent framework : Text) (client : Client)
+    → ((effect rows (RemoveAgent agent)).filters ≡ filter (λ f. not (same_text f.agent agent)) rows.filters)
+    × ((effect rows (RemoveFramework framework)).filters ≡ filter (λ f. not (same_text f.framework framework)) rows.filters)
+    × ((effect rows (Revive client.framework client.role)).filters
+    ≡ filter (λ f. not (same_path f.role client.role && same_text f.framework client.framework)) rows.filters)
+
+abbrev pub is_same_client : Client → Client → Bool
+is_same_client client other = same_path other.role client.role && same_text other.framework client.framework
+
+-- each row of the client is suppressed
+abbrev pub is_suppressed : Rows → Client → Bool
+is_suppressed rows client =
+    list_all (λ f. list_all (λ c. not (is_same_client client (client_of f c)) || c.suppressed) f.clients) rows.frameworks
+
+-- no row of the client is
+abbrev pub is_served : Rows → Client → Bool
+is_served rows client =
+    list_all (λ f. list_all (λ c. not (is_same_client client (client_of f c)) || not c.suppressed) f.clients) rows.frameworks
+
+-- the frameworks, as they were if all clients were suppressed
+abbrev pub quiet_row : ClientRow → ClientRow
+quiet_row c = record c { suppressed = true }
+
+abbrev pub quiet_framework : FrameworkRow → FrameworkRow
+quiet_framework f = record f { clients = map quiet_row f.clients }
+
+abbrev pub all_suppressed : Rows → List FrameworkRow
+all_suppressed rows = map quiet_framework rows.frameworks
+
+-- an event suppresses its client or makes it revive, and leaves the others suppressed or not as they were; of the rows it
+-- changes nothing else, but that filters go when a client revives
+abbrev pub SuppressionIsItsClients : Type 0
+SuppressionIsItsClients =
+    (rows : Rows) (client : Client)
+    → let suppressed : Rows = effect rows (Suppress client.framework client.role) in
+    let revived : Rows = effect rows (Revive client.framework client.role) in
+    (is_suppressed suppressed client ≡ true)
+    × (is_served revived client ≡ true)
+    × (all_suppressed suppressed ≡ all_suppressed rows)
+    × (all_suppressed revived ≡ all_suppressed rows)
+    × (suppressed ≡ record rows { frameworks = suppressed.frameworks })
+    × (revived ≡ record rows { frameworks = revived.frameworks; filters = revived.filters })
+    × ((other : Client) → is_same_client other client ≡ false
+    → (is_suppressed suppressed other ≡ is_suppressed rows other) × (is_suppressed revived other ≡ is_suppressed rows other))
+
+-- no cycle offers anything to a client that is suppressed
+abbrev pub SuppressedIsNotOffered : Type 0
+SuppressedIsNotOffered =
+    (rows : Rows) (client : Client) (at : ℕ)
+    → is_suppressed rows client ≡ true
+    → list_any (λ o. is_same_client client (of_offer o).client) (new_offers rows (cycle rows at)) ≡ false
+
+-- no cycle offers a client what a filter that is then in force holds back from it there
+abbrev pub FilteredIsNotOffered : Type 0
+FilteredIsNotOffered =
+    (rows : Rows) (at : ℕ)
+    → list_any (λ o. is_held_back rows.filters (max rows.clock at) (of_offer o).client o.agent o.bundle) (new_offers rows (cycle rows at))
+    ≡ false
+
+-- the numbers are those from one to before another, in order
+abbrev pub CountUp : ℕ → List ℕ → ℕ → Type 0
+CountUp first [] next = next ≡ first
+CountUp first (n ∷ ns) next = (n ≡ first) × CountUp (first + 1) ns next
+
+-- the offers that a reply tells
+abbrev pub lines_told : Reply → List OfferLine
+lines_told (Offers lines) = lines
+lines_told other = []
+
+-- no number is given to two offers: a run tells them with the next numbers, one after another
+abbrev pub NumbersAreNew : Type 0
+NumbersAreNew =
+    (limits : LimitNumbers) (rows : Rows) (events : List Event)
+    → CountUp rows.next_offer
+    (map (λ line. line.number) (flat_map lines_told (replies_to limits rows events)))
+    (rows_after_all limits rows events).next_offer
+
+-- the agent that an event registers, removes, activates or deactivates, or whose total it changes
+abbrev pub is_about_agent : Event → Text → Bool
+is_about_agent (AddAgent agent total) name = same_text name agent
+is_about_agent (RemoveAgent agent) name = same_text name agent
+is_about_agent (ActivateAgent agent) name = same_text name agent
+is_about_agent (DeactivateAgent agent) name = same_text name agent
+is_about_agent (SetAgent agent total) name = same_text name agent
+is_about_agent (Reserve agent role resources) name = same_text name agent
+is_about_agent (Unreserve agent role resources) name = same_text name agent
+is_about_agent event name = false
+
+-- the framework that an event registers, removes, suppresses in a role or makes revive there
+abbrev pub is_about_framework : Event → Text → Bool
+is_about_framework (AddFramework framework roles) name = same_text name framework
+is_about_framework (RemoveFramework framework) name = same_text name framework
+is_about_framework (Suppress framework role) name = same_text name framework
+is_about_framework (Revive framework role) name = same_text name framework
+is_about_framework event name = false
+
+-- the rows of all others
+abbrev pub other_agents : Event → List AgentRow → List AgentRow
+other_agents event agents = filter (λ a. not (is_about_agent event a.name)) agents
+
+abbrev pub other_frameworks : Event → List FrameworkRow → List FrameworkRow
+other_frameworks event frameworks = filter (λ f. not (is_about_framework event f.name)) frameworks
+
+abbrev pub is_cycle : Event → Bool
+is_cycle (Cycle at) = true
+is_cycle event = false
+
+-- the agents that an event is not about stay as they were, and in order
+abbrev pub OtherAgentsStay : Type 0
+OtherAgentsStay =
+    (limits : LimitNumbers) (rows : Rows) (event : Event)
+    → other_agents event (rows_after limits rows event).agents ≡ other_agents event rows.agents
+
+-- so do the frameworks, but that a cycle counts its offers
+abbrev pub OtherFrameworksStay : Type 0
+OtherFrameworksStay =
+    (limits : LimitNumbers) (rows : Rows) (event : Event)
+    → is_cycle event ≡ false
+    → other_frameworks event (rows_after limits rows event).frameworks ≡ other_frameworks event rows.frameworks
+
+-- the offers that an event does not end
+abbrev pub other_offers : Event → List OfferRow → List OfferRow
+other_offers (RemoveAgent agent) offers = filter (λ o. not (same_text o.agent agent)) offers
+other_offers (DeactivateAgent agent) offers = filter (λ o. not (same_text o.agent agent)) offers
+other_offers (RemoveFramework framework) offers = filter (λ o. not (same_text o.framework framework)) offers
+other_offers (Accept a) offers = filter (λ o. not (o.number == a.offer)) offers
+other_offers (Decline d) offers = filter (λ o. not (o.number == d.offer)) offers
+other_offers (Rescind offer) offers = filter (λ o. not (o.number == offer)) offers
+other_offers event offers = offers
+
+-- the tasks that it does not end
+abbrev pub other_tasks : Event → List TaskRow → List TaskRow
+other_tasks (RemoveAgent agent) tasks = filter (λ t. not (same_text t.agent agent)) tasks
+other_tasks (RemoveFramework framework) tasks = filter (λ t. not (same_text t.framework framework)) tasks
+other_tasks (Finish framework task) tasks = filter (λ t. not (is_task framework task t)) tasks
+other_tasks event tasks = tasks
+
+abbrev pub is_accept : Event → Bool
+is_accept (Accept a) = true
+is_accept event = false
+
+-- what an event does not end stays as it was, and in order; a cycle adds offers, and an accept tasks
+abbrev pub OtherHoldingsStay : Type 0
+OtherHoldingsStay =
+    (limits : LimitNumbers) (rows : Rows) (event : Event)
+    → let after : Rows = rows_after limits rows event in
+    (is_cycle event ≡ false → other_offers event after.offers ≡ other_offers event rows.offers)
+    × (is_accept event ≡ false → other_tasks event after.tasks ≡ other_tasks event rows.tasks)
+
+-- what an event ends is gone, and is all that goes: the others are what is left
+abbrev pub EndedIsGone : Type 0
+EndedIsGone =
+    (rows : Rows) (event : Event)
+    → (is_cycle event ≡ false → (effect rows event).offers ≡ other_offers event rows.offers)
+    × (is_accept event ≡ false → (effect rows event).tasks ≡ other_tasks event rows.tasks)
+
+-- an agent or a framework that is removed is known no more
+abbrev pub RemovedIsGone : Type 0
+RemovedIsGone =
+    (rows : Rows) (name : Text)
+    → (has_agent (effect rows (RemoveAgent name)) name ≡ false)
+    × (has_framework (effect rows (RemoveFramework name)) name ≡ false)
+
+-- the agents, as they were if all were active
+abbrev pub active_row : AgentRow → AgentRow
+active_row a = record a { active = true }
+
+abbrev pub all_active : Rows → List AgentRow
+all_active rows = map active_row rows.agents
+
+-- an agent that is activated is active, and one that is deactivated is not; nothing else of the rows changes, but that offers
+-- go when an agent is deactivated
+abbrev pub ActivityIsItsAgents : Type 0
+ActivityIsItsAgents =
+    (rows : Rows) (name : Text)
+    → let activated : Rows = effect rows (ActivateAgent name) in
+    let deactivated : Rows = effect rows (DeactivateAgent name) in
+    (list_all (λ a. not (same_text a.name name) || a.active) activated.agents ≡ true)
+    × (list_all (λ a. not (same_text a.name name) || not a.active) deactivated.agents ≡ true)
+    × (all_active activated ≡ all_active rows)
+    × (all_active deactivated ≡ all_active rows)
+    × (activated ≡ record rows { agents = activated.agents })
+    × (deactivated ≡ record rows { agents = deactivated.agents; offers = deactivated.offers })
+
+-- the offer is made to the framework, in that role
+abbrev pub is_made_to : Text → Path → OfferRow → Bool
+is_made_to framework role o = same_text framework o.framework && same_path role o.role
+
+-- the frameworks, with each client's count raised by the number of offers that are made to it
+abbrev pub raised_row : List OfferRow → Text → ClientRow → ClientRow
+raised_row made framework c = record c { count = c.count + count_by (is_made_to framework c.role) made }
+
+abbrev pub with_counts : List OfferRow → FrameworkRow → FrameworkRow
+with_counts made f = record f { clients = map (raised_row made f.name) f.clients }
+
+-- a cycle moves the clock, adds offers to those that stand, and counts each at its client; it changes nothing else
+abbrev pub CycleOnlyOffers : Type 0
+CycleOnlyOffers =
+    (rows : Rows) (at : ℕ)
+    → let after : Rows = cycle rows at in
+    (after
+    ≡ record rows {
+      frameworks = after.frameworks;
+      offers = after.offers;
+      next_offer = after.next_offer;
+      clock = max rows.clock at;
+    })
+    × (after.offers ≡ rows.offers ++ new_offers rows after)
+    × (after.frameworks ≡ map (with_counts (new_offers rows after)) rows.frameworks)

@@ -1,0 +1,2 @@
+-- Computed from the definitions beside this folder.
+pub mod Examples

@@ -1,0 +1,7 @@
+-- Theorems about the definitions beside this folder.
+pub mod FractionLaws
+pub mod ShareLaws
+pub mod OrderLaws
+pub mod Laws
+pub mod SortedLaws
+pub mod LineLaws

@@ -14,9 +14,9 @@ import sys
 import tempfile
 import time
 
+from begin import built_program
 from churn import line
 
-ROOT = os.path.dirname(os.path.dirname(os.path.realpath(__file__)))
 FILES = (1, 2, 8, 64)
 EVENTS, LONG = 20_000, 10_000
 RUNS = 5
@@ -102,10 +102,7 @@ def show(files, count, figures):
 
 
 def main(program=None, peer=None):
-    if not program:
-        # builds the program where it must
-        subprocess.run([f"{ROOT}/drf", "run"], stdin=subprocess.DEVNULL, check=True)
-        program = f"{ROOT}/crates/drf/out/drf"
+    program = program or built_program()
     programs = [program] + [peer] * (peer is not None)
     print(f"{'files':>6}{'events':>9}" + f"{'processor':>12}{'clock':>12}" * len(programs) + f"{'ratio':>12}{'ratio':>12}" * (len(programs) - 1))
     with tempfile.TemporaryDirectory() as room:

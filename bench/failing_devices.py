@@ -8,14 +8,14 @@ line on standard error tell of it. Pieces of any length alone change nothing. It
     bench/failing_devices.py PROGRAM          another one
     bench/failing_devices.py PROGRAM whole    on the lines of examples/ too, in some minutes"""
 import errno
-import glob
 import os
 import subprocess
 import sys
 import tempfile
 from multiprocessing.pool import ThreadPool
 
-ROOT = os.path.dirname(os.path.dirname(os.path.realpath(__file__)))
+from begin import built_program, inputs, shim
+
 # One call of a kind fails, the next one would not. A piece is what a call moves at most. Standard error is left alone.
 SHIM = r"""
 #define _GNU_SOURCE
@@ -174,17 +174,12 @@ def real_devices(program, path):
 
 
 def main(program=None, extent=""):
-    if not program:
-        # builds the program where it must
-        subprocess.run([f"{ROOT}/drf", "run"], stdin=subprocess.DEVNULL, check=True)
-        program = f"{ROOT}/crates/drf/out/drf"
-    names = [f"{ROOT}/bench/every_event.jsonl"] + (sorted(glob.glob(f"{ROOT}/examples/*.jsonl")) if extent == "whole" else [])
+    program = program or built_program()
+    names = inputs(extent)
     with tempfile.TemporaryDirectory() as room, ThreadPool(SIDE_BY_SIDE) as pool:
-        with open(f"{room}/shim.c", "w") as source:
-            source.write(SHIM)
-        subprocess.run(["cc", "-O2", "-shared", "-fPIC", "-o", f"{room}/shim.so", f"{room}/shim.c", "-ldl"], check=True)
+        library = shim(SHIM, room)
         for words in COMMANDS:
-            sweep = Sweep(program, f"{room}/shim.so", pool)
+            sweep = Sweep(program, library, pool)
             for name in names:
                 path = name
                 if words == ["check"]:

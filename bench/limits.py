@@ -8,15 +8,14 @@ the rules say, the journal must check as good, and another program, where one is
     bench/limits.py PROGRAM whole    the filters too
     bench/limits.py PROGRAM whole OTHER"""
 import json
-import os
 import random
 import subprocess
 import sys
 from fractions import Fraction
 
+from begin import built_program
 from churn import line
 
-ROOT = os.path.dirname(os.path.dirname(os.path.realpath(__file__)))
 AGENTS, FRAMEWORKS, ROLES, CLIENTS, FILTERS, ROWS, NAMES, TASKS = 4096, 1024, 8, 4096, 65_536, 4096, 32, 16
 # thousandths that an agent may have of a scalar
 MOST = (1 << 40) - 1
@@ -338,10 +337,7 @@ def try_case(case, program, other):
 
 
 def main(program=None, extent="", other=None):
-    if not program:
-        # builds the program where it must
-        subprocess.run([f"{ROOT}/drf", "run"], stdin=subprocess.DEVNULL, check=True)
-        program = f"{ROOT}/crates/drf/out/drf"
+    program = program or built_program()
     for case in CASES + [most_filters] * (extent == "whole"):
         try_case(case, program, other)
 

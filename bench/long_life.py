@@ -5,16 +5,15 @@ tenth after the first of ten parts. Then the same lines are run for a journal, w
     bench/long_life.py                 the program that ./drf builds, 100,000 events
     bench/long_life.py PROGRAM         another one
     bench/long_life.py PROGRAM whole   1,000,000 events, in some minutes"""
-import os
 import re
 import subprocess
 import sys
 import tempfile
 import time
 
+from begin import built_program
 from churn import Talk, churn
 
-ROOT = os.path.dirname(os.path.dirname(os.path.realpath(__file__)))
 PARTS = 10
 
 
@@ -51,10 +50,7 @@ class Watched(Talk):
 
 
 def main(program=None, extent=""):
-    if not program:
-        # builds the program where it must
-        subprocess.run([f"{ROOT}/drf", "run"], stdin=subprocess.DEVNULL, check=True)
-        program = f"{ROOT}/crates/drf/out/drf"
+    program = program or built_program()
     count = 1_000_000 if extent == "whole" else 100_000
     with tempfile.TemporaryDirectory() as room:
         began = time.monotonic()

@@ -9,8 +9,9 @@ import subprocess
 import sys
 import tempfile
 
+from begin import ROOT
 from churn import Talk, churn
-from unproved import ROOT, build
+from unproved import build
 
 VIEWERS = (1, 8, 64)
 AGENTS, FRAMEWORKS, CALLS = 50, 20, 300

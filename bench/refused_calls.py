@@ -15,7 +15,8 @@ import subprocess
 import sys
 import tempfile
 
-from unproved import ROOT, build
+from begin import ROOT, built_program, shim
+from unproved import build
 
 # A size that nobody asks for tells which growth is refused, and another asks whether one was. An audit asks by several threads.
 SHIM = r"""
@@ -99,16 +100,12 @@ def main(sweeps="-", program="-", extent=""):
     names = [f"{ROOT}/bench/every_event.jsonl", f"{ROOT}/bench/twelve_agents.jsonl"] + (sorted(glob.glob(f"{ROOT}/examples/*.jsonl")) if extent == "whole" else [])
     sums = Sums()
     if program == "-":
-        # builds the program where it must
-        subprocess.run([f"{ROOT}/drf", "run"], stdin=subprocess.DEVNULL, check=True)
-        program = f"{ROOT}/crates/drf/out/drf"
+        program = built_program()
     with tempfile.TemporaryDirectory() as room:
         if sweeps == "-":
             sweeps = f"{room}/sweeps"
             build(f"{ROOT}/bench/refused_calls", sweeps, is_checked=True)
-        with open(f"{room}/shim.c", "w") as source:
-            source.write(SHIM)
-        subprocess.run(["cc", "-O2", "-shared", "-fPIC", "-o", f"{room}/shim.so", f"{room}/shim.c", "-ldl"], check=True)
+        library = shim(SHIM, room)
 
         def ran(words, given, shim=""):
             known = {**os.environ, "LD_PRELOAD": shim}
@@ -117,10 +114,10 @@ def main(sweeps="-", program="-", extent=""):
         for name in names:
             given = open(name).read()
             events, replies = given.splitlines(), ran([program, "run"], given).splitlines()
-            sweep_steps(sums, ran([sweeps, "steps"], given, f"{room}/shim.so"), events, replies)
+            sweep_steps(sums, ran([sweeps, "steps"], given, library), events, replies)
             for word in ("inputs", "masters"):
-                sweep_journals(sums, ran([sweeps, word], given, f"{room}/shim.so"), word, replies, lambda journal: ran([program, "check"], journal))
-        for figure in rows(ran([sweeps, "calls"], "", f"{room}/shim.so"))[0]:
+                sweep_journals(sums, ran([sweeps, word], given, library), word, replies, lambda journal: ran([program, "check"], journal))
+        for figure in rows(ran([sweeps, "calls"], "", library))[0]:
             sums.add(*figure)
     sums.tell()
 

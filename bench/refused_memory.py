@@ -7,7 +7,6 @@ that the program's own check finds good, with all events unless memory ended. It
     bench/refused_memory.py                  the program that ./drf builds, on lines that use every event
     bench/refused_memory.py PROGRAM          another one
     bench/refused_memory.py PROGRAM whole    on the lines of examples/ too, in some minutes"""
-import glob
 import json
 import os
 import subprocess
@@ -15,7 +14,8 @@ import sys
 import tempfile
 from multiprocessing.pool import ThreadPool
 
-ROOT = os.path.dirname(os.path.dirname(os.path.realpath(__file__)))
+from begin import built_program, inputs, shim
+
 SHIM = r"""
 #define _GNU_SOURCE
 #include <dlfcn.h>
@@ -118,18 +118,13 @@ def sweep_drive(pool, program, room, shim):
 
 
 def main(program=None, extent=""):
-    if not program:
-        # builds the program where it must
-        subprocess.run([f"{ROOT}/drf", "run"], stdin=subprocess.DEVNULL, check=True)
-        program = f"{ROOT}/crates/drf/out/drf"
-    names = [f"{ROOT}/bench/every_event.jsonl"] + (sorted(glob.glob(f"{ROOT}/examples/*.jsonl")) if extent == "whole" else [])
+    program = program or built_program()
+    names = inputs(extent)
     with tempfile.TemporaryDirectory() as room, ThreadPool(SIDE_BY_SIDE) as pool:
-        with open(f"{room}/shim.c", "w") as source:
-            source.write(SHIM)
-        subprocess.run(["cc", "-O2", "-shared", "-fPIC", "-o", f"{room}/shim.so", f"{room}/shim.c", "-ldl"], check=True)
+        library = shim(SHIM, room)
         for words in COMMANDS:
-            sweep_examples(pool, names, program, words, f"{room}/shim.so")
-        sweep_drive(pool, program, room, f"{room}/shim.so")
+            sweep_examples(pool, names, program, words, library)
+        sweep_drive(pool, program, room, library)
 
 
 if __name__ == "__main__":

@@ -1,13 +1,15 @@
 -- The steps of the loops that add two lists, and that lower one by another.
-use Rattle.std.proofs.Common.{◌≡◌, ℕ, ◌+◌, ◌-◌, ◌^◌, ◌<◌, ◌≤◌, Bool, true, false, not, List, ◌∷◌, ◌++◌, length, get_or, set, map, take, drop, IsTrue, inl, inr, sym, ap, ◌∙◌, subst, cond, arith, add-one, append-nil}
+use Rattle.std.proofs.Common.{◌≡◌, ℕ, ◌+◌, ◌-◌, ◌^◌, ◌<◌, ◌≤◌, Bool, true, false, not, List, [], ◌∷◌, ◌++◌, length, get_or, set, map, take, drop, IsTrue, inl, inr, sym, ap, ◌∙◌, subst, refl, cond, arith, add-one, append-nil}
 use Rattle.std.proofs.Math.Seq.{drop-cons}
-use Rattle.std.proofs.lemmas.Bool.{and_parts}
+use Rattle.std.specs.Prelude.{◌||◌}
+use Rattle.std.proofs.lemmas.Bool.{and_parts, and_from}
 use Rattle.std.proofs.lemmas.Grind.{common_steps}
 use Rattle.std.proofs.lemmas.List.{take_all, drop_all, get_or-append_right, get_or-drop, get_or_default, take-append-le}
 use Rattle.std.proofs.lemmas.List.Edits.{map_over_more}
+use Rattle.drf_role.specs.Text.{same_text}
 use Rattle.drf_role.specs.TextLaws.{cases_same}
-use Rattle.drf_bundle.specs.Quantities.{amount_of, is_named, is_in_order, with_amount, plus, minus, covers}
-use Rattle.drf_bundle.specs.laws.QuantitiesLaws.{stands_first, amount_first, amount_head, amount-with, covers_at, unnamed_in}
+use Rattle.drf_bundle.specs.Quantities.{amount_of, is_named, names_all, is_in_order, with_amount, plus, minus, covers}
+use Rattle.drf_bundle.specs.laws.QuantitiesLaws.{stands_first, amount_first, amount_head, amount-with, covers_at, named-with, unnamed_in}
 use Rattle.drf_bundle.specs.Places.{IsAt}
 use Rattle.drf_bundle.proofs.PlaceLemmas.{amount_at}
 use Rattle.drf_bundle.specs.declared.quantities.Entry.{Entry}
@@ -37,6 +39,17 @@ others_fit sum es e first fits n =
           omega arith
     ]
 
+or_right : (b c : Bool) → IsTrue c → IsTrue (b || c)
+or_right true c known = refl
+or_right false c known = known
+
+-- what is named stays named
+still_named : (sum es : List Entry) (label : List ℕ) (a : ℕ) → IsTrue (names_all sum es) → IsTrue (names_all (with_amount sum label a) es)
+still_named sum [] label a named = refl
+still_named sum (e ∷ es) label a named =
+    let parts = and_parts (is_named sum e.label) (names_all sum es) named in
+    and_from _ _ (rw (named-with sum label a e.label) (or_right (same_text label e.label) (is_named sum e.label) parts.0)) (still_named sum es label a parts.1)
+
 -- ---- a step of an addition: the entry at place i is added, and those after it are left
 
 module _ (sum es : List Entry) (i : ℕ) (e : Entry) (in_range : i < length es) (read : e ≡ get_or es i e) where
@@ -54,6 +67,16 @@ module _ (sum es : List Entry) (i : ℕ) (e : Entry) (in_range : i < length es) 
 
   pub added_in_order : IsTrue (is_in_order (drop i es)) → IsTrue (is_in_order (drop (i + 1) es))
   added_in_order ordered = (added_parts ordered).1
+
+  -- the labels of those that are left are named, that of this entry now and those of the others from now on
+  named_parts : IsTrue (names_all sum (drop i es)) → IsTrue (is_named sum e.label) × IsTrue (names_all sum (drop (i + 1) es))
+  named_parts named = and_parts _ _ (subst (λ (l : List Entry). IsTrue (names_all sum l)) (next_of es i e in_range read) named)
+
+  pub named_now : IsTrue (names_all sum (drop i es)) → IsTrue (is_named sum e.label)
+  named_now named = (named_parts named).0
+
+  pub named_on : IsTrue (names_all sum (drop i es)) → IsTrue (names_all (with_amount sum e.label (amount_of sum e.label + e.amount)) (drop (i + 1) es))
+  named_on named = still_named sum (drop (i + 1) es) e.label (amount_of sum e.label + e.amount) (named_parts named).1
 
 -- ---- a step of a count of new labels
 

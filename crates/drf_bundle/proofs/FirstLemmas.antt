@@ -1,5 +1,5 @@
 -- The first resource of a name: where it goes, and that nothing refuses it.
-use Rattle.std.specs.Prelude.{◌≡◌, ℕ, ◌+◌, ◌&&◌, Bool, false, List, [], ◌∷◌, length, None, Some, IsTrue, IfSome, not}
+use Rattle.std.specs.Prelude.{◌≡◌, ℕ, ◌+◌, ◌-◌, ◌&&◌, slice_get, Bool, false, List, [], ◌∷◌, length, None, Some, IsTrue, IfSome, not}
 use Rattle.std.specs.List.{list_any}
 use Rattle.std.specs.List.Sorted.{IsSearchInRange, IsBinarySearchResult, IsNonDecreasingBy}
 use Rattle.std.specs.Ordering.{nat_cmp, is_lt, ordering_reverse, ordering_index}
@@ -10,8 +10,9 @@ use Rattle.std.proofs.lemmas.Bool.{cases_lt}
 use Rattle.std.proofs.lemmas.Bool.Decides.{nat_tests}
 use Rattle.std.proofs.lemmas.List.Sorted.{searchable_from_sorted}
 use Rattle.drf_amount.specs.declared.algebra.AlgebraFault.TheVariants as fault
-use Rattle.drf_role.specs.Text.{Text, same_text}
-use Rattle.drf_role.specs.TextLaws.{cmp_itself, cmp_below, below_from_cmp, above_from_cmp, below_other, above_other}
+use Rattle.std.proofs.lemmas.Option.{get_or_from_slice_get}
+use Rattle.drf_role.specs.Text.{Text, same_text, text_below}
+use Rattle.drf_role.specs.TextLaws.{below_trans, cmp_itself, cmp_below, below_from_cmp, above_from_cmp, below_other, above_other}
 use Rattle.drf_bundle.specs.Value.{Point, Thousandths, IsGiven, is_same_kind, share_members}
 use Rattle.drf_bundle.specs.laws.ValueLaws.{units-most}
 use Rattle.drf_bundle.specs.Bundle.{Key, key_of, same_key, is_in_order, stock}
@@ -42,6 +43,25 @@ module _ (rs : List Resource) (name : Text) (ordered : IsTrue (is_in_order rs)) 
     smaller_before = λ k d lt. below_from_cmp (get_or rs k d).label name ((parted comparisons_rise).0 k d (omega arith) lt);
     greater_after = λ k d le lt. above_from_cmp (get_or rs k d).label name ((parted comparisons_rise).1 k d le lt);
   }
+
+-- a name that the last one stands before goes behind all
+pub name_behind : (rs : List Resource) (name : Text) → IsTrue (is_in_order rs) → (r : Resource) → slice_get rs (length rs - 1) ≡ Some r → IsTrue (text_below r.label name) → IsNameGap rs name (length rs)
+name_behind rs name ordered r last below = record {
+  in_range = omega arith;
+  smaller_before = λ k d lt. elim (cases_lt k (length rs - 1)) [
+    | inl before ↦ elim (cases_below (key_of (get_or rs k d)) (key_of (get_or rs (length rs - 1) d)) (in_order_at rs k (length rs - 1) d ordered before (omega arith))) [
+      | inl less ↦ below_trans (get_or rs k d).label (get_or rs (length rs - 1) d).label name (below_from_cmp (get_or rs k d).label (get_or rs (length rs - 1) d).label less) (last_below d)
+      | inr same ↦ subst (λ (t : Text). IsTrue (text_below t name)) (sym same.0) (last_below d)
+    ]
+    | inr not_before ↦
+        let is_last : k ≡ length rs - 1 = omega arith in
+        rw is_last (last_below d)
+  ];
+  greater_after = λ k d le lt. absurd (omega arith);
+}
+  where
+    last_below : (d : Resource) → IsTrue (text_below (get_or rs (length rs - 1) d).label name)
+    last_below d = rw (get_or_from_slice_get rs (length rs - 1) r d last) below
 
 -- it is the gap for any reservation of the name
 pub key_gap : (rs : List Resource) (key : Key) (i : ℕ) → IsNameGap rs key.0 i → IsKeyGap rs key i

@@ -1,5 +1,5 @@
 -- What a search by label finds, and what an edit at that place does.
-use Rattle.std.proofs.Common.{◌≡◌, ℕ, zero, suc, ◌+◌, ◌-◌, ◌<◌, ◌≤◌, Bool, cond, true, false, List, [], ◌∷◌, length, get_or, set, Result, Ok, Err, IfOk, IfErr, is_ok, Equal, inl, inr, refl, sym, ap, ◌∙◌, subst, arith}
+use Rattle.std.proofs.Common.{◌≡◌, ℕ, zero, suc, ◌+◌, ◌-◌, ◌<◌, ◌≤◌, Bool, cond, true, false, List, [], ◌∷◌, length, get_or, set, slice_get, Some, Result, Ok, Err, IfOk, IfErr, is_ok, Equal, inl, inr, refl, sym, ap, ◌∙◌, subst, arith}
 use Rattle.std.specs.Prelude.{IsTrue}
 use Rattle.std.specs.List.{insert}
 use Rattle.std.specs.List.Sorted.{IsSearchInRange, IsBinarySearchResult, IsNonDecreasingBy}
@@ -9,7 +9,8 @@ use Rattle.std.proofs.lemmas.Bool.{and_parts, cases_lt}
 use Rattle.std.proofs.lemmas.List.Recursion.{and_at, found_at, found_nowhere, or_at, or_from_places}
 use Rattle.std.proofs.lemmas.List.Sorted.{searchable_from_sorted}
 use Rattle.drf_role.specs.Text.{same_text, text_below}
-use Rattle.drf_role.specs.TextLaws.{same_from_cmp, same_from_test, test_from_same, cmp_below, cmp_above, cmp_itself, above_from_cmp, below_other, above_other}
+use Rattle.std.proofs.lemmas.Option.{get_or_from_slice_get}
+use Rattle.drf_role.specs.TextLaws.{below_trans, same_from_cmp, same_from_test, test_from_same, cmp_below, cmp_above, cmp_itself, above_from_cmp, below_other, above_other}
 use Rattle.drf_bundle.specs.Quantities.{amount_of, is_named, is_in_order, with_amount}
 use Rattle.drf_bundle.specs.laws.QuantitiesLaws.{stands_first, amount-with}
 use Rattle.drf_bundle.specs.Places.{IsAt, IsGapFor}
@@ -46,6 +47,22 @@ module _ (es : List Entry) (label : List ℕ) where
       greater_after = λ k d le lt. above_from_cmp (get_or es k d).label label ((parted (comparisons_rise ordered)).1 k d le lt);
     };
   }
+
+  -- a label that the last entry stands before goes behind all
+  pub behind_last : IsTrue (is_in_order es) → (e : Entry) → slice_get es (length es - 1) ≡ Some e → IsTrue (text_below e.label label) → IsGapFor es label (length es)
+  behind_last ordered e last below = record {
+    in_range = omega arith;
+    smaller_before = λ k d lt. elim (cases_lt k (length es - 1)) [
+      | inl before ↦ below_trans (get_or es k d).label (get_or es (length es - 1) d).label label (in_order_at es k (length es - 1) d ordered before (omega arith)) (last_below d)
+      | inr not_before ↦
+          let is_last : k ≡ length es - 1 = omega arith in
+          rw is_last (last_below d)
+    ];
+    greater_after = λ k d le lt. absurd (omega arith);
+  }
+    where
+      last_below : (d : Entry) → IsTrue (text_below (get_or es (length es - 1) d).label label)
+      last_below d = rw (get_or_from_slice_get es (length es - 1) e d last) below
 
   -- no entry before the place has the label
   other_before : (i : ℕ) → IsTrue (is_in_order es) → IsAt es label i → (k : ℕ) (d : Entry) → k < i → same_text (get_or es k d).label label ≡ false

@@ -9,8 +9,11 @@ use Rattle.std.specs.List.Sorted.{IsSearchInRange, IsBinarySearchResult, IsNonDe
 use Rattle.std.proofs.lemmas.Bool.{and_parts, cases_lt}
 use Rattle.std.proofs.lemmas.List.Recursion.{and_at}
 use Rattle.std.proofs.lemmas.List.Sorted.{searchable_from_sorted}
-use Rattle.drf_role.specs.TextLaws.{less_from_test, cmp_itself}
-use Rattle.drf_bundle.specs.Bundle.{Key, key_of, key_cmp, key_below, same_key, is_in_order, value_at, merged}
+use Rattle.drf_role.specs.Text.{Text, same_text}
+use Rattle.drf_role.specs.Path.{Path, same_path}
+use Rattle.drf_role.specs.PathLaws.{same_path-true}
+use Rattle.drf_role.specs.TextLaws.{less_from_test, cmp_itself, same_from_test}
+use Rattle.drf_bundle.specs.Bundle.{Key, key_of, key_cmp, key_below, reservation, same_key, is_in_order, value_at, merged}
 use Rattle.drf_bundle.specs.laws.KeyLaws.{cases_key, key_trans, key_less, key_greater, key_equal, same_key_itself, below_other, above_other, Has, stands_first}
 use Rattle.drf_bundle.specs.laws.JoinLaws.{both_of, merged-empty}
 use Rattle.drf_bundle.specs.Places.{IsKeyAt, IsKeyGap}
@@ -154,3 +157,12 @@ merged_in_gap (s ∷ ss) r (suc i) gap =
       above_after = λ k d le lt. gap.above_after (suc k) d (omega arith) (omega arith);
     } in
     rw (less_from_below (key_of s) (key_of r) (gap.below_before 0 s (omega arith))) (ap (λ (l : List Resource). s ∷ l) (merged_in_gap ss r i tail))
+
+-- the resource that has the name and the role at an index has the key there
+pub key_here : (rs : List Resource) (i : ℕ) (r : Resource) (label : Text) (role : Path) → i < length rs → ((d : Resource) → r ≡ get_or rs i d) → same_text r.label label ≡ true → same_path r.role role ≡ true
+    → IsKeyAt rs (label, reservation role) i
+key_here rs i r label role in_range at same_label same_role = record {
+  in_range = in_range;
+  has_key = λ d. ap key_of (sym (at d))
+      ∙ (λ j. (same_from_test r.label label same_label j, reservation (same_path-true r.role role same_role j)));
+}

@@ -15,6 +15,10 @@ amount_of (e ∷ es) label = if same_text e.label label then e.amount else amoun
 abbrev pub is_named : List Entry → List ℕ → Bool
 is_named entries label = list_any (λ e. same_text e.label label) entries
 
+-- the first list names each label of the second
+abbrev pub names_all : List Entry → List Entry → Bool
+names_all entries others = list_all (λ e. is_named entries e.label) others
+
 -- the labels, in order
 abbrev pub names_of : List Entry → List (List ℕ)
 names_of entries = map (λ e. e.label) entries

@@ -52,7 +52,9 @@ pub(crate) fn add_scalar(sums: &mut Quantities, resource: &Resource) -> Result<(
     let Value::Scalar(scalar) = &resource.value else {
         return Ok(());
     };
-    sums.add(&resource.label, scalar.thousandths())
+    // Resources stand in order of name, so it is the last name, or one behind it.
+    let last = sums.entries().len().saturating_sub(1);
+    sums.add(&resource.label, scalar.thousandths(), last)
 }
 
 /// The scalars of each name, summed over all reservations.
@@ -67,6 +69,35 @@ fn sums(alloc: Global, resources: &[Resource]) -> Result<Quantities, AllocError>
     Ok(sums)
 }
 
+/// Whether the resource of a name and a reservation is at the place.
+fn is_at(resources: &[Resource], label: &Label, role: &Role, at: usize) -> bool
+    ensures { IsTrue result → IsKeyAt resources.now (label.now, reservation role.now) at }
+{
+    match resources.get(at) {
+        Some(resource) => resource.label == *label && resource.role == *role,
+        None => false,
+    }
+}
+
+/// Where the resource of a name and a reservation stands, or where it would go. The places from the hint on are looked at first.
+fn place_near(
+    resources: &[Resource],
+    label: &Label,
+    role: &Role,
+    hint: usize,
+) -> Result<usize, usize>
+    requires { IsTrue (is_in_order resources.now) }
+    ensures found { IfOk result (IsKeyAt resources.now (label.now, reservation role.now)) }
+    ensures absent { IfErr result (IsKeyGap resources.now (label.now, reservation role.now)) }
+{
+    for at in hint..hint.saturating_add(3) {
+        if is_at(resources, label, role, at) {
+            return Ok(at);
+        }
+    }
+    place(resources, label, role)
+}
+
 /// Where the resource of a name and a reservation stands, or where it would go.
 pub(crate) fn place(resources: &[Resource], label: &Label, role: &Role) -> Result<usize, usize>
     requires { IsTrue (is_in_order resources.now) }
@@ -76,12 +107,17 @@ pub(crate) fn place(resources: &[Resource], label: &Label, role: &Role) -> Resul
     resources.binary_search_by(|resource| resource.cmp_key(label, role))
 }
 
-/// The value of a name under a reservation.
-fn value_at<'a>(resources: &'a [Resource], label: &Label, role: &Role) -> Option<&'a Value>
+/// The value of a name under a reservation, which is likely to stand at the hint or close behind it.
+fn value_at<'a>(
+    resources: &'a [Resource],
+    label: &Label,
+    role: &Role,
+    hint: usize,
+) -> Option<&'a Value>
     requires { IsTrue (is_in_order resources.now) }
     ensures { option_copied result ≡ value_at resources.now (label.now, reservation role.now) }
 {
-    match place(resources, label, role) {
+    match place_near(resources, label, role, hint) {
         Ok(at) => {
             let resource = &resources[at];
             Some(&resource.value)
@@ -91,22 +127,22 @@ fn value_at<'a>(resources: &'a [Resource], label: &Label, role: &Role) -> Option
 }
 
 /// Whether the value under the resource's key covers it.
-fn covers_one(whole: &[Resource], resource: &Resource) -> bool
+fn covers_one(whole: &[Resource], resource: &Resource, hint: usize) -> bool
     requires { IsTrue (is_in_order whole.now) }
     ensures { result ≡ covers_one whole.now resource.now }
 {
-    match value_at(whole, &resource.label, &resource.role) {
+    match value_at(whole, &resource.label, &resource.role, hint) {
         Some(value) => value.covers(&resource.value),
         None => false,
     }
 }
 
 /// The resource without what the part has under its key.
-fn left_of(part: &[Resource], resource: &Resource) -> Result<Resource, AllocError>
+fn left_of(part: &[Resource], resource: &Resource, hint: usize) -> Result<Resource, AllocError>
     requires { IsTrue (is_in_order part.now) }
     ensures { IfOk result (λ left. left ≡ left_of part.now resource.now) }
 {
-    let value = match value_at(part, &resource.label, &resource.role) {
+    let value = match value_at(part, &resource.label, &resource.role, hint) {
         Some(part) => resource.value.minus(part)?,
         None => resource.value.copy()?,
     };
@@ -184,7 +220,7 @@ impl Bundle {
     pub fn get(&self, label: &Label, role: &Role) -> Option<&Value>
         ensures { option_copied result ≡ value_at self.now (label.now, reservation role.now) }
     {
-        value_at(&self.resources, label, role)
+        value_at(&self.resources, label, role, 0)
     }
 
     /// The resources in the order in which they are written.
@@ -295,8 +331,9 @@ impl Bundle {
         ensures { IfOk result (λ left. left ≡ rest self.now part.now) }
     {
         let mut left = Vec::new(self.alloc());
-        for resource in &self.resources {
-            push_filled(&mut left, left_of(&part.resources, resource)?)?;
+        for (i, resource) in self.resources.iter().enumerate() {
+            let hint = i.saturating_sub(1);
+            push_filled(&mut left, left_of(&part.resources, resource, hint)?)?;
         }
         Bundle::new(self.alloc(), left)
     }
@@ -340,8 +377,8 @@ impl Algebra for Bundle {
 
     fn covers(&self, part: &Bundle) -> bool {
         let whole = self.entries();
-        for resource in &part.resources {
-            if !covers_one(whole, resource) {
+        for (i, resource) in part.resources.iter().enumerate() {
+            if !covers_one(whole, resource, i) {
                 return false;
             }
         }

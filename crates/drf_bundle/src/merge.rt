@@ -3,7 +3,7 @@ ghost use Rattle.std.specs.Prelude.{◌≡◌, IsTrue, IfOk};
 ghost use Rattle.drf_bundle.specs.Bundle.{is_in_order, merged, have_clash, clashes_with_some};
 ghost use Rattle.drf_bundle.specs.Sides.{next_side, names_cmp, none_before};
 
-use crate::resource::Resource;
+use crate::resource::{Resource, compare_labels};
 use crate::value::Clash;
 use std::alloc::{AllocError, Global};
 use std::cmp::Ordering;
@@ -90,7 +90,7 @@ fn compare_names(left: &[Resource], right: &[Resource]) -> Option<Ordering>
     let (Some(resource), Some(other)) = (left.first(), right.first()) else {
         return None;
     };
-    Some(resource.label.cmp(&other.label))
+    Some(compare_labels(&resource.label, &other.label))
 }
 
 /// Whether a name stands in both with values that clash in that way.

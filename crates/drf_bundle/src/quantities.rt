@@ -1,5 +1,5 @@
 ghost use Rattle.std.specs.Prelude.{◌≡◌, ℕ, List, [], length, ◌^◌, ◌<◌, IsTrue, ◌+◌, ◌≤◌, ◌↔◌, if◌then◌else◌, IfOk, IfErr, OnOk, OnErr, IsOk};
-ghost use Rattle.drf_bundle.specs.Quantities.{HasNoZeros, amount_of, is_named, is_in_order, with_amount, plus, minus, covers, without_zeros, names_of};
+ghost use Rattle.drf_bundle.specs.Quantities.{HasNoZeros, amount_of, is_named, names_all, is_in_order, with_amount, plus, minus, covers, without_zeros, names_of};
 ghost use Rattle.drf_bundle.specs.Places.{IsAt, IsGapFor};
 ghost use Rattle.drf_role.specs.Text.{same_text};
 
@@ -60,7 +60,14 @@ impl Quantities {
     pub fn get(&self, label: &str) -> u64
         ensures { result ≡ amount_of self.now label.now }
     {
-        match self.place(label) {
+        self.get_near(label, 0)
+    }
+
+    // So too, of a label that is likely to stand at that place or close behind it.
+    pub(crate) fn get_near(&self, label: &str, hint: usize) -> u64
+        ensures { result ≡ amount_of self.now label.now }
+    {
+        match self.place(label, hint) {
             Ok(at) => {
                 let entry = &self.entries[at];
                 entry.amount.thousandths()
@@ -73,7 +80,14 @@ impl Quantities {
     pub fn is_named(&self, label: &str) -> bool
         ensures { result ≡ is_named self.now label.now }
     {
-        self.place(label).is_ok()
+        self.is_named_near(label, 0)
+    }
+
+    // So too, of a label that is likely to stand at that place or close behind it.
+    fn is_named_near(&self, label: &str, hint: usize) -> bool
+        ensures { result ≡ is_named self.now label.now }
+    {
+        self.place(label, hint).is_ok()
     }
 
     /// The labels and their amounts, by the bytes of the labels.
@@ -98,7 +112,7 @@ impl Quantities {
         ensures named { IsTrue (is_named self.old label) → IsOk result }
     {
         let amount = Scalar::new(thousandths);
-        match self.place(label.text()) {
+        match self.place(label.text(), 0) {
             Ok(at) => {
                 let entry = &mut self.entries[at];
                 entry.amount = amount;
@@ -108,13 +122,18 @@ impl Quantities {
         }
     }
 
-    /// Adds to the amount of a label, and names it where it was not.
-    pub(crate) fn add(&mut self, label: &Label, thousandths: u64) -> Result<(), AllocError>
+    /// Adds to the amount of a label, and names it where it was not. It is likely to stand at that place or close behind it.
+    pub(crate) fn add(
+        &mut self,
+        label: &Label,
+        thousandths: u64,
+        hint: usize,
+    ) -> Result<(), AllocError>
         requires { amount_of self.old label.now + thousandths < 2 ^ 64 }
         ensures ok { OnOk result (self.new ≡ with_amount self.old label.now (amount_of self.old label.now + thousandths)) }
         ensures err { OnErr result (self.new ≡ self.old) }
     {
-        match self.place(label.text()) {
+        match self.place(label.text(), hint) {
             Ok(at) => {
                 let entry = &mut self.entries[at];
                 let sum = entry.amount.thousandths() + thousandths;
@@ -145,10 +164,47 @@ impl Quantities {
         ensures { IfOk result (λ q. q ≡ plus self.now other.now) }
     {
         let mut sum = self.copy()?;
-        for entry in other.entries() {
-            sum.add(&entry.label, entry.amount.thousandths())?;
+        for (i, entry) in other.entries().iter().enumerate() {
+            sum.add(&entry.label, entry.amount.thousandths(), i)?;
         }
         Ok(sum)
+    }
+
+    /// Whether it names each label of the other.
+    pub fn names_all(&self, other: &Quantities) -> bool
+        ensures { result ≡ names_all self.now other.now }
+    {
+        for (i, entry) in other.entries().iter().enumerate() {
+            if !self.is_named_near(entry.label.text(), i) {
+                return false;
+            }
+        }
+        true
+    }
+
+    /// Adds the amounts of the other, all of whose labels it names. It needs no memory.
+    pub fn raise(&mut self, other: &Quantities)
+        requires named { IsTrue (names_all self.old other.now) }
+        requires fits { (label : List ℕ) → amount_of self.old label + amount_of other.now label < 2 ^ 64 }
+        ensures { self.new ≡ plus self.old other.now }
+    {
+        for (i, entry) in other.entries().iter().enumerate() {
+            self.raise_one(entry.label.text(), entry.amount.thousandths(), i);
+        }
+    }
+
+    // Adds to the amount of a label that it names, which is likely to stand at that place or close behind it.
+    fn raise_one(&mut self, label: &str, thousandths: u64, hint: usize)
+        requires named { IsTrue (is_named self.old label.now) }
+        requires fits { amount_of self.old label.now + thousandths < 2 ^ 64 }
+        ensures { self.new ≡ with_amount self.old label.now (amount_of self.old label.now + thousandths) }
+    {
+        let Ok(at) = self.place(label, hint) else {
+            return;
+        };
+        let entry = &mut self.entries[at];
+        let sum = entry.amount.thousandths() + thousandths;
+        entry.amount = Scalar::new(sum);
     }
 
     /// How many labels the two name together. It needs no memory.
@@ -169,8 +225,8 @@ impl Quantities {
         requires { IsTrue (covers self.old other.now) }
         ensures { self.new ≡ minus self.old other.now }
     {
-        for entry in self.entries.iter_mut() {
-            let part = other.get(entry.label.text());
+        for (i, entry) in self.entries.iter_mut().enumerate() {
+            let part = other.get_near(entry.label.text(), i.saturating_sub(1));
             entry.amount = Scalar::new(entry.amount.thousandths() - part);
         }
     }
@@ -180,7 +236,7 @@ impl Quantities {
         requires { thousandths ≤ amount_of self.old label.now }
         ensures { (other : List ℕ) → amount_of self.new other + (if same_text label.now other then thousandths else 0) ≡ amount_of self.old other }
     {
-        let Ok(at) = self.place(label) else {
+        let Ok(at) = self.place(label, 0) else {
             return;
         };
         let entry = &mut self.entries[at];
@@ -200,8 +256,43 @@ impl Quantities {
         self.entries.retain(|entry| entry.amount.thousandths() > 0);
     }
 
-    // Where the label is, or where it would go.
-    fn place(&self, label: &str) -> Result<usize, usize>
+    // Whether the label is at the place.
+    fn is_at(&self, label: &str, at: usize) -> bool
+        ensures { IsTrue result → IsAt self.now label.now at }
+    {
+        match self.entries.get(at) {
+            Some(entry) => entry.label.text() == label,
+            None => false,
+        }
+    }
+
+    // Where the label is, or where it would go. The places from the hint on are looked at first: to compare for equality costs little.
+    fn place(&self, label: &str, hint: usize) -> Result<usize, usize>
+        ensures found { IfOk result (IsAt self.now label.now) }
+        ensures absent { IfErr result (IsGapFor self.now label.now) }
+    {
+        for at in hint..hint.saturating_add(3) {
+            if self.is_at(label, at) {
+                return Ok(at);
+            }
+        }
+        if self.is_behind(label) {
+            return Err(self.entries.len());
+        }
+        self.search(label)
+    }
+
+    // Whether the label would go behind all others.
+    fn is_behind(&self, label: &str) -> bool
+        ensures { IsTrue result → IsGapFor self.now label.now (length self.now) }
+    {
+        match self.entries.last() {
+            Some(entry) => entry.label.text() < label,
+            None => true,
+        }
+    }
+
+    fn search(&self, label: &str) -> Result<usize, usize>
         ensures found { IfOk result (IsAt self.now label.now) }
         ensures absent { IfErr result (IsGapFor self.now label.now) }
     {

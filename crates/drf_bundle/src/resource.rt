@@ -2,6 +2,8 @@
 ghost use Rattle.std.specs.Prelude.{◌≡◌, IfOk};
 ghost use Rattle.drf_bundle.specs.Bundle.{is_default, is_for, moved_to, key_of, key_cmp, reservation, with_value};
 ghost use Rattle.drf_bundle.specs.Value.{united};
+ghost use Rattle.std.specs.Ordering.{nat_cmp};
+ghost use Rattle.std.specs.Cmp.Lexicographic.{slice_cmp};
 
 use crate::value::Value;
 use drf_role::{Label, Role};
@@ -23,13 +25,33 @@ fn reservation(role: &Role) -> &str
     if role.is_default() { "" } else { role.text() }
 }
 
+/// How two labels stand in order. Most that are compared are equal, which costs less to see.
+pub(crate) fn compare_labels(label: &Label, other: &Label) -> Ordering
+    ensures { result ≡ slice_cmp nat_cmp label.now other.now }
+{
+    if label == other {
+        return Ordering::Equal;
+    }
+    label.cmp(other)
+}
+
+/// How two reservations stand in order.
+fn compare_reservations(role: &Role, other: &Role) -> Ordering
+    ensures { result ≡ slice_cmp nat_cmp (reservation role.now) (reservation other.now) }
+{
+    if role == other {
+        return Ordering::Equal;
+    }
+    reservation(role).cmp(reservation(other))
+}
+
 impl Resource {
     /// How it stands in order to what has that name and reservation.
     pub(crate) fn cmp_key(&self, label: &Label, role: &Role) -> Ordering
         ensures { result ≡ key_cmp (key_of self.now) (label.now, reservation role.now) }
     {
-        match self.label.cmp(label) {
-            Ordering::Equal => reservation(&self.role).cmp(reservation(role)),
+        match compare_labels(&self.label, label) {
+            Ordering::Equal => compare_reservations(&self.role, role),
             apart => apart,
         }
     }

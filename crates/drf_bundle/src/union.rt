@@ -1,5 +1,5 @@
 //! One more resource in a bundle, where sets of one name and reservation may share members.
-ghost use Rattle.std.specs.Prelude.{◌≡◌, ℕ, ◌+◌, ◌<◌, ◌^◌, ◌&&◌, not, Some, [], ◌∷◌, filter, nat_le, IsTrue, IfSome, IfOk, IfErr, OnOk, OnErr};
+ghost use Rattle.std.specs.Prelude.{◌≡◌, ℕ, ◌+◌, ◌<◌, ◌^◌, ◌&&◌, not, Some, [], ◌∷◌, filter, length, nat_le, IsTrue, IfSome, IfOk, IfErr, OnOk, OnErr};
 ghost use Rattle.drf_amount.specs.Algebra.{IsJoinFault};
 ghost use Rattle.drf_role.specs.Text.{same_text};
 ghost use Rattle.drf_bundle.specs.Value.{Thousandths, units_in, share_members};
@@ -65,11 +65,25 @@ fn is_too_much(sums: &Quantities, resource: &Resource) -> bool
     sum.is_none()
 }
 
+/// Whether a resource of the name would go behind all others, as most do that are read in order.
+fn is_behind(resources: &[Resource], label: &Label) -> bool
+    requires { IsTrue (is_in_order resources.now) }
+    ensures { IsTrue result → IsNameGap resources.now label.now (length resources.now) }
+{
+    match resources.last() {
+        Some(resource) => resource.label < *label,
+        None => true,
+    }
+}
+
 /// Where a resource of the name would go, if the name has none.
 fn gap_of_name(resources: &[Resource], label: &Label) -> Option<usize>
     requires { IsTrue (is_in_order resources.now) }
     ensures { IfSome result (IsNameGap resources.now label.now) }
 {
+    if is_behind(resources, label) {
+        return Some(resources.len());
+    }
     resources
         .binary_search_by(|resource| resource.label.cmp(label))
         .err()

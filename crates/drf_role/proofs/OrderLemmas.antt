@@ -1,7 +1,8 @@
 -- The order of paths, part by part.
 use Rattle.std.proofs.Common.{◌≡◌, ◌⊎◌, ℕ, ◌+◌, ◌-◌, ◌≤◌, true, false, List, [], ◌∷◌, length, drop, slice_get, Some, Ordering, refl, sym, ◌∙◌, ap, inl, inr, ⊎_elim, arith, length-drop}
-use Rattle.std.specs.Cmp.Lexicographic.{slice_cmp}
-use Rattle.std.specs.Ordering.{nat_cmp, ordering_then, is_ne}
+use Rattle.std.specs.Prelude.{not, ◌==◌}
+use Rattle.std.specs.Cmp.Lexicographic.{pointwise, slice_cmp, texts_ties}
+use Rattle.std.specs.Ordering.{nat_cmp, ordering_then, is_eq, is_ne}
 use Rattle.std.specs.declared.cmp.Ordering.TheVariants.{Less, Equal, Greater}
 use Rattle.std.proofs.lemmas.Bool.{false≢true}
 use Rattle.std.proofs.lemmas.Bool.Decides.{nat_tests}
@@ -30,6 +31,15 @@ then_same : (o r : Ordering) → is_ne o ≡ false → ordering_then o r ≡ r
 then_same Less r h = absurd (false≢true (sym h))
 then_same Equal r h = refl
 then_same Greater r h = absurd (false≢true (sym h))
+
+ne_from_eq : (o : Ordering) → is_ne o ≡ not (is_eq o)
+ne_from_eq Less = refl
+ne_from_eq Equal = refl
+ne_from_eq Greater = refl
+
+-- parts differ in order where they are not the same
+pub differ : (p q : List ℕ) → is_ne (slice_cmp nat_cmp p q) ≡ not (pointwise ◌==◌ p q)
+differ p q = ne_from_eq (slice_cmp nat_cmp p q) ∙ ap not (sym (texts_ties p q))
 
 -- the first parts that differ decide
 pub path_cmp_differs : (ps qs : List (List ℕ)) (i : ℕ) (p q : List ℕ) (o : Ordering) → slice_get ps i ≡ Some p → slice_get qs i ≡ Some q → o ≡ slice_cmp nat_cmp p q → is_ne o ≡ true → o ≡ path_cmp (drop i ps) (drop i qs)

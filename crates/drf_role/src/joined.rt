@@ -29,13 +29,11 @@ struct Span {
 fn goes_on(text: &[u8], front: &[u8]) -> bool
     ensures { IsTrue result ↔ GoesOn text.now front.now }
 {
-    if !text.starts_with(front) {
+    // Most texts part here, so that nothing else of them is compared.
+    if text.len() > front.len() && text[front.len()] != b'/' {
         return false;
     }
-    if text.len() == front.len() {
-        return true;
-    }
-    text[front.len()] == b'/'
+    text.starts_with(front)
 }
 
 /// An ASCII text and the places of its parts.
@@ -223,9 +221,10 @@ impl Ord for Joined {
     fn cmp(&self, other: &Joined) -> Ordering {
         let shared = self.len().min(other.len());
         for i in 0..shared {
-            let order = self.part(i).cmp(other.part(i));
-            if order.is_ne() {
-                return order;
+            let part = self.part(i);
+            let its = other.part(i);
+            if part != its {
+                return part.cmp(its);
             }
         }
         self.len().cmp(&other.len())

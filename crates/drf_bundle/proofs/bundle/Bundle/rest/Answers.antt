@@ -6,5 +6,5 @@ use Rattle.drf_bundle.proofs.bundle.Bundle.rest.Goals as goal
 
 pub new-requires : goal.new-requires
 new-requires c =
-    let all = c.loop-resource.invariant ∙ ap (λ (rs : List Resource). rest rs c.args.part.now) (take_all _ _ c.loop-resource-test.false ∙ c.deref-resource-items.ensures.value ∙ c.self.view_is) in
+    let all = c.loop-i.invariant ∙ ap (λ (rs : List Resource). rest rs c.args.part.now) (take_all _ _ c.loop-i-test.false ∙ c.deref-resource-items.ensures.value ∙ c.self.view_is) in
     rw all (bundle-rest c.args.self.now c.args.part.now (subst IsBundle c.self.view_is c.self.invariant.bundle))

@@ -16,7 +16,7 @@ returns-then-not-covers_one-clause-covers c =
       λ e. absurd (false≢true e),
       λ some.
           let all = (covers_exact whole c.args.part.now c.entries-whole.ensures.bundle is_part).1 some in
-          let one = and_at (covers whole) (covers_one whole) refl (λ _ _. refl) items c.loop-resource.resource-index c.resource-item.result c.loop-resource-test.true (ap (covers whole) same ∙ all) in
+          let one = and_at (covers whole) (covers_one whole) refl (λ _ _. refl) items c.loop-i.i c.resource-item.result c.loop-i-test.true (ap (covers whole) same ∙ all) in
           absurd (false≢true (sym none ∙ ap (covers_one whole) c.resource-item.is ∙ one)),
     )
 
@@ -25,5 +25,5 @@ returns-clause-covers c =
     let whole = c.args.self.now in
     let is_part = subst IsBundle c.part.view_is c.part.invariant.bundle in
     let all : covers whole c.args.part.now ≡ true =
-    ap (covers whole) (sym (take_all _ _ c.loop-resource-test.false ∙ c.deref-resource-items.ensures.value ∙ c.part.view_is)) ∙ c.loop-resource.invariant in
+    ap (covers whole) (sym (take_all _ _ c.loop-i-test.false ∙ c.deref-resource-items.ensures.value ∙ c.part.view_is)) ∙ c.loop-i.invariant in
     (λ e. (covers_exact whole c.args.part.now c.entries-whole.ensures.bundle is_part).0 all, λ some. refl)

@@ -4,8 +4,8 @@ use Rattle.drf_bundle.specs.Quantities.{amount_of, with_amount}
 use Rattle.drf_bundle.proofs.ChangeLemmas.{sum_fits, added_whole, added_fits, added_in_order}
 use Rattle.drf_bundle.proofs.quantities.Quantities.plus.Goals as goal
 
-pub loop-entry-init : goal.loop-entry-init
-loop-entry-init c = rw (c.in_ok-sum.ensures, c.entries-entry-items.ensures.value) (record {
+pub loop-i-init : goal.loop-i-init
+loop-i-init c = rw (c.in_ok-sum.ensures, c.entries-entry-items.ensures.value) (record {
   whole = refl;
   fits = c.requires;
   in_order = c.entries-entry-items.ensures.in_order;
@@ -13,19 +13,19 @@ loop-entry-init c = rw (c.in_ok-sum.ensures, c.entries-entry-items.ensures.value
 
 pub add-requires : goal.add-requires
 add-requires c =
-    let fits = sum_fits _ _ _ _ c.loop-entry-test.true c.entry-item.is c.loop-entry.invariant.fits in
+    let fits = sum_fits _ _ _ _ c.loop-i-test.true c.entry-item.is c.loop-i.invariant.fits in
     omega (arith, fits, c.thousandths.ensures)
 
-pub loop-entry-preserved : goal.loop-entry-preserved
-loop-entry-preserved c =
+pub loop-i-preserved : goal.loop-i-preserved
+loop-i-preserved c =
     let e = c.entry-item.result in
-    let made : c.add.new.self ≡ with_amount c.loop-entry.sum e.label (amount_of c.loop-entry.sum e.label + e.amount) = cc (c.in_ok-add.ensures.ok, c.thousandths.ensures) in
-    let so_far = c.loop-entry.invariant in
+    let made : c.add.new.self ≡ with_amount c.loop-i.sum e.label (amount_of c.loop-i.sum e.label + e.amount) = cc (c.in_ok-add.ensures.ok, c.thousandths.ensures) in
+    let so_far = c.loop-i.invariant in
     rw made (record {
-      whole = added_whole _ _ _ _ c.loop-entry-test.true c.entry-item.is _ so_far.whole;
-      fits = added_fits _ _ _ _ c.loop-entry-test.true c.entry-item.is so_far.in_order so_far.fits;
-      in_order = added_in_order c.loop-entry.sum _ _ _ c.loop-entry-test.true c.entry-item.is so_far.in_order;
+      whole = added_whole _ _ _ _ c.loop-i-test.true c.entry-item.is _ so_far.whole;
+      fits = added_fits _ _ _ _ c.loop-i-test.true c.entry-item.is so_far.in_order so_far.fits;
+      in_order = added_in_order c.loop-i.sum _ _ _ c.loop-i-test.true c.entry-item.is so_far.in_order;
     })
 
 pub returns : goal.returns
-returns c = rw (drop_all _ _ c.loop-entry-test.false) at c.loop-entry.invariant.whole
+returns c = rw (drop_all _ _ c.loop-i-test.false) at c.loop-i.invariant.whole

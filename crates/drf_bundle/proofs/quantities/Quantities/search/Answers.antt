@@ -3,7 +3,7 @@ use Rattle.std.proofs.lemmas.Fn.{always_returns_same}
 use Rattle.std.specs.Ordering.{nat_cmp}
 use Rattle.std.specs.Cmp.Lexicographic.{slice_cmp}
 use Rattle.drf_bundle.proofs.PlaceLemmas.{searched}
-use Rattle.drf_bundle.proofs.quantities.Quantities.place.Goals as goal
+use Rattle.drf_bundle.proofs.quantities.Quantities.search.Goals as goal
 
 -- the closure compares an entry's label with the one that is looked for, and the slice is the entries
 pub returns : goal.returns

@@ -1,0 +1,7 @@
+use Rattle.std.proofs.Common.{◌≡◌, true, take}
+use Rattle.drf_bundle.specs.Quantities.{names_all}
+use Rattle.drf_bundle.proofs.quantities.Quantities.names_all.Given as goal
+
+-- each label so far is named
+abbrev pub invariant-loop-i : goal.invariant-loop-i
+invariant-loop-i l = names_all l.self (take l.i l.entry-items) ≡ true

@@ -10,7 +10,7 @@ use Rattle.drf_master.specs.declared.driving.DriveFault.{DriveFault}
 use Rattle.drf_master.specs.declared.driving.DriveFault.TheVariants as driving
 use Rattle.drf_master.specs.declared.matching.CloseFault.{CloseFault}
 use Rattle.drf_master.specs.declared.matching.CloseFault.TheVariants as why
-use Rattle.drf_master.proofs.Shuffles.{no_fault}
+use Rattle.drf_master.specs.laws.ShuffleLaws.{no_fault}
 use Rattle.drf_rows.specs.LimitNumbers.{LimitNumbers}
 use Rattle.drf_rows.specs.declared.event.Event.{Event}
 use Rattle.drf_drive.specs.Driven.{HasMisfit, IsRunFault, told_as}

@@ -1,5 +1,4 @@
 pub mod Tallying
-pub mod Shuffles
 pub mod Sames
 pub mod Runs
 pub mod Scripts

@@ -1,12 +1,13 @@
 -- A tally that takes one receipt more.
 use Rattle.std.proofs.Common.{◌≡◌, ℕ, zero, suc, ◌+◌, ◌<◌, ◌≤◌, ◌==◌, ◌⊎◌, ◌↔◌, IsTrue, inl, inr, Bool, true, false, cond, nat_le, List, [], ◌∷◌, ◌++◌, length, Option, Some, None, MatchBool, All, slice_get, slice_set, refl, ap, sym, ◌∙◌, subst, arith}
 use Rattle.std.proofs.lemmas.Bool.Decides.{nat_tests}
+use Rattle.std.proofs.lemmas.Option.{slice_get_within}
 use Rattle.drf_board.specs.declared.entry.Entry.{Entry}
 use Rattle.drf_master.specs.Matching.{IsJournals, AreJournals, HasBroken, AreAllJournals, HasAnyBroken, IsWrong, IsLeast, times, times_in}
 use Rattle.drf_master.specs.Tallies.{IsTally, IsLeastIfAny, marked, least_after, lesser}
 use Rattle.drf_master.specs.declared.pass.Receipt.{Receipt}
 
-abbrev pub either_way : {A B C : Type 0} → A ⊎ B → (A → C) → (B → C) → C
+abbrev either_way : {A B C : Type 0} → A ⊎ B → (A → C) → (B → C) → C
 either_way (inl a) f g = f a
 either_way (inr b) f g = g b
 
@@ -138,11 +139,6 @@ lowered P Q n (Some m) more less here least = lowered-some P Q n m (nat_le m n) 
 
 -- ---- marks
 
-pub get-inside : {X : Type 0} (xs : List X) (k : ℕ) (x : X) → slice_get xs k ≡ Some x → k < length xs
-get-inside [] k x is = absurd cc
-get-inside (y ∷ xs) zero x is = omega arith
-get-inside (y ∷ xs) (suc k) x is = let rest = get-inside xs k x is in omega (arith, rest)
-
 length-marks : (named : List Bool) (k : ℕ) → length (slice_set named k true) ≡ length named
 length-marks [] k = refl
 length-marks (b ∷ named) zero = refl
@@ -208,12 +204,12 @@ module _ (journal : List Entry) (lists : List (List Receipt)) (rs : List Receipt
   pub tally-entry : (b : Bool) → marked named r.place ≡ b → IsJournals journal (least_after 0 rs) r
       → IsTally journal after (slice_set named r.place true) (cond b (Some (lesser wrong r.place)) wrong)
   tally-entry true is its =
-      let inside : r.place < length journal = get-inside journal r.place r.entry its.entry in
+      let inside : r.place < length journal = slice_get_within journal r.place r.entry its.entry in
       let once : 0 < times r.place before = subst (λ (m : Bool). MatchBool m (0 < times r.place before) (times r.place before ≡ 0)) is (tally.seen r.place inside) in
       let same : (r.place == r.place) ≡ true = grind (arith, nat_tests) in
       lowers (inr (omega (arith, times-more r.place lists rs r same, once)))
   tally-entry false is its =
-      let inside : r.place < length journal = get-inside journal r.place r.entry its.entry in
+      let inside : r.place < length journal = slice_get_within journal r.place r.entry its.entry in
       let none : times r.place before ≡ 0 = subst (λ (m : Bool). MatchBool m (0 < times r.place before) (times r.place before ≡ 0)) is (tally.seen r.place inside) in
       record {
         places = places_after;

@@ -5,3 +5,4 @@ pub mod Journal
 pub mod Calling
 pub mod Closing
 pub mod Scripts
+pub mod laws

@@ -1,19 +1,19 @@
--- What a tally of all receipts tells.
-use Rattle.std.proofs.Common.{◌≡◌, ℕ, zero, suc, ◌+◌, ◌<◌, ◌≤◌, ◌==◌, ◌⊎◌, inl, inr, true, false, cond, List, [], ◌∷◌, length, refl, subst, arith}
+-- What follows from the definition of a shuffle.
+use Rattle.std.proofs.Common.{◌≡◌, ℕ, zero, suc, ◌+◌, ◌<◌, ◌≤◌, ◌==◌, ◌⊎◌, ⊎_elim, inl, inr, true, false, cond, List, [], ◌∷◌, length, refl, subst, arith}
 use Rattle.std.proofs.lemmas.Bool.Decides.{nat_tests}
+use Rattle.std.proofs.lemmas.Option.{slice_get_within}
 use Rattle.drf_board.specs.declared.entry.Entry.{Entry}
 use Rattle.drf_master.specs.Matching.{AreJournals, HasBroken, AreAllJournals, HasAnyBroken, IsShuffle, IsMissing, IsWrong, IsFault, times, times_in, count}
 use Rattle.drf_master.specs.declared.matching.CloseFault.{CloseFault}
 use Rattle.drf_master.specs.declared.matching.CloseFault.TheVariants.{Stranger, Missing, Mismatch, Memory}
 use Rattle.drf_master.specs.declared.pass.Receipt.{Receipt}
-use Rattle.drf_master.proofs.Tallying.{either_way, get-inside}
 
 -- ---- receipts by the places below n that they name
 
 below-or-past : (n k : ℕ) → (k < n) ⊎ (n ≤ k)
 below-or-past zero k = inr (omega arith)
 below-or-past (suc n) zero = inl (omega arith)
-below-or-past (suc n) (suc k) = either_way (below-or-past n k) (λ below. inl (omega (arith, below))) (λ past. inr (omega (arith, past)))
+below-or-past (suc n) (suc k) = ⊎_elim (λ below. inl (omega (arith, below))) (λ past. inr (omega (arith, past))) (below-or-past n k)
 
 -- how many of the places below n are this one
 abbrev is_below : ℕ → ℕ → ℕ
@@ -69,7 +69,7 @@ named-cons (suc n) rs lists = let rest = named-cons n rs lists in omega (arith, 
 counted_in : (journal : List Entry) (least : ℕ) (rs : List Receipt) → AreJournals journal least rs → named_in (length journal) rs ≡ length rs
 counted_in journal least [] are = named_in-nil (length journal)
 counted_in journal least (r ∷ rs) are =
-    let inside : r.place < length journal = get-inside journal r.place r.entry are.0.entry in
+    let inside : r.place < length journal = slice_get_within journal r.place r.entry are.0.entry in
     omega (arith, named_in-cons (length journal) r rs, below-some (length journal) r.place inside, counted_in journal (r.place + 1) rs are.1)
 
 counted : (journal : List Entry) (lists : List (List Receipt)) → AreAllJournals journal lists → named (length journal) lists ≡ count lists
@@ -110,9 +110,9 @@ pub is_shuffle : (journal : List Entry) (lists : List (List Receipt)) → AreAll
     → ¬ IsMissing journal lists → IsShuffle journal lists
 is_shuffle journal lists are none enough =
     let most : (place : ℕ) → place < length journal → times place lists ≤ 1 =
-    λ place below. either_way (below-or-past 2 (times place lists)) (λ less. omega (arith, less)) (λ twice. absurd (none place (inr twice))) in
+    λ place below. ⊎_elim (λ less. omega (arith, less)) (λ twice. absurd (none place (inr twice))) (below-or-past 2 (times place lists)) in
     let as_many : length journal ≤ count lists =
-    either_way (below-or-past (length journal) (count lists)) (λ less. absurd (enough less)) (λ past. past) in
+    ⊎_elim (λ less. absurd (enough less)) (λ past. past) (below-or-past (length journal) (count lists)) in
     let all : length journal ≤ named (length journal) lists = omega (arith, counted journal lists are, as_many) in
     record { entries = are; once = each-once (length journal) lists most all }
 
@@ -129,7 +129,7 @@ no-any-broken journal place (rs ∷ lists) are (inr later) = no-any-broken journ
 beyond_in : (journal : List Entry) (place least : ℕ) (rs : List Receipt) → AreJournals journal least rs → length journal ≤ place → times_in place rs ≡ 0
 beyond_in journal place least [] are past = refl
 beyond_in journal place least (r ∷ rs) are past =
-    let inside : r.place < length journal = get-inside journal r.place r.entry are.0.entry in
+    let inside : r.place < length journal = slice_get_within journal r.place r.entry are.0.entry in
     let other : (r.place == place) ≡ false = grind (arith, nat_tests) in
     let none : ◌≡◌ {A = ℕ} (cond (r.place == place) 1 0) 0 = rw other refl in
     omega (arith, none, beyond_in journal place (r.place + 1) rs are.1 past)

@@ -1,0 +1,2 @@
+-- Theorems about the definitions beside this folder.
+pub mod ShuffleLaws

@@ -12,7 +12,8 @@ ghost use Rattle.indexmap.specs.IndexMap.{insert_entry};
 ghost use Rattle.drf_gates.specs.Quota.{IsAllowanceOf, IsRaised, IsSame, known_amount, lessened, limit_row, lesser, used_at, used_by};
 
 use crate::totals::{
-    Total, clear_totals, copy_totals, drop_total, keep_total, kept, lower_totals, raise_totals,
+    Total, clear_totals, copy_totals, drop_total, keep_total, kept, kept_at, lower_totals,
+    raise_totals,
 };
 use crate::usage::{copy_used, is_within, lower, raise, used_at};
 use drf_bundle::{Entry, Quantities};
@@ -156,8 +157,8 @@ impl Quota {
         ensures ok { OnOk result (self.new ≡ record self.old { limits = limits_with self.old.limits role limit }) }
         ensures err { OnErr result (self.new ≡ self.old) }
     {
-        drop_total(&mut self.totals, &role);
         if limit.entries().is_empty() {
+            drop_total(&mut self.totals, &role);
             self.limits.shift_remove(&role);
             return Ok(());
         }
@@ -176,6 +177,16 @@ impl Quota {
         match kept(&self.totals, role, label) {
             Some(amount) => amount,
             None => used_at(&self.used, role, label),
+        }
+    }
+
+    /// The same of a role whose limit stands at that place, as its total does unless one was lost.
+    fn consumption_at(&self, place: usize, role: &Role, label: &str) -> u64
+        ensures { result ≡ used_at self.now.used role.now label.now }
+    {
+        match kept_at(&self.totals, place, role, label) {
+            Some(amount) => amount,
+            None => self.consumption(role, label),
         }
     }
 
@@ -199,6 +210,7 @@ impl Quota {
     /// What the limit of a role leaves of each scalar that it names, put among what others leave. The lesser is kept.
     fn add_headroom(
         &self,
+        place: usize,
         limited: &Role,
         limit: &Quantities,
         room: &mut Quantities,
@@ -208,7 +220,7 @@ impl Quota {
     {
         for entry in limit.entries() {
             let label = entry.label.text();
-            let used = self.consumption(limited, label);
+            let used = self.consumption_at(place, limited, label);
             let left = entry.amount.thousandths().saturating_sub(used);
             let least = lesser(known_amount(room, label), left);
             room.set(entry.label.copy()?, least)?;
@@ -222,11 +234,14 @@ impl Quota {
         ensures of_rows { IfOk result (λ room. (rows : Rows) → IsAllowanceOf rows self.now → room ≡ headroom rows role.now) }
     {
         let mut room = Quantities::empty(*self.limits.allocator());
+        let mut next = 0usize;
         for (limited, limit) in &self.limits {
+            let place = next;
+            next = place.saturating_add(1);
             if !is_within(limited, role) {
                 continue;
             }
-            self.add_headroom(limited, limit, &mut room)?;
+            self.add_headroom(place, limited, limit, &mut room)?;
         }
         // The proof learns that the labels are in order by this call alone.
         let _ = room.entries();

@@ -157,6 +157,26 @@ pub(crate) fn kept(totals: &[Total], role: &Role, label: &str) -> Option<u64>
     None
 }
 
+/// The same, where the total of the role stands at that place.
+pub(crate) fn kept_at(totals: &[Total], place: usize, role: &Role, label: &str) -> Option<u64>
+    ensures { IfSome result (λ amount. (used : List Usage) → AreExact used totals.now → amount ≡ used_at used role.now label.now) }
+{
+    if place < totals.len() {
+        let total = &totals[place];
+        if total.is_known && total.role == *role {
+            return Some(total.amounts.get(label));
+        }
+    }
+    None
+}
+
+/// Whether the total of a role is known.
+fn is_kept(totals: &[Total], role: &Role) -> bool {
+    totals
+        .iter()
+        .any(|total| total.is_known && total.role == *role)
+}
+
 /// Keeps the totals of other roles alone.
 pub(crate) fn drop_total(totals: &mut Vec<Total>, role: &Role)
     ensures { (used : List Usage) → AreExact used totals.old.items → AreExact used totals.new.items }
@@ -177,8 +197,8 @@ fn add_used(sum: &mut Quantities, outer: &Role, used: &IndexMap<Role, Quantities
     true
 }
 
-/// Keeps the total of a role from now on, as far as there is memory.
-pub(crate) fn keep_total(totals: &mut Vec<Total>, used: &IndexMap<Role, Quantities>, role: &Role)
+/// Puts the total of a role behind those that are there, as far as there is memory.
+fn add_total(totals: &mut Vec<Total>, used: &IndexMap<Role, Quantities>, role: &Role)
     ensures { AreExact used.now.entries totals.old.items → AreExact used.now.entries totals.new.items }
 {
     if totals.reserve(1).is_err() {
@@ -194,6 +214,17 @@ pub(crate) fn keep_total(totals: &mut Vec<Total>, used: &IndexMap<Role, Quantiti
         is_known,
         amounts,
     });
+}
+
+/// Keeps the total of a role from now on, as far as there is memory. One that is known stays in its place.
+pub(crate) fn keep_total(totals: &mut Vec<Total>, used: &IndexMap<Role, Quantities>, role: &Role)
+    ensures { AreExact used.now.entries totals.old.items → AreExact used.now.entries totals.new.items }
+{
+    if is_kept(totals, role) {
+        return;
+    }
+    drop_total(totals, role);
+    add_total(totals, used, role);
 }
 
 /// Puts a copy of a total behind those that are there, if there is memory.

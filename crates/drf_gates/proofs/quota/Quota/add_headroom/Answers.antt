@@ -20,7 +20,7 @@ loop-entry-preserved c =
     let used : Text → ℕ = used_at c.args.self.now.used limited in
     let left : c.saturating_sub-left.result ≡ e.amount - used e.label =
     c.saturating_sub-left.ensures
-    ∙ (λ i. c.thousandths.ensures i - c.consumption-used.ensures.value i)
+    ∙ (λ i. c.thousandths.ensures i - c.consumption_at-used.ensures i)
     ∙ ap (λ (n : Text). e.amount - used n) c.text-label.ensures.text in
     let known : c.known_amount.result ≡ known_amount room e.label =
     c.known_amount.ensures ∙ ap (λ (n : Text). known_amount room n) c.text-label.ensures.text in

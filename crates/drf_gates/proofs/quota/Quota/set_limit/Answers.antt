@@ -41,11 +41,11 @@ returns-clause-ok c =
 pub invariant_of-self-in_err-insert : goal.invariant_of-self-in_err-insert
 invariant_of-self-in_err-insert c = record {
   bounded = c.self.invariant.bounded;
-  exact = c.keep_total.ensures (c.drop_total.ensures c.self.inside.used.entries c.self.invariant.exact);
+  exact = c.keep_total.ensures c.self.invariant.exact;
 }
 
 pub invariant_of-self-2 : goal.invariant_of-self-2
 invariant_of-self-2 c = record {
   bounded = c.self.invariant.bounded;
-  exact = c.keep_total.ensures (c.drop_total.ensures c.self.inside.used.entries c.self.invariant.exact);
+  exact = c.keep_total.ensures c.self.invariant.exact;
 }

@@ -19,4 +19,4 @@ pub use laws::{
 };
 pub use number::read_weight;
 pub use read::{read_bundle, read_quantities};
-pub use write::{write_bundle, write_quantities, write_weight};
+pub use write::{push_bundle, push_quantities, write_bundle, write_quantities, write_weight};

@@ -1,5 +1,6 @@
 //! Bundles and quantities read from text.
 ghost use Rattle.std.specs.Prelude.{◌≡◌, if◌then◌else◌, OnOk, IfErr, IsErrOf, IsOk};
+ghost use Rattle.drf_role.specs.Role.{default_role};
 ghost use Rattle.drf_bundle.specs.Union.{has_other_kind};
 ghost use Rattle.drf_text.specs.Faults.{IsTold, IsMeaning};
 ghost use Rattle.drf_text.specs.Meaning.{counted, meaning_of, quantities_meant};
@@ -10,7 +11,7 @@ use crate::said::{Counted, Said, read_count, read_piece};
 use crate::trim::trim;
 use drf_amount::{Algebra, Scalar};
 use drf_bundle::{Bundle, Quantities, Value};
-use drf_role::Label;
+use drf_role::{Label, Role};
 use std::alloc::Global;
 
 /// The fault of a scalar that is too large by itself.
@@ -42,7 +43,13 @@ fn put_said(bundle: &mut Bundle, said: Said) -> Result<(), TextFault>
 }
 
 /// Reads what stands between two `;`, and puts it into the bundle.
-fn add_piece(alloc: Global, bundle: &mut Bundle, text: &str) -> Result<(), TextFault>
+fn add_piece(
+    alloc: Global,
+    bundle: &mut Bundle,
+    text: &str,
+    unreserved: &Role,
+) -> Result<(), TextFault>
+    requires { unreserved.now ≡ default_role }
     ensures ok { OnOk result (bundle_step text.now bundle.old ≡ Ok bundle.new) }
     ensures fault { IfErr result (IsTold (bundle_step text.now bundle.old)) }
 {
@@ -50,7 +57,7 @@ fn add_piece(alloc: Global, bundle: &mut Bundle, text: &str) -> Result<(), TextF
     if piece.is_empty() {
         return Ok(());
     }
-    let said = read_piece(alloc, piece)?;
+    let said = read_piece(alloc, piece, unreserved)?;
     put_said(bundle, said)
 }
 
@@ -59,9 +66,10 @@ fn add_piece(alloc: Global, bundle: &mut Bundle, text: &str) -> Result<(), TextF
 pub fn read_bundle(alloc: Global, text: &str) -> Result<Bundle, TextFault>
     ensures { IsMeaning result (meaning_of text.now) }
 {
+    let unreserved = Role::default_role(alloc)?;
     let mut bundle = Bundle::empty(alloc);
     for piece in text.split(';') {
-        add_piece(alloc, &mut bundle, piece)?;
+        add_piece(alloc, &mut bundle, piece, &unreserved)?;
     }
     Ok(bundle)
 }

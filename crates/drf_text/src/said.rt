@@ -1,4 +1,6 @@
 //! What pieces say by themselves.
+ghost use Rattle.std.specs.Prelude.{◌≡◌};
+ghost use Rattle.drf_role.specs.Role.{default_role};
 ghost use Rattle.drf_text.specs.Faults.{IsReadAs, IsMeaning};
 ghost use Rattle.drf_text.specs.Steps.{view_draft, draft_in, said_in, counted_in};
 
@@ -50,9 +52,10 @@ fn read_draft(alloc: Global, piece: &str) -> Result<Draft<'_>, TextFault>
     })
 }
 
-/// Reads a piece of a bundle.
+/// Reads a piece of a bundle. The role `*` is lent, since most pieces name none.
 #[tactic(auto, unfolding(crate::specs::Steps::said_in))]
-pub fn read_piece(alloc: Global, piece: &str) -> Result<Said, TextFault>
+pub fn read_piece(alloc: Global, piece: &str, unreserved: &Role) -> Result<Said, TextFault>
+    requires { unreserved.now ≡ default_role }
     ensures { IsMeaning result (said_in piece.now) }
 {
     let Draft {
@@ -61,7 +64,7 @@ pub fn read_piece(alloc: Global, piece: &str) -> Result<Said, TextFault>
         body,
         members,
     } = read_draft(alloc, piece)?;
-    let role = read_role(alloc, role)?;
+    let role = read_role(alloc, role, unreserved)?;
     let value = read_value(alloc, &body, members)?;
     Ok(Said { label, role, value })
 }

@@ -1,6 +1,7 @@
 //! Names, roles and values as texts of a piece.
 ghost use Rattle.std.specs.Prelude.{◌≡◌};
 ghost use Rattle.std.specs.Option.{option_copied};
+ghost use Rattle.drf_role.specs.Role.{default_role};
 ghost use Rattle.drf_text.specs.Faults.{IsReadAs, IsMeaning};
 ghost use Rattle.drf_text.specs.Pieces.{parts_between};
 ghost use Rattle.drf_text.specs.Steps.{label_in, role_in, end_in, ends_in, pair_in, each_of, members_in, scalar_in, ranges_in, value_in, view_body};
@@ -22,14 +23,15 @@ pub fn read_label(alloc: Global, text: &str) -> Result<Label, TextFault>
     Ok(Label::read(alloc, text)?)
 }
 
-/// Reads a role. Where none is named it is `*`.
+/// Reads a role. Where none is named it is a copy of the role `*`.
 #[tactic(auto, unfolding(crate::specs::Steps::role_in))]
-pub fn read_role(alloc: Global, role: Option<&str>) -> Result<Role, TextFault>
+pub fn read_role(alloc: Global, role: Option<&str>, unreserved: &Role) -> Result<Role, TextFault>
+    requires { unreserved.now ≡ default_role }
     ensures { IsMeaning result (role_in (option_copied role.entry)) }
 {
     match role {
         Some(text) => Ok(Role::read(alloc, text)?),
-        None => Ok(Role::default_role(alloc)?),
+        None => Ok(unreserved.copy()?),
     }
 }
 

@@ -1,14 +1,19 @@
 //! Quantities and bundles as text.
 ghost use Rattle.std.specs.Prelude.{◌≡◌, ◌==◌, [], ◌∷◌, ◌++◌, ◌<◌, if◌then◌else◌, Ok, IfOk, OnOk, string_bytes};
+ghost use Rattle.std.specs.List.{join_with_byte};
+ghost use Rattle.drf_kinds.specs.Listed.{listed, intervals_of};
 ghost use Rattle.drf_text.specs.Meaning.{quantities_meant};
 ghost use Rattle.drf_text.specs.RoundTrip.{IsEntry};
-ghost use Rattle.drf_text.specs.Written.{amount_text, quantity_text, quantities_text, interval_text, head_text, ranges_text, items_text, value_text, resource_text, bundle_text};
+ghost use Rattle.drf_text.specs.Written.{amount_text, quantity_text, quantities_text, interval_text, intervals_text, head_text, ranges_text, items_text, value_text, resource_text, bundle_text};
 
 use crate::amount::push_amount;
 use drf_bundle::{Bundle, Entry, Quantities, Resource, Value};
 use drf_kinds::{Interval, Items, Ranges};
 use itoa::Buffer;
 use std::alloc::{AllocError, Global};
+
+/// Room for the usual text, so that it need not grow.
+const USUAL_LENGTH: usize = 64;
 
 /// Writes the mark, but not before the first of several.
 fn push_separator(text: &mut String, place: usize, mark: char) -> Result<(), AllocError>
@@ -30,17 +35,27 @@ fn push_quantity(text: &mut String, entry: &Entry) -> Result<(), AllocError>
     push_amount(text, entry.amount.thousandths())
 }
 
-/// Writes quantities: for each name in order the name, `:` and its amount, joined by `;`. The text means those quantities.
+/// Writes quantities behind a text: for each name in order the name, `:` and its amount, joined by `;`. What is written
+/// means those quantities.
+pub fn push_quantities(text: &mut String, quantities: &Quantities) -> Result<(), AllocError>
+    ensures text { OnOk result (string_bytes text.new ≡ string_bytes text.old ++ quantities_text quantities.now) }
+    ensures read { OnOk result (quantities_meant (quantities_text quantities.now) ≡ Ok quantities.now) }
+{
+    let entries = quantities.entries();
+    for (i, entry) in entries.iter().enumerate() {
+        push_separator(text, i, ';')?;
+        push_quantity(text, entry)?;
+    }
+    Ok(())
+}
+
+/// Writes quantities as a text of their own.
 pub fn write_quantities(alloc: Global, quantities: &Quantities) -> Result<String, AllocError>
     ensures text { IfOk result (λ text. string_bytes text ≡ quantities_text quantities.now) }
     ensures read { OnOk result (quantities_meant (quantities_text quantities.now) ≡ Ok quantities.now) }
 {
-    let entries = quantities.entries();
-    let mut text = String::new(alloc);
-    for (i, entry) in entries.iter().enumerate() {
-        push_separator(&mut text, i, ';')?;
-        push_quantity(&mut text, entry)?;
-    }
+    let mut text = String::with_capacity(alloc, USUAL_LENGTH)?;
+    push_quantities(&mut text, quantities)?;
     Ok(text)
 }
 
@@ -52,56 +67,64 @@ fn push_interval(text: &mut String, interval: &Interval) -> Result<(), AllocErro
     text.push_str(Buffer::new().format(interval.last))
 }
 
-/// Writes the maximal intervals between `[` and `]`.
-fn write_ranges(alloc: Global, ranges: &Ranges) -> Result<String, AllocError>
-    ensures { IfOk result (λ text. string_bytes text ≡ ranges_text ranges.now) }
+/// Writes the maximal intervals, which a comma separates.
+fn push_intervals(text: &mut String, ranges: &Ranges) -> Result<(), AllocError>
+    ensures { OnOk result (string_bytes text.new ≡ string_bytes text.old ++ intervals_text (intervals_of ranges.now)) }
 {
     let intervals = ranges.intervals();
-    let mut text = String::from_str(alloc, "[")?;
     for (i, interval) in intervals.iter().enumerate() {
-        push_separator(&mut text, i, ',')?;
-        push_interval(&mut text, interval)?;
+        push_separator(text, i, ',')?;
+        push_interval(text, interval)?;
     }
-    text.push(']')?;
-    Ok(text)
+    Ok(())
+}
+
+/// Writes the members, which a comma separates.
+fn push_names(text: &mut String, items: &Items) -> Result<(), AllocError>
+    ensures { OnOk result (string_bytes text.new ≡ string_bytes text.old ++ join_with_byte 44 (listed items.now)) }
+{
+    let names = items.names();
+    for (i, name) in names.iter().enumerate() {
+        push_separator(text, i, ',')?;
+        text.push_str(name.text())?;
+    }
+    Ok(())
+}
+
+/// Writes the maximal intervals between `[` and `]`.
+fn push_ranges(text: &mut String, ranges: &Ranges) -> Result<(), AllocError>
+    ensures { OnOk result (string_bytes text.new ≡ string_bytes text.old ++ ranges_text ranges.now) }
+{
+    text.push('[')?;
+    push_intervals(text, ranges)?;
+    text.push(']')
 }
 
 /// Writes the members between `{` and `}`.
-fn write_items(alloc: Global, items: &Items) -> Result<String, AllocError>
-    ensures { IfOk result (λ text. string_bytes text ≡ items_text items.now) }
+fn push_items(text: &mut String, items: &Items) -> Result<(), AllocError>
+    ensures { OnOk result (string_bytes text.new ≡ string_bytes text.old ++ items_text items.now) }
 {
-    let names = items.names();
-    let mut text = String::from_str(alloc, "{")?;
-    for (i, name) in names.iter().enumerate() {
-        push_separator(&mut text, i, ',')?;
-        text.push_str(name.text())?;
-    }
-    text.push('}')?;
-    Ok(text)
-}
-
-fn write_amount(alloc: Global, thousandths: u64) -> Result<String, AllocError>
-    ensures { IfOk result (λ text. string_bytes text ≡ amount_text thousandths) }
-{
-    let mut text = String::new(alloc);
-    push_amount(&mut text, thousandths)?;
-    Ok(text)
+    text.push('{')?;
+    push_names(text, items)?;
+    text.push('}')
 }
 
 /// Writes a weight of thousandths: 1500 as `1.5`, 4000 as `4`.
 pub fn write_weight(alloc: Global, weight: u64) -> Result<String, AllocError>
     ensures { IfOk result (λ text. string_bytes text ≡ amount_text weight) }
 {
-    write_amount(alloc, weight)
+    let mut text = String::new(alloc);
+    push_amount(&mut text, weight)?;
+    Ok(text)
 }
 
-fn write_value(alloc: Global, value: &Value) -> Result<String, AllocError>
-    ensures { IfOk result (λ text. string_bytes text ≡ value_text value.now) }
+fn push_value(text: &mut String, value: &Value) -> Result<(), AllocError>
+    ensures { OnOk result (string_bytes text.new ≡ string_bytes text.old ++ value_text value.now) }
 {
     match value {
-        Value::Scalar(scalar) => write_amount(alloc, scalar.thousandths()),
-        Value::Ranges(ranges) => write_ranges(alloc, ranges),
-        Value::Items(items) => write_items(alloc, items),
+        Value::Scalar(scalar) => push_amount(text, scalar.thousandths()),
+        Value::Ranges(ranges) => push_ranges(text, ranges),
+        Value::Items(items) => push_items(text, items),
     }
 }
 
@@ -117,27 +140,32 @@ fn push_head(text: &mut String, resource: &Resource) -> Result<(), AllocError>
     text.push(')')
 }
 
-fn write_resource(alloc: Global, resource: &Resource) -> Result<String, AllocError>
-    ensures { IfOk result (λ text. string_bytes text ≡ resource_text resource.now) }
+fn push_resource(text: &mut String, resource: &Resource) -> Result<(), AllocError>
+    ensures { OnOk result (string_bytes text.new ≡ string_bytes text.old ++ resource_text resource.now) }
 {
-    let value = write_value(alloc, &resource.value)?;
-    let mut text = String::new(alloc);
-    push_head(&mut text, resource)?;
+    push_head(text, resource)?;
     text.push(':')?;
-    text.push_str(value.as_str())?;
-    Ok(text)
+    push_value(text, &resource.value)
 }
 
-/// Writes a bundle: for each resource in order its name, its role in parentheses if it is reserved, `:` and its value,
-/// joined by `;`.
+/// Writes a bundle behind a text: for each resource in order its name, its role in parentheses if it is reserved, `:` and
+/// its value, joined by `;`.
+pub fn push_bundle(text: &mut String, bundle: &Bundle) -> Result<(), AllocError>
+    ensures { OnOk result (string_bytes text.new ≡ string_bytes text.old ++ bundle_text bundle.now) }
+{
+    let resources = bundle.entries();
+    for (i, resource) in resources.iter().enumerate() {
+        push_separator(text, i, ';')?;
+        push_resource(text, resource)?;
+    }
+    Ok(())
+}
+
+/// Writes a bundle as a text of its own.
 pub fn write_bundle(alloc: Global, bundle: &Bundle) -> Result<String, AllocError>
     ensures { IfOk result (λ text. string_bytes text ≡ bundle_text bundle.now) }
 {
-    let resources = bundle.entries();
-    let mut text = String::new(alloc);
-    for (i, resource) in resources.iter().enumerate() {
-        push_separator(&mut text, i, ';')?;
-        text.push_str(write_resource(alloc, resource)?.as_str())?;
-    }
+    let mut text = String::with_capacity(alloc, USUAL_LENGTH)?;
+    push_bundle(&mut text, bundle)?;
     Ok(text)
 }

@@ -1,0 +1,10 @@
+use Rattle.std.proofs.Common.{◌≡◌, ◌++◌, string_bytes, take, map, All}
+use Rattle.std.specs.List.{join_with_byte}
+use Rattle.drf_text.specs.RoundTrip.{IsEntry}
+use Rattle.drf_text.specs.Written.{quantity_text}
+use Rattle.drf_text.proofs.write.push_quantities.Given as goal
+
+-- the text of those so far, and each is a label with an amount
+abbrev pub invariant-loop-i : goal.invariant-loop-i
+invariant-loop-i l =
+    (string_bytes l.text ≡ string_bytes l.fn.text ++ join_with_byte 59 (map quantity_text (take l.i l.entries))) × All IsEntry (take l.i l.entries)

@@ -1,7 +1,0 @@
-use Rattle.std.proofs.Common.{◌≡◌, [], ◌∷◌, ◌++◌, string_bytes, take, map}
-use Rattle.std.specs.List.{join_with_byte}
-use Rattle.drf_text.proofs.write.write_items.Given as goal
-
--- the text of those so far
-abbrev pub invariant-loop-i : goal.invariant-loop-i
-invariant-loop-i l = string_bytes l.text ≡ (123 ∷ []) ++ join_with_byte 44 (map (λ name. name) (take l.i l.names))

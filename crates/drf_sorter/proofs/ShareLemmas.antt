@@ -14,9 +14,9 @@ use Rattle.drf_bundle.specs.laws.QuantitiesLaws.{amount_head}
 use Rattle.drf_bundle.specs.declared.quantities.Entry.{Entry}
 use Rattle.drf_rows.specs.Share.{Fraction, is_less, greater}
 use Rattle.drf_sorter.specs.declared.share.Share.{Share}
-use Rattle.drf_sorter.specs.Fractions.{fraction_cmp, weigh, dominant_of}
+use Rattle.drf_sorter.specs.Fractions.{fraction_cmp, weigh, weighted, dominant_of}
 use Rattle.drf_sorter.specs.laws.FractionLaws.{nat_cmp-scale, product_above, is_lt-fraction_cmp}
-use Rattle.drf_sorter.specs.Share.{fraction_of, share_cmp}
+use Rattle.drf_sorter.specs.Share.{IsUnweighted, fraction_of, share_cmp}
 
 -- one weight on both sides does not matter
 fraction_cmp-weigh : (f g : Fraction) (weight : ℕ) → 1 ≤ weight
@@ -27,18 +27,22 @@ fraction_cmp-weigh f g weight weighs =
     ∙ sym
     (nat_cmp-scale (f.part * g.whole) (g.part * f.whole) (1000 * weight) (product_above 1000 weight (omega arith) weighs))
 
-chosen : (b : Bool) (d e : Share) (f g : Fraction) (weight : ℕ) → fraction_of d ≡ weigh g weight
-    → fraction_of e ≡ weigh f weight → fraction_of (cond b d e) ≡ weigh (cond b g f) weight
-chosen true d e f g weight p q = p
-chosen false d e f g weight p q = q
+chosen : (b : Bool) (d e : Share) (f g : Fraction) → IsUnweighted g d → IsUnweighted f e
+    → IsUnweighted (cond b g f) (cond b d e)
+chosen true d e f g p q = p
+chosen false d e f g p q = q
 
-max-weigh : (d e : Share) (f g : Fraction) (weight : ℕ) → 1 ≤ weight → fraction_of d ≡ weigh g weight
-    → fraction_of e ≡ weigh f weight → fraction_of (ord_max share_cmp d e) ≡ weigh (cond (is_less f g) g f) weight
-max-weigh d e f g weight weighs p q =
+-- what a share of weight 1 is
+pub fraction-unweighted : (f : Fraction) (share : Share) → IsUnweighted f share → fraction_of share ≡ weigh f 1000
+fraction-unweighted f share is = λ i. weighted (is.part i) (is.whole i) (is.weight i)
+
+max-unweighted : (d e : Share) (f g : Fraction) → IsUnweighted g d → IsUnweighted f e
+    → IsUnweighted (cond (is_less f g) g f) (ord_max share_cmp d e)
+max-unweighted d e f g p q =
     let test : is_lt (share_cmp e d) ≡ is_less f g =
-    (λ i. is_lt (fraction_cmp (q i) (p i))) ∙ ap is_lt (fraction_cmp-weigh f g weight weighs)
-    ∙ is_lt-fraction_cmp f g in
-    ap (λ b. fraction_of (cond b d e)) test ∙ chosen (is_less f g) d e f g weight p q
+    (λ i. is_lt (fraction_cmp (fraction-unweighted f e q i) (fraction-unweighted g d p i)))
+    ∙ ap is_lt (fraction_cmp-weigh f g 1000 (omega arith)) ∙ is_lt-fraction_cmp f g in
+    subst (λ (b : Bool). IsUnweighted (cond (is_less f g) g f) (cond b d e)) (sym test) (chosen (is_less f g) d e f g p q)
 
 -- one more scalar, from the last one on
 module _ (held : List ℕ → ℕ) (total : List Entry) (i : ℕ) (e : Entry) (some : 0 < i) (inside : i - 1 < length total)
@@ -54,14 +58,13 @@ module _ (held : List ℕ → ℕ) (total : List Entry) (i : ℕ) (e : Entry) (s
       ≡ greater (record { part = held e.label; whole = e.amount }) (dominant_of held (drop i total))
   dominant-more above = rw (ends) (rw (lt-ltb 0 e.amount above))
 
-  pub max-more : (d new : Share) (weight : ℕ) → 0 < e.amount → 1 ≤ weight
-      → fraction_of d ≡ weigh (dominant_of held (drop i total)) weight
-      → fraction_of new ≡ weigh (record { part = held e.label; whole = e.amount }) weight
-      → fraction_of (ord_max share_cmp d new) ≡ weigh (dominant_of held (drop (i - 1) total)) weight
-  max-more d new weight above weighs so_far more =
+  pub max-more : (d new : Share) → 0 < e.amount → IsUnweighted (dominant_of held (drop i total)) d
+      → IsUnweighted (record { part = held e.label; whole = e.amount }) new
+      → IsUnweighted (dominant_of held (drop (i - 1) total)) (ord_max share_cmp d new)
+  max-more d new above so_far more =
       let f : Fraction = record { part = held e.label; whole = e.amount } in
-      max-weigh d new f (dominant_of held (drop i total)) weight weighs so_far more
-      ∙ ap (λ g. weigh g weight) (sym (dominant-more above))
+      subst (λ (g : Fraction). IsUnweighted g (ord_max share_cmp d new)) (sym (dominant-more above))
+      (max-unweighted d new f (dominant_of held (drop i total)) so_far more)
 
 -- an entry's amount is that of its label
 pub amount_at : (total : List Entry) (i : ℕ) (e : Entry) → IsTrue (is_in_order total) → i < length total

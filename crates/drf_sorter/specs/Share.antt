@@ -11,6 +11,12 @@ use Rattle.drf_sorter.specs.declared.share.Share.{Share}
 abbrev pub fraction_of : Share → Fraction
 fraction_of s = weighted s.part s.whole s.weight
 
+-- the share is that fraction, of weight 1
+pub record IsUnweighted (fraction : Fraction) (share : Share) : Type 0 where
+  pub part : share.part ≡ fraction.part
+  pub whole : share.whole ≡ fraction.whole
+  pub weight : share.weight ≡ 1000
+
 -- the fraction that two numbers are the terms of
 abbrev pub terms : ℕ × ℕ → Fraction
 terms numbers = record { part = numbers.0; whole = numbers.1 }

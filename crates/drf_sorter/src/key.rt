@@ -4,7 +4,7 @@ ghost use Rattle.std.specs.String.{string_bytes};
 ghost use Rattle.drf_bundle.specs.Quantities.{amount_of};
 ghost use Rattle.drf_role.specs.Text.{Text};
 ghost use Rattle.drf_sorter.specs.Fractions.{weigh, dominant_of};
-ghost use Rattle.drf_sorter.specs.Share.{fraction_of};
+ghost use Rattle.drf_sorter.specs.Share.{IsUnweighted, fraction_of};
 
 use crate::share::Share;
 use drf_bundle::Quantities;
@@ -30,6 +30,25 @@ impl Holding for Quantities {
     }
 }
 
+/// The dominant share of what is held of the total.
+pub(crate) fn dominant_share<H: Holding>(total: &Quantities, holding: &H) -> Share
+    requires within { (label : Text) → H.held holding.now label ≤ amount_of total.now label }
+    requires fits { (label : Text) → amount_of total.now label < 2 ^ 52 }
+    ensures { IsUnweighted (dominant_of (H.held holding.now) total.now) result }
+{
+    let entries = total.entries();
+    let mut dominant = Share::unweighted(0, 1);
+    for i in (0..entries.len()).rev() {
+        let entry = &entries[i];
+        let whole = entry.amount.thousandths();
+        if whole > 0 {
+            let part = holding.amount(entry.label.text());
+            dominant = dominant.max(Share::unweighted(part, whole));
+        }
+    }
+    dominant
+}
+
 /// The dominant share of what is held of the total, over a weight in thousandths.
 pub fn weighted_share<H: Holding>(total: &Quantities, weight: u64, holding: &H) -> Share
     requires within { (label : Text) → H.held holding.now label ≤ amount_of total.now label }
@@ -38,17 +57,7 @@ pub fn weighted_share<H: Holding>(total: &Quantities, weight: u64, holding: &H) 
     requires light { weight ≤ 1000000 }
     ensures { fraction_of result ≡ weigh (dominant_of (H.held holding.now) total.now) weight }
 {
-    let entries = total.entries();
-    let mut dominant = Share::new(0, 1, weight);
-    for i in (0..entries.len()).rev() {
-        let entry = &entries[i];
-        let whole = entry.amount.thousandths();
-        if whole > 0 {
-            let part = holding.amount(entry.label.text());
-            dominant = dominant.max(Share::new(part, whole, weight));
-        }
-    }
-    dominant
+    dominant_share(total, holding).over(weight)
 }
 
 impl Share {

@@ -5,8 +5,7 @@ ghost use Rattle.drf_role.specs.Text.{Text};
 ghost use Rattle.drf_rows.specs.laws.Laws.{are_in_order};
 ghost use Rattle.drf_sorter.specs.Lines.{line_with, paths_of, with_line};
 
-use crate::plain::DEFAULT_WEIGHT;
-use crate::share::Share;
+use crate::key::dominant_share;
 use drf_bundle::Quantities;
 use drf_role::NodePath;
 use drf_rows::NodeLine;
@@ -32,8 +31,8 @@ pub fn node_line(
     // Their labels are in order.
     let _ = total.entries();
     let _ = held.entries();
-    let share = Share::of(total, DEFAULT_WEIGHT, &held);
-    let weighted = Share::of(total, weight, &held);
+    let share = dominant_share(total, &held);
+    let weighted = share.over(weight);
     let mut held = held;
     held.remove_zeros();
     NodeLine {

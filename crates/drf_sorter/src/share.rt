@@ -2,6 +2,7 @@
 ghost use Rattle.std.specs.Prelude.{◌≡◌, ◌≤◌, ◌<◌, ◌^◌, ◌*◌};
 ghost use Rattle.std.specs.Int.{IsGcd};
 
+use crate::plain::DEFAULT_WEIGHT;
 use std::cmp::Ordering;
 
 /// The part `part * 1000 / (whole * weight)` of the cluster: a share of a whole, divided by a weight in thousandths.
@@ -21,7 +22,7 @@ pub struct Share {
 impl Share {
     ghost use Rattle.drf_sorter.specs.Fractions.{weighted};
     ghost use Rattle.drf_rows.specs.Share.{IsLowest, lowest_terms};
-    ghost use Rattle.drf_sorter.specs.Share.{fraction_of, terms};
+    ghost use Rattle.drf_sorter.specs.Share.{IsUnweighted, fraction_of, terms};
 
     /// `weight` is in thousandths.
     pub fn new(part: u64, whole: u64, weight: u64) -> Share
@@ -35,6 +36,33 @@ impl Share {
         Share {
             part,
             whole,
+            weight,
+        }
+    }
+
+    /// That part of a whole, of weight 1.
+    pub(crate) fn unweighted(part: u64, whole: u64) -> Share
+        requires of_whole { part ≤ whole }
+        requires some { 1 ≤ whole }
+        requires fits { whole < 2 ^ 52 }
+        ensures { IsUnweighted (record { part = part; whole = whole }) result }
+    {
+        Share {
+            part,
+            whole,
+            weight: DEFAULT_WEIGHT,
+        }
+    }
+
+    /// The same part of the whole, over another weight, in thousandths.
+    pub(crate) fn over(&self, weight: u64) -> Share
+        requires weighs { 1 ≤ weight }
+        requires light { weight ≤ 1000000 }
+        ensures { fraction_of result ≡ weighted self.now.part self.now.whole weight }
+    {
+        Share {
+            part: self.part,
+            whole: self.whole,
             weight,
         }
     }

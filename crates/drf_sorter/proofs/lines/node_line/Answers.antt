@@ -1,9 +1,10 @@
 use Rattle.std.proofs.Common.{◌≡◌, ◌∙◌}
 use Rattle.drf_bundle.specs.Quantities.{amount_of}
 use Rattle.drf_rows.specs.Share.{lowest_terms}
-use Rattle.drf_sorter.specs.Fractions.{dominant_of, weigh}
+use Rattle.drf_sorter.specs.Fractions.{dominant_of, weigh, weighted}
 use Rattle.drf_sorter.specs.Share.{terms}
 use Rattle.drf_sorter.proofs.LineLemmas.{lowest-share}
+use Rattle.drf_sorter.proofs.ShareLemmas.{fraction-unweighted}
 use Rattle.drf_sorter.proofs.lines.node_line.Goals as goal
 
 pub returns-clause-line : goal.returns-clause-line
@@ -11,9 +12,13 @@ returns-clause-line c =
     let total = c.args.total.now in
     let held = c.args.held in
     let share : terms c.lowest.result ≡ lowest_terms (dominant_of (amount_of held) total) =
-    c.lowest.ensures.value ∙ lowest-share total (amount_of held) c.of-share.result c.entries.ensures.in_order c.requires.fits c.of-share.ensures in
+    c.lowest.ensures.value
+    ∙ lowest-share total (amount_of held) c.dominant_share-share.result c.entries.ensures.in_order c.requires.fits
+    (fraction-unweighted (dominant_of (amount_of held) total) c.dominant_share-share.result c.dominant_share-share.ensures) in
     let weighted : terms c.lowest-2.result ≡ lowest_terms (weigh (dominant_of (amount_of held) total) c.args.weight) =
-    c.lowest-2.ensures.value ∙ (λ i. lowest_terms (c.of-weighted.ensures i)) in
+    c.lowest-2.ensures.value
+    ∙ (λ i. lowest_terms (c.over-weighted.ensures i))
+    ∙ (λ i. lowest_terms (weighted (c.dominant_share-share.ensures.part i) (c.dominant_share-share.ensures.whole i) c.args.weight)) in
     λ i. record {
       path = c.args.path;
       held = c.remove_zeros.ensures.value i;

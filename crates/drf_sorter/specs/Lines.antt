@@ -1,7 +1,8 @@
 -- The lines of nodes in a report, by what a sorter holds.
-use Rattle.std.specs.Prelude.{◌≡◌, ◌≤◌, ℕ, Bool, true, IsTrue, List, [], ◌∷◌, map, length}
+use Rattle.std.specs.Prelude.{◌≡◌, ◌≤◌, ℕ, Bool, true, IsTrue, List, [], ◌∷◌, ◌++◌, ⊤, map, length, slice_set, take, drop}
 use Rattle.std.specs.List.{AllByRecursion, list_any}
 use Rattle.std.specs.Ordering.{match_ordering}
+use Rattle.std.specs.declared.cmp.Ordering.TheVariants.{Less}
 use Rattle.drf_bundle.specs.Quantities.{HasNoZeros, amount_of}
 use Rattle.drf_bundle.specs.declared.quantities.Entry.{Entry}
 use Rattle.drf_role.specs.Text.{Text}
@@ -40,9 +41,19 @@ abbrev pub with_line : List NodeLine → NodeLine → List NodeLine
 with_line [] line = line ∷ []
 with_line (l ∷ ls) line = match_ordering (path_cmp line.path l.path) (line ∷ l ∷ ls) (line ∷ ls) (l ∷ with_line ls line)
 
--- each line stands at its path
-abbrev pub AreAtPaths : List (Path × NodeLine) → Type 0
-AreAtPaths entries = AllByRecursion (λ e. e.0 ≡ e.1.path) entries
+-- each line's path is ahead of those of the lines after it
+abbrev pub AreRising : List NodeLine → Type 0
+AreRising [] = ⊤
+AreRising (l ∷ ls) = AllByRecursion (λ x. path_cmp l.path x.path ≡ Less) ls × AreRising ls
+
+-- a line of that path is put for the one at a place
+abbrev pub StandsAt : Path → List NodeLine → ℕ → Type 0
+StandsAt path lines at = (line : NodeLine) → line.path ≡ path → with_line lines line ≡ slice_set lines at line
+
+-- it is put behind so many lines
+abbrev pub BelongsBehind : Path → List NodeLine → ℕ → Type 0
+BelongsBehind path lines n =
+    (line : NodeLine) → line.path ≡ path → with_line lines line ≡ take n lines ++ line ∷ drop n lines
 
 -- the line of a node of that weight, in thousandths, that holds so much of the total and got so many offers
 abbrev pub line_with : List Entry → ℕ → Path → List Entry → ℕ → NodeLine

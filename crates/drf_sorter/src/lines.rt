@@ -1,16 +1,16 @@
 //! The lines of nodes in a report.
-ghost use Rattle.std.specs.Prelude.{◌≡◌, ◌≤◌, ◌<◌, ◌^◌, [], IfOk, IsTrue, OnOk};
+ghost use Rattle.std.specs.Prelude.{◌≡◌, ◌≤◌, ◌<◌, ◌^◌, [], IfErr, IfOk, IsTrue, OnOk, length};
 ghost use Rattle.drf_bundle.specs.Quantities.{amount_of, is_in_order};
 ghost use Rattle.drf_role.specs.Text.{Text};
 ghost use Rattle.drf_rows.specs.laws.Laws.{are_in_order};
-ghost use Rattle.drf_sorter.specs.Lines.{line_with, paths_of, with_line};
+ghost use Rattle.drf_sorter.specs.Lines.{AreRising, BelongsBehind, StandsAt, line_with, paths_of, with_line};
 
 use crate::key::dominant_share;
 use drf_bundle::Quantities;
 use drf_role::NodePath;
 use drf_rows::NodeLine;
 use std::alloc::{AllocError, Global};
-use std::collections::BTreeMap;
+use std::cmp::Ordering;
 use std::marker::Model;
 
 /// The line of a node of that weight, in thousandths, whose clients hold so much of the total and got so many offers.
@@ -47,20 +47,19 @@ pub fn node_line(
 /// Lines of nodes, in order of path.
 #[derive(Drop)]
 pub struct NodeLines {
-    by_path: BTreeMap<NodePath, NodeLine>,
+    lines: Vec<NodeLine>,
 }
 
 impl Model for NodeLines {
     ghost use Rattle.std.specs.Prelude.{List};
-    ghost use Rattle.std.specs.BTreeMap.{values};
     ghost use Rattle.drf_rows.specs.declared.report.NodeLine.{NodeLine};
-    ghost use Rattle.drf_sorter.specs.Lines.{AreAtPaths};
+    ghost use Rattle.drf_sorter.specs.Lines.{AreRising};
 
     ghost Value = { List NodeLine };
 
-    ghost view = { λ lines. values lines.by_path };
+    ghost view = { λ lines. lines.lines.items };
 
-    ghost invariant = { λ lines. AreAtPaths lines.by_path.entries };
+    ghost invariant = { λ lines. AreRising lines.lines.items };
 }
 
 impl NodeLines {
@@ -68,7 +67,7 @@ impl NodeLines {
         ensures { result ≡ [] }
     {
         NodeLines {
-            by_path: BTreeMap::new(alloc),
+            lines: Vec::new(alloc),
         }
     }
 
@@ -76,18 +75,38 @@ impl NodeLines {
     pub fn put(&mut self, line: NodeLine) -> Result<(), AllocError>
         ensures { OnOk result (self.new ≡ with_line self.old line) }
     {
-        let path = line.path.copy()?;
-        self.by_path.insert(path, line)?;
-        Ok(())
+        match place_of(&self.lines, &line.path) {
+            Ok(at) => {
+                self.lines[at] = line;
+                Ok(())
+            }
+            Err(at) => Ok(self.lines.insert(at, line)?),
+        }
     }
 
     /// The lines, in order of path.
-    pub fn into_vec(self, alloc: Global) -> Result<Vec<NodeLine>, AllocError>
-        ensures lines { IfOk result (λ lines. lines.items ≡ self) }
+    pub fn into_vec(self) -> Vec<NodeLine>
+        ensures lines { result.items ≡ self }
         ensures in_order { IsTrue (are_in_order (paths_of self)) }
     {
-        // That its keys rise is known by this call.
-        let _ = self.by_path.len();
-        self.by_path.into_values().collect(alloc)
+        self.lines
     }
+}
+
+/// Where the line of a path is, or where it would go. Lines mostly come in order, so they are looked at from the last one on.
+fn place_of(lines: &[NodeLine], path: &NodePath) -> Result<usize, usize>
+    requires { AreRising lines.now }
+    ensures within { IfOk result (λ at. at < length lines.now) }
+    ensures found { IfOk result (StandsAt path.now lines.now) }
+    ensures bound { IfErr result (λ n. n ≤ length lines.now) }
+    ensures absent { IfErr result (BelongsBehind path.now lines.now) }
+{
+    for i in (0..lines.len()).rev() {
+        match path.cmp(&lines[i].path) {
+            Ordering::Less => {}
+            Ordering::Equal => return Ok(i),
+            Ordering::Greater => return Err(i + 1),
+        }
+    }
+    Err(0)
 }

@@ -376,7 +376,7 @@ impl Sorter for PlainSorter {
         for client in &self.clients {
             self.put_lines(&mut lines, &client.path)?;
         }
-        lines.into_vec(self.alloc())
+        Ok(lines.into_vec())
     }
 
     fn copy(&self) -> Result<PlainSorter, AllocError> {

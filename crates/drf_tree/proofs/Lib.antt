@@ -44,4 +44,5 @@ pub mod GrowLemmas
 pub mod LeafLemmas
 pub mod WeighLemmas
 pub mod ShareLemmas
+pub mod ListedLemmas
 pub mod LineLemmas

@@ -6,3 +6,4 @@ pub mod Tree
 pub mod Queue
 pub mod Changes
 pub mod Sorter
+pub mod Lines

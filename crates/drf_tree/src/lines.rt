@@ -1,5 +1,5 @@
 //! The lines of the nodes in a report.
-ghost use Rattle.std.specs.Prelude.{◌≡◌, true, IfOk, OnOk};
+ghost use Rattle.std.specs.Prelude.{◌≡◌, true, IfOk, OnOk, length};
 ghost use Rattle.std.specs.List.{AllByRecursion};
 ghost use Rattle.drf_role.specs.Path.{Path};
 ghost use Rattle.drf_sorter.specs.Content.{IsSound, has_node};
@@ -7,11 +7,12 @@ ghost use Rattle.drf_sorter.specs.Lines.{AreLinesOf, IsLineOf, has_line};
 ghost use Rattle.drf_sorter.specs.Plain.{plain_content};
 ghost use Rattle.drf_tree.specs.Nodes.{is_live, path_at};
 ghost use Rattle.drf_tree.specs.Tree.{IsTreeOf};
+ghost use Rattle.drf_tree.specs.Lines.{AreListed, HasEach};
 
-use crate::tree::Tree;
+use crate::tree::{ROOT, Tree};
 use drf_rows::NodeLine;
 use drf_sorter::{NodeLines, PlainSorter, node_line};
-use std::alloc::AllocError;
+use std::alloc::{AllocError, Global};
 
 impl Tree {
     /// A line of each node that has clients, in order of path.
@@ -21,10 +22,62 @@ impl Tree {
         ensures { IfOk result (λ lines. AreLinesOf (plain_content ledger.now) lines.items) }
     {
         let mut lines = NodeLines::new(self.alloc());
-        for node in 0..self.places.len() {
-            self.put_line(&mut lines, node, ledger)?;
+        let order = self.in_order_of_path()?;
+        for node in &order {
+            self.put_line(&mut lines, *node, ledger)?;
         }
-        lines.into_vec(self.alloc())
+        Ok(lines.into_vec())
+    }
+
+    /// All numbers, those of the nodes mostly in order of path.
+    fn in_order_of_path(&self) -> Result<Vec<usize>, AllocError>
+        ensures { IfOk result (λ order. HasEach (length self.now.places.items) order.items) }
+    {
+        let mut order = self.downwards()?;
+        let is_listed = listed(self.alloc(), &order, self.places.len())?;
+        for node in 0..self.places.len() {
+            if !is_listed[node] {
+                order.push(node)?;
+            }
+        }
+        Ok(order)
+    }
+
+    /// Nodes depth first, siblings in order of name.
+    fn downwards(&self) -> Result<Vec<usize>, AllocError> {
+        let mut order = Vec::with_capacity(self.alloc(), self.places.len())?;
+        let mut waiting = Vec::new(self.alloc());
+        waiting.push(ROOT)?;
+        for _ in 0..self.places.len() {
+            let Some(node) = waiting.pop() else {
+                break;
+            };
+            order.push(node)?;
+            self.push_children(&mut waiting, node)?;
+        }
+        Ok(order)
+    }
+
+    /// Puts the children of a node behind those that wait, the first by name last.
+    fn push_children(&self, waiting: &mut Vec<usize>, node: usize) -> Result<(), AllocError> {
+        let Some(family) = self.families.get(node) else {
+            return Ok(());
+        };
+        let first = waiting.len();
+        for child in family.children() {
+            let name = self.name(child.node);
+            let place = waiting[first..].partition_point(|other| self.name(*other) > name);
+            waiting.insert(first + place, child.node)?;
+        }
+        Ok(())
+    }
+
+    /// The last part of a node's path.
+    fn name(&self, node: usize) -> &str {
+        match self.place(node) {
+            Some(place) => place.name(),
+            None => "",
+        }
     }
 
     /// Puts the line of a number into its place, where a node that has clients stands there.
@@ -53,4 +106,18 @@ impl Tree {
         let held = sum.held.copy()?;
         lines.put(node_line(ledger.total(), sum.weight, path, held, sum.count))
     }
+}
+
+/// Which of the first numbers, `len` of them, stand in a list.
+fn listed(alloc: Global, numbers: &[usize], len: usize) -> Result<Vec<bool>, AllocError>
+    ensures long { IfOk result (λ flags. length flags.items ≡ len) }
+    ensures listed { IfOk result (λ flags. AreListed flags.items numbers.now) }
+{
+    let mut flags = vec![in alloc; false; len]?;
+    for number in numbers {
+        if *number < len {
+            flags[*number] = true;
+        }
+    }
+    Ok(flags)
 }

@@ -1,8 +1,7 @@
-use Rattle.std.proofs.Common.{◌≡◌, ◌∙◌, ap, sym, subst, Bool, List}
+use Rattle.std.proofs.Common.{◌∙◌, ap, sym, subst, Bool, List}
 use Rattle.std.specs.List.{list_any}
 use Rattle.std.proofs.lemmas.List.{take_all}
 use Rattle.std.proofs.lemmas.List.Folds.{list_any_at}
-use Rattle.std.proofs.lemmas.Result.{IfOk-weaker}
 use Rattle.drf_role.specs.Path.{begins_with, same_path}
 use Rattle.drf_role.specs.PathLaws.{same_path_itself}
 use Rattle.drf_sorter.specs.declared.client.Client.{Client}
@@ -24,9 +23,7 @@ put_lines-requires-clause-client c =
 pub returns : goal.returns
 returns c =
     let s = c.args.self.now in
-    IfOk-weaker c.into_vec.result (λ lines. lines.items ≡ c.loop-client.lines)
-    (λ lines. AreLinesOf (plain_content s) lines.items)
-    (λ lines is. subst (AreLinesOf (plain_content s)) (sym is) (record {
+    subst (AreLinesOf (plain_content s)) (sym c.into_vec.ensures.lines) (record {
       each = c.loop-client.invariant.each;
       every = λ node some has.
           c.loop-client.invariant.every node some
@@ -34,5 +31,4 @@ returns c =
           (take_all c.loop-client.client-index s.clients.items (rw c.deref-client-items.ensures.value at c.loop-client-test.false))
           ∙ has_node-is s node ∙ has);
       in_order = c.into_vec.ensures.in_order;
-    }))
-    c.into_vec.ensures.lines
+    })

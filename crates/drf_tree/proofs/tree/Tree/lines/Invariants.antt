@@ -1,5 +1,5 @@
-use Rattle.std.proofs.Common.{◌≡◌, ◌<◌, ℕ, true}
-use Rattle.std.specs.List.{AllByRecursion}
+use Rattle.std.proofs.Common.{◌≡◌, ◌==◌, ℕ, take, true}
+use Rattle.std.specs.List.{AllByRecursion, list_any}
 use Rattle.drf_sorter.specs.Content.{has_node}
 use Rattle.drf_sorter.specs.Lines.{IsLineOf, has_line}
 use Rattle.drf_sorter.specs.Plain.{plain_content}
@@ -9,7 +9,7 @@ use Rattle.drf_tree.proofs.tree.Tree.lines.Given as goal
 abbrev pub invariant-loop-node : goal.invariant-loop-node
 invariant-loop-node l = record {
   each : AllByRecursion (IsLineOf (plain_content l.ledger)) l.lines;
-  every : (k : ℕ) → k < l.node → is_live l.self.places.items k ≡ true
+  every : (k : ℕ) → list_any (λ n. n == k) (take l.node-index l.node-items) ≡ true → is_live l.self.places.items k ≡ true
       → has_node (plain_content l.ledger) (path_at l.self.places.items k) ≡ true
       → has_line l.lines (path_at l.self.places.items k) ≡ true;
 }

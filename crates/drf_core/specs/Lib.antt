@@ -10,3 +10,4 @@ pub mod Explaining
 pub mod Registering
 pub mod Accepting
 pub mod Refusing
+pub mod Applying

@@ -1,8 +1,7 @@
 //! Agents register, take part or not, and leave.
-ghost use Rattle.std.specs.Prelude.{◌≡◌, None, IfOk, OnOk, OnErr};
+ghost use Rattle.std.specs.Prelude.{◌≡◌, None, OnOk, OnErr};
 ghost use Rattle.drf_rows.specs.Step.{refusal_of, effect};
 ghost use Rattle.drf_rows.specs.declared.event.Event.TheVariants.{AddAgent, RemoveAgent, ActivateAgent, DeactivateAgent, SetAgent};
-ghost use Rattle.drf_rows.specs.declared.reply.Reply.TheVariants.{Done};
 ghost use Rattle.drf_core.specs.Kept.{IsKept};
 ghost use Rattle.drf_sorter.specs.Work.{Adds};
 ghost use Rattle.drf_core.specs.Working.{nodes_of, touched};
@@ -10,7 +9,7 @@ ghost use Rattle.drf_core.specs.Working.{nodes_of, touched};
 use crate::cluster::Cluster;
 use drf_bundle::Bundle;
 use drf_role::Name;
-use drf_rows::{Limits, Reply};
+use drf_rows::Limits;
 use drf_sorter::Sorter;
 use drf_tables::Ending;
 use std::alloc::AllocError;
@@ -22,22 +21,20 @@ impl<S: Sorter> Cluster<S> {
         limits: &Limits,
         agent: Name,
         total: Bundle,
-    ) -> Result<Reply, AllocError>
+    ) -> Result<(), AllocError>
         requires kept { IsKept limits.now self.old.rows }
         requires welcome { refusal_of limits.now self.old.rows (AddAgent agent total) ≡ None }
-        ensures reply { IfOk result (λ reply. reply ≡ Done) }
         ensures ok { OnOk result (self.new.rows ≡ effect self.old.rows (AddAgent agent total)) }
         ensures err { OnErr result (self.new.rows ≡ self.old.rows) }
     {
         let sum = self.tables.total().plus(total.quantities())?;
         self.tables.add_agent(agent, total)?;
         self.sorter.set_total(sum);
-        Ok(Reply::Done)
+        Ok(())
     }
 
     /// An agent leaves, and all that is held there ends.
-    pub(crate) fn remove_agent(&mut self, agent: &Name) -> Result<Reply, AllocError>
-        ensures reply { IfOk result (λ reply. reply ≡ Done) }
+    pub(crate) fn remove_agent(&mut self, agent: &Name) -> Result<(), AllocError>
         ensures ok { OnOk result (self.new.rows ≡ effect self.old.rows (RemoveAgent agent.now)) }
         ensures err { OnErr result (self.new.rows ≡ self.old.rows) }
     {
@@ -46,28 +43,24 @@ impl<S: Sorter> Cluster<S> {
         self.end(Ending::AllOn(agent));
         self.tables.remove_agent(agent, total);
         self.sorter.set_total(sum);
-        Ok(Reply::Done)
+        Ok(())
     }
 
     /// What is free on an agent is offered, from now on.
-    pub(crate) fn activate_agent(&mut self, agent: &Name) -> Reply
-        ensures reply { result ≡ Done }
+    pub(crate) fn activate_agent(&mut self, agent: &Name)
         ensures rows { self.new.rows ≡ effect self.old.rows (ActivateAgent agent.now) }
         ensures work { self.new.work ≡ self.old.work }
     {
         self.tables.set_active(agent, true);
-        Reply::Done
     }
 
     /// An agent's offers end, and no more are made.
-    pub(crate) fn deactivate_agent(&mut self, agent: &Name) -> Reply
-        ensures reply { result ≡ Done }
+    pub(crate) fn deactivate_agent(&mut self, agent: &Name)
         ensures rows { self.new.rows ≡ effect self.old.rows (DeactivateAgent agent.now) }
         ensures work { Adds S.COUNTED self.old.work self.new.work (nodes_of (touched self.old.rows (DeactivateAgent agent.now))) }
     {
         self.end(Ending::OffersOn(agent));
         self.tables.set_active(agent, false);
-        Reply::Done
     }
 
     /// An agent's total is another from now on. What is held there stays.
@@ -76,10 +69,9 @@ impl<S: Sorter> Cluster<S> {
         limits: &Limits,
         agent: &Name,
         total: Bundle,
-    ) -> Result<Reply, AllocError>
+    ) -> Result<(), AllocError>
         requires kept { IsKept limits.now self.old.rows }
         requires welcome { refusal_of limits.now self.old.rows (SetAgent agent.now total) ≡ None }
-        ensures reply { IfOk result (λ reply. reply ≡ Done) }
         ensures ok { OnOk result (self.new.rows ≡ effect self.old.rows (SetAgent agent.now total)) }
         ensures err { OnErr result (self.new.rows ≡ self.old.rows) }
     {
@@ -88,6 +80,6 @@ impl<S: Sorter> Cluster<S> {
         let copy = sum.copy()?;
         self.tables.set_total(agent, total, sum);
         self.sorter.set_total(copy);
-        Ok(Reply::Done)
+        Ok(())
     }
 }

@@ -1,11 +1,12 @@
 //! The effects of events that are not refused.
-ghost use Rattle.std.specs.Prelude.{◌≡◌, None, IfOk, OnOk, OnErr, MatchOption};
+ghost use Rattle.std.specs.Prelude.{◌≡◌, false, None, IfOk, OnOk, OnErr, MatchOption};
 ghost use Rattle.drf_rows.specs.Step.{refusal_of, effect, answer};
 ghost use Rattle.drf_rows.specs.declared.event.Event.TheVariants.{SetWeight, SetLimit};
 ghost use Rattle.drf_rows.specs.declared.reply.Reply.TheVariants.{Done};
 ghost use Rattle.drf_core.specs.Kept.{IsKept};
 ghost use Rattle.drf_sorter.specs.Work.{Adds};
 ghost use Rattle.drf_core.specs.Working.{allowed};
+ghost use Rattle.drf_core.specs.Applying.{has_answer};
 
 use crate::cluster::Cluster;
 use drf_bundle::Quantities;
@@ -16,9 +17,8 @@ use std::alloc::{AllocError, Global};
 
 impl<S: Sorter> Cluster<S> {
     /// A role gets a weight.
-    fn set_weight(&mut self, limits: &Limits, role: Role, weight: u64) -> Result<Reply, AllocError>
+    fn set_weight(&mut self, limits: &Limits, role: Role, weight: u64) -> Result<(), AllocError>
         requires { refusal_of limits.now self.old.rows (SetWeight role weight) ≡ None }
-        ensures reply { IfOk result (λ reply. reply ≡ Done) }
         ensures ok { OnOk result (self.new.rows ≡ effect self.old.rows (SetWeight role weight)) }
         ensures work { OnOk result (Adds S.COUNTED self.old.work self.new.work 1) }
         ensures err { OnErr result (self.new.rows ≡ self.old.rows) }
@@ -26,7 +26,7 @@ impl<S: Sorter> Cluster<S> {
         self.tables.reserve_weight()?;
         self.sorter.set_weight(&role, weight)?;
         self.tables.set_weight(role, weight);
-        Ok(Reply::Done)
+        Ok(())
     }
 
     /// A role gets a limit, or has none any more.
@@ -35,27 +35,21 @@ impl<S: Sorter> Cluster<S> {
         limits: &Limits,
         role: Role,
         limit: Quantities,
-    ) -> Result<Reply, AllocError>
+    ) -> Result<(), AllocError>
         requires { refusal_of limits.now self.old.rows (SetLimit role limit) ≡ None }
-        ensures reply { IfOk result (λ reply. reply ≡ Done) }
         ensures ok { OnOk result (self.new.rows ≡ effect self.old.rows (SetLimit role limit)) }
         ensures err { OnErr result (self.new.rows ≡ self.old.rows) }
         ensures work { self.new.work ≡ self.old.work }
     {
         self.tables.set_limit(role, limit)?;
-        Ok(Reply::Done)
+        Ok(())
     }
 
-    /// Applies an event that is not refused, whole or not at all.
-    pub(crate) fn apply(
-        &mut self,
-        alloc: Global,
-        limits: &Limits,
-        event: Event,
-    ) -> Result<Reply, AllocError>
+    /// Applies an event that has no answer of its own, and is not refused, whole or not at all.
+    fn change(&mut self, alloc: Global, limits: &Limits, event: Event) -> Result<(), AllocError>
         requires kept { IsKept limits.now self.old.rows }
         requires welcome { refusal_of limits.now self.old.rows event ≡ None }
-        ensures reply { IfOk result (λ reply. reply ≡ answer self.old.rows (effect self.old.rows event) event) }
+        requires plain { has_answer event ≡ false }
         ensures ok { OnOk result (self.new.rows ≡ effect self.old.rows event) }
         ensures work { OnOk result (MatchOption (allowed self.old.rows event) (Unit {0}) (Adds S.COUNTED self.old.work self.new.work)) }
         ensures err { OnErr result (self.new.rows ≡ self.old.rows) }
@@ -90,11 +84,35 @@ impl<S: Sorter> Cluster<S> {
             } => self.unreserve(limits, &agent, &role, &resources),
             Event::SetWeight { role, weight } => self.set_weight(limits, role, weight),
             Event::SetLimit { role, limit } => self.set_limit(limits, role, limit),
+            Event::Cycle { at: _ } => unreachable!(),
+            Event::Report => unreachable!(),
+        }
+    }
+
+    /// Applies an event that is not refused, whole or not at all.
+    pub(crate) fn apply(
+        &mut self,
+        alloc: Global,
+        limits: &Limits,
+        event: Event,
+    ) -> Result<Reply, AllocError>
+        requires kept { IsKept limits.now self.old.rows }
+        requires welcome { refusal_of limits.now self.old.rows event ≡ None }
+        ensures reply { IfOk result (λ reply. reply ≡ answer self.old.rows (effect self.old.rows event) event) }
+        ensures ok { OnOk result (self.new.rows ≡ effect self.old.rows event) }
+        ensures work { OnOk result (MatchOption (allowed self.old.rows event) (Unit {0}) (Adds S.COUNTED self.old.work self.new.work)) }
+        ensures err { OnErr result (self.new.rows ≡ self.old.rows) }
+    {
+        match event {
             Event::Cycle { at } => {
                 let lines = self.cycle(alloc, limits, at)?;
                 Ok(Reply::Offers(Table::from_vec(lines)))
             }
             Event::Report => Ok(Reply::Report(self.report()?)),
+            plain => {
+                self.change(alloc, limits, plain)?;
+                Ok(Reply::Done)
+            }
         }
     }
 }

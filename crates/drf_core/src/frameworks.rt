@@ -3,7 +3,6 @@ ghost use Rattle.std.specs.Prelude.{◌≡◌, None, true, map, sum_by, length, 
 ghost use Rattle.drf_rows.specs.Members.{distinct, has_framework, new_client};
 ghost use Rattle.drf_rows.specs.Step.{refusal_of, effect, is_in_role};
 ghost use Rattle.drf_rows.specs.declared.event.Event.TheVariants.{AddFramework, RemoveFramework, Suppress, Revive};
-ghost use Rattle.drf_rows.specs.declared.reply.Reply.TheVariants.{Done};
 ghost use Rattle.drf_core.specs.Kept.{IsKept};
 ghost use Rattle.drf_sorter.specs.Work.{Adds};
 ghost use Rattle.drf_core.specs.Working.{nodes_of, touched};
@@ -11,7 +10,7 @@ ghost use Rattle.drf_core.specs.Registering.{AreKnown, AreNew, client_paths, wit
 
 use crate::cluster::Cluster;
 use drf_role::{ClientPath, Name, Role};
-use drf_rows::{ClientRow, Limits, Reply, Table};
+use drf_rows::{ClientRow, Limits, Table};
 use drf_sorter::Sorter;
 use drf_tables::Ending;
 use std::alloc::{AllocError, Global};
@@ -99,10 +98,9 @@ impl<S: Sorter> Cluster<S> {
         limits: &Limits,
         framework: Name,
         roles: Table<Role>,
-    ) -> Result<Reply, AllocError>
+    ) -> Result<(), AllocError>
         requires kept { IsKept limits.now self.old.rows }
         requires welcome { refusal_of limits.now self.old.rows (AddFramework framework roles) ≡ None }
-        ensures reply { IfOk result (λ reply. reply ≡ Done) }
         ensures ok { OnOk result (self.new.rows ≡ effect self.old.rows (AddFramework framework roles)) }
         ensures work { OnOk result (Adds S.COUNTED self.old.work self.new.work (nodes_of (touched self.old.rows (AddFramework framework roles)))) }
         ensures err { OnErr result (self.new.rows ≡ self.old.rows) }
@@ -113,7 +111,7 @@ impl<S: Sorter> Cluster<S> {
         self.tables.reserve_framework()?;
         add_clients(&mut self.sorter, &paths)?;
         self.tables.add_framework(framework, clients);
-        Ok(Reply::Done)
+        Ok(())
     }
 
     /// A framework leaves, and all that it holds ends.
@@ -122,10 +120,9 @@ impl<S: Sorter> Cluster<S> {
         alloc: Global,
         limits: &Limits,
         framework: &Name,
-    ) -> Result<Reply, AllocError>
+    ) -> Result<(), AllocError>
         requires kept { IsKept limits.now self.old.rows }
         requires known { has_framework self.old.rows framework.now ≡ true }
-        ensures reply { IfOk result (λ reply. reply ≡ Done) }
         ensures ok { OnOk result (self.new.rows ≡ effect self.old.rows (RemoveFramework framework.now)) }
         ensures work { OnOk result (Adds S.COUNTED self.old.work self.new.work (nodes_of (touched self.old.rows (RemoveFramework framework.now)))) }
         ensures err { OnErr result (self.new.rows ≡ self.old.rows) }
@@ -134,7 +131,7 @@ impl<S: Sorter> Cluster<S> {
         self.end(Ending::AllOf(framework));
         remove_clients(&mut self.sorter, &paths);
         self.tables.remove_framework(framework);
-        Ok(Reply::Done)
+        Ok(())
     }
 
     /// A framework is no longer served in a role.
@@ -143,9 +140,8 @@ impl<S: Sorter> Cluster<S> {
         alloc: Global,
         framework: &Name,
         role: &Role,
-    ) -> Result<Reply, AllocError>
+    ) -> Result<(), AllocError>
         requires { is_in_role self.old.rows framework.now role.now ≡ true }
-        ensures reply { IfOk result (λ reply. reply ≡ Done) }
         ensures ok { OnOk result (self.new.rows ≡ effect self.old.rows (Suppress framework.now role.now)) }
         ensures work { OnOk result (Adds S.COUNTED self.old.work self.new.work (nodes_of (touched self.old.rows (Suppress framework.now role.now)))) }
         ensures err { OnErr result (self.new.rows ≡ self.old.rows) }
@@ -153,7 +149,7 @@ impl<S: Sorter> Cluster<S> {
         let path = ClientPath::new(alloc, role, framework)?;
         self.tables.suppress(framework, role);
         self.sorter.set_active(&path, false);
-        Ok(Reply::Done)
+        Ok(())
     }
 
     /// A framework is served in a role again, and refuses nothing there any more.
@@ -162,9 +158,8 @@ impl<S: Sorter> Cluster<S> {
         alloc: Global,
         framework: &Name,
         role: &Role,
-    ) -> Result<Reply, AllocError>
+    ) -> Result<(), AllocError>
         requires { is_in_role self.old.rows framework.now role.now ≡ true }
-        ensures reply { IfOk result (λ reply. reply ≡ Done) }
         ensures ok { OnOk result (self.new.rows ≡ effect self.old.rows (Revive framework.now role.now)) }
         ensures work { OnOk result (Adds S.COUNTED self.old.work self.new.work (nodes_of (touched self.old.rows (Revive framework.now role.now)))) }
         ensures err { OnErr result (self.new.rows ≡ self.old.rows) }
@@ -172,6 +167,6 @@ impl<S: Sorter> Cluster<S> {
         let path = ClientPath::new(alloc, role, framework)?;
         self.tables.revive(framework, role);
         self.sorter.set_active(&path, true);
-        Ok(Reply::Done)
+        Ok(())
     }
 }

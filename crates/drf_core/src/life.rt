@@ -1,12 +1,11 @@
 //! Offers and tasks: what becomes of an offer, and how a task ends.
-ghost use Rattle.std.specs.Prelude.{◌≡◌, ◌≤◌, ◌∷◌, ◌&&◌, [], true, not, nat_lt, IfOk, OnOk, OnErr, Some};
+ghost use Rattle.std.specs.Prelude.{◌≡◌, ◌≤◌, ◌&&◌, true, not, nat_lt, IfOk, OnOk, OnErr, Some};
 ghost use Rattle.drf_rows.specs.Consistent.{IsConsistent};
 ghost use Rattle.drf_rows.specs.Cycle.{at_moment};
 ghost use Rattle.drf_rows.specs.Offers.{offer_accepted, offer_declined, filter_of, filters_with, has_offer, is_empty, offer_at, refused_until, refuses_all};
 ghost use Rattle.drf_rows.specs.Step.{effect};
 ghost use Rattle.drf_rows.specs.declared.event.Event.TheVariants.{Rescind, Finish};
 ghost use Rattle.drf_rows.specs.declared.limits.TheConstants.{LATEST_MOMENT};
-ghost use Rattle.drf_rows.specs.declared.reply.Reply.TheVariants.{Done};
 ghost use Rattle.drf_rows.specs.declared.rows.OfferRow.{OfferRow};
 ghost use Rattle.drf_core.specs.Accepting.{IsEnough, filter_if};
 ghost use Rattle.drf_rows.specs.Endings.{one_offer, one_task};
@@ -17,7 +16,7 @@ use crate::cluster::Cluster;
 use drf_amount::Algebra;
 use drf_bundle::Bundle;
 use drf_role::{ClientPath, Name};
-use drf_rows::{Accept, Decline, FilterRow, LONGEST_FILTER, OfferRow, Reply};
+use drf_rows::{Accept, Decline, FilterRow, LONGEST_FILTER, OfferRow};
 use drf_sorter::Sorter;
 use drf_tables::{Ending, Tables};
 use std::alloc::{AllocError, Global};
@@ -85,11 +84,10 @@ fn refuse_offer(
 
 impl<S: Sorter> Cluster<S> {
     /// A framework starts tasks with parts of an offer. The rest is free, and is refused for a time.
-    pub(crate) fn accept(&mut self, alloc: Global, accept: Accept) -> Result<Reply, AllocError>
+    pub(crate) fn accept(&mut self, alloc: Global, accept: Accept) -> Result<(), AllocError>
         requires consistent { IsConsistent self.old.rows }
         requires enough { IsEnough self.old.rows accept.offer accept.tasks }
         requires early { accept.at ≤ LATEST_MOMENT }
-        ensures reply { IfOk result (λ reply. reply ≡ Done) }
         ensures ok { OnOk result ((o : OfferRow) → offer_at self.old.rows accept.offer ≡ Some o
             → self.new.rows ≡ offer_accepted (at_moment self.old.rows accept.at) o accept.tasks accept.refuse_ms) }
         ensures err { OnErr result (self.new.rows ≡ self.old.rows) }
@@ -106,15 +104,14 @@ impl<S: Sorter> Cluster<S> {
             .accept(accept.offer, accept.tasks, &rest, filter)?;
         self.tables.set_clock(moment);
         self.sorter.refund(&client, rest.quantities());
-        Ok(Reply::Done)
+        Ok(())
     }
 
     /// A framework gives an offer back, and refuses it for a time.
-    pub(crate) fn decline(&mut self, decline: &Decline) -> Result<Reply, AllocError>
+    pub(crate) fn decline(&mut self, decline: &Decline) -> Result<(), AllocError>
         requires consistent { IsConsistent self.old.rows }
         requires offer { has_offer self.old.rows decline.now.offer ≡ true }
         requires early { decline.now.at ≤ LATEST_MOMENT }
-        ensures reply { IfOk result (λ reply. reply ≡ Done) }
         ensures ok { OnOk result ((o : OfferRow) → offer_at self.old.rows decline.now.offer ≡ Some o
             → self.new.rows ≡ offer_declined (at_moment self.old.rows decline.now.at) o decline.now.refuse_ms) }
         ensures err { OnErr result (self.new.rows ≡ self.old.rows) }
@@ -124,22 +121,19 @@ impl<S: Sorter> Cluster<S> {
         refuse_offer(&mut self.tables, decline.offer, moment, decline.refuse_ms)?;
         self.tables.set_clock(moment);
         self.end(Ending::Offer(decline.offer));
-        Ok(Reply::Done)
+        Ok(())
     }
 
     /// An offer is taken back.
-    pub(crate) fn rescind(&mut self, number: u64) -> Reply
-        ensures reply { result ≡ Done }
+    pub(crate) fn rescind(&mut self, number: u64)
         ensures rows { self.new.rows ≡ effect self.old.rows (Rescind number) }
         ensures work { Adds S.COUNTED self.old.work self.new.work (nodes_of (losers self.old.rows (one_offer number))) }
     {
         self.end(Ending::Offer(number));
-        Reply::Done
     }
 
     /// A task ends.
-    pub(crate) fn finish(&mut self, framework: &Name, task: &Name) -> Reply
-        ensures reply { result ≡ Done }
+    pub(crate) fn finish(&mut self, framework: &Name, task: &Name)
         ensures rows { self.new.rows ≡ effect self.old.rows (Finish framework.now task.now) }
         ensures work { Adds S.COUNTED self.old.work self.new.work (nodes_of (losers self.old.rows (one_task framework.now task.now))) }
     {
@@ -148,6 +142,5 @@ impl<S: Sorter> Cluster<S> {
             name: task,
         };
         self.end(ending);
-        Reply::Done
     }
 }

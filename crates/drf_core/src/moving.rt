@@ -5,12 +5,11 @@ ghost use Rattle.drf_rows.specs.Consistent.{IsConsistent};
 ghost use Rattle.drf_rows.specs.laws.ReservationLaws.{IsAsked};
 ghost use Rattle.drf_rows.specs.Step.{refusal_of, effect};
 ghost use Rattle.drf_rows.specs.declared.event.Event.TheVariants.{Reserve, Unreserve};
-ghost use Rattle.drf_rows.specs.declared.reply.Reply.TheVariants.{Done};
 
 use crate::cluster::Cluster;
 use drf_bundle::Bundle;
 use drf_role::{Name, Role};
-use drf_rows::{Limits, Reply};
+use drf_rows::Limits;
 use drf_sorter::Sorter;
 use std::alloc::AllocError;
 
@@ -34,17 +33,16 @@ impl<S: Sorter> Cluster<S> {
         agent: &Name,
         role: &Role,
         resources: &Bundle,
-    ) -> Result<Reply, AllocError>
+    ) -> Result<(), AllocError>
         requires consistent { IsConsistent self.old.rows }
         requires welcome { refusal_of limits.now self.old.rows (Reserve agent.now role.now resources.now) ≡ None }
-        ensures reply { IfOk result (λ reply. reply ≡ Done) }
         ensures ok { OnOk result (self.new.rows ≡ effect self.old.rows (Reserve agent.now role.now resources.now)) }
         ensures err { OnErr result (self.new.rows ≡ self.old.rows) }
         ensures work { self.new.work ≡ self.old.work }
     {
         let moved = reserved(role, resources)?;
         self.tables.exchange(agent, resources, &moved)?;
-        Ok(Reply::Done)
+        Ok(())
     }
 
     /// What is free and reserved for a role is for everyone again.
@@ -54,16 +52,15 @@ impl<S: Sorter> Cluster<S> {
         agent: &Name,
         role: &Role,
         resources: &Bundle,
-    ) -> Result<Reply, AllocError>
+    ) -> Result<(), AllocError>
         requires consistent { IsConsistent self.old.rows }
         requires welcome { refusal_of limits.now self.old.rows (Unreserve agent.now role.now resources.now) ≡ None }
-        ensures reply { IfOk result (λ reply. reply ≡ Done) }
         ensures ok { OnOk result (self.new.rows ≡ effect self.old.rows (Unreserve agent.now role.now resources.now)) }
         ensures err { OnErr result (self.new.rows ≡ self.old.rows) }
         ensures work { self.new.work ≡ self.old.work }
     {
         let moved = reserved(role, resources)?;
         self.tables.exchange(agent, &moved, resources)?;
-        Ok(Reply::Done)
+        Ok(())
     }
 }

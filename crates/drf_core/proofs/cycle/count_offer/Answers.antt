@@ -1,7 +1,7 @@
 use Rattle.std.proofs.Common.{subst}
 use Rattle.std.proofs.lemmas.Result.{on_ok_weaker}
 use Rattle.drf_core.specs.Entitling.{IsQuotaOf}
-use Rattle.drf_core.proofs.GrantLemmas.{allowance-counted, unlimited-counted}
+use Rattle.drf_core.proofs.drafting.Granted.{allowance-counted, unlimited-counted}
 use Rattle.drf_core.proofs.cycle.count_offer.Goals as goal
 
 pub returns-in-Some : goal.returns-in-Some

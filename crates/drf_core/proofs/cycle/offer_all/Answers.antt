@@ -8,7 +8,7 @@ use Rattle.drf_gates.specs.Quota.{Allowance}
 use Rattle.drf_core.specs.Entitling.{IsQuotaOf}
 use Rattle.drf_tables.specs.DraftLaws.{next-with_offers, with_offers-added}
 use Rattle.drf_tables.specs.Drafts.{with_offers}
-use Rattle.drf_core.proofs.CycleLemmas.{counts_all, is_counting, new_offers-drafts}
+use Rattle.drf_core.proofs.drafting.Cycle.{counts_all, is_counting, new_offers-drafts}
 use Rattle.drf_core.proofs.cycle.offer_all.Goals as goal
 
 pub commit-requires-clause-fits : goal.commit-requires-clause-fits

@@ -1,4 +1,4 @@
-use Rattle.drf_core.proofs.GrantLemmas.{no_limits}
+use Rattle.drf_core.proofs.drafting.Granted.{no_limits}
 use Rattle.drf_core.proofs.cycle.quota_of.Goals as goal
 
 pub returns-then-not-has_limits-clause-quota : goal.returns-then-not-has_limits-clause-quota

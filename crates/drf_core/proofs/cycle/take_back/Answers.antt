@@ -1,6 +1,6 @@
 use Rattle.std.proofs.Common.{ap, ◌∙◌}
 use Rattle.drf_sorter.specs.Content.{has_client, with_change, discharged}
-use Rattle.drf_core.proofs.DraftLemmas.{clients_front, has_client-last, HasChargeAt-last, sorted-taken_back}
+use Rattle.drf_core.proofs.drafting.Drafts.{clients_front, has_client-last, HasChargeAt-last, sorted-taken_back}
 use Rattle.drf_core.proofs.cycle.take_back.Goals as goal
 
 pub undo_charge-requires-clause-known : goal.undo_charge-requires-clause-known

@@ -12,9 +12,9 @@ use Rattle.drf_tables.specs.Drafts.{with_offers}
 use Rattle.drf_core.specs.Drafting.{IsTried}
 use Rattle.drf_core.specs.Entitling.{IsEntitled}
 use Rattle.drf_core.specs.Working.{nodes_of, offered_to}
-use Rattle.drf_core.proofs.WorkLemmas.{nodes_of-drafted}
-use Rattle.drf_core.proofs.DraftLemmas.{with_offers-push}
-use Rattle.drf_core.proofs.DraftTried.{IsNext, next_from, can_count_next, known_next, sound_next, drafting_next, tried_next, free_next, tried_nothing}
+use Rattle.drf_core.proofs.stepping.Work.{nodes_of-drafted}
+use Rattle.drf_core.proofs.drafting.Drafts.{with_offers-push}
+use Rattle.drf_core.proofs.drafting.Tried.{IsNext, next_from, can_count_next, known_next, sound_next, drafting_next, tried_next, free_next, tried_nothing}
 use Rattle.drf_core.proofs.cycle.try_first.Given as given
 use Rattle.drf_core.proofs.cycle.try_first.Goals.{After-reserve, After-quantities}
 use Rattle.drf_core.proofs.cycle.try_first.Goals as goal

@@ -9,7 +9,7 @@ use Rattle.drf_sorter.specs.Work.{debt}
 use Rattle.drf_tables.specs.Drafts.{with_offers}
 use Rattle.drf_tables.specs.DraftLaws.{agents-with_offers}
 use Rattle.drf_core.specs.Drafting.{IsDrafting}
-use Rattle.drf_core.proofs.TurnLemmas.{turn_at-closed, turn_at-open, is_open_at-before, HasLeft-closed, HasLeft-turn, free-before, element_at, sound_now, waiting-begins, waiting-first, waiting-passed, waiting-over, first_of_queue, queue_falls}
+use Rattle.drf_core.proofs.drafting.Turn.{turn_at-closed, turn_at-open, is_open_at-before, HasLeft-closed, HasLeft-turn, free-before, element_at, sound_now, waiting-begins, waiting-first, waiting-passed, waiting-over, first_of_queue, queue_falls}
 use Rattle.drf_core.proofs.cycle.turn.Given as given
 use Rattle.drf_core.proofs.cycle.turn.Goals.{After-goes_on}
 use Rattle.drf_core.proofs.cycle.turn.Goals as goal

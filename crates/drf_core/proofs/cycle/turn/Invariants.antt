@@ -3,7 +3,7 @@ use Rattle.drf_tables.specs.Drafts.{with_offers}
 use Rattle.drf_core.specs.Drafting.{IsDrafting, IsFreeAt}
 use Rattle.drf_core.specs.Entitling.{IsEntitled, IsQuotaOf}
 use Rattle.drf_core.specs.Working.{AddsDrafts}
-use Rattle.drf_core.proofs.TurnLemmas.{AreWaiting}
+use Rattle.drf_core.proofs.drafting.Turn.{AreWaiting}
 use Rattle.drf_core.proofs.cycle.turn.Given as goal
 
 -- to try the clients that wait gives what trying all gives

@@ -2,8 +2,8 @@ use Rattle.std.proofs.Common.{◌≡◌, sym, ap, subst, ◌∙◌, arith, lengt
 use Rattle.std.specs.Prelude.{max}
 use Rattle.drf_rows.specs.declared.rows.Rows.{Rows}
 use Rattle.drf_core.specs.Entitling.{IsQuotaOf}
-use Rattle.drf_core.proofs.CycleLemmas.{drafting-begins}
-use Rattle.drf_core.proofs.ExplainLemmas.{explained-is}
+use Rattle.drf_core.proofs.drafting.Cycle.{drafting-begins}
+use Rattle.drf_core.proofs.drafting.Told.{explained-is}
 use Rattle.drf_core.proofs.explain.explain.Goals.{After-quota_of}
 use Rattle.drf_core.proofs.explain.explain.Given as given
 use Rattle.drf_core.proofs.explain.explain.Goals as goal

@@ -1,6 +1,6 @@
 use Rattle.std.proofs.Common.{◌∙◌}
 use Rattle.std.specs.Option.{option_copied}
-use Rattle.drf_core.proofs.ExplainLemmas.{finding-is}
+use Rattle.drf_core.proofs.drafting.Told.{finding-is}
 use Rattle.drf_core.proofs.explain.outcome_of.Goals as goal
 
 pub returns : goal.returns

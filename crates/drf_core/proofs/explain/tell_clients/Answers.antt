@@ -10,8 +10,8 @@ use Rattle.drf_tables.specs.Drafts.{with_offers}
 use Rattle.drf_tables.specs.DraftLaws.{agents-with_offers}
 use Rattle.drf_core.specs.Drafting.{IsDrafting}
 use Rattle.drf_core.specs.Explaining.{left_told}
-use Rattle.drf_core.proofs.ExplainLemmas.{gates-drafts, told-begins, as_many, one_fewer, told-passed, told-over, waiting_of}
-use Rattle.drf_core.proofs.TurnLemmas.{HasLeft-turn, free-before, element_at, sound_now, waiting-first, waiting-over, first_of_queue, queue_falls}
+use Rattle.drf_core.proofs.drafting.Told.{gates-drafts, told-begins, as_many, one_fewer, told-passed, told-over, waiting_of}
+use Rattle.drf_core.proofs.drafting.Turn.{HasLeft-turn, free-before, element_at, sound_now, waiting-first, waiting-over, first_of_queue, queue_falls}
 use Rattle.drf_core.proofs.explain.tell_clients.Given as given
 use Rattle.drf_core.proofs.explain.tell_clients.Goals.{After-goes_on}
 use Rattle.drf_core.proofs.explain.tell_clients.Goals as goal

@@ -2,7 +2,7 @@ use Rattle.std.proofs.Common.{◌≡◌, length}
 use Rattle.drf_tables.specs.Drafts.{with_offers}
 use Rattle.drf_core.specs.Drafting.{IsDrafting, IsFreeAt}
 use Rattle.drf_core.specs.Entitling.{IsEntitled, IsQuotaOf}
-use Rattle.drf_core.proofs.ExplainLemmas.{AreTold}
+use Rattle.drf_core.proofs.drafting.Told.{AreTold}
 use Rattle.drf_core.proofs.explain.tell_clients.Given as goal
 
 -- to try the clients that wait, and to tell of them, gives what trying and telling of all gives

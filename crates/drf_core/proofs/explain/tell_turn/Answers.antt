@@ -6,9 +6,9 @@ use Rattle.drf_rows.specs.declared.rows.Rows.{Rows}
 use Rattle.drf_explain.specs.Gates.{AreGatesOf}
 use Rattle.drf_explain.specs.declared.finding.Finding.TheVariants.{Inactive, NothingFree}
 use Rattle.drf_tables.specs.Drafts.{with_offers}
-use Rattle.drf_core.proofs.ExplainLemmas.{agent_in, gates-live, turn_at-idle, turn_at-full, turn_at-tried, told_at-idle, told_at-full, told_at-tried}
-use Rattle.drf_core.proofs.RefusalLemmas.{no_length}
-use Rattle.drf_core.proofs.TurnLemmas.{HasLeft-closed, free-before}
+use Rattle.drf_core.proofs.drafting.Told.{agent_in, gates-live, turn_at-idle, turn_at-full, turn_at-tried, told_at-idle, told_at-full, told_at-tried}
+use Rattle.drf_core.proofs.refusing.Tests.{no_length}
+use Rattle.drf_core.proofs.drafting.Turn.{HasLeft-closed, free-before}
 use Rattle.drf_core.proofs.explain.tell_turn.Goals.{After-is_empty}
 use Rattle.drf_core.proofs.explain.tell_turn.Given as given
 use Rattle.drf_core.proofs.explain.tell_turn.Goals as goal

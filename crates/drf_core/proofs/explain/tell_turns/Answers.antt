@@ -3,7 +3,7 @@ use Rattle.std.proofs.lemmas.List.{drop_all}
 use Rattle.drf_explain.specs.Explained.{told_of_agents}
 use Rattle.drf_tables.specs.Drafts.{with_offers}
 use Rattle.drf_tables.specs.DraftLaws.{agents-with_offers}
-use Rattle.drf_core.proofs.ExplainLemmas.{told-next}
+use Rattle.drf_core.proofs.drafting.Told.{told-next}
 use Rattle.drf_core.proofs.explain.tell_turns.Goals as goal
 
 pub loop-place-preserved : goal.loop-place-preserved

@@ -3,7 +3,7 @@ use Rattle.std.specs.Option.{option_copied}
 use Rattle.drf_role.specs.Path.{Path}
 use Rattle.drf_bundle.specs.declared.resource.Resource.{Resource}
 use Rattle.drf_core.specs.Entitling.{IsEntitlement}
-use Rattle.drf_core.proofs.GrantLemmas.{granted-is}
+use Rattle.drf_core.proofs.drafting.Granted.{granted-is}
 use Rattle.drf_core.proofs.free.grant.Goals as goal
 
 pub returns-then-not-is_grantable-clause-granted : goal.returns-then-not-is_grantable-clause-granted

@@ -4,7 +4,7 @@ use Rattle.std.proofs.lemmas.Result.{IfOk-weaker}
 use Rattle.drf_bundle.specs.Bundle.{clip}
 use Rattle.drf_bundle.specs.declared.resource.Resource.{Resource}
 use Rattle.drf_core.specs.Entitling.{IsEntitlement}
-use Rattle.drf_core.proofs.GrantLemmas.{entitled-uncut, entitled-cut}
+use Rattle.drf_core.proofs.drafting.Granted.{entitled-uncut, entitled-cut}
 use Rattle.drf_core.proofs.free.part_within.Goals as goal
 
 pub returns-in_default : goal.returns-in_default

@@ -6,7 +6,7 @@ use Rattle.drf_rows.specs.Cycle.{free_of}
 use Rattle.drf_rows.specs.Totals.{agent_at}
 use Rattle.drf_rows.specs.declared.rows.AgentRow.{AgentRow}
 use Rattle.drf_rows.specs.declared.rows.Rows.{Rows}
-use Rattle.drf_core.proofs.LateLemmas.{if_ok}
+use Rattle.drf_core.proofs.refusing.Late.{if_ok}
 use Rattle.drf_core.proofs.late.held_on.Goals as goal
 
 pub returns : goal.returns

@@ -4,7 +4,7 @@ use Rattle.drf_rows.specs.Step.{first_case, too_many_names}
 use Rattle.drf_rows.specs.Totals.{with_other_total}
 use Rattle.drf_rows.specs.declared.reply.Refusal.TheVariants.{TooMany}
 use Rattle.drf_rows.specs.declared.rows.Rows.{Rows}
-use Rattle.drf_core.proofs.LateLemmas.{names-other_total}
+use Rattle.drf_core.proofs.refusing.Late.{names-other_total}
 use Rattle.drf_core.proofs.late.refuse_names.Goals as goal
 
 pub returns : goal.returns

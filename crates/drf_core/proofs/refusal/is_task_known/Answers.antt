@@ -4,7 +4,7 @@ use Rattle.std.specs.List.{list_all}
 use Rattle.drf_rows.specs.Consistent.{are_distinct}
 use Rattle.drf_rows.specs.Offers.{has_task}
 use Rattle.drf_rows.specs.Tasks.{Start, names_of}
-use Rattle.drf_core.proofs.RefusalLemmas.{any_not}
+use Rattle.drf_core.proofs.refusing.Tests.{any_not}
 use Rattle.drf_core.proofs.refusal.is_task_known.Goals as goal
 
 pub returns : goal.returns

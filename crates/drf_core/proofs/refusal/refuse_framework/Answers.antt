@@ -1,6 +1,6 @@
 use Rattle.std.proofs.Common.{◌∷◌, [], ◌∙◌}
 use Rattle.drf_rows.specs.Step.{first_case, refusal_of}
-use Rattle.drf_core.proofs.RefusalLemmas.{empty_from}
+use Rattle.drf_core.proofs.refusing.Tests.{empty_from}
 use Rattle.drf_rows.specs.declared.reply.Refusal.TheVariants.{Empty, HistoryFull, KnownFramework, TooMany}
 use Rattle.drf_core.proofs.refusal.refuse_framework.Goals as goal
 

@@ -1,7 +1,7 @@
 use Rattle.std.proofs.Common.{◌∷◌, [], ◌∙◌}
 use Rattle.drf_rows.specs.Step.{first_case, refusal_of}
 use Rattle.drf_rows.specs.declared.reply.Refusal.TheVariants.{HistoryFull, DefaultRole, TooMany}
-use Rattle.drf_core.proofs.RefusalLemmas.{default_from}
+use Rattle.drf_core.proofs.refusing.Tests.{default_from}
 use Rattle.drf_core.proofs.refusal.refuse_limit.Goals as goal
 
 pub returns : goal.returns

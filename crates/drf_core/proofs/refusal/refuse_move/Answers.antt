@@ -3,7 +3,7 @@ use Rattle.drf_bundle.specs.declared.resource.Resource.{Resource}
 use Rattle.drf_rows.specs.Offers.{is_empty}
 use Rattle.drf_rows.specs.Step.{first_case}
 use Rattle.drf_rows.specs.declared.reply.Refusal.TheVariants.{HistoryFull, UnknownAgent, DefaultRole, Empty, NotUnreserved}
-use Rattle.drf_core.proofs.RefusalLemmas.{default_from, no_length}
+use Rattle.drf_core.proofs.refusing.Tests.{default_from, no_length}
 use Rattle.drf_core.proofs.refusal.refuse_move.Goals as goal
 
 pub returns : goal.returns

@@ -3,7 +3,7 @@ use Rattle.std.specs.Prelude.{nat_le}
 use Rattle.drf_bundle.specs.declared.quantities.Entry.{Entry}
 use Rattle.drf_rows.specs.Offers.{is_empty}
 use Rattle.drf_rows.specs.Quota.{has_limit}
-use Rattle.drf_core.proofs.RefusalLemmas.{no_length, too_many_rows}
+use Rattle.drf_core.proofs.refusing.Tests.{no_length, too_many_rows}
 use Rattle.drf_core.proofs.refusal.too_many_limits.Goals as goal
 
 pub returns : goal.returns

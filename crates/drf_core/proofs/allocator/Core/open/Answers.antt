@@ -1,4 +1,4 @@
-use Rattle.drf_core.proofs.StepLemmas.{IsKept-opening}
+use Rattle.drf_core.proofs.stepping.Step.{IsKept-opening}
 use Rattle.drf_core.proofs.allocator.Core.open.Goals as goal
 
 pub invariant_of-result : goal.invariant_of-result

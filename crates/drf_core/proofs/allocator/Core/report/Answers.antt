@@ -1,4 +1,4 @@
-use Rattle.drf_core.proofs.KeptLemmas.{few_agents_kept, few_offers_kept}
+use Rattle.drf_core.proofs.stepping.Kept.{few_agents_kept, few_offers_kept}
 use Rattle.std.proofs.Common.{arith}
 use Rattle.drf_core.proofs.allocator.Core.report.Goals as goal
 

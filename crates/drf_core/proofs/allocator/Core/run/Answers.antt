@@ -7,8 +7,8 @@ use Rattle.std.specs.Option.{MatchOption}
 use Rattle.drf_rows.specs.LimitNumbers.{LimitNumbers}
 use Rattle.drf_sorter.specs.Work.{Adds}
 use Rattle.drf_core.specs.Working.{allowance}
-use Rattle.drf_core.proofs.AllowanceLemmas.{work-more}
-use Rattle.drf_core.proofs.StepLemmas.{IsAfterAll-more, reply-more, take_one_more}
+use Rattle.drf_core.proofs.stepping.Allowance.{work-more}
+use Rattle.drf_core.proofs.stepping.Step.{IsAfterAll-more, reply-more, take_one_more}
 use Rattle.drf_core.proofs.allocator.Core.run.Goals as goal
 
 pub loop-event-preserved : goal.loop-event-preserved

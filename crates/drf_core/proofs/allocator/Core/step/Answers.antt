@@ -5,11 +5,11 @@ use Rattle.drf_rows.specs.Step.{live_rows, refusal_of, reply_to, rows_after}
 use Rattle.drf_rows.specs.declared.rows.Rows.{Rows}
 use Rattle.drf_core.specs.Machine.{Engine, IsSafe}
 use Rattle.drf_core.specs.Refusing.{early_refusal_of}
-use Rattle.drf_core.proofs.KeptLemmas.{safe_kept}
-use Rattle.drf_core.proofs.Welcome.{room_for}
-use Rattle.drf_core.proofs.StepLemmas.{IsKept-forgot, IsReady-tested, refused_from, welcome_from, accepted_from, early_from, early_none, rows_after-counted, accepted-applied, IsKept-counted}
+use Rattle.drf_core.proofs.stepping.Kept.{safe_kept}
+use Rattle.drf_core.proofs.refusing.Welcome.{room_for}
+use Rattle.drf_core.proofs.stepping.Step.{IsKept-forgot, IsReady-tested, refused_from, welcome_from, accepted_from, early_from, early_none, rows_after-counted, accepted-applied, IsKept-counted}
 use Rattle.drf_core.specs.Working.{allowance, allowed}
-use Rattle.drf_core.proofs.AllowanceLemmas.{allowance-refused, allowance-accepted}
+use Rattle.drf_core.proofs.stepping.Allowance.{allowance-refused, allowance-accepted}
 use Rattle.drf_sorter.specs.Work.{Work, Adds, debt}
 use Rattle.drf_core.proofs.allocator.Core.step.Goals as goal
 

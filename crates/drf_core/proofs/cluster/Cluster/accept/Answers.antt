@@ -1,4 +1,4 @@
-use Rattle.std.proofs.Common.{◌≡◌, ℕ, Some, sym, ap, subst, ◌∙◌, nat_lt, length, arith}
+use Rattle.std.proofs.Common.{◌≡◌, ℕ, Some, sym, ap, ◌∙◌, nat_lt, length, arith}
 use Rattle.std.specs.Prelude.{◌&&◌, max, not, option_copied}
 use Rattle.drf_bundle.specs.Bundle.{quantities_of}
 use Rattle.drf_rows.specs.Cycle.{at_moment}
@@ -6,8 +6,8 @@ use Rattle.drf_rows.specs.Offers.{offer_accepted, filter_of, is_empty, left_of_o
 use Rattle.drf_rows.specs.declared.rows.OfferRow.{OfferRow}
 use Rattle.drf_rows.specs.declared.rows.Rows.{Rows}
 use Rattle.drf_core.specs.Accepting.{filter_if}
-use Rattle.drf_core.proofs.AcceptLemmas.{moment_early, can_start, same_offer, can_accept, rows_accepted, known-accepted, held-accepted, sorted-accepted}
-use Rattle.drf_core.proofs.WorkLemmas.{nodes_of-offer}
+use Rattle.drf_core.proofs.effects.Accepted.{moment_early, can_start, same_offer, can_accept, rows_accepted, known-accepted, held-accepted, sorted-accepted}
+use Rattle.drf_core.proofs.stepping.Work.{nodes_of-offer}
 use Rattle.drf_core.proofs.cluster.Cluster.accept.Goals.{After-set_clock}
 use Rattle.drf_core.proofs.cluster.Cluster.accept.Given as given
 use Rattle.drf_core.proofs.cluster.Cluster.accept.Goals as goal

@@ -1,4 +1,4 @@
-use Rattle.drf_core.proofs.EndedLemmas.{sorted-activity, effect-activated}
+use Rattle.drf_core.proofs.effects.Ended.{sorted-activity, effect-activated}
 use Rattle.drf_core.proofs.cluster.Cluster.activate_agent.Goals as goal
 
 pub invariant_of-self : goal.invariant_of-self

@@ -10,10 +10,10 @@ use Rattle.drf_rows.specs.declared.rows.ClientRow.{ClientRow}
 use Rattle.drf_rows.specs.declared.rows.Rows.{Rows}
 use Rattle.drf_sorter.specs.Content.{Content}
 use Rattle.drf_core.specs.Registering.{AreNew, client_paths, with_all}
-use Rattle.drf_core.proofs.RegisterLemmas.{distinct_apart, roles_of_new, uncounted_new, AreNew-registering}
-use Rattle.drf_core.proofs.Welcome.{welcome_framework}
-use Rattle.drf_core.proofs.ApplyLemmas.{sorted-framework, effect-framework}
-use Rattle.drf_core.proofs.WorkLemmas.{nodes_of-new}
+use Rattle.drf_core.proofs.content.Registered.{distinct_apart, roles_of_new, uncounted_new, AreNew-registering}
+use Rattle.drf_core.proofs.refusing.Welcome.{welcome_framework}
+use Rattle.drf_core.proofs.effects.Registered.{sorted-framework, effect-framework}
+use Rattle.drf_core.proofs.stepping.Work.{nodes_of-new}
 use Rattle.drf_core.proofs.cluster.Cluster.add_framework.Goals as goal
 
 pub add_clients-requires : goal.add_clients-requires

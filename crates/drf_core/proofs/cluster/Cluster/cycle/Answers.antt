@@ -7,7 +7,7 @@ use Rattle.drf_core.specs.Content.{content_of}
 use Rattle.drf_rows.specs.declared.rows.OfferRow.{OfferRow}
 use Rattle.drf_core.specs.Drafting.{turns_of}
 use Rattle.drf_core.specs.Working.{nodes_of, offered_to}
-use Rattle.drf_core.proofs.CycleLemmas.{early_moment, drafting-begins, turns_of-cycle, new_offers-cycle, content_of-clock}
+use Rattle.drf_core.proofs.drafting.Cycle.{early_moment, drafting-begins, turns_of-cycle, new_offers-cycle, content_of-clock}
 use Rattle.drf_core.proofs.cluster.Cluster.cycle.Goals.{After-offer_all}
 use Rattle.drf_core.proofs.cluster.Cluster.cycle.Given as given
 use Rattle.drf_core.proofs.cluster.Cluster.cycle.Goals as goal

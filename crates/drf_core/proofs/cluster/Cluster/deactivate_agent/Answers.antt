@@ -1,7 +1,7 @@
 use Rattle.std.proofs.Common.{ap, ◌∙◌, arith}
 use Rattle.drf_sorter.specs.Work.{debt}
 use Rattle.drf_core.specs.Cluster.{ClusterState}
-use Rattle.drf_core.proofs.EndedLemmas.{sorted-activity, effect-deactivated}
+use Rattle.drf_core.proofs.effects.Ended.{sorted-activity, effect-deactivated}
 use Rattle.drf_core.proofs.cluster.Cluster.deactivate_agent.Goals as goal
 
 pub invariant_of-self : goal.invariant_of-self

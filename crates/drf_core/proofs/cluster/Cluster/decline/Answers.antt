@@ -1,11 +1,10 @@
-use Rattle.std.proofs.Common.{◌≡◌, ℕ, ap, ◌∙◌, arith}
+use Rattle.std.proofs.Common.{ℕ, ap, ◌∙◌, arith}
 use Rattle.std.specs.Prelude.{max}
 use Rattle.drf_rows.specs.Endings.{one_offer}
 use Rattle.drf_rows.specs.Offers.{filters_with, refuses_all}
 use Rattle.drf_rows.specs.declared.rows.Rows.{Rows}
-use Rattle.drf_core.specs.Cluster.{ClusterState}
 use Rattle.drf_core.specs.Working.{losers, nodes_of}
-use Rattle.drf_core.proofs.AcceptLemmas.{some_offer, sorted-declined, rows_declined}
+use Rattle.drf_core.proofs.effects.Accepted.{some_offer, sorted-declined, rows_declined}
 use Rattle.drf_core.proofs.cluster.Cluster.decline.Goals as goal
 
 pub invariant_of-self-2 : goal.invariant_of-self-2

@@ -1,8 +1,8 @@
 use Rattle.std.proofs.Common.{ap, ◌∙◌, arith}
 use Rattle.drf_sorter.specs.Content.{with_change, refunded}
 use Rattle.drf_rows.specs.Ended.{ending_of}
-use Rattle.drf_core.proofs.EndedLemmas.{known-ended, held-ended, sorted-ended}
-use Rattle.drf_core.proofs.WorkLemmas.{losers-ended}
+use Rattle.drf_core.proofs.effects.Ended.{known-ended, held-ended, sorted-ended}
+use Rattle.drf_core.proofs.stepping.Work.{losers-ended}
 use Rattle.drf_core.proofs.cluster.Cluster.end.Goals as goal
 
 pub refund-requires-clause-known : goal.refund-requires-clause-known

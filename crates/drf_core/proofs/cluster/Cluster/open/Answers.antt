@@ -1,4 +1,4 @@
-use Rattle.std.proofs.Common.{sym, ap, refl, ◌∙◌}
+use Rattle.std.proofs.Common.{sym, ap, ◌∙◌}
 use Rattle.drf_core.specs.Content.{content_of}
 use Rattle.drf_core.proofs.cluster.Cluster.open.Goals as goal
 

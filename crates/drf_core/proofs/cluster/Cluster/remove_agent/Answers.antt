@@ -6,7 +6,7 @@ use Rattle.drf_rows.specs.Endings.{all_on, without_ended}
 use Rattle.drf_rows.specs.Held.{cluster_total}
 use Rattle.drf_rows.specs.declared.rows.Rows.{Rows}
 use Rattle.drf_core.specs.Cluster.{ClusterState}
-use Rattle.drf_core.proofs.EndedLemmas.{nothing_left, sorted-departed, effect-departed}
+use Rattle.drf_core.proofs.effects.Ended.{nothing_left, sorted-departed, effect-departed}
 use Rattle.drf_core.proofs.cluster.Cluster.remove_agent.Goals as goal
 
 pub remove_agent-requires-clause-nothing : goal.remove_agent-requires-clause-nothing

@@ -1,4 +1,4 @@
-use Rattle.std.proofs.Common.{◌≡◌, List, Some, length, ap, subst, sym, ◌∙◌, arith}
+use Rattle.std.proofs.Common.{◌≡◌, List, length, ap, subst, sym, ◌∙◌, arith}
 use Rattle.std.specs.Prelude.{filter, find, sum_by}
 use Rattle.drf_role.specs.Path.{Path}
 use Rattle.drf_role.specs.Text.{same_text}
@@ -11,8 +11,8 @@ use Rattle.drf_sorter.specs.Work.{debt}
 use Rattle.drf_core.specs.Cluster.{ClusterState}
 use Rattle.drf_core.specs.Registering.{client_paths}
 use Rattle.drf_core.specs.Working.{losers}
-use Rattle.drf_core.proofs.WorkLemmas.{nodes_of-append, nodes_of-leaving}
-use Rattle.drf_core.proofs.EndedLemmas.{one_found, nothing_left, AreKnown-ended, sorted-left, effect-left}
+use Rattle.drf_core.proofs.stepping.Work.{nodes_of-append, nodes_of-leaving}
+use Rattle.drf_core.proofs.effects.Ended.{one_found, nothing_left, AreKnown-ended, sorted-left, effect-left}
 use Rattle.drf_core.proofs.cluster.Cluster.remove_framework.Goals as goal
 
 pub remove_clients-requires : goal.remove_clients-requires

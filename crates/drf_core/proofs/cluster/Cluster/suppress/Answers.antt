@@ -1,5 +1,5 @@
 use Rattle.std.proofs.Common.{arith}
-use Rattle.drf_core.proofs.EndedLemmas.{known-client, sorted-suppressed, effect-suppressed}
+use Rattle.drf_core.proofs.effects.Ended.{known-client, sorted-suppressed, effect-suppressed}
 use Rattle.drf_core.proofs.cluster.Cluster.suppress.Goals as goal
 
 pub set_active-requires : goal.set_active-requires

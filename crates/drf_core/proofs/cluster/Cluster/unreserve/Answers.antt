@@ -3,7 +3,7 @@ use Rattle.drf_rows.specs.Step.{effect}
 use Rattle.drf_rows.specs.declared.event.Event.TheVariants.{Unreserve}
 use Rattle.drf_rows.specs.declared.rows.Rows.{Rows}
 use Rattle.drf_core.specs.Content.{content_of}
-use Rattle.drf_core.proofs.MovedLemmas.{unreserved-unreserve, exchange-unreserve, effect-unreserved, content_of-unreserved}
+use Rattle.drf_core.proofs.effects.Moved.{unreserved-unreserve, exchange-unreserve, effect-unreserved, content_of-unreserved}
 use Rattle.drf_core.proofs.cluster.Cluster.unreserve.Goals as goal
 
 pub reserved-requires : goal.reserved-requires

@@ -1,0 +1,7 @@
+-- A cycle that is not ended, and what is told of it.
+pub mod Drafts
+pub mod Tried
+pub mod Granted
+pub mod Turn
+pub mod Told
+pub mod Cycle

@@ -1,0 +1,204 @@
+-- The turns of all agents, and the cycle that they are.
+use Rattle.std.proofs.Common.{◌≡◌, ℕ, zero, suc, ◌+◌, ◌*◌, ◌<◌, ◌≤◌, List, [], ◌∷◌, Option, Some, None, true, false, Bool, refl, sym, ap, ◌∙◌, length, cond, arith, drop, add-one, subst}
+use Rattle.std.specs.Prelude.{◌^◌, ◌≢◌, is_some, max, slice_get, filter}
+use Rattle.std.specs.Option.{option_map_or}
+use Rattle.std.proofs.Math.Seq.{drop-append_seam}
+use Rattle.std.proofs.lemmas.List.{length-map}
+use Rattle.drf_bundle.specs.declared.resource.Resource.{Resource}
+use Rattle.drf_rows.specs.Client.{Client}
+use Rattle.drf_rows.specs.Held.{clients_of}
+use Rattle.drf_rows.specs.Cycle.{grant, count_offer, new_offer, with_offer, tried, all_tried, turn_order, turn, turns, cycle}
+use Rattle.drf_rows.specs.laws.CycleLaws.{clients_of-with_offer}
+use Rattle.drf_rows.specs.LimitNumbers.{LimitNumbers}
+use Rattle.drf_rows.specs.Consistent.{IsConsistent}
+use Rattle.drf_rows.specs.Step.{new_offers, refusal_of, effect}
+use Rattle.drf_rows.specs.declared.limits.TheConstants.{LATEST_MOMENT}
+use Rattle.drf_rows.specs.declared.event.Event.TheVariants.{Cycle}
+use Rattle.drf_rows.specs.declared.rows.AgentRow.{AgentRow}
+use Rattle.drf_rows.specs.declared.rows.OfferRow.{OfferRow}
+use Rattle.drf_rows.specs.declared.rows.Rows.{Rows}
+use Rattle.drf_tables.specs.Drafts.{with_offers}
+use Rattle.drf_sorter.specs.Content.{Content}
+use Rattle.drf_core.specs.Content.{content_of}
+use Rattle.drf_core.specs.Kept.{IsKept}
+use Rattle.drf_core.specs.Drafting.{IsDrafting, turn_at, turns_of}
+use Rattle.drf_core.proofs.refusing.Welcome.{early_cycle}
+use Rattle.drf_core.proofs.content.Order.{length-turn_order}
+use Rattle.drf_gates.specs.Quota.{Allowance}
+use Rattle.drf_core.specs.Entitling.{IsQuotaOf}
+use Rattle.drf_tables.specs.DraftLaws.{offers-with_offers}
+use Rattle.drf_tables.specs.Recounting.{CountsAll}
+
+-- what is left of a list from a place on begins with the element there
+pub record BeginsAt {A : Type 0} (xs : List A) (i : ℕ) : Type 0 where
+  pub first : A
+  pub at : slice_get xs i ≡ Some first
+  pub rest : drop i xs ≡ first ∷ drop (i + 1) xs
+
+pub begins_at : {A : Type 0} (xs : List A) (i : ℕ) → i < length xs → BeginsAt xs i
+begins_at [] i h = absurd (omega arith)
+begins_at (x ∷ xs) zero h = record { first = x; at = refl; rest = refl }
+begins_at (x ∷ xs) (suc i) h =
+    let later = begins_at xs i (omega arith) in
+    record { first = later.first; at = later.at; rest = later.rest ∙ rw (add-one i, add-one (suc i)) refl }
+
+-- the next agent has its turn
+turns-step : (rows : Rows) (i : ℕ) → i < length rows.agents
+    → turns (turn_at rows i) (filter (λ a. a.active) (drop (i + 1) rows.agents)) ≡ turns rows (filter (λ a. a.active) (drop i rows.agents))
+turns-step rows i h =
+    let b = begins_at rows.agents i h in
+    ap (λ o. turns (option_map_or (λ a. cond a.active (turn rows a) rows) o rows) (filter (λ a. a.active) (drop (i + 1) rows.agents))) b.at
+    ∙ (by b.first.active refl ∙ sym (ap (λ as'. turns rows (filter (λ a. a.active) as')) b.rest))
+  where
+    b' : BeginsAt rows.agents i
+    b' = begins_at rows.agents i h
+
+    by : (active : Bool) → b'.first.active ≡ active → turns (cond b'.first.active (turn rows b'.first) rows) (filter (λ a. a.active) (drop (i + 1) rows.agents))
+        ≡ turns rows (cond b'.first.active (b'.first ∷ filter (λ a. a.active) (drop (i + 1) rows.agents)) (filter (λ a. a.active) (drop (i + 1) rows.agents)))
+    by true e = rw e refl
+    by false e = rw e refl
+
+pub turns-next : (rows before after : Rows) (i : ℕ) → i < length rows.agents → before.agents ≡ rows.agents → after ≡ turn_at before i
+    → turns before (filter (λ a. a.active) (drop i rows.agents)) ≡ turns_of rows
+    → turns after (filter (λ a. a.active) (drop (i + 1) rows.agents)) ≡ turns_of rows
+turns-next rows before after i within same turned so_far =
+    let there : i < length before.agents = rw same within in
+    ap (λ (r : Rows). turns r (filter (λ a. a.active) (drop (i + 1) rows.agents))) turned
+    ∙ ap (λ (as' : List AgentRow). turns (turn_at before i) (filter (λ a. a.active) (drop (i + 1) as'))) (sym same)
+    ∙ turns-step before i there
+    ∙ ap (λ (as' : List AgentRow). turns before (filter (λ a. a.active) (drop i as'))) same
+    ∙ so_far
+
+-- the drafts are the new offers
+pub new_offers-drafts : (rows : Rows) (offers : List OfferRow) → with_offers rows offers ≡ turns_of rows → new_offers rows (turns_of rows) ≡ offers
+new_offers-drafts rows offers turned =
+    ap (λ (r : Rows). drop (length rows.offers) r.offers) (sym turned)
+    ∙ ap (drop (length rows.offers)) (offers-with_offers rows offers)
+    ∙ drop-append_seam rows.offers offers
+
+-- ---- how many offers a cycle makes at most
+
+tried-next : (rows : Rows) (agent : AgentRow) (client : Client) (granted : Option (List Resource))
+    → (option_map_or (λ b. with_offer rows (new_offer rows agent client b)) granted rows).next_offer ≤ rows.next_offer + 1
+unfolding with_offer
+tried-next rows agent client None = omega arith
+tried-next rows agent client (Some bundle) = omega arith
+
+all_tried-next : (rows : Rows) (agent : AgentRow) (clients : List Client) → (all_tried rows agent clients).next_offer ≤ rows.next_offer + length clients
+all_tried-next rows agent [] = omega arith
+all_tried-next rows agent (client ∷ clients) =
+    omega (arith, all_tried-next (tried rows agent client) agent clients, tried-next rows agent client (grant rows agent client))
+
+tried-clients : (rows : Rows) (agent : AgentRow) (client : Client) (granted : Option (List Resource))
+    → clients_of (option_map_or (λ b. with_offer rows (new_offer rows agent client b)) granted rows) ≡ clients_of rows
+tried-clients rows agent client None = refl
+tried-clients rows agent client (Some bundle) = clients_of-with_offer rows (new_offer rows agent client bundle)
+
+all_tried-clients : (rows : Rows) (agent : AgentRow) (clients : List Client) → clients_of (all_tried rows agent clients) ≡ clients_of rows
+all_tried-clients rows agent [] = refl
+all_tried-clients rows agent (client ∷ clients) =
+    all_tried-clients (tried rows agent client) agent clients ∙ tried-clients rows agent client (grant rows agent client)
+
+pub turns-clients : (rows : Rows) (agents : List AgentRow) → clients_of (turns rows agents) ≡ clients_of rows
+unfolding turn
+turns-clients rows [] = refl
+turns-clients rows (agent ∷ agents) = turns-clients (turn rows agent) agents ∙ all_tried-clients rows agent (turn_order rows)
+
+-- the agents stay, and as many frameworks
+tried-tables : (rows : Rows) (agent : AgentRow) (client : Client) (granted : Option (List Resource))
+    → let after : Rows = option_map_or (λ b. with_offer rows (new_offer rows agent client b)) granted rows in
+    (after.agents ≡ rows.agents) × (length after.frameworks ≡ length rows.frameworks) × (after.accepted ≡ rows.accepted)
+unfolding with_offer
+tried-tables rows agent client None = (refl, refl, refl)
+tried-tables rows agent client (Some bundle) = (refl, length-map rows.frameworks (count_offer client), refl)
+
+all_tried-tables : (rows : Rows) (agent : AgentRow) (clients : List Client)
+    → ((all_tried rows agent clients).agents ≡ rows.agents) × (length (all_tried rows agent clients).frameworks ≡ length rows.frameworks) × ((all_tried rows agent clients).accepted ≡ rows.accepted)
+all_tried-tables rows agent [] = (refl, refl, refl)
+all_tried-tables rows agent (client ∷ clients) =
+    let later = all_tried-tables (tried rows agent client) agent clients in
+    let first = tried-tables rows agent client (grant rows agent client) in
+    (later.0 ∙ first.0, later.1 ∙ first.1, later.2 ∙ first.2)
+
+pub turns-tables : (rows : Rows) (agents : List AgentRow)
+    → ((turns rows agents).agents ≡ rows.agents) × (length (turns rows agents).frameworks ≡ length rows.frameworks) × ((turns rows agents).accepted ≡ rows.accepted)
+unfolding turn
+turns-tables rows [] = (refl, refl, refl)
+turns-tables rows (agent ∷ agents) =
+    let later = turns-tables (turn rows agent) agents in
+    let first = all_tried-tables rows agent (turn_order rows) in
+    (later.0 ∙ first.0, later.1 ∙ first.1, later.2 ∙ first.2)
+
+pub turns-next_offer : (rows : Rows) (agents : List AgentRow) → (turns rows agents).next_offer ≤ rows.next_offer + length agents * length (clients_of rows)
+unfolding turn
+turns-next_offer rows [] = omega arith
+turns-next_offer rows (agent ∷ agents) =
+    let later = turns-next_offer (turn rows agent) agents in
+    let first = all_tried-next rows agent (turn_order rows) in
+    let order = length-turn_order rows in
+    let same : length (clients_of (turn rows agent)) ≡ length (clients_of rows) = ap length (all_tried-clients rows agent (turn_order rows)) in
+    let rest : (turns (turn rows agent) agents).next_offer ≤ (turn rows agent).next_offer + length agents * length (clients_of rows) =
+    subst (λ n. (turns (turn rows agent) agents).next_offer ≤ (turn rows agent).next_offer + length agents * n) same later in
+    omega (arith, rest, first, order)
+
+-- ---- a cycle begins, and is ended
+
+-- the clock stays within its range
+pub early_moment : (limits : LimitNumbers) (rows : Rows) (at moment : ℕ) → rows.clock ≤ LATEST_MOMENT → refusal_of limits rows (Cycle at) ≡ None
+    → moment ≡ max rows.clock at → moment ≤ LATEST_MOMENT
+early_moment limits rows at moment early none same =
+    let late : at ≤ LATEST_MOMENT = early_cycle limits rows at none in
+    omega (arith, early, late, same)
+
+-- consistent rows stay so when the clock moves
+pub consistent-clock : (rows : Rows) (clock : ℕ) → IsConsistent rows → clock ≤ LATEST_MOMENT → IsConsistent (record rows { clock = clock })
+consistent-clock rows clock right early = record {
+  agents = right.agents;
+  frameworks = right.frameworks;
+  holdings = right.holdings;
+  covered = right.covered;
+  tasks = right.tasks;
+  weights = right.weights;
+  limits = right.limits;
+  filters = right.filters;
+  early = early;
+  counted = right.counted;
+  numbered = right.numbered;
+}
+
+pub content_of-clock : (rows : Rows) (clock : ℕ) → content_of (record rows { clock = clock }) ≡ content_of rows
+unfolding content_of
+content_of-clock rows clock = refl
+
+-- there are no drafts yet
+pub drafting-begins : (content : Content) (limits : LimitNumbers) (rows tables : Rows) (clock : ℕ) (offers : List OfferRow) → content ≡ content_of rows
+    → IsKept limits rows → clock ≤ LATEST_MOMENT → tables ≡ record rows { clock = clock } → offers ≡ [] → IsDrafting content tables offers
+drafting-begins content limits rows tables clock offers sorted kept moment same none =
+    let events : rows.accepted ≤ 4294967295 = omega (arith, kept.few.events, kept.few.ceilings.events.1) in
+    let numbered : rows.next_offer ≤ 1 + rows.accepted * 2 ^ 24 = kept.numbered in
+    rw (same, none) (record {
+      sorted = sorted ∙ sym (content_of-clock rows clock);
+      consistent = consistent-clock rows clock kept.consistent moment;
+      clients = tt;
+      few_agents = omega (arith, kept.few.agents, kept.few.ceilings.agents.1);
+      low_number = omega (arith, numbered, events);
+    })
+
+-- the turns are the cycle
+pub turns_of-cycle : (rows tables : Rows) (at clock : ℕ) → clock ≡ max rows.clock at → tables ≡ record rows { clock = clock } → turns_of tables ≡ effect rows (Cycle at)
+unfolding effect cycle
+turns_of-cycle rows tables at clock moment same = ap turns_of same ∙ ap (λ n. turns_of (record rows { clock = n })) moment
+
+pub new_offers-cycle : (rows tables : Rows) (clock : ℕ) (after : Rows) → tables ≡ record rows { clock = clock } → new_offers tables after ≡ new_offers rows after
+new_offers-cycle rows tables clock after same = ap (λ (r : Rows). new_offers r after) same
+
+-- ---- what the drafts' quota counts
+
+pub counts_all : (rows : Rows) (quota : Option Allowance) → IsQuotaOf rows quota → CountsAll rows quota
+counts_all rows None none = tt
+counts_all rows (Some a) is = is
+
+-- where any role has a limit, there is a quota
+pub is_counting : (rows : Rows) (quota : Option Allowance) → IsQuotaOf rows quota → rows.limits ≢ [] → is_some quota ≡ true
+is_counting rows None none some = absurd (some none)
+is_counting rows (Some a) is some = refl

@@ -1,0 +1,266 @@
+-- What is told of a cycle, client by client and agent by agent.
+use Rattle.std.proofs.Common.{◌≡◌, ℕ, ◌+◌, ◌<◌, suc, Bool, true, false, ◌&&◌, List, [], ◌∷◌, ◌++◌, Option, Some, None, length, map, drop, refl, sym, ap, subst, ◌∙◌, cond, arith, append_assoc}
+use Rattle.std.specs.Prelude.{slice_get, is_some, filter, max}
+use Rattle.std.specs.List.{AllByRecursion}
+use Rattle.std.specs.Option.{option_map_or}
+use Rattle.std.proofs.lemmas.Bool.{lt-ltb}
+use Rattle.std.proofs.lemmas.List.{length-map}
+use Rattle.drf_role.specs.Path.{Path, role_part}
+use Rattle.drf_role.specs.PathLaws.{role_part-client_path}
+use Rattle.drf_role.specs.Text.{Text}
+use Rattle.drf_bundle.specs.Bundle.{part_for}
+use Rattle.drf_bundle.specs.declared.resource.Resource.{Resource}
+use Rattle.drf_gates.specs.Quota.{Allowance}
+use Rattle.drf_rows.specs.Client.{Client, path_of}
+use Rattle.drf_rows.specs.Cycle.{free_of, is_allocatable, with_offer, tried, all_tried, turn, turn_order, at_moment}
+use Rattle.drf_rows.specs.Filters.{is_in_force, holds_back}
+use Rattle.drf_rows.specs.Held.{is_registered}
+use Rattle.drf_rows.specs.Offers.{is_empty}
+use Rattle.drf_rows.specs.Quota.{entitlement}
+use Rattle.drf_rows.specs.Step.{live_rows}
+use Rattle.drf_rows.specs.declared.rows.AgentRow.{AgentRow}
+use Rattle.drf_rows.specs.declared.rows.FilterRow.{FilterRow}
+use Rattle.drf_rows.specs.declared.rows.OfferRow.{OfferRow}
+use Rattle.drf_rows.specs.declared.rows.Rows.{Rows}
+use Rattle.drf_explain.specs.Explained.{outcome, outcome_by, told_of_all, told_of_active, told_of_agent, after_agent, told_of_agents, suppressed_of, explained}
+use Rattle.drf_explain.specs.ExplainedLaws.{filter_weaker, in_force_before, nothing_free}
+use Rattle.drf_explain.specs.Gates.{AreGatesOf}
+use Rattle.drf_explain.specs.declared.finding.Finding.{Finding}
+use Rattle.drf_explain.specs.declared.finding.Finding.TheVariants.{Inactive, NothingFree, Tried, Left}
+use Rattle.drf_explain.specs.declared.finding.Outcome.{Outcome}
+use Rattle.drf_explain.specs.declared.gates.Gates.{Gates}
+use Rattle.drf_sorter.specs.Content.{Content, IsOrderOf}
+use Rattle.drf_tables.specs.Drafts.{with_offers}
+use Rattle.drf_tables.specs.DraftLaws.{agents-with_offers}
+use Rattle.drf_core.specs.Drafting.{IsDrafting, IsTried, is_open_at, turn_at}
+use Rattle.drf_core.specs.Entitling.{IsEntitlement, IsQuotaOf}
+use Rattle.drf_core.specs.Explaining.{IsOutcomeOf, left_told, told_at}
+use Rattle.drf_core.proofs.drafting.Cycle.{begins_at}
+use Rattle.drf_core.proofs.drafting.Turn.{AreWaiting, element_at, ordered_from, turn_at-closed}
+
+-- ---- what decides stays while offers are drafts
+
+kept-with_offers : (rows : Rows) (offers : List OfferRow)
+    → ((with_offers rows offers).filters ≡ rows.filters) × ((with_offers rows offers).clock ≡ rows.clock) × ((with_offers rows offers).limits ≡ rows.limits)
+unfolding with_offer
+kept-with_offers rows [] = (refl, refl, refl)
+kept-with_offers rows (o ∷ os) = kept-with_offers (with_offer rows o) os
+
+pub gates-drafts : (rows : Rows) (offers : List OfferRow) (agent : AgentRow) (gates : Gates) → AreGatesOf rows agent gates
+    → AreGatesOf (with_offers rows offers) agent gates
+gates-drafts rows offers agent gates are =
+    let kept = kept-with_offers rows offers in
+    record {
+      name = are.name;
+      moment = are.moment ∙ sym kept.1;
+      filters = λ client bundle.
+          subst (λ (q : List FilterRow × ℕ). filter (holds_back q.1 client agent.name bundle) gates.filters.items ≡ filter (holds_back q.1 client agent.name bundle) q.0)
+          (λ i. (sym kept.0 i, sym kept.1 i)) (are.filters client bundle);
+      limits = are.limits ∙ sym kept.2;
+    }
+
+-- filters that have run out hold nothing back
+pub gates-live : (rows : Rows) (agent : AgentRow) (gates : Gates) → AreGatesOf (live_rows rows) agent gates → AreGatesOf rows agent gates
+gates-live rows agent gates are = record {
+  name = are.name;
+  moment = are.moment;
+  filters = λ client bundle.
+      are.filters client bundle
+      ∙ filter_weaker (holds_back rows.clock client agent.name bundle) (is_in_force rows.clock)
+      (in_force_before rows.clock rows.clock client agent.name bundle (omega arith)) rows.filters;
+  limits = are.limits;
+}
+
+-- ---- what comes of a client
+
+pub finding-is : (rows : Rows) (agent : AgentRow) (path : Path) (quota : Option Allowance) (free part bundle : List Resource) (name : Text) (of : Path) (what : Outcome)
+    → ((client : Client) → path ≡ path_of client → what ≡ outcome_by rows agent client part bundle)
+    → part ≡ part_for (role_part path) free → IsEntitlement quota free (role_part path) bundle → IsQuotaOf rows quota
+    → free ≡ free_of rows agent → name ≡ agent.name → of ≡ path → IsOutcomeOf rows agent path (Tried name of what)
+finding-is rows agent path quota free part bundle name of what comes parted entitled counted is_free named same client joined =
+    let role : role_part path ≡ client.role = ap role_part joined ∙ role_part-client_path client.role client.framework in
+    let its_part : part ≡ part_for client.role (free_of rows agent) = parted ∙ (λ i. part_for (role i) (is_free i)) in
+    let its_bundle : bundle ≡ entitlement rows (free_of rows agent) client =
+    entitled rows client counted (sym role) ∙ ap (λ (f : List Resource). entitlement rows f client) is_free in
+    let its : what ≡ outcome rows agent client = comes client joined ∙ (λ i. outcome_by rows agent client (its_part i) (its_bundle i)) in
+    let path_is : of ≡ path_of client = same ∙ joined in
+    λ i. Tried (named i) (path_is i) (its i)
+
+-- ---- clients that wait
+
+-- the clients that are still to be tried: to try them and to tell of them gives what trying and telling of all gives
+pub record AreTold (rows : Rows) (place : ℕ) (start now : Rows) (queue : List Path) (before findings : List Finding) : Type 0 where
+  pub clients : List Client
+  pub queued : queue ≡ map path_of clients
+  pub known : AllByRecursion (λ c. is_registered rows.frameworks c ≡ true) clients
+  pub same : (agent : AgentRow) → slice_get rows.agents place ≡ Some agent → all_tried now agent clients ≡ all_tried start agent (turn_order start)
+  pub told : (agent : AgentRow) → slice_get rows.agents place ≡ Some agent
+      → findings ++ told_of_all now agent clients ≡ before ++ told_of_all start agent (turn_order start)
+
+pub waiting_of : (rows : Rows) (place : ℕ) (start now : Rows) (queue : List Path) (before findings : List Finding)
+    → AreTold rows place start now queue before findings → AreWaiting rows place start now queue
+waiting_of rows place start now queue before findings are =
+    record { clients = are.clients; queued = are.queued; known = are.known; same = are.same }
+
+module _ (content : Content) (rows : Rows) (offers : List OfferRow) (drafting : IsDrafting content rows offers) where
+  pub told-begins : (place : ℕ) (queue : List Path) (findings : List Finding) → IsOrderOf content queue
+      → AreTold rows place (with_offers rows offers) (with_offers rows offers) queue findings findings
+  told-begins place queue findings order =
+      let ordered = ordered_from content rows offers drafting queue order in
+      record { clients = turn_order (with_offers rows offers); queued = ordered.same; known = ordered.known; same = λ agent at. refl; told = λ agent at. refl }
+
+  -- the order has as many clients whoever asks
+  pub as_many : (paths queue : List Path) → IsOrderOf content paths → IsOrderOf content queue → length paths ≡ length queue
+  as_many paths queue first second =
+      ap length ((ordered_from content rows offers drafting paths first).same ∙ sym (ordered_from content rows offers drafting queue second).same)
+
+module _ (rows : Rows) (place : ℕ) (start now : Rows) (queue : List Path) (before findings : List Finding)
+    (are : AreTold rows place start now queue before findings) where
+  -- when one was tried and told of, the others wait
+  pub told-passed : (after : Rows) (left : List Path) (next : List Finding) (path : Path) → now.agents ≡ rows.agents → slice_get queue 0 ≡ Some path
+      → IsTried now after place path → left ≡ drop 1 queue
+      → ((agent : AgentRow) → slice_get rows.agents place ≡ Some agent → is_allocatable (free_of now agent) ≡ true)
+      → ((agent : AgentRow) → slice_get rows.agents place ≡ Some agent
+      → (finding : Finding) × IsOutcomeOf now agent path finding × (next ≡ findings ++ finding ∷ []))
+      → AreTold rows place start after left before next
+  told-passed after left next path agents first tried_is left_is worth said = by are.clients are.queued are.known are.same are.told
+    where
+      by : (clients : List Client) → queue ≡ map path_of clients → AllByRecursion (λ c. is_registered rows.frameworks c ≡ true) clients
+          → ((agent : AgentRow) → slice_get rows.agents place ≡ Some agent → all_tried now agent clients ≡ all_tried start agent (turn_order start))
+          → ((agent : AgentRow) → slice_get rows.agents place ≡ Some agent
+          → findings ++ told_of_all now agent clients ≡ before ++ told_of_all start agent (turn_order start))
+          → AreTold rows place start after left before next
+      by [] queued known same told = let nothing : Some path ≡ None = sym first ∙ ap (λ ps. slice_get ps 0) queued in absurd cc
+      by (c ∷ cs) queued known same told =
+          let here : Some path ≡ Some (path_of c) = sym first ∙ ap (λ ps. slice_get ps 0) queued in
+          let joined : path ≡ path_of c = cc in
+          record {
+            clients = cs;
+            queued = left_is ∙ ap (λ ps. drop 1 ps) queued;
+            known = known.1;
+            same = λ agent at.
+                ap (λ (r : Rows). all_tried r agent cs) (tried_is agent c (ap (λ as'. slice_get as' place) agents ∙ at) joined) ∙ same agent at;
+            told = λ agent at.
+                let f = said agent at in
+                let next_rows : after ≡ tried now agent c = tried_is agent c (ap (λ as'. slice_get as' place) agents ∙ at) joined in
+                ap (λ fs. fs ++ told_of_all after agent cs) f.2
+                ∙ append_assoc findings (f.0 ∷ []) (told_of_all after agent cs)
+                ∙ (λ i. findings ++ f.1 c joined i ∷ told_of_all (next_rows i) agent cs)
+                ∙ ap (λ b. findings ++ cond b (Tried agent.name (path_of c) (outcome now agent c) ∷ told_of_all (tried now agent c) agent cs)
+                (Left agent.name (free_of now agent) (suc (length cs)) ∷ [])) (sym (worth agent at))
+                ∙ told agent at;
+          }
+
+  -- when none waits, or where too little is left to grant, all that is to be told was told
+  pub told-over : (free : List Resource) (waiting : ℕ) (next : List Finding) → (is_some (slice_get queue 0) && is_allocatable free) ≡ false
+      → waiting ≡ length queue
+      → (agent : AgentRow) → slice_get rows.agents place ≡ Some agent → free ≡ free_of now agent
+      → next ≡ findings ++ left_told agent.name free waiting
+      → next ≡ before ++ told_of_all start agent (turn_order start)
+  told-over free waiting next over counted agent at is_free added = by are.clients are.queued (are.told agent at)
+    where
+      by : (clients : List Client) → queue ≡ map path_of clients
+          → findings ++ told_of_all now agent clients ≡ before ++ told_of_all start agent (turn_order start)
+          → next ≡ before ++ told_of_all start agent (turn_order start)
+      by [] queued told =
+          let none : waiting ≡ 0 = counted ∙ ap length queued in
+          added ∙ ap (λ n. findings ++ left_told agent.name free n) none ∙ told
+      by (c ∷ cs) queued told =
+          let little : is_allocatable (free_of now agent) ≡ false =
+          ap is_allocatable (sym is_free) ∙ sym (ap (λ ps. is_some (slice_get ps 0) && is_allocatable free) queued) ∙ over in
+          let many : waiting ≡ suc (length cs) = counted ∙ ap length queued ∙ ap suc (length-map cs path_of) in
+          added
+          ∙ (λ i. findings ++ left_told agent.name (is_free i) (many i))
+          ∙ ap (λ b. findings ++ cond b (Left agent.name (free_of now agent) (suc (length cs)) ∷ []) []) (lt-ltb 0 (suc (length cs)) (omega arith))
+          ∙ ap (λ b. findings ++ cond b (Tried agent.name (path_of c) (outcome now agent c) ∷ told_of_all (tried now agent c) agent cs)
+          (Left agent.name (free_of now agent) (suc (length cs)) ∷ [])) (sym little)
+          ∙ told
+
+-- the first passed by, one fewer waits
+pub one_fewer : (queue : List Path) (worth : Bool) → (is_some (slice_get queue 0) && worth) ≡ true → length queue ≡ length (drop 1 queue) + 1
+one_fewer [] worth some = cc
+one_fewer (path ∷ queue) worth some = omega arith
+
+-- ---- the turn of an agent
+
+-- it stands at its place with drafts too
+pub agent_in : (rows : Rows) (offers : List OfferRow) (place : ℕ) → place < length rows.agents
+    → (a : AgentRow) × (slice_get rows.agents place ≡ Some a) × (slice_get (with_offers rows offers).agents place ≡ Some a)
+agent_in rows offers place inside =
+    let agent = element_at rows.agents place inside in
+    (agent.0, agent.1, ap (λ as'. slice_get as' place) (agents-with_offers rows offers) ∙ agent.1)
+
+module _ (rows : Rows) (place : ℕ) (agent : AgentRow) (at : slice_get rows.agents place ≡ Some agent) where
+  pub told_at-agent : told_at rows place ≡ told_of_agent rows agent
+  told_at-agent = ap (λ o. option_map_or (told_of_agent rows) o []) at
+
+  pub turn_at-agent : turn_at rows place ≡ after_agent rows agent
+  turn_at-agent = ap (λ o. option_map_or (λ a. cond a.active (turn rows a) rows) o rows) at
+
+  pub told_at-idle : agent.active ≡ false → Inactive agent.name ∷ [] ≡ told_at rows place
+  told_at-idle idle =
+      sym (told_at-agent ∙ ap (λ b. cond b (told_of_active rows agent) (Inactive agent.name ∷ [])) idle)
+
+  pub told_at-full : agent.active ≡ true → is_empty (free_of rows agent) ≡ true → NothingFree agent.name ∷ [] ≡ told_at rows place
+  told_at-full active none =
+      sym (told_at-agent ∙ ap (λ b. cond b (told_of_active rows agent) (Inactive agent.name ∷ [])) active
+      ∙ ap (λ b. cond b (NothingFree agent.name ∷ []) (told_of_all rows agent (turn_order rows))) none)
+
+  pub told_at-tried : agent.active ≡ true → is_empty (free_of rows agent) ≡ false → told_of_all rows agent (turn_order rows) ≡ told_at rows place
+  told_at-tried active some =
+      sym (told_at-agent ∙ ap (λ b. cond b (told_of_active rows agent) (Inactive agent.name ∷ [])) active
+      ∙ ap (λ b. cond b (NothingFree agent.name ∷ []) (told_of_all rows agent (turn_order rows))) some)
+
+  open-idle : agent.active ≡ false → is_open_at rows place ≡ false
+  open-idle idle =
+      ap (λ o. option_map_or (λ a. a.active && is_allocatable (free_of rows a)) o false) at
+      ∙ ap (λ b. b && is_allocatable (free_of rows agent)) idle
+
+  open-full : is_empty (free_of rows agent) ≡ true → is_open_at rows place ≡ false
+  open-full none =
+      ap (λ o. option_map_or (λ a. a.active && is_allocatable (free_of rows a)) o false) at
+      ∙ ap (λ b. agent.active && b) (nothing_free (free_of rows agent) none)
+      ∙ never agent.active
+    where
+      never : (b : Bool) → (b && false) ≡ false
+      never true = refl
+      never false = refl
+
+  pub turn_at-idle : agent.active ≡ false → rows ≡ turn_at rows place
+  turn_at-idle idle = turn_at-closed rows place (open-idle idle)
+
+  pub turn_at-full : is_empty (free_of rows agent) ≡ true → rows ≡ turn_at rows place
+  turn_at-full none = turn_at-closed rows place (open-full none)
+
+  pub turn_at-tried : agent.active ≡ true → all_tried rows agent (turn_order rows) ≡ turn_at rows place
+  unfolding turn
+  turn_at-tried active = sym (turn_at-agent ∙ ap (λ b. cond b (all_tried rows agent (turn_order rows)) rows) active)
+
+-- ---- the turns of all agents
+
+-- the next agent has its turn
+pub told-next : (rows before after : Rows) (i : ℕ) (first findings next : List Finding) → i < length rows.agents → before.agents ≡ rows.agents
+    → after ≡ turn_at before i → next ≡ findings ++ told_at before i
+    → findings ++ told_of_agents before (drop i rows.agents) ≡ first ++ told_of_agents rows rows.agents
+    → next ++ told_of_agents after (drop (i + 1) rows.agents) ≡ first ++ told_of_agents rows rows.agents
+told-next rows before after i first findings next within same turned added so_far =
+    let b = begins_at rows.agents i within in
+    let at : slice_get before.agents i ≡ Some b.first = ap (λ as'. slice_get as' i) same ∙ b.at in
+    let later : List AgentRow = drop (i + 1) rows.agents in
+    ap (λ fs. fs ++ told_of_agents after later) (added ∙ ap (λ fs. findings ++ fs) (told_at-agent before i b.first at))
+    ∙ append_assoc findings (told_of_agent before b.first) (told_of_agents after later)
+    ∙ ap (λ (r : Rows). findings ++ (told_of_agent before b.first ++ told_of_agents r later)) (turned ∙ turn_at-agent before i b.first at)
+    ∙ ap (λ as'. findings ++ told_of_agents before as') (sym b.rest)
+    ∙ so_far
+
+-- ---- the cycle
+
+pub explained-is : (rows tables live : Rows) (at moment : ℕ) (first findings : List Finding) → moment ≡ max rows.clock at
+    → tables ≡ record rows { clock = moment } → live ≡ live_rows tables → first ≡ suppressed_of live
+    → findings ≡ first ++ told_of_agents tables tables.agents → findings ≡ explained rows at
+unfolding explained
+explained-is rows tables live at moment first findings late same is begins told =
+    let moved : tables ≡ at_moment rows at = same ∙ ap (λ n. record rows { clock = n }) late in
+    told
+    ∙ ap (λ fs. fs ++ told_of_agents tables tables.agents) (begins ∙ ap suppressed_of (is ∙ ap live_rows moved))
+    ∙ ap (λ (r : Rows). suppressed_of rows ++ told_of_agents r r.agents) moved

@@ -1,0 +1,7 @@
+-- What the tables and the sorter hold after events that are not refused.
+pub mod Moved
+pub mod Weighed
+pub mod Registered
+pub mod Ended
+pub mod Accepted
+pub mod Answered

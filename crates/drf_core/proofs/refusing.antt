@@ -1,0 +1,4 @@
+-- Tests of refusal.
+pub mod Welcome
+pub mod Late
+pub mod Tests

@@ -1,0 +1,196 @@
+-- Steps and runs of a core.
+use Rattle.std.proofs.Common.{◌≡◌, ℕ, zero, suc, ◌+◌, Option, List, [], ◌∷◌, ◌++◌, Some, None, take, refl, sym, ap, subst, ◌∙◌, arith, add-one}
+use Rattle.std.specs.Prelude.{slice_get}
+use Rattle.drf_rows.specs.LimitNumbers.{LimitNumbers, IsWithinCeilings}
+use Rattle.drf_rows.specs.Step.{opening, live_rows, first_case, refusal_of, effect, answer, rows_after, rows_after_all, reply_to, replies_to}
+use Rattle.drf_rows.specs.Consistent.{IsConsistent, IsNumberedByEvents}
+use Rattle.drf_rows.specs.laws.StepLaws.{reply_to-refused, reply_to-accepted, rows_after-refused, rows_after-accepted}
+use Rattle.drf_rows.specs.laws.RunLaws.{rows_after_all-append, replies_to-append}
+use Rattle.drf_rows.specs.laws.LiveLaws.{reply_to-same_live, rows_after-same_live}
+use Rattle.drf_rows.specs.laws.RegistrationLaws.{IsConsistent-opening}
+use Rattle.drf_rows.specs.declared.event.Event.{Event}
+use Rattle.drf_rows.specs.declared.event.Event.TheVariants.{AddAgent, RemoveAgent, ActivateAgent, DeactivateAgent, SetAgent, AddFramework, RemoveFramework, Accept, Decline, Rescind, Finish, Suppress, Revive, Reserve, Unreserve, SetWeight, SetLimit, Cycle, Report}
+use Rattle.drf_rows.specs.declared.reply.Refusal.{Refusal}
+use Rattle.drf_rows.specs.declared.reply.Reply.{Reply}
+use Rattle.drf_rows.specs.declared.reply.Reply.TheVariants.{Refused}
+use Rattle.drf_rows.specs.declared.rows.Rows.{Rows}
+use Rattle.drf_core.specs.Machine.{Engine, IsAfter, IsAfterAll}
+use Rattle.drf_core.specs.Kept.{AreFew, IsKept}
+use Rattle.drf_core.specs.Refusing.{cases_of_agent, cases_of_move, early_refusal_of}
+use Rattle.drf_core.proofs.stepping.Kept.{IsCountable, countable_after}
+use Rattle.drf_core.proofs.refusing.Tests.{told_early}
+
+-- the elements up to one, and that one
+pub take_one_more : {X : Type 0} (xs : List X) (i : ℕ) (x : X) → slice_get xs i ≡ Some x → take (i + 1) xs ≡ take i xs ++ x ∷ []
+take_one_more [] i x at = cc
+take_one_more (y ∷ xs) zero x at = let same : y ≡ x = cc in ap (λ z. z ∷ []) same
+take_one_more (y ∷ xs) (suc i) x at = rw (add-one (suc i)) (ap (λ zs. y ∷ zs) (rw (add-one i) at (take_one_more xs i x at)))
+
+pub IsKept-opening : (limits : LimitNumbers) (rows : Rows) → rows ≡ opening → IsWithinCeilings limits → IsKept limits rows
+IsKept-opening limits rows opens within = rw opens (record {
+  consistent = IsConsistent-opening;
+  few = record { ceilings = within; agents = omega arith; frameworks = omega arith; clients = omega arith; weights = omega arith; events = omega arith };
+  numbered = omega arith;
+})
+
+-- ---- a step
+
+-- filters are forgotten
+pub IsKept-forgot : (limits : LimitNumbers) (rows new : Rows) → IsKept limits rows
+    → new ≡ record rows { filters = new.filters } → IsConsistent new → IsKept limits new
+IsKept-forgot limits rows new kept same right = record {
+  consistent = right;
+  few = rw same (record {
+    ceilings = kept.few.ceilings;
+    agents = kept.few.agents;
+    frameworks = kept.few.frameworks;
+    clients = kept.few.clients;
+    weights = kept.few.weights;
+    events = kept.few.events;
+  });
+  numbered = rw same kept.numbered;
+}
+
+-- rows that stand for old ones: kept, and with the same live rows
+pub record IsReady (limits : LimitNumbers) (old rows : Rows) : Type 0 where
+  pub kept : IsKept limits rows
+  pub live : live_rows rows ≡ live_rows old
+
+-- filters were forgotten, and then a test of refusal left the rows alone
+pub IsReady-tested : (limits : LimitNumbers) (old forgot tested : Rows) → IsKept limits old
+    → live_rows forgot ≡ live_rows old → forgot ≡ record old { filters = forgot.filters } → IsConsistent forgot → tested ≡ forgot
+    → IsReady limits old tested
+IsReady-tested limits old forgot tested kept live others right same =
+    subst (IsReady limits old) (sym same) (record { kept = IsKept-forgot limits old forgot kept others right; live = live })
+
+-- what is answered to an event that is not refused is no refusal
+answer_told : (before after : Rows) (event : Event) (refusal : Refusal) → answer before after event ≡ Refused refusal → Some refusal ≡ None
+answer_told before after (AddAgent agent total) refusal told = cc
+answer_told before after (RemoveAgent agent) refusal told = cc
+answer_told before after (ActivateAgent agent) refusal told = cc
+answer_told before after (DeactivateAgent agent) refusal told = cc
+answer_told before after (SetAgent agent total) refusal told = cc
+answer_told before after (AddFramework framework roles) refusal told = cc
+answer_told before after (RemoveFramework framework) refusal told = cc
+answer_told before after (Accept a) refusal told = cc
+answer_told before after (Decline d) refusal told = cc
+answer_told before after (Rescind offer) refusal told = cc
+answer_told before after (Finish framework task) refusal told = cc
+answer_told before after (Suppress framework role) refusal told = cc
+answer_told before after (Revive framework role) refusal told = cc
+answer_told before after (Reserve agent role resources) refusal told = cc
+answer_told before after (Unreserve agent role resources) refusal told = cc
+answer_told before after (SetWeight role weight) refusal told = cc
+answer_told before after (SetLimit role limit) refusal told = cc
+answer_told before after (Cycle at) refusal told = cc
+answer_told before after Report refusal told = cc
+
+-- from rows that have the same live rows
+module _ (limits : LimitNumbers) (rows old : Rows) (event : Event) (live : live_rows rows ≡ live_rows old) where
+  pub refused_from : (refusal : Refusal) → refusal_of limits rows event ≡ Some refusal
+      → (Refused refusal ≡ reply_to limits old event) × (live_rows rows ≡ live_rows (rows_after limits old event))
+  refused_from refusal case = (
+    sym (reply_to-refused limits rows event refusal case) ∙ reply_to-same_live limits rows old live event,
+    ap live_rows (sym (rows_after-refused limits rows event refusal case)) ∙ rows_after-same_live limits rows old live event,
+  )
+
+  pub welcome_from : refusal_of limits rows event ≡ None → refusal_of limits old event ≡ None
+  welcome_from none = by (refusal_of limits old event) refl
+    where
+      by : (found : Option Refusal) → refusal_of limits old event ≡ found → refusal_of limits old event ≡ None
+      by None case = case
+      by (Some refusal) case =
+          let told : answer rows (effect rows event) event ≡ Refused refusal
+          = sym (reply_to-accepted limits rows event none) ∙ reply_to-same_live limits rows old live event
+          ∙ reply_to-refused limits old event refusal case in
+          case ∙ answer_told rows (effect rows event) event refusal told
+
+  pub accepted_from : refusal_of limits rows event ≡ None
+      → (answer rows (effect rows event) event ≡ reply_to limits old event)
+      × (live_rows (rows_after limits rows event) ≡ live_rows (rows_after limits old event))
+  accepted_from none = (
+    sym (reply_to-accepted limits rows event none) ∙ reply_to-same_live limits rows old live event,
+    rows_after-same_live limits rows old live event,
+  )
+
+-- no early case holds of rows with the same live rows
+pub early_from : (limits : LimitNumbers) (rows old : Rows) (event : Event) → live_rows rows ≡ live_rows old
+    → early_refusal_of limits rows event ≡ None → early_refusal_of limits old event ≡ None
+unfolding early_refusal_of refusal_of
+early_from limits rows old (AddAgent agent total) live none = welcome_from limits rows old (AddAgent agent total) live none
+early_from limits rows old (RemoveAgent agent) live none = welcome_from limits rows old (RemoveAgent agent) live none
+early_from limits rows old (ActivateAgent agent) live none = welcome_from limits rows old (ActivateAgent agent) live none
+early_from limits rows old (DeactivateAgent agent) live none = welcome_from limits rows old (DeactivateAgent agent) live none
+early_from limits rows old (SetAgent agent total) live none = subst (λ (r : Rows). first_case (cases_of_agent limits r agent) ≡ None) live none
+early_from limits rows old (AddFramework framework roles) live none = welcome_from limits rows old (AddFramework framework roles) live none
+early_from limits rows old (RemoveFramework framework) live none = welcome_from limits rows old (RemoveFramework framework) live none
+early_from limits rows old (Accept a) live none = welcome_from limits rows old (Accept a) live none
+early_from limits rows old (Decline d) live none = welcome_from limits rows old (Decline d) live none
+early_from limits rows old (Rescind offer) live none = welcome_from limits rows old (Rescind offer) live none
+early_from limits rows old (Finish framework task) live none = welcome_from limits rows old (Finish framework task) live none
+early_from limits rows old (Suppress framework role) live none = welcome_from limits rows old (Suppress framework role) live none
+early_from limits rows old (Revive framework role) live none = welcome_from limits rows old (Revive framework role) live none
+early_from limits rows old (Reserve agent role resources) live none = subst (λ (r : Rows). first_case (cases_of_move limits r agent role resources) ≡ None) live none
+early_from limits rows old (Unreserve agent role resources) live none = subst (λ (r : Rows). first_case (cases_of_move limits r agent role resources) ≡ None) live none
+early_from limits rows old (SetWeight role weight) live none = welcome_from limits rows old (SetWeight role weight) live none
+early_from limits rows old (SetLimit role limit) live none = welcome_from limits rows old (SetLimit role limit) live none
+early_from limits rows old (Cycle at) live none = welcome_from limits rows old (Cycle at) live none
+early_from limits rows old Report live none = welcome_from limits rows old Report live none
+
+-- nor of an event that is not refused
+pub early_none : (limits : LimitNumbers) (rows : Rows) (event : Event) → refusal_of limits rows event ≡ None → early_refusal_of limits rows event ≡ None
+early_none limits rows event none = by (early_refusal_of limits rows event) refl
+  where
+    by : (found : Option Refusal) → early_refusal_of limits rows event ≡ found → early_refusal_of limits rows event ≡ None
+    by None case = case
+    by (Some refusal) case =
+        let told : Some refusal ≡ None = sym (told_early limits rows event refusal case) ∙ none in
+        case ∙ told
+
+-- an event that was applied and counted
+module _ (limits : LimitNumbers) (rows tables counted : Rows) (event : Event) (kept : IsKept limits rows)
+    (none : refusal_of limits rows event ≡ None) (applied : tables ≡ effect rows event)
+    (is_counted : counted ≡ record tables { accepted = tables.accepted + 1 }) where
+  countable : IsCountable limits rows (effect rows event)
+  countable = countable_after limits rows kept.few kept.numbered event none
+
+  counted_is : counted ≡ record (effect rows event) { accepted = rows.accepted + 1 }
+  counted_is =
+      is_counted
+      ∙ (λ i. record (applied i) { accepted = (applied i).accepted + 1 })
+      ∙ (λ i. record (effect rows event) { accepted = countable.accepted i + 1 })
+
+  pub rows_after-counted : counted ≡ rows_after limits rows event
+  rows_after-counted = counted_is ∙ sym (rows_after-accepted limits rows event none)
+
+  pub accepted-applied : tables.accepted ≡ rows.accepted
+  accepted-applied = ap (λ (r : Rows). r.accepted) applied ∙ countable.accepted
+
+  pub IsKept-counted : IsConsistent counted → IsKept limits counted
+  IsKept-counted right = record {
+    consistent = right;
+    few = subst (AreFew limits) (sym counted_is) countable.few;
+    numbered = subst IsNumberedByEvents (sym counted_is) countable.numbered;
+  }
+
+-- ---- a run
+
+-- one more event was taken
+pub IsAfterAll-more : (old middle new : Engine) (events : List Event) (event : Event) → IsAfterAll old middle events → IsAfter middle new event → IsAfterAll old new (events ++ event ∷ [])
+IsAfterAll-more old middle new events event before next = record {
+  limits = next.limits ∙ before.limits;
+  rows = next.rows
+      ∙ ap (λ (l : LimitNumbers). live_rows (rows_after l middle.rows event)) before.limits
+      ∙ rows_after-same_live old.limits middle.rows (rows_after_all old.limits old.rows events) before.rows event
+      ∙ ap live_rows (sym (rows_after_all-append old.limits old.rows events (event ∷ [])));
+}
+
+-- and replied to
+pub reply-more : (old middle : Engine) (events : List Event) (event : Event) (reply : Reply) → IsAfterAll old middle events → reply ≡ reply_to middle.limits middle.rows event
+    → replies_to old.limits old.rows events ++ reply ∷ [] ≡ replies_to old.limits old.rows (events ++ event ∷ [])
+reply-more old middle events event reply before told =
+    let same : reply ≡ reply_to old.limits (rows_after_all old.limits old.rows events) event =
+    told ∙ ap (λ (l : LimitNumbers). reply_to l middle.rows event) before.limits
+    ∙ reply_to-same_live old.limits middle.rows (rows_after_all old.limits old.rows events) before.rows event in
+    ap (λ (r : Reply). replies_to old.limits old.rows events ++ r ∷ []) same
+    ∙ sym (replies_to-append old.limits old.rows events (event ∷ []))

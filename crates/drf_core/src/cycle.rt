@@ -2,8 +2,7 @@
 //! the quota counts them, while of the rows the clock alone has moved. The tables take that copy over with the offers, so that
 //! nothing is counted anew at the next cycle. Where memory ends, the copy is dropped, the charges are taken back and so is the
 //! clock, which needs none.
-ghost use Rattle.std.specs.Prelude.{◌≡◌, ◌≢◌, true, ◌<◌, ◌≤◌, ◌+◌, ◌*◌, None, [], length, map, slice_get, is_some, ◌&&◌, Some, IfOk, OnOk, OnErr};
-ghost use Rattle.std.specs.List.{AllByRecursion};
+ghost use Rattle.std.specs.Prelude.{◌≡◌, ◌≢◌, true, ◌<◌, ◌≤◌, ◌+◌, None, [], length, map, slice_get, is_some, ◌&&◌, Some, IfOk, OnOk, OnErr};
 ghost use Rattle.drf_role.specs.Path.{Path, role_part, framework_part};
 ghost use Rattle.drf_rows.specs.Cycle.{is_allocatable, with_offer};
 ghost use Rattle.drf_rows.specs.Step.{line_told, new_offers, refusal_of, effect};
@@ -11,7 +10,7 @@ ghost use Rattle.drf_rows.specs.declared.event.Event.TheVariants.{Cycle};
 ghost use Rattle.drf_tables.specs.Drafts.{with_offers};
 ghost use Rattle.drf_core.specs.Content.{content_of};
 ghost use Rattle.drf_core.specs.Kept.{IsKept};
-ghost use Rattle.drf_core.specs.Entitling.{IsEntitled, IsQuotaOf};
+ghost use Rattle.drf_core.specs.Entitling.{IsKnown, IsQuotaOf};
 ghost use Rattle.drf_rows.specs.declared.rows.Rows.{Rows};
 ghost use Rattle.drf_core.specs.Drafting.{IsDrafting, CanCount, IsRegisteredPath, IsFreeAt, IsTried, HasLeft, is_open_at, turn_at, turns_of};
 ghost use Rattle.drf_sorter.specs.Work.{Adds};
@@ -95,14 +94,14 @@ pub(crate) fn try_first<S: Sorter>(
     requires client { (path : Path) → slice_get (S.queue sorter.old) 0 ≡ Some path → IsRegisteredPath tables.now.rows path }
     requires free { IsFreeAt (with_offers tables.now.rows drafts.old.offers.items) place free.old.bundle }
     requires quota { IsQuotaOf (with_offers tables.now.rows drafts.old.offers.items) drafts.old.quota }
-    requires entitled { IsEntitled drafts.old.quota free.old.bundle free.old.entitled }
+    requires known { IsKnown drafts.old.quota free.old }
     ensures drafting { IsDrafting (S.content sorter.new) tables.now.rows drafts.new.offers.items }
     ensures queue { S.queue sorter.new ≡ S.queue sorter.old }
     ensures tried { OnOk result ((path : Path) → slice_get (S.queue sorter.old) 0 ≡ Some path
         → IsTried (with_offers tables.now.rows drafts.old.offers.items) (with_offers tables.now.rows drafts.new.offers.items) place path) }
     ensures free { OnOk result (IsFreeAt (with_offers tables.now.rows drafts.new.offers.items) place free.new.bundle) }
     ensures quota { OnOk result (IsQuotaOf (with_offers tables.now.rows drafts.new.offers.items) drafts.new.quota) }
-    ensures entitled { OnOk result (IsEntitled drafts.new.quota free.new.bundle free.new.entitled) }
+    ensures known { OnOk result (IsKnown drafts.new.quota free.new) }
     ensures lefts { drafts.new.lefts.items ≡ drafts.old.lefts.items }
     ensures work { OnOk result (AddsDrafts S.COUNTED (S.work sorter.old) (S.work sorter.new) drafts.old.offers.items drafts.new.offers.items) }
 {
@@ -126,9 +125,10 @@ pub(crate) fn try_first<S: Sorter>(
 
 /// Whether a client is still to be served, and what is left is worth an offer.
 pub(crate) fn goes_on<S: Sorter>(sorter: &S, free: &Free) -> bool
+    requires { free.now.is_worth ≡ is_allocatable free.now.bundle }
     ensures { result ≡ (is_some (slice_get (S.queue sorter.now) 0) && is_allocatable free.now.bundle) }
 {
-    sorter.first().is_some() && is_worth_an_offer(&free.bundle)
+    sorter.first().is_some() && free.is_worth
 }
 
 /// The turn of an agent: each client in order is tried, until what is left is not worth an offer.
@@ -154,18 +154,12 @@ fn turn<S: Sorter>(
         return Ok(());
     }
     sorter.fix_order()?;
-    let mut free = Free {
-        bundle: tables.free(place).copy()?,
-        entitled: None,
-    };
+    let mut free = Free::new(tables.free(place).copy()?);
     while goes_on(sorter, &free) {
         try_first(tables, sorter, place, &mut free, drafts)?;
         sorter.pass();
     }
-    let Free {
-        bundle,
-        entitled: _,
-    } = free;
+    let Free { bundle, .. } = free;
     drafts.lefts.push(Left {
         agent: place,
         free: bundle,

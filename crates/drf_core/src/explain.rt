@@ -130,10 +130,7 @@ fn tell_clients<S: Sorter>(
     let agent = tables.agent_name(place);
     let mut waiting = count_active(sorter)?;
     sorter.fix_order()?;
-    let mut free = Free {
-        bundle: tables.free(place).copy()?,
-        entitled: None,
-    };
+    let mut free = Free::new(tables.free(place).copy()?);
     while goes_on(sorter, &free) {
         tell_first(
             sorter,
@@ -148,10 +145,7 @@ fn tell_clients<S: Sorter>(
         waiting -= 1;
     }
     tell_left(agent, &free.bundle, waiting, findings)?;
-    let Free {
-        bundle,
-        entitled: _,
-    } = free;
+    let Free { bundle, .. } = free;
     drafts.lefts.push(Left {
         agent: place,
         free: bundle,

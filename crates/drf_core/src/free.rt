@@ -1,12 +1,14 @@
 //! What is free on an agent in its turn, and what a client is granted of it.
-ghost use Rattle.std.specs.Prelude.{◌≡◌, None, IfOk, MatchOption};
-ghost use Rattle.std.specs.Option.{option_copied};
+ghost use Rattle.std.specs.Prelude.{◌≡◌, true, nat_le, Option, Some, None, IfOk, OnOk, IsTrue, MatchOption};
+ghost use Rattle.std.specs.List.{list_any};
+ghost use Rattle.std.specs.Option.{option_copied, option_map_or};
 ghost use Rattle.drf_bundle.specs.Bundle.{IsBundle, rest};
+ghost use Rattle.drf_gates.specs.Quota.{Allowance, IsAllowanceOf};
 ghost use Rattle.drf_rows.specs.Client.{Client, path_of};
 ghost use Rattle.drf_rows.specs.Cycle.{free_of, is_allocatable, grant};
 ghost use Rattle.drf_rows.specs.declared.rows.AgentRow.{AgentRow};
 ghost use Rattle.drf_rows.specs.declared.rows.Rows.{Rows};
-ghost use Rattle.drf_core.specs.Entitling.{IsEntitled, IsEntitlement, IsQuotaOf, is_grantable_by};
+ghost use Rattle.drf_core.specs.Entitling.{IsEntitlement, IsKnown, IsOffered, IsQuotaOf, has_at_least, if_allocatable, is_reserved_for};
 
 use drf_amount::Algebra;
 use drf_bundle::Bundle;
@@ -24,21 +26,44 @@ pub fn is_worth_an_offer(bundle: &Bundle) -> bool
     10 <= quantities.get("cpus") || 32000 <= quantities.get("mem")
 }
 
-/// What a role may have of what is free on an agent.
-#[derive(Drop)]
-pub struct Entitled {
-    pub role: Role,
-    pub bundle: Bundle,
+/// The bundle, if it is worth an offer.
+fn if_worth_an_offer(bundle: Bundle) -> Option<Bundle>
+    ensures { result ≡ if_allocatable bundle }
+{
+    if is_worth_an_offer(&bundle) {
+        Some(bundle)
+    } else {
+        None
+    }
 }
 
-/// What is free on an agent in its turn, and what the role that was tried last may have of it.
+/// What is free on an agent in its turn, and whether that is worth an offer. Where a role is known, the part is what it may have
+/// of that, if it is worth an offer.
 #[derive(Drop)]
 pub struct Free {
     pub bundle: Bundle,
-    pub entitled: Option<Entitled>,
+    pub is_worth: bool,
+    pub role: Option<Role>,
+    pub part: Option<Bundle>,
 }
 
-/// The part of what is free that a role may use, cut to the headroom that limits leave it, if any role has a limit.
+impl Free {
+    /// What is free as a turn begins.
+    pub fn new(bundle: Bundle) -> Free
+        ensures bundle { result.bundle ≡ bundle }
+        ensures known { (quota : Option Allowance) → IsKnown quota result }
+    {
+        let is_worth = is_worth_an_offer(&bundle);
+        Free {
+            bundle,
+            is_worth,
+            role: None,
+            part: None,
+        }
+    }
+}
+
+/// What a role may have of what is free: the part that it may use, cut to the headroom that limits leave it, if any do.
 pub(crate) fn part_within(
     quota: Option<&Quota>,
     free: &Bundle,
@@ -53,38 +78,98 @@ pub(crate) fn part_within(
         return Ok(part);
     };
     let headroom = quota.headroom(role)?;
+    if headroom.entries().is_empty() {
+        return Ok(part);
+    }
     part.clip(&headroom)
 }
 
-/// What a role may have of what is free. It is found once for clients of a role that are tried one after another.
-fn entitle(quota: Option<&Quota>, free: &mut Free, role: &Role) -> Result<Entitled, AllocError>
-    requires { IsEntitled (option_copied quota) free.old.bundle free.old.entitled }
-    ensures role { IfOk result (λ entitled. entitled.role ≡ role.now) }
-    ensures entitled { IfOk result (λ entitled. IsEntitlement (option_copied quota.entry) free.old.bundle role.now entitled.bundle) }
-    ensures bundle { free.new.bundle ≡ free.old.bundle }
-    ensures none { free.new.entitled ≡ None }
+/// Whether anything that is free is reserved for a role or for a role above it.
+fn has_reserved(free: &Bundle, role: &Role) -> bool
+    ensures { result ≡ list_any (is_reserved_for role.now) free.now }
 {
-    if let Some(entitled) = free.entitled.take() {
-        if entitled.role == *role {
-            return Ok(entitled);
-        }
+    free.entries().iter().any(|resource| !resource.is_unreserved() && resource.is_for(role))
+}
+
+/// Whether a headroom leaves so much, as it does where there is none.
+fn leaves(headroom: Option<u64>, least: u64) -> bool
+    ensures { result ≡ option_map_or (nat_le least) headroom true }
+{
+    match headroom {
+        Some(amount) => least <= amount,
+        None => true,
     }
-    Ok(Entitled {
-        role: role.copy()?,
-        bundle: part_within(quota, &free.bundle, role)?,
-    })
 }
 
-/// Whether a client may be offered a bundle on an agent: it is worth an offer, and no filter holds it back.
-fn is_grantable(tables: &Tables, agent: &Name, client: &ClientPath, bundle: &Bundle) -> bool
-    ensures { result ≡ is_grantable_by tables.now.rows agent.now client.now bundle.now }
+/// Whether so much of a scalar is free, and limits leave a role so much of it.
+fn may_have(quota: &Quota, free: &Bundle, role: &Role, label: &str, least: u64) -> bool
+    ensures { (rows : Rows) → IsAllowanceOf rows quota.now → result ≡ has_at_least rows free.now role.now label.now least }
 {
-    is_worth_an_offer(bundle)
-        && !tables.is_held_back(client.role(), client.framework(), agent, bundle)
+    least <= free.quantities().get(label) && leaves(quota.headroom_at(role, label), least)
 }
 
-/// Takes from what is free on an agent what a client is granted: what its role may have, if it may be offered that. What the role
-/// may have is forgotten with a grant, which takes from the headroom too.
+/// Whether amounts alone tell that a role may have nothing that is worth an offer, as limits leave it too little. It needs no
+/// memory.
+fn is_spent(quota: Option<&Quota>, free: &Bundle, role: &Role) -> bool
+    ensures { IsTrue result → IsOffered (option_copied quota.entry) free.now role.now None }
+{
+    // The proof learns that it is a bundle by this call alone.
+    let _ = free.quantities();
+    let Some(quota) = quota else {
+        return false;
+    };
+    if has_reserved(free, role) {
+        return false;
+    }
+    if may_have(quota, free, role, "cpus", 10) {
+        return false;
+    }
+    !may_have(quota, free, role, "mem", 32000)
+}
+
+/// What a role may have of what is free, if that is worth an offer.
+fn part_offered(
+    quota: Option<&Quota>,
+    free: &Bundle,
+    role: &Role,
+) -> Result<Option<Bundle>, AllocError>
+    ensures { IfOk result (IsOffered (option_copied quota.entry) free.now role.now) }
+{
+    if is_spent(quota, free, role) {
+        return Ok(None);
+    }
+    let part = part_within(quota, free, role)?;
+    Ok(if_worth_an_offer(part))
+}
+
+/// Whether it is known what the role may have.
+fn is_known(known: &Option<Role>, role: &Role) -> bool
+    ensures { IsTrue result → known.now ≡ Some role.now }
+{
+    match known {
+        Some(known) => known == role,
+        None => false,
+    }
+}
+
+/// Makes known what a role may have. It is found once for clients of a role that are tried one after another.
+fn entitle(quota: Option<&Quota>, free: &mut Free, role: &Role) -> Result<(), AllocError>
+    requires { IsKnown (option_copied quota) free.old }
+    ensures part { OnOk result (IsOffered (option_copied quota.entry) free.old.bundle role.now free.new.part) }
+    ensures role { OnOk result (free.new.role ≡ Some role.now) }
+    ensures bundle { free.new.bundle ≡ free.old.bundle }
+    ensures worth { free.new.is_worth ≡ free.old.is_worth }
+{
+    if is_known(&free.role, role) {
+        return Ok(());
+    }
+    free.part = part_offered(quota, &free.bundle, role)?;
+    free.role = Some(role.copy()?);
+    Ok(())
+}
+
+/// Takes from what is free on an agent what a client is granted: what its role may have, if that is worth an offer, and no filter
+/// holds it back. What the role may have is known no longer with a grant, which takes from the headroom too.
 pub fn grant(
     tables: &Tables,
     agent: &Name,
@@ -92,20 +177,24 @@ pub fn grant(
     quota: Option<&Quota>,
     free: &mut Free,
 ) -> Result<Option<Bundle>, AllocError>
-    requires { IsEntitled (option_copied quota) free.old.bundle free.old.entitled }
+    requires { IsKnown (option_copied quota) free.old }
     ensures granted { IfOk result (λ granted. (rows : Rows) (a : AgentRow) (of : Client)
         → free_of rows a ≡ free.old.bundle → a.name ≡ agent.now → rows.filters ≡ tables.now.rows.filters
         → rows.clock ≡ tables.now.rows.clock → IsQuotaOf rows (option_copied quota.entry) → client.now ≡ path_of of → granted ≡ grant rows a of) }
     ensures left { IfOk result (λ granted. MatchOption granted (free.new.bundle ≡ free.old.bundle) (λ bundle. free.new.bundle ≡ rest free.old.bundle bundle)) }
-    ensures entitled { IfOk result (λ granted. MatchOption granted
-        (IsEntitled (option_copied quota.entry) free.new.bundle free.new.entitled) (λ _. free.new.entitled ≡ None)) }
+    ensures known { IfOk result (λ granted. MatchOption granted
+        (IsKnown (option_copied quota.entry) free.new) (λ _. (later : Option Allowance) → IsKnown later free.new)) }
 {
-    let entitled = entitle(quota, free, client.role())?;
-    if !is_grantable(tables, agent, client, &entitled.bundle) {
-        free.entitled = Some(entitled);
+    entitle(quota, free, client.role())?;
+    let Some(part) = free.part.take() else {
+        return Ok(None);
+    };
+    if tables.is_held_back(client.role(), client.framework(), agent, &part) {
+        free.part = Some(part);
         return Ok(None);
     }
-    free.bundle = free.bundle.rest(&entitled.bundle)?;
-    let Entitled { role: _, bundle } = entitled;
-    Ok(Some(bundle))
+    free.bundle = free.bundle.rest(&part)?;
+    free.is_worth = is_worth_an_offer(&free.bundle);
+    free.role = None;
+    Ok(Some(part))
 }

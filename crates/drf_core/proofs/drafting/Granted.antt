@@ -1,10 +1,17 @@
 -- What a role may have, what is granted of it, and what a quota counts, by what the code reads.
-use Rattle.std.proofs.Common.{◌≡◌, ◌≢◌, ◌≤◌, Bool, true, false, ◌&&◌, List, [], ◌∷◌, Option, Some, None, length, refl, sym, ap, ◌∙◌, cond, arith}
-use Rattle.std.specs.Prelude.{not, IsTrue, ◌↔◌}
+use Rattle.std.proofs.Common.{◌≡◌, ◌≢◌, ℕ, ◌<◌, ◌≤◌, Bool, true, false, true≢false, ◌&&◌, nat_lt, nat_le, List, [], ◌∷◌, Option, Some, None, length, refl, sym, ap, ◌∙◌, cond, arith}
+use Rattle.std.specs.Prelude.{not, ◌||◌, min, codes, IsTrue, ◌↔◌}
+use Rattle.std.specs.List.{list_any}
+use Rattle.std.specs.Option.{option_map_or}
+use Rattle.std.proofs.lemmas.Bool.{and_parts, and_from, or_parts}
+use Rattle.std.proofs.lemmas.Bool.Decides.{nat_tests}
 use Rattle.drf_role.specs.Text.{Text}
-use Rattle.drf_role.specs.Path.{Path, role_part, framework_part}
+use Rattle.drf_role.specs.Path.{Path, begins_with, role_part, framework_part}
 use Rattle.drf_role.specs.PathLaws.{role_part-client_path, framework_part-client_path}
-use Rattle.drf_bundle.specs.Bundle.{IsBundle, part_for, clip}
+use Rattle.drf_bundle.specs.Bundle.{IsBundle, is_default, is_unreserved, quantities_of, part_for, clipped, clip}
+use Rattle.drf_bundle.specs.Quantities.{amount_of}
+use Rattle.drf_bundle.specs.Value.{Thousandths, amount_in}
+use Rattle.drf_bundle.specs.laws.SumLaws.{amount-quantities_of}
 use Rattle.drf_bundle.specs.declared.quantities.Entry.{Entry}
 use Rattle.drf_bundle.specs.declared.resource.Resource.{Resource}
 use Rattle.drf_gates.specs.Quota.{Allowance, IsAllowanceOf, IsRaisedBy}
@@ -13,24 +20,34 @@ use Rattle.drf_rows.specs.Consistent.{IsConsistent}
 use Rattle.drf_rows.specs.Cycle.{free_of, grant, is_allocatable, with_offer}
 use Rattle.drf_rows.specs.laws.CycleLaws.{entitlement-unlimited}
 use Rattle.drf_rows.specs.Filters.{is_held_back}
-use Rattle.drf_rows.specs.Quota.{consumption, entitlement, headroom, headrooms, unreserved_in}
-use Rattle.drf_rows.specs.laws.QuotaLaws.{consumption-with_offer, consumption_is_part_of_total}
+use Rattle.drf_rows.specs.Quota.{consumption, entitlement, headroom, headroom_at, headrooms, unreserved_in}
+use Rattle.drf_rows.specs.laws.QuotaLaws.{parts_le, consumption-with_offer, consumption_is_part_of_total}
+use Rattle.drf_rows.specs.laws.EntitlementLaws.{entitled_by_units}
+use Rattle.drf_rows.specs.laws.ReservationLaws.{unreserved_in-all}
 use Rattle.drf_rows.specs.laws.ReportedShares.{small_total}
 use Rattle.drf_rows.specs.declared.rows.AgentRow.{AgentRow}
+use Rattle.drf_rows.specs.declared.rows.FilterRow.{FilterRow}
 use Rattle.drf_rows.specs.declared.rows.LimitRow.{LimitRow}
 use Rattle.drf_rows.specs.declared.rows.OfferRow.{OfferRow}
 use Rattle.drf_rows.specs.declared.rows.Rows.{Rows}
 use Rattle.drf_core.specs.Drafting.{CanCount}
-use Rattle.drf_core.specs.Entitling.{IsEntitlement, IsQuotaOf, is_grantable_by}
+use Rattle.drf_core.specs.Entitling.{IsEntitlement, IsOffered, IsQuotaOf, has_at_least, if_allocatable, is_reserved_for}
 
 -- ---- what a role may have
 
--- where no role has a limit, nothing is cut
-pub entitled-uncut : (free : List Resource) (role : Path) (part : List Resource) → IsBundle free → part ≡ part_for role free
-    → IsEntitlement None free role part
-entitled-uncut free role part right found rows client none same =
-    let room : headroom rows client.role ≡ [] = ap (λ (ls : List LimitRow). headrooms ls (consumption rows) client.role) none in
+-- where no limit leaves a headroom, nothing is cut
+pub entitled-whole : (quota : Option Allowance) (free : List Resource) (role : Path) (part : List Resource) → IsBundle free
+    → ((rows : Rows) → IsQuotaOf rows quota → headroom rows role ≡ []) → part ≡ part_for role free → IsEntitlement quota free role part
+entitled-whole quota free role part right none found rows client counted same =
+    let room : headroom rows client.role ≡ [] = ap (headroom rows) same ∙ none rows counted in
     found ∙ ap (λ (r : Path). part_for r free) (sym same) ∙ sym (entitlement-unlimited rows free client right room)
+
+pub room-unlimited : (role : Path) (rows : Rows) → IsQuotaOf rows None → headroom rows role ≡ []
+room-unlimited role rows none = ap (λ (ls : List LimitRow). headrooms ls (consumption rows) role) none
+
+pub no_entries : (entries : List Entry) → length entries ≡ 0 → entries ≡ []
+no_entries [] none = refl
+no_entries (e ∷ es) none = absurd (omega (arith, none))
 
 -- else it is cut to the headroom of the quota
 pub entitled-cut : (a : Allowance) (free : List Resource) (role : Path) (room : List Entry) (part bundle : List Resource)
@@ -39,25 +56,114 @@ pub entitled-cut : (a : Allowance) (free : List Resource) (role : Path) (room : 
 entitled-cut a free role room part bundle left found cut rows client counted same =
     cut ∙ (λ i. clip (left rows counted i) (found i)) ∙ ap (λ (r : Path). clip (headroom rows r) (part_for r free)) (sym same)
 
+pub offered-is : (quota : Option Allowance) (free : List Resource) (role : Path) (part : List Resource) (offered : Option (List Resource))
+    → IsEntitlement quota free role part → offered ≡ if_allocatable part → IsOffered quota free role offered
+offered-is quota free role part offered entitled made rows client counted same = made ∙ ap if_allocatable (entitled rows client counted same)
+
+-- ---- limits that leave too little
+
+-- what a role may use is unreserved, where nothing is reserved for it
+none_reserved : (role : Path) (rs : List Resource) → list_any (is_reserved_for role) rs ≡ false → is_unreserved (part_for role rs) ≡ true
+none_reserved role [] none = refl
+none_reserved role (r ∷ rs) none =
+    let parts = or_parts (is_reserved_for role r) (list_any (is_reserved_for role) rs) none in
+    by (is_default r.role) (begins_with role r.role) refl parts.0 (none_reserved role rs parts.1)
+  where
+    part : List Resource
+    part = part_for role rs
+
+    by : (a b : Bool) → is_default r.role ≡ a → (not a && (a || b)) ≡ false → is_unreserved part ≡ true → is_unreserved (cond (a || b) (r ∷ part) part) ≡ true
+    by true b default here others = and_from (is_default r.role) (is_unreserved part) default others
+    by false true other here others = absurd (true≢false here)
+    by false false other here others = others
+
+-- what is cut stays unreserved
+unreserved-clipped : (limits : List Entry) (rs : List Resource) → is_unreserved rs ≡ true → is_unreserved (clip limits rs) ≡ true
+unreserved-clipped limits [] free = refl
+unreserved-clipped limits (r ∷ rs) free =
+    let parts = and_parts (is_default r.role) (is_unreserved rs) free in
+    by (nat_lt 0 (amount_in (clipped limits r).value)) parts.0 (unreserved-clipped limits rs parts.1)
+  where
+    rest : List Resource
+    rest = clip limits rs
+
+    by : (b : Bool) → is_default r.role ≡ true → is_unreserved rest ≡ true → is_unreserved (cond b (clipped limits r ∷ rest) rest) ≡ true
+    by true default others = and_from (is_default r.role) (is_unreserved rest) default others
+    by false default others = others
+
+-- a client may have no more of a scalar than is free, and no more than the headroom
+below : (rows : Rows) (free : List Resource) (client : Client) (label : Text) (least : ℕ) → IsBundle free
+    → is_unreserved (entitlement rows free client) ≡ true → has_at_least rows free client.role label least ≡ false
+    → amount_of (quantities_of (entitlement rows free client)) label < least
+below rows free client label least right unreserved little =
+    let whole : List Resource = entitlement rows free client in
+    by (headroom_at rows client.role label) (unreserved_in label free) (amount_of (quantities_of free) label) (amount_of (quantities_of whole) label)
+    (sym (unreserved_in-all (λ p. true) label whole unreserved) ∙ entitled_by_units rows free client (label, []) Thousandths right)
+    (omega (arith, parts_le (λ p. true) label free, amount-quantities_of free label)) little
+  where
+    by : (room : Option ℕ) (n m x : ℕ) → x ≡ option_map_or (min n) room n → n ≤ m
+        → (nat_le least m && option_map_or (nat_le least) room true) ≡ false → x < least
+    by None n m x is le little = grind (arith, nat_tests)
+    by (Some r) n m x is le little = let less : x ≤ r = omega (arith, is) in let few : x ≤ n = omega (arith, is) in grind (arith, nat_tests)
+
+pub spent : (a : Allowance) (free : List Resource) (role : Path) (cpus mem : Bool) → IsBundle free
+    → list_any (is_reserved_for role) free ≡ false
+    → ((rows : Rows) → IsAllowanceOf rows a → cpus ≡ has_at_least rows free role (codes "cpus") 10) → cpus ≡ false
+    → ((rows : Rows) → IsAllowanceOf rows a → mem ≡ has_at_least rows free role (codes "mem") 32000) → mem ≡ false
+    → IsOffered (Some a) free role None
+spent a free role cpus mem right none cpus_is few mem_is little rows client counted same =
+    let whole : List Resource = entitlement rows free client in
+    let unreserved : is_unreserved whole ≡ true =
+    unreserved-clipped (headroom rows client.role) (part_for client.role free)
+    (ap (λ (r : Path). is_unreserved (part_for r free)) same ∙ none_reserved role free none) in
+    let few_cpus = below rows free client (codes "cpus") 10 right unreserved
+    (ap (λ (r : Path). has_at_least rows free r (codes "cpus") 10) same ∙ sym (cpus_is rows counted) ∙ few) in
+    let little_mem = below rows free client (codes "mem") 32000 right unreserved
+    (ap (λ (r : Path). has_at_least rows free r (codes "mem") 32000) same ∙ sym (mem_is rows counted) ∙ little) in
+    let worthless : is_allocatable whole ≡ false = grind (arith, nat_tests) in
+    sym (ap (λ b. cond b (Some whole) None) worthless)
+
 -- ---- what is granted
 
-module _ (tables : Rows) (name : Text) (path : Path) (quota : Option Allowance) (free part : List Resource) (granted : Option (List Resource)) (b : Bool)
-    (entitled : IsEntitlement quota free (role_part path) part)
-    (decided : b ≡ is_grantable_by tables name path part)
-    (chosen : granted ≡ cond b (Some part) None) where
-  pub granted-is : (rows : Rows) (agent : AgentRow) (client : Client)
-      → free_of rows agent ≡ free → agent.name ≡ name → rows.filters ≡ tables.filters → rows.clock ≡ tables.clock → IsQuotaOf rows quota → path ≡ path_of client
+-- the bundle was worth an offer
+allocatable-some : (bundle whole : List Resource) (b : Bool) → Some bundle ≡ cond b (Some whole) None → (b ≡ true) × (bundle ≡ whole)
+allocatable-some bundle whole true same = (refl, let e : Some bundle ≡ Some whole = same in cc)
+allocatable-some bundle whole false same = absurd (let e : Some bundle ≡ None = same in cc)
+
+allocatable-none : (whole : List Resource) (b : Bool) → None ≡ cond b (Some whole) None → b ≡ false
+allocatable-none whole true same = absurd (let e : None ≡ Some whole = same in cc)
+allocatable-none whole false same = refl
+
+module _ (path : Path) (quota : Option Allowance) (free : List Resource) where
+  pub granted-none : IsOffered quota free (role_part path) None → (rows : Rows) (agent : AgentRow) (client : Client)
+      → free_of rows agent ≡ free → IsQuotaOf rows quota → path ≡ path_of client → None ≡ grant rows agent client
+  granted-none offered rows agent client is_free counted joined =
+      let role : role_part path ≡ client.role = ap role_part joined ∙ role_part-client_path client.role client.framework in
+      let whole : List Resource = entitlement rows (free_of rows agent) client in
+      let little : is_allocatable whole ≡ false = allocatable-none whole (is_allocatable whole)
+      (offered rows client counted (sym role) ∙ ap (λ (f : List Resource). if_allocatable (entitlement rows f client)) (sym is_free)) in
+      sym (ap (λ (b : Bool). cond (b && not (is_held_back rows.filters rows.clock client agent.name whole)) (Some whole) None) little)
+
+  pub granted-is : (filters : List FilterRow) (clock : ℕ) (name : Text) (part : List Resource) (b : Bool) (granted : Option (List Resource)) → IsOffered quota free (role_part path) (Some part)
+      → b ≡ is_held_back filters clock (record { role = role_part path; framework = framework_part path }) name part
+      → granted ≡ cond b None (Some part) → (rows : Rows) (agent : AgentRow) (client : Client)
+      → free_of rows agent ≡ free → agent.name ≡ name → rows.filters ≡ filters → rows.clock ≡ clock → IsQuotaOf rows quota → path ≡ path_of client
       → granted ≡ grant rows agent client
-  granted-is rows agent client is_free named filters clock counted joined =
+  granted-is filters clock name part b granted offered decided chosen rows agent client is_free named same_filters same_clock counted joined =
       let role : role_part path ≡ client.role = ap role_part joined ∙ role_part-client_path client.role client.framework in
       let framework : framework_part path ≡ client.framework = ap framework_part joined ∙ framework_part-client_path client.role client.framework in
-      let bundle : part ≡ entitlement rows (free_of rows agent) client =
-      entitled rows client counted (sym role) ∙ ap (λ (f : List Resource). entitlement rows f client) (sym is_free) in
-      let held : is_held_back tables.filters tables.clock (record { role = role_part path; framework = framework_part path }) name part
-      ≡ is_held_back rows.filters rows.clock client agent.name (entitlement rows (free_of rows agent) client)
-      = λ i. is_held_back (sym filters i) (sym clock i) (record { role = role i; framework = framework i }) (sym named i) (bundle i) in
-      chosen ∙ (λ i. cond (decided i) (Some part) None)
-      ∙ (λ i. cond (is_allocatable (bundle i) && not (held i)) (Some (bundle i)) None)
+      let whole : List Resource = entitlement rows (free_of rows agent) client in
+      let worth = allocatable-some part whole (is_allocatable whole)
+      (offered rows client counted (sym role) ∙ ap (λ (f : List Resource). if_allocatable (entitlement rows f client)) (sym is_free)) in
+      let held : b ≡ is_held_back rows.filters rows.clock client agent.name whole
+      = decided ∙ (λ i. is_held_back (sym same_filters i) (sym same_clock i) (record { role = role i; framework = framework i }) (sym named i) (worth.1 i)) in
+      chosen ∙ (λ i. cond (held i) None (Some (worth.1 i)))
+      ∙ by (is_held_back rows.filters rows.clock client agent.name whole) whole
+      ∙ sym (ap (λ (w : Bool). cond (w && not (is_held_back rows.filters rows.clock client agent.name whole)) (Some whole) None) worth.0)
+    where
+      by : (held : Bool) (whole : List Resource) → cond held None (Some whole) ≡ cond (not held) (Some whole) None
+      by true whole = refl
+      by false whole = refl
 
 -- ---- what a quota counts
 

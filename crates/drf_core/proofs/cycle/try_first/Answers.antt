@@ -1,8 +1,9 @@
-use Rattle.std.proofs.Common.{Some, None, sym, subst, ◌≡◌, ◌+◌, ◌<◌, ◌^◌, ◌∷◌, ◌++◌, [], List, length, ap, ◌∙◌, arith}
+use Rattle.std.proofs.Common.{Option, Some, None, sym, subst, ◌≡◌, ◌+◌, ◌<◌, ◌^◌, ◌∷◌, ◌++◌, [], List, length, ap, ◌∙◌, arith}
 use Rattle.std.specs.Prelude.{slice_get}
 use Rattle.std.specs.Option.{MatchOption, option_copied}
 use Rattle.drf_role.specs.Path.{Path}
 use Rattle.drf_bundle.specs.Bundle.{rest, quantities_of}
+use Rattle.drf_gates.specs.Quota.{Allowance}
 use Rattle.drf_rows.specs.Client.{path_of}
 use Rattle.drf_rows.specs.Holdings.{of_offer}
 use Rattle.drf_rows.specs.declared.rows.OfferRow.{OfferRow}
@@ -10,7 +11,7 @@ use Rattle.drf_rows.specs.declared.rows.Rows.{Rows}
 use Rattle.drf_sorter.specs.Content.{with_change, charged}
 use Rattle.drf_tables.specs.Drafts.{with_offers}
 use Rattle.drf_core.specs.Drafting.{IsTried}
-use Rattle.drf_core.specs.Entitling.{IsEntitled}
+use Rattle.drf_core.specs.Entitling.{IsKnown}
 use Rattle.drf_core.specs.Working.{nodes_of, offered_to}
 use Rattle.drf_core.proofs.stepping.Work.{nodes_of-drafted}
 use Rattle.drf_core.proofs.drafting.Drafts.{with_offers-push}
@@ -44,7 +45,7 @@ bundle_at : (g : given.Over) (c : After-quantities g) → c.quantities.result.no
 bundle_at g c = c.quantities.ensures.value ∙ ap (λ (o : OfferRow). quantities_of o.bundle) (c.in_ok-offer.ensures)
 
 pub grant-requires : goal.grant-requires
-grant-requires g c = rw c.as_ref.ensures.value c.requires.entitled
+grant-requires g c = rw c.as_ref.ensures.value c.requires.known
 
 pub count_offer-requires : goal.count_offer-requires
 count_offer-requires g c =
@@ -106,19 +107,17 @@ returns-clause-quota g c =
     c.push_reserved.ensures.items ∙ ap (λ os. os ++ c.in_ok-offer.offer ∷ []) c.reserve.ensures.items in
     rw (items, with_offers-push rows offers c.in_ok-offer.offer) (c.in_ok-count_offer.ensures (with_offers rows offers) c.requires.quota)
 
-pub returns-clause-entitled : goal.returns-clause-entitled
-returns-clause-entitled g c =
-    let none : c.grant.new.free.entitled ≡ None =
-    subst (λ o. MatchOption o (IsEntitled (option_copied c.as_ref.result) c.grant.new.free.bundle c.grant.new.free.entitled) (λ _. c.grant.new.free.entitled ≡ None))
-    c.in-Some-granted.is c.in_ok-granted.ensures.entitled in
-    rw none tt
+pub returns-clause-known : goal.returns-clause-known
+returns-clause-known g c =
+    subst (λ o. MatchOption o (IsKnown (option_copied c.as_ref.result) c.grant.new.free) (λ _. (later : Option Allowance) → IsKnown later c.grant.new.free))
+    c.in-Some-granted.is c.in_ok-granted.ensures.known c.count_offer.new.quota
 
-pub returns-in_default-granted-clause-entitled : goal.returns-in_default-granted-clause-entitled
-returns-in_default-granted-clause-entitled g c =
-    let kept : IsEntitled (option_copied c.as_ref.result) c.grant.new.free.bundle c.grant.new.free.entitled =
-    subst (λ o. MatchOption o (IsEntitled (option_copied c.as_ref.result) c.grant.new.free.bundle c.grant.new.free.entitled) (λ _. c.grant.new.free.entitled ≡ None))
-    c.in_default-granted.is c.in_ok-granted.ensures.entitled in
-    subst (λ q. IsEntitled q c.grant.new.free.bundle c.grant.new.free.entitled) c.as_ref.ensures.value kept
+pub returns-in_default-granted-clause-known : goal.returns-in_default-granted-clause-known
+returns-in_default-granted-clause-known g c =
+    let kept : IsKnown (option_copied c.as_ref.result) c.grant.new.free =
+    subst (λ o. MatchOption o (IsKnown (option_copied c.as_ref.result) c.grant.new.free) (λ _. (later : Option Allowance) → IsKnown later c.grant.new.free))
+    c.in_default-granted.is c.in_ok-granted.ensures.known in
+    subst (λ q. IsKnown q c.grant.new.free) c.as_ref.ensures.value kept
 
 pub returns-in_default-granted-clause-tried : goal.returns-in_default-granted-clause-tried
 returns-in_default-granted-clause-tried g c = λ path first.

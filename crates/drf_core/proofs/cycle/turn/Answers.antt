@@ -42,14 +42,17 @@ loop-sorter-init g c =
       free = record {
         agent = agent.0;
         at = ap (λ as'. slice_get as' c.args.place) (agents-with_offers rows offers) ∙ agent.1;
-        free = c.in_ok-copy.ensures.same ∙ c.free.ensures agent.0 agent.1
+        free = c.new-free.ensures.bundle ∙ c.in_ok-copy.ensures.same ∙ c.free.ensures agent.0 agent.1
             ∙ sym (free-before rows offers c.args.drafts.now.lefts.items c.args.place agent.0 c.requires.left agent.1);
       };
       quota = c.requires.quota;
-      entitled = tt;
+      known = c.new-free.ensures.known c.args.drafts.now.quota;
       work = λ counted. omega (arith, c.fix_order.ensures.work counted);
       lefts = refl;
     }
+
+pub goes_on-requires : goal.goes_on-requires
+goes_on-requires g c = c.loop-sorter.invariant.known.worth
 
 pub try_first-requires-clause-client : goal.try_first-requires-clause-client
 try_first-requires-clause-client g c =
@@ -70,7 +73,7 @@ loop-sorter-preserved g c =
           (c.pass.ensures.queue ∙ ap (λ ps. drop 1 ps) c.try_first.ensures.queue);
       free = c.in_ok-try_first.ensures.free;
       quota = c.in_ok-try_first.ensures.quota;
-      entitled = c.in_ok-try_first.ensures.entitled;
+      known = c.in_ok-try_first.ensures.known;
       work = λ counted. omega (arith, c.loop-sorter.invariant.work counted, c.in_ok-try_first.ensures.work counted, ap debt c.pass.ensures.work);
       lefts = c.try_first.ensures.lefts ∙ c.loop-sorter.invariant.lefts;
     }

@@ -1,7 +1,7 @@
 use Rattle.std.proofs.Common.{◌≡◌, length}
 use Rattle.drf_tables.specs.Drafts.{with_offers}
 use Rattle.drf_core.specs.Drafting.{IsDrafting, IsFreeAt}
-use Rattle.drf_core.specs.Entitling.{IsEntitled, IsQuotaOf}
+use Rattle.drf_core.specs.Entitling.{IsKnown, IsQuotaOf}
 use Rattle.drf_core.specs.Working.{AddsDrafts}
 use Rattle.drf_core.proofs.drafting.Turn.{AreWaiting}
 use Rattle.drf_core.proofs.cycle.turn.Given as goal
@@ -14,7 +14,7 @@ invariant-loop-sorter g l = record {
       (with_offers l.tables.rows l.drafts.offers.items) (g.S.Sorter.queue l.sorter);
   free : IsFreeAt (with_offers l.tables.rows l.drafts.offers.items) l.place l.free.bundle;
   quota : IsQuotaOf (with_offers l.tables.rows l.drafts.offers.items) l.drafts.quota;
-  entitled : IsEntitled l.drafts.quota l.free.bundle l.free.entitled;
+  known : IsKnown l.drafts.quota l.free;
   work : AddsDrafts g.S.Sorter.COUNTED (g.S.Sorter.work l.initial.sorter) (g.S.Sorter.work l.sorter) l.initial.drafts.offers.items l.drafts.offers.items;
   lefts : l.drafts.lefts.items ≡ l.initial.drafts.lefts.items;
 }

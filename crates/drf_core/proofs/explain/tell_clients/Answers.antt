@@ -41,14 +41,17 @@ loop-sorter-init g c =
       free = record {
         agent = agent.0;
         at = ap (λ as'. slice_get as' c.args.place) (agents-with_offers rows offers) ∙ agent.1;
-        free = c.in_ok-copy.ensures.same ∙ c.free.ensures agent.0 agent.1
+        free = c.new-free.ensures.bundle ∙ c.in_ok-copy.ensures.same ∙ c.free.ensures agent.0 agent.1
             ∙ sym (free-before rows offers c.args.drafts.now.lefts.items c.args.place agent.0 c.requires.left agent.1);
       };
       quota = c.requires.quota;
-      entitled = tt;
+      known = c.new-free.ensures.known c.args.drafts.now.quota;
       waiting = count.2 ∙ as_many content rows offers c.requires.drafting count.0 (g.S.Sorter.queue c.fix_order.new.self) count.1 order;
       lefts = refl;
     }
+
+pub goes_on-requires : goal.goes_on-requires
+goes_on-requires g c = c.loop-sorter.invariant.known.worth
 
 pub try_first-requires-clause-client : goal.try_first-requires-clause-client
 try_first-requires-clause-client g c =
@@ -83,7 +86,7 @@ loop-sorter-preserved g c =
           (rw c.as_ref.ensures.value c.loop-sorter.invariant.quota) (here agent at) (c.agent_name-agent.ensures agent at));
       free = c.in_ok-try_first.ensures.free;
       quota = c.in_ok-try_first.ensures.quota;
-      entitled = c.in_ok-try_first.ensures.entitled;
+      known = c.in_ok-try_first.ensures.known;
       waiting =
           let fewer = one_fewer queue (is_allocatable c.loop-sorter.free.bundle) some in
           omega (arith, c.loop-sorter.invariant.waiting, fewer, ap length left);

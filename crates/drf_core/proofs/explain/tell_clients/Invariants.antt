@@ -1,7 +1,7 @@
 use Rattle.std.proofs.Common.{◌≡◌, length}
 use Rattle.drf_tables.specs.Drafts.{with_offers}
 use Rattle.drf_core.specs.Drafting.{IsDrafting, IsFreeAt}
-use Rattle.drf_core.specs.Entitling.{IsEntitled, IsQuotaOf}
+use Rattle.drf_core.specs.Entitling.{IsKnown, IsQuotaOf}
 use Rattle.drf_core.proofs.drafting.Told.{AreTold}
 use Rattle.drf_core.proofs.explain.tell_clients.Given as goal
 
@@ -13,7 +13,7 @@ invariant-loop-sorter g l = record {
       (with_offers l.tables.rows l.drafts.offers.items) (g.S.Sorter.queue l.sorter) l.initial.findings.items l.findings.items;
   free : IsFreeAt (with_offers l.tables.rows l.drafts.offers.items) l.place l.free.bundle;
   quota : IsQuotaOf (with_offers l.tables.rows l.drafts.offers.items) l.drafts.quota;
-  entitled : IsEntitled l.drafts.quota l.free.bundle l.free.entitled;
+  known : IsKnown l.drafts.quota l.free;
   waiting : l.waiting ≡ length (g.S.Sorter.queue l.sorter);
   lefts : l.drafts.lefts.items ≡ l.initial.drafts.lefts.items;
 }

@@ -1,20 +1,10 @@
-use Rattle.std.proofs.Common.{Option, sym, subst, ◌∙◌}
-use Rattle.std.specs.Option.{option_copied}
-use Rattle.drf_role.specs.Path.{Path}
-use Rattle.drf_role.specs.PathLaws.{same_path-true}
-use Rattle.drf_core.specs.Entitling.{IsEntitled, IsEntitlement}
-use Rattle.drf_core.specs.declared.free.Entitled.{Entitled}
+use Rattle.std.proofs.Common.{subst}
+use Rattle.std.specs.Option.{MatchOption, option_copied}
+use Rattle.drf_core.specs.Entitling.{IsOffered}
 use Rattle.drf_core.proofs.free.entitle.Goals as goal
 
-pub returns-then-eq-clause-role : goal.returns-then-eq-clause-role
-returns-then-eq-clause-role c = same_path-true c.in-Some.entitled.role c.args.role.now (sym c.eq.ensures ∙ c.if-eq.true)
-
 -- what was found for the role before
-pub returns-then-eq-clause-entitled : goal.returns-then-eq-clause-entitled
-returns-then-eq-clause-entitled c =
-    let free = c.args.free.now.bundle in
-    let quota = option_copied c.args.quota in
-    let found : IsEntitlement quota free c.in-Some.entitled.role c.in-Some.entitled.bundle =
-    subst (λ (o : Option Entitled). IsEntitled quota free o) (sym c.in-Some.ensures.value) c.requires in
-    subst (λ (r : Path). IsEntitlement quota free r c.in-Some.entitled.bundle)
-    (same_path-true c.in-Some.entitled.role c.args.role.now (sym c.eq.ensures ∙ c.if-eq.true)) found
+pub returns-then-is_known-clause-part : goal.returns-then-is_known-clause-part
+returns-then-is_known-clause-part c =
+    let free = c.args.free.now in
+    subst (λ known. MatchOption known (Unit {0}) (λ role. IsOffered (option_copied c.args.quota) free.bundle role free.part)) (c.is_known.ensures c.if-is_known.true) c.requires.part

@@ -1,0 +1,13 @@
+use Rattle.std.proofs.Common.{None, sym, subst, ◌∙◌}
+use Rattle.std.specs.Option.{option_copied}
+use Rattle.std.proofs.lemmas.Bool.{not-true}
+use Rattle.drf_core.specs.Entitling.{IsOffered}
+use Rattle.drf_core.proofs.drafting.Granted.{spent}
+use Rattle.drf_core.proofs.free.is_spent.Goals as goal
+
+pub returns : goal.returns
+returns c = λ little.
+    subst (λ o. IsOffered (option_copied o) c.args.free.now c.args.role.now None) (sym c.in-Some.is)
+    (spent c.in-Some.quota.now c.args.free.now c.args.role.now c.may_have.result c.may_have-2.result c.quantities.ensures.bundle
+    (sym c.has_reserved.ensures ∙ c.if-has_reserved.false) c.may_have.ensures c.if-may_have.false c.may_have-2.ensures
+    (not-true c.may_have-2.result little))

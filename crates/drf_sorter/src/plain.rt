@@ -10,7 +10,7 @@ ghost use Rattle.drf_sorter.specs.Keys.{keys_of, key_by};
 ghost use Rattle.drf_sorter.specs.Lines.{IsLineOf, has_line};
 
 use crate::candidate::Candidate;
-use crate::client::{Client, NodeClients};
+use crate::client::{Client, NodeClients, raise};
 use crate::key::{Key, KeyCount, weighted_share};
 use crate::lines::{NodeLines, node_line};
 use crate::share::Share;
@@ -288,7 +288,7 @@ impl Sorter for PlainSorter {
         let _ = quantities.entries();
         if let Some(at) = self.row_of(path) {
             let client = &mut self.clients[at];
-            client.held = client.held.plus(quantities)?;
+            raise(&mut client.held, quantities)?;
             client.count += 1;
         }
         Ok(())

@@ -4,8 +4,8 @@ use Rattle.drf_sorter.specs.Content.{charged}
 use Rattle.drf_sorter.proofs.ChangeLemmas.{place-found, changed_in_sum, known-found, charged_is, changed_one, with_clients}
 use Rattle.drf_sorter.proofs.plain.PlainSorterSorter.charge.Goals as goal
 
-pub plus-requires : goal.plus-requires
-plus-requires c label =
+pub raise-requires : goal.raise-requires
+raise-requires c label =
     let clients = c.args.self.now.clients.items in
     let x = c.index_mut-client.result.now in
     let found =
@@ -26,17 +26,17 @@ overflow_add-client c =
     changed_in_sum c.args.path.now (charged c.args.quantities.now) (λ r. r.count) clients c.in-Some.at x found in
     omega (arith, part, c.requires.sound.count)
 
-pub returns-in_ok-client-clause-ok : goal.returns-in_ok-client-clause-ok
-returns-in_ok-client-clause-ok c =
+pub returns-in_ok-raise-clause-ok : goal.returns-in_ok-raise-clause-ok
+returns-in_ok-raise-clause-ok c =
     let sorter = c.args.self.now in
     let clients = sorter.clients.items in
     let x = c.index_mut-client.result.now in
-    let y : Client = record x { held = c.in_ok-client.field-0; count = x.count + 1 } in
+    let y : Client = record x { held = c.raise.new.held; count = x.count + 1 } in
     let found =
     place-found clients c.args.path.now c.in-Some.at x c.in-Some.ensures
     c.index_mut-client.ensures.value in
     let made =
-    charged_is x c.args.quantities.now c.in_ok-client.field-0 c.entries.ensures.in_order c.in_ok-client.ensures in
+    charged_is x c.args.quantities.now c.raise.new.held c.entries.ensures.in_order c.in_ok-raise.ensures.ok in
     ap (with_clients sorter)
     (changed_one c.args.path.now (charged c.args.quantities.now) clients c.in-Some.at x y sorter.distinct found made)
 

@@ -23,7 +23,3 @@ returns-in_ok-report-in-Report-clause-ok g c =
 pub change-requires-clause-plain : goal.change-requires-clause-plain
 change-requires-clause-plain g c =
     (done c.args.self.now.rows c.args.self.now.rows c.args.event c.in_default.not-Cycle c.in_default.not-Report).0
-
-pub returns-in_default-clause-reply : goal.returns-in_default-clause-reply
-returns-in_default-clause-reply g c =
-    (done c.args.self.now.rows (effect c.args.self.now.rows c.args.event) c.args.event c.in_default.not-Cycle c.in_default.not-Report).1

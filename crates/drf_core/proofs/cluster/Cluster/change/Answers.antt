@@ -61,8 +61,8 @@ returns-in-Decline-clause-ok g c =
     (λ each. effect-decline rows c.decline.new.self.rows c.in-Decline.event welcome.1 each ∙ ap (effect rows) (sym c.in-Decline.is))
     c.decline.ensures.ok
 
-pub unreachable-in-Cycle : goal.unreachable-in-Cycle
-unreachable-in-Cycle g c = true≢false (ap has_answer (sym c.in-Cycle.is) ∙ c.requires.plain)
+pub unreachable-requires : goal.unreachable-requires
+unreachable-requires g c = true≢false (ap has_answer (sym c.in-Cycle.is) ∙ c.requires.plain)
 
-pub unreachable-in-Report : goal.unreachable-in-Report
-unreachable-in-Report g c = true≢false (ap has_answer (sym c.in-Report.is) ∙ c.requires.plain)
+pub unreachable-requires-in-Report : goal.unreachable-requires-in-Report
+unreachable-requires-in-Report g c = true≢false (ap has_answer (sym c.in-Report.is) ∙ c.requires.plain)

@@ -5,4 +5,4 @@ pub mod Meanings
 pub mod Texts
 pub mod EachIn
 pub mod Events
-pub mod ReplyTokens
+pub mod ReplyTexts

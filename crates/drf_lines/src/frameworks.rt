@@ -16,13 +16,34 @@ use drf_rows::{Event, Table};
 use serde_json::{Value, json};
 use std::alloc::{AllocError, Global};
 
+/// Reads a role. Where it is one that was read before, it shares the text.
+fn read_role_again(alloc: Global, known: &Role, text: &str) -> Result<Role, LineError>
+    ensures { IsReadOf result (role_in text.now) }
+{
+    if known.text() == text {
+        return Ok(known.copy()?);
+    }
+    read_role(alloc, text)
+}
+
+/// Reads a role behind the last one of some.
+fn read_next_role(alloc: Global, last: Option<&Role>, text: &str) -> Result<Role, LineError>
+    ensures { IsReadOf result (role_in text.now) }
+{
+    match last {
+        Some(known) => read_role_again(alloc, known, text),
+        None => read_role(alloc, text),
+    }
+}
+
 /// Reads the roles of a framework, of which one may stand more than once.
 fn read_roles(alloc: Global, texts: &[&str]) -> Result<Table<Role>, LineError>
     ensures { IsReadOf result (roles_in (map (λ text. text.now) texts.now)) }
 {
     let mut roles = Vec::with_capacity(alloc, texts.len())?;
     for text in texts {
-        roles.push(read_role(alloc, text)?)?;
+        let role = read_next_role(alloc, roles.last(), text)?;
+        roles.push(role)?;
     }
     Ok(Table::from_vec(roles))
 }

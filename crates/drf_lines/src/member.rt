@@ -1,23 +1,84 @@
 //! Members of an object that is being written.
-ghost use Rattle.std.specs.Prelude.{[], ◌∷◌, decimal};
-ghost use Rattle.json.specs.Token.{key as key_token, string, number};
-ghost use Rattle.drf_lines.specs.Written.{Appends};
+ghost use Rattle.std.specs.Prelude.{◌≡◌, ◌∷◌, ◌++◌, [], IfOk, OnOk, decimal, nat_lt};
+ghost use Rattle.std.specs.List.{list_all};
+ghost use Rattle.json.specs.Print.{escape, quoted};
+ghost use Rattle.serde_json.specs.Written.{comma_if};
+ghost use Rattle.drf_lines.specs.Written.{is_plain_byte};
 
+use itoa::Buffer;
 use json::Writer;
-use std::alloc::AllocError;
+use std::alloc::{AllocError, Global};
 
-/// A key and a text.
-pub fn put_text(out: &mut Writer, key: &str, text: &str) -> Result<(), AllocError>
-    ensures { Appends result out.old out.new (key_token key.now ∷ string text.now ∷ []) }
+fn is_plain_byte(byte: u8) -> bool
+    ensures { result ≡ is_plain_byte byte }
 {
-    out.key(key)?;
-    out.string(text)
+    (byte >= 32) & ((byte != b'"') & (byte != b'\\'))
 }
 
-/// A key and a number.
-pub fn put_number(out: &mut Writer, key: &str, value: u64) -> Result<(), AllocError>
-    ensures { Appends result out.old out.new (key_token key.now ∷ number (decimal value) ∷ []) }
+/// Whether a JSON string holds the text as it is.
+fn is_plain(text: &str) -> bool
+    ensures { result ≡ list_all is_plain_byte text.now }
 {
-    out.key(key)?;
-    out.u64(value)
+    text.as_bytes().iter().all(|b| is_plain_byte(*b))
+}
+
+/// The text as a JSON string.
+fn quoted(alloc: Global, text: &str) -> Result<Vec<u8>, AllocError>
+    ensures { IfOk result (λ string. string.items ≡ quoted text.now) }
+{
+    let mut out = Writer::new(Vec::new(alloc));
+    out.string(text)?;
+    Ok(out.into_inner())
+}
+
+pub fn put(line: &mut Vec<u8>, text: &str) -> Result<(), AllocError>
+    ensures { OnOk result (line.new.items ≡ line.old.items ++ text.now) }
+{
+    line.extend_from_slice(text.as_bytes())
+}
+
+/// Writes one byte, as a closing bracket.
+pub fn put_byte(line: &mut Vec<u8>, byte: u8) -> Result<(), AllocError>
+    ensures { OnOk result (line.new.items ≡ line.old.items ++ byte ∷ []) }
+{
+    line.push(byte)?;
+    Ok(())
+}
+
+/// Writes what stands behind the first `"` of a JSON string.
+fn put_string(line: &mut Vec<u8>, text: &str) -> Result<(), AllocError>
+    ensures { OnOk result (line.new.items ≡ line.old.items ++ (escape text.now ++ 34 ∷ [])) }
+{
+    if is_plain(text) {
+        put(line, text)?;
+        return put_byte(line, b'"');
+    }
+    let string = quoted(*line.allocator(), text)?;
+    line.extend_from_slice(&string[1..])
+}
+
+/// Writes what stands before a text with its first `"`, and the text.
+pub fn put_text(line: &mut Vec<u8>, before: &str, text: &str) -> Result<(), AllocError>
+    ensures { OnOk result (line.new.items ≡ line.old.items ++ (before.now ++ (escape text.now ++ 34 ∷ []))) }
+{
+    put(line, before)?;
+    put_string(line, text)
+}
+
+/// Writes what stands before a number, and the number.
+pub fn put_number(line: &mut Vec<u8>, before: &str, value: u64) -> Result<(), AllocError>
+    ensures { OnOk result (line.new.items ≡ line.old.items ++ (before.now ++ decimal value)) }
+{
+    put(line, before)?;
+    put(line, Buffer::new().format(value))
+}
+
+/// Writes the comma before an item, but not before the first.
+pub fn put_comma(line: &mut Vec<u8>, place: usize) -> Result<(), AllocError>
+    ensures { OnOk result (line.new.items ≡ line.old.items ++ comma_if (nat_lt 0 place)) }
+{
+    if place > 0 {
+        line.push(b',')?;
+    }
+    Ok(())
 }

@@ -1,72 +1,113 @@
 //! The writer of a report.
-ghost use Rattle.std.specs.Prelude.{◌≡◌, map, IfOk, string_bytes};
+ghost use Rattle.std.specs.Prelude.{◌≡◌, ◌∷◌, ◌++◌, [], map, OnOk, string_bytes, nat_lt};
+ghost use Rattle.std.specs.List.{list_all};
+ghost use Rattle.json.specs.Print.{escape};
 ghost use Rattle.serde_json.specs.Data.{array};
 ghost use Rattle.serde_json.specs.View.{items_of};
+ghost use Rattle.serde_json.specs.Written.{compact_text};
 ghost use Rattle.drf_lines.specs.ReportLine.{amounts_text, fraction_text, node_value, report_value};
-ghost use Rattle.drf_lines.specs.Written.{tokens_of, Appends};
 
-use crate::member::{put_number, put_text};
+use crate::member::{put, put_byte, put_comma, put_number, put_text};
 use drf_bundle::Quantities;
 use drf_rows::{NodeLine, Report};
-use drf_text::write_quantities;
+use drf_text::push_quantities;
 use itoa::Buffer;
-use json::Writer;
 use std::alloc::{AllocError, Global};
 
-/// The quantities above 0.
-fn amounts_text(alloc: Global, quantities: &Quantities) -> Result<String, AllocError>
-    ensures { IfOk result (λ text. string_bytes text ≡ amounts_text quantities.now) }
+/// Whether each quantity is above 0.
+fn are_above_zero(quantities: &Quantities) -> bool
+    ensures { result ≡ list_all (λ e. nat_lt 0 e.amount) quantities.now }
 {
-    let mut amounts = quantities.copy()?;
-    amounts.remove_zeros();
-    write_quantities(alloc, &amounts)
+    quantities
+        .entries()
+        .iter()
+        .all(|entry| entry.amount.thousandths() > 0)
 }
 
-/// The two numbers of a fraction, with `/` between them.
-fn fraction_text(alloc: Global, fraction: (u128, u128)) -> Result<String, AllocError>
-    ensures { IfOk result (λ text. string_bytes text ≡ fraction_text fraction) }
+/// Makes the text that of the quantities above 0.
+fn set_amounts(text: &mut String, quantities: &Quantities) -> Result<(), AllocError>
+    ensures { OnOk result (string_bytes text.new ≡ amounts_text quantities.now) }
+{
+    text.clear();
+    if are_above_zero(quantities) {
+        return push_quantities(text, quantities);
+    }
+    let mut amounts = quantities.copy()?;
+    amounts.remove_zeros();
+    push_quantities(text, &amounts)
+}
+
+/// Makes the text that of the two numbers of a fraction, with `/` between them.
+fn set_fraction(text: &mut String, fraction: (u128, u128)) -> Result<(), AllocError>
+    ensures { OnOk result (string_bytes text.new ≡ fraction_text fraction) }
 {
     let (part, whole) = fraction;
-    let mut text = String::new(alloc);
+    text.clear();
     text.push_str(Buffer::new().format(part))?;
     text.push('/')?;
     text.push_str(Buffer::new().format(whole))?;
-    Ok(text)
+    Ok(())
 }
 
-fn put_node(alloc: Global, out: &mut Writer, node: &NodeLine) -> Result<(), AllocError>
-    ensures { Appends result out.old out.new (tokens_of (node_value node.now)) }
+/// Writes what stands before the quantities above 0 with its first `"`, and them. The text is for use in between.
+fn put_amounts(
+    line: &mut Vec<u8>,
+    text: &mut String,
+    before: &str,
+    quantities: &Quantities,
+) -> Result<(), AllocError>
+    ensures { OnOk result (line.new.items ≡ line.old.items ++ (before.now ++ (escape (amounts_text quantities.now) ++ 34 ∷ []))) }
 {
-    let held = amounts_text(alloc, &node.held)?;
-    let share = fraction_text(alloc, node.share)?;
-    let weighted = fraction_text(alloc, node.weighted)?;
-    out.begin_object()?;
-    put_number(out, "count", node.count)?;
-    put_text(out, "held", held.as_str())?;
-    put_text(out, "path", node.path.text())?;
-    put_text(out, "share", share.as_str())?;
-    put_text(out, "weighted", weighted.as_str())?;
-    out.end_object()
+    set_amounts(text, quantities)?;
+    put_text(line, before, text.as_str())
+}
+
+/// Writes what stands before a fraction with its first `"`, and the fraction.
+fn put_fraction(
+    line: &mut Vec<u8>,
+    text: &mut String,
+    before: &str,
+    fraction: (u128, u128),
+) -> Result<(), AllocError>
+    ensures { OnOk result (line.new.items ≡ line.old.items ++ (before.now ++ (escape (fraction_text fraction) ++ 34 ∷ []))) }
+{
+    set_fraction(text, fraction)?;
+    put_text(line, before, text.as_str())
+}
+
+fn put_node(line: &mut Vec<u8>, text: &mut String, node: &NodeLine) -> Result<(), AllocError>
+    ensures { OnOk result (line.new.items ≡ line.old.items ++ compact_text (node_value node.now)) }
+{
+    put_number(line, "{\"count\":", node.count)?;
+    put_amounts(line, text, ",\"held\":\"", &node.held)?;
+    put_text(line, ",\"path\":\"", node.path.text())?;
+    put_fraction(line, text, ",\"share\":\"", node.share)?;
+    put_fraction(line, text, ",\"weighted\":\"", node.weighted)?;
+    put_byte(line, b'}')
 }
 
 /// The nodes, one after another.
-fn put_node_list(alloc: Global, out: &mut Writer, nodes: &[NodeLine]) -> Result<(), AllocError>
-    ensures { Appends result out.old out.new (tokens_of (array (items_of (map node_value nodes.now)))) }
+fn put_node_list(
+    line: &mut Vec<u8>,
+    text: &mut String,
+    nodes: &[NodeLine],
+) -> Result<(), AllocError>
+    ensures { OnOk result (line.new.items ≡ line.old.items ++ compact_text (array (items_of (map node_value nodes.now)))) }
 {
-    out.begin_array()?;
-    for node in nodes {
-        put_node(alloc, out, node)?;
+    put_byte(line, b'[')?;
+    for (i, node) in nodes.iter().enumerate() {
+        put_comma(line, i)?;
+        put_node(line, text, node)?;
     }
-    out.end_array()
+    put_byte(line, b']')
 }
 
-pub fn put_report(alloc: Global, out: &mut Writer, report: &Report) -> Result<(), AllocError>
-    ensures { Appends result out.old out.new (tokens_of (report_value report.now)) }
+pub fn put_report(alloc: Global, line: &mut Vec<u8>, report: &Report) -> Result<(), AllocError>
+    ensures { OnOk result (line.new.items ≡ line.old.items ++ compact_text (report_value report.now)) }
 {
-    let total = amounts_text(alloc, &report.total)?;
-    out.begin_object()?;
-    out.key("nodes")?;
-    put_node_list(alloc, out, report.nodes.as_slice())?;
-    put_text(out, "total", total.as_str())?;
-    out.end_object()
+    let mut text = String::new(alloc);
+    put(line, "{\"nodes\":")?;
+    put_node_list(line, &mut text, report.nodes.as_slice())?;
+    put_amounts(line, &mut text, ",\"total\":\"", &report.total)?;
+    put_byte(line, b'}')
 }

@@ -13,20 +13,20 @@ first_left : (roles : List (List (List ℕ))) (texts : List (Bor (List ℕ))) (i
 first_left roles texts i d inside =
     at_drop_more (λ (left : List (Bor (List ℕ))). roles_after roles (map (λ text. text.now) left)) texts i d inside
 
-pub returns-in_err-read_role : goal.returns-in_err-read_role
-returns-in_err-read_role c =
-    let p = err_from_is_err_and c.from_residual-in_err-read_role.result c.from_residual-in_err-read_role.ensures.1 in
+pub returns-in_err-role : goal.returns-in_err-role
+returns-in_err-role c =
+    let p = err_from_is_err_and c.from_residual-in_err-role.result c.from_residual-in_err-role.ensures.1 in
     let none : Bor (List ℕ) = record { ref_ptr = (0, 0); now = [] } in
     let left = first_left c.loop-text.roles.items c.args.texts.now c.loop-text.text-index none c.loop-text-test.true in
-    rw (p.1, p.2) (subst (IsReadOf (Err c.in_err-read_role.field-0.0)) (sym left ∙ c.loop-text.invariant)
-    (roles_after-refused c.in_err-read_role.field-0.0 c.loop-text.roles.items _ _ c.in_err-read_role.ensures))
+    rw (p.1, p.2) (subst (IsReadOf (Err c.in_err-role.field-0.0)) (sym left ∙ c.loop-text.invariant)
+    (roles_after-refused c.in_err-role.field-0.0 c.loop-text.roles.items _ _ c.in_err-role.ensures))
 
 pub loop-text-preserved : goal.loop-text-preserved
 loop-text-preserved c =
     let none : Bor (List ℕ) = record { ref_ptr = (0, 0); now = [] } in
     let left = first_left c.loop-text.roles.items c.args.texts.now c.loop-text.text-index none c.loop-text-test.true in
     rw (c.in_ok-push.ensures.items)
-    (sym (roles_after-role c.loop-text.roles.items _ _ c.in_ok-read_role.field-0 c.in_ok-read_role.ensures)
+    (sym (roles_after-role c.loop-text.roles.items _ _ c.in_ok-role.role c.in_ok-role.ensures)
     ∙ sym left ∙ c.loop-text.invariant)
 
 pub returns : goal.returns

@@ -1,8 +1,12 @@
-use Rattle.drf_lines.proofs.ReplyTokens.{one, then}
+use Rattle.std.proofs.lemmas.Result.{on_ok_weaker}
+use Rattle.json.specs.Print.{escape_byte}
+use Rattle.drf_lines.proofs.ReplyTexts.{then}
 use Rattle.drf_lines.proofs.reply.put_offer.Goals as goal
 
 pub returns : goal.returns
+unfolding escape_byte
 returns c =
-    rw (c.text.ensures.text, c.text-2.ensures.text, c.as_str.ensures.value, c.in_ok-resources.ensures, c.text-3.ensures.text) at
-    (then (then (then (then (then (then (one c.in_ok-begin_object.ensures) c.in_ok-put_text.ensures) c.in_ok-put_text-2.ensures)
-    c.in_ok-put_number.ensures) c.in_ok-put_text-3.ensures) c.in_ok-put_text-4.ensures) (one c.end_object.ensures))
+    on_ok_weaker c.put_byte.result (λ end.
+    then c.args.line.now.items _ _ (rw c.text.ensures.text at c.in_ok-put_text.ensures) (then c.put_text.new.line.items _ _ (rw c.text-2.ensures.text at c.in_ok-put_text-2.ensures)
+    (then c.put_text-2.new.line.items _ _ c.in_ok-put_number.ensures (then c.put_number.new.line.items _ _ c.in_ok-put_bundle.ensures
+    (then c.put_bundle.new.line.items _ _ (rw c.text-3.ensures.text at c.in_ok-put_text-3.ensures) end))))) c.put_byte.ensures

@@ -1,20 +1,24 @@
-use Rattle.std.proofs.Common.{◌∙◌}
+use Rattle.std.proofs.Common.{◌++◌, map}
+use Rattle.std.proofs.lemmas.Result.{on_ok_weaker}
+use Rattle.serde_json.specs.Data.{array}
+use Rattle.serde_json.specs.View.{items_of}
+use Rattle.serde_json.specs.Written.{compact_text}
 use Rattle.drf_lines.specs.ReplyLine.{offer_value}
-use Rattle.drf_lines.proofs.ReplyTokens.{failed, listing_begun, listing_more, listing_ended}
+use Rattle.drf_lines.proofs.ReplyTexts.{items_begun, item_more, items_ended}
 use Rattle.drf_lines.proofs.reply.put_offer_list.Goals as goal
 
-pub loop-offer-init : goal.loop-offer-init
-loop-offer-init c = listing_begun offer_value c.args.offers.now c.in_ok-begin_array.ensures
+pub loop-i-init : goal.loop-i-init
+loop-i-init c = items_begun offer_value c.args.offers.now c.args.line.now.items c.put_byte.new.line.items c.in_ok-put_byte.ensures
 
-pub returns-in_err-put_offer : goal.returns-in_err-put_offer
-returns-in_err-put_offer c =
-    failed c.from_residual-in_err-put_offer.ensures.0 (c.put_offer.ensures.before ∙ c.loop-offer.invariant.before)
-
-pub loop-offer-preserved : goal.loop-offer-preserved
-loop-offer-preserved c =
-    listing_more offer_value c.args.offers.now c.loop-offer.offer-index c.offer-item.result c.loop-offer-test.true c.offer-item.is
-    c.loop-offer.invariant c.in_ok-put_offer.ensures
+pub loop-i-preserved : goal.loop-i-preserved
+loop-i-preserved c =
+    let total = c.args.line.now.items ++ compact_text (array (items_of (map offer_value c.args.offers.now))) in
+    item_more offer_value c.args.offers.now c.loop-i.i c.index-offers-i.result total c.loop-i.line.items c.put_comma.new.line.items c.put_offer.new.line.items
+    c.loop-i-test.true c.index-offers-i.is c.loop-i.invariant c.in_ok-put_comma.ensures c.in_ok-put_offer.ensures
 
 pub returns : goal.returns
 returns c =
-    listing_ended offer_value c.args.offers.now c.loop-offer.offer-index c.loop-offer-test.false c.loop-offer.invariant c.end_array.ensures
+    let total = c.args.line.now.items ++ compact_text (array (items_of (map offer_value c.args.offers.now))) in
+    on_ok_weaker c.put_byte-2.result
+    (λ end. items_ended offer_value c.args.offers.now c.loop-i.i total c.loop-i.line.items c.put_byte-2.new.line.items c.loop-i-test.false c.loop-i.invariant end)
+    c.put_byte-2.ensures

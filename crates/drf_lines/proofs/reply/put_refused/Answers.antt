@@ -1,5 +1,9 @@
-use Rattle.drf_lines.proofs.ReplyTokens.{one, then}
+use Rattle.std.proofs.lemmas.Result.{on_ok_weaker}
+use Rattle.json.specs.Print.{escape_byte}
+use Rattle.drf_lines.proofs.ReplyTexts.{then}
 use Rattle.drf_lines.proofs.reply.put_refused.Goals as goal
 
 pub returns : goal.returns
-returns c = then (then (then (one c.in_ok-begin_object.ensures) c.in_ok-put_text.ensures) c.in_ok-put_number.ensures) (one c.end_object.ensures)
+unfolding escape_byte
+returns c =
+    on_ok_weaker c.put_byte.result (λ end. then c.args.line.now.items _ _ c.in_ok-put_text.ensures (then c.put_text.new.line.items _ _ c.in_ok-put_number.ensures end)) c.put_byte.ensures

@@ -1,8 +1,12 @@
-use Rattle.drf_lines.proofs.ReplyTokens.{one, then}
+use Rattle.std.proofs.lemmas.Result.{on_ok_weaker}
+use Rattle.json.specs.Print.{escape_byte}
+use Rattle.drf_lines.proofs.ReplyTexts.{then}
 use Rattle.drf_lines.proofs.report.put_node.Goals as goal
 
 pub returns : goal.returns
+unfolding escape_byte
 returns c =
-    rw (c.as_str.ensures.value, c.in_ok-held.ensures, c.text.ensures.text, c.as_str-2.ensures.value, c.in_ok-share.ensures, c.as_str-3.ensures.value, c.in_ok-weighted.ensures) at
-    (then (then (then (then (then (then (one c.in_ok-begin_object.ensures) c.in_ok-put_number.ensures) c.in_ok-put_text.ensures)
-    c.in_ok-put_text-2.ensures) c.in_ok-put_text-3.ensures) c.in_ok-put_text-4.ensures) (one c.end_object.ensures))
+    on_ok_weaker c.put_byte.result (λ end.
+    then c.args.line.now.items _ _ c.in_ok-put_number.ensures (then c.put_number.new.line.items _ _ c.in_ok-put_amounts.ensures
+    (then c.put_amounts.new.line.items _ _ (rw c.text.ensures.text at c.in_ok-put_text.ensures) (then c.put_text.new.line.items _ _ c.in_ok-put_fraction.ensures
+    (then c.put_fraction.new.line.items _ _ c.in_ok-put_fraction-2.ensures end))))) c.put_byte.ensures

@@ -1,20 +1,24 @@
-use Rattle.std.proofs.Common.{◌∙◌}
+use Rattle.std.proofs.Common.{◌++◌, map}
+use Rattle.std.proofs.lemmas.Result.{on_ok_weaker}
+use Rattle.serde_json.specs.Data.{array}
+use Rattle.serde_json.specs.View.{items_of}
+use Rattle.serde_json.specs.Written.{compact_text}
 use Rattle.drf_lines.specs.ReportLine.{node_value}
-use Rattle.drf_lines.proofs.ReplyTokens.{failed, listing_begun, listing_more, listing_ended}
+use Rattle.drf_lines.proofs.ReplyTexts.{items_begun, item_more, items_ended}
 use Rattle.drf_lines.proofs.report.put_node_list.Goals as goal
 
-pub loop-node-init : goal.loop-node-init
-loop-node-init c = listing_begun node_value c.args.nodes.now c.in_ok-begin_array.ensures
+pub loop-i-init : goal.loop-i-init
+loop-i-init c = items_begun node_value c.args.nodes.now c.args.line.now.items c.put_byte.new.line.items c.in_ok-put_byte.ensures
 
-pub returns-in_err-put_node : goal.returns-in_err-put_node
-returns-in_err-put_node c =
-    failed c.from_residual-in_err-put_node.ensures.0 (c.put_node.ensures.before ∙ c.loop-node.invariant.before)
-
-pub loop-node-preserved : goal.loop-node-preserved
-loop-node-preserved c =
-    listing_more node_value c.args.nodes.now c.loop-node.node-index c.node-item.result c.loop-node-test.true c.node-item.is
-    c.loop-node.invariant c.in_ok-put_node.ensures
+pub loop-i-preserved : goal.loop-i-preserved
+loop-i-preserved c =
+    let total = c.args.line.now.items ++ compact_text (array (items_of (map node_value c.args.nodes.now))) in
+    item_more node_value c.args.nodes.now c.loop-i.i c.index-nodes-i.result total c.loop-i.line.items c.put_comma.new.line.items c.put_node.new.line.items
+    c.loop-i-test.true c.index-nodes-i.is c.loop-i.invariant c.in_ok-put_comma.ensures c.in_ok-put_node.ensures
 
 pub returns : goal.returns
 returns c =
-    listing_ended node_value c.args.nodes.now c.loop-node.node-index c.loop-node-test.false c.loop-node.invariant c.end_array.ensures
+    let total = c.args.line.now.items ++ compact_text (array (items_of (map node_value c.args.nodes.now))) in
+    on_ok_weaker c.put_byte-2.result
+    (λ end. items_ended node_value c.args.nodes.now c.loop-i.i total c.loop-i.line.items c.put_byte-2.new.line.items c.loop-i-test.false c.loop-i.invariant end)
+    c.put_byte-2.ensures

@@ -1,7 +1,12 @@
-use Rattle.std.proofs.Common.{drop}
+use Rattle.std.proofs.Common.{◌≡◌, ◌++◌, map, drop}
+use Rattle.serde_json.specs.Data.{array}
+use Rattle.serde_json.specs.View.{items_of}
+use Rattle.serde_json.specs.Written.{compact_text}
 use Rattle.drf_lines.specs.ReportLine.{node_value}
-use Rattle.drf_lines.proofs.ReplyTokens.{IsListing}
+use Rattle.drf_lines.proofs.ReplyTexts.{left_text}
 use Rattle.drf_lines.proofs.report.put_node_list.Given as goal
 
-abbrev pub invariant-loop-node : goal.invariant-loop-node
-invariant-loop-node l = IsListing node_value l.fn.out l.out l.nodes (drop l.node-index l.nodes)
+-- with the text of those that are left the line is that of all
+abbrev pub invariant-loop-i : goal.invariant-loop-i
+invariant-loop-i l =
+    l.line.items ++ left_text node_value l.i (drop l.i l.nodes) ≡ l.fn.line.items ++ compact_text (array (items_of (map node_value l.nodes)))

@@ -1,0 +1,76 @@
+-- The texts of replies, one after another.
+use Rattle.std.proofs.Common.{◌≡◌, ℕ, ◌+◌, ◌<◌, ◌≤◌, Bool, true, not, List, [], ◌∷◌, ◌++◌, map, drop, get_or, length, refl, sym, ap, ◌∙◌, append_assoc, append-nil, eqb, arith}
+use Rattle.std.specs.Prelude.{nat_lt, filter}
+use Rattle.std.specs.List.{list_all}
+use Rattle.std.proofs.lemmas.Bool.{and_parts, not-true, eqb-false, leb-true, lt-ltb}
+use Rattle.std.proofs.lemmas.List.{at_drop_more, at_drop_all}
+use Rattle.json.specs.Token.{string}
+use Rattle.json.specs.Print.{escape, escape_byte, quoted, print, print_from}
+use Rattle.json.proofs.Printed.Strings.{escape_byte_plain}
+use Rattle.serde_json.specs.Data.{Data, array}
+use Rattle.serde_json.specs.View.{items_of}
+use Rattle.serde_json.specs.Written.{compact_text, items_text, comma_if}
+use Rattle.drf_lines.specs.Written.{is_plain_byte}
+
+-- some bytes and then others
+pub then : (old first second : List ℕ) {mid new : List ℕ} → mid ≡ old ++ first → new ≡ mid ++ second → new ≡ old ++ (first ++ second)
+then old first second a b =
+    b ∙ ap (λ (bytes : List ℕ). bytes ++ second) a ∙ append_assoc old first second
+
+-- ---- strings
+
+pub quoted_alone : (s : List ℕ) → print (string s ∷ []) ≡ quoted s
+unfolding print_from
+quoted_alone s = append-nil (quoted s)
+
+plain_byte : (x : ℕ) → is_plain_byte x ≡ true → escape_byte x ≡ x ∷ []
+plain_byte x e =
+    let tests = and_parts _ _ e in
+    let others = and_parts _ _ tests.1 in
+    escape_byte_plain x (eqb-false x 34 (not-true _ others.0)) (eqb-false x 92 (not-true _ others.1)) (leb-true 32 x tests.0)
+
+pub plain_is_kept : (s : List ℕ) → list_all is_plain_byte s ≡ true → escape s ≡ s
+plain_is_kept [] e = refl
+plain_is_kept (x ∷ xs) e =
+    let tests = and_parts (is_plain_byte x) (list_all is_plain_byte xs) e in
+    λ i. plain_byte x tests.0 i ++ plain_is_kept xs tests.1 i
+
+-- ---- the items of an array, one after another
+
+-- the text of those that are left
+abbrev pub left_text : {A : Type 0} → (A → Data) → ℕ → List A → List ℕ
+left_text value place left = items_text (nat_lt 0 place) (items_of (map value left))
+
+pub items_begun : {A : Type 0} (value : A → Data) (all : List A) (old now : List ℕ) → now ≡ old ++ 91 ∷ []
+    → now ++ left_text value 0 all ≡ old ++ compact_text (array (items_of (map value all)))
+items_begun value all old now begun =
+    ap (λ (bytes : List ℕ). bytes ++ left_text value 0 all) begun ∙ append_assoc old (91 ∷ []) (left_text value 0 all)
+
+pub item_more : {A : Type 0} (value : A → Data) (all : List A) (i : ℕ) (x : A) (total before mid now : List ℕ)
+    → i < length all → x ≡ get_or all i x → before ++ left_text value i (drop i all) ≡ total
+    → mid ≡ before ++ comma_if (nat_lt 0 i) → now ≡ mid ++ compact_text (value x)
+    → now ++ left_text value (i + 1) (drop (i + 1) all) ≡ total
+item_more value all i x total before mid now inside is so_far comma text =
+    let left = drop (i + 1) all in
+    let rest : List ℕ = left_text value (i + 1) left in
+    let later : nat_lt 0 (i + 1) ≡ true = lt-ltb 0 (i + 1) (omega arith) in
+    ap (λ (bytes : List ℕ). bytes ++ rest) (then before (comma_if (nat_lt 0 i)) (compact_text (value x)) comma text)
+    ∙ append_assoc before (comma_if (nat_lt 0 i) ++ compact_text (value x)) rest
+    ∙ ap (λ (bytes : List ℕ). before ++ bytes) (append_assoc (comma_if (nat_lt 0 i)) (compact_text (value x)) rest)
+    ∙ ap (λ b. before ++ (comma_if (nat_lt 0 i) ++ (compact_text (value x) ++ items_text b (items_of (map value left))))) later
+    ∙ ap (λ y. before ++ left_text value i (y ∷ left)) is
+    ∙ sym (at_drop_more (λ left. before ++ left_text value i left) all i x inside)
+    ∙ so_far
+
+pub items_ended : {A : Type 0} (value : A → Data) (all : List A) (i : ℕ) (total before now : List ℕ) → length all ≤ i
+    → before ++ left_text value i (drop i all) ≡ total → now ≡ before ++ 93 ∷ [] → now ≡ total
+items_ended value all i total before now past so_far end =
+    end ∙ sym (at_drop_all (λ left. before ++ left_text value i left) all i past) ∙ so_far
+
+-- ---- quantities
+
+pub all_are_kept : {A : Type 0} (test : A → Bool) (xs : List A) → list_all test xs ≡ true → filter test xs ≡ xs
+all_are_kept test [] e = refl
+all_are_kept test (x ∷ xs) e =
+    let tests = and_parts (test x) (list_all test xs) e in
+    rw tests.0 (ap (λ ys. x ∷ ys) (all_are_kept test xs tests.1))

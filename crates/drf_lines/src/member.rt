@@ -31,6 +31,7 @@ fn quoted(alloc: Global, text: &str) -> Result<Vec<u8>, AllocError>
     Ok(out.into_inner())
 }
 
+/// Writes a text.
 pub fn put(line: &mut Vec<u8>, text: &str) -> Result<(), AllocError>
     ensures { OnOk result (line.new.items ≡ line.old.items ++ text.now) }
 {

@@ -1,6 +1,3 @@
-use Rattle.std.proofs.Common.{◌∙◌, ◌++◌, ap}
-use Rattle.json.specs.Token.{Token}
-use Rattle.json.specs.Print.{print}
 use Rattle.drf_lines.proofs.ReplyTexts.{quoted_alone}
 use Rattle.drf_lines.proofs.member.quoted.Goals as goal
 

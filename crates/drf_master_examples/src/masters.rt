@@ -120,8 +120,8 @@ fn run_named<K: Naming + Send + Sync, W: Threads + Wait + Sync>(
     )
 }
 
-/// Opens a master with two passes, uses and closes it, and ends a line that tells how that went. What was kept before closes it too. What is kept afterwards
-/// are its own passes that did not close it, or all of its own where none did.
+/// Opens a master with two passes, uses and closes it, and ends a line that tells how that went. What was kept before closes it too. What
+/// is kept afterwards are its own passes that did not close it, or all of its own where none did.
 pub fn run<W: Threads + Wait + Sync>(
     rt: &W,
     alloc: Global,

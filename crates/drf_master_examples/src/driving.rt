@@ -267,7 +267,7 @@ pub fn append_meeting<W: Threads + Wait + Sync>(
     let mut others = Vec::new(alloc);
     let mut scripts = Vec::new(alloc);
     add_frameworks(alloc, &mut scripts, count)?;
-    let meeting = meeting_of(count as u64, 1_000_000);
+    let meeting = meeting_of(count as u64, 100_000_000);
     let telling = Telling::Places(count);
     drive_scripts(rt, alloc, told, &meeting, telling, &mut others, scripts)?;
     Ok(told.push('\n')?)

@@ -6,7 +6,7 @@ use crate::closing::keep_passes;
 use crate::lines::{AGENT, CYCLE, FRAMEWORK, add_script, append_reply};
 use anyhow::{Context, Result, bail};
 use drf_board::{Brand, Entry, Naming, Slate};
-use drf_master::{DriveFault, Driven, Gate, Master, Pass, drive};
+use drf_master::{DriveFault, Gate, Master, Pass, drive};
 use drf_rows::{Event, Limits};
 use std::alloc::Global;
 use std::fmt::Write;
@@ -85,9 +85,9 @@ fn append_places(alloc: Global, told: &mut String, entries: &[Entry], count: usi
     Ok(write!(told, " {all} entries, at {places:?}")?)
 }
 
-fn append_replies(alloc: Global, told: &mut String, driven: &Driven) -> Result<()> {
-    for reply in driven.replies.iter().flatten() {
-        append_reply(alloc, told, reply)?;
+fn append_replies(alloc: Global, told: &mut String, entries: &[Entry]) -> Result<()> {
+    for entry in entries {
+        append_reply(alloc, told, &entry.reply)?;
     }
     Ok(())
 }
@@ -96,12 +96,12 @@ fn append_driven(
     alloc: Global,
     told: &mut String,
     telling: Telling,
-    driven: &Result<Driven, DriveFault>,
+    driven: &Result<Vec<Entry>, DriveFault>,
 ) -> Result<()> {
     match driven {
-        Ok(driven) => match telling {
-            Telling::Replies => append_replies(alloc, told, driven),
-            Telling::Places(count) => append_places(alloc, told, driven.book.entries(), count),
+        Ok(entries) => match telling {
+            Telling::Replies => append_replies(alloc, told, entries),
+            Telling::Places(count) => append_places(alloc, told, entries, count),
         },
         Err(fault) => Ok(write!(told, " {fault:?}")?),
     }
@@ -113,6 +113,23 @@ fn exchange(passes: &mut Vec<Pass>, others: &mut Vec<Pass>)
 {
     if others.len() == passes.len() {
         swap(passes, others);
+    }
+}
+
+// The journal of a drive. The rest of what was driven goes at once.
+fn journal_of<K: Naming + Send + Sync, W: Threads + Wait + Sync>(
+    rt: &W,
+    alloc: Global,
+    meeting: &Meeting,
+    master: Master<K, &W>,
+    passes: Vec<Pass>,
+    scripts: Vec<Vec<Event>>,
+) -> Result<Vec<Entry>, DriveFault>
+    requires { length scripts.items ≡ length passes.items }
+{
+    match drive(rt, alloc, master, passes, meeting, scripts) {
+        Ok(driven) => Ok(driven.into_entries()),
+        Err(fault) => Err(fault),
     }
 }
 
@@ -128,7 +145,7 @@ fn drive_and_append<K: Naming + Send + Sync, W: Threads + Wait + Sync>(
 ) -> Result<()>
     requires { length scripts.items ≡ length passes.items }
 {
-    let driven = drive(rt, alloc, master, passes, meeting, scripts);
+    let driven = journal_of(rt, alloc, meeting, master, passes, scripts);
     append_driven(alloc, told, telling, &driven)
 }
 

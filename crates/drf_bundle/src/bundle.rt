@@ -204,9 +204,8 @@ impl Bundle {
         ensures { IfOk result (λ bundle. bundle ≡ one_of label.now role.now value) }
     {
         let mut resources = Vec::new(alloc);
-        // The proof learns of them that they are a label and a role by these calls alone.
-        let _ = label.text();
-        let _ = role.text();
+        label.recall();
+        role.recall();
         let resource = Resource {
             label: label.copy()?,
             role: role.copy()?,
@@ -237,6 +236,13 @@ impl Bundle {
         ensures bundle { IsBundle self.now }
     {
         &self.quantities
+    }
+
+    /// Tells a proof what every bundle is. It does nothing.
+    pub fn recall(&self)
+        ensures { IsBundle self.now }
+    {
+        let _ = self.entries();
     }
 
     /// Whether nothing is reserved.
@@ -280,8 +286,7 @@ impl Bundle {
         requires { IsTrue (is_unreserved self.now) }
         ensures { IfOk result (λ moved. moved ≡ relabel role.now self.now) }
     {
-        // The proof learns that it is a role by this call alone.
-        let _ = role.text();
+        role.recall();
         let mut moved = Vec::with_capacity(self.alloc(), self.resources.len())?;
         for resource in &self.resources {
             moved.push(resource.moved_to(role)?)?;

@@ -98,6 +98,13 @@ impl Quantities {
         self.entries.as_slice()
     }
 
+    /// Tells a proof that the labels are in order. It does nothing.
+    pub fn recall(&self)
+        ensures { IsTrue (is_in_order self.now) }
+    {
+        let _ = self.entries();
+    }
+
     /// The labels in order of bytes, be their amounts 0 or not.
     pub fn names(&self) -> Names<'_>
         ensures { result ≡ names_of self.now }

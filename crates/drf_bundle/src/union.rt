@@ -162,9 +162,8 @@ impl Bundle {
         if first.value.is_empty() {
             return Ok(());
         }
-        // The proof learns of them that they are a label and a role by these calls alone.
-        let _ = first.label.text();
-        let _ = first.role.text();
+        first.label.recall();
+        first.role.recall();
         Ok(put_in_gap(&mut self.resources, &mut self.quantities, at, first)?)
     }
 
@@ -180,9 +179,8 @@ impl Bundle {
         if resource.value.is_empty() {
             return Ok(());
         }
-        // The proof learns of them that they are a label and a role by these calls alone.
-        let _ = resource.label.text();
-        let _ = resource.role.text();
+        resource.label.recall();
+        resource.role.recall();
         Ok(put(&mut self.resources, &mut self.quantities, resource)?)
     }
 

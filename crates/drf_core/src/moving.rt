@@ -19,9 +19,8 @@ fn reserved(role: &Role, resources: &Bundle) -> Result<Bundle, AllocError>
     ensures asked { IsAsked role.now resources.now }
     ensures moved { IfOk result (λ moved. moved ≡ relabel role.now resources.now) }
 {
-    // The proof learns that these are a role and a bundle by these calls alone.
-    let _ = role.text();
-    let _ = resources.quantities();
+    role.recall();
+    resources.recall();
     resources.relabel(role)
 }
 

@@ -6,7 +6,7 @@ ghost use Rattle.drf_gates.specs.Quota.{used_at};
 ghost use Rattle.drf_rows.specs.Client.{Client, path_of};
 ghost use Rattle.drf_rows.specs.Cycle.{is_allocatable};
 ghost use Rattle.drf_rows.specs.Filters.{holds_back, is_on_agent};
-ghost use Rattle.drf_rows.specs.Quota.{binds, consumption, is_within, room_under};
+ghost use Rattle.drf_rows.specs.Quota.{binds, consumption, room_under};
 ghost use Rattle.drf_rows.specs.declared.rows.AgentRow.{AgentRow};
 ghost use Rattle.drf_rows.specs.declared.rows.Rows.{Rows};
 ghost use Rattle.drf_explain.specs.Explained.{held_until, limiting_role, outcome_by, shortage, tighter, tightest, worthy_scalar};
@@ -49,18 +49,11 @@ fn worthy_scalar(part: &Bundle) -> &'static str
     }
 }
 
-/// Whether a role is the outer one or stands below it.
-fn is_within(outer: &Role, role: &Role) -> bool
-    ensures { result ≡ is_within outer.now role.now }
-{
-    role.is_within(outer)
-}
-
 /// Whether a limit is that of the role or of one above it, and names the scalar.
 fn binds(limit: &LimitRow, role: &Role, label: &str) -> bool
     ensures { result ≡ binds role.now label.now limit.now }
 {
-    is_within(&limit.role, role) && limit.limit.is_named(label)
+    role.is_within(&limit.role) && limit.limit.is_named(label)
 }
 
 /// What a limit leaves of a scalar, in thousandths.

@@ -34,12 +34,12 @@ impl Model for Items {
     ghost invariant = { λ i. AreNamesOfSet i.names.items };
 }
 
-// Each of them is a label: only a call of its text tells the proof so.
+/// Tells the proof that each of them is a label.
 fn recall(labels: &[Label])
     ensures { All IsLabel labels.now }
 {
     for label in labels {
-        let _ = label.text();
+        label.recall();
     }
 }
 

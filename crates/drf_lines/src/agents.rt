@@ -39,7 +39,7 @@ pub fn of_total(
 {
     bundle_round_trip_law();
     // What is written of a bundle is read where it is one.
-    let _ = total.quantities();
+    total.recall();
     let name = agent.text();
     let resources = write_bundle(alloc, total)?;
     json!(in alloc; {"agent": name, "event": event, "total": (resources.as_str())})

@@ -125,7 +125,7 @@ fn one_task_value(
 {
     bundle_round_trip_law();
     // What is written of a bundle is read where it is one.
-    let _ = task.1.quantities();
+    task.1.recall();
     let name = task.0.text();
     let resources = write_bundle(alloc, &task.1)?;
     let Accept {

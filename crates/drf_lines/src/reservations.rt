@@ -47,7 +47,7 @@ pub fn of_reservation(
 {
     bundle_round_trip_law();
     // What is written of a bundle is read where it is one.
-    let _ = resources.quantities();
+    resources.recall();
     let name = agent.text();
     let path = role_value(alloc, role)?;
     let part = write_bundle(alloc, resources)?;

@@ -138,7 +138,7 @@ fn task_value(alloc: Global, task: &(Name, Bundle)) -> Result<Value, AllocError>
 {
     bundle_round_trip_law();
     // What is written of a bundle is read where it is one.
-    let _ = task.1.quantities();
+    task.1.recall();
     let name = task.0.text();
     let resources = write_bundle(alloc, &task.1)?;
     json!(in alloc; {"task": name, "use": (Value::from(resources))})

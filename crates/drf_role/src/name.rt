@@ -84,6 +84,13 @@ impl Name {
         self.word.text()
     }
 
+    /// Tells a proof what every name is. It does nothing.
+    pub fn recall(&self)
+        ensures { IsName self.now }
+    {
+        let _ = self.text();
+    }
+
     pub fn copy(&self) -> Result<Name, AllocError>
         ensures { IfOk result (λ name. name ≡ self.now) }
     {
@@ -131,6 +138,13 @@ impl Label {
         ensures right { IsLabel self.now }
     {
         self.word.text()
+    }
+
+    /// Tells a proof what every label is. It does nothing.
+    pub fn recall(&self)
+        ensures { IsLabel self.now }
+    {
+        let _ = self.text();
     }
 
     pub fn copy(&self) -> Result<Label, AllocError>

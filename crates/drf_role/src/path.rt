@@ -67,9 +67,8 @@ impl ClientPath {
     pub fn from_parts(role: Role, framework: Name) -> ClientPath
         ensures { result ≡ client_path role framework }
     {
-        // What these calls ensure tells the proof that the two are right.
-        let _ = role.text();
-        let _ = framework.text();
+        role.recall();
+        framework.recall();
         let mark = mark_of(&role, &framework);
         ClientPath {
             role,

@@ -1,6 +1,7 @@
 //! Roles: `*`, or paths of components as `eng/web`.
 ghost use Rattle.std.specs.Prelude.{◌≡◌, ◌↔◌, ◌<◌, ◌≤◌, List, ℕ, All, IfOk, IsTrue, IsErrOf, Some, length, slice_get};
 ghost use Rattle.drf_role.specs.Parts.{parts_of, text_of};
+ghost use Rattle.drf_role.specs.Path.{begins_with};
 ghost use Rattle.drf_role.specs.Role.{IsComponentByte, IsComponent, IsRolePath, IsRole, IsRoleText, IsWithin, default_role};
 
 use crate::joined::Joined;
@@ -135,6 +136,14 @@ impl Role {
         self.joined.text()
     }
 
+    /// Tells a proof what every role is. It does nothing.
+    pub fn recall(&self)
+        ensures right { IsRole self.now }
+        ensures parts { parts_of (text_of self.now) ≡ self.now }
+    {
+        let _ = self.text();
+    }
+
     /// The number of components.
     pub fn len(&self) -> usize
         ensures len { result ≡ length self.now }
@@ -182,6 +191,7 @@ impl Role {
     /// Whether the role is the other one or stands below it. `*` is within itself alone, and no
     /// other role is within `*`.
     pub fn is_within(&self, outer: &Role) -> bool
+        ensures value { result ≡ begins_with self.now outer.now }
         ensures within { IsTrue result ↔ IsWithin self.now outer.now }
         ensures default_alone { IsTrue result → ((self.now ≡ default_role) ↔ (outer.now ≡ default_role)) }
     {

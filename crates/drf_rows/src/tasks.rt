@@ -42,12 +42,12 @@ impl Model for TaskList {
     ghost invariant = { λ l. IsTaskList l.tasks.items };
 }
 
-/// The proof learns by this call alone that what tasks use are bundles.
+/// Tells the proof that what tasks use are bundles.
 fn recall(tasks: &[(Name, Bundle)])
     ensures { AllByRecursion IsBundle (uses tasks.now) }
 {
     for task in tasks {
-        let _ = task.1.quantities();
+        task.1.recall();
     }
 }
 
@@ -155,8 +155,7 @@ fn thousandths(value: &Value) -> u64
 fn scalar_in(bundle: &Bundle, resource: &Resource) -> u64
     ensures { result ≡ units bundle.now (key_of resource.now) Thousandths }
 {
-    // The proof learns by this call alone that it is a bundle.
-    let _ = bundle.quantities();
+    bundle.recall();
     match bundle.get(&resource.label, &resource.role) {
         Some(value) => thousandths(value),
         None => 0,

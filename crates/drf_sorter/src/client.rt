@@ -102,8 +102,7 @@ impl<'a> NodeClients<'a> {
         let mut held = Quantities::empty(alloc);
         for client in self.clients {
             if begins_with(&client.path, self.node) {
-                // Its labels are in order.
-                let _ = client.held.entries();
+                client.held.recall();
                 held = held.plus(&client.held)?;
             }
         }

@@ -28,9 +28,8 @@ pub fn node_line(
     ensures line { result ≡ line_with total.now weight path held count }
     ensures in_order { IsTrue (is_in_order held) }
 {
-    // Their labels are in order.
-    let _ = total.entries();
-    let _ = held.entries();
+    total.recall();
+    held.recall();
     let share = dominant_share(total, &held);
     let weighted = share.over(weight);
     let mut held = held;

@@ -284,8 +284,7 @@ impl Sorter for PlainSorter {
 
     #[tactic(auto, using(crate::proofs::ChangeLemmas::distinct_stays, crate::proofs::ChangeLemmas::listed_stays))]
     fn charge(&mut self, path: &ClientPath, quantities: &Quantities) -> Result<(), AllocError> {
-        // Its labels are in order.
-        let _ = quantities.entries();
+        quantities.recall();
         if let Some(at) = self.row_of(path) {
             let client = &mut self.clients[at];
             raise(&mut client.held, quantities)?;
@@ -296,8 +295,7 @@ impl Sorter for PlainSorter {
 
     #[tactic(auto, using(crate::proofs::ChangeLemmas::distinct_stays, crate::proofs::ChangeLemmas::listed_stays))]
     fn undo_charge(&mut self, path: &ClientPath, quantities: &Quantities) {
-        // Its labels are in order.
-        let _ = quantities.entries();
+        quantities.recall();
         if let Some(at) = self.row_of(path) {
             let client = &mut self.clients[at];
             client.held.lower(quantities);
@@ -307,8 +305,7 @@ impl Sorter for PlainSorter {
 
     #[tactic(auto, using(crate::proofs::ChangeLemmas::distinct_stays, crate::proofs::ChangeLemmas::listed_stays))]
     fn refund(&mut self, path: &ClientPath, quantities: &Quantities) {
-        // Its labels are in order.
-        let _ = quantities.entries();
+        quantities.recall();
         if let Some(at) = self.row_of(path) {
             self.clients[at].held.lower(quantities);
         }

@@ -9,6 +9,6 @@ pub returns-clause-read : goal.returns-clause-read
 returns-clause-read c =
     let read : (name_in c.args.agent.now ≡ Ok c.args.agent.now) × (bundle_in (bundle_text c.args.total.now) ≡ Ok c.args.total.now) = (
       name_read c.args.agent.now c.text-name.ensures.right,
-      bundle_said c.args.total.now c.bundle_round_trip_law.ensures c.quantities.ensures.bundle,
+      bundle_said c.args.total.now c.bundle_round_trip_law.ensures c.recall.ensures,
     ) in
     holds_at_ok _ _ read

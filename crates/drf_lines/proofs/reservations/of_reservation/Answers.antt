@@ -5,5 +5,5 @@ pub returns-in-Ok-json-8-clause-read : goal.returns-in-Ok-json-8-clause-read
 returns-in-Ok-json-8-clause-read c = (
   name_read c.args.agent.now c.text-name.ensures.right,
   c.in_ok-path.ensures.read,
-  bundle_said c.args.resources.now c.bundle_round_trip_law.ensures c.quantities.ensures.bundle,
+  bundle_said c.args.resources.now c.bundle_round_trip_law.ensures c.recall.ensures,
 )

@@ -8,7 +8,7 @@ use Rattle.drf_rows.proofs.tasks.recall.Goals as goal
 pub loop-task-preserved : goal.loop-task-preserved
 loop-task-preserved c =
     All-more (λ (s : Start). IsBundle s.1) c.args.tasks.now c.loop-task.task-index c.task-item.result c.loop-task-test.true c.loop-task.invariant
-    (subst (λ (s : Start). IsBundle s.1) c.task-item.is c.quantities.ensures.bundle)
+    (subst (λ (s : Start). IsBundle s.1) c.task-item.is c.recall.ensures)
 
 pub returns : goal.returns
 returns c =

@@ -13,7 +13,7 @@ returns-clause-line c =
     let held = c.args.held in
     let share : terms c.lowest.result ≡ lowest_terms (dominant_of (amount_of held) total) =
     c.lowest.ensures.value
-    ∙ lowest-share total (amount_of held) c.dominant_share-share.result c.entries.ensures.in_order c.requires.fits
+    ∙ lowest-share total (amount_of held) c.dominant_share-share.result c.recall.ensures c.requires.fits
     (fraction-unweighted (dominant_of (amount_of held) total) c.dominant_share-share.result c.dominant_share-share.ensures) in
     let weighted : terms c.lowest-2.result ≡ lowest_terms (weigh (dominant_of (amount_of held) total) c.args.weight) =
     c.lowest-2.ensures.value

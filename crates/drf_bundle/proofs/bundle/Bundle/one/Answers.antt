@@ -6,4 +6,4 @@ use Rattle.drf_bundle.proofs.bundle.Bundle.one.Goals as goal
 pub new-requires : goal.new-requires
 new-requires c =
     rw (c.in_ok-push_filled.ensures.pushed, c.new-resources.ensures.items, c.in_ok-copy.ensures, c.in_ok-copy-2.ensures)
-    (bundle-one_of c.args.label.now c.args.role.now c.args.value c.text.ensures.right c.text-2.ensures.right (ap parts_of (sym c.text-2.ensures.text) ∙ c.text-2.ensures.parts) c.push_filled.ensures.given)
+    (bundle-one_of c.args.label.now c.args.role.now c.args.value c.recall.ensures c.recall-2.ensures.right c.recall-2.ensures.parts c.push_filled.ensures.given)

@@ -9,4 +9,4 @@ pub new-requires : goal.new-requires
 new-requires c =
     let role = c.args.role.now in
     let all = c.loop-resource.invariant ∙ ap (λ (rs : List Resource). relabel role rs) (take_all _ _ c.loop-resource-test.false ∙ c.deref-resource-items.ensures.value ∙ c.self.view_is) in
-    rw all (bundle-relabel role c.text.ensures.right (ap parts_of (sym c.text.ensures.text) ∙ c.text.ensures.parts) c.args.self.now c.requires (subst IsBundle c.self.view_is c.self.invariant.bundle))
+    rw all (bundle-relabel role c.recall.ensures.right c.recall.ensures.parts c.args.self.now c.requires (subst IsBundle c.self.view_is c.self.invariant.bundle))

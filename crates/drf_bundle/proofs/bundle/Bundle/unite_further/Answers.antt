@@ -26,6 +26,6 @@ pub invariant_of-self-2 : goal.invariant_of-self-2
 invariant_of-self-2 c =
     let r = c.args.resource in
     let none : union_refusal c.self.inside.resources.items r ≡ None = ap (λ (rs : List Resource). union_refusal rs r) c.self.view_is ∙ sym c.union_refusal.ensures ∙ c.in_default.is in
-    let piece : IsPiece r = record { label = c.text.ensures.right; role = c.text-2.ensures.right; role_read = ap parts_of (sym c.text-2.ensures.text) ∙ c.text-2.ensures.parts; value = c.is_empty.ensures.given } in
+    let piece : IsPiece r = record { label = c.recall.ensures; role = c.recall-2.ensures.right; role_read = c.recall-2.ensures.parts; value = c.is_empty.ensures.given } in
     let some = some_in r (λ zero. false≢true (sym c.if-is_empty.false ∙ c.is_empty.ensures.is_empty.1 zero)) in
     kept-merged c.self.inside.resources.items c.put.new.resources.items c.self.inside.quantities c.put.new.sums r c.self.invariant piece none some c.in_ok-put.ensures.ok.0 c.in_ok-put.ensures.ok.1

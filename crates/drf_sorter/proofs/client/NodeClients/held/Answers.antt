@@ -25,7 +25,7 @@ loop-client-preserved c label =
     elim c.if-begins_with.branch [
       | then-begins_with+in_ok-held w ↦
           ap (λ (es : List Entry). amount_of es label) (w.held-is ∙ w.in_ok-held.ensures)
-          ∙ amount-plus c.loop-client.held c.client-item.result.held label w.entries.ensures.in_order
+          ∙ amount-plus c.loop-client.held c.client-item.result.held label w.recall.ensures
           ∙ sum_part_more (λ (x : Client). begins_with x.path node) (λ x. amount_of x.held label) clients c.loop-client.client-index
           c.client-item.result (amount_of c.loop-client.held label) c.loop-client-test.true c.client-item.is
           (c.loop-client.invariant label) (sym c.begins_with.ensures ∙ w.if-begins_with.true)

@@ -12,7 +12,7 @@ lower-requires c =
     let found =
     place-found clients c.args.path.now c.in-Some.at x c.in-Some.ensures
     c.index_mut.ensures.value in
-    covers_from x.held c.args.quantities.now c.entries.ensures.in_order
+    covers_from x.held c.args.quantities.now c.recall.ensures
     (at_found (Holds c.args.quantities.now) clients c.args.path.now c.in-Some.at x found c.requires.held)
 
 pub returns-in-Some-clause-content : goal.returns-in-Some-clause-content

@@ -14,7 +14,7 @@ lower-requires c =
     c.index_mut-client.ensures.value in
     let charge =
     at_found (HasCharge c.args.quantities.now) clients c.args.path.now c.in-Some.at x found c.requires.charged in
-    covers_from x.held c.args.quantities.now c.entries.ensures.in_order charge.held
+    covers_from x.held c.args.quantities.now c.recall.ensures charge.held
 
 pub overflow_sub-client : goal.overflow_sub-client
 overflow_sub-client c =

@@ -31,6 +31,7 @@ pub mod ChangeLemmas
 pub mod LowerLemmas
 pub mod ActiveLemmas
 pub mod ChargeLemmas
+pub mod LabelLemmas
 pub mod DismissLemmas
 pub mod NameLemmas
 pub mod FindLemmas

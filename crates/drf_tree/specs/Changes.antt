@@ -39,14 +39,6 @@ pub record IsLowerable (tree : Tree) (leaf : ℕ) (quantities : List Entry) (off
   pub held : OnWay tree leaf (λ s. (label : Text) → amount_of quantities label ≤ amount_of s.held label)
   pub count : OnWay tree leaf (λ s. offers ≤ s.count)
 
--- what the nodes on the way would hold with so much more, the upmost first: that of a node of `k + 1` parts at `k`
-pub record AreRaised (tree : Tree) (leaf : ℕ) (quantities : List Entry) (raised : List (List Entry)) : Type 0 where
-  pub long : length raised ≡ length (path_at tree.places.items leaf)
-  pub each : (i k : ℕ) (sum : Sum) (held : List Entry) → is_on_way tree leaf i ≡ true
-      → length (path_at tree.places.items i) ≡ k + 1 → slice_get tree.sums.items i ≡ Some sum
-      → slice_get raised k ≡ Some held
-      → (label : Text) → amount_of held label ≡ amount_of sum.held label + amount_of quantities label
-
 -- a client that gave so much back, with so many offers taken back
 abbrev pub lowered : List Entry → ℕ → Ranked → Ranked
 lowered quantities offers c =

@@ -1,56 +1,60 @@
 //! What clients get and give back, along their nodes.
-ghost use Rattle.std.specs.Prelude.{true, ◌≡◌, ◌≤◌, ◌+◌, ◌<◌, ◌^◌, ℕ, List, Some, IfOk, length};
-ghost use Rattle.drf_bundle.specs.declared.quantities.Entry.{Entry};
+ghost use Rattle.std.specs.Prelude.{true, ◌≡◌, ◌≤◌, ◌+◌, Some, OnOk, length};
+ghost use Rattle.drf_bundle.specs.Quantities.{amount_of, is_named, names_all};
 ghost use Rattle.drf_role.specs.Path.{Path};
+ghost use Rattle.drf_role.specs.Text.{Text};
 ghost use Rattle.drf_sorter.specs.Content.{Content, charged, has_client, with_change};
 ghost use Rattle.drf_sorter.specs.Work.{debt};
-ghost use Rattle.drf_tree.specs.Changes.{AreRaised, CanLowerAt, HasRoomFor, IsLowerable, IsShapeOf, OnWay, lowered};
+ghost use Rattle.drf_tree.specs.Changes.{CanLowerAt, HasRoomFor, IsLowerable, IsShapeOf, OnWay, lowered};
 ghost use Rattle.drf_tree.specs.Marks.{work_of};
 ghost use Rattle.drf_tree.specs.Nodes.{client_at, is_live, path_at};
 ghost use Rattle.drf_tree.specs.Tree.{IsTreeOf};
 
 use crate::tree::{ROOT, Tree};
 use drf_bundle::Quantities;
+use drf_role::Label;
 use std::alloc::AllocError;
 
 impl Tree {
-    /// What each node from this one up would hold with so much more, the upmost first.
-    pub(crate) fn raised(
-        &self,
+    /// The nodes from this one up name the labels of these amounts. No amount is changed, at an `Err` neither.
+    pub(crate) fn name_labels(
+        &mut self,
         leaf: usize,
         quantities: &Quantities,
-    ) -> Result<Vec<Quantities>, AllocError>
-        requires shape { IsShapeOf self.now }
-        requires room { HasRoomFor self.now leaf quantities.now }
-        ensures { IfOk result (λ raised. AreRaised self.now leaf quantities.now raised.items) }
-    {
-        // Its labels are in order.
-        let _ = quantities.entries();
-        let mut raised = Vec::new(self.alloc());
-        let mut node = leaf;
-        while node != ROOT {
-            raised.insert(0, self.sums[node].held.plus(quantities)?)?;
-            node = self.parent(node);
-        }
-        Ok(raised)
-    }
-
-    /// The nodes from this one up hold this, the upmost first, and were made one more offer.
-    pub(crate) fn charge(&mut self, leaf: usize, mut raised: Vec<Quantities>)
+    ) -> Result<(), AllocError>
         requires shape { IsShapeOf self.old }
         requires live { is_live self.old.places.items leaf ≡ true }
-        requires long { length raised.items ≡ length (path_at self.old.places.items leaf) }
-        requires count { OnWay self.old leaf (λ s. s.count + 1 < 2 ^ 64) }
-        ensures tree { (content : Content) (path : Path) (quantities : List Entry) → IsTreeOf content self.old → client_at self.old.places.items leaf ≡ Some path → has_client content path ≡ true → AreRaised self.old leaf quantities raised.items → IsTreeOf (with_change content path (charged quantities)) self.new }
+        ensures tree { (content : Content) → IsTreeOf content self.old → IsTreeOf content self.new }
+        ensures named { OnOk result (OnWay self.new leaf (λ s. names_all s.held quantities.now ≡ true)) }
+        ensures places { self.new.places ≡ self.old.places }
+        ensures families { self.new.families ≡ self.old.families }
+        ensures marks { self.new.marks ≡ self.old.marks }
+    {
+        let mut node = leaf;
+        while node != ROOT {
+            name_all(&mut self.sums[node].held, quantities)?;
+            node = self.parent(node);
+        }
+        Ok(())
+    }
+
+    /// The nodes from this one up, which name all its labels, hold so much more, and were made one more offer.
+    pub(crate) fn charge(&mut self, leaf: usize, quantities: &Quantities)
+        requires shape { IsShapeOf self.old }
+        requires room { HasRoomFor self.old leaf quantities.now }
+        requires named { OnWay self.old leaf (λ s. names_all s.held quantities.now ≡ true) }
+        ensures tree { (content : Content) (path : Path) → IsTreeOf content self.old → client_at self.old.places.items leaf ≡ Some path → has_client content path ≡ true → IsTreeOf (with_change content path (charged quantities.now)) self.new }
         ensures places { self.new.places ≡ self.old.places }
         ensures families { self.new.families ≡ self.old.families }
         ensures made { self.new.marks.made ≡ self.old.marks.made }
         ensures work { debt (work_of self.new.marks) ≤ debt (work_of self.old.marks) + length (path_at self.old.places.items leaf) }
     {
+        // Its labels are in order.
+        let _ = quantities.entries();
         let mut node = leaf;
-        while let Some(held) = raised.pop() {
+        while node != ROOT {
             let sum = &mut self.sums[node];
-            sum.held = held;
+            sum.held.raise(quantities);
             sum.count += 1;
             self.marks.mark(node);
             node = self.parent(node);
@@ -78,4 +82,31 @@ impl Tree {
             node = self.parent(node);
         }
     }
+}
+
+/// Names each label of the other amounts, with 0 where it was not named. No amount is changed, at an `Err` neither.
+fn name_all(held: &mut Quantities, others: &Quantities) -> Result<(), AllocError>
+    ensures same { (label : Text) → amount_of held.new label ≡ amount_of held.old label }
+    ensures named { OnOk result (names_all held.new others.now ≡ true) }
+{
+    if held.names_all(others) {
+        return Ok(());
+    }
+    for entry in others.entries() {
+        name(held, &entry.label)?;
+    }
+    Ok(())
+}
+
+/// Names a label, with 0 where it was not named.
+fn name(held: &mut Quantities, label: &Label) -> Result<(), AllocError>
+    ensures same { (other : Text) → amount_of held.new other ≡ amount_of held.old other }
+    ensures named { OnOk result (is_named held.new label.now ≡ true) }
+    ensures stay { (other : Text) → is_named held.old other ≡ true → is_named held.new other ≡ true }
+{
+    if held.is_named(label.text()) {
+        return Ok(());
+    }
+    held.set(label.copy()?, 0)?;
+    Ok(())
 }

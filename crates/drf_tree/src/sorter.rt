@@ -104,9 +104,9 @@ impl Sorter for TreeSorter {
         let Some(node) = self.tree.leaf(known, path) else {
             return Ok(());
         };
-        let raised = self.tree.raised(node, quantities)?;
+        self.tree.name_labels(node, quantities)?;
         self.ledger.charge(path, quantities)?;
-        self.tree.charge(node, raised);
+        self.tree.charge(node, quantities);
         Ok(())
     }
 

@@ -3,9 +3,10 @@ use Rattle.std.proofs.lemmas.Bool.{false≢true}
 use Rattle.drf_sorter.specs.Content.{Content, IsSound, charged, active_paths, with_change}
 use Rattle.drf_sorter.specs.Plain.{plain_content}
 use Rattle.drf_sorter.specs.declared.plain.PlainSorter.{PlainSorter}
+use Rattle.drf_tree.specs.Nodes.{is_live, path_at}
 use Rattle.drf_tree.specs.Sorter.{Sorted}
 use Rattle.drf_tree.proofs.FindLemmas.{client_below}
-use Rattle.drf_tree.proofs.KeptLemmas.{active_stays, kept_along, queue_stays}
+use Rattle.drf_tree.proofs.KeptLemmas.{active_stays, kept_along, kept_by, queue_stays}
 use Rattle.drf_tree.proofs.LeafLemmas.{known_in, leaf_of, room}
 use Rattle.drf_tree.proofs.sorter.TreeSorterSorter.charge.Goals as goal
 
@@ -16,38 +17,54 @@ returns-in_default-clause-ok c =
     known_in c.self.inside.ledger c.args.self.now.ledger c.args.path.now (ap (λ (s : Sorted). s.ledger) c.self.view_is) c.requires.known in
     absurd (false≢true (c.in_default.ensures.every content c.self.invariant.of_ledger (client_below c.args.path.now content.clients known)))
 
-pub raised-requires-clause-room : goal.raised-requires-clause-room
-raised-requires-clause-room c =
+pub invariant_of-self : goal.invariant_of-self
+invariant_of-self c =
+    let content = plain_content c.self.inside.ledger in
+    kept_by c.self.inside.ledger content refl c.self.inside.tree c.name_labels.new.self c.self.inside.walk
+    (c.name_labels.ensures.tree content c.self.invariant.of_ledger)
+    c.name_labels.ensures.places c.name_labels.ensures.families c.self.invariant.frames c.self.invariant.settled
+
+pub invariant_of-self-in_err-charge : goal.invariant_of-self-in_err-charge
+invariant_of-self-in_err-charge c =
+    let content = plain_content c.self.inside.ledger in
+    kept_by c.charge.new.self content c.in_err-charge.ensures.err c.self.inside.tree c.name_labels.new.self c.self.inside.walk
+    (c.name_labels.ensures.tree content c.self.invariant.of_ledger)
+    c.name_labels.ensures.places c.name_labels.ensures.families c.self.invariant.frames c.self.invariant.settled
+
+pub charge-requires-2-clause-shape : goal.charge-requires-2-clause-shape
+charge-requires-2-clause-shape c =
+    (c.name_labels.ensures.tree (plain_content c.self.inside.ledger) c.self.invariant.of_ledger).shape
+
+pub charge-requires-2-clause-room : goal.charge-requires-2-clause-room
+charge-requires-2-clause-room c =
     let ledger = ap (λ (s : Sorted). s.ledger) c.self.view_is in
-    room (plain_content c.self.inside.ledger) c.self.inside.tree c.in-Some.node c.self.invariant.of_ledger c.in-Some.ensures.live
-    c.args.path.now c.in-Some.ensures.at
+    let content = plain_content c.self.inside.ledger in
+    let places = c.name_labels.ensures.places in
+    room content c.name_labels.new.self c.in-Some.node (c.name_labels.ensures.tree content c.self.invariant.of_ledger)
+    (ap (λ (v : _). is_live v.items c.in-Some.node) places ∙ c.in-Some.ensures.live)
+    c.args.path.now (ap (λ (v : _). path_at v.items c.in-Some.node) places ∙ c.in-Some.ensures.at)
     (known_in c.self.inside.ledger c.args.self.now.ledger c.args.path.now ledger c.requires.known) c.args.quantities.now
     (subst (λ (l : PlainSorter). IsSound (with_change (plain_content l) c.args.path.now (charged c.args.quantities.now)))
     (sym ledger) c.requires.sound)
 
-pub charge-requires-2-clause-count : goal.charge-requires-2-clause-count
-charge-requires-2-clause-count c =
-    let ledger = ap (λ (s : Sorted). s.ledger) c.self.view_is in
-    (room (plain_content c.self.inside.ledger) c.self.inside.tree c.in-Some.node c.self.invariant.of_ledger c.in-Some.ensures.live
-    c.args.path.now c.in-Some.ensures.at
-    (known_in c.self.inside.ledger c.args.self.now.ledger c.args.path.now ledger c.requires.known) c.args.quantities.now
-    (subst (λ (l : PlainSorter). IsSound (with_change (plain_content l) c.args.path.now (charged c.args.quantities.now)))
-    (sym ledger) c.requires.sound)).count
-
 pub invariant_of-self-2 : goal.invariant_of-self-2
 invariant_of-self-2 c =
     let content = plain_content c.self.inside.ledger in
-    let tree = c.self.inside.tree in
     let path = c.args.path.now in
     let now : Content = with_change content path (charged c.args.quantities.now) in
     let known =
     known_in c.self.inside.ledger c.args.self.now.ledger path (ap (λ (s : Sorted). s.ledger) c.self.view_is) c.requires.known in
+    let places = c.name_labels.ensures.places in
+    let of = c.name_labels.ensures.tree content c.self.invariant.of_ledger in
     kept_along c.charge.new.self content now c.in_ok-charge.ensures.ok
-    (active_stays path (charged c.args.quantities.now) (λ d. refl) (λ d. refl) content) tree c.charge-2.new.self c.self.inside.walk
-    (c.charge-2.ensures.tree content path c.args.quantities.now c.self.invariant.of_ledger
-    (leaf_of content tree c.in-Some.node path c.self.invariant.of_ledger known c.in-Some.ensures.live c.in-Some.ensures.at) known
-    c.in_ok-raised.ensures)
-    c.charge-2.ensures.places c.charge-2.ensures.families c.self.invariant.frames c.self.invariant.settled
+    (active_stays path (charged c.args.quantities.now) (λ d. refl) (λ d. refl) content)
+    c.self.inside.tree c.charge-2.new.self c.self.inside.walk
+    (c.charge-2.ensures.tree content path of
+    (leaf_of content c.name_labels.new.self c.in-Some.node path of known
+    (ap (λ (v : _). is_live v.items c.in-Some.node) places ∙ c.in-Some.ensures.live)
+    (ap (λ (v : _). path_at v.items c.in-Some.node) places ∙ c.in-Some.ensures.at)) known)
+    (c.charge-2.ensures.places ∙ places) (c.charge-2.ensures.families ∙ c.name_labels.ensures.families)
+    c.self.invariant.frames c.self.invariant.settled
 
 pub returns-clause-queue : goal.returns-clause-queue
 returns-clause-queue c =
@@ -55,5 +72,6 @@ returns-clause-queue c =
     queue_stays content (plain_content c.charge.new.self)
     (ap active_paths c.in_ok-charge.ensures.ok
     ∙ active_stays c.args.path.now (charged c.args.quantities.now) (λ d. refl) (λ d. refl) content)
-    c.self.inside.tree c.charge-2.new.self c.charge-2.ensures.places c.charge-2.ensures.families c.self.inside.walk.frames.items
+    c.self.inside.tree c.charge-2.new.self (c.charge-2.ensures.places ∙ c.name_labels.ensures.places)
+    (c.charge-2.ensures.families ∙ c.name_labels.ensures.families) c.self.inside.walk.frames.items
     ∙ ap (λ (s : Sorted). s.queue) c.self.view_is

@@ -1,54 +1,86 @@
-use Rattle.std.proofs.Common.{◌≡◌, refl, ap, ◌∙◌, arith}
+use Rattle.std.proofs.Common.{◌≡◌, ◌+◌, refl, ap, ◌∙◌, arith}
 use Rattle.drf_tree.specs.declared.node.Sum.{Sum}
 use Rattle.drf_tree.specs.Nodes.{parent_at}
-use Rattle.drf_tree.proofs.ChargeLemmas.{IsReplaced, charged_tree, charging_end, charging_node, charging_start, charging_step}
-use Rattle.drf_tree.proofs.ClimbLemmas.{climb_on, climb_was, marking_start, marking_step}
+use Rattle.drf_tree.proofs.ClimbLemmas.{climb_less, climb_on, climb_start, climb_step, climb_was, marking_start, marking_step}
+use Rattle.drf_tree.proofs.ChargeLemmas.{charged_tree, is_charged, of_charged}
+use Rattle.drf_tree.proofs.MoveLemmas.{IsMoved, none}
 use Rattle.drf_tree.proofs.tree.Tree.charge.Goals as goal
 
-pub loop-held-init : goal.loop-held-init
-loop-held-init c = (
-  charging_start c.args.self.now c.args.self.now c.requires.shape c.args.leaf c.args.leaf c.args.raised.items c.requires.live c.requires.long,
-  marking_start c.args.self.now c.args.self.now c.requires.shape c.args.leaf c.args.leaf (IsReplaced c.args.self.now.places.items c.args.raised.items),
+pub loop-node-init : goal.loop-node-init
+loop-node-init c = (
+  climb_start c.args.self.now c.args.self.now c.requires.shape c.args.leaf c.args.leaf
+      (λ i. IsMoved none (of_charged c.args.quantities.now)) c.requires.room.live,
+  marking_start c.args.self.now c.args.self.now c.requires.shape c.args.leaf c.args.leaf
+      (λ i. IsMoved none (of_charged c.args.quantities.now)),
 )
+
+pub raise-requires-clause-named : goal.raise-requires-clause-named
+raise-requires-clause-named c =
+    let old = c.args.self.now in
+    let so = c.loop-node.invariant.0 in
+    let s = c.index_mut-sum.result.now in
+    c.requires.named c.loop-node.node s
+    (climb_on old c.loop-node.self c.requires.shape c.args.leaf c.loop-node.node
+    (λ i. IsMoved none (of_charged c.args.quantities.now)) so c.loop-node-test.true)
+    (climb_was old c.loop-node.self c.requires.shape c.args.leaf c.loop-node.node
+    (λ i. IsMoved none (of_charged c.args.quantities.now)) so c.loop-node-test.true s c.index_mut-sum.ensures.value)
+
+pub raise-requires-clause-fits : goal.raise-requires-clause-fits
+raise-requires-clause-fits c =
+    let old = c.args.self.now in
+    let so = c.loop-node.invariant.0 in
+    let s = c.index_mut-sum.result.now in
+    c.requires.room.held c.loop-node.node s
+    (climb_on old c.loop-node.self c.requires.shape c.args.leaf c.loop-node.node
+    (λ i. IsMoved none (of_charged c.args.quantities.now)) so c.loop-node-test.true)
+    (climb_was old c.loop-node.self c.requires.shape c.args.leaf c.loop-node.node
+    (λ i. IsMoved none (of_charged c.args.quantities.now)) so c.loop-node-test.true s c.index_mut-sum.ensures.value)
 
 pub overflow_add-sum : goal.overflow_add-sum
 overflow_add-sum c =
     let old = c.args.self.now in
-    let so = c.loop-held.invariant.0 in
+    let so = c.loop-node.invariant.0 in
     let s = c.index_mut-sum.result.now in
-    let other = charging_node old c.loop-held.self c.requires.shape c.args.leaf c.loop-held.node c.args.raised.items
-    c.loop-held.raised.items c.pop.new.self.items c.in-Some.held so c.in-Some.ensures.items in
-    let fits = c.requires.count c.loop-held.node s
-    (climb_on old c.loop-held.self c.requires.shape c.args.leaf c.loop-held.node (IsReplaced old.places.items c.args.raised.items) so.climb other)
-    (climb_was old c.loop-held.self c.requires.shape c.args.leaf c.loop-held.node (IsReplaced old.places.items c.args.raised.items) so.climb other
-    s c.index_mut-sum.ensures.value) in
+    let fits = c.requires.room.count c.loop-node.node s
+    (climb_on old c.loop-node.self c.requires.shape c.args.leaf c.loop-node.node
+    (λ i. IsMoved none (of_charged c.args.quantities.now)) so c.loop-node-test.true)
+    (climb_was old c.loop-node.self c.requires.shape c.args.leaf c.loop-node.node
+    (λ i. IsMoved none (of_charged c.args.quantities.now)) so c.loop-node-test.true s c.index_mut-sum.ensures.value) in
     omega (arith, fits)
 
-pub loop-held-preserved : goal.loop-held-preserved
-loop-held-preserved c =
+pub loop-node-smaller : goal.loop-node-smaller
+loop-node-smaller c =
     let old = c.args.self.now in
-    let so = c.loop-held.invariant.0 in
-    let marking = c.loop-held.invariant.1 in
+    let so = c.loop-node.invariant.0 in
+    let above : c.parent-node.result ≡ parent_at old.places.items c.loop-node.node =
+    c.parent-node.ensures ∙ ap (λ ps. parent_at ps.items c.loop-node.node) so.places in
+    let less = climb_less old c.loop-node.self c.requires.shape c.args.leaf c.loop-node.node
+    (λ i. IsMoved none (of_charged c.args.quantities.now)) so c.loop-node-test.true in
+    rw above (omega (arith, less))
+
+pub loop-node-preserved : goal.loop-node-preserved
+loop-node-preserved c =
+    let old = c.args.self.now in
+    let so = c.loop-node.invariant.0 in
+    let marking = c.loop-node.invariant.1 in
     let s : Sum = c.index_mut-sum.result.now in
-    let above : c.parent-node.result ≡ parent_at old.places.items c.loop-held.node =
-    c.parent-node.ensures ∙ ap (λ ps. parent_at ps.items c.loop-held.node) so.climb.places in
-    let other = charging_node old c.loop-held.self c.requires.shape c.args.leaf c.loop-held.node c.args.raised.items
-    c.loop-held.raised.items c.pop.new.self.items c.in-Some.held so c.in-Some.ensures.items in (
-      charging_step old c.loop-held.self c.requires.shape c.args.leaf c.loop-held.node c.args.raised.items
-          c.loop-held.raised.items c.pop.new.self.items c.in-Some.held so c.in-Some.ensures.items _ c.parent-node.result s
-          above c.index_mut-sum.ensures.value refl refl refl,
-      marking_step old c.loop-held.self c.requires.shape c.args.leaf c.loop-held.node (IsReplaced old.places.items c.args.raised.items)
-          so.climb other marking _ c.parent-node.result above c.mark.ensures.flags c.mark.ensures.work,
+    let t : Sum = record s { held = c.raise.new.self; count = s.count + 1 } in
+    let above : c.parent-node.result ≡ parent_at old.places.items c.loop-node.node =
+    c.parent-node.ensures ∙ ap (λ ps. parent_at ps.items c.loop-node.node) so.places in (
+      climb_step old c.loop-node.self c.requires.shape c.args.leaf c.loop-node.node
+          (λ i. IsMoved none (of_charged c.args.quantities.now)) so c.loop-node-test.true
+          _ c.parent-node.result s t above c.index_mut-sum.ensures.value
+          (is_charged c.args.quantities.now s c.raise.new.self c.entries.ensures.in_order c.raise.ensures)
+          refl refl refl,
+      marking_step old c.loop-node.self c.requires.shape c.args.leaf c.loop-node.node
+          (λ i. IsMoved none (of_charged c.args.quantities.now)) so c.loop-node-test.true marking
+          _ c.parent-node.result above c.mark.ensures.flags c.mark.ensures.work,
     )
 
 pub returns-clause-tree : goal.returns-clause-tree
-returns-clause-tree c content path quantities tree at has all =
-    let old = c.args.self.now in
-    let so = c.loop-held.invariant.0 in
-    let root = charging_end old c.loop-held.self c.requires.shape c.args.leaf c.loop-held.node c.args.raised.items
-    c.loop-held.raised.items so (omega (arith, c.in_default.ensures.cases.0, c.loop-held.raised.ok.0)) in
-    charged_tree content path quantities old c.loop-held.self c.args.leaf c.loop-held.node c.args.raised.items c.loop-held.raised.items
-    tree at has all so c.loop-held.invariant.1 root
+returns-clause-tree c content path tree at has =
+    charged_tree content path c.args.quantities.now c.args.self.now c.loop-node.self c.args.leaf c.loop-node.node
+    tree at has c.loop-node.invariant.0 c.loop-node.invariant.1 c.loop-node-test.false
 
 pub returns-clause-made : goal.returns-clause-made
-returns-clause-made c = c.loop-held.invariant.1.made
+returns-clause-made c = c.loop-node.invariant.1.made

@@ -1,11 +1,14 @@
-use Rattle.drf_tree.proofs.ClimbLemmas.{IsMarking}
-use Rattle.drf_tree.proofs.ChargeLemmas.{IsCharging}
+use Rattle.std.proofs.Common.{length}
+use Rattle.drf_tree.specs.Nodes.{path_at}
+use Rattle.drf_tree.proofs.ClimbLemmas.{IsClimbing, IsMarking}
+use Rattle.drf_tree.proofs.ChargeLemmas.{of_charged}
+use Rattle.drf_tree.proofs.MoveLemmas.{IsMoved, none}
 use Rattle.drf_tree.proofs.tree.Tree.charge.Given as goal
 
-abbrev pub invariant-loop-held : goal.invariant-loop-held
-invariant-loop-held l =
-    IsCharging l.fn.self l.self l.leaf l.node l.fn.raised.items l.raised.items
+abbrev pub invariant-loop-node : goal.invariant-loop-node
+invariant-loop-node l =
+    IsClimbing l.fn.self l.self l.leaf l.node (λ i. IsMoved none (of_charged l.quantities))
     × IsMarking l.fn.self l.self l.leaf l.node
 
-abbrev pub decreases-loop-held : goal.decreases-loop-held
-decreases-loop-held l = goal.left-loop-held l
+abbrev pub decreases-loop-node : goal.decreases-loop-node
+decreases-loop-node l = length (path_at l.fn.self.places.items l.node)

@@ -1,0 +1,10 @@
+use Rattle.std.proofs.Common.{◌≡◌, true, List, ℕ, take}
+use Rattle.drf_bundle.specs.Quantities.{amount_of, names_all}
+use Rattle.drf_tree.proofs.charge.name_all.Given as goal
+
+-- each label so far is named
+abbrev pub invariant-loop-entry : goal.invariant-loop-entry
+invariant-loop-entry l = record {
+  same : (label : List ℕ) → amount_of l.held label ≡ amount_of l.initial.held label;
+  named : names_all l.held (take l.entry-index l.entry-items) ≡ true;
+}

@@ -1,0 +1,72 @@
+use Rattle.std.proofs.Common.{◌≡◌, refl, true, ap, ◌∙◌, arith}
+use Rattle.drf_bundle.specs.Quantities.{names_all}
+use Rattle.drf_tree.specs.declared.node.Sum.{Sum}
+use Rattle.drf_tree.specs.Nodes.{parent_at}
+use Rattle.drf_tree.proofs.ClimbLemmas.{climb_less, climb_start, climb_step, climb_sum}
+use Rattle.drf_tree.proofs.LabelLemmas.{are_same, named_end, same_held, same_set, same_tree}
+use Rattle.drf_tree.proofs.tree.Tree.name_labels.Goals as goal
+
+pub loop-node-init : goal.loop-node-init
+loop-node-init c = record {
+  climb =
+      climb_start c.args.self.now c.args.self.now c.requires.shape c.args.leaf c.args.leaf
+      (λ i (s t : Sum). names_all t.held c.args.quantities.now ≡ true) c.requires.live;
+  same = are_same c.args.self.now.sums.items;
+  marks = refl;
+}
+
+pub returns-in_err-name_all-clause-tree : goal.returns-in_err-name_all-clause-tree
+returns-in_err-name_all-clause-tree c content tree =
+    let old = c.args.self.now in
+    let so = c.loop-node.invariant in
+    let s : Sum = c.index_mut.result.now in
+    let at =
+    climb_sum old c.loop-node.self c.requires.shape c.args.leaf c.loop-node.node
+    (λ i (s t : Sum). names_all t.held c.args.quantities.now ≡ true) so.climb c.loop-node-test.true s c.index_mut.ensures.value in
+    same_tree content old _ tree so.climb.places so.climb.families so.marks
+    (same_set old.sums.items c.loop-node.self.sums.items c.loop-node.node s (record s { held = c.name_all.new.held }) so.same at
+    (same_held s c.name_all.new.held c.name_all.ensures.same))
+
+pub loop-node-smaller : goal.loop-node-smaller
+loop-node-smaller c =
+    let old = c.args.self.now in
+    let so = c.loop-node.invariant.climb in
+    let above : c.parent-node.result ≡ parent_at old.places.items c.loop-node.node =
+    c.parent-node.ensures ∙ ap (λ ps. parent_at ps.items c.loop-node.node) so.places in
+    let less =
+    climb_less old c.loop-node.self c.requires.shape c.args.leaf c.loop-node.node
+    (λ i (s t : Sum). names_all t.held c.args.quantities.now ≡ true) so c.loop-node-test.true in
+    rw above (omega (arith, less))
+
+pub loop-node-preserved : goal.loop-node-preserved
+loop-node-preserved c =
+    let old = c.args.self.now in
+    let so = c.loop-node.invariant in
+    let s : Sum = c.index_mut.result.now in
+    let t : Sum = record s { held = c.name_all.new.held } in
+    let above : c.parent-node.result ≡ parent_at old.places.items c.loop-node.node =
+    c.parent-node.ensures ∙ ap (λ ps. parent_at ps.items c.loop-node.node) so.climb.places in
+    let at =
+    climb_sum old c.loop-node.self c.requires.shape c.args.leaf c.loop-node.node
+    (λ i (s t : Sum). names_all t.held c.args.quantities.now ≡ true) so.climb c.loop-node-test.true s c.index_mut.ensures.value in
+    record {
+      climb =
+          climb_step old c.loop-node.self c.requires.shape c.args.leaf c.loop-node.node
+          (λ i (s t : Sum). names_all t.held c.args.quantities.now ≡ true) so.climb c.loop-node-test.true
+          _ c.parent-node.result s t above c.index_mut.ensures.value c.in_ok-name_all.ensures.named
+          refl refl refl;
+      same =
+          same_set old.sums.items c.loop-node.self.sums.items c.loop-node.node s t so.same at
+          (same_held s c.name_all.new.held c.name_all.ensures.same);
+      marks = so.marks;
+    }
+
+pub returns-clause-tree : goal.returns-clause-tree
+returns-clause-tree c content tree =
+    let so = c.loop-node.invariant in
+    same_tree content c.args.self.now c.loop-node.self tree so.climb.places so.climb.families so.marks so.same
+
+pub returns-clause-named : goal.returns-clause-named
+returns-clause-named c =
+    named_end c.args.self.now c.loop-node.self c.requires.shape c.args.leaf c.loop-node.node c.args.quantities.now
+    c.loop-node.invariant.climb c.loop-node-test.false

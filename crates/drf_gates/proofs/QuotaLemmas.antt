@@ -1,9 +1,11 @@
 -- Limits as rows, and what they leave, limit by limit.
-use Rattle.std.specs.Prelude.{◌≡◌, ◌≢◌, ℕ, Bool, true, false, ◌&&◌, List, [], ◌∷◌, ◌++◌, map, filter, length, Option, Some, None}
-use Rattle.std.specs.List.{list_all, AllByRecursion, IsDistinct}
+use Rattle.std.specs.Prelude.{◌≡◌, ◌≢◌, ℕ, ◌<◌, ◌≤◌, min, nat_le, Bool, true, false, ◌&&◌, List, [], ◌∷◌, ◌++◌, map, filter, fold, length, Option, Some, None}
+use Rattle.std.specs.List.{list_all, reduce, AllByRecursion, IsDistinct}
+use Rattle.std.specs.Option.{option_map_or}
 use Rattle.std.specs.Map.{keys_of, lookup, remove_entry}
 use Rattle.std.proofs.Common.{refl, sym, ap, ◌∙◌, inl, inr, cond, arith}
-use Rattle.std.proofs.lemmas.Bool.{cases_Bool}
+use Rattle.std.proofs.lemmas.Bool.{cases_Bool, le-leb, lt-leb}
+use Rattle.std.proofs.lemmas.Bool.Decides.{nat_tests}
 use Rattle.std.proofs.lemmas.Map.Keys.{IsDistinct-head, IsDistinct-tail}
 use Rattle.indexmap.specs.IndexMap.{insert_entry}
 use Rattle.drf_role.specs.Text.{Text}
@@ -95,6 +97,52 @@ module _ (consumed : Consumed) (role : Path) (label : Text) where
       least_more known (room_under consumed label l) (map (room_under consumed label) (filter (binds role label) ls))
       ∙ ap (λ (b : Bool). least_with known (map (room_under consumed label) (cond b (l ∷ filter (binds role label) ls) (filter (binds role label) ls)))) (sym here)
 
+-- ---- what is left, limit by limit
+
+-- the least of some numbers is at least so much where each of them is
+least_enough : (least n : ℕ) (ns : List ℕ) → nat_le least (fold min n ns) ≡ (nat_le least n && option_map_or (nat_le least) (reduce min ns) true)
+least_enough least n [] = by (nat_le least n)
+  where
+    by : (b : Bool) → b ≡ (b && true)
+    by true = refl
+    by false = refl
+least_enough least n (m ∷ ms) =
+    least_enough least (min n m) ms
+    ∙ by (nat_le least (min n m)) (nat_le least n) (nat_le least m) (option_map_or (nat_le least) (reduce min ms) true) (lesser_enough n m)
+    ∙ ap (λ b. nat_le least n && b) (sym (least_enough least m ms))
+  where
+    lesser_enough : (a b : ℕ) → nat_le least (min a b) ≡ (nat_le least a && nat_le least b)
+    lesser_enough a b = grind (arith, nat_tests)
+
+    by : (both one other more : Bool) → both ≡ (one && other) → (both && more) ≡ (one && (other && more))
+    by both true other more same = ap (λ b. b && more) same
+    by both false other more same = ap (λ b. b && more) same
+
+module _ (consumed : Consumed) (role : Path) (label : Text) (least : ℕ) where
+  -- whether the limits from here on leave so much
+  abbrev pub leaves_from : List LimitRow → Bool
+  leaves_from ls = option_map_or (nat_le least) (headroom_under ls consumed role label) true
+
+  pub leaves_past : (l : LimitRow) (ls : List LimitRow) → binds role label l ≡ false → leaves_from ls ≡ leaves_from (l ∷ ls)
+  leaves_past l ls past =
+      ap (λ (b : Bool). option_map_or (nat_le least) (reduce min (map (room_under consumed label) (cond b (l ∷ filter (binds role label) ls) (filter (binds role label) ls)))) true) (sym past)
+
+  leaves_both : (l : LimitRow) (ls : List LimitRow) → binds role label l ≡ true
+      → (nat_le least (room_under consumed label l) && leaves_from ls) ≡ leaves_from (l ∷ ls)
+  leaves_both l ls here =
+      sym (least_enough least (room_under consumed label l) (map (room_under consumed label) (filter (binds role label) ls)))
+      ∙ ap (λ (b : Bool). option_map_or (nat_le least) (reduce min (map (room_under consumed label) (cond b (l ∷ filter (binds role label) ls) (filter (binds role label) ls)))) true) (sym here)
+
+  pub leaves_here : (l : LimitRow) (ls : List LimitRow) → binds role label l ≡ true → least ≤ room_under consumed label l
+      → leaves_from ls ≡ leaves_from (l ∷ ls)
+  leaves_here l ls here enough =
+      ap (λ (b : Bool). b && leaves_from ls) (sym (le-leb least (room_under consumed label l) enough)) ∙ leaves_both l ls here
+
+  pub little_here : (l : LimitRow) (ls : List LimitRow) → binds role label l ≡ true → room_under consumed label l < least
+      → false ≡ leaves_from (l ∷ ls)
+  little_here l ls here little =
+      ap (λ (b : Bool). b && leaves_from ls) (sym (lt-leb least (room_under consumed label l) little)) ∙ leaves_both l ls here
+
 -- ---- what is admitted, limit by limit
 
 module _ (consumed : Consumed) (role : Path) (more : Entry) where
@@ -133,3 +181,7 @@ module _ (rows : Rows) (a : Allowance) (its : IsAllowanceOf rows a) (role : Path
 
   pub admits-its : (amounts : List Entry) → admits_under a.limits (used_at a.used) role amounts ≡ admits rows role amounts
   admits-its amounts = λ i. admits_under (its.limits i) (λ r l. its.used (is_within r) l i) role amounts
+
+  pub leaves-its : (label : Text) (least : ℕ) → option_map_or (nat_le least) (headroom_under a.limits (used_at a.used) role label) true
+      ≡ option_map_or (nat_le least) (headroom_at rows role label) true
+  leaves-its label least = ap (λ o. option_map_or (nat_le least) o true) (headroom_at-its label)

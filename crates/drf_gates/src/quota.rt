@@ -1,12 +1,12 @@
 //! Quota limits, and what roles consume (Mesos: quota limits).
-ghost use Rattle.std.specs.Prelude.{◌≡◌, ◌≢◌, ℕ, ◌+◌, ◌^◌, ◌<◌, ◌≤◌, [], ◌↔◌, true, IsTrue, filter, length, OnOk, OnErr, IfOk};
+ghost use Rattle.std.specs.Prelude.{◌≡◌, ◌≢◌, ℕ, ◌+◌, ◌^◌, ◌<◌, ◌≤◌, [], ◌↔◌, true, nat_le, IsTrue, filter, length, OnOk, OnErr, IfOk};
 ghost use Rattle.std.specs.List.{list_all};
-ghost use Rattle.std.specs.Option.{option_copied};
+ghost use Rattle.std.specs.Option.{option_copied, option_map_or};
 ghost use Rattle.drf_role.specs.Text.{Text};
 ghost use Rattle.drf_role.specs.Path.{Path, same_path};
 ghost use Rattle.drf_role.specs.Role.{IsRole};
 ghost use Rattle.drf_bundle.specs.Quantities.{amount_of};
-ghost use Rattle.drf_rows.specs.Quota.{is_within, binds, headroom_under, headrooms, stays_within, admits_under, limit_of, limits_with, consumption, headroom_at, headroom, admits};
+ghost use Rattle.drf_rows.specs.Quota.{is_within, binds, room_under, headroom_under, headrooms, stays_within, admits_under, limit_of, limits_with, consumption, headroom_at, headroom, admits};
 ghost use Rattle.drf_rows.specs.declared.rows.Rows.{Rows};
 ghost use Rattle.indexmap.specs.IndexMap.{insert_entry};
 ghost use Rattle.drf_gates.specs.Quota.{IsAllowanceOf, IsRaised, IsSame, known_amount, lessened, limit_row, lesser, used_at, used_by};
@@ -196,15 +196,46 @@ impl Quota {
         ensures of_rows { (rows : Rows) → IsAllowanceOf rows self.now → result ≡ headroom_at rows role.now label.now }
     {
         let mut least = None;
+        let mut next = 0usize;
         for (limited, limit) in &self.limits {
+            let place = next;
+            next = place.saturating_add(1);
             if !binds(limited, limit, role, label) {
                 continue;
             }
-            let used = self.consumption(limited, label);
-            let room = limit.get(label).saturating_sub(used);
+            let room = self.room(place, limited, limit, label);
             least = Some(lesser(least, room));
         }
         least
+    }
+
+    /// What a limit leaves of a scalar, in thousandths.
+    fn room(&self, place: usize, limited: &Role, limit: &Quantities, label: &str) -> u64
+        ensures { result ≡ room_under (used_at self.now.used) label.now (limit_row (limited.now, limit.now)) }
+    {
+        let used = self.consumption_at(place, limited, label);
+        limit.get(label).saturating_sub(used)
+    }
+
+    /// Whether the limits of a role and of the roles above it leave so much of a scalar, as they do where none names it. The
+    /// first that leaves less tells.
+    pub fn leaves(&self, role: &Role, label: &str, least: u64) -> bool
+        ensures value { result ≡ option_map_or (nat_le least) (headroom_under self.now.limits (used_at self.now.used) role.now label.now) true }
+        ensures of_rows { (rows : Rows) → IsAllowanceOf rows self.now
+            → result ≡ option_map_or (nat_le least) (headroom_at rows role.now label.now) true }
+    {
+        let mut next = 0usize;
+        for (limited, limit) in &self.limits {
+            let place = next;
+            next = place.saturating_add(1);
+            if !binds(limited, limit, role, label) {
+                continue;
+            }
+            if self.room(place, limited, limit, label) < least {
+                return false;
+            }
+        }
+        true
     }
 
     /// What the limit of a role leaves of each scalar that it names, put among what others leave. The lesser is kept.

@@ -1,7 +1,7 @@
 //! What is free on an agent in its turn, and what a client is granted of it.
-ghost use Rattle.std.specs.Prelude.{◌≡◌, true, nat_le, Option, Some, None, IfOk, OnOk, IsTrue, MatchOption};
+ghost use Rattle.std.specs.Prelude.{◌≡◌, Option, Some, None, IfOk, OnOk, IsTrue, MatchOption};
 ghost use Rattle.std.specs.List.{list_any};
-ghost use Rattle.std.specs.Option.{option_copied, option_map_or};
+ghost use Rattle.std.specs.Option.{option_copied};
 ghost use Rattle.drf_bundle.specs.Bundle.{IsBundle, rest};
 ghost use Rattle.drf_gates.specs.Quota.{Allowance, IsAllowanceOf};
 ghost use Rattle.drf_rows.specs.Client.{Client, path_of};
@@ -71,8 +71,7 @@ pub(crate) fn part_within(
 ) -> Result<Bundle, AllocError>
     ensures { IfOk result (IsEntitlement (option_copied quota.entry) free.now role.now) }
 {
-    // The proof learns that it is a bundle by this call alone.
-    let _ = free.quantities();
+    free.recall();
     let part = free.part_for(role)?;
     let Some(quota) = quota else {
         return Ok(part);
@@ -91,21 +90,11 @@ fn has_reserved(free: &Bundle, role: &Role) -> bool
     free.entries().iter().any(|resource| !resource.is_unreserved() && resource.is_for(role))
 }
 
-/// Whether a headroom leaves so much, as it does where there is none.
-fn leaves(headroom: Option<u64>, least: u64) -> bool
-    ensures { result ≡ option_map_or (nat_le least) headroom true }
-{
-    match headroom {
-        Some(amount) => least <= amount,
-        None => true,
-    }
-}
-
 /// Whether so much of a scalar is free, and limits leave a role so much of it.
 fn may_have(quota: &Quota, free: &Bundle, role: &Role, label: &str, least: u64) -> bool
     ensures { (rows : Rows) → IsAllowanceOf rows quota.now → result ≡ has_at_least rows free.now role.now label.now least }
 {
-    least <= free.quantities().get(label) && leaves(quota.headroom_at(role, label), least)
+    least <= free.quantities().get(label) && quota.leaves(role, label, least)
 }
 
 /// Whether amounts alone tell that a role may have nothing that is worth an offer, as limits leave it too little. It needs no
@@ -113,8 +102,7 @@ fn may_have(quota: &Quota, free: &Bundle, role: &Role, label: &str, least: u64) 
 fn is_spent(quota: Option<&Quota>, free: &Bundle, role: &Role) -> bool
     ensures { IsTrue result → IsOffered (option_copied quota.entry) free.now role.now None }
 {
-    // The proof learns that it is a bundle by this call alone.
-    let _ = free.quantities();
+    free.recall();
     let Some(quota) = quota else {
         return false;
     };

@@ -15,7 +15,7 @@ use crate::totals::{
     Total, clear_totals, copy_totals, drop_total, keep_total, kept, kept_at, lower_totals,
     raise_totals,
 };
-use crate::usage::{copy_used, is_within, lower, raise, used_at};
+use crate::usage::{copy_used, lower, raise, used_at};
 use drf_bundle::{Entry, Quantities};
 use drf_role::Role;
 use drf_rows::{LimitRow, Table};
@@ -50,7 +50,7 @@ impl Model for Quota {
 fn binds(limited: &Role, limit: &Quantities, role: &Role, label: &str) -> bool
     ensures { result ≡ binds role.now label.now (limit_row (limited.now, limit.now)) }
 {
-    is_within(limited, role) && limit.is_named(label)
+    role.is_within(limited) && limit.is_named(label)
 }
 
 /// The lesser of a number and of one that may be known.
@@ -172,8 +172,7 @@ impl Quota {
         ensures value { result ≡ used_at self.now.used role.now label.now }
         ensures of_rows { (rows : Rows) → IsAllowanceOf rows self.now → result ≡ consumption rows role.now label.now }
     {
-        // The proof learns that it is a role by this call alone.
-        let _ = role.text();
+        role.recall();
         match kept(&self.totals, role, label) {
             Some(amount) => amount,
             None => used_at(&self.used, role, label),
@@ -269,13 +268,12 @@ impl Quota {
         for (limited, limit) in &self.limits {
             let place = next;
             next = place.saturating_add(1);
-            if !is_within(limited, role) {
+            if !role.is_within(limited) {
                 continue;
             }
             self.add_headroom(place, limited, limit, &mut room)?;
         }
-        // The proof learns that the labels are in order by this call alone.
-        let _ = room.entries();
+        room.recall();
         Ok(room)
     }
 
@@ -325,7 +323,7 @@ impl Quota {
         ensures ok { OnOk result (IsRaised self.old self.new role.now amounts.now) }
         ensures err { OnErr result (self.new ≡ self.old) }
     {
-        let _ = role.text();
+        role.recall();
         raise(&mut self.used, role, amounts)?;
         raise_totals(&mut self.totals, role, amounts);
         Ok(())

@@ -7,7 +7,6 @@ ghost use Rattle.drf_rows.specs.Quota.{is_within};
 ghost use Rattle.drf_gates.specs.Quota.{Usage, AreRaised, counted, one_entry, used_at};
 ghost use Rattle.drf_gates.specs.Totals.{IsExact, AreExact};
 
-use crate::usage::is_within;
 use drf_bundle::{Entry, Quantities};
 use drf_role::Role;
 use indexmap::IndexMap;
@@ -53,7 +52,7 @@ fn add_within(sum: &mut Quantities, outer: &Role, role: &Role, amounts: &Quantit
     ensures { IsTrue result → (label : Text)
         → amount_of sum.new label ≡ amount_of sum.old label + counted (is_within outer.now) role.now amounts.now label }
 {
-    !is_within(outer, role) || add(sum, amounts)
+    !role.is_within(outer) || add(sum, amounts)
 }
 
 /// Takes so much of a label away, if there is as much. Whether it could be done. It needs no memory.
@@ -93,7 +92,7 @@ fn raise_total(total: &mut Total, role: &Role, amounts: &Quantities)
 fn lower_total(total: &mut Total, role: &Role, amounts: &Quantities)
     ensures { (old new : List Usage) → AreRaised new old role.now amounts.now → IsExact old total.old → IsExact new total.new }
 {
-    if total.is_known && is_within(&total.role, role) {
+    if total.is_known && role.is_within(&total.role) {
         total.is_known = take(&mut total.amounts, amounts);
     }
 }
@@ -102,7 +101,7 @@ fn lower_total(total: &mut Total, role: &Role, amounts: &Quantities)
 fn reduce_total(total: &mut Total, role: &Role, label: &str, thousandths: u64)
     ensures { (old new : List Usage) → AreRaised new old role.now (one_entry label.now thousandths) → IsExact old total.old → IsExact new total.new }
 {
-    if total.is_known && is_within(&total.role, role) {
+    if total.is_known && role.is_within(&total.role) {
         total.is_known = take_entry(&mut total.amounts, label, thousandths);
     }
 }

@@ -11,18 +11,11 @@ use drf_role::Role;
 use indexmap::IndexMap;
 use std::alloc::AllocError;
 
-/// Whether the role is the outer one or stands below it.
-pub(crate) fn is_within(outer: &Role, role: &Role) -> bool
-    ensures { result ≡ is_within outer.now role.now }
-{
-    role.is_within(outer)
-}
-
 /// How much of a scalar a role adds to what the outer one consumes, in thousandths.
 fn counted(outer: &Role, role: &Role, amounts: &Quantities, label: &str) -> u64
     ensures { result ≡ counted (is_within outer.now) role.now amounts.now label.now }
 {
-    if is_within(outer, role) {
+    if role.is_within(outer) {
         amounts.get(label)
     } else {
         0
@@ -50,8 +43,7 @@ fn row_with(
     requires { (label : Text) → amount_of (row_of used.now.entries role.now) label + amount_of amounts.now label < 2 ^ 64 }
     ensures { IfOk result (λ sum. (label : Text) → amount_of sum label ≡ amount_of (row_of used.now.entries role.now) label + amount_of amounts.now label) }
 {
-    // The proof learns that the labels are in order by this call alone.
-    let _ = amounts.entries();
+    amounts.recall();
     match used.get(role) {
         Some(row) => row.plus(amounts),
         None => amounts.copy(),
@@ -79,8 +71,7 @@ fn prune(row: &mut Quantities) -> bool
     ensures same { (label : Text) → amount_of row.new label ≡ amount_of row.old label }
     ensures empty { IsTrue result ↔ (row.new ≡ []) }
 {
-    // The proof learns that the labels are in order by this call alone.
-    let _ = row.entries();
+    row.recall();
     row.remove_zeros();
     row.entries().is_empty()
 }
@@ -91,8 +82,7 @@ fn lower_row(row: &mut Quantities, amounts: &Quantities) -> bool
     ensures left { (label : Text) → amount_of row.new label + amount_of amounts.now label ≡ amount_of row.old label }
     ensures empty { IsTrue result ↔ (row.new ≡ []) }
 {
-    // The proof learns that the labels are in order by this call alone.
-    let _ = amounts.entries();
+    amounts.recall();
     row.lower(amounts);
     prune(row)
 }
@@ -148,8 +138,7 @@ pub(crate) fn copy_used(
 {
     let mut copy = IndexMap::new(*used.allocator());
     for (role, amounts) in used {
-        // The proof learns that it is a role by this call alone.
-        let _ = role.text();
+        role.recall();
         raise(&mut copy, role, amounts)?;
     }
     Ok(copy)

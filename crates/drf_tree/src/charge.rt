@@ -49,8 +49,7 @@ impl Tree {
         ensures made { self.new.marks.made ≡ self.old.marks.made }
         ensures work { debt (work_of self.new.marks) ≤ debt (work_of self.old.marks) + length (path_at self.old.places.items leaf) }
     {
-        // Its labels are in order.
-        let _ = quantities.entries();
+        quantities.recall();
         let mut node = leaf;
         while node != ROOT {
             let sum = &mut self.sums[node];
@@ -71,8 +70,7 @@ impl Tree {
         ensures made { self.new.marks.made ≡ self.old.marks.made }
         ensures work { debt (work_of self.new.marks) ≤ debt (work_of self.old.marks) + length (path_at self.old.places.items leaf) }
     {
-        // Its labels are in order.
-        let _ = quantities.entries();
+        quantities.recall();
         let mut node = leaf;
         while node != ROOT {
             let sum = &mut self.sums[node];

@@ -130,8 +130,7 @@ impl Tree {
     {
         let nothing = Sum::of_none(self.alloc(), self.sums[leaf].weight);
         let gone = mem::replace(&mut self.sums[leaf], nothing);
-        // Its labels are in order.
-        let _ = gone.held.entries();
+        gone.held.recall();
         self.marks.mark(leaf);
         let mut node = self.parent(leaf);
         while node != ROOT {

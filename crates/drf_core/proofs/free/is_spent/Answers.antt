@@ -8,6 +8,6 @@ use Rattle.drf_core.proofs.free.is_spent.Goals as goal
 pub returns : goal.returns
 returns c = λ little.
     subst (λ o. IsOffered (option_copied o) c.args.free.now c.args.role.now None) (sym c.in-Some.is)
-    (spent c.in-Some.quota.now c.args.free.now c.args.role.now c.may_have.result c.may_have-2.result c.quantities.ensures.bundle
+    (spent c.in-Some.quota.now c.args.free.now c.args.role.now c.may_have.result c.may_have-2.result c.recall.ensures
     (sym c.has_reserved.ensures ∙ c.if-has_reserved.false) c.may_have.ensures c.if-may_have.false c.may_have-2.ensures
     (not-true c.may_have-2.result little))

@@ -11,13 +11,13 @@ use Rattle.drf_core.proofs.free.part_within.Goals as goal
 pub returns-in_default : goal.returns-in_default
 returns-in_default c =
     subst (λ o. IsEntitlement (option_copied o) c.args.free.now c.args.role.now c.in_ok-part.part) (sym c.in_default.is)
-    (entitled-whole None c.args.free.now c.args.role.now c.in_ok-part.part c.quantities.ensures.bundle (room-unlimited c.args.role.now) c.in_ok-part.ensures)
+    (entitled-whole None c.args.free.now c.args.role.now c.in_ok-part.part c.recall.ensures (room-unlimited c.args.role.now) c.in_ok-part.ensures)
 
 pub returns-then-is_empty : goal.returns-then-is_empty
 returns-then-is_empty c =
     let none : c.in_ok-headroom.headroom ≡ [] = sym c.entries.ensures.value ∙ no_entries c.entries.result.now (eqb-true (length c.entries.result.now) 0 (sym c.is_empty.ensures ∙ c.if-is_empty.true)) in
     subst (λ o. IsEntitlement (option_copied o) c.args.free.now c.args.role.now c.in_ok-part.part) (sym c.in-Some.is)
-    (entitled-whole (Some c.in-Some.quota.now) c.args.free.now c.args.role.now c.in_ok-part.part c.quantities.ensures.bundle
+    (entitled-whole (Some c.in-Some.quota.now) c.args.free.now c.args.role.now c.in_ok-part.part c.recall.ensures
     (λ rows counted. sym (c.in_ok-headroom.ensures.of_rows rows counted) ∙ none) c.in_ok-part.ensures)
 
 pub returns : goal.returns

@@ -16,7 +16,7 @@ raise-requires c =
     let split : c.loop-role.role-iterator ≡ (role, amounts) ∷ rest = c.in-Some.ensures.steps in
     copy_fits whole copy rest role amounts
     (subst (λ (us : List Usage). (test : Path → Bool) (label : Text) → used_where test copy label + used_where test us label ≡ used_where test whole label) split c.loop-role.invariant)
-    c.requires c.text.ensures.right
+    c.requires c.recall.ensures.right
 
 pub loop-role-preserved : goal.loop-role-preserved
 loop-role-preserved c =

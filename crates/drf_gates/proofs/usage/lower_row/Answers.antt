@@ -5,7 +5,7 @@ use Rattle.drf_bundle.specs.declared.quantities.Entry.{Entry}
 use Rattle.drf_gates.proofs.usage.lower_row.Goals as goal
 
 pub lower-requires : goal.lower-requires
-lower-requires c = covers_from c.args.row.now c.args.amounts.now c.entries.ensures.in_order c.requires
+lower-requires c = covers_from c.args.row.now c.args.amounts.now c.recall.ensures c.requires
 
 pub returns-clause-left : goal.returns-clause-left
 returns-clause-left c = λ label.

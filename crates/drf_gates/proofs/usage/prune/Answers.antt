@@ -8,4 +8,4 @@ use Rattle.drf_gates.proofs.usage.prune.Goals as goal
 pub returns-clause-same : goal.returns-clause-same
 returns-clause-same c = λ label.
     ap (λ (q : List Entry). amount_of q label) c.remove_zeros.ensures.value
-    ∙ amount-without_zeros c.args.row.now label c.entries.ensures.in_order
+    ∙ amount-without_zeros c.args.row.now label c.recall.ensures

@@ -26,6 +26,6 @@ returns-in-Some c =
     (λ sum. (label : Text) → amount_of sum label ≡ amount_of (row_of used role) label + amount_of amounts label)
     (λ sum is label.
     ap (λ (q : List Entry). amount_of q label) is
-    ∙ amount-plus row amounts label c.entries.ensures.in_order
+    ∙ amount-plus row amounts label c.recall.ensures
     ∙ ap (λ (q : List Entry). amount_of q label + amount_of amounts label) own)
     c.plus.ensures

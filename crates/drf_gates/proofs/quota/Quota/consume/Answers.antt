@@ -11,7 +11,7 @@ raise-requires c = λ label.
     let role : Path = c.args.role.now in
     omega (
       arith,
-      c.requires role label c.text.ensures.right (within_itself role),
+      c.requires role label c.recall.ensures.right (within_itself role),
       ap (λ (a : Allowance). used_at a.used role label) c.self.view_is,
       used_by_le c.self.inside.used.entries role label,
     )

@@ -70,7 +70,7 @@ loop-node-preserved c =
       climb_step old c.loop-node.self c.requires.shape c.args.leaf c.loop-node.node
           (λ i. IsMoved none (of_charged c.args.quantities.now)) so c.loop-node-test.true
           _ c.parent-node.result s t above c.index_mut-sum.ensures.value
-          (is_charged c.args.quantities.now s c.raise.new.self c.entries.ensures.in_order c.raise.ensures)
+          (is_charged c.args.quantities.now s c.raise.new.self c.recall.ensures c.raise.ensures)
           refl refl refl,
       marking_step old c.loop-node.self c.requires.shape c.args.leaf c.loop-node.node
           (λ i. IsMoved none (of_charged c.args.quantities.now)) so c.loop-node-test.true marking

@@ -40,7 +40,7 @@ lower-requires c =
     let gone : Sum = c.replace-gone.result in
     let s = c.index_mut-sum.result.now in
     let least = least_read old c.args.leaf c.requires.least gone c.index_mut.result.now c.replace-gone.ensures.value c.index_mut.ensures.value in
-    covers_from s.held gone.held c.entries.ensures.in_order
+    covers_from s.held gone.held c.recall.ensures
     (least.held c.loop-node.node s
     (climb_on old c.loop-node.self c.requires.shape c.args.leaf c.loop-node.node (λ i. IsMoved (amounts_in gone) none) so c.loop-node-test.true)
     (climb_was old c.loop-node.self c.requires.shape c.args.leaf c.loop-node.node (λ i. IsMoved (amounts_in gone) none) so c.loop-node-test.true s c.index_mut-sum.ensures.value))

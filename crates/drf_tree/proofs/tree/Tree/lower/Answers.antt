@@ -20,7 +20,7 @@ lower-requires c =
     let old = c.args.self.now in
     let so = c.loop-node.invariant.0 in
     let s = c.index_mut-sum.result.now in
-    covers_from s.held c.args.quantities.now c.entries.ensures.in_order
+    covers_from s.held c.args.quantities.now c.recall.ensures
     (c.requires.lowerable.held c.loop-node.node s
     (climb_on old c.loop-node.self c.requires.shape c.args.leaf c.loop-node.node
     (λ i. IsMoved (of_lowered c.args.quantities.now c.args.offers) none) so c.loop-node-test.true)

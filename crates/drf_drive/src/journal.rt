@@ -8,7 +8,7 @@ ghost use Rattle.drf_drive.specs.JournalText.{HasSent, IsCutOff, entry_text, is_
 use crate::script::ScriptFault;
 use drf_board::Entry;
 use drf_journal::{Device, RunFault, write_whole};
-use drf_lines::{write_event, write_reply};
+use drf_lines::{push_reply, write_event};
 use std::alloc::{AllocError, Global};
 use std::io::Write;
 
@@ -20,10 +20,9 @@ fn push_entry(alloc: Global, entry: &Entry, text: &mut Vec<u8>) -> Result<(), Al
     ensures { OnOk result (text.new.items ≡ text.old.items ++ entry_text entry.now) }
 {
     let event = write_event(alloc, &entry.event)?;
-    let reply = write_reply(alloc, &entry.reply)?;
     text.extend_from_slice(&event)?;
     text.push(b'\n')?;
-    text.extend_from_slice(&reply)
+    push_reply(text, &entry.reply)
 }
 
 // Writes the text that waits, if it is long.

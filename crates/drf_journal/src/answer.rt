@@ -3,12 +3,13 @@ ghost use Rattle.std.specs.Prelude.{◌≡◌, ◌++◌, IfOk, OnOk, OnErr};
 ghost use Rattle.drf_rows.specs.Step.{reply_to};
 ghost use Rattle.drf_core.specs.Machine.{live, after};
 ghost use Rattle.drf_lines.specs.Meaning.{meaning_of};
-ghost use Rattle.drf_journal.specs.Output.{reply_line_after};
+ghost use Rattle.drf_lines.specs.Written.{KeepsFront};
+ghost use Rattle.drf_journal.specs.Output.{echo_of, reply_line_after};
 ghost use Rattle.drf_journal.specs.State.{machine_after, answer_to, HasTakenAtMost};
 
-use crate::open_line::{OpenLine, keep};
+use crate::open_line::{OpenLine, kept_front};
 use drf_core::Core;
-use drf_lines::{LineError, read_event, write_fault, write_reply};
+use drf_lines::{LineError, push_fault, push_reply, read_event};
 use drf_rows::{Event, Reply};
 use drf_sorter::Sorter;
 use std::alloc::{AllocError, Global};
@@ -22,64 +23,98 @@ fn take_event<S: Sorter>(core: &mut Core<S>, event: Event) -> Result<Reply, Allo
     core.step(event)
 }
 
-/// Takes a line's event, and tells its reply line.
+/// Takes a line's event, and adds its reply line to the text.
 fn take_line<S: Sorter>(
     alloc: Global,
     core: &mut Core<S>,
     line: &[u8],
-) -> Result<Vec<u8>, AllocError>
-    ensures told { IfOk result (λ told. told.items ≡ reply_line_after (live core.old).limits (live core.old).rows (meaning_of line.now)) }
+    text: &mut Vec<u8>,
+) -> Result<(), AllocError>
+    ensures told { OnOk result (text.new.items ≡ text.old.items
+        ++ reply_line_after (live core.old).limits (live core.old).rows (meaning_of line.now)) }
+    ensures front { KeepsFront text.old.items text.new.items }
     ensures ok { OnOk result (live core.new ≡ machine_after (live core.old) (meaning_of line.now)) }
     ensures taken { HasTakenAtMost (live core.old) line.now (live core.new) }
 {
     match read_event(alloc, line) {
         Ok(event) => {
             let reply = take_event(core, event)?;
-            write_reply(alloc, &reply)
+            push_reply(text, &reply)
         }
-        Err(LineError::Fault(fault)) => write_fault(alloc, fault),
+        Err(LineError::Fault(fault)) => push_fault(text, fault),
         Err(LineError::Memory) => Err(AllocError),
     }
 }
 
-/// Takes a line's event, and gives the text for the line.
+/// Adds the line itself, where lines are told too.
+fn push_echo(text: &mut Vec<u8>, echo: bool, line: &[u8]) -> Result<(), AllocError>
+    ensures told { OnOk result (text.new.items ≡ text.old.items ++ echo_of echo line.now) }
+    ensures front { KeepsFront text.old.items text.new.items }
+{
+    if !echo {
+        return Ok(());
+    }
+    text.extend_from_slice(kept_front(line))?;
+    text.push(b'\n')?;
+    Ok(())
+}
+
+/// Takes a line's event, and adds the text for the line. Where memory ends, a part of it may stand there.
+fn push_answer<S: Sorter>(
+    alloc: Global,
+    core: &mut Core<S>,
+    echo: bool,
+    line: &[u8],
+    text: &mut Vec<u8>,
+) -> Result<(), AllocError>
+    ensures told { OnOk result (text.new.items ≡ text.old.items ++ answer_to echo (live core.old) line.now) }
+    ensures front { KeepsFront text.old.items text.new.items }
+    ensures ok { OnOk result (live core.new ≡ machine_after (live core.old) (meaning_of line.now)) }
+    ensures taken { HasTakenAtMost (live core.old) line.now (live core.new) }
+{
+    push_echo(text, echo, line)?;
+    take_line(alloc, core, line, text)
+}
+
+/// Takes a line's event, and adds the text for the line, all of it or nothing.
 fn answer<S: Sorter>(
     alloc: Global,
     core: &mut Core<S>,
     echo: bool,
     line: &[u8],
-) -> Result<Vec<u8>, AllocError>
-    ensures told { IfOk result (λ told. told.items ≡ answer_to echo (live core.old) line.now) }
+    text: &mut Vec<u8>,
+) -> Result<(), AllocError>
+    ensures told { OnOk result (text.new.items ≡ text.old.items ++ answer_to echo (live core.old) line.now) }
+    ensures err { OnErr result (text.new.items ≡ text.old.items) }
     ensures ok { OnOk result (live core.new ≡ machine_after (live core.old) (meaning_of line.now)) }
     ensures taken { HasTakenAtMost (live core.old) line.now (live core.new) }
 {
-    let reply = take_line(alloc, core, line)?;
-    if !echo {
-        return Ok(reply);
+    let whole = text.len();
+    let told = push_answer(alloc, core, echo, line, text);
+    if told.is_err() {
+        text.truncate(whole);
     }
-    let mut told = Vec::new(alloc);
-    keep(&mut told, line)?;
-    told.push(b'\n')?;
-    told.extend_from_slice(&reply)?;
-    Ok(told)
+    told
 }
 
-/// Takes the event of the line that some bytes end, of which `front` came before, and gives the text for the line. One
-/// that came whole is read where it lies.
+/// Takes the event of the line that some bytes end, of which `front` came before, and adds the text for the line, all of it
+/// or nothing. A line that came whole is read where it lies.
 pub(crate) fn answer_end<S: Sorter>(
     alloc: Global,
     core: &mut Core<S>,
     echo: bool,
     front: &mut OpenLine,
     end: &[u8],
-) -> Result<Vec<u8>, AllocError>
-    ensures told { IfOk result (λ told. told.items ≡ answer_to echo (live core.old) (front.old ++ end.now)) }
+    text: &mut Vec<u8>,
+) -> Result<(), AllocError>
+    ensures told { OnOk result (text.new.items ≡ text.old.items ++ answer_to echo (live core.old) (front.old ++ end.now)) }
+    ensures err { OnErr result (text.new.items ≡ text.old.items) }
     ensures ok { OnOk result (live core.new ≡ machine_after (live core.old) (meaning_of (front.old ++ end.now))) }
     ensures taken { HasTakenAtMost (live core.old) (front.old ++ end.now) (live core.new) }
 {
     if front.is_empty() {
-        return answer(alloc, core, echo, end);
+        return answer(alloc, core, echo, end, text);
     }
     front.keep(end)?;
-    answer(alloc, core, echo, front.bytes())
+    answer(alloc, core, echo, front.bytes(), text)
 }

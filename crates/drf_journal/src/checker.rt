@@ -15,6 +15,9 @@ use drf_sorter::Sorter;
 use std::alloc::{AllocError, Global};
 use std::marker::Model;
 
+/// Room for each reply line but offers and reports, so that it need not grow.
+const SHORT_LINE: usize = 64;
+
 /// A check of a journal between two reads.
 #[derive(Drop)]
 pub(crate) struct Checker<S: Sorter> {
@@ -69,7 +72,8 @@ impl<S: Sorter> Checker<S> {
         requires { self.old.events + 1 < 2 ^ 63 }
         ensures { OnOk result (self.new ≡ after_event_line self.old end.now) }
     {
-        let text = answer_end(alloc, &mut self.core, false, &mut self.line, end)?;
+        let mut text = Vec::with_capacity(alloc, SHORT_LINE)?;
+        answer_end(alloc, &mut self.core, false, &mut self.line, end, &mut text)?;
         self.line.clear();
         self.due = Due::of(text);
         self.events += 1;

@@ -9,13 +9,11 @@ use std::marker::Model;
 /// How many bytes of a line are kept: one more than it may have, so that one that is too long is told from the longest.
 const KEPT: usize = 65_537;
 
-/// Adds bytes of a line, as far as they are kept.
-pub(crate) fn keep(line: &mut Vec<u8>, more: &[u8]) -> Result<(), AllocError>
-    ensures { OnOk result (line.new.items ≡ kept_of (line.old.items ++ more.now)) }
+/// A line as far as it is kept.
+pub(crate) fn kept_front(line: &[u8]) -> &[u8]
+    ensures { result.now ≡ kept_of line.now }
 {
-    line.extend_from_slice(more)?;
-    line.truncate(KEPT);
-    Ok(())
+    &line[..line.len().min(KEPT)]
 }
 
 /// What is kept of the line at hand, which comes in pieces.
@@ -60,7 +58,9 @@ impl OpenLine {
     pub(crate) fn keep(&mut self, more: &[u8]) -> Result<(), AllocError>
         ensures { OnOk result (self.new ≡ kept_of (self.old ++ more.now)) }
     {
-        keep(&mut self.kept, more)
+        self.kept.extend_from_slice(more)?;
+        self.kept.truncate(KEPT);
+        Ok(())
     }
 
     /// The next line begins.

@@ -84,8 +84,14 @@ impl<S: Sorter> Session<S> {
         ensures err { OnErr result ((self.new.unsent ≡ self.old.unsent) × (self.new.lines ≡ self.old.lines)) }
         ensures taken { HasTakenAtMost self.old.machine (self.old.pending ++ end.now) self.new.machine }
     {
-        let told = answer_end(alloc, &mut self.core, self.echo, &mut self.pending, end)?;
-        self.unsent.extend_from_slice(&told)?;
+        answer_end(
+            alloc,
+            &mut self.core,
+            self.echo,
+            &mut self.pending,
+            end,
+            &mut self.unsent,
+        )?;
         self.pending.clear();
         self.lines += 1;
         Ok(())

@@ -21,4 +21,4 @@ mod words;
 pub use event_line::write_event;
 pub use fault::{LineError, LineFault};
 pub use line::read_event;
-pub use reply::{write_fault, write_reply};
+pub use reply::{push_fault, push_reply, write_fault, write_reply};

@@ -1,9 +1,9 @@
-//! Members of an object that is being written.
+//! Members of an object that is being written. What stands before it stays, also where memory ends.
 ghost use Rattle.std.specs.Prelude.{◌≡◌, ◌∷◌, ◌++◌, [], IfOk, OnOk, decimal, nat_lt};
 ghost use Rattle.std.specs.List.{list_all};
 ghost use Rattle.json.specs.Print.{escape, quoted};
 ghost use Rattle.serde_json.specs.Written.{comma_if};
-ghost use Rattle.drf_lines.specs.Written.{is_plain_byte};
+ghost use Rattle.drf_lines.specs.Written.{is_plain_byte, KeepsFront};
 
 use itoa::Buffer;
 use json::Writer;
@@ -33,14 +33,16 @@ fn quoted(alloc: Global, text: &str) -> Result<Vec<u8>, AllocError>
 
 /// Writes a text.
 pub fn put(line: &mut Vec<u8>, text: &str) -> Result<(), AllocError>
-    ensures { OnOk result (line.new.items ≡ line.old.items ++ text.now) }
+    ensures ok { OnOk result (line.new.items ≡ line.old.items ++ text.now) }
+    ensures front { KeepsFront line.old.items line.new.items }
 {
     line.extend_from_slice(text.as_bytes())
 }
 
 /// Writes one byte, as a closing bracket.
 pub fn put_byte(line: &mut Vec<u8>, byte: u8) -> Result<(), AllocError>
-    ensures { OnOk result (line.new.items ≡ line.old.items ++ byte ∷ []) }
+    ensures ok { OnOk result (line.new.items ≡ line.old.items ++ byte ∷ []) }
+    ensures front { KeepsFront line.old.items line.new.items }
 {
     line.push(byte)?;
     Ok(())
@@ -48,7 +50,8 @@ pub fn put_byte(line: &mut Vec<u8>, byte: u8) -> Result<(), AllocError>
 
 /// Writes what stands behind the first `"` of a JSON string.
 fn put_string(line: &mut Vec<u8>, text: &str) -> Result<(), AllocError>
-    ensures { OnOk result (line.new.items ≡ line.old.items ++ (escape text.now ++ 34 ∷ [])) }
+    ensures ok { OnOk result (line.new.items ≡ line.old.items ++ (escape text.now ++ 34 ∷ [])) }
+    ensures front { KeepsFront line.old.items line.new.items }
 {
     if is_plain(text) {
         put(line, text)?;
@@ -60,7 +63,8 @@ fn put_string(line: &mut Vec<u8>, text: &str) -> Result<(), AllocError>
 
 /// Writes what stands before a text with its first `"`, and the text.
 pub fn put_text(line: &mut Vec<u8>, before: &str, text: &str) -> Result<(), AllocError>
-    ensures { OnOk result (line.new.items ≡ line.old.items ++ (before.now ++ (escape text.now ++ 34 ∷ []))) }
+    ensures ok { OnOk result (line.new.items ≡ line.old.items ++ (before.now ++ (escape text.now ++ 34 ∷ []))) }
+    ensures front { KeepsFront line.old.items line.new.items }
 {
     put(line, before)?;
     put_string(line, text)
@@ -68,7 +72,8 @@ pub fn put_text(line: &mut Vec<u8>, before: &str, text: &str) -> Result<(), Allo
 
 /// Writes what stands before a number, and the number.
 pub fn put_number(line: &mut Vec<u8>, before: &str, value: u64) -> Result<(), AllocError>
-    ensures { OnOk result (line.new.items ≡ line.old.items ++ (before.now ++ decimal value)) }
+    ensures ok { OnOk result (line.new.items ≡ line.old.items ++ (before.now ++ decimal value)) }
+    ensures front { KeepsFront line.old.items line.new.items }
 {
     put(line, before)?;
     put(line, Buffer::new().format(value))
@@ -76,10 +81,11 @@ pub fn put_number(line: &mut Vec<u8>, before: &str, value: u64) -> Result<(), Al
 
 /// Writes the comma before an item, but not before the first.
 pub fn put_comma(line: &mut Vec<u8>, place: usize) -> Result<(), AllocError>
-    ensures { OnOk result (line.new.items ≡ line.old.items ++ comma_if (nat_lt 0 place)) }
+    ensures ok { OnOk result (line.new.items ≡ line.old.items ++ comma_if (nat_lt 0 place)) }
+    ensures front { KeepsFront line.old.items line.new.items }
 {
-    if place > 0 {
-        line.push(b',')?;
+    if place == 0 {
+        return Ok(());
     }
-    Ok(())
+    put_byte(line, b',')
 }

@@ -6,6 +6,7 @@ ghost use Rattle.serde_json.specs.View.{items_of};
 ghost use Rattle.serde_json.specs.Written.{compact_text};
 ghost use Rattle.drf_text.specs.Written.{bundle_text};
 ghost use Rattle.drf_lines.specs.ReplyLine.{offer_value, offers_value, refused_value, reply_value, reply_line, fault_line};
+ghost use Rattle.drf_lines.specs.Written.{KeepsFront};
 
 use crate::fault::LineFault;
 use crate::member::{put, put_byte, put_comma, put_number, put_text};
@@ -22,7 +23,8 @@ fn put_bundle(
     before: &str,
     bundle: &Bundle,
 ) -> Result<(), AllocError>
-    ensures { OnOk result (line.new.items ≡ line.old.items ++ (before.now ++ (escape (bundle_text bundle.now) ++ 34 ∷ []))) }
+    ensures ok { OnOk result (line.new.items ≡ line.old.items ++ (before.now ++ (escape (bundle_text bundle.now) ++ 34 ∷ []))) }
+    ensures front { KeepsFront line.old.items line.new.items }
 {
     text.clear();
     push_bundle(text, bundle)?;
@@ -30,7 +32,8 @@ fn put_bundle(
 }
 
 fn put_offer(line: &mut Vec<u8>, text: &mut String, offer: &OfferLine) -> Result<(), AllocError>
-    ensures { OnOk result (line.new.items ≡ line.old.items ++ compact_text (offer_value offer.now)) }
+    ensures ok { OnOk result (line.new.items ≡ line.old.items ++ compact_text (offer_value offer.now)) }
+    ensures front { KeepsFront line.old.items line.new.items }
 {
     put_text(line, "{\"agent\":\"", offer.agent.text())?;
     put_text(line, ",\"framework\":\"", offer.framework.text())?;
@@ -46,7 +49,8 @@ fn put_offer_list(
     text: &mut String,
     offers: &[OfferLine],
 ) -> Result<(), AllocError>
-    ensures { OnOk result (line.new.items ≡ line.old.items ++ compact_text (array (items_of (map offer_value offers.now)))) }
+    ensures ok { OnOk result (line.new.items ≡ line.old.items ++ compact_text (array (items_of (map offer_value offers.now)))) }
+    ensures front { KeepsFront line.old.items line.new.items }
 {
     put_byte(line, b'[')?;
     for (i, offer) in offers.iter().enumerate() {
@@ -56,17 +60,19 @@ fn put_offer_list(
     put_byte(line, b']')
 }
 
-fn put_offers(alloc: Global, line: &mut Vec<u8>, offers: &[OfferLine]) -> Result<(), AllocError>
-    ensures { OnOk result (line.new.items ≡ line.old.items ++ compact_text (offers_value offers.now)) }
+fn put_offers(line: &mut Vec<u8>, offers: &[OfferLine]) -> Result<(), AllocError>
+    ensures ok { OnOk result (line.new.items ≡ line.old.items ++ compact_text (offers_value offers.now)) }
+    ensures front { KeepsFront line.old.items line.new.items }
 {
-    let mut text = String::new(alloc);
+    let mut text = String::new(*line.allocator());
     put(line, "{\"offers\":")?;
     put_offer_list(line, &mut text, offers)?;
     put_byte(line, b'}')
 }
 
 fn put_refused(line: &mut Vec<u8>, name: &str, reason: u64) -> Result<(), AllocError>
-    ensures { OnOk result (line.new.items ≡ line.old.items ++ compact_text (refused_value name.now reason)) }
+    ensures ok { OnOk result (line.new.items ≡ line.old.items ++ compact_text (refused_value name.now reason)) }
+    ensures front { KeepsFront line.old.items line.new.items }
 {
     put_text(line, "{\"name\":\"", name)?;
     put_number(line, ",\"refused\":", reason)?;
@@ -74,32 +80,49 @@ fn put_refused(line: &mut Vec<u8>, name: &str, reason: u64) -> Result<(), AllocE
 }
 
 fn put_done(line: &mut Vec<u8>) -> Result<(), AllocError>
-    ensures { OnOk result (line.new.items ≡ line.old.items ++ compact_text (reply_value Reply.Done)) }
+    ensures ok { OnOk result (line.new.items ≡ line.old.items ++ compact_text (reply_value Reply.Done)) }
+    ensures front { KeepsFront line.old.items line.new.items }
 {
     put(line, "{\"ok\":true}")
 }
 
-fn put_reply(alloc: Global, line: &mut Vec<u8>, reply: &Reply) -> Result<(), AllocError>
-    ensures { OnOk result (line.new.items ≡ line.old.items ++ compact_text (reply_value reply.now)) }
+fn put_reply(line: &mut Vec<u8>, reply: &Reply) -> Result<(), AllocError>
+    ensures ok { OnOk result (line.new.items ≡ line.old.items ++ compact_text (reply_value reply.now)) }
+    ensures front { KeepsFront line.old.items line.new.items }
 {
     match reply {
         Reply::Done => put_done(line),
-        Reply::Offers(offers) => put_offers(alloc, line, offers.as_slice()),
-        Reply::Report(report) => put_report(alloc, line, report),
+        Reply::Offers(offers) => put_offers(line, offers.as_slice()),
+        Reply::Report(report) => put_report(line, report),
         Reply::Refused(refusal) => put_refused(line, refusal.name(), refusal.number()),
     }
 }
 
-/// Room for the line of each reply but offers and reports, so that it need not grow.
-const SHORT_LINE: usize = 64;
+/// Adds the line that tells a reply: compact JSON, the keys in order of bytes. At want of memory a part of it may stand
+/// behind what stood there.
+pub fn push_reply(text: &mut Vec<u8>, reply: &Reply) -> Result<(), AllocError>
+    ensures ok { OnOk result (text.new.items ≡ text.old.items ++ reply_line reply.now) }
+    ensures front { KeepsFront text.old.items text.new.items }
+{
+    put_reply(text, reply)?;
+    put_byte(text, b'\n')
+}
 
-/// The line that tells a reply: compact JSON, the keys in order of bytes.
+/// Adds the line that tells why a line is no event. At want of memory a part of it may stand behind what stood there.
+pub fn push_fault(text: &mut Vec<u8>, fault: LineFault) -> Result<(), AllocError>
+    ensures ok { OnOk result (text.new.items ≡ text.old.items ++ fault_line fault) }
+    ensures front { KeepsFront text.old.items text.new.items }
+{
+    put_refused(text, fault.name(), fault.number())?;
+    put_byte(text, b'\n')
+}
+
+/// The line that tells a reply.
 pub fn write_reply(alloc: Global, reply: &Reply) -> Result<Vec<u8>, AllocError>
     ensures { IfOk result (λ line. line.items ≡ reply_line reply.now) }
 {
-    let mut line = Vec::with_capacity(alloc, SHORT_LINE)?;
-    put_reply(alloc, &mut line, reply)?;
-    line.push(b'\n')?;
+    let mut line = Vec::new(alloc);
+    push_reply(&mut line, reply)?;
     Ok(line)
 }
 
@@ -107,8 +130,7 @@ pub fn write_reply(alloc: Global, reply: &Reply) -> Result<Vec<u8>, AllocError>
 pub fn write_fault(alloc: Global, fault: LineFault) -> Result<Vec<u8>, AllocError>
     ensures { IfOk result (λ line. line.items ≡ fault_line fault) }
 {
-    let mut line = Vec::with_capacity(alloc, SHORT_LINE)?;
-    put_refused(&mut line, fault.name(), fault.number())?;
-    line.push(b'\n')?;
+    let mut line = Vec::new(alloc);
+    push_fault(&mut line, fault)?;
     Ok(line)
 }

@@ -6,13 +6,14 @@ ghost use Rattle.serde_json.specs.Data.{array};
 ghost use Rattle.serde_json.specs.View.{items_of};
 ghost use Rattle.serde_json.specs.Written.{compact_text};
 ghost use Rattle.drf_lines.specs.ReportLine.{amounts_text, fraction_text, node_value, report_value};
+ghost use Rattle.drf_lines.specs.Written.{KeepsFront};
 
 use crate::member::{put, put_byte, put_comma, put_number, put_text};
 use drf_bundle::Quantities;
 use drf_rows::{NodeLine, Report};
 use drf_text::push_quantities;
 use itoa::Buffer;
-use std::alloc::{AllocError, Global};
+use std::alloc::AllocError;
 
 /// Whether each quantity is above 0.
 fn are_above_zero(quantities: &Quantities) -> bool
@@ -56,7 +57,8 @@ fn put_amounts(
     before: &str,
     quantities: &Quantities,
 ) -> Result<(), AllocError>
-    ensures { OnOk result (line.new.items ≡ line.old.items ++ (before.now ++ (escape (amounts_text quantities.now) ++ 34 ∷ []))) }
+    ensures ok { OnOk result (line.new.items ≡ line.old.items ++ (before.now ++ (escape (amounts_text quantities.now) ++ 34 ∷ []))) }
+    ensures front { KeepsFront line.old.items line.new.items }
 {
     set_amounts(text, quantities)?;
     put_text(line, before, text.as_str())
@@ -69,14 +71,16 @@ fn put_fraction(
     before: &str,
     fraction: (u128, u128),
 ) -> Result<(), AllocError>
-    ensures { OnOk result (line.new.items ≡ line.old.items ++ (before.now ++ (escape (fraction_text fraction) ++ 34 ∷ []))) }
+    ensures ok { OnOk result (line.new.items ≡ line.old.items ++ (before.now ++ (escape (fraction_text fraction) ++ 34 ∷ []))) }
+    ensures front { KeepsFront line.old.items line.new.items }
 {
     set_fraction(text, fraction)?;
     put_text(line, before, text.as_str())
 }
 
 fn put_node(line: &mut Vec<u8>, text: &mut String, node: &NodeLine) -> Result<(), AllocError>
-    ensures { OnOk result (line.new.items ≡ line.old.items ++ compact_text (node_value node.now)) }
+    ensures ok { OnOk result (line.new.items ≡ line.old.items ++ compact_text (node_value node.now)) }
+    ensures front { KeepsFront line.old.items line.new.items }
 {
     put_number(line, "{\"count\":", node.count)?;
     put_amounts(line, text, ",\"held\":\"", &node.held)?;
@@ -92,7 +96,8 @@ fn put_node_list(
     text: &mut String,
     nodes: &[NodeLine],
 ) -> Result<(), AllocError>
-    ensures { OnOk result (line.new.items ≡ line.old.items ++ compact_text (array (items_of (map node_value nodes.now)))) }
+    ensures ok { OnOk result (line.new.items ≡ line.old.items ++ compact_text (array (items_of (map node_value nodes.now)))) }
+    ensures front { KeepsFront line.old.items line.new.items }
 {
     put_byte(line, b'[')?;
     for (i, node) in nodes.iter().enumerate() {
@@ -102,10 +107,11 @@ fn put_node_list(
     put_byte(line, b']')
 }
 
-pub fn put_report(alloc: Global, line: &mut Vec<u8>, report: &Report) -> Result<(), AllocError>
-    ensures { OnOk result (line.new.items ≡ line.old.items ++ compact_text (report_value report.now)) }
+pub fn put_report(line: &mut Vec<u8>, report: &Report) -> Result<(), AllocError>
+    ensures ok { OnOk result (line.new.items ≡ line.old.items ++ compact_text (report_value report.now)) }
+    ensures front { KeepsFront line.old.items line.new.items }
 {
-    let mut text = String::new(alloc);
+    let mut text = String::new(*line.allocator());
     put(line, "{\"nodes\":")?;
     put_node_list(line, &mut text, report.nodes.as_slice())?;
     put_amounts(line, &mut text, ",\"total\":\"", &report.total)?;

@@ -1,6 +1,5 @@
 use Rattle.std.proofs.Common.{◌≡◌, ℕ, List, ◌++◌, ◌∙◌, ap, ⊎_elim, inl, inr, Result, Ok, Err}
 use Rattle.std.specs.Prelude.{OnOk}
-use Rattle.std.proofs.lemmas.Result.{IfOk-weaker}
 use Rattle.drf_core.specs.Machine.{Machine, live}
 use Rattle.drf_lines.specs.Meaning.{meaning_of}
 use Rattle.drf_journal.specs.State.{answer_to, machine_after}
@@ -18,8 +17,7 @@ returns-clause-told g c =
     let line = c.args.front.now ++ c.args.end.now in
     let kept : answer_to c.args.echo machine c.bytes.result.now ≡ answer_to c.args.echo machine line =
     ap (answer_to c.args.echo machine) (c.bytes.ensures ∙ c.in_ok-keep.ensures) ∙ answer-kept c.args.echo machine line in
-    IfOk-weaker c.answer-2.result (λ told. told.items ≡ answer_to c.args.echo machine c.bytes.result.now) (λ told. told.items ≡ answer_to c.args.echo machine line)
-    (λ told is. is ∙ kept) c.answer-2.ensures.told
+    at_ok c.answer-2.result (λ is. is ∙ ap (λ (told : List ℕ). c.args.text.now.items ++ told) kept) c.answer-2.ensures.told
 
 pub returns-clause-ok : goal.returns-clause-ok
 returns-clause-ok g c =

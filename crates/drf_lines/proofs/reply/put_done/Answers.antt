@@ -1,6 +1,6 @@
 use Rattle.json.specs.Print.{escape_byte}
 use Rattle.drf_lines.proofs.reply.put_done.Goals as goal
 
-pub returns : goal.returns
+pub returns-clause-ok : goal.returns-clause-ok
 unfolding escape_byte
-returns c = c.put.ensures
+returns-clause-ok c = c.put.ensures.ok

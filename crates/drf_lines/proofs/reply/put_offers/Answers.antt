@@ -3,7 +3,7 @@ use Rattle.json.specs.Print.{escape_byte}
 use Rattle.drf_lines.proofs.ReplyTexts.{then}
 use Rattle.drf_lines.proofs.reply.put_offers.Goals as goal
 
-pub returns : goal.returns
+pub returns-clause-ok : goal.returns-clause-ok
 unfolding escape_byte
-returns c =
-    on_ok_weaker c.put_byte.result (λ end. then c.args.line.now.items _ _ c.in_ok-put.ensures (then c.put.new.line.items _ _ c.in_ok-put_offer_list.ensures end)) c.put_byte.ensures
+returns-clause-ok c =
+    on_ok_weaker c.put_byte.result (λ end. then c.args.line.now.items _ _ c.in_ok-put.ensures.ok (then c.put.new.line.items _ _ c.in_ok-put_offer_list.ensures.ok end)) c.put_byte.ensures.ok

@@ -1,6 +1,7 @@
-use Rattle.std.proofs.Common.{◌≡◌, ◌+◌, subst}
+use Rattle.std.proofs.Common.{◌≡◌, ℕ, ◌+◌, false, List, ◌++◌, ap, ◌∙◌, subst}
 use Rattle.drf_core.specs.Machine.{live}
 use Rattle.drf_journal.specs.Checking.{Check, after_event_line}
+use Rattle.drf_journal.specs.State.{answer_to}
 use Rattle.drf_journal.proofs.Checks.{event-line-is}
 use Rattle.drf_journal.proofs.checker.Checker.end_event_line.Goals as goal
 
@@ -14,6 +15,8 @@ returns g c =
       due = c.of.result;
       events = inside.events + 1;
     } in
+    let text = c.in_ok-answer_end.ensures.told
+    ∙ ap (λ (none : List ℕ). none ++ answer_to false old.machine (old.line ++ c.args.end.now)) c.in_ok-text.ensures.items in
     subst (λ (s : Check). new ≡ after_event_line s c.args.end.now) c.self.view_is
-    (event-line-is old c.args.end.now (live c.answer_end.new.core) c.clear.new.self c.in_ok-text.text.items c.of.result
-    c.in_ok-text.ensures.ok c.clear.ensures c.of.ensures c.in_ok-text.ensures.told)
+    (event-line-is old c.args.end.now (live c.answer_end.new.core) c.clear.new.self c.answer_end.new.text.items c.of.result
+    c.in_ok-answer_end.ensures.ok c.clear.ensures c.of.ensures text)

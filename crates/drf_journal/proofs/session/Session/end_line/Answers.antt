@@ -1,4 +1,4 @@
-use Rattle.std.proofs.Common.{◌≡◌, ◌+◌, [], ◌∷◌, ◌++◌, ◌∙◌, sym, ap, subst}
+use Rattle.std.proofs.Common.{◌≡◌, ◌+◌, [], ◌∷◌, ◌++◌, ◌∙◌, sym, subst}
 use Rattle.drf_core.specs.Machine.{live}
 use Rattle.drf_journal.specs.State.{State, after_piece}
 use Rattle.drf_journal.proofs.Pieces.{with_line, piece-line}
@@ -8,14 +8,14 @@ pub returns-clause-ok : goal.returns-clause-ok
 returns-clause-ok g c =
     let inside = c.self.inside in
     let old : State = record { machine = live inside.core; echo = inside.echo; pending = inside.pending; unsent = inside.unsent.items; lines = inside.lines } in
-    let machine = c.in_ok-told.ensures.ok in
+    let machine = c.in_ok-answer_end.ensures.ok in
     let pending = c.clear.ensures in
-    let unsent = c.in_ok-extend_from_slice.ensures.items ∙ ap (λ told. inside.unsent.items ++ told) (c.deref.ensures.value ∙ c.in_ok-told.ensures.told) in
+    let unsent = c.in_ok-answer_end.ensures.told in
     let new : State = record {
       machine = live c.answer_end.new.core;
       echo = inside.echo;
       pending = c.clear.new.self;
-      unsent = c.extend_from_slice.new.self.items;
+      unsent = c.answer_end.new.text.items;
       lines = inside.lines + 1;
     } in
     let step : new ≡ with_line old (old.pending ++ c.args.end.now) = λ i. record {

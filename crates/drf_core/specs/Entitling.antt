@@ -1,7 +1,7 @@
 -- What a role may have of what is free in a turn, and what a client is granted of that.
-use Rattle.std.specs.Prelude.{◌≡◌, ℕ, Bool, true, not, ◌&&◌, nat_le, List, [], Option, Some, None, if◌then◌else◌}
+use Rattle.std.specs.Prelude.{◌≡◌, ℕ, Bool, true, not, ◌&&◌, nat_le, codes, ◌||◌, List, [], Option, Some, None, if◌then◌else◌}
 use Rattle.std.specs.Option.{option_map_or, MatchOption}
-use Rattle.drf_role.specs.Text.{Text}
+use Rattle.drf_role.specs.Text.{Text, same_text}
 use Rattle.drf_role.specs.Path.{Path}
 use Rattle.drf_bundle.specs.Bundle.{is_default, is_for, quantities_of}
 use Rattle.drf_bundle.specs.Quantities.{amount_of}
@@ -25,6 +25,10 @@ IsEntitlement quota free role bundle =
 -- the resource is reserved for the role or for a role above it
 abbrev pub is_reserved_for : Path → Resource → Bool
 is_reserved_for role r = not (is_default r.role) && is_for role r
+
+-- the resource is of a scalar that makes an offer worth it, and the role may use it
+abbrev pub is_usable_by : Path → Resource → Bool
+is_usable_by role r = (same_text r.label (codes "cpus") || same_text r.label (codes "mem")) && is_for role r
 
 -- so much of a scalar is free, and the headroom of a role, if there is one, leaves so much of it
 abbrev pub has_at_least : Rows → List Resource → Path → Text → ℕ → Bool

@@ -8,10 +8,10 @@ ghost use Rattle.drf_rows.specs.Client.{Client, path_of};
 ghost use Rattle.drf_rows.specs.Cycle.{free_of, is_allocatable, grant};
 ghost use Rattle.drf_rows.specs.declared.rows.AgentRow.{AgentRow};
 ghost use Rattle.drf_rows.specs.declared.rows.Rows.{Rows};
-ghost use Rattle.drf_core.specs.Entitling.{IsEntitlement, IsKnown, IsOffered, IsQuotaOf, has_at_least, if_allocatable, is_reserved_for};
+ghost use Rattle.drf_core.specs.Entitling.{IsEntitlement, IsKnown, IsOffered, IsQuotaOf, has_at_least, if_allocatable, is_reserved_for, is_usable_by};
 
 use drf_amount::Algebra;
-use drf_bundle::Bundle;
+use drf_bundle::{Bundle, Resource};
 use drf_gates::Quota;
 use drf_role::{ClientPath, Name, Role};
 use drf_tables::Tables;
@@ -90,6 +90,23 @@ fn has_reserved(free: &Bundle, role: &Role) -> bool
     free.entries().iter().any(|resource| !resource.is_unreserved() && resource.is_for(role))
 }
 
+/// Whether a resource makes an offer worth it, and a role may use it.
+fn is_usable(resource: &Resource, role: &Role) -> bool
+    ensures { result ≡ is_usable_by role.now resource.now }
+{
+    let label = resource.label.text();
+    (label == "cpus" || label == "mem") && resource.is_for(role)
+}
+
+/// Whether a role may use anything of what is free that makes an offer worth it.
+fn has_usable(free: &Bundle, role: &Role) -> bool
+    ensures { result ≡ list_any (is_usable_by role.now) free.now }
+{
+    free.entries()
+        .iter()
+        .any(|resource| is_usable(resource, role))
+}
+
 /// Whether so much of a scalar is free, and limits leave a role so much of it.
 fn may_have(quota: &Quota, free: &Bundle, role: &Role, label: &str, least: u64) -> bool
     ensures { (rows : Rows) → IsAllowanceOf rows quota.now → result ≡ has_at_least rows free.now role.now label.now least }
@@ -97,8 +114,8 @@ fn may_have(quota: &Quota, free: &Bundle, role: &Role, label: &str, least: u64) 
     least <= free.quantities().get(label) && quota.leaves(role, label, least)
 }
 
-/// Whether amounts alone tell that a role may have nothing that is worth an offer, as limits leave it too little. It needs no
-/// memory.
+/// Whether amounts alone tell that a role may have nothing that is worth an offer, as nothing is free for it, or limits leave it
+/// too little. It needs no memory.
 fn is_spent(quota: Option<&Quota>, free: &Bundle, role: &Role) -> bool
     ensures { IsTrue result → IsOffered (option_copied quota.entry) free.now role.now None }
 {
@@ -106,6 +123,9 @@ fn is_spent(quota: Option<&Quota>, free: &Bundle, role: &Role) -> bool
     let Some(quota) = quota else {
         return false;
     };
+    if !has_usable(free, role) {
+        return true;
+    }
     if has_reserved(free, role) {
         return false;
     }

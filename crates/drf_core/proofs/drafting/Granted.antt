@@ -1,16 +1,18 @@
 -- What a role may have, what is granted of it, and what a quota counts, by what the code reads.
-use Rattle.std.proofs.Common.{◌≡◌, ◌≢◌, ℕ, ◌<◌, ◌≤◌, Bool, true, false, true≢false, ◌&&◌, nat_lt, nat_le, List, [], ◌∷◌, Option, Some, None, length, refl, sym, ap, ◌∙◌, cond, arith}
+use Rattle.std.proofs.Common.{◌≡◌, ◌≢◌, ℕ, ◌<◌, ◌≤◌, Bool, true, false, true≢false, ◌&&◌, nat_lt, nat_le, List, [], ◌∷◌, Option, Some, None, length, refl, sym, ap, subst, ◌∙◌, cond, arith, ◌+◌}
 use Rattle.std.specs.Prelude.{not, ◌||◌, min, codes, IsTrue, ◌↔◌}
 use Rattle.std.specs.List.{list_any}
 use Rattle.std.specs.Option.{option_map_or}
 use Rattle.std.proofs.lemmas.Bool.{and_parts, and_from, or_parts}
 use Rattle.std.proofs.lemmas.Bool.Decides.{nat_tests}
-use Rattle.drf_role.specs.Text.{Text}
+use Rattle.std.proofs.lemmas.List.Sums.{sum_by-cons}
+use Rattle.drf_role.specs.Text.{Text, same_text}
+use Rattle.drf_role.specs.TextLaws.{same_from_test, same_itself}
 use Rattle.drf_role.specs.Path.{Path, begins_with, role_part, framework_part}
 use Rattle.drf_role.specs.PathLaws.{role_part-client_path, framework_part-client_path}
-use Rattle.drf_bundle.specs.Bundle.{IsBundle, is_default, is_unreserved, quantities_of, part_for, clipped, clip}
+use Rattle.drf_bundle.specs.Bundle.{IsBundle, is_default, is_for, is_unreserved, quantities_of, part_for, clipped, clip, stock}
 use Rattle.drf_bundle.specs.Quantities.{amount_of}
-use Rattle.drf_bundle.specs.Value.{Thousandths, amount_in}
+use Rattle.drf_bundle.specs.Value.{Thousandths, amount_in, units_in}
 use Rattle.drf_bundle.specs.laws.SumLaws.{amount-quantities_of}
 use Rattle.drf_bundle.specs.declared.quantities.Entry.{Entry}
 use Rattle.drf_bundle.specs.declared.resource.Resource.{Resource}
@@ -31,7 +33,7 @@ use Rattle.drf_rows.specs.declared.rows.LimitRow.{LimitRow}
 use Rattle.drf_rows.specs.declared.rows.OfferRow.{OfferRow}
 use Rattle.drf_rows.specs.declared.rows.Rows.{Rows}
 use Rattle.drf_core.specs.Drafting.{CanCount}
-use Rattle.drf_core.specs.Entitling.{IsEntitlement, IsOffered, IsQuotaOf, has_at_least, if_allocatable, is_reserved_for}
+use Rattle.drf_core.specs.Entitling.{IsEntitlement, IsOffered, IsQuotaOf, has_at_least, if_allocatable, is_reserved_for, is_usable_by}
 
 -- ---- what a role may have
 
@@ -122,6 +124,56 @@ spent a free role cpus mem right none cpus_is few mem_is little rows client coun
     (ap (λ (r : Path). has_at_least rows free r (codes "mem") 32000) same ∙ sym (mem_is rows counted) ∙ little) in
     let worthless : is_allocatable whole ≡ false = grind (arith, nat_tests) in
     sym (ap (λ b. cond b (Some whole) None) worthless)
+
+-- ---- nothing that a role may use
+
+-- where a role may use nothing of a scalar, it has nothing of it, however what it has is cut
+none_usable : (limits : List Entry) (role : Path) (label : Text) (rs : List Resource)
+    → ((r : Resource) → same_text label r.label ≡ true → is_for role r ≡ true → is_usable_by role r ≡ true)
+    → list_any (is_usable_by role) rs ≡ false → stock (clip limits (part_for role rs)) label Thousandths ≡ 0
+none_usable limits role label [] its none = refl
+none_usable limits role label (r ∷ rs) its none =
+    let parts = or_parts (is_usable_by role r) (list_any (is_usable_by role) rs) none in
+    by (is_for role r) refl parts.0 (none_usable limits role label rs its parts.1)
+  where
+    part : List Resource
+    part = clip limits (part_for role rs)
+
+    by : (a : Bool) → is_for role r ≡ a → is_usable_by role r ≡ false → stock part label Thousandths ≡ 0
+        → stock (clip limits (cond a (r ∷ part_for role rs) (part_for role rs))) label Thousandths ≡ 0
+    by false past idle nothing = nothing
+    by true here idle nothing = kept (nat_lt 0 (amount_in (clipped limits r).value)) (same_text label r.label) refl nothing
+      where
+        kept : (b named : Bool) → same_text label r.label ≡ named → stock part label Thousandths ≡ 0
+            → stock (cond b (clipped limits r ∷ part) part) label Thousandths ≡ 0
+        kept false named is nothing = nothing
+        kept true true is nothing = absurd (true≢false (sym (its r is here) ∙ idle))
+        kept true false is nothing =
+            let named : Resource → ℕ = λ x. cond (same_text label x.label) (units_in x.value Thousandths) 0 in
+            let none : named (clipped limits r) ≡ 0 = ap (λ (t : Bool). cond t (units_in (clipped limits r).value Thousandths) 0) is in
+            omega (arith, sum_by-cons named (clipped limits r) part, none, nothing)
+
+pub unusable : (quota : Option Allowance) (free : List Resource) (role : Path)
+    → list_any (is_usable_by role) free ≡ false → IsOffered quota free role None
+unusable quota free role none rows client counted same =
+    let whole : List Resource = entitlement rows free client in
+    let idle : list_any (is_usable_by client.role) free ≡ false = ap (λ (r : Path). list_any (is_usable_by r) free) same ∙ none in
+    let cpus : amount_of (quantities_of whole) (codes "cpus") ≡ 0 = amount-quantities_of whole (codes "cpus")
+    ∙ none_usable (headroom rows client.role) client.role (codes "cpus") free
+    (λ r is mine. and_from _ _ (ap (λ b. b || same_text r.label (codes "mem")) (swapped r (codes "cpus") is)) mine) idle in
+    let mem : amount_of (quantities_of whole) (codes "mem") ≡ 0 = amount-quantities_of whole (codes "mem")
+    ∙ none_usable (headroom rows client.role) client.role (codes "mem") free
+    (λ r is mine. and_from _ _ (or_last (same_text r.label (codes "cpus")) (swapped r (codes "mem") is)) mine) idle in
+    let worthless : is_allocatable whole ≡ false = λ i. nat_le 10 (cpus i) || nat_le 32000 (mem i) in
+    sym (ap (λ b. cond b (Some whole) None) worthless)
+  where
+    or_last : (a : Bool) {b : Bool} → b ≡ true → (a || b) ≡ true
+    or_last true is = refl
+    or_last false is = is
+
+    swapped : (r : Resource) (label : Text) → same_text label r.label ≡ true → same_text r.label label ≡ true
+    swapped r label is =
+        subst (λ (t : Text). same_text t label ≡ true) (same_from_test label r.label is) (same_itself label)
 
 -- ---- what is granted
 

@@ -1,5 +1,3 @@
-use Rattle.std.proofs.Common.{sym, ap, ◌∙◌}
-use Rattle.drf_role.specs.Parts.{parts_of}
 use Rattle.drf_core.proofs.moving.reserved.Goals as goal
 
 pub returns-clause-asked : goal.returns-clause-asked

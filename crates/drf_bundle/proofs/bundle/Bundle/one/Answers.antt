@@ -1,5 +1,3 @@
-use Rattle.std.proofs.Common.{sym, ap, ◌∙◌}
-use Rattle.drf_role.specs.Parts.{parts_of}
 use Rattle.drf_bundle.specs.laws.OneLaws.{bundle-one_of}
 use Rattle.drf_bundle.proofs.bundle.Bundle.one.Goals as goal
 

@@ -1,5 +1,4 @@
-use Rattle.std.proofs.Common.{ap, sym, ◌∙◌, subst, take_all, List}
-use Rattle.drf_role.specs.Parts.{parts_of}
+use Rattle.std.proofs.Common.{ap, ◌∙◌, subst, take_all, List}
 use Rattle.drf_bundle.specs.Bundle.{IsBundle, relabel}
 use Rattle.drf_bundle.specs.laws.PartLaws.{bundle-relabel}
 use Rattle.drf_bundle.specs.declared.resource.Resource.{Resource}

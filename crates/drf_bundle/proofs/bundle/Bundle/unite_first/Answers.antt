@@ -1,6 +1,5 @@
 use Rattle.std.proofs.Common.{◌≡◌, List, [], ◌∷◌, None, Some, sym, ap, ◌∙◌, subst, arith, rules}
 use Rattle.std.proofs.lemmas.Bool.{false≢true}
-use Rattle.drf_role.specs.Parts.{parts_of}
 use Rattle.drf_bundle.specs.Value.{Thousandths}
 use Rattle.drf_bundle.specs.laws.ValueLaws.{units-most}
 use Rattle.drf_bundle.specs.Bundle.{key_of, stock, merged}

@@ -6,8 +6,8 @@ use crate::closing::keep_passes;
 use crate::lines::{AGENT, CYCLE, FRAMEWORK, add_script, append_reply};
 use anyhow::{Context, Result, bail};
 use drf_board::{Brand, Entry, Naming, Slate};
-use drf_master::{DriveFault, Gate, Master, Pass, drive};
-use drf_rows::{Event, Limits};
+use drf_master::{DriveFault, Driven, Gate, Master, Pass, drive};
+use drf_rows::{Event, Limits, Reply};
 use std::alloc::Global;
 use std::fmt::Write;
 use std::mem::swap;
@@ -59,6 +59,13 @@ impl Gate for Meeting {
     fn after(&self, _worker: u64, _call: u64) {}
 }
 
+/// What is kept of a drive.
+#[derive(Drop)]
+struct Outcome {
+    entries: Vec<Entry>,
+    replies: Vec<Vec<Reply>>,
+}
+
 /// What is told of a drive: the replies, or where the workers' frameworks stand in the journal.
 #[derive(Clone, Copy)]
 enum Telling {
@@ -95,9 +102,16 @@ fn append_places(alloc: Global, told: &mut String, entries: &[Entry], count: usi
     Ok(write!(told, " {all} entries, at {places:?}")?)
 }
 
-fn append_replies(alloc: Global, told: &mut String, entries: &[Entry]) -> Result<()> {
-    for entry in entries {
-        append_reply(alloc, told, &entry.reply)?;
+fn append_replies(alloc: Global, told: &mut String, replies: &[Reply]) -> Result<()> {
+    for reply in replies {
+        append_reply(alloc, told, reply)?;
+    }
+    Ok(())
+}
+
+fn append_all_replies(alloc: Global, told: &mut String, replies: &[Vec<Reply>]) -> Result<()> {
+    for one in replies {
+        append_replies(alloc, told, one)?;
     }
     Ok(())
 }
@@ -106,11 +120,11 @@ fn append_driven(
     alloc: Global,
     told: &mut String,
     telling: Telling,
-    driven: &Result<Vec<Entry>, DriveFault>,
+    driven: &Result<Outcome, DriveFault>,
 ) -> Result<()> {
     match driven {
-        Ok(entries) => match telling {
-            Telling::Replies => append_replies(alloc, told, entries),
+        Ok(Outcome { entries, replies }) => match telling {
+            Telling::Replies => append_all_replies(alloc, told, replies),
             Telling::Places(count) => append_places(alloc, told, entries, count),
         },
         Err(fault) => Ok(write!(told, " {fault:?}")?),
@@ -126,19 +140,27 @@ fn exchange(passes: &mut Vec<Pass>, others: &mut Vec<Pass>)
     }
 }
 
-// The journal of a drive. The rest of what was driven goes at once.
-fn journal_of<K: Naming + Send + Sync, W: Threads + Wait + Sync>(
+// The journal and the replies. The core goes at once.
+fn outcome_of(driven: Driven) -> Outcome {
+    let Driven { book, replies } = driven;
+    Outcome {
+        entries: book.into_entries(),
+        replies,
+    }
+}
+
+fn drive_and_close<K: Naming + Send + Sync, W: Threads + Wait + Sync>(
     rt: &W,
     alloc: Global,
     meeting: &Meeting,
     master: Master<K, &W>,
     passes: Vec<Pass>,
     scripts: Vec<Vec<Event>>,
-) -> Result<Vec<Entry>, DriveFault>
+) -> Result<Outcome, DriveFault>
     requires { length scripts.items ≡ length passes.items }
 {
     match drive(rt, alloc, master, passes, meeting, scripts) {
-        Ok(driven) => Ok(driven.into_entries()),
+        Ok(driven) => Ok(outcome_of(driven)),
         Err(fault) => Err(fault),
     }
 }
@@ -155,7 +177,7 @@ fn drive_and_append<K: Naming + Send + Sync, W: Threads + Wait + Sync>(
 ) -> Result<()>
     requires { length scripts.items ≡ length passes.items }
 {
-    let driven = journal_of(rt, alloc, meeting, master, passes, scripts);
+    let driven = drive_and_close(rt, alloc, meeting, master, passes, scripts);
     append_driven(alloc, told, telling, &driven)
 }
 

@@ -57,7 +57,7 @@ impl<S: Sorter> Core<S> {
     /// memory, which no refused event meets but one that is refused for what is free, held or consumed: where resources move
     /// between everyone and a role, or a total is another. However it ends, nothing is granted twice. At `Ok`, a sorter whose work is
     /// counted owes no more for it than the nodes of the clients that it touches, and one for a weight, but where the total
-    /// of the cluster changes.
+    /// of the cluster changes. However it ends, the count of keys has not fallen.
     pub fn step(&mut self, event: Event) -> Result<Reply, AllocError>
         ensures reply { IfOk result (λ reply. reply ≡ reply_to self.old.limits self.old.rows event) }
         ensures ok { OnOk result (IsAfter self.old self.new event) }
@@ -65,6 +65,7 @@ impl<S: Sorter> Core<S> {
         ensures not_refused { OnErr result (early_refusal_of self.old.limits self.old.rows event ≡ None) }
         ensures safe { IsSafe (live_rows self.new.rows) }
         ensures work { OnOk result (MatchOption (allowance self.old.limits self.old.rows event) (Unit {0}) (Adds S.COUNTED self.old.work self.new.work)) }
+        ensures made { self.old.work.made ≤ self.new.work.made }
     {
         self.cluster.forget_spent();
         if let Some(refusal) = self.cluster.refusal(&self.limits, &event)? {
@@ -83,13 +84,14 @@ impl<S: Sorter> Core<S> {
     }
 
     /// Takes events in order, and appends their replies. At an `Err` it stands after the events whose replies it has
-    /// appended. However it ends, nothing is granted twice.
+    /// appended. However it ends, nothing is granted twice, and the count of keys has not fallen.
     pub fn run(&mut self, events: &[Event], replies: &mut Vec<Reply>) -> Result<(), AllocError>
         ensures run { HasRun self.old self.new events.now replies.old.items replies.new.items }
         ensures ok { OnOk result (IsAfterAll self.old self.new events.now) }
         ensures replies { OnOk result (replies.new.items ≡ replies.old.items ++ replies_to self.old.limits self.old.rows events.now) }
         ensures safe { IsSafe (live_rows self.new.rows) }
         ensures work { OnOk result (MatchOption (allowance_of_all self.old.limits self.old.rows events.now) (Unit {0}) (Adds S.COUNTED self.old.work self.new.work)) }
+        ensures made { self.old.work.made ≤ self.new.work.made }
     {
         self.tell_safe();
         for event in events {

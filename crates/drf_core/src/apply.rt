@@ -1,5 +1,5 @@
 //! The effects of events that are not refused.
-ghost use Rattle.std.specs.Prelude.{◌≡◌, false, None, IfOk, OnOk, OnErr, MatchOption};
+ghost use Rattle.std.specs.Prelude.{◌≡◌, ◌≤◌, false, None, IfOk, OnOk, OnErr, MatchOption};
 ghost use Rattle.drf_rows.specs.Step.{refusal_of, effect, answer};
 ghost use Rattle.drf_rows.specs.declared.event.Event.TheVariants.{SetWeight, SetLimit};
 ghost use Rattle.drf_rows.specs.declared.reply.Reply.TheVariants.{Done};
@@ -21,6 +21,7 @@ impl<S: Sorter> Cluster<S> {
         requires { refusal_of limits.now self.old.rows (SetWeight role weight) ≡ None }
         ensures ok { OnOk result (self.new.rows ≡ effect self.old.rows (SetWeight role weight)) }
         ensures work { OnOk result (Adds S.COUNTED self.old.work self.new.work 1) }
+        ensures made { self.old.work.made ≤ self.new.work.made }
         ensures err { OnErr result (self.new.rows ≡ self.old.rows) }
     {
         self.tables.reserve_weight()?;
@@ -52,6 +53,7 @@ impl<S: Sorter> Cluster<S> {
         requires plain { has_answer event ≡ false }
         ensures ok { OnOk result (self.new.rows ≡ effect self.old.rows event) }
         ensures work { OnOk result (MatchOption (allowed self.old.rows event) (Unit {0}) (Adds S.COUNTED self.old.work self.new.work)) }
+        ensures made { self.old.work.made ≤ self.new.work.made }
         ensures err { OnErr result (self.new.rows ≡ self.old.rows) }
     {
         match event {
@@ -101,6 +103,7 @@ impl<S: Sorter> Cluster<S> {
         ensures reply { IfOk result (λ reply. reply ≡ answer self.old.rows (effect self.old.rows event) event) }
         ensures ok { OnOk result (self.new.rows ≡ effect self.old.rows event) }
         ensures work { OnOk result (MatchOption (allowed self.old.rows event) (Unit {0}) (Adds S.COUNTED self.old.work self.new.work)) }
+        ensures made { self.old.work.made ≤ self.new.work.made }
         ensures err { OnErr result (self.new.rows ≡ self.old.rows) }
     {
         match event {

@@ -104,6 +104,7 @@ pub(crate) fn try_first<S: Sorter>(
     ensures known { OnOk result (IsKnown drafts.new.quota free.new) }
     ensures lefts { drafts.new.lefts.items ≡ drafts.old.lefts.items }
     ensures work { OnOk result (AddsDrafts S.COUNTED (S.work sorter.old) (S.work sorter.new) drafts.old.offers.items drafts.new.offers.items) }
+    ensures made { (S.work sorter.old).made ≤ (S.work sorter.new).made }
 {
     let Some(client) = sorter.first() else {
         return Ok(());
@@ -149,6 +150,7 @@ fn turn<S: Sorter>(
     ensures left { OnOk result (HasLeft tables.now.rows drafts.new.offers.items drafts.new.lefts.items (place + 1)) }
     ensures quota { OnOk result (IsQuotaOf (with_offers tables.now.rows drafts.new.offers.items) drafts.new.quota) }
     ensures work { OnOk result (AddsDrafts S.COUNTED (S.work sorter.old) (S.work sorter.new) drafts.old.offers.items drafts.new.offers.items) }
+    ensures made { (S.work sorter.old).made ≤ (S.work sorter.new).made }
 {
     if !is_open(tables, place) {
         return Ok(());
@@ -179,6 +181,7 @@ fn turns<S: Sorter>(tables: &Tables, sorter: &mut S, drafts: &mut Drafts) -> Res
     ensures left { OnOk result (HasLeft tables.now.rows drafts.new.offers.items drafts.new.lefts.items (length tables.now.rows.agents)) }
     ensures quota { OnOk result (IsQuotaOf (with_offers tables.now.rows drafts.new.offers.items) drafts.new.quota) }
     ensures work { OnOk result (AddsDrafts S.COUNTED (S.work sorter.old) (S.work sorter.new) drafts.old.offers.items drafts.new.offers.items) }
+    ensures made { (S.work sorter.old).made ≤ (S.work sorter.new).made }
 {
     for place in 0..tables.agent_count() {
         turn(tables, sorter, place, drafts)?;
@@ -213,7 +216,8 @@ fn offer_lines(alloc: Global, offers: &[OfferRow]) -> Result<Vec<OfferLine>, All
 /// Takes the charges of drafts back. It needs no memory.
 fn take_back<S: Sorter>(tables: &Tables, sorter: &mut S, offers: &mut Vec<OfferRow>)
     requires { IsDrafting (S.content sorter.old) tables.now.rows offers.old.items }
-    ensures { S.content sorter.new ≡ content_of tables.now.rows }
+    ensures content { S.content sorter.new ≡ content_of tables.now.rows }
+    ensures made { (S.work sorter.old).made ≤ (S.work sorter.new).made }
 {
     while let Some(offer) = offers.pop() {
         let client = ClientPath::from_parts(offer.role, offer.framework);
@@ -254,6 +258,7 @@ fn offer_all<S: Sorter>(
     ensures drafting { OnErr result (IsDrafting (S.content sorter.new) tables.old.rows drafts.new.offers.items) }
     ensures counted { OnOk result (tables.old.rows.limits ≢ [] → tables.new.counted ≡ true) }
     ensures work { OnOk result (Adds S.COUNTED (S.work sorter.old) (S.work sorter.new) (nodes_of (offered_to (new_offers tables.old.rows (turns_of tables.old.rows))))) }
+    ensures made { (S.work sorter.old).made ≤ (S.work sorter.new).made }
 {
     tables.settle()?;
     drafts.quota = quota_of(tables)?;
@@ -280,6 +285,7 @@ impl<S: Sorter> Cluster<S> {
         ensures err { OnErr result (self.new.rows ≡ self.old.rows) }
         ensures counted { OnOk result (self.old.rows.limits ≢ [] → self.new.counted ≡ true) }
         ensures work { OnOk result (Adds S.COUNTED self.old.work self.new.work (nodes_of (touched self.old.rows (Cycle at)))) }
+        ensures made { self.old.work.made ≤ self.new.work.made }
     {
         // The moment is put back if memory ends.
         let before = self.tables.clock();

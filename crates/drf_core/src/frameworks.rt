@@ -1,5 +1,5 @@
 //! Frameworks register, are served or not, and leave.
-ghost use Rattle.std.specs.Prelude.{◌≡◌, None, true, map, sum_by, length, IfOk, OnOk, OnErr};
+ghost use Rattle.std.specs.Prelude.{◌≡◌, ◌≤◌, None, true, map, sum_by, length, IfOk, OnOk, OnErr};
 ghost use Rattle.drf_rows.specs.Members.{distinct, has_framework, new_client};
 ghost use Rattle.drf_rows.specs.Step.{refusal_of, effect, is_in_role};
 ghost use Rattle.drf_rows.specs.declared.event.Event.TheVariants.{AddFramework, RemoveFramework, Suppress, Revive};
@@ -65,6 +65,7 @@ fn add_clients<S: Sorter>(sorter: &mut S, paths: &[ClientPath]) -> Result<(), Al
     ensures ok { OnOk result (S.content sorter.new ≡ with_all (S.content sorter.old) paths.now) }
     ensures err { OnErr result (S.content sorter.new ≡ S.content sorter.old) }
     ensures work { OnOk result (Adds S.COUNTED (S.work sorter.old) (S.work sorter.new) (sum_by length paths.now)) }
+    ensures made { (S.work sorter.old).made ≤ (S.work sorter.new).made }
 {
     let Some((first, rest)) = paths.split_first() else {
         return Ok(());
@@ -84,6 +85,7 @@ fn remove_clients<S: Sorter>(sorter: &mut S, paths: &[ClientPath])
     requires { AreKnown (S.content sorter.old) paths.now }
     ensures content { S.content sorter.new ≡ without_all (S.content sorter.old) paths.now }
     ensures work { Adds S.COUNTED (S.work sorter.old) (S.work sorter.new) (sum_by length paths.now) }
+    ensures made { (S.work sorter.old).made ≤ (S.work sorter.new).made }
 {
     for path in paths {
         sorter.remove(path);
@@ -103,6 +105,7 @@ impl<S: Sorter> Cluster<S> {
         requires welcome { refusal_of limits.now self.old.rows (AddFramework framework roles) ≡ None }
         ensures ok { OnOk result (self.new.rows ≡ effect self.old.rows (AddFramework framework roles)) }
         ensures work { OnOk result (Adds S.COUNTED self.old.work self.new.work (nodes_of (touched self.old.rows (AddFramework framework roles)))) }
+        ensures made { self.old.work.made ≤ self.new.work.made }
         ensures err { OnErr result (self.new.rows ≡ self.old.rows) }
     {
         let roles = distinct_roles(alloc, roles)?;
@@ -125,6 +128,7 @@ impl<S: Sorter> Cluster<S> {
         requires known { has_framework self.old.rows framework.now ≡ true }
         ensures ok { OnOk result (self.new.rows ≡ effect self.old.rows (RemoveFramework framework.now)) }
         ensures work { OnOk result (Adds S.COUNTED self.old.work self.new.work (nodes_of (touched self.old.rows (RemoveFramework framework.now)))) }
+        ensures made { self.old.work.made ≤ self.new.work.made }
         ensures err { OnErr result (self.new.rows ≡ self.old.rows) }
     {
         let paths = client_paths(alloc, framework, self.tables.clients(framework))?;
@@ -144,6 +148,7 @@ impl<S: Sorter> Cluster<S> {
         requires { is_in_role self.old.rows framework.now role.now ≡ true }
         ensures ok { OnOk result (self.new.rows ≡ effect self.old.rows (Suppress framework.now role.now)) }
         ensures work { OnOk result (Adds S.COUNTED self.old.work self.new.work (nodes_of (touched self.old.rows (Suppress framework.now role.now)))) }
+        ensures made { self.old.work.made ≤ self.new.work.made }
         ensures err { OnErr result (self.new.rows ≡ self.old.rows) }
     {
         let path = ClientPath::new(alloc, role, framework)?;
@@ -162,6 +167,7 @@ impl<S: Sorter> Cluster<S> {
         requires { is_in_role self.old.rows framework.now role.now ≡ true }
         ensures ok { OnOk result (self.new.rows ≡ effect self.old.rows (Revive framework.now role.now)) }
         ensures work { OnOk result (Adds S.COUNTED self.old.work self.new.work (nodes_of (touched self.old.rows (Revive framework.now role.now)))) }
+        ensures made { self.old.work.made ≤ self.new.work.made }
         ensures err { OnErr result (self.new.rows ≡ self.old.rows) }
     {
         let path = ClientPath::new(alloc, role, framework)?;

@@ -92,6 +92,7 @@ impl<S: Sorter> Cluster<S> {
             → self.new.rows ≡ offer_accepted (at_moment self.old.rows accept.at) o accept.tasks accept.refuse_ms) }
         ensures err { OnErr result (self.new.rows ≡ self.old.rows) }
         ensures work { OnOk result (Adds S.COUNTED self.old.work self.new.work (nodes_of (losers self.old.rows (one_offer accept.offer)))) }
+        ensures made { self.old.work.made ≤ self.new.work.made }
     {
         // The proof learns that the tasks use bundles by this call alone.
         let _ = accept.tasks.as_slice();
@@ -116,6 +117,7 @@ impl<S: Sorter> Cluster<S> {
             → self.new.rows ≡ offer_declined (at_moment self.old.rows decline.now.at) o decline.now.refuse_ms) }
         ensures err { OnErr result (self.new.rows ≡ self.old.rows) }
         ensures work { OnOk result (Adds S.COUNTED self.old.work self.new.work (nodes_of (losers self.old.rows (one_offer decline.now.offer)))) }
+        ensures made { self.old.work.made ≤ self.new.work.made }
     {
         let moment = self.tables.clock().max(decline.at);
         refuse_offer(&mut self.tables, decline.offer, moment, decline.refuse_ms)?;
@@ -128,6 +130,7 @@ impl<S: Sorter> Cluster<S> {
     pub(crate) fn rescind(&mut self, number: u64)
         ensures rows { self.new.rows ≡ effect self.old.rows (Rescind number) }
         ensures work { Adds S.COUNTED self.old.work self.new.work (nodes_of (losers self.old.rows (one_offer number))) }
+        ensures made { self.old.work.made ≤ self.new.work.made }
     {
         self.end(Ending::Offer(number));
     }
@@ -136,6 +139,7 @@ impl<S: Sorter> Cluster<S> {
     pub(crate) fn finish(&mut self, framework: &Name, task: &Name)
         ensures rows { self.new.rows ≡ effect self.old.rows (Finish framework.now task.now) }
         ensures work { Adds S.COUNTED self.old.work self.new.work (nodes_of (losers self.old.rows (one_task framework.now task.now))) }
+        ensures made { self.old.work.made ≤ self.new.work.made }
     {
         let ending = Ending::Task {
             framework,

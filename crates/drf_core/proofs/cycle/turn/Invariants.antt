@@ -1,4 +1,4 @@
-use Rattle.std.proofs.Common.{◌≡◌, length}
+use Rattle.std.proofs.Common.{◌≡◌, ◌≤◌, length}
 use Rattle.drf_tables.specs.Drafts.{with_offers}
 use Rattle.drf_core.specs.Drafting.{IsDrafting, IsFreeAt}
 use Rattle.drf_core.specs.Entitling.{IsKnown, IsQuotaOf}
@@ -17,6 +17,7 @@ invariant-loop-sorter g l = record {
   known : IsKnown l.drafts.quota l.free;
   work : AddsDrafts g.S.Sorter.COUNTED (g.S.Sorter.work l.initial.sorter) (g.S.Sorter.work l.sorter) l.initial.drafts.offers.items l.drafts.offers.items;
   lefts : l.drafts.lefts.items ≡ l.initial.drafts.lefts.items;
+  made : (g.S.Sorter.work l.initial.sorter).made ≤ (g.S.Sorter.work l.sorter).made;
 }
 
 abbrev pub decreases-loop-sorter : goal.decreases-loop-sorter

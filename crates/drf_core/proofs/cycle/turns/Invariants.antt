@@ -1,4 +1,4 @@
-use Rattle.std.proofs.Common.{◌≡◌, drop}
+use Rattle.std.proofs.Common.{◌≡◌, ◌≤◌, drop}
 use Rattle.std.specs.Prelude.{filter}
 use Rattle.drf_rows.specs.Cycle.{turns}
 use Rattle.drf_tables.specs.Drafts.{with_offers}
@@ -15,4 +15,5 @@ invariant-loop-place g l = record {
   quota : IsQuotaOf (with_offers l.tables.rows l.drafts.offers.items) l.drafts.quota;
   work : AddsDrafts g.S.Sorter.COUNTED (g.S.Sorter.work l.initial.sorter) (g.S.Sorter.work l.sorter) l.initial.drafts.offers.items l.drafts.offers.items;
   left : HasLeft l.tables.rows l.drafts.offers.items l.drafts.lefts.items l.place;
+  made : (g.S.Sorter.work l.initial.sorter).made ≤ (g.S.Sorter.work l.sorter).made;
 }

@@ -1,5 +1,5 @@
 use Rattle.std.specs.Option.{MatchOption}
-use Rattle.std.proofs.Common.{◌≡◌, ◌++◌, take}
+use Rattle.std.proofs.Common.{◌≡◌, ◌≤◌, ◌++◌, take}
 use Rattle.drf_rows.specs.Step.{live_rows, replies_to}
 use Rattle.drf_sorter.specs.Work.{Adds}
 use Rattle.drf_core.specs.Machine.{IsAfterAll, IsSafe}
@@ -14,4 +14,5 @@ invariant-loop-event g l = record {
   work : MatchOption (allowance_of_all l.initial.self.limits l.initial.self.rows (take l.event-index l.events)) (Unit {0})
       (Adds g.S.Sorter.COUNTED l.initial.self.work l.self.work);
   told : l.replies.items ≡ l.initial.replies.items ++ replies_to l.initial.self.limits l.initial.self.rows (take l.event-index l.events);
+  made : l.initial.self.work.made ≤ l.self.work.made;
 }

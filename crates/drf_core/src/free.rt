@@ -120,12 +120,12 @@ fn is_spent(quota: Option<&Quota>, free: &Bundle, role: &Role) -> bool
     ensures { IsTrue result → IsOffered (option_copied quota.entry) free.now role.now None }
 {
     free.recall();
-    let Some(quota) = quota else {
-        return false;
-    };
     if !has_usable(free, role) {
         return true;
     }
+    let Some(quota) = quota else {
+        return false;
+    };
     if has_reserved(free, role) {
         return false;
     }

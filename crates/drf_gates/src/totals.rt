@@ -20,6 +20,16 @@ pub(crate) struct Total {
     amounts: Quantities,
 }
 
+/// Forgets labels that have come to 0, where another label is about to be named.
+fn make_room(sum: &mut Quantities, label: &str)
+    ensures { (other : Text) → amount_of sum.new other ≡ amount_of sum.old other }
+{
+    if !sum.is_named(label) {
+        sum.recall();
+        sum.remove_zeros();
+    }
+}
+
 /// Adds to the amount of a label. Whether it could be done.
 fn add_entry(sum: &mut Quantities, more: &Entry) -> bool
     ensures { IsTrue result → (label : Text)
@@ -32,6 +42,7 @@ fn add_entry(sum: &mut Quantities, more: &Entry) -> bool
     let Ok(label) = more.label.copy() else {
         return false;
     };
+    make_room(sum, label.text());
     sum.set(label, amount).is_ok()
 }
 

@@ -10,8 +10,8 @@ use Rattle.std.proofs.Math.Seq.{map-set_same}
 use Rattle.std.proofs.lemmas.List.Quantifiers.{position-Some}
 use Rattle.std.proofs.lemmas.List.{map_push, length-map, get_or-map, take_more}
 use Rattle.std.proofs.lemmas.Map.Keys.{IsDistinct-head, IsDistinct-tail, IsDistinct-push}
-use Rattle.drf_bundle.specs.Quantities.{amount_of, is_in_order, plus, minus}
-use Rattle.drf_bundle.specs.laws.QuantitiesLaws.{amount-plus, amount-minus}
+use Rattle.drf_bundle.specs.Quantities.{amount_of, minus}
+use Rattle.drf_bundle.specs.laws.QuantitiesLaws.{amount-minus}
 use Rattle.drf_bundle.specs.declared.quantities.Entry.{Entry}
 use Rattle.drf_role.specs.Path.{same_path}
 use Rattle.drf_sorter.specs.declared.client.Client.{Client}
@@ -204,13 +204,13 @@ known-found clients path known none =
     (sym (position-none (λ (x : Client). same_path x.path path) clients none)
     ∙ sym (any_ranked (λ c. same_path c.path path) clients) ∙ known)
 
-pub charged_is : (x : Client) (quantities sum : List Entry) → IsTrue (is_in_order quantities)
-    → sum ≡ plus x.held quantities
+pub charged_is : (x : Client) (quantities sum : List Entry)
+    → ((label : List ℕ) → amount_of sum label ≡ amount_of x.held label + amount_of quantities label)
     → ranked (record x { held = sum; count = x.count + 1 }) ≡ charged quantities (ranked x)
-charged_is x quantities sum ordered is = λ i. record {
+charged_is x quantities sum is = λ i. record {
   path = x.path;
   active = x.active;
-  held = λ label. (ap (λ es. amount_of es label) is ∙ amount-plus x.held quantities label ordered) i;
+  held = λ label. is label i;
   count = x.count + 1;
 }
 

@@ -1,7 +1,7 @@
 //! The clients of a sorter that lists them, and those of one node.
 ghost use Rattle.std.specs.Prelude.{◌≡◌, ◌+◌, ◌<◌, ◌^◌, IfOk, OnOk, OnErr};
 ghost use Rattle.std.specs.List.{list_any};
-ghost use Rattle.drf_bundle.specs.Quantities.{amount_of, plus};
+ghost use Rattle.drf_bundle.specs.Quantities.{amount_of};
 ghost use Rattle.drf_role.specs.Path.{begins_with};
 ghost use Rattle.drf_role.specs.Text.{Text};
 
@@ -32,17 +32,22 @@ impl Client {
     }
 }
 
-/// Adds what is held more. It needs no memory where all labels are there already.
+/// Adds what is held more. It needs no memory where all labels are there already. Where one is not, those that have come to 0 make
+/// room, so that the labels do not grow with the history.
 pub fn raise(held: &mut Quantities, more: &Quantities) -> Result<(), AllocError>
     requires { (label : Text) → amount_of held.old label + amount_of more.now label < 2 ^ 64 }
-    ensures ok { OnOk result (held.new ≡ plus held.old more.now) }
+    ensures ok { OnOk result ((label : Text) → amount_of held.new label ≡ amount_of held.old label + amount_of more.now label) }
     ensures err { OnErr result (held.new ≡ held.old) }
 {
+    more.recall();
     if held.names_all(more) {
         held.raise(more);
         return Ok(());
     }
-    *held = held.plus(more)?;
+    let mut sum = held.plus(more)?;
+    sum.recall();
+    sum.remove_zeros();
+    *held = sum;
     Ok(())
 }
 

@@ -284,7 +284,6 @@ impl Sorter for PlainSorter {
 
     #[tactic(auto, using(crate::proofs::ChangeLemmas::distinct_stays, crate::proofs::ChangeLemmas::listed_stays))]
     fn charge(&mut self, path: &ClientPath, quantities: &Quantities) -> Result<(), AllocError> {
-        quantities.recall();
         if let Some(at) = self.row_of(path) {
             let client = &mut self.clients[at];
             raise(&mut client.held, quantities)?;

@@ -12,6 +12,10 @@ use drf_role::{Name, Role};
 use drf_rows::FilterRow;
 use std::alloc::AllocError;
 
+// As many filters as may ever be in force. Where more stand, some have run out, and each event that asks how many are in force would
+// go over those.
+const MOST_IN_FORCE: usize = 65536;
+
 impl Tables {
     /// Whether at least so many filters are in force at a moment, in milliseconds. They are looked at only where so many stand.
     pub fn are_in_force(&self, number: u64, moment: u64) -> bool
@@ -47,6 +51,7 @@ impl Tables {
             return;
         }
         self.filters.drop_spent(self.clock);
-        self.sweep_at = self.filters.len().saturating_mul(2).saturating_add(8);
+        let twice = self.filters.len().saturating_mul(2).saturating_add(8);
+        self.sweep_at = twice.min(MOST_IN_FORCE);
     }
 }

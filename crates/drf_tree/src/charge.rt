@@ -82,7 +82,8 @@ impl Tree {
     }
 }
 
-/// Names each label of the other amounts, with 0 where it was not named. No amount is changed, at an `Err` neither.
+/// Names each label of the other amounts, with 0 where it was not named. No amount is changed, at an `Err` neither. Labels that have
+/// come to 0 make room for new ones, so that the labels do not grow with the history.
 fn name_all(held: &mut Quantities, others: &Quantities) -> Result<(), AllocError>
     ensures same { (label : Text) → amount_of held.new label ≡ amount_of held.old label }
     ensures named { OnOk result (names_all held.new others.now ≡ true) }
@@ -90,6 +91,16 @@ fn name_all(held: &mut Quantities, others: &Quantities) -> Result<(), AllocError
     if held.names_all(others) {
         return Ok(());
     }
+    held.recall();
+    held.remove_zeros();
+    name_each(held, others)
+}
+
+/// Names each label of the other amounts, one after another.
+fn name_each(held: &mut Quantities, others: &Quantities) -> Result<(), AllocError>
+    ensures same { (label : Text) → amount_of held.new label ≡ amount_of held.old label }
+    ensures named { OnOk result (names_all held.new others.now ≡ true) }
+{
     for entry in others.entries() {
         name(held, &entry.label)?;
     }

@@ -1,11 +1,11 @@
-use Rattle.std.proofs.Common.{◌∙◌}
-use Rattle.drf_tree.proofs.LabelLemmas.{names_more}
+use Rattle.std.proofs.Common.{List, ap, ◌∙◌}
+use Rattle.drf_bundle.specs.Quantities.{amount_of}
+use Rattle.drf_bundle.specs.declared.quantities.Entry.{Entry}
+use Rattle.drf_bundle.specs.laws.QuantitiesLaws.{amount-without_zeros}
 use Rattle.drf_tree.proofs.charge.name_all.Goals as goal
 
-pub loop-entry-preserved : goal.loop-entry-preserved
-loop-entry-preserved c = record {
-  same = λ label. c.in_ok-name.ensures.same label ∙ c.loop-entry.invariant.same label;
-  named =
-      names_more c.loop-entry.held c.name.new.held c.entries-entry-items.result.now c.loop-entry.entry-index c.entry-item.result
-      c.loop-entry-test.true c.entry-item.is c.in_ok-name.ensures.stay c.in_ok-name.ensures.named c.loop-entry.invariant.named;
-}
+pub returns-clause-same : goal.returns-clause-same
+returns-clause-same c = λ label.
+    c.name_each.ensures.same label
+    ∙ ap (λ (es : List Entry). amount_of es label) c.remove_zeros.ensures.value
+    ∙ amount-without_zeros c.args.held.now label c.recall.ensures

@@ -36,7 +36,7 @@ returns-in_ok-raise-clause-ok c =
     place-found clients c.args.path.now c.in-Some.at x c.in-Some.ensures
     c.index_mut-client.ensures.value in
     let made =
-    charged_is x c.args.quantities.now c.raise.new.held c.recall.ensures c.in_ok-raise.ensures.ok in
+    charged_is x c.args.quantities.now c.raise.new.held c.in_ok-raise.ensures.ok in
     ap (with_clients sorter)
     (changed_one c.args.path.now (charged c.args.quantities.now) clients c.in-Some.at x y sorter.distinct found made)
 

@@ -1,6 +1,6 @@
 use Rattle.std.proofs.Common.{◌≡◌, true, List, ℕ, take}
 use Rattle.drf_bundle.specs.Quantities.{amount_of, names_all}
-use Rattle.drf_tree.proofs.charge.name_all.Given as goal
+use Rattle.drf_tree.proofs.charge.name_each.Given as goal
 
 -- each label so far is named
 abbrev pub invariant-loop-entry : goal.invariant-loop-entry

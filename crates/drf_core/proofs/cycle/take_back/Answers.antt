@@ -1,4 +1,4 @@
-use Rattle.std.proofs.Common.{ap, ◌∙◌}
+use Rattle.std.proofs.Common.{ap, ◌∙◌, arith}
 use Rattle.drf_sorter.specs.Content.{has_client, with_change, discharged}
 use Rattle.drf_core.proofs.drafting.Drafts.{clients_front, has_client-last, HasChargeAt-last, sorted-taken_back}
 use Rattle.drf_core.proofs.cycle.take_back.Goals as goal
@@ -23,4 +23,5 @@ loop-offer-preserved g c =
     record {
       sorted = c.undo_charge.ensures.content ∙ (λ i. with_change content (c.from_parts-client.ensures i) (discharged (c.quantities.ensures.value i))) ∙ taken;
       clients = front.0;
+      made = omega (arith, c.loop-offer.invariant.made, c.undo_charge.ensures.made);
     }

@@ -5,7 +5,7 @@ use Rattle.drf_rows.specs.Consistent.{are_distinct}
 use Rattle.drf_rows.specs.declared.rows.AgentRow.{AgentRow}
 use Rattle.drf_rows.specs.declared.rows.Rows.{Rows}
 use Rattle.drf_sorter.specs.Content.{Content}
-use Rattle.drf_sorter.specs.Work.{debt}
+use Rattle.drf_sorter.specs.Work.{Work, debt}
 use Rattle.drf_tables.specs.Drafts.{with_offers}
 use Rattle.drf_tables.specs.DraftLaws.{agents-with_offers}
 use Rattle.drf_core.specs.Drafting.{IsDrafting}
@@ -49,6 +49,7 @@ loop-sorter-init g c =
       known = c.new-free.ensures.known c.args.drafts.now.quota;
       work = λ counted. omega (arith, c.fix_order.ensures.work counted);
       lefts = refl;
+      made = c.fix_order.ensures.made;
     }
 
 pub goes_on-requires : goal.goes_on-requires
@@ -76,6 +77,7 @@ loop-sorter-preserved g c =
       known = c.in_ok-try_first.ensures.known;
       work = λ counted. omega (arith, c.loop-sorter.invariant.work counted, c.in_ok-try_first.ensures.work counted, ap debt c.pass.ensures.work);
       lefts = c.try_first.ensures.lefts ∙ c.loop-sorter.invariant.lefts;
+      made = omega (arith, c.loop-sorter.invariant.made, c.try_first.ensures.made, ap (λ (w : Work). w.made) c.pass.ensures.work);
     }
 
 pub loop-sorter-smaller : goal.loop-sorter-smaller

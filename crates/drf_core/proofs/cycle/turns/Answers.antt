@@ -13,4 +13,5 @@ loop-place-preserved g c = record {
   quota = c.in_ok-turn.ensures.quota;
   work = λ counted. omega (arith, c.loop-place.invariant.work counted, c.in_ok-turn.ensures.work counted);
   left = c.in_ok-turn.ensures.left;
+  made = omega (arith, c.loop-place.invariant.made, c.turn.ensures.made);
 }

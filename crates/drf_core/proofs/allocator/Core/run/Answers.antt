@@ -1,4 +1,4 @@
-use Rattle.std.proofs.Common.{◌≡◌, ◌+◌, List, ◌++◌, ◌∷◌, [], refl, ap, subst, ◌∙◌, sym, length, take, append_assoc}
+use Rattle.std.proofs.Common.{◌≡◌, ◌+◌, List, ◌++◌, ◌∷◌, [], refl, ap, subst, ◌∙◌, sym, length, take, append_assoc, arith}
 use Rattle.std.proofs.lemmas.Option.{slice_get_read}
 use Rattle.drf_rows.specs.Step.{replies_to}
 use Rattle.drf_rows.specs.declared.event.Event.{Event}
@@ -33,4 +33,5 @@ loop-event-preserved g c =
           ∙ append_assoc c.args.replies.now.items (replies_to c.args.self.now.limits c.args.self.now.rows before) (c.in_ok-reply.reply ∷ [])
           ∙ ap (λ (rs : List Reply). c.args.replies.now.items ++ rs)
           (reply-more c.args.self.now c.loop-event.self before c.in_ok-event.event c.in_ok-reply.reply c.loop-event.invariant.after c.in_ok-reply.ensures.reply);
+      made = omega (arith, c.loop-event.invariant.made, c.step.ensures.made);
     })

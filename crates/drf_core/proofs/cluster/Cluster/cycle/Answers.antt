@@ -29,7 +29,7 @@ invariant_of-self g c = c.in-Ok.ensures.sorted
 
 pub invariant_of-self-in-Err : goal.invariant_of-self-in-Err
 invariant_of-self-in-Err g c =
-    c.take_back.ensures ∙ sym (ap content_of c.set_clock-in-Err.ensures ∙ content_of-clock c.offer_all.new.tables.rows c.clock-before.result)
+    c.take_back.ensures.content ∙ sym (ap content_of c.set_clock-in-Err.ensures ∙ content_of-clock c.offer_all.new.tables.rows c.clock-before.result)
 
 pub returns-clause-err : goal.returns-clause-err
 returns-clause-err g c =

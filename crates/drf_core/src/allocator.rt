@@ -56,8 +56,8 @@ impl<S: Sorter> Core<S> {
     /// Takes one event, whole or not at all. A refusal is a reply; a refused event changes nothing, nor does want of
     /// memory, which no refused event meets but one that is refused for what is free, held or consumed: where resources move
     /// between everyone and a role, or a total is another. However it ends, nothing is granted twice. At `Ok`, a sorter whose work is
-    /// counted owes no more for it than the nodes of the clients that it touches, and one for a weight, but where the total
-    /// of the cluster changes. However it ends, the count of keys has not fallen.
+    /// counted owes no more for it than the nodes of the clients that it touches, and one for a weight; of `add_agent`,
+    /// `remove_agent` and `set_agent` no bound is said. However it ends, the count of keys has not fallen.
     pub fn step(&mut self, event: Event) -> Result<Reply, AllocError>
         ensures reply { IfOk result (λ reply. reply ≡ reply_to self.old.limits self.old.rows event) }
         ensures ok { OnOk result (IsAfter self.old self.new event) }

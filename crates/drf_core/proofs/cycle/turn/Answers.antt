@@ -49,7 +49,7 @@ loop-sorter-init g c =
       known = c.new-free.ensures.known c.args.drafts.now.quota;
       work = λ counted. omega (arith, c.fix_order.ensures.work counted);
       lefts = refl;
-      made = c.fix_order.ensures.made;
+      made = omega arith;
     }
 
 pub goes_on-requires : goal.goes_on-requires

@@ -1,0 +1,5 @@
+use Rattle.drf_master_examples.proofs.masters.run.Given as goal
+
+-- its own slate
+abbrev pub ghosts-run_named : goal.ghosts-run_named
+ghosts-run_named g a = record { slate = a.slate.name }

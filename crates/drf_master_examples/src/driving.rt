@@ -1,0 +1,323 @@
+//! Scripts of events that run side by side, each on a thread and a pass of its own.
+ghost use Rattle.std.specs.Prelude.{◌≡◌, ◌≤◌, length};
+ghost use Rattle.drf_rows.specs.LimitNumbers.{ceilings};
+
+use crate::closing::keep_passes;
+use crate::lines::{AGENT, CYCLE, FRAMEWORK, add_script, append_reply};
+use anyhow::{Context, Result, bail};
+use drf_board::{Brand, Entry, Naming, Slate};
+use drf_master::{DriveFault, Driven, Gate, Master, Pass, drive};
+use drf_rows::{Event, Limits, Reply};
+use std::alloc::Global;
+use std::fmt::Write;
+use std::mem::swap;
+use std::sync::Wait;
+use std::sync::atomic::{AtomicU64, Ordering};
+use std::thread;
+use std::thread::Threads;
+
+/// How often a worker looks whether the others have come. On a busy machine the last of many threads begins late.
+const TURNS: u64 = 1_000_000;
+
+/// Gives way to other threads, so long that some of them get on.
+fn give_way() {
+    for _ in 0..100 {
+        thread::yield_now();
+    }
+}
+
+/// Holds the first call of each worker until so many have come to theirs: only threads that run side by side pass it. After so many turns
+/// it stops the worker.
+#[derive(Drop)]
+struct Meeting {
+    all: u64,
+    turns: u64,
+    came: AtomicU64,
+}
+
+impl Gate for Meeting {
+    ghost lets = { λ gate worker call. Unit {0} };
+
+    ghost stops = { λ gate worker call. Unit {0} };
+
+    ghost sees = { λ gate worker call. Unit {0} };
+
+    fn before(&self, _worker: u64, call: u64) -> bool {
+        if call > 0 {
+            return true;
+        }
+        self.came.fetch_add(1, Ordering::SeqCst);
+        for _ in 0..self.turns {
+            if self.came.load(Ordering::SeqCst) >= self.all {
+                return true;
+            }
+            give_way();
+        }
+        false
+    }
+
+    fn after(&self, _worker: u64, _call: u64) {}
+}
+
+/// What is kept of a drive.
+#[derive(Drop)]
+struct Outcome {
+    entries: Vec<Entry>,
+    replies: Vec<Vec<Reply>>,
+}
+
+/// What is told of a drive: the replies, or where the workers' frameworks stand in the journal.
+#[derive(Clone, Copy)]
+enum Telling {
+    Replies,
+    Places(usize),
+}
+
+// Whether an entry adds the framework of a worker.
+fn is_of(entry: &Entry, framework: &str) -> bool {
+    match &entry.event {
+        Event::AddFramework {
+            framework: name,
+            ..
+        } => name.text() == framework,
+        _ => false,
+    }
+}
+
+fn place_of(alloc: Global, entries: &[Entry], worker: usize) -> Result<usize> {
+    let name = format!(in alloc; "f{worker}")?;
+    entries
+        .iter()
+        .position(|entry| is_of(entry, name.as_str()))
+        .context("not in the journal")
+}
+
+fn append_places(alloc: Global, told: &mut String, entries: &[Entry], count: usize) -> Result<()> {
+    let mut places = Vec::new(alloc);
+    for worker in 0..count {
+        places.push(place_of(alloc, entries, worker)?)?;
+    }
+    places.sort_unstable();
+    let all = entries.len();
+    Ok(write!(told, " {all} entries, at {places:?}")?)
+}
+
+fn append_replies(alloc: Global, told: &mut String, replies: &[Reply]) -> Result<()> {
+    for reply in replies {
+        append_reply(alloc, told, reply)?;
+    }
+    Ok(())
+}
+
+fn append_all_replies(alloc: Global, told: &mut String, replies: &[Vec<Reply>]) -> Result<()> {
+    for one in replies {
+        append_replies(alloc, told, one)?;
+    }
+    Ok(())
+}
+
+fn append_driven(
+    alloc: Global,
+    told: &mut String,
+    telling: Telling,
+    driven: &Result<Outcome, DriveFault>,
+) -> Result<()> {
+    match driven {
+        Ok(Outcome { entries, replies }) => match telling {
+            Telling::Replies => append_all_replies(alloc, told, replies),
+            Telling::Places(count) => append_places(alloc, told, entries, count),
+        },
+        Err(fault) => Ok(write!(told, " {fault:?}")?),
+    }
+}
+
+/// Puts the passes of others in the place of these, if they are as many.
+fn exchange(passes: &mut Vec<Pass>, others: &mut Vec<Pass>)
+    ensures { length passes.new.items ≡ length passes.old.items }
+{
+    if others.len() == passes.len() {
+        swap(passes, others);
+    }
+}
+
+// The journal and the replies. The core goes at once.
+fn outcome_of(driven: Driven) -> Outcome {
+    let Driven { book, replies } = driven;
+    Outcome {
+        entries: book.into_entries(),
+        replies,
+    }
+}
+
+fn drive_and_close<K: Naming + Send + Sync, W: Threads + Wait + Sync>(
+    rt: &W,
+    alloc: Global,
+    meeting: &Meeting,
+    master: Master<K, &W>,
+    passes: Vec<Pass>,
+    scripts: Vec<Vec<Event>>,
+) -> Result<Outcome, DriveFault>
+    requires { length scripts.items ≡ length passes.items }
+{
+    match drive(rt, alloc, master, passes, meeting, scripts) {
+        Ok(driven) => Ok(outcome_of(driven)),
+        Err(fault) => Err(fault),
+    }
+}
+
+fn drive_and_append<K: Naming + Send + Sync, W: Threads + Wait + Sync>(
+    rt: &W,
+    alloc: Global,
+    told: &mut String,
+    meeting: &Meeting,
+    telling: Telling,
+    master: Master<K, &W>,
+    passes: Vec<Pass>,
+    scripts: Vec<Vec<Event>>,
+) -> Result<()>
+    requires { length scripts.items ≡ length passes.items }
+{
+    let driven = drive_and_close(rt, alloc, meeting, master, passes, scripts);
+    append_driven(alloc, told, telling, &driven)
+}
+
+fn drive_named<K: Naming + Send + Sync, W: Threads + Wait + Sync>(
+    rt: &W,
+    alloc: Global,
+    told: &mut String,
+    meeting: &Meeting,
+    telling: Telling,
+    others: &mut Vec<Pass>,
+    scripts: Vec<Vec<Event>>,
+    slate: Slate,
+) -> Result<()>
+    requires named { slate.name ≡ K.slate }
+    requires limits { slate.name.limits ≡ ceilings }
+    requires count { (1 ≤ length scripts.items) × (length scripts.items ≤ 64) }
+{
+    let count = scripts.len() as u64;
+    let (master, mut passes, _viewers) = Master::<K, &W>::open(
+        rt,
+        alloc,
+        1,
+        Limits::full(),
+        count,
+        slate,
+    )?;
+    exchange(&mut passes, others);
+    drive_and_append(rt, alloc, told, meeting, telling, master, passes, scripts)
+}
+
+// Runs scripts on a master of key 1, by the passes of others where these are as many. Their first calls meet.
+fn drive_scripts<W: Threads + Wait + Sync>(
+    rt: &W,
+    alloc: Global,
+    told: &mut String,
+    meeting: &Meeting,
+    telling: Telling,
+    others: &mut Vec<Pass>,
+    scripts: Vec<Vec<Event>>,
+) -> Result<()> {
+    if scripts.is_empty() || scripts.len() > 64 {
+        bail!("1 to 64 scripts can be driven");
+    }
+    let slate = Slate::open(0, Limits::full())?;
+    drive_named::<Brand, W>(rt, alloc, told, meeting, telling, others, scripts, slate)
+}
+
+fn meeting_of(all: u64, turns: u64) -> Meeting {
+    Meeting {
+        all,
+        turns,
+        came: AtomicU64::new(0),
+    }
+}
+
+// One script, which meets so many.
+fn append_script<W: Threads + Wait + Sync>(
+    rt: &W,
+    alloc: Global,
+    told: &mut String,
+    meeting: &Meeting,
+    lines: &[&str],
+    others: &mut Vec<Pass>,
+) -> Result<()> {
+    let mut scripts = Vec::new(alloc);
+    add_script(alloc, &mut scripts, lines)?;
+    drive_scripts(rt, alloc, told, meeting, Telling::Replies, others, scripts)
+}
+
+/// A drive by a pass of another key.
+pub fn append_stranger<W: Threads + Wait + Sync>(
+    rt: &W,
+    alloc: Global,
+    told: &mut String,
+) -> Result<()> {
+    told.push_str("a drive by a pass of key 2:")?;
+    let mut others = Vec::new(alloc);
+    keep_passes(rt, alloc, 2, &[], &mut others)?;
+    others.truncate(1);
+    let meeting = meeting_of(1, 1);
+    let lines = [AGENT];
+    append_script(rt, alloc, told, &meeting, &lines, &mut others)?;
+    Ok(told.push('\n')?)
+}
+
+/// One script of three events: one thread makes three calls.
+pub fn append_alone<W: Threads + Wait + Sync>(
+    rt: &W,
+    alloc: Global,
+    told: &mut String,
+) -> Result<()> {
+    told.push_str("one script:")?;
+    let mut others = Vec::new(alloc);
+    let meeting = meeting_of(1, 1);
+    let lines = [AGENT, FRAMEWORK, CYCLE];
+    append_script(rt, alloc, told, &meeting, &lines, &mut others)?;
+    Ok(told.push('\n')?)
+}
+
+/// One script that waits for another in vain.
+pub fn append_stopped<W: Threads + Wait + Sync>(
+    rt: &W,
+    alloc: Global,
+    told: &mut String,
+) -> Result<()> {
+    told.push_str("one script that is to meet another:")?;
+    let mut others = Vec::new(alloc);
+    let meeting = meeting_of(2, 10);
+    let lines = [AGENT];
+    append_script(rt, alloc, told, &meeting, &lines, &mut others)?;
+    Ok(told.push('\n')?)
+}
+
+fn add_framework(alloc: Global, scripts: &mut Vec<Vec<Event>>, worker: usize) -> Result<()> {
+    let line = format!(in alloc;
+        r#"{{"event":"add_framework","framework":"f{worker}","roles":["a"]}}"#
+    )?;
+    add_script(alloc, scripts, &[line.as_str()])
+}
+
+fn add_frameworks(alloc: Global, scripts: &mut Vec<Vec<Event>>, count: usize) -> Result<()> {
+    for worker in 0..count {
+        add_framework(alloc, scripts, worker)?;
+    }
+    Ok(())
+}
+
+/// So many scripts that meet, each of which adds a framework, and where their calls stand in the journal.
+pub fn append_meeting<W: Threads + Wait + Sync>(
+    rt: &W,
+    alloc: Global,
+    told: &mut String,
+    count: usize,
+) -> Result<()> {
+    write!(told, "{count} scripts that meet:")?;
+    let mut others = Vec::new(alloc);
+    let mut scripts = Vec::new(alloc);
+    add_frameworks(alloc, &mut scripts, count)?;
+    let meeting = meeting_of(count as u64, TURNS);
+    let telling = Telling::Places(count);
+    drive_scripts(rt, alloc, told, &meeting, telling, &mut others, scripts)?;
+    Ok(told.push('\n')?)
+}

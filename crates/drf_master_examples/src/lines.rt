@@ -1,0 +1,74 @@
+//! Calls by the lines of their events, and replies as text.
+use anyhow::{Context, Result};
+use drf_board::Naming;
+use drf_lines::{read_event, write_reply};
+use drf_master::{Answer, Master, Pass};
+use drf_rows::{Event, Reply};
+use std::alloc::Global;
+use std::fmt::Write;
+use std::str;
+use std::sync::Wait;
+
+pub const AGENT: &str = r#"{"event":"add_agent","agent":"n1","total":"cpus:4;mem:1024"}"#;
+
+pub const OTHER_AGENT: &str = r#"{"event":"add_agent","agent":"n2","total":"cpus:4;mem:1024"}"#;
+
+pub const SMALL_AGENT: &str = r#"{"event":"add_agent","agent":"n1","total":"cpus:1"}"#;
+
+pub const FRAMEWORK: &str = r#"{"event":"add_framework","framework":"f1","roles":["a"]}"#;
+
+pub const CYCLE: &str = r#"{"event":"cycle","at":0}"#;
+
+/// Calls by the first of the passes.
+pub fn call<K: Naming, R: Wait + Drop, W: Wait>(
+    rt: &W,
+    alloc: Global,
+    master: &Master<K, R>,
+    passes: &mut [Pass],
+    line: &str,
+) -> Result<Answer<K>> {
+    let event = read_event(alloc, line.as_bytes())?;
+    let pass = passes.first_mut().context("no pass")?;
+    master.call(rt, pass, event).ok().context("not called")
+}
+
+fn call_once<K: Naming, R: Wait + Drop, W: Wait>(
+    rt: &W,
+    alloc: Global,
+    master: &Master<K, R>,
+    passes: &mut [Pass],
+    line: &str,
+) -> Result<()> {
+    call(rt, alloc, master, passes, line)?;
+    Ok(())
+}
+
+/// Makes calls in order.
+pub fn call_all<K: Naming, R: Wait + Drop, W: Wait>(
+    rt: &W,
+    alloc: Global,
+    master: &Master<K, R>,
+    passes: &mut [Pass],
+    lines: &[&str],
+) -> Result<()> {
+    for line in lines {
+        call_once(rt, alloc, master, passes, line)?;
+    }
+    Ok(())
+}
+
+/// Adds a script: the events of lines.
+pub fn add_script(alloc: Global, scripts: &mut Vec<Vec<Event>>, lines: &[&str]) -> Result<()> {
+    let mut script = Vec::with_capacity(alloc, lines.len())?;
+    for line in lines {
+        script.push(read_event(alloc, line.as_bytes())?)?;
+    }
+    Ok(scripts.push(script)?)
+}
+
+/// Adds the line of a reply, without its line feed.
+pub fn append_reply(alloc: Global, told: &mut String, reply: &Reply) -> Result<()> {
+    let line = write_reply(alloc, reply)?;
+    let text = str::from_utf8(&line).ok().context("no text")?;
+    Ok(write!(told, " {}", text.trim_end())?)
+}

@@ -1,0 +1,138 @@
+//! A master from its opening to its close. What owns one does nothing else: its drop is long, and each branch beside it would prove it again.
+ghost use Rattle.std.specs.Prelude.{◌≡◌};
+ghost use Rattle.drf_rows.specs.LimitNumbers.{ceilings};
+
+use crate::calls::{Row, use_master};
+use anyhow::Result;
+use drf_board::{Brand, Entry, Naming, Slate, Viewer};
+use drf_master::{CloseFault, CloseRefused, Master, Pass};
+use drf_rows::Limits;
+use std::alloc::Global;
+use std::fmt::Write;
+use std::sync::Wait;
+use std::thread::Threads;
+
+/// Why a master was not closed, and whether all of its own passes match the book that is handed back: those that closed and those that were kept.
+#[derive(Clone, Copy)]
+pub struct Misfit {
+    fault: CloseFault,
+    is_own: bool,
+}
+
+fn do_own_match(refused: &mut CloseRefused, own: usize, kept: &mut Vec<Pass>) -> bool {
+    refused.passes.truncate(own);
+    let is_whole = kept.append(&mut refused.passes).is_ok();
+    is_whole && refused.book.matches(kept).is_ok()
+}
+
+fn misfit_of(mut refused: CloseRefused, own: usize, kept: &mut Vec<Pass>) -> Misfit {
+    let is_own = do_own_match(&mut refused, own, kept);
+    let fault = refused.fault;
+    drop(refused);
+    Misfit { fault, is_own }
+}
+
+/// Closes a master with passes of which so many are its own; those that were kept are too.
+pub fn close<K: Naming, R: Wait + Drop>(
+    master: Master<K, R>,
+    passes: Vec<Pass>,
+    own: usize,
+    kept: &mut Vec<Pass>,
+) -> Result<Vec<Entry>, Misfit> {
+    match master.close(passes) {
+        Ok(book) => Ok(book.into_entries()),
+        Err(refused) => Err(misfit_of(refused, own, kept)),
+    }
+}
+
+fn append_closed(told: &mut String, closed: &Result<Vec<Entry>, Misfit>) -> Result<()> {
+    match closed {
+        Ok(entries) => Ok(write!(told, " closed, {} entries", entries.len())?),
+        Err(misfit) => {
+            let (fault, is_own) = (misfit.fault, misfit.is_own);
+            Ok(write!(told, " {fault:?}, own passes match: {is_own}")?)
+        }
+    }
+}
+
+/// Tells how a master was closed, if it was used without a fault.
+pub fn append_used(
+    told: &mut String,
+    used: Result<()>,
+    closed: Result<Vec<Entry>, Misfit>,
+) -> Result<()> {
+    used?;
+    append_closed(told, &closed)
+}
+
+fn use_and_close<K: Naming + Send + Sync, W: Threads + Wait + Sync>(
+    rt: &W,
+    alloc: Global,
+    told: &mut String,
+    row: Row,
+    front: &[&str],
+    back: &[&str],
+    kept: &mut Vec<Pass>,
+    master: Master<K, &W>,
+    mut passes: Vec<Pass>,
+    mut viewers: Vec<Viewer<K>>,
+) -> Result<()> {
+    let used = use_master(
+        rt,
+        alloc,
+        told,
+        row,
+        front,
+        back,
+        kept,
+        &master,
+        &mut passes,
+        &mut viewers,
+    );
+    let closed = close(master, passes, row.own, kept);
+    drop(viewers);
+    append_used(told, used, closed)
+}
+
+fn run_named<K: Naming + Send + Sync, W: Threads + Wait + Sync>(
+    rt: &W,
+    alloc: Global,
+    told: &mut String,
+    row: Row,
+    front: &[&str],
+    back: &[&str],
+    kept: &mut Vec<Pass>,
+    slate: Slate,
+) -> Result<()>
+    requires named { slate.name ≡ K.slate }
+    requires limits { slate.name.limits ≡ ceilings }
+{
+    let (master, passes, viewers) = Master::<K, &W>::open(
+        rt,
+        alloc,
+        row.key,
+        Limits::full(),
+        2,
+        slate,
+    )?;
+    use_and_close(
+        rt, alloc, told, row, front, back, kept, master, passes, viewers,
+    )
+}
+
+/// Opens a master with two passes, uses and closes it, and ends a line that tells how that went. What was kept before closes it too. What
+/// is kept afterwards are its own passes that did not close it, or all of its own where none did.
+pub fn run<W: Threads + Wait + Sync>(
+    rt: &W,
+    alloc: Global,
+    told: &mut String,
+    row: Row,
+    front: &[&str],
+    back: &[&str],
+    kept: &mut Vec<Pass>,
+) -> Result<()> {
+    let viewers = if row.is_watched { 1 } else { 0 };
+    let slate = Slate::open(viewers, Limits::full())?;
+    run_named::<Brand, W>(rt, alloc, told, row, front, back, kept, slate)?;
+    Ok(told.push('\n')?)
+}

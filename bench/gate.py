@@ -71,7 +71,7 @@ def main(names):
             keep_crates(names)
         start, table = time.time(), os.dup(1)
         os.dup2(2, 1)
-        status = rt.ci()
+        status = rt.ci(anew=False)
         sys.stdout.flush()
         os.dup2(table, 1)
         os.chdir("/")

@@ -1,6 +1,11 @@
 pub mod Exits
 pub mod RoleLists
 pub mod Values
+pub mod LineValues
+pub mod LineNumbers
+pub mod Ranges
+pub mod KeyCounts
+pub mod LineReads
 pub mod Meanings
 pub mod Texts
 pub mod EachIn

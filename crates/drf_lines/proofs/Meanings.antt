@@ -1,22 +1,23 @@
 -- What lines mean.
-use Rattle.std.proofs.Common.{◌≡◌, ℕ, true, false, nat_lt, length, List, Result, Ok, Err, ap}
+use Rattle.std.proofs.Common.{◌≡◌, ℕ, true, false, nat_lt, length, List, Result, Ok, Err, Global, ap}
 use Rattle.serde_json.specs.Data.{Data}
-use Rattle.serde_json.specs.View.{view}
+use Rattle.json.specs.declared.value.Value.{Value}
 use Rattle.drf_lines.specs.declared.fault.LineFault.{LineFault}
 use Rattle.drf_lines.specs.declared.fault.LineFault.TheVariants.{LineTooLong}
 use Rattle.drf_lines.specs.declared.fault.LineError.{LineError}
 use Rattle.drf_lines.specs.declared.fault.LineError.TheVariants.{Fault, Memory}
 use Rattle.drf_lines.specs.Fault.{◌>>=◌, IsReadAs, IsReadOf}
+use Rattle.drf_lines.specs.LineValue.{line_view}
 use Rattle.drf_lines.specs.Meaning.{value_in, event_in, longest_line, meaning_of}
 
-refused_at : (error : LineError) (r : Result Data LineFault) → IsReadAs view (Err error) r
+refused_at : (error : LineError) (r : Result Data LineFault) → IsReadAs {A = Value Global} line_view (Err error) r
     → IsReadOf (Err error) (r >>= event_in)
 refused_at (Fault fault) r h = ap (λ r. r >>= event_in) h
 refused_at Memory r h = tt
 
 -- a line that is no JSON has that fault
 pub meaning_refused : (error : LineError) (line : List ℕ) → nat_lt longest_line (length line) ≡ false
-    → IsReadAs view (Err error) (value_in line)
+    → IsReadAs {A = Value Global} line_view (Err error) (value_in line)
     → IsReadOf (Err error) (meaning_of line)
 unfolding meaning_of
 meaning_refused error line short h = rw short (refused_at error (value_in line) h)

@@ -2,6 +2,7 @@ pub mod Fault
 pub mod Words
 pub mod Resources
 pub mod Object
+pub mod LineValue
 pub mod AgentEvents
 pub mod ReservationEvents
 pub mod FrameworkEvents

@@ -4,11 +4,12 @@ ghost use Rattle.serde_json.specs.View.{view};
 ghost use Rattle.drf_text.specs.Written.{bundle_text};
 ghost use Rattle.drf_lines.specs.AgentEvents.{its_total, of_total, agent_of, of_agent};
 ghost use Rattle.drf_lines.specs.Fault.{IsReadOf};
+ghost use Rattle.drf_lines.specs.LineValue.{line_view};
 ghost use Rattle.drf_lines.specs.Resources.{bundle_in};
 ghost use Rattle.drf_lines.specs.Words.{name_in};
 
 use crate::fault::LineError;
-use crate::object::{keys, text_at};
+use crate::object::{LineValue, keys, text_at};
 use crate::resources::read_bundle;
 use crate::words::read_name;
 use drf_bundle::Bundle;
@@ -19,8 +20,8 @@ use std::alloc::{AllocError, Global};
 
 /// The agent and the total of an event that has no other keys.
 #[tactic(auto, unfolding(crate::specs::AgentEvents::its_total))]
-pub fn read_its_total(alloc: Global, value: &Value) -> Result<(Name, Bundle), LineError>
-    ensures { IsReadOf result (its_total (view value.now)) }
+pub fn read_its_total(alloc: Global, value: &LineValue<'_>) -> Result<(Name, Bundle), LineError>
+    ensures { IsReadOf result (its_total (line_view value.now)) }
 {
     keys(value, 3)?;
     let agent = text_at(value, "agent")?;
@@ -47,8 +48,8 @@ pub fn of_total(
 
 /// The agent of an event that has no other key.
 #[tactic(auto, unfolding(crate::specs::AgentEvents::agent_of))]
-pub fn read_its_agent(alloc: Global, value: &Value) -> Result<Name, LineError>
-    ensures { IsReadOf result (agent_of (view value.now)) }
+pub fn read_its_agent(alloc: Global, value: &LineValue<'_>) -> Result<Name, LineError>
+    ensures { IsReadOf result (agent_of (line_view value.now)) }
 {
     keys(value, 2)?;
     let agent = text_at(value, "agent")?;

@@ -4,12 +4,13 @@ ghost use Rattle.serde_json.specs.View.{view};
 ghost use Rattle.drf_role.specs.Parts.{text_of};
 ghost use Rattle.drf_rows.specs.declared.event.Event.TheVariants.{AddFramework};
 ghost use Rattle.drf_lines.specs.Fault.{IsReadOf};
+ghost use Rattle.drf_lines.specs.LineValue.{line_view};
 ghost use Rattle.drf_lines.specs.FrameworkEvents.{framework_event, role_value, framework_value, framework_of, of_framework, its_client, of_client};
 ghost use Rattle.drf_lines.specs.Meaning.{event_in};
 ghost use Rattle.drf_lines.specs.Words.{name_in, role_in, roles_in};
 
 use crate::fault::LineError;
-use crate::object::{keys, text_at, texts_at};
+use crate::object::{LineValue, keys, text_at, texts_at};
 use crate::words::{read_name, read_role};
 use drf_role::{Name, Role};
 use drf_rows::{Event, Table};
@@ -49,8 +50,8 @@ fn read_roles(alloc: Global, texts: &[&str]) -> Result<Table<Role>, LineError>
 }
 
 #[tactic(auto, unfolding(crate::specs::FrameworkEvents::framework_event))]
-pub fn read_framework(alloc: Global, value: &Value) -> Result<Event, LineError>
-    ensures { IsReadOf result (framework_event (view value.now)) }
+pub fn read_framework(alloc: Global, value: &LineValue<'_>) -> Result<Event, LineError>
+    ensures { IsReadOf result (framework_event (line_view value.now)) }
 {
     keys(value, 3)?;
     let framework = text_at(value, "framework")?;
@@ -96,8 +97,8 @@ pub fn framework_value(alloc: Global, framework: &Name, roles: &[Role]) -> Resul
 
 /// The framework of an event that has no other key.
 #[tactic(auto, unfolding(crate::specs::FrameworkEvents::framework_of))]
-pub fn read_its_framework(alloc: Global, value: &Value) -> Result<Name, LineError>
-    ensures { IsReadOf result (framework_of (view value.now)) }
+pub fn read_its_framework(alloc: Global, value: &LineValue<'_>) -> Result<Name, LineError>
+    ensures { IsReadOf result (framework_of (line_view value.now)) }
 {
     keys(value, 2)?;
     let framework = text_at(value, "framework")?;
@@ -114,8 +115,8 @@ pub fn of_framework(alloc: Global, event: &str, framework: &Name) -> Result<Valu
 
 /// The framework and the role of an event that has no other keys.
 #[tactic(auto, unfolding(crate::specs::FrameworkEvents::its_client))]
-pub fn read_its_client(alloc: Global, value: &Value) -> Result<(Name, Role), LineError>
-    ensures { IsReadOf result (its_client (view value.now)) }
+pub fn read_its_client(alloc: Global, value: &LineValue<'_>) -> Result<(Name, Role), LineError>
+    ensures { IsReadOf result (its_client (line_view value.now)) }
 {
     keys(value, 3)?;
     let framework = text_at(value, "framework")?;

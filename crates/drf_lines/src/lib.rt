@@ -8,8 +8,10 @@ mod frameworks;
 mod limits;
 mod line;
 mod member;
+mod number;
 mod object;
 mod offers;
+mod range;
 mod reply;
 mod report;
 mod reservations;
@@ -20,5 +22,5 @@ mod words;
 
 pub use event_line::write_event;
 pub use fault::{LineError, LineFault};
-pub use line::read_event;
+pub use line::{LineReader, read_event};
 pub use reply::{push_fault, push_reply, write_fault, write_reply};

@@ -4,10 +4,11 @@ ghost use Rattle.serde_json.specs.View.{view};
 ghost use Rattle.drf_rows.specs.declared.event.Event.TheVariants.{SetLimit};
 ghost use Rattle.drf_lines.specs.Fault.{IsReadOf};
 ghost use Rattle.drf_lines.specs.LimitEvents.{limit_event, limit_value};
+ghost use Rattle.drf_lines.specs.LineValue.{line_view};
 ghost use Rattle.drf_lines.specs.Meaning.{event_in};
 
 use crate::fault::LineError;
-use crate::object::{keys, text_at};
+use crate::object::{LineValue, keys, text_at};
 use crate::resources::read_quantities;
 use crate::words::read_role;
 use drf_bundle::Quantities;
@@ -18,8 +19,8 @@ use serde_json::{Value, json};
 use std::alloc::{AllocError, Global};
 
 #[tactic(auto, unfolding(crate::specs::LimitEvents::limit_event))]
-pub fn read_limiting(alloc: Global, value: &Value) -> Result<Event, LineError>
-    ensures { IsReadOf result (limit_event (view value.now)) }
+pub fn read_limiting(alloc: Global, value: &LineValue<'_>) -> Result<Event, LineError>
+    ensures { IsReadOf result (limit_event (line_view value.now)) }
 {
     keys(value, 3)?;
     let role = text_at(value, "role")?;

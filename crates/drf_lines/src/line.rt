@@ -1,37 +1,78 @@
 //! The reader of a line.
-ghost use Rattle.std.specs.Prelude.{◌≡◌, ◌≤◌, length, IsErrOf};
-ghost use Rattle.serde_json.specs.View.{view};
+ghost use Rattle.std.specs.Prelude.{◌≡◌, ◌≤◌, length, Some, None, IsErrOf, IfOk, IfErr};
+ghost use Rattle.std.specs.Option.{ok_or};
+ghost use Rattle.json.specs.Json.{value};
+ghost use Rattle.json.specs.Value.{value_view};
+ghost use Rattle.serde_json.specs.Read.{read};
+ghost use Rattle.drf_lines.specs.declared.fault.LineFault.TheVariants.{NotJson};
 ghost use Rattle.drf_lines.specs.Fault.{IsReadAs, IsReadOf};
+ghost use Rattle.drf_lines.specs.LineValue.{line_view, IsRefused};
 ghost use Rattle.drf_lines.specs.Meaning.{value_in, cycle_event, report_event, event_in, meaning_of, longest_line};
 
 use crate::agents::{read_its_agent, read_its_total};
 use crate::fault::{LineError, LineFault};
 use crate::frameworks::{read_framework, read_its_client, read_its_framework};
 use crate::limits::read_limiting;
-use crate::object::{keys, number_at, text_at};
+use crate::object::{LineValue, keys, number_at, text_at};
 use crate::offers::{read_accept, read_decline, read_finish, read_rescind};
+use crate::range::is_in_range;
 use crate::reservations::read_its_reservation;
 use crate::weights::read_weighing;
 use drf_rows::Event;
-use serde_json::{Category, Value};
+use json::{Error, Reader, Scratch};
 use std::alloc::Global;
 
-/// The JSON value of a line.
-fn read_value(alloc: Global, line: &[u8]) -> Result<Value, LineError>
-    ensures { IsReadAs view result (value_in line.now) }
+/// How deep the arrays and objects of a line may nest.
+const MOST_DEPTH: usize = 127;
+
+/// The next JSON value of a reader.
+fn next_value<'a>(alloc: Global, reader: &mut Reader<'a>) -> Result<LineValue<'a>, LineError>
+    ensures ok { IfOk result (λ found. value 127 reader.old ≡ Some (value_view found, reader.new)) }
+    ensures err { IfErr result (λ error. IsRefused error (value 127 reader.old ≡ None)) }
 {
-    match Value::from_slice(alloc, line) {
+    match LineValue::read(alloc, reader, MOST_DEPTH) {
         Ok(value) => Ok(value),
-        Err(error) => match error.classify() {
-            Category::Memory => Err(LineError::Memory),
-            _ => Err(LineError::Fault(LineFault::NotJson)),
-        },
+        Err(Error::Invalid) => Err(LineError::Fault(LineFault::NotJson)),
+        Err(_) => Err(LineError::Memory),
+    }
+}
+
+/// The JSON value of a text. Strings of it that have escapes are written to the scratch.
+fn text_value<'a>(
+    alloc: Global,
+    scratch: &'a mut Scratch,
+    text: &'a str,
+) -> Result<LineValue<'a>, LineError>
+    ensures { IsReadAs line_view result (ok_or (read text.now) NotJson) }
+{
+    let mut reader = Reader::new(text, scratch)?;
+    let value = next_value(alloc, &mut reader)?;
+    if reader.next().is_some() {
+        return Err(LineError::Fault(LineFault::NotJson));
+    }
+    if !is_in_range(&value) {
+        return Err(LineError::Fault(LineFault::NotJson));
+    }
+    Ok(value)
+}
+
+/// The JSON value of a line.
+fn line_value<'a>(
+    alloc: Global,
+    scratch: &'a mut Scratch,
+    line: &'a [u8],
+) -> Result<LineValue<'a>, LineError>
+    ensures { IsReadAs line_view result (value_in line.now) }
+{
+    match std::str::from_utf8(line) {
+        Ok(text) => text_value(alloc, scratch, text),
+        Err(_) => Err(LineError::Fault(LineFault::NotJson)),
     }
 }
 
 #[tactic(auto, unfolding(crate::specs::Meaning::cycle_event))]
-fn read_cycle(value: &Value) -> Result<Event, LineError>
-    ensures { IsReadOf result (cycle_event (view value.now)) }
+fn read_cycle(value: &LineValue<'_>) -> Result<Event, LineError>
+    ensures { IsReadOf result (cycle_event (line_view value.now)) }
 {
     keys(value, 2)?;
     let at = number_at(value, "at")?;
@@ -39,16 +80,16 @@ fn read_cycle(value: &Value) -> Result<Event, LineError>
 }
 
 #[tactic(auto, unfolding(crate::specs::Meaning::report_event))]
-fn read_report(value: &Value) -> Result<Event, LineError>
-    ensures { IsReadOf result (report_event (view value.now)) }
+fn read_report(value: &LineValue<'_>) -> Result<Event, LineError>
+    ensures { IsReadOf result (report_event (line_view value.now)) }
 {
     keys(value, 1)?;
     Ok(Event::Report)
 }
 
 #[tactic(auto, unfolding(crate::specs::Meaning::event_in))]
-fn read_object(alloc: Global, value: &Value) -> Result<Event, LineError>
-    ensures { IsReadOf result (event_in (view value.now)) }
+fn read_object(alloc: Global, value: &LineValue<'_>) -> Result<Event, LineError>
+    ensures { IsReadOf result (event_in (line_view value.now)) }
 {
     match text_at(value, "event")? {
         "add_agent" => {
@@ -111,14 +152,39 @@ fn read_object(alloc: Global, value: &Value) -> Result<Event, LineError>
 /// How many bytes a line has at most, without its line feed.
 const LONGEST_LINE: usize = 65_536;
 
-/// Reads a line, which is an event or has a fault. All shapes are looked at before any text.
+/// A reader of lines, one after another. What a line needs to be read is kept for the next one.
+#[derive(Drop)]
+pub struct LineReader {
+    alloc: Global,
+    scratch: Scratch,
+}
+
+impl LineReader {
+    /// A reader that has read nothing.
+    pub fn new(alloc: Global) -> LineReader {
+        LineReader {
+            alloc,
+            scratch: Scratch::new(alloc),
+        }
+    }
+
+    /// Reads a line, which is an event or has a fault. All shapes are looked at before any text.
+    pub fn read(&mut self, line: &[u8]) -> Result<Event, LineError>
+        ensures read { IsReadOf result (meaning_of line.now) }
+        ensures memory { IsErrOf result LineError.Memory → length line.now ≤ longest_line }
+    {
+        if line.len() > LONGEST_LINE {
+            return Err(LineError::Fault(LineFault::LineTooLong));
+        }
+        let value = line_value(self.alloc, &mut self.scratch, line)?;
+        read_object(self.alloc, &value)
+    }
+}
+
+/// Reads one line. Where several come, a `LineReader` is faster.
 pub fn read_event(alloc: Global, line: &[u8]) -> Result<Event, LineError>
     ensures read { IsReadOf result (meaning_of line.now) }
     ensures memory { IsErrOf result LineError.Memory → length line.now ≤ longest_line }
 {
-    if line.len() > LONGEST_LINE {
-        return Err(LineError::Fault(LineFault::LineTooLong));
-    }
-    let value = read_value(alloc, line)?;
-    read_object(alloc, &value)
+    LineReader::new(alloc).read(line)
 }

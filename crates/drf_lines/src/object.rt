@@ -1,30 +1,72 @@
 //! What stands in a JSON object.
-ghost use Rattle.std.specs.Prelude.{◌≡◌, map, option_map, option_and_then};
+ghost use Rattle.std.specs.Prelude.{◌≡◌, ◌≤◌, ◌==◌, map, option_map, option_and_then};
+ghost use Rattle.json.specs.Value.{members_view};
+ghost use Rattle.serde_json.specs.Data.{no_members};
 ghost use Rattle.serde_json.specs.Find.{get, as_str, as_array};
-ghost use Rattle.serde_json.specs.View.{view, items_view};
 ghost use Rattle.drf_lines.specs.Fault.{IsFoundAs, IsReadAs};
+ghost use Rattle.drf_lines.specs.LineValue.{is_among, line_view, items_seen, members_of};
 ghost use Rattle.drf_lines.specs.TaskTexts.{values_at};
-ghost use Rattle.drf_lines.specs.Object.{has_members, keys, keys_besides, number_of, text_at, number_at, number_or, texts_at};
+ghost use Rattle.drf_lines.specs.Object.{has_members, keys, keys_besides, member_count, number_of, text_at, number_at, number_or, texts_at};
 
 use crate::fault::{LineError, LineFault};
-use serde_json::Value;
+use crate::number::whole_number;
 use std::alloc::Global;
 
-/// Whether the value is an object of that many members.
-#[tactic(auto, unfolding(crate::specs::Object::has_members))]
-fn has_members(value: &Value, count: usize) -> bool
-    ensures { result ≡ has_members count (view value.now) }
+/// The JSON value of a line, whose texts are borrowed.
+pub use json::Value as LineValue;
+
+/// How many keys an object is asked for at most.
+const MOST_KEYS: usize = 8;
+
+/// Whether a key is one of some.
+fn is_among(names: &[&str], key: &str) -> bool
+    ensures { result ≡ is_among (map (λ name. name.now) names.now) key.now }
 {
-    match value.as_object() {
-        Some(members) => members.len() == count,
-        None => false,
+    for name in names {
+        if *name == key {
+            return true;
+        }
+    }
+    false
+}
+
+/// Whether members have so many different keys. It stops where there is one more, since a line may have thousands of members.
+fn has_keys(members: &[(&str, LineValue<'_>)], count: usize) -> bool
+    requires { count ≤ 8 }
+    ensures { result ≡ (member_count (members_of (members_view members.now) no_members) == count) }
+{
+    let mut names = [""; MOST_KEYS];
+    let mut found = 0;
+    for member in members {
+        if is_among(&names[..found], member.0) {
+            continue;
+        }
+        if found == count {
+            return false;
+        }
+        names[found] = member.0;
+        found += 1;
+    }
+    found == count
+}
+
+/// Whether the value is an object of that many members.
+#[tactic(auto, unfolding(crate::specs::Object::has_members, crate::specs::LineValue::line_view))]
+fn has_members(value: &LineValue<'_>, count: usize) -> bool
+    requires { count ≤ 8 }
+    ensures { result ≡ has_members count (line_view value.now) }
+{
+    match value {
+        LineValue::Object(members) => has_keys(members, count),
+        _ => false,
     }
 }
 
 /// The object has so many keys.
 #[tactic(auto, unfolding(crate::specs::Object::keys))]
-pub fn keys(value: &Value, count: usize) -> Result<(), LineFault>
-    ensures { result ≡ keys count (view value.now) }
+pub fn keys(value: &LineValue<'_>, count: usize) -> Result<(), LineFault>
+    requires { count ≤ 8 }
+    ensures { result ≡ keys count (line_view value.now) }
 {
     if !has_members(value, count) {
         return Err(LineFault::BadShape);
@@ -32,65 +74,104 @@ pub fn keys(value: &Value, count: usize) -> Result<(), LineFault>
     Ok(())
 }
 
+/// What stands under a key.
+#[tactic(auto, unfolding(crate::specs::LineValue::line_view))]
+pub fn find<'v, 'a>(value: &'v LineValue<'a>, key: &str) -> Option<&'v LineValue<'a>>
+    ensures { option_map (λ found. line_view found.now) result ≡ get key.now (line_view value.now) }
+{
+    value.get(key)
+}
+
+/// The text that a value is.
+#[tactic(auto, unfolding(crate::specs::LineValue::line_view))]
+fn as_text<'a>(value: &LineValue<'a>) -> Option<&'a str>
+    ensures { option_map (λ text. text.now) result ≡ as_str (line_view value.now) }
+{
+    value.as_str()
+}
+
+/// The whole number that a value is.
+#[tactic(auto, unfolding(crate::specs::LineValue::line_view))]
+fn as_number(value: &LineValue<'_>) -> Option<u64>
+    ensures { result ≡ number_of (line_view value.now) }
+{
+    whole_number(value.as_number()?)
+}
+
+/// The items of an array.
+#[tactic(auto, unfolding(crate::specs::LineValue::line_view))]
+fn as_items<'v, 'a>(value: &'v LineValue<'a>) -> Option<&'v Vec<LineValue<'a>>>
+    ensures { option_map (λ items. items_seen items.now.items) result ≡ as_array (line_view value.now) }
+{
+    match value {
+        LineValue::Array(items) => Some(items),
+        _ => None,
+    }
+}
+
 /// The object has so many keys besides one that may be left out.
 #[tactic(auto, unfolding(crate::specs::Object::keys_besides))]
-pub fn keys_besides(value: &Value, key: &str, count: u8) -> Result<(), LineFault>
-    ensures { result ≡ keys_besides key.now count (view value.now) }
+pub fn keys_besides(value: &LineValue<'_>, key: &str, count: u8) -> Result<(), LineFault>
+    requires { count ≤ 7 }
+    ensures { result ≡ keys_besides key.now count (line_view value.now) }
 {
     let count = count as usize;
-    if value.get(key).is_some() {
+    if find(value, key).is_some() {
         return keys(value, count + 1);
     }
     keys(value, count)
 }
 
-fn find_text<'a>(value: &'a Value, key: &str) -> Option<&'a str>
-    ensures { option_map (λ text. text.now) result ≡ option_and_then as_str (get key.now (view value.now)) }
+fn find_text<'a>(value: &LineValue<'a>, key: &str) -> Option<&'a str>
+    ensures { option_map (λ text. text.now) result ≡ option_and_then as_str (get key.now (line_view value.now)) }
 {
-    value.get(key)?.as_str()
+    as_text(find(value, key)?)
 }
 
 #[tactic(auto, unfolding(crate::specs::Object::text_at))]
-pub fn text_at<'a>(value: &'a Value, key: &str) -> Result<&'a str, LineFault>
-    ensures { IsFoundAs (λ text. text.now) result (text_at key.now (view value.now)) }
+pub fn text_at<'a>(value: &LineValue<'a>, key: &str) -> Result<&'a str, LineFault>
+    ensures { IsFoundAs (λ text. text.now) result (text_at key.now (line_view value.now)) }
 {
     find_text(value, key).ok_or(LineFault::BadShape)
 }
 
-fn find_number(value: &Value, key: &str) -> Option<u64>
-    ensures { result ≡ option_and_then number_of (get key.now (view value.now)) }
+fn find_number(value: &LineValue<'_>, key: &str) -> Option<u64>
+    ensures { result ≡ option_and_then number_of (get key.now (line_view value.now)) }
 {
-    value.get(key)?.as_u64()
+    as_number(find(value, key)?)
 }
 
 #[tactic(auto, unfolding(crate::specs::Object::number_at))]
-pub fn number_at(value: &Value, key: &str) -> Result<u64, LineFault>
-    ensures { result ≡ number_at key.now (view value.now) }
+pub fn number_at(value: &LineValue<'_>, key: &str) -> Result<u64, LineFault>
+    ensures { result ≡ number_at key.now (line_view value.now) }
 {
     find_number(value, key).ok_or(LineFault::BadShape)
 }
 
 /// The number under a key, or the usual one where the key is left out.
 #[tactic(auto, unfolding(crate::specs::Object::number_or))]
-pub fn number_or(value: &Value, key: &str, usual: u64) -> Result<u64, LineFault>
-    ensures { result ≡ number_or usual key.now (view value.now) }
+pub fn number_or(value: &LineValue<'_>, key: &str, usual: u64) -> Result<u64, LineFault>
+    ensures { result ≡ number_or usual key.now (line_view value.now) }
 {
-    match value.get(key) {
-        Some(found) => found.as_u64().ok_or(LineFault::BadShape),
+    match find(value, key) {
+        Some(found) => as_number(found).ok_or(LineFault::BadShape),
         None => Ok(usual),
     }
 }
 
-fn items_at<'a>(value: &'a Value, key: &str) -> Option<&'a Vec<Value>>
-    ensures { option_map (λ items. items_view items.now.items) result ≡ option_and_then as_array (get key.now (view value.now)) }
+fn items_at<'v, 'a>(value: &'v LineValue<'a>, key: &str) -> Option<&'v Vec<LineValue<'a>>>
+    ensures { option_map (λ items. items_seen items.now.items) result ≡ option_and_then as_array (get key.now (line_view value.now)) }
 {
-    value.get(key)?.as_array()
+    as_items(find(value, key)?)
 }
 
 /// The values of the array under a key.
 #[tactic(auto, unfolding(crate::specs::TaskTexts::values_at))]
-pub fn values_at<'a>(value: &'a Value, key: &str) -> Result<&'a [Value], LineFault>
-    ensures { IsFoundAs (λ values. map view values.now) result (values_at key.now (view value.now)) }
+pub fn values_at<'v, 'a>(
+    value: &'v LineValue<'a>,
+    key: &str,
+) -> Result<&'v [LineValue<'a>], LineFault>
+    ensures { IsFoundAs (λ values. map line_view values.now) result (values_at key.now (line_view value.now)) }
 {
     match items_at(value, key) {
         Some(items) => Ok(items.as_slice()),
@@ -99,13 +180,17 @@ pub fn values_at<'a>(value: &'a Value, key: &str) -> Result<&'a [Value], LineFau
 }
 
 /// The texts of the array under a key.
-pub fn texts_at<'a>(alloc: Global, value: &'a Value, key: &str) -> Result<Vec<&'a str>, LineError>
-    ensures { IsReadAs (λ texts. map (λ text. text.now) texts.items) result (texts_at key.now (view value.now)) }
+pub fn texts_at<'a>(
+    alloc: Global,
+    value: &LineValue<'a>,
+    key: &str,
+) -> Result<Vec<&'a str>, LineError>
+    ensures { IsReadAs (λ texts. map (λ text. text.now) texts.items) result (texts_at key.now (line_view value.now)) }
 {
     let items = items_at(value, key).ok_or(LineFault::BadShape)?;
     let mut texts = Vec::new(alloc);
     for item in items {
-        texts.push(item.as_str().ok_or(LineFault::BadShape)?)?;
+        texts.push(as_text(item).ok_or(LineFault::BadShape)?)?;
     }
     Ok(texts)
 }

@@ -4,13 +4,14 @@ ghost use Rattle.serde_json.specs.Data.{object, no_members};
 ghost use Rattle.serde_json.specs.View.{view, members_view};
 ghost use Rattle.drf_rows.specs.declared.event.Event.TheVariants.{Finish};
 ghost use Rattle.drf_lines.specs.Fault.{IsReadOf};
+ghost use Rattle.drf_lines.specs.LineValue.{line_view};
 ghost use Rattle.drf_lines.specs.Meaning.{event_in};
 ghost use Rattle.drf_lines.specs.TaskTexts.{each_in, start_in, start_text, task_members, several_members};
 ghost use Rattle.drf_lines.specs.Words.{name_in};
 ghost use Rattle.drf_lines.specs.OfferEvents.{answer_members, accept_event, accept_value, decline_event, decline_value, rescind_event, finish_event, finish_value};
 
 use crate::fault::LineError;
-use crate::object::{keys, keys_besides, number_at, number_or, text_at};
+use crate::object::{LineValue, keys, keys_besides, number_at, number_or, text_at};
 use crate::tasks::{read_tasks, task_texts, task_values};
 use crate::words::read_name;
 use drf_bundle::Bundle;
@@ -24,8 +25,8 @@ use std::alloc::{AllocError, Global};
 const USUAL_REFUSAL: u64 = 5000;
 
 #[tactic(auto, unfolding(crate::specs::OfferEvents::accept_event))]
-pub fn read_accept(alloc: Global, value: &Value) -> Result<Event, LineError>
-    ensures { IsReadOf result (accept_event (view value.now)) }
+pub fn read_accept(alloc: Global, value: &LineValue<'_>) -> Result<Event, LineError>
+    ensures { IsReadOf result (accept_event (line_view value.now)) }
 {
     let tasks = task_texts(alloc, value)?;
     let framework = text_at(value, "framework")?;
@@ -42,8 +43,8 @@ pub fn read_accept(alloc: Global, value: &Value) -> Result<Event, LineError>
 }
 
 #[tactic(auto, unfolding(crate::specs::OfferEvents::decline_event))]
-pub fn read_decline(alloc: Global, value: &Value) -> Result<Event, LineError>
-    ensures { IsReadOf result (decline_event (view value.now)) }
+pub fn read_decline(alloc: Global, value: &LineValue<'_>) -> Result<Event, LineError>
+    ensures { IsReadOf result (decline_event (line_view value.now)) }
 {
     keys_besides(value, "refuse_ms", 4)?;
     let framework = text_at(value, "framework")?;
@@ -59,8 +60,8 @@ pub fn read_decline(alloc: Global, value: &Value) -> Result<Event, LineError>
 }
 
 #[tactic(auto, unfolding(crate::specs::OfferEvents::rescind_event))]
-pub fn read_rescind(value: &Value) -> Result<Event, LineError>
-    ensures { IsReadOf result (rescind_event (view value.now)) }
+pub fn read_rescind(value: &LineValue<'_>) -> Result<Event, LineError>
+    ensures { IsReadOf result (rescind_event (line_view value.now)) }
 {
     keys(value, 2)?;
     let offer = number_at(value, "offer")?;
@@ -68,8 +69,8 @@ pub fn read_rescind(value: &Value) -> Result<Event, LineError>
 }
 
 #[tactic(auto, unfolding(crate::specs::OfferEvents::finish_event))]
-pub fn read_finish(alloc: Global, value: &Value) -> Result<Event, LineError>
-    ensures { IsReadOf result (finish_event (view value.now)) }
+pub fn read_finish(alloc: Global, value: &LineValue<'_>) -> Result<Event, LineError>
+    ensures { IsReadOf result (finish_event (line_view value.now)) }
 {
     keys(value, 3)?;
     let framework = text_at(value, "framework")?;

@@ -4,13 +4,14 @@ ghost use Rattle.serde_json.specs.View.{view};
 ghost use Rattle.drf_role.specs.Parts.{text_of};
 ghost use Rattle.drf_text.specs.Written.{bundle_text};
 ghost use Rattle.drf_lines.specs.Fault.{IsReadOf};
+ghost use Rattle.drf_lines.specs.LineValue.{line_view};
 ghost use Rattle.drf_lines.specs.ReservationEvents.{its_reservation, of_reservation};
 ghost use Rattle.drf_lines.specs.Resources.{bundle_in};
 ghost use Rattle.drf_lines.specs.Words.{name_in, role_in};
 
 use crate::fault::LineError;
 use crate::frameworks::role_value;
-use crate::object::{keys, text_at};
+use crate::object::{LineValue, keys, text_at};
 use crate::resources::read_bundle;
 use crate::words::{read_name, read_role};
 use drf_bundle::Bundle;
@@ -21,8 +22,11 @@ use std::alloc::{AllocError, Global};
 
 /// The agent, the role and the resources of an event that has no other keys.
 #[tactic(auto, unfolding(crate::specs::ReservationEvents::its_reservation))]
-pub fn read_its_reservation(alloc: Global, value: &Value) -> Result<(Name, Role, Bundle), LineError>
-    ensures { IsReadOf result (its_reservation (view value.now)) }
+pub fn read_its_reservation(
+    alloc: Global,
+    value: &LineValue<'_>,
+) -> Result<(Name, Role, Bundle), LineError>
+    ensures { IsReadOf result (its_reservation (line_view value.now)) }
 {
     keys(value, 4)?;
     let agent = text_at(value, "agent")?;

@@ -2,10 +2,11 @@
 ghost use Rattle.std.specs.Prelude.{◌≡◌, map, Ok, IfOk, OnOk};
 ghost use Rattle.serde_json.specs.View.{view};
 ghost use Rattle.drf_lines.specs.Fault.{IsFoundAs, IsReadAs, IsReadOf};
+ghost use Rattle.drf_lines.specs.LineValue.{line_view};
 ghost use Rattle.drf_lines.specs.TaskTexts.{each_in, task_text, is_few, if_few, one_text, several_texts, task_texts, start_in, starts_in, start_text, task_value};
 
 use crate::fault::{LineError, LineFault};
-use crate::object::{keys, keys_besides, text_at, values_at};
+use crate::object::{LineValue, find, keys, keys_besides, text_at, values_at};
 use crate::resources::read_bundle;
 use crate::words::read_name;
 use drf_bundle::Bundle;
@@ -24,8 +25,8 @@ pub struct TaskText<'a> {
 
 /// The texts of an object of the two keys alone.
 #[tactic(auto, unfolding(crate::specs::TaskTexts::task_text))]
-fn task_text<'a>(value: &'a Value) -> Result<TaskText<'a>, LineError>
-    ensures { IsReadAs (λ text. (text.name.now, text.used.now)) result (task_text (view value.now)) }
+fn task_text<'a>(value: &LineValue<'a>) -> Result<TaskText<'a>, LineError>
+    ensures { IsReadAs (λ text. (text.name.now, text.used.now)) result (task_text (line_view value.now)) }
 {
     keys(value, 2)?;
     let name = text_at(value, "task")?;
@@ -34,8 +35,8 @@ fn task_text<'a>(value: &'a Value) -> Result<TaskText<'a>, LineError>
 }
 
 /// The texts of each of some objects.
-fn each_text<'a>(alloc: Global, values: &'a [Value]) -> Result<Table<TaskText<'a>>, LineError>
-    ensures { IsReadAs (map (λ text. (text.name.now, text.used.now))) result (each_in task_text (map view values.now)) }
+fn each_text<'a>(alloc: Global, values: &[LineValue<'a>]) -> Result<Table<TaskText<'a>>, LineError>
+    ensures { IsReadAs (map (λ text. (text.name.now, text.used.now))) result (each_in task_text (map line_view values.now)) }
 {
     let mut texts = Vec::with_capacity(alloc, values.len())?;
     for value in values {
@@ -53,8 +54,8 @@ fn is_few(count: usize) -> bool
 
 /// The values of an array, where they are 1 to 16.
 #[tactic(auto, unfolding(crate::specs::TaskTexts::if_few))]
-fn if_few<'a>(values: &'a [Value]) -> Result<&'a [Value], LineFault>
-    ensures { IsFoundAs (λ values. map view values.now) result (if_few (map view values.now)) }
+fn if_few<'v, 'a>(values: &'v [LineValue<'a>]) -> Result<&'v [LineValue<'a>], LineFault>
+    ensures { IsFoundAs (λ values. map line_view values.now) result (if_few (map line_view values.now)) }
 {
     if !is_few(values.len()) {
         return Err(LineFault::BadShape);
@@ -63,8 +64,8 @@ fn if_few<'a>(values: &'a [Value]) -> Result<&'a [Value], LineFault>
 }
 
 #[tactic(auto, unfolding(crate::specs::TaskTexts::one_text))]
-fn one_text<'a>(alloc: Global, value: &'a Value) -> Result<Table<TaskText<'a>>, LineError>
-    ensures { IsReadAs (map (λ text. (text.name.now, text.used.now))) result (one_text (view value.now)) }
+fn one_text<'a>(alloc: Global, value: &LineValue<'a>) -> Result<Table<TaskText<'a>>, LineError>
+    ensures { IsReadAs (map (λ text. (text.name.now, text.used.now))) result (one_text (line_view value.now)) }
 {
     keys_besides(value, "refuse_ms", 6)?;
     let name = text_at(value, "task")?;
@@ -75,8 +76,8 @@ fn one_text<'a>(alloc: Global, value: &'a Value) -> Result<Table<TaskText<'a>>, 
 }
 
 #[tactic(auto, unfolding(crate::specs::TaskTexts::several_texts))]
-fn several_texts<'a>(alloc: Global, value: &'a Value) -> Result<Table<TaskText<'a>>, LineError>
-    ensures { IsReadAs (map (λ text. (text.name.now, text.used.now))) result (several_texts (view value.now)) }
+fn several_texts<'a>(alloc: Global, value: &LineValue<'a>) -> Result<Table<TaskText<'a>>, LineError>
+    ensures { IsReadAs (map (λ text. (text.name.now, text.used.now))) result (several_texts (line_view value.now)) }
 {
     keys_besides(value, "refuse_ms", 5)?;
     let values = values_at(value, "tasks")?;
@@ -86,10 +87,13 @@ fn several_texts<'a>(alloc: Global, value: &'a Value) -> Result<Table<TaskText<'
 
 /// The texts of the tasks of an accept, whose keys are those of one task or of several.
 #[tactic(auto, unfolding(crate::specs::TaskTexts::task_texts))]
-pub fn task_texts<'a>(alloc: Global, value: &'a Value) -> Result<Table<TaskText<'a>>, LineError>
-    ensures { IsReadAs (map (λ text. (text.name.now, text.used.now))) result (task_texts (view value.now)) }
+pub fn task_texts<'a>(
+    alloc: Global,
+    value: &LineValue<'a>,
+) -> Result<Table<TaskText<'a>>, LineError>
+    ensures { IsReadAs (map (λ text. (text.name.now, text.used.now))) result (task_texts (line_view value.now)) }
 {
-    if value.get("tasks").is_some() {
+    if find(value, "tasks").is_some() {
         return several_texts(alloc, value);
     }
     one_text(alloc, value)

@@ -3,11 +3,12 @@ ghost use Rattle.std.specs.Prelude.{◌≡◌, Ok, IfOk, OnOk};
 ghost use Rattle.serde_json.specs.View.{view};
 ghost use Rattle.drf_rows.specs.declared.event.Event.TheVariants.{SetWeight};
 ghost use Rattle.drf_lines.specs.Fault.{IsReadOf};
+ghost use Rattle.drf_lines.specs.LineValue.{line_view};
 ghost use Rattle.drf_lines.specs.Meaning.{event_in};
 ghost use Rattle.drf_lines.specs.WeightEvents.{weight_event, weight_value};
 
 use crate::fault::LineError;
-use crate::object::{keys, text_at};
+use crate::object::{LineValue, keys, text_at};
 use crate::resources::read_weight;
 use crate::words::read_role;
 use drf_role::Role;
@@ -17,8 +18,8 @@ use serde_json::{Value, json};
 use std::alloc::{AllocError, Global};
 
 #[tactic(auto, unfolding(crate::specs::WeightEvents::weight_event))]
-pub fn read_weighing(alloc: Global, value: &Value) -> Result<Event, LineError>
-    ensures { IsReadOf result (weight_event (view value.now)) }
+pub fn read_weighing(alloc: Global, value: &LineValue<'_>) -> Result<Event, LineError>
+    ensures { IsReadOf result (weight_event (line_view value.now)) }
 {
     keys(value, 3)?;
     let role = text_at(value, "role")?;

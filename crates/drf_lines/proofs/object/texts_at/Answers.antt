@@ -4,7 +4,7 @@ use Rattle.std.proofs.lemmas.Result.{err_from_is_err_and}
 use Rattle.std.specs.Option.{ok_or}
 use Rattle.drf_lines.specs.declared.fault.LineFault.TheVariants.{BadShape}
 use Rattle.serde_json.specs.Find.{get, as_str, as_array}
-use Rattle.serde_json.specs.View.{view}
+use Rattle.drf_lines.specs.LineValue.{line_view}
 use Rattle.drf_lines.specs.Object.{texts_of, texts_at}
 use Rattle.drf_lines.proofs.Values.{texts_after, texts_after-nil, texts_after-end, texts_after-text, texts_after-none}
 use Rattle.drf_lines.proofs.Exits.{fault_of_none}
@@ -32,8 +32,8 @@ returns-in_err-ok_or c =
     let i = c.loop-item.item-index in
     let texts = map (λ text. text.now) c.loop-item.texts.items in
     let item = c.item-item.result in
-    let none : as_str (view item) ≡ None = sym (rw c.in_err-ok_or.ensures.ok_part at c.as_str.ensures) in
-    let whole : option_and_then texts_of (option_and_then as_array (get c.args.key.now (view c.args.value.now)))
+    let none : as_str (line_view item) ≡ None = sym (rw c.in_err-ok_or.ensures.ok_part at c.as_text.ensures) in
+    let whole : option_and_then texts_of (option_and_then as_array (get c.args.key.now (line_view c.args.value.now)))
     ≡ None =
     sym c.loop-item.invariant ∙ at_drop_more (texts_after texts) items i item c.loop-item-test.true
     ∙ ap (λ x. texts_after texts (x ∷ drop (i + 1) items)) (sym c.item-item.is)
@@ -47,7 +47,7 @@ loop-item-preserved c =
     let texts = map (λ text. text.now) c.loop-item.texts.items in
     let item = c.item-item.result in
     let text = c.in_ok-ok_or.field-0.now in
-    let some : as_str (view item) ≡ Some text = sym (rw c.in_ok-ok_or.ensures.ok_part at c.as_str.ensures) in
+    let some : as_str (line_view item) ≡ Some text = sym (rw c.in_ok-ok_or.ensures.ok_part at c.as_text.ensures) in
     rw (c.in_ok-push.ensures.items, map-append) (sym (
     sym c.loop-item.invariant ∙ at_drop_more (texts_after texts) items i item c.loop-item-test.true
     ∙ ap (λ x. texts_after texts (x ∷ drop (i + 1) items)) (sym c.item-item.is)

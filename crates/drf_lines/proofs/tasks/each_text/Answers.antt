@@ -1,9 +1,9 @@
-use Rattle.std.proofs.Common.{◌≡◌, ℕ, ◌+◌, ◌<◌, ◌∷◌, [], List, Err, map, drop, length, get_or, sym, ap, subst, ◌∙◌}
+use Rattle.std.proofs.Common.{◌≡◌, ℕ, ◌+◌, ◌<◌, ◌∷◌, [], List, Err, map, drop, length, get_or, Global, sym, ap, subst, ◌∙◌}
 use Rattle.std.proofs.lemmas.List.{at_drop_more, at_drop_all, map-append}
 use Rattle.std.proofs.lemmas.Result.{err_from_is_err_and}
-use Rattle.serde_json.specs.View.{view}
-use Rattle.serde_json.specs.declared.value.Value.{Value}
+use Rattle.json.specs.declared.value.Value.{Value}
 use Rattle.drf_lines.specs.Fault.{IsReadAs}
+use Rattle.drf_lines.specs.LineValue.{line_view}
 use Rattle.drf_lines.specs.TaskTexts.{task_text}
 use Rattle.drf_lines.specs.declared.tasks.TaskText.{TaskText}
 use Rattle.drf_lines.proofs.EachIn.{each_after, each_after-end, each_after-one, each_after-refused}
@@ -13,11 +13,11 @@ abbrev told : TaskText → List ℕ × List ℕ
 told t = (t.name.now, t.used.now)
 
 -- the value at a place is the first of those that are left
-first_left : (texts : List (List ℕ × List ℕ)) (values : List Value) (i : ℕ) (value : Value) → i < length values → value ≡ get_or values i value
-    → each_after task_text texts (map view (drop i values)) ≡ each_after task_text texts (view value ∷ map view (drop (i + 1) values))
+first_left : (texts : List (List ℕ × List ℕ)) (values : List (Value Global)) (i : ℕ) (value : Value Global) → i < length values → value ≡ get_or values i value
+    → each_after task_text texts (map line_view (drop i values)) ≡ each_after task_text texts (line_view value ∷ map line_view (drop (i + 1) values))
 first_left texts values i value inside is =
-    at_drop_more (λ (left : List Value). each_after task_text texts (map view left)) values i value inside
-    ∙ ap (λ (v : Value). each_after task_text texts (view v ∷ map view (drop (i + 1) values))) (sym is)
+    at_drop_more (λ (left : List (Value Global)). each_after task_text texts (map line_view left)) values i value inside
+    ∙ ap (λ (v : Value Global). each_after task_text texts (line_view v ∷ map line_view (drop (i + 1) values))) (sym is)
 
 pub returns-in_err-task_text : goal.returns-in_err-task_text
 returns-in_err-task_text c =
@@ -39,5 +39,5 @@ returns c =
     let texts = map told c.loop-value.texts.items in
     rw c.from_vec.ensures (
     sym c.loop-value.invariant
-    ∙ at_drop_all (λ (left : List Value). each_after task_text texts (map view left)) c.args.values.now c.loop-value.value-index c.loop-value-test.false
+    ∙ at_drop_all (λ (left : List (Value Global)). each_after task_text texts (map line_view left)) c.args.values.now c.loop-value.value-index c.loop-value-test.false
     ∙ each_after-end task_text texts)

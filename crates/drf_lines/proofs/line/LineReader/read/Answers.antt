@@ -2,7 +2,7 @@ use Rattle.std.proofs.Common.{arith}
 use Rattle.std.proofs.lemmas.Bool.Decides.{nat_tests}
 use Rattle.std.proofs.lemmas.Result.{err_from_is_err_and}
 use Rattle.drf_lines.proofs.Meanings.{meaning_refused, meaning_read, meaning_long}
-use Rattle.drf_lines.proofs.line.read_event.Goals as goal
+use Rattle.drf_lines.proofs.line.LineReader.read.Goals as goal
 
 pub returns-then-line-gt-LONGEST_LINE-clause-read : goal.returns-then-line-gt-LONGEST_LINE-clause-read
 returns-then-line-gt-LONGEST_LINE-clause-read c = rw (meaning_long c.args.line.now (grind (arith, nat_tests)))

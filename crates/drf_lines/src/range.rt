@@ -1,0 +1,44 @@
+//! Whether the numbers of a value are in the range of a double. A line with another number anywhere in it is no JSON.
+ghost use Rattle.std.specs.Prelude.{◌≡◌};
+ghost use Rattle.json.specs.Value.{value_view, items_view, members_view};
+ghost use Rattle.drf_lines.specs.LineValue.{is_in_range, items_in_range, members_in_range};
+
+use crate::number::is_number_in_range;
+use json::Value;
+
+/// Whether each number of the value is in the range of a double.
+#[cycle(is_in_range)]
+pub fn is_in_range(value: &Value<'_>) -> bool
+    ensures { result ≡ is_in_range (value_view value.now) }
+{
+    match value {
+        Value::Number(text) => is_number_in_range(text),
+        Value::Array(items) => items_in_range(items),
+        Value::Object(members) => members_in_range(members),
+        _ => true,
+    }
+}
+
+#[cycle(is_in_range)]
+fn items_in_range(items: &Vec<Value<'_>>) -> bool
+    ensures { result ≡ items_in_range (items_view items.now.items) }
+{
+    for item in items {
+        if !is_in_range(item) {
+            return false;
+        }
+    }
+    true
+}
+
+#[cycle(is_in_range)]
+fn members_in_range(members: &Vec<(&str, Value<'_>)>) -> bool
+    ensures { result ≡ members_in_range (members_view members.now.items) }
+{
+    for member in members {
+        if !is_in_range(&member.1) {
+            return false;
+        }
+    }
+    true
+}

@@ -6,7 +6,7 @@ ghost use Rattle.drf_drive.specs.Scripts.{AreScripts, HasBadLine, HasScripts, Ha
 use crate::files::{FileBytes, read_files};
 use crate::lines::first_line;
 use drf_journal::RunFault;
-use drf_lines::{LineError, LineFault, read_event};
+use drf_lines::{LineError, LineFault, LineReader};
 use drf_rows::Event;
 use std::alloc::{AllocError, Global};
 use std::convert::AsStr;
@@ -55,7 +55,7 @@ impl From<AllocError> for ScriptFault {
 
 // Adds the event of the next line of a file.
 fn take_line(
-    alloc: Global,
+    reader: &mut LineReader,
     file: usize,
     line: &[u8],
     events: &mut Vec<Event>,
@@ -64,7 +64,7 @@ fn take_line(
     ensures err { IfErr result (IsNoEvent file (length events.old.items + 1) line.now) }
 {
     events.reserve(1)?;
-    match read_event(alloc, line) {
+    match reader.read(line) {
         Ok(event) => {
             events.push_reserved(event);
             Ok(())
@@ -79,7 +79,7 @@ fn take_line(
 
 // Adds the events of all lines of a file.
 fn take_lines(
-    alloc: Global,
+    reader: &mut LineReader,
     file: usize,
     bytes: &[u8],
     events: &mut Vec<Event>,
@@ -91,7 +91,7 @@ fn take_lines(
     let mut rest = bytes;
     while !rest.is_empty() {
         let (line, after) = first_line(rest);
-        take_line(alloc, file, line, events)?;
+        take_line(reader, file, line, events)?;
         rest = after;
     }
     Ok(())
@@ -100,6 +100,7 @@ fn take_lines(
 // Adds the script of the next file.
 fn take_script(
     alloc: Global,
+    reader: &mut LineReader,
     bytes: &[u8],
     scripts: &mut Vec<Vec<Event>>,
 ) -> Result<(), ScriptFault>
@@ -108,7 +109,7 @@ fn take_script(
 {
     scripts.reserve(1)?;
     let mut events = Vec::new(alloc);
-    take_lines(alloc, scripts.len(), bytes, &mut events)?;
+    take_lines(reader, scripts.len(), bytes, &mut events)?;
     scripts.push_reserved(events);
     Ok(())
 }
@@ -118,9 +119,10 @@ fn scripts_of(alloc: Global, contents: &[Vec<u8>]) -> Result<Vec<Vec<Event>>, Sc
     ensures ok { IfOk result (λ scripts. AreScripts (bytes_of contents.now) scripts.items) }
     ensures err { IfErr result (HaveBadLine (bytes_of contents.now)) }
 {
+    let mut reader = LineReader::new(alloc);
     let mut scripts = Vec::new(alloc);
     for bytes in contents {
-        take_script(alloc, bytes, &mut scripts)?;
+        take_script(alloc, &mut reader, bytes, &mut scripts)?;
     }
     Ok(scripts)
 }

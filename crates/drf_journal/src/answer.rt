@@ -9,10 +9,10 @@ ghost use Rattle.drf_journal.specs.State.{machine_after, answer_to, HasTakenAtMo
 
 use crate::open_line::{OpenLine, kept_front};
 use drf_core::Core;
-use drf_lines::{LineError, push_fault, push_reply, read_event};
+use drf_lines::{LineError, LineReader, push_fault, push_reply};
 use drf_rows::{Event, Reply};
 use drf_sorter::Sorter;
-use std::alloc::{AllocError, Global};
+use std::alloc::AllocError;
 
 /// Takes an event, as it is seen from outside.
 fn take_event<S: Sorter>(core: &mut Core<S>, event: Event) -> Result<Reply, AllocError>
@@ -25,7 +25,7 @@ fn take_event<S: Sorter>(core: &mut Core<S>, event: Event) -> Result<Reply, Allo
 
 /// Takes a line's event, and adds its reply line to the text.
 fn take_line<S: Sorter>(
-    alloc: Global,
+    reader: &mut LineReader,
     core: &mut Core<S>,
     line: &[u8],
     text: &mut Vec<u8>,
@@ -36,7 +36,7 @@ fn take_line<S: Sorter>(
     ensures ok { OnOk result (live core.new ≡ machine_after (live core.old) (meaning_of line.now)) }
     ensures taken { HasTakenAtMost (live core.old) line.now (live core.new) }
 {
-    match read_event(alloc, line) {
+    match reader.read(line) {
         Ok(event) => {
             let reply = take_event(core, event)?;
             push_reply(text, &reply)
@@ -61,7 +61,7 @@ fn push_echo(text: &mut Vec<u8>, echo: bool, line: &[u8]) -> Result<(), AllocErr
 
 /// Takes a line's event, and adds the text for the line. Where memory ends, a part of it may stand there.
 fn push_answer<S: Sorter>(
-    alloc: Global,
+    reader: &mut LineReader,
     core: &mut Core<S>,
     echo: bool,
     line: &[u8],
@@ -73,12 +73,12 @@ fn push_answer<S: Sorter>(
     ensures taken { HasTakenAtMost (live core.old) line.now (live core.new) }
 {
     push_echo(text, echo, line)?;
-    take_line(alloc, core, line, text)
+    take_line(reader, core, line, text)
 }
 
 /// Takes a line's event, and adds the text for the line, all of it or nothing.
 fn answer<S: Sorter>(
-    alloc: Global,
+    reader: &mut LineReader,
     core: &mut Core<S>,
     echo: bool,
     line: &[u8],
@@ -90,7 +90,7 @@ fn answer<S: Sorter>(
     ensures taken { HasTakenAtMost (live core.old) line.now (live core.new) }
 {
     let whole = text.len();
-    let told = push_answer(alloc, core, echo, line, text);
+    let told = push_answer(reader, core, echo, line, text);
     if told.is_err() {
         text.truncate(whole);
     }
@@ -100,7 +100,7 @@ fn answer<S: Sorter>(
 /// Takes the event of the line that some bytes end, of which `front` came before, and adds the text for the line, all of it
 /// or nothing. A line that came whole is read where it lies.
 pub(crate) fn answer_end<S: Sorter>(
-    alloc: Global,
+    reader: &mut LineReader,
     core: &mut Core<S>,
     echo: bool,
     front: &mut OpenLine,
@@ -113,8 +113,8 @@ pub(crate) fn answer_end<S: Sorter>(
     ensures taken { HasTakenAtMost (live core.old) (front.old ++ end.now) (live core.new) }
 {
     if front.is_empty() {
-        return answer(alloc, core, echo, end, text);
+        return answer(reader, core, echo, end, text);
     }
     front.keep(end)?;
-    answer(alloc, core, echo, front.bytes(), text)
+    answer(reader, core, echo, front.bytes(), text)
 }

@@ -20,18 +20,14 @@ use std::io::{Read, Write};
 use std::thread::Threads;
 
 /// Takes the events of the lines that end in the next piece of the input. Their replies are forgotten.
-fn take_piece<S: Sorter>(
-    alloc: Global,
-    session: &mut Session<S>,
-    piece: &[u8],
-) -> Result<(), AllocError>
+fn take_piece<S: Sorter>(session: &mut Session<S>, piece: &[u8]) -> Result<(), AllocError>
     requires few { session.old.lines + length piece.now < 2 ^ 64 }
     requires sent { session.old.unsent ≡ [] }
     ensures { OnOk result (session.new ≡ record (after_piece session.old piece.now) { unsent = [] }) }
 {
     let mut rest = piece;
     while !rest.is_empty() {
-        let count = session.take(alloc, rest)?;
+        let count = session.take(rest)?;
         session.forget();
         rest = &rest[count..];
     }
@@ -57,10 +53,10 @@ pub(crate) fn take_lines<S: Sorter, R: Read>(
             return Err(RunFault::Read);
         };
         if count == 0 {
-            session.close(alloc)?;
+            session.close()?;
             return Ok(());
         }
-        take_piece(alloc, session, &chunk[..count])?;
+        take_piece(session, &chunk[..count])?;
     }
     Err(RunFault::Read)
 }

@@ -10,6 +10,7 @@ use crate::due::Due;
 use crate::journal::Verdict;
 use crate::open_line::{OpenLine, line_feed_in};
 use drf_core::Core;
+use drf_lines::LineReader;
 use drf_rows::Limits;
 use drf_sorter::Sorter;
 use std::alloc::{AllocError, Global};
@@ -22,6 +23,7 @@ const SHORT_LINE: usize = 64;
 #[derive(Drop)]
 pub(crate) struct Checker<S: Sorter> {
     core: Core<S>,
+    reader: LineReader,
     /// What is kept of an event line that is not whole yet.
     line: OpenLine,
     /// The reply line that has to come; none while an event line comes.
@@ -53,6 +55,7 @@ impl<S: Sorter> Checker<S> {
     {
         Ok(Checker {
             core: Core::open(alloc, limits)?,
+            reader: LineReader::new(alloc),
             line: OpenLine::new(alloc),
             due: Due::none(alloc),
             events: 0,
@@ -73,7 +76,14 @@ impl<S: Sorter> Checker<S> {
         ensures { OnOk result (self.new ≡ after_event_line self.old end.now) }
     {
         let mut text = Vec::with_capacity(alloc, SHORT_LINE)?;
-        answer_end(alloc, &mut self.core, false, &mut self.line, end, &mut text)?;
+        answer_end(
+            &mut self.reader,
+            &mut self.core,
+            false,
+            &mut self.line,
+            end,
+            &mut text,
+        )?;
         self.line.clear();
         self.due = Due::of(text);
         self.events += 1;

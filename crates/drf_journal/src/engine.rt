@@ -27,7 +27,6 @@ pub(crate) const MAX_READS: u64 = 1_099_511_627_776;
 /// how many bytes that took. What was answered before memory ran out is written too.
 #[tactic(auto, using(crate::proofs::Parts::stopped_write, crate::proofs::Parts::stopped_memory))]
 fn answer_part<S: Sorter, W: Write>(
-    alloc: Global,
     session: &mut Session<S>,
     piece: &[u8],
     writer: &mut Device<W>,
@@ -42,7 +41,7 @@ fn answer_part<S: Sorter, W: Write>(
     ensures cause { writer.old.failed ≡ false → HasCause result false 0 writer.new.failed }
     ensures flushed { writer.old.flushed ≡ true → HasFlushed result writer.new.flushed }
 {
-    let taken = session.take(alloc, piece);
+    let taken = session.take(piece);
     session.send(writer)?;
     let count = taken?;
     Ok(count)
@@ -50,7 +49,6 @@ fn answer_part<S: Sorter, W: Write>(
 
 /// Answers the lines that end in the next piece of the input, part by part.
 fn answer_piece<S: Sorter, W: Write>(
-    alloc: Global,
     session: &mut Session<S>,
     piece: &[u8],
     writer: &mut Device<W>,
@@ -66,7 +64,7 @@ fn answer_piece<S: Sorter, W: Write>(
 {
     let mut rest = piece;
     while !rest.is_empty() {
-        let count = answer_part(alloc, session, rest, writer)?;
+        let count = answer_part(session, rest, writer)?;
         rest = &rest[count..];
     }
     Ok(())
@@ -97,11 +95,11 @@ pub fn serve<S: Sorter, R: Read, W: Write>(
             return Err(RunFault::Read);
         };
         if count == 0 {
-            session.close(alloc)?;
+            session.close()?;
             session.send(writer)?;
             return Ok(session.lines());
         }
-        answer_piece(alloc, session, &chunk[..count], writer)?;
+        answer_piece(session, &chunk[..count], writer)?;
     }
     Err(RunFault::Read)
 }

@@ -15,6 +15,7 @@ use crate::open_line::{OpenLine, line_feed_in};
 use drf_audit::{AuditLine, audit};
 use drf_core::Core;
 use drf_explain::write_explained_lines;
+use drf_lines::LineReader;
 use drf_rows::Limits;
 use drf_sorter::Sorter;
 use std::alloc::{AllocError, Global};
@@ -29,6 +30,7 @@ const MOST_UNSENT: usize = 65_536;
 #[derive(Drop)]
 pub struct Session<S: Sorter> {
     core: Core<S>,
+    reader: LineReader,
     echo: bool,
     /// What is kept of the line that is not whole yet.
     pending: OpenLine,
@@ -62,6 +64,7 @@ impl<S: Sorter> Session<S> {
     {
         Ok(Session {
             core: Core::open(alloc, limits)?,
+            reader: LineReader::new(alloc),
             echo,
             pending: OpenLine::new(alloc),
             unsent: Vec::new(alloc),
@@ -77,7 +80,7 @@ impl<S: Sorter> Session<S> {
     }
 
     /// The bytes end the line at hand: answers it.
-    fn end_line(&mut self, alloc: Global, end: &[u8]) -> Result<(), AllocError>
+    fn end_line(&mut self, end: &[u8]) -> Result<(), AllocError>
         requires within { IsWithinLine end.now }
         requires few { self.old.lines + 1 < 2 ^ 64 }
         ensures ok { OnOk result (self.new ≡ after_piece self.old (end.now ++ 10 ∷ [])) }
@@ -85,7 +88,7 @@ impl<S: Sorter> Session<S> {
         ensures taken { HasTakenAtMost self.old.machine (self.old.pending ++ end.now) self.new.machine }
     {
         answer_end(
-            alloc,
+            &mut self.reader,
             &mut self.core,
             self.echo,
             &mut self.pending,
@@ -99,7 +102,7 @@ impl<S: Sorter> Session<S> {
 
     /// Takes a piece of the input and answers each line that ends in it, or stops behind the line where much text waits to
     /// be written, and tells how many bytes it took.
-    pub(crate) fn take(&mut self, alloc: Global, piece: &[u8]) -> Result<usize, AllocError>
+    pub(crate) fn take(&mut self, piece: &[u8]) -> Result<usize, AllocError>
         requires { self.old.lines + length piece.now < 2 ^ 64 }
         ensures part { IfOk result (λ count. (count ≤ length piece.now) × (0 < length piece.now → 0 < count)) }
         ensures ok { IfOk result (λ count. self.new ≡ after_piece self.old (take count piece.now)) }
@@ -108,7 +111,7 @@ impl<S: Sorter> Session<S> {
     {
         let mut rest = piece;
         while let Some(at) = line_feed_in(rest) {
-            self.end_line(alloc, &rest[..at])?;
+            self.end_line(&rest[..at])?;
             rest = &rest[at + 1..];
             if self.unsent.len() >= MOST_UNSENT {
                 return Ok(piece.len() - rest.len());
@@ -122,7 +125,7 @@ impl<S: Sorter> Session<S> {
     }
 
     /// The input ended: answers what stands behind its last line feed.
-    pub(crate) fn close(&mut self, alloc: Global) -> Result<(), AllocError>
+    pub(crate) fn close(&mut self) -> Result<(), AllocError>
         requires { self.old.lines + 1 < 2 ^ 64 }
         ensures ok { OnOk result (self.new ≡ at_end self.old) }
         ensures err { OnErr result ((self.new.unsent ≡ self.old.unsent) × (self.new.lines ≡ self.old.lines)) }
@@ -131,7 +134,7 @@ impl<S: Sorter> Session<S> {
         if self.pending.is_empty() {
             return Ok(());
         }
-        self.end_line(alloc, &[])
+        self.end_line(&[])
     }
 
     /// Forgets the text that is not written yet.

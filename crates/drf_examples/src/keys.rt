@@ -1,5 +1,7 @@
 //! Keys that the sorter of a core makes: each line of `keys` names an example, and behind it how many of its events come next
-//! and how many keys they may make, as `103:306`.
+//! and how many keys they make, as `2:7`. A client has a node for each beginning of its path, as `a`, `a/.` and `a/./f1`. A node that
+//! comes makes a key, and at an agent's turn so does each node that stands and is marked: all after the total changed, else
+//! those on the way to clients that were offered something, gave it back or left.
 use crate::commands::text_of;
 use crate::events::events_of;
 use drf_core::Core;
@@ -19,7 +21,7 @@ fn keys_for<S: Sorter>(
     let before = core.sorter().keys_made();
     let mut replies = Vec::new(alloc);
     core.run(events, &mut replies)?;
-    // A count that fell is above any bound.
+    // A count that fell would be far too large.
     Ok(core.sorter().keys_made().wrapping_sub(before))
 }
 
@@ -27,18 +29,18 @@ fn tell_keys<S: Sorter, R: Runtime + AllocGlobal>(
     rt: &R,
     core: &mut Core<S>,
     events: &[Event],
-    most: u64,
+    keys: u64,
 ) -> io::Result<()> {
-    let keys = keys_for(rt.alloc(), core, events)?;
-    let is_within = if keys <= most { "within" } else { "ABOVE" };
-    println!(rt; "{} events, keys {is_within} {most}", events.len())
+    let made = keys_for(rt.alloc(), core, events)?;
+    let verdict = if made == keys { "exact" } else { "OTHER" };
+    println!(rt; "events {}, keys {made}: {verdict}", events.len())
 }
 
-/// The events that come next, how many keys they may make, and the events after them.
+/// The events that come next, how many keys they make, and the events after them.
 fn part_of<'a>(events: &'a [Event], part: &str) -> Option<(&'a [Event], u64, &'a [Event])> {
-    let (count, most) = part.split_once(':')?;
+    let (count, keys) = part.split_once(':')?;
     let (next, later) = events.split_at_checked(count.parse::<usize>().ok()?)?;
-    Some((next, most.parse::<u64>().ok()?, later))
+    Some((next, keys.parse::<u64>().ok()?, later))
 }
 
 fn tell_parts<S: Sorter, R: Runtime + AllocGlobal>(
@@ -49,10 +51,10 @@ fn tell_parts<S: Sorter, R: Runtime + AllocGlobal>(
 ) -> io::Result<()> {
     let mut events = events;
     for part in parts.split(' ') {
-        let Some((next, most, later)) = part_of(events, part) else {
+        let Some((next, keys, later)) = part_of(events, part) else {
             return println!(rt; "{part}: OTHER");
         };
-        tell_keys(rt, core, next, most)?;
+        tell_keys(rt, core, next, keys)?;
         events = later;
     }
     Ok(())

@@ -23,13 +23,13 @@ const SHORT_LINE: usize = 64;
 #[derive(Drop)]
 pub(crate) struct Checker<S: Sorter> {
     core: Core<S>,
-    reader: LineReader,
     /// What is kept of an event line that is not whole yet.
     line: OpenLine,
     /// The reply line that has to come; none while an event line comes.
     due: Due,
     /// How many event lines have ended.
     events: u64,
+    reader: LineReader,
 }
 
 impl<S: Sorter> Model for Checker<S> {
@@ -55,10 +55,10 @@ impl<S: Sorter> Checker<S> {
     {
         Ok(Checker {
             core: Core::open(alloc, limits)?,
-            reader: LineReader::new(alloc),
             line: OpenLine::new(alloc),
             due: Due::none(alloc),
             events: 0,
+            reader: LineReader::new(alloc),
         })
     }
 

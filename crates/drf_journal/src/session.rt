@@ -30,7 +30,6 @@ const MOST_UNSENT: usize = 65_536;
 #[derive(Drop)]
 pub struct Session<S: Sorter> {
     core: Core<S>,
-    reader: LineReader,
     echo: bool,
     /// What is kept of the line that is not whole yet.
     pending: OpenLine,
@@ -38,6 +37,7 @@ pub struct Session<S: Sorter> {
     unsent: Vec<u8>,
     /// How many lines were answered.
     lines: u64,
+    reader: LineReader,
 }
 
 impl<S: Sorter> Model for Session<S> {
@@ -64,11 +64,11 @@ impl<S: Sorter> Session<S> {
     {
         Ok(Session {
             core: Core::open(alloc, limits)?,
-            reader: LineReader::new(alloc),
             echo,
             pending: OpenLine::new(alloc),
             unsent: Vec::new(alloc),
             lines: 0,
+            reader: LineReader::new(alloc),
         })
     }
 

@@ -1,7 +1,7 @@
 //! Calls by the lines of their events, and replies as text.
 use anyhow::{Context, Result};
-use drf_board::Naming;
-use drf_lines::{read_event, write_reply};
+use drf_board::{Entry, Naming};
+use drf_lines::{read_event, write_event, write_reply};
 use drf_master::{Answer, Master, Pass};
 use drf_rows::{Event, Reply};
 use std::alloc::Global;
@@ -71,4 +71,28 @@ pub fn append_reply(alloc: Global, told: &mut String, reply: &Reply) -> Result<(
     let line = write_reply(alloc, reply)?;
     let text = str::from_utf8(&line).ok().context("no text")?;
     Ok(write!(told, " {}", text.trim_end())?)
+}
+
+/// Adds the place of a call and the line of its reply.
+pub fn append_placed(alloc: Global, told: &mut String, place: u64, reply: &Reply) -> Result<()> {
+    write!(told, " {place}")?;
+    append_reply(alloc, told, reply)?;
+    Ok(told.push(';')?)
+}
+
+// Adds the lines of an event and of its reply.
+fn append_entry(alloc: Global, told: &mut String, entry: &Entry) -> Result<()> {
+    let line = write_event(alloc, &entry.event)?;
+    let text = str::from_utf8(&line).ok().context("no text")?;
+    write!(told, " {text}")?;
+    append_reply(alloc, told, &entry.reply)
+}
+
+/// Adds a journal.
+pub fn append_entries(alloc: Global, told: &mut String, entries: &[Entry]) -> Result<()> {
+    told.push_str(" entries:")?;
+    for entry in entries {
+        append_entry(alloc, told, entry)?;
+    }
+    Ok(())
 }

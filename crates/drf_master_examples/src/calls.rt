@@ -35,6 +35,19 @@ fn append_read<K: Naming>(
     Ok(write!(told, " the viewer reads {total};")?)
 }
 
+/// The first viewer, if there is one, learns what the answer tells, and reads.
+pub fn append_first_read<K: Naming>(
+    alloc: Global,
+    told: &mut String,
+    viewers: &mut [Viewer<K>],
+    answer: &Answer<K>,
+) -> Result<()> {
+    match viewers.first_mut() {
+        Some(viewer) => append_read(alloc, told, viewer, answer),
+        None => Ok(()),
+    }
+}
+
 // Calls. The viewer learns what the answer tells, and reads.
 fn call_and_read<K: Naming, R: Wait + Drop, W: Wait>(
     rt: &W,
@@ -46,10 +59,7 @@ fn call_and_read<K: Naming, R: Wait + Drop, W: Wait>(
     line: &str,
 ) -> Result<()> {
     let answer = call(rt, alloc, master, passes, line)?;
-    match viewers.first_mut() {
-        Some(viewer) => append_read(alloc, told, viewer, &answer),
-        None => Ok(()),
-    }
+    append_first_read(alloc, told, viewers, &answer)
 }
 
 fn call_and_read_all<K: Naming, R: Wait + Drop, W: Wait>(

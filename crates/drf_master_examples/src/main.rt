@@ -1,10 +1,11 @@
-//! Worked examples of the master: threads that call one, each by a pass of its own; passes that do not fit; a book without a
-//! master; scripts that run side by side. Each line of the output tells how one went, whichever thread was first.
+//! Worked examples of the master: threads that call one, each by a pass of its own; passes that do not fit; a book and a desk
+//! without a master; scripts that run side by side. Each line of the output tells how one went, whichever thread was first.
 #![tactic(auto)]
 
 mod books;
 mod calls;
 mod closing;
+mod desks;
 mod driving;
 mod lines;
 mod masters;
@@ -23,6 +24,7 @@ fn run<W: Threads + Wait + Sync>(rt: &W, alloc: Global, told: &mut String) -> Re
     closing::append_other_key(rt, alloc, told)?;
     closing::append_other_calls(rt, alloc, told)?;
     books::append_alone(rt, alloc, told)?;
+    desks::append_alone(rt, alloc, told)?;
     driving::append_stranger(rt, alloc, told)?;
     driving::append_alone(rt, alloc, told)?;
     driving::append_stopped(rt, alloc, told)?;

@@ -26,10 +26,6 @@ pub record IsEnough (rows : Rows) (number : ℕ) (starts : List Start) : Type 0 
 abbrev pub filter_if : Bool → FilterRow → Option FilterRow
 filter_if refused filter = if refused then Some filter else None
 
--- the offer of a number stands, and something is left of it
-abbrev pub has_rest : Rows → ℕ → List Start → Bool
-has_rest rows number starts = option_map_or (λ o. not (is_empty (left_of_offer o starts))) (offer_at rows number) false
-
 -- the cases in which an accept is refused, but for the number of filters
 abbrev pub cases_of_tasks : LimitNumbers → Rows → accepting.Accept → List (Bool × Refusal)
 cases_of_tasks limits rows a =

@@ -1,6 +1,6 @@
-ghost use Rattle.std.specs.Prelude.{◌≡◌, ◌≤◌, ◌++◌, None, IfOk, OnOk, OnErr, MatchOption};
+ghost use Rattle.std.specs.Prelude.{◌≡◌, ◌≤◌, ◌++◌, false, None, IfOk, OnOk, OnErr, MatchOption};
 ghost use Rattle.drf_sorter.specs.Work.{Adds};
-ghost use Rattle.drf_core.specs.Working.{allowance, allowance_of_all};
+ghost use Rattle.drf_core.specs.Working.{allowance, allowance_of_all, makes_keys};
 ghost use Rattle.drf_core.specs.Machine.{IsOpened, IsSafe, IsSame, IsAfter, IsAfterAll, HasRun};
 
 use crate::cluster::Cluster;
@@ -57,7 +57,8 @@ impl<S: Sorter> Core<S> {
     /// memory, which no refused event meets but one that is refused for what is free, held or consumed: where resources move
     /// between everyone and a role, or a total is another. However it ends, nothing is granted twice. At `Ok`, a sorter whose work is
     /// counted owes no more for it than the nodes of the clients that it touches, and one for a weight; of `add_agent`,
-    /// `remove_agent` and `set_agent` no bound is said. However it ends, the count of keys has not fallen.
+    /// `remove_agent` and `set_agent` no bound is said. However it ends, the count of keys has not fallen, and only `cycle` and
+    /// `add_framework` make any.
     pub fn step(&mut self, event: Event) -> Result<Reply, AllocError>
         ensures reply { IfOk result (λ reply. reply ≡ reply_to self.old.limits self.old.rows event) }
         ensures ok { OnOk result (IsAfter self.old self.new event) }
@@ -66,6 +67,7 @@ impl<S: Sorter> Core<S> {
         ensures safe { IsSafe (live_rows self.new.rows) }
         ensures work { OnOk result (MatchOption (allowance self.old.limits self.old.rows event) (Unit {0}) (Adds S.COUNTED self.old.work self.new.work)) }
         ensures made { self.old.work.made ≤ self.new.work.made }
+        ensures keys { makes_keys event ≡ false → self.new.work.made ≡ self.old.work.made }
     {
         self.cluster.forget_spent();
         if let Some(refusal) = self.cluster.refusal(&self.limits, &event)? {

@@ -6,7 +6,7 @@ use Rattle.drf_rows.specs.Offers.{offer_accepted, filter_of, is_empty, left_of_o
 use Rattle.drf_rows.specs.declared.rows.OfferRow.{OfferRow}
 use Rattle.drf_rows.specs.declared.rows.Rows.{Rows}
 use Rattle.drf_core.specs.Accepting.{filter_if}
-use Rattle.drf_core.proofs.effects.Accepted.{moment_early, can_start, same_offer, can_accept, rows_accepted, known-accepted, held-accepted, sorted-accepted}
+use Rattle.drf_core.proofs.effects.Accepted.{moment_early, can_start, same_offer, can_accept, rows_accepted, known-accepted, held-accepted, sorted-accepted, effect-accept}
 use Rattle.drf_core.proofs.stepping.Work.{nodes_of-offer}
 use Rattle.drf_core.proofs.cluster.Cluster.accept.Goals.{After-set_clock}
 use Rattle.drf_core.proofs.cluster.Cluster.accept.Given as given
@@ -89,13 +89,12 @@ invariant_of-self-2 g c =
     c.set_clock.new.self.rows (g.S.Sorter.content c.refund.new.self) (applied g (goal.at.invariant_of-self-2 g c).After-set_clock) c.refund.ensures.content
 
 pub returns-clause-ok : goal.returns-clause-ok
-returns-clause-ok g c = rw (← c.self.view_is) (λ p at.
+returns-clause-ok g c = rw (← c.self.view_is) (
     let rows : Rows = c.self.inside.tables.rows in
     let a = c.args.accept in
     let o : OfferRow = c.unwrap-offer.result.now in
     let found : offer_at rows a.offer ≡ Some o = sym c.offer.ensures ∙ ap option_copied c.unwrap-offer.ensures in
-    applied g (goal.at.returns-clause-ok g c).After-set_clock
-    ∙ ap (λ (p : OfferRow). offer_accepted (at_moment rows a.at) p a.tasks a.refuse_ms) (same_offer rows a.offer o p found at))
+    effect-accept rows c.refund.new.self.rows a o found (applied g (goal.at.returns-clause-ok g c).After-set_clock))
 
 pub returns-clause-work : goal.returns-clause-work
 returns-clause-work g c =

@@ -1,129 +1,180 @@
 //! Amounts as texts, `none` being the empty one, and what two of them have to do with one another.
-use crate::halves;
-use anyhow::{Context, Result};
+use crate::read::{Read, read_each};
+use crate::teller::Teller;
 use drf_amount::{Algebra, AlgebraFault, Scalar};
 use drf_kinds::{Items, Ranges};
-use drf_role::Label;
 use std::alloc::Global;
-use std::fmt::Write;
 
-pub trait Amount: Algebra {
-    fn from_text(alloc: Global, text: &str) -> Result<Self>;
+pub trait Amount: Read + Algebra {
+    /// Tells an amount that is not empty.
+    fn tell_some(&self, alloc: Global, told: &mut Teller);
+}
 
-    /// Adds the text of an amount that is not empty.
-    fn append(&self, alloc: Global, told: &mut String) -> Result<()>;
+impl Read for Scalar {
+    fn from_text(_alloc: Global, told: &mut Teller, text: &str) -> Option<Scalar> {
+        let number = told.given(text.parse::<u64>())?;
+        Some(Scalar::new(number))
+    }
 }
 
 impl Amount for Scalar {
-    fn from_text(_alloc: Global, text: &str) -> Result<Scalar> {
-        Ok(Scalar::new(text.parse::<u64>()?))
+    fn tell_some(&self, _alloc: Global, told: &mut Teller) {
+        told.show(&self.thousandths());
     }
+}
 
-    fn append(&self, _alloc: Global, told: &mut String) -> Result<()> {
-        Ok(write!(told, "{}", self.thousandths())?)
+fn read_pair(told: &mut Teller, text: &str) -> Option<(u32, u32)> {
+    let (first, last) = told.halves(text, '-')?;
+    let first = told.given(first.parse::<u32>())?;
+    let last = told.given(last.parse::<u32>())?;
+    Some((first, last))
+}
+
+fn read_pairs(told: &mut Teller, pairs: &mut Vec<(u32, u32)>, texts: &str) -> bool {
+    for text in texts.split(',') {
+        let Some(pair) = read_pair(told, text) else {
+            return false;
+        };
+        if !told.is_done(pairs.push(pair)) {
+            return false;
+        }
+    }
+    true
+}
+
+impl Read for Ranges {
+    fn from_text(alloc: Global, told: &mut Teller, text: &str) -> Option<Ranges> {
+        let mut pairs = Vec::new(alloc);
+        if !read_pairs(told, &mut pairs, text) {
+            return None;
+        }
+        told.given(Ranges::from_pairs(alloc, &pairs))
     }
 }
 
 impl Amount for Ranges {
-    fn from_text(alloc: Global, text: &str) -> Result<Ranges> {
-        let mut pairs = Vec::new(alloc);
-        for text in text.split(',') {
-            let (first, last) = halves(text, '-')?;
-            pairs.push((first.parse::<u32>()?, last.parse::<u32>()?))?;
-        }
-        Ok(Ranges::from_pairs(alloc, &pairs)?)
-    }
-
-    fn append(&self, _alloc: Global, told: &mut String) -> Result<()> {
+    fn tell_some(&self, _alloc: Global, told: &mut Teller) {
         for interval in self.intervals() {
-            write!(told, "{}-{},", interval.first, interval.last)?;
+            told.show(&interval.first);
+            told.say("-");
+            told.show(&interval.last);
+            told.say(",");
         }
-        let _ = told.pop();
-        Ok(())
+        told.unsay();
+    }
+}
+
+impl Read for Items {
+    fn from_text(alloc: Global, told: &mut Teller, text: &str) -> Option<Items> {
+        let mut names = Vec::new(alloc);
+        if !read_each(alloc, told, &mut names, text, ',') {
+            return None;
+        }
+        told.given(Items::from_names(alloc, names))
     }
 }
 
 impl Amount for Items {
-    fn from_text(alloc: Global, text: &str) -> Result<Items> {
-        let mut names = Vec::new(alloc);
-        for name in text.split(',') {
-            names.push(Label::read(alloc, name)?)?;
-        }
-        Ok(Items::from_names(alloc, names)?)
-    }
-
-    fn append(&self, _alloc: Global, told: &mut String) -> Result<()> {
+    fn tell_some(&self, _alloc: Global, told: &mut Teller) {
         for name in self.names() {
-            write!(told, "{},", name.text())?;
+            told.say(name.text());
+            told.say(",");
         }
-        let _ = told.pop();
-        Ok(())
+        told.unsay();
     }
 }
 
-pub fn read<A: Amount>(alloc: Global, text: &str) -> Result<A> {
+pub fn read<A: Amount>(alloc: Global, told: &mut Teller, text: &str) -> Option<A> {
     if text == "none" {
-        return Ok(A::empty(alloc));
+        return Some(A::empty(alloc));
     }
-    A::from_text(alloc, text)
+    A::from_text(alloc, told, text)
 }
 
-pub fn append<A: Amount>(alloc: Global, told: &mut String, amount: &A) -> Result<()> {
+/// Reads amounts between blanks, and returns whether each could be read.
+pub fn read_all<A: Amount>(
+    alloc: Global,
+    told: &mut Teller,
+    amounts: &mut Vec<A>,
+    texts: &str,
+) -> bool {
+    for text in texts.split_whitespace() {
+        let Some(amount) = read(alloc, told, text) else {
+            return false;
+        };
+        if !told.is_done(amounts.push(amount)) {
+            return false;
+        }
+    }
+    true
+}
+
+pub fn tell<A: Amount>(alloc: Global, told: &mut Teller, amount: &A) {
     if amount.is_empty() {
-        return Ok(told.push_str("none")?);
+        return told.say("none");
     }
-    amount.append(alloc, told)
+    amount.tell_some(alloc, told);
 }
 
-fn append_outcome<A: Amount>(
-    alloc: Global,
-    told: &mut String,
-    answer: Result<A, AlgebraFault>,
-) -> Result<()> {
-    match answer {
-        Ok(amount) => append(alloc, told, &amount),
-        Err(fault) => Ok(write!(told, "{fault}")?),
+fn tell_outcome<A: Amount>(alloc: Global, told: &mut Teller, outcome: Result<A, AlgebraFault>) {
+    if let Some(amount) = told.given(outcome) {
+        tell(alloc, told, &amount);
     }
 }
 
-fn append_comparison<A: Amount>(
-    alloc: Global,
-    told: &mut String,
-    one: &A,
-    other: &A,
-) -> Result<()> {
-    told.push_str("join ")?;
-    append_outcome(alloc, told, one.try_join(other))?;
-    told.push_str("; rest ")?;
-    append_outcome(alloc, told, one.try_minus(other))?;
-    let (covers, disjoint) = (one.covers(other), one.disjoint(other));
-    Ok(write!(told, "; covers {covers}; disjoint {disjoint}")?)
+fn tell_comparison<A: Amount>(alloc: Global, told: &mut Teller, one: &A, other: &A) {
+    told.say("join ");
+    tell_outcome(alloc, told, one.try_join(other));
+    told.say("; rest ");
+    tell_outcome(alloc, told, one.try_minus(other));
+    told.say("; covers ");
+    told.show(&one.covers(other));
+    told.say("; disjoint ");
+    told.show(&one.disjoint(other));
 }
 
 /// A copy of an amount, and how much it is.
-fn append_copy<A: Amount>(alloc: Global, told: &mut String, amount: &A) -> Result<()> {
-    let copy = amount.copy()?;
-    append(alloc, told, &copy)?;
-    write!(told, "; amount {}", copy.amount()).context("no memory")
+fn tell_copy<A: Amount>(alloc: Global, told: &mut Teller, amount: &A) {
+    if let Some(copy) = told.given(amount.copy()) {
+        tell(alloc, told, &copy);
+        told.say("; amount ");
+        told.show(&copy.amount());
+    }
+}
+
+fn tell_of<A: Amount>(alloc: Global, told: &mut Teller, amounts: &[A]) {
+    match amounts {
+        [amount] => tell_copy(alloc, told, amount),
+        [one, other] => tell_comparison(alloc, told, one, other),
+        _ => told.say("no question"),
+    }
 }
 
 /// A copy of one amount and how much it is, or two amounts compared.
-pub fn compared<A: Amount>(alloc: Global, told: &mut String, text: &str) -> Result<()> {
-    if let Some((one, other)) = text.split_once(' ') {
-        return append_comparison::<A>(alloc, told, &read(alloc, one)?, &read(alloc, other)?);
+pub fn compared<A: Amount>(alloc: Global, told: &mut Teller, text: &str) {
+    let mut amounts = Vec::<A>::new(alloc);
+    if read_all(alloc, told, &mut amounts, text) {
+        tell_of(alloc, told, &amounts);
     }
-    append_copy::<A>(alloc, told, &read(alloc, text)?)
 }
 
-pub fn has_number(alloc: Global, told: &mut String, text: &str) -> Result<()> {
-    let (ranges, number) = halves(text, ' ')?;
-    let number = number.parse::<u32>()?;
-    let has = read::<Ranges>(alloc, ranges)?.contains(number);
-    Ok(write!(told, "{has}")?)
+pub fn has_number(alloc: Global, told: &mut Teller, text: &str) {
+    let Some((ranges, number)) = told.halves(text, ' ') else {
+        return;
+    };
+    let Some(number) = told.given(number.parse::<u32>()) else {
+        return;
+    };
+    if let Some(ranges) = read::<Ranges>(alloc, told, ranges) {
+        told.show(&ranges.contains(number));
+    }
 }
 
-pub fn has_name(alloc: Global, told: &mut String, text: &str) -> Result<()> {
-    let (items, name) = halves(text, ' ')?;
-    let has = read::<Items>(alloc, items)?.contains(name);
-    Ok(write!(told, "{has}")?)
+pub fn has_name(alloc: Global, told: &mut Teller, text: &str) {
+    let Some((items, name)) = told.halves(text, ' ') else {
+        return;
+    };
+    if let Some(items) = read::<Items>(alloc, told, items) {
+        told.show(&items.contains(name));
+    }
 }

@@ -1,10 +1,10 @@
 //! An audit of agents and of what is held on them: `agent NAME TOTAL`, `offer AGENT BUNDLE`, `task AGENT BUNDLE`, each after `; `.
-use crate::halves;
-use anyhow::{Context, Result, bail};
+use crate::read::Read;
+use crate::teller::Teller;
 use drf_audit::{AuditLine, audit, write_audit_line};
+use drf_bundle::Bundle;
 use drf_role::{Name, Role};
 use drf_rows::{AgentRow, OfferRow, Rows, Table, TaskRow};
-use drf_text::read_bundle;
 use std::alloc::Global;
 use std::thread::Threads;
 
@@ -15,68 +15,92 @@ struct Cluster {
     tasks: Vec<TaskRow>,
 }
 
-fn agent(alloc: Global, name: &str, total: &str) -> Result<AgentRow> {
-    Ok(AgentRow {
-        name: Name::read(alloc, name)?,
-        total: read_bundle(alloc, total)?,
+fn agent(alloc: Global, told: &mut Teller, name: &str, total: &str) -> Option<AgentRow> {
+    let name = Name::from_text(alloc, told, name);
+    let total = Bundle::from_text(alloc, told, total);
+    let (name, total) = name.zip(total)?;
+    Some(AgentRow {
+        name,
+        total,
         active: true,
     })
 }
 
-fn task(alloc: Global, agent: &str, bundle: &str) -> Result<TaskRow> {
-    Ok(TaskRow {
-        name: Name::read(alloc, "t")?,
-        agent: Name::read(alloc, agent)?,
-        framework: Name::read(alloc, "f1")?,
-        role: Role::read(alloc, "a")?,
-        bundle: read_bundle(alloc, bundle)?,
+/// All parts are read before any is looked at, so that there is one exit.
+fn task(alloc: Global, told: &mut Teller, agent: &str, bundle: &str) -> Option<TaskRow> {
+    let name = Name::from_text(alloc, told, "t");
+    let agent = Name::from_text(alloc, told, agent);
+    let framework = Name::from_text(alloc, told, "f1");
+    let role = Role::from_text(alloc, told, "a");
+    let bundle = Bundle::from_text(alloc, told, bundle);
+    let held = role.zip(bundle);
+    let ((name, agent), (framework, (role, bundle))) = name.zip(agent).zip(framework.zip(held))?;
+    Some(TaskRow {
+        name,
+        agent,
+        framework,
+        role,
+        bundle,
     })
 }
 
-/// An offer of what a task would have.
-fn offer(alloc: Global, agent: &str, bundle: &str) -> Result<OfferRow> {
+/// An offer of what a task has.
+fn offer(task: TaskRow) -> OfferRow {
     let TaskRow {
         name: _,
         agent,
         framework,
         role,
         bundle,
-    } = task(alloc, agent, bundle)?;
-    Ok(OfferRow {
+    } = task;
+    OfferRow {
         number: 1,
         agent,
         framework,
         role,
         bundle,
-    })
-}
-
-fn add(alloc: Global, cluster: &mut Cluster, text: &str) -> Result<()> {
-    let (kind, text) = halves(text, ' ')?;
-    let (name, bundle) = halves(text, ' ')?;
-    match kind {
-        "agent" => Ok(cluster.agents.push(agent(alloc, name, bundle)?)?),
-        "offer" => Ok(cluster.offers.push(offer(alloc, name, bundle)?)?),
-        "task" => Ok(cluster.tasks.push(task(alloc, name, bundle)?)?),
-        _ => bail!("no row"),
     }
 }
 
-fn add_all(alloc: Global, cluster: &mut Cluster, text: &str) -> Result<()> {
-    for text in text.split("; ") {
-        add(alloc, cluster, text)?;
-    }
-    Ok(())
-}
-
-fn read_rows(alloc: Global, text: &str) -> Result<Rows> {
-    let mut cluster = Cluster {
-        agents: Vec::new(alloc),
-        offers: Vec::new(alloc),
-        tasks: Vec::new(alloc),
+fn add_row<T: Drop>(told: &mut Teller, rows: &mut Vec<T>, row: Option<T>) -> bool {
+    let Some(row) = row else {
+        return false;
     };
-    add_all(alloc, &mut cluster, text)?;
-    Ok(rows(alloc, cluster))
+    told.is_done(rows.push(row))
+}
+
+fn add_offer(told: &mut Teller, offers: &mut Vec<OfferRow>, task: Option<TaskRow>) -> bool {
+    let Some(task) = task else {
+        return false;
+    };
+    told.is_done(offers.push(offer(task)))
+}
+
+fn add(alloc: Global, told: &mut Teller, cluster: &mut Cluster, text: &str) -> bool {
+    let Some((kind, text)) = told.halves(text, ' ') else {
+        return false;
+    };
+    let Some((name, bundle)) = told.halves(text, ' ') else {
+        return false;
+    };
+    if kind == "agent" {
+        let row = agent(alloc, told, name, bundle);
+        return add_row(told, &mut cluster.agents, row);
+    }
+    let row = task(alloc, told, name, bundle);
+    if kind == "offer" {
+        return add_offer(told, &mut cluster.offers, row);
+    }
+    add_row(told, &mut cluster.tasks, row)
+}
+
+fn add_all(alloc: Global, told: &mut Teller, cluster: &mut Cluster, text: &str) -> bool {
+    for text in text.split("; ") {
+        if !add(alloc, told, cluster, text) {
+            return false;
+        }
+    }
+    true
 }
 
 fn rows(alloc: Global, cluster: Cluster) -> Rows {
@@ -99,43 +123,50 @@ fn rows(alloc: Global, cluster: Cluster) -> Rows {
     }
 }
 
-fn write_all(alloc: Global, lines: &[AuditLine], text: &mut Vec<u8>) -> Result<()> {
+fn write_all(alloc: Global, told: &mut Teller, lines: &[AuditLine], text: &mut Vec<u8>) -> bool {
     for line in lines {
-        write_audit_line(alloc, line, text)?;
+        if !told.is_done(write_audit_line(alloc, line, text)) {
+            return false;
+        }
     }
     // The last line feed.
     let _ = text.pop();
-    Ok(())
+    true
 }
 
-fn append_lines(alloc: Global, told: &mut String, lines: &[AuditLine]) -> Result<()> {
+fn tell_text(told: &mut Teller, text: &[u8]) {
+    match str::from_utf8(text) {
+        Ok(text) => told.say(text),
+        Err(_) => told.say("no text"),
+    }
+}
+
+fn tell_lines(alloc: Global, told: &mut Teller, lines: &[AuditLine]) {
     let mut text = Vec::new(alloc);
-    write_all(alloc, lines, &mut text)?;
-    append_text(told, &text)
+    if write_all(alloc, told, lines, &mut text) {
+        tell_text(told, &text);
+    }
 }
 
-fn append_text(told: &mut String, text: &[u8]) -> Result<()> {
-    let text = str::from_utf8(text).ok().context("no text")?;
-    Ok(told.push_str(text)?)
+fn tell_audit(rt: &(impl Threads + Sync), alloc: Global, told: &mut Teller, rows: &Rows) {
+    if let Some(lines) = told.given(audit(rt, alloc, rows)) {
+        tell_lines(alloc, told, lines.as_slice());
+    }
 }
 
-fn append_audit(
-    rt: &(impl Threads + Sync),
-    alloc: Global,
-    told: &mut String,
-    rows: &Rows,
-) -> Result<()> {
-    let lines = audit(rt, alloc, rows)?;
-    append_lines(alloc, told, lines.as_slice())
+fn tell_audit_of(rt: &(impl Threads + Sync), alloc: Global, told: &mut Teller, cluster: Cluster) {
+    let rows = rows(alloc, cluster);
+    tell_audit(rt, alloc, told, &rows);
 }
 
 /// The lines of the audit.
-pub fn audited(
-    rt: &(impl Threads + Sync),
-    alloc: Global,
-    told: &mut String,
-    text: &str,
-) -> Result<()> {
-    let rows = read_rows(alloc, text)?;
-    append_audit(rt, alloc, told, &rows)
+pub fn audited(rt: &(impl Threads + Sync), alloc: Global, told: &mut Teller, text: &str) {
+    let mut cluster = Cluster {
+        agents: Vec::new(alloc),
+        offers: Vec::new(alloc),
+        tasks: Vec::new(alloc),
+    };
+    if add_all(alloc, told, &mut cluster, text) {
+        tell_audit_of(rt, alloc, told, cluster);
+    }
 }

@@ -1,66 +1,88 @@
 //! A board on which one agent registers, and then tries it again; its viewers, and one without viewers.
-ghost use Rattle.std.specs.Prelude.{◌≡◌, [], IfOk, OnOk};
+ghost use Rattle.std.specs.Prelude.{◌≡◌, [], IfSome, IsTrue};
 ghost use Rattle.drf_rows.specs.LimitNumbers.{ceilings};
 ghost use Rattle.drf_rows.specs.declared.reply.Refusal.TheVariants.{KnownAgent};
 ghost use Rattle.drf_rows.specs.declared.reply.Reply.TheVariants.{Done, Refused};
 ghost use Rattle.drf_vectors.specs.OneAgent.{agent_added, one_cpu, once, twice, sheet_after};
 
-use crate::texts::append_quantities;
-use anyhow::{Context, Result};
+use crate::teller::Teller;
+use crate::texts::tell_quantities;
 use drf_amount::Scalar;
 use drf_board::{Board, Brand, Naming, Pane, Sheet, Shows, Slate, Told, Viewer};
 use drf_bundle::{Bundle, Value};
 use drf_role::{Label, Name, Role};
 use drf_rows::{Event, Limits, Refusal, Reply, Report, Table};
 use std::alloc::Global;
-use std::fmt::Write;
 use std::sync::Wait;
 
-fn one_cpu(alloc: Global) -> Result<Bundle>
-    ensures { IfOk result (λ bundle. bundle ≡ one_cpu) }
+fn one_cpu(alloc: Global) -> Option<Bundle>
+    ensures { IfSome result (λ bundle. bundle ≡ one_cpu) }
 {
-    let label = Label::read(alloc, "cpus")?;
-    let everyone = Role::default_role(alloc)?;
+    let Ok(label) = Label::read(alloc, "cpus") else {
+        return None;
+    };
+    let Ok(everyone) = Role::default_role(alloc) else {
+        return None;
+    };
     let amount = Value::Scalar(Scalar::new(1000));
-    Ok(Bundle::one(alloc, &label, &everyone, amount)?)
+    match Bundle::one(alloc, &label, &everyone, amount) {
+        Ok(bundle) => Some(bundle),
+        Err(_) => None,
+    }
 }
 
-fn agent_added(alloc: Global) -> Result<Event>
-    ensures { IfOk result (λ event. event ≡ agent_added) }
+fn agent_added(alloc: Global) -> Option<Event>
+    ensures { IfSome result (λ event. event ≡ agent_added) }
 {
-    let total = one_cpu(alloc)?;
-    let agent = Name::read(alloc, "n1")?;
-    Ok(Event::AddAgent { agent, total })
+    let Ok(agent) = Name::read(alloc, "n1") else {
+        return None;
+    };
+    match one_cpu(alloc) {
+        Some(total) => Some(Event::AddAgent { agent, total }),
+        None => None,
+    }
 }
 
-fn sheet_after(alloc: Global, events: u64) -> Result<Sheet>
-    ensures { IfOk result (λ sheet. sheet ≡ sheet_after events) }
+fn sheet_after(alloc: Global, events: u64) -> Option<Sheet>
+    ensures { IfSome result (λ sheet. sheet ≡ sheet_after events) }
 {
-    let bundle = one_cpu(alloc)?;
-    let total = bundle.quantities().copy()?;
-    let nodes = Table::from_vec(Vec::new(alloc));
-    Ok(Sheet {
-        events,
-        report: Report { total, nodes },
-    })
+    let Some(bundle) = one_cpu(alloc) else {
+        return None;
+    };
+    match bundle.quantities().copy() {
+        Ok(total) => Some(Sheet {
+            events,
+            report: Report {
+                total,
+                nodes: Table::from_vec(Vec::new(alloc)),
+            },
+        }),
+        Err(_) => None,
+    }
 }
 
+/// Whether there was memory for it.
 fn publish_once<K: Naming, R: Wait + Drop>(
     alloc: Global,
     board: &mut Board<K, R>,
     event: &Event,
     reply: &Reply,
-) -> Result<Told<K>>
+) -> bool
 where
     Pane<K>: Shows,
     requires limits { K.slate.limits ≡ ceilings }
     requires none { board.old.entries ≡ [] }
     requires event { event.now ≡ agent_added }
     requires reply { reply.now ≡ Done }
-    ensures { OnOk result (board.new.entries ≡ once) }
+    ensures { IsTrue result → board.new.entries ≡ once }
 {
-    let sheet = sheet_after(alloc, 1)?;
-    Ok(board.publish(sheet, event, reply)?)
+    let Some(sheet) = sheet_after(alloc, 1) else {
+        return false;
+    };
+    match board.publish(sheet, event, reply) {
+        Ok(_) => true,
+        Err(_) => false,
+    }
 }
 
 fn publish_again<K: Naming, R: Wait + Drop>(
@@ -68,7 +90,7 @@ fn publish_again<K: Naming, R: Wait + Drop>(
     board: &mut Board<K, R>,
     event: &Event,
     reply: &Reply,
-) -> Result<Told<K>>
+) -> Option<Told<K>>
 where
     Pane<K>: Shows,
     requires limits { K.slate.limits ≡ ceilings }
@@ -76,41 +98,67 @@ where
     requires event { event.now ≡ agent_added }
     requires reply { reply.now ≡ Refused KnownAgent }
 {
-    let sheet = sheet_after(alloc, 2)?;
-    Ok(board.publish(sheet, event, reply)?)
+    let Some(sheet) = sheet_after(alloc, 2) else {
+        return None;
+    };
+    board.publish(sheet, event, reply).ok()
 }
 
-fn append_shown(alloc: Global, told: &mut String, sheet: &Sheet) -> Result<()> {
-    write!(told, "; {} events (", sheet.events)?;
-    append_quantities(alloc, told, &sheet.report.total)?;
-    Ok(told.push(')')?)
+fn tell_shown(alloc: Global, told: &mut Teller, sheet: &Sheet) {
+    told.say("; ");
+    told.show(&sheet.events);
+    told.say(" events (");
+    tell_quantities(alloc, told, &sheet.report.total);
+    told.say(")");
 }
 
-fn append_sheet<K: Naming>(alloc: Global, told: &mut String, viewer: &mut Viewer<K>) -> Result<()> {
-    let sheet = viewer.read().ok().context("nothing is shown")?;
-    append_shown(alloc, told, &sheet)
-}
-
-fn append_sheets<K: Naming>(
-    alloc: Global,
-    told: &mut String,
-    viewers: &mut [Viewer<K>],
-) -> Result<()> {
-    for viewer in viewers.iter_mut() {
-        append_sheet(alloc, told, viewer)?;
+fn tell_sheet<K: Naming>(alloc: Global, told: &mut Teller, viewer: &mut Viewer<K>) {
+    match viewer.read() {
+        Ok(sheet) => tell_shown(alloc, told, &sheet),
+        Err(_) => told.say("; nothing is shown"),
     }
-    Ok(())
 }
 
-/// What the viewers read at first, and after both calls, of which the first viewer learns the second.
+fn tell_sheets<K: Naming>(alloc: Global, told: &mut Teller, viewers: &mut [Viewer<K>]) {
+    for viewer in viewers.iter_mut() {
+        tell_sheet(alloc, told, viewer);
+    }
+}
+
+/// What the viewers read once the agent is tried again, which the first viewer learns.
+fn watched_again<K: Naming, R: Wait + Drop>(
+    alloc: Global,
+    told: &mut Teller,
+    board: &mut Board<K, R>,
+    viewers: &mut [Viewer<K>],
+    event: &Event,
+    reply: &Reply,
+)
+where
+    Pane<K>: Shows,
+    requires limits { K.slate.limits ≡ ceilings }
+    requires once { board.old.entries ≡ once }
+    requires event { event.now ≡ agent_added }
+    requires reply { reply.now ≡ Refused KnownAgent }
+{
+    let Some(told_again) = publish_again(alloc, board, event, reply) else {
+        return told.say("no memory");
+    };
+    if let Some(first) = viewers.first_mut() {
+        first.learn(&told_again);
+    }
+    tell_sheets(alloc, told, viewers);
+}
+
+/// What the viewers read at first, and after both calls.
 fn watched<K: Naming, R: Wait + Drop>(
     alloc: Global,
-    told: &mut String,
+    told: &mut Teller,
     board: &mut Board<K, R>,
     viewers: &mut [Viewer<K>],
     event: &Event,
     replies: (&Reply, &Reply),
-) -> Result<()>
+)
 where
     Pane<K>: Shows,
     requires limits { K.slate.limits ≡ ceilings }
@@ -119,24 +167,24 @@ where
     requires first { replies.0.now ≡ Done }
     requires second { replies.1.now ≡ Refused KnownAgent }
 {
-    write!(told, "{} viewers", board.viewers())?;
-    append_sheets(alloc, told, viewers)?;
-    publish_once(alloc, board, event, replies.0)?;
-    let told_again = publish_again(alloc, board, event, replies.1)?;
-    if let Some(first) = viewers.first_mut() {
-        first.learn(&told_again);
+    told.show(&board.viewers());
+    told.say(" viewers");
+    tell_sheets(alloc, told, viewers);
+    if publish_once(alloc, board, event, replies.0) {
+        watched_again(alloc, told, board, viewers, event, replies.1);
+    } else {
+        told.say("no memory");
     }
-    append_sheets(alloc, told, viewers)
 }
 
-/// The event and the replies are lent: who owns one proves for each `?` behind it how it is dropped.
+/// The event and the replies are lent: who owns one beside branches proves how it is dropped.
 fn replied<K: Naming, R: Wait + Drop>(
     alloc: Global,
-    told: &mut String,
+    told: &mut Teller,
     board: &mut Board<K, R>,
     viewers: &mut [Viewer<K>],
     event: &Event,
-) -> Result<()>
+)
 where
     Pane<K>: Shows,
     requires limits { K.slate.limits ≡ ceilings }
@@ -145,36 +193,40 @@ where
 {
     let done = Reply::Done;
     let known = Reply::Refused(Refusal::KnownAgent);
-    watched(alloc, told, board, viewers, event, (&done, &known))
+    watched(alloc, told, board, viewers, event, (&done, &known));
 }
 
-fn shown_to<K: Naming, R: Wait + Drop>(
-    rt: R,
+fn with_event<K: Naming, R: Wait + Drop>(
     alloc: Global,
-    told: &mut String,
-    slate: Slate,
-) -> Result<()>
+    told: &mut Teller,
+    board: &mut Board<K, R>,
+    viewers: &mut [Viewer<K>],
+)
+where
+    Pane<K>: Shows,
+    requires limits { K.slate.limits ≡ ceilings }
+    requires none { board.old.entries ≡ [] }
+{
+    match agent_added(alloc) {
+        Some(event) => replied(alloc, told, board, viewers, &event),
+        None => told.say("no memory"),
+    }
+}
+
+fn shown_to<K: Naming, R: Wait + Drop>(rt: R, alloc: Global, told: &mut Teller, slate: Slate)
     requires named { slate.name ≡ K.slate }
     requires limits { slate.name.limits ≡ ceilings }
 {
-    let (mut board, mut viewers) = Board::<K, R>::open(rt, alloc, slate)?;
-    let event = agent_added(alloc)?;
-    replied(alloc, told, &mut board, viewers.as_mut_slice(), &event)
-}
-
-fn append_viewers<K: Naming, R: Wait + Drop>(told: &mut String, board: &Board<K, R>) -> Result<()>
-where
-    Pane<K>: Shows,
-{
-    Ok(write!(told, "{} viewers", board.viewers())?)
+    match Board::<K, R>::open(rt, alloc, slate) {
+        Ok((mut board, mut viewers)) => {
+            with_event(alloc, told, &mut board, viewers.as_mut_slice());
+        }
+        Err(fault) => told.show(&fault),
+    }
 }
 
 /// A board that nobody looks at takes an event, and shows none.
-fn unwatched<K: Naming, R: Wait + Drop>(
-    told: &mut String,
-    board: &mut Board<K, R>,
-    event: &Event,
-) -> Result<()>
+fn unwatched<K: Naming, R: Wait + Drop>(told: &mut Teller, board: &mut Board<K, R>, event: &Event)
 where
     Pane<K>: Shows,
     requires limits { K.slate.limits ≡ ceilings }
@@ -184,32 +236,50 @@ where
 {
     let done = Reply::Done;
     board.publish_unseen(event, &done);
-    append_viewers(told, board)
+    told.show(&board.viewers());
+    told.say(" viewers");
 }
 
-fn shown_to_none<K: Naming, R: Wait + Drop>(
-    rt: R,
+fn unwatched_event<K: Naming, R: Wait + Drop>(
     alloc: Global,
-    told: &mut String,
-    slate: Slate,
-) -> Result<()>
+    told: &mut Teller,
+    board: &mut Board<K, R>,
+)
+where
+    Pane<K>: Shows,
+    requires limits { K.slate.limits ≡ ceilings }
+    requires unseen { board.old.viewers ≡ 0 }
+    requires none { board.old.entries ≡ [] }
+{
+    match agent_added(alloc) {
+        Some(event) => unwatched(told, board, &event),
+        None => told.say("no memory"),
+    }
+}
+
+fn shown_to_none<K: Naming, R: Wait + Drop>(rt: R, alloc: Global, told: &mut Teller, slate: Slate)
     requires named { slate.name ≡ K.slate }
     requires limits { slate.name.limits ≡ ceilings }
     requires unseen { slate.viewers ≡ 0 }
 {
-    let (mut board, _) = Board::<K, R>::open(rt, alloc, slate)?;
-    let event = agent_added(alloc)?;
-    unwatched(told, &mut board, &event)
+    match Board::<K, R>::open(rt, alloc, slate) {
+        Ok((mut board, _)) => unwatched_event(alloc, told, &mut board),
+        Err(fault) => told.show(&fault),
+    }
 }
 
 /// A board that nobody looks at.
-pub fn hidden<R: Wait>(rt: &R, alloc: Global, told: &mut String) -> Result<()> {
-    let slate = Slate::open(0, Limits::full())?;
-    shown_to_none::<Brand, &R>(rt, alloc, told, slate)
+pub fn hidden<R: Wait>(rt: &R, alloc: Global, told: &mut Teller) {
+    match Slate::open(0, Limits::full()) {
+        Ok(slate) => shown_to_none::<Brand, &R>(rt, alloc, told, slate),
+        Err(fault) => told.show(&fault),
+    }
 }
 
 /// What two viewers read.
-pub fn shown<R: Wait>(rt: &R, alloc: Global, told: &mut String) -> Result<()> {
-    let slate = Slate::open(2, Limits::full())?;
-    shown_to::<Brand, &R>(rt, alloc, told, slate)
+pub fn shown<R: Wait>(rt: &R, alloc: Global, told: &mut Teller) {
+    match Slate::open(2, Limits::full()) {
+        Ok(slate) => shown_to::<Brand, &R>(rt, alloc, told, slate),
+        Err(fault) => told.show(&fault),
+    }
 }

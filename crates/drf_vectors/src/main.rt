@@ -9,28 +9,26 @@ mod limits;
 mod paths;
 mod pools;
 mod quantities;
+mod read;
 mod shares;
 mod sorters;
+mod teller;
 mod texts;
 mod words;
 
-use anyhow::{Context, Result, bail};
+use crate::read::tell_pair;
+use crate::teller::{Teller, first_word};
 use drf_amount::Scalar;
-use drf_bundle::Bundle;
+use drf_bundle::{Bundle, Quantities};
 use drf_kinds::{Items, Ranges};
-use drf_role::{Label, Name, NodePath, Role};
+use drf_role::{ClientPath, Label, Name, NodePath, Role};
 use std::alloc::Global;
 use std::io;
 use std::rt::Runtime;
 use std::sync::Wait;
 use std::thread::Threads;
 
-/// The two texts before and after the first `mark`.
-fn halves(text: &str, mark: char) -> Result<(&str, &str)> {
-    text.split_once(mark).context("half a question")
-}
-
-fn answer_of_words(alloc: Global, told: &mut String, kind: &str, text: &str) -> Result<()> {
+fn answer_of_words(alloc: Global, told: &mut Teller, kind: &str, text: &str) {
     match kind {
         "name" => words::copied::<Name>(alloc, told, text),
         "label" => words::copied::<Label>(alloc, told, text),
@@ -42,37 +40,37 @@ fn answer_of_words(alloc: Global, told: &mut String, kind: &str, text: &str) -> 
         "distinct_nodes" => words::distinct::<NodePath>(alloc, told, text),
         "sorted_names" => words::sorted::<Name>(alloc, told, text),
         "sorted_nodes" => words::sorted::<NodePath>(alloc, told, text),
-        _ => bail!("no question"),
+        _ => told.say("no question"),
     }
 }
 
-fn answer_of_paths(alloc: Global, told: &mut String, kind: &str, text: &str) -> Result<()> {
+fn answer_of_paths(alloc: Global, told: &mut Teller, kind: &str, text: &str) {
     match kind {
         "parts" => paths::parts(alloc, told, text),
         "is_default" => paths::is_default(alloc, told, text),
-        "is_within" => paths::is_within(alloc, told, text),
+        "is_within" => tell_pair::<Role, Role, paths::Within>(alloc, told, text),
         "client" => paths::client_parts(alloc, told, text),
         "nodes" => paths::nodes(alloc, told, text),
-        "is_same_client" => paths::is_same_client(alloc, told, text),
+        "is_same_client" => tell_pair::<ClientPath, ClientPath, paths::Same>(alloc, told, text),
         _ => answer_of_words(alloc, told, kind, text),
     }
 }
 
-fn answer_of_texts(alloc: Global, told: &mut String, kind: &str, text: &str) -> Result<()> {
+fn answer_of_texts(alloc: Global, told: &mut Teller, kind: &str, text: &str) {
     match kind {
         "bundle" => texts::bundle(alloc, told, text),
         "quantity_text" => texts::quantities(alloc, told, text),
         "weight" => texts::weight(told, text),
-        "part_for" => texts::part(alloc, told, text),
-        "clip" => texts::clipped(alloc, told, text),
-        "rest" => texts::left(alloc, told, text),
-        "relabel" => texts::moved(alloc, told, text),
+        "part_for" => tell_pair::<Role, Bundle, texts::PartFor>(alloc, told, text),
+        "clip" => tell_pair::<Quantities, Bundle, texts::Clipped>(alloc, told, text),
+        "rest" => tell_pair::<Bundle, Bundle, texts::Rest>(alloc, told, text),
+        "relabel" => tell_pair::<Role, Bundle, texts::Moved>(alloc, told, text),
         "get" => texts::found(alloc, told, text),
         _ => answer_of_paths(alloc, told, kind, text),
     }
 }
 
-fn answer(alloc: Global, told: &mut String, kind: &str, text: &str) -> Result<()> {
+fn answer(alloc: Global, told: &mut Teller, kind: &str, text: &str) {
     match kind {
         "scalars" => amounts::compared::<Scalar>(alloc, told, text),
         "ranges" => amounts::compared::<Ranges>(alloc, told, text),
@@ -88,19 +86,18 @@ fn answer(alloc: Global, told: &mut String, kind: &str, text: &str) -> Result<()
         "shares" => shares::compared(told, text),
         "sorter" => sorters::answers(alloc, told),
         "quota" => limits::answers(alloc, told, text),
-        "consumed_of" => limits::of_bundle(alloc, told, text),
+        "consumed_of" => tell_pair::<Role, Bundle, limits::Consumed>(alloc, told, text),
         _ => answer_of_texts(alloc, told, kind, text),
     }
 }
 
-/// Adds the answer to a text that is lent: who owns a text behind a `?` proves how it is dropped.
 fn answer_by_threads<R: Threads + Wait + Sync>(
     rt: &R,
     alloc: Global,
-    told: &mut String,
+    told: &mut Teller,
     question: &str,
-) -> Result<()> {
-    let (kind, text) = question.split_once(' ').unwrap_or((question, ""));
+) {
+    let (kind, text) = first_word(question);
     match kind {
         "audit" => audits::audited(rt, alloc, told, text),
         "board" => boards::shown(rt, alloc, told),
@@ -113,11 +110,9 @@ fn tell<R: Runtime + Threads + Wait + Sync + AllocGlobal>(
     rt: &R,
     question: &str,
 ) -> io::Result<()> {
-    let mut told = String::new(rt.alloc());
-    match answer_by_threads(rt, rt.alloc(), &mut told, question) {
-        Ok(()) => println!(rt; "{question} -> {told}"),
-        Err(fault) => println!(rt; "{question} -> {fault}"),
-    }
+    let mut told = Teller::new(rt.alloc());
+    answer_by_threads(rt, rt.alloc(), &mut told, question);
+    println!(rt; "{question} -> {}", told.text())
 }
 
 fn main(rt: HostRuntime) -> io::Result<()> {

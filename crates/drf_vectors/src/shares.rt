@@ -1,31 +1,48 @@
 //! Shares, each written `part/whole/weight`.
-use crate::halves;
-use anyhow::{Result, ensure};
+use crate::teller::Teller;
 use drf_sorter::Share;
 use std::cmp::Ordering;
-use std::fmt::Write;
 
-fn share(text: &str) -> Result<Share> {
-    let (part, text) = halves(text, '/')?;
-    let (whole, weight) = halves(text, '/')?;
-    let (part, whole, weight) = (
-        part.parse::<u64>()?,
-        whole.parse::<u64>()?,
-        weight.parse::<u64>()?,
-    );
-    ensure!(part <= whole && 1 <= whole && whole < 1 << 52, "no share");
-    ensure!(1 <= weight && weight <= 1_000_000, "no weight");
-    Ok(Share::new(part, whole, weight))
+fn share_of(told: &mut Teller, part: u64, whole: u64, weight: u64) -> Option<Share> {
+    if part > whole || whole < 1 || whole >= 1 << 52 {
+        told.say("no share");
+        return None;
+    }
+    if weight < 1 || weight > 1_000_000 {
+        told.say("no weight");
+        return None;
+    }
+    Some(Share::new(part, whole, weight))
 }
 
-pub fn compared(told: &mut String, text: &str) -> Result<()> {
-    let (one, other) = halves(text, ' ')?;
-    let (one, other) = (share(one)?, share(other)?);
+fn share(told: &mut Teller, text: &str) -> Option<Share> {
+    let (part, text) = told.halves(text, '/')?;
+    let (whole, weight) = told.halves(text, '/')?;
+    let part = told.given(part.parse::<u64>())?;
+    let whole = told.given(whole.parse::<u64>())?;
+    let weight = told.given(weight.parse::<u64>())?;
+    share_of(told, part, whole, weight)
+}
+
+fn tell_order(told: &mut Teller, one: Share, other: Share) {
     let order = match one.cmp(&other) {
-        Ordering::Less => "less",
-        Ordering::Equal => "equal",
-        Ordering::Greater => "greater",
+        Ordering::Less => "less ",
+        Ordering::Equal => "equal ",
+        Ordering::Greater => "greater ",
     };
+    told.say(order);
     let is_equal = one == other;
-    Ok(write!(told, "{order} {is_equal}")?)
+    told.show(&is_equal);
+}
+
+pub fn compared(told: &mut Teller, text: &str) {
+    let Some((one, other)) = told.halves(text, ' ') else {
+        return;
+    };
+    let Some(one) = share(told, one) else {
+        return;
+    };
+    if let Some(other) = share(told, other) {
+        tell_order(told, one, other);
+    }
 }

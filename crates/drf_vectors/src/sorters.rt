@@ -1,19 +1,18 @@
 //! The orders of a sorter of two clients, before and after the first is charged, and under another total; and whether it made no
 //! more keys for each than are allowed.
-ghost use Rattle.std.specs.Prelude.{◌≡◌, IfOk, IsOk, OnOk};
+ghost use Rattle.std.specs.Prelude.{◌≡◌, IfSome, IsTrue, OnOk};
 ghost use Rattle.drf_bundle.specs.Quantities.{covers};
 ghost use Rattle.drf_sorter.specs.Content.{IsSound, empty};
 ghost use Rattle.drf_vectors.specs.TwoClients.{AreSmall, IsCovered, both_added};
 
-use crate::paths::client;
 use crate::quantities::read;
-use anyhow::{Result, ensure};
+use crate::read::Read;
+use crate::teller::Teller;
 use drf_bundle::Quantities;
 use drf_role::ClientPath;
 use drf_sorter::{PlainSorter, Sorter};
 use drf_tree::TreeSorter;
-use std::alloc::Global;
-use std::fmt::Write;
+use std::alloc::{AllocError, Global};
 
 /// Two clients, what the first is charged, and the totals before and after that.
 #[derive(Drop)]
@@ -27,21 +26,21 @@ struct Scenario {
 
 /// The orders of a sorter, whether the keys for each are no more than are allowed, and how many it made so far.
 #[derive(Drop)]
-struct Told {
-    orders: String,
-    keys: String,
+struct Orders {
+    clients: Teller,
+    keys: Teller,
     made: u64,
 }
 
-fn read_scenario(alloc: Global) -> Result<Scenario>
-    ensures { IfOk result AreSmall }
+fn read_scenario(alloc: Global, told: &mut Teller) -> Option<Scenario>
+    ensures { IfSome result AreSmall }
 {
-    Ok(Scenario {
-        first: client(alloc, "a:fa")?,
-        second: client(alloc, "b:fb")?,
-        amounts: read(alloc, "cpus=1000")?,
-        total: read(alloc, "cpus=4000")?,
-        next_total: read(alloc, "cpus=8000")?,
+    Some(Scenario {
+        first: ClientPath::from_text(alloc, told, "a:fa")?,
+        second: ClientPath::from_text(alloc, told, "b:fb")?,
+        amounts: read(alloc, told, "cpus=1000")?,
+        total: read(alloc, told, "cpus=4000")?,
+        next_total: read(alloc, told, "cpus=8000")?,
     })
 }
 
@@ -53,99 +52,141 @@ fn fits(total: &Quantities, amounts: &Quantities) -> bool
     entries.all(|entry| entry.amount.thousandths() <= total.get(entry.label.text()))
 }
 
-fn check(scenario: &Scenario) -> Result<()>
+/// Whether the clients are two, and the totals cover what the first is charged.
+fn is_covered(scenario: &Scenario) -> bool
     requires { AreSmall scenario.now }
-    ensures { IsOk result → IsCovered scenario.now }
+    ensures { IsTrue result → IsCovered scenario.now }
 {
-    ensure!(scenario.first != scenario.second, "one client");
-    ensure!(fits(&scenario.total, &scenario.amounts), "too much");
-    ensure!(fits(&scenario.next_total, &scenario.amounts), "too little");
-    Ok(())
+    if scenario.first == scenario.second {
+        return false;
+    }
+    if !fits(&scenario.total, &scenario.amounts) {
+        return false;
+    }
+    fits(&scenario.next_total, &scenario.amounts)
 }
 
-fn append_clients(orders: &mut String, clients: &[ClientPath]) -> Result<()> {
-    orders.push_str("order")?;
+fn tell_clients(told: &mut Teller, clients: &[ClientPath]) {
+    told.say("order");
     for client in clients {
-        let (role, framework) = (client.role().text(), client.framework().text());
-        write!(orders, " {role}:{framework}")?;
+        told.say(" ");
+        told.say(client.role().text());
+        told.say(":");
+        told.say(client.framework().text());
     }
-    Ok(orders.push_str("; ")?)
+    told.say("; ");
+}
+
+fn tell_order(told: &mut Teller, order: Result<Vec<ClientPath>, AllocError>) {
+    if let Some(clients) = told.given(order) {
+        tell_clients(told, &clients);
+    }
 }
 
 /// Whether no more keys were made since the last order than that number.
-fn append_keys(told: &mut Told, made: u64, most: u64) -> Result<()> {
-    let keys = made.saturating_sub(told.made);
-    told.made = made;
-    let is_within = if keys <= most { "within" } else { "ABOVE" };
-    Ok(write!(told.keys, "{is_within} {most}; ")?)
+fn tell_keys(orders: &mut Orders, made: u64, most: u64) {
+    let keys = made.saturating_sub(orders.made);
+    orders.made = made;
+    let is_within = if keys <= most { "within " } else { "ABOVE " };
+    orders.keys.say(is_within);
+    orders.keys.show(&most);
+    orders.keys.say("; ");
 }
 
-fn append_order<S: Sorter>(told: &mut Told, sorter: &mut S, most: u64) -> Result<()>
+fn append_order<S: Sorter>(orders: &mut Orders, sorter: &mut S, most: u64)
     requires { IsSound (S.content sorter.old) }
     ensures { S.content sorter.new ≡ S.content sorter.old }
 {
-    append_clients(&mut told.orders, &sorter.order()?)?;
-    append_keys(told, sorter.keys_made(), most)
+    let order = sorter.order();
+    tell_order(&mut orders.clients, order);
+    tell_keys(orders, sorter.keys_made(), most);
 }
 
-fn add_both<S: Sorter>(sorter: &mut S, scenario: &Scenario) -> Result<()>
+fn add_both<S: Sorter>(sorter: &mut S, scenario: &Scenario) -> Result<(), AllocError>
     requires covered { IsCovered scenario.now }
     requires empty { S.content sorter.old ≡ empty }
     ensures { OnOk result (S.content sorter.new ≡ both_added scenario.now) }
 {
     sorter.set_total(scenario.total.copy()?);
     sorter.add(scenario.first.copy()?)?;
-    Ok(sorter.add(scenario.second.copy()?)?)
+    sorter.add(scenario.second.copy()?)?;
+    Ok(())
 }
 
 /// The first order, one again at once, one after the charge, and one under the other total.
-fn append_orders<S: Sorter>(told: &mut Told, sorter: &mut S, scenario: &Scenario) -> Result<()>
+fn append_orders<S: Sorter>(
+    orders: &mut Orders,
+    sorter: &mut S,
+    scenario: &Scenario,
+) -> Result<(), AllocError>
     requires covered { IsCovered scenario.now }
     requires empty { S.content sorter.old ≡ empty }
 {
     add_both(sorter, scenario)?;
-    append_order(told, sorter, 6)?;
-    append_order(told, sorter, 0)?;
+    append_order(orders, sorter, 6);
+    append_order(orders, sorter, 0);
     sorter.charge(&scenario.first, &scenario.amounts)?;
-    append_order(told, sorter, 3)?;
+    append_order(orders, sorter, 3);
     sorter.set_total(scenario.next_total.copy()?);
-    append_order(told, sorter, 6)
+    append_order(orders, sorter, 6);
+    Ok(())
 }
 
-fn run<S: Sorter>(alloc: Global, told: &mut Told, scenario: &Scenario) -> Result<()>
+fn run<S: Sorter>(alloc: Global, told: &mut Teller, orders: &mut Orders, scenario: &Scenario)
     requires { IsCovered scenario.now }
 {
-    let mut sorter = S::open(alloc)?;
-    append_orders(told, &mut sorter, scenario)
+    match S::open(alloc) {
+        Ok(mut sorter) => {
+            let done = append_orders(orders, &mut sorter, scenario);
+            told.check(done);
+        }
+        Err(fault) => told.show(&fault),
+    }
 }
 
 fn compare(
     alloc: Global,
-    told: &mut String,
-    tree: &mut Told,
-    plain: &mut Told,
+    told: &mut Teller,
+    tree: &mut Orders,
+    plain: &mut Orders,
     scenario: &Scenario,
-) -> Result<()>
-    requires { AreSmall scenario.now }
+)
+    requires { IsCovered scenario.now }
 {
-    check(scenario)?;
-    run::<TreeSorter>(alloc, tree, scenario)?;
-    run::<PlainSorter>(alloc, plain, scenario)?;
-    let is_equal = tree.orders == plain.orders;
-    Ok(write!(told, "{}keys {}equal {is_equal}", tree.orders, tree.keys)?)
+    run::<TreeSorter>(alloc, told, tree, scenario);
+    run::<PlainSorter>(alloc, told, plain, scenario);
+    let is_equal = tree.clients.text() == plain.clients.text();
+    told.say(tree.clients.text());
+    told.say("keys ");
+    told.say(tree.keys.text());
+    told.say("equal ");
+    told.show(&is_equal);
 }
 
-fn nothing_told(alloc: Global) -> Told {
-    Told {
-        orders: String::new(alloc),
-        keys: String::new(alloc),
+fn no_orders(alloc: Global) -> Orders {
+    Orders {
+        clients: Teller::new(alloc),
+        keys: Teller::new(alloc),
         made: 0,
     }
 }
 
+fn compare_covered(alloc: Global, told: &mut Teller, scenario: &Scenario)
+    requires { IsCovered scenario.now }
+{
+    let mut tree = no_orders(alloc);
+    let mut plain = no_orders(alloc);
+    compare(alloc, told, &mut tree, &mut plain, scenario);
+}
+
 /// What is told of the sorter of the program, and whether one that keeps no order gives the same orders.
-pub fn answers(alloc: Global, told: &mut String) -> Result<()> {
-    let scenario = read_scenario(alloc)?;
-    let (mut tree, mut plain) = (nothing_told(alloc), nothing_told(alloc));
-    compare(alloc, told, &mut tree, &mut plain, &scenario)
+pub fn answers(alloc: Global, told: &mut Teller) {
+    let Some(scenario) = read_scenario(alloc, told) else {
+        return;
+    };
+    if is_covered(&scenario) {
+        compare_covered(alloc, told, &scenario);
+    } else {
+        told.say("too little");
+    }
 }

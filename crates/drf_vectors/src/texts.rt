@@ -1,127 +1,145 @@
 //! Bundles, quantities and weights as texts, and what is made of a bundle.
-use crate::amounts::{self, Amount};
-use crate::halves;
-use anyhow::{Context, Result, ensure};
-use drf_bundle::{Bundle, Quantities};
+use crate::amounts::{Amount, tell};
+use crate::read::{Pair, Read};
+use crate::teller::Teller;
+use drf_bundle::{Bundle, Quantities, Value};
 use drf_role::{Label, Role};
 use drf_text::{read_bundle, read_quantities, read_weight, write_bundle, write_quantities};
 use std::alloc::Global;
-use std::fmt::Write;
+
+impl Read for Bundle {
+    fn from_text(alloc: Global, told: &mut Teller, text: &str) -> Option<Bundle> {
+        told.given(read_bundle(alloc, text))
+    }
+}
 
 impl Amount for Bundle {
-    fn from_text(alloc: Global, text: &str) -> Result<Bundle> {
-        Ok(read_bundle(alloc, text)?)
+    fn tell_some(&self, alloc: Global, told: &mut Teller) {
+        if let Some(text) = told.given(write_bundle(alloc, self)) {
+            told.say(&text);
+        }
     }
+}
 
-    fn append(&self, alloc: Global, told: &mut String) -> Result<()> {
-        let text = write_bundle(alloc, self)?;
-        told.push_str(&text).context("no memory")
+impl Read for Quantities {
+    fn from_text(alloc: Global, told: &mut Teller, text: &str) -> Option<Quantities> {
+        told.given(read_quantities(alloc, text))
     }
 }
 
 /// The written form of the bundle that a text says.
-pub fn bundle(alloc: Global, told: &mut String, text: &str) -> Result<()> {
-    let bundle = read_bundle(alloc, text)?;
-    amounts::append(alloc, told, &bundle)
+pub fn bundle(alloc: Global, told: &mut Teller, text: &str) {
+    if let Some(bundle) = Bundle::from_text(alloc, told, text) {
+        tell(alloc, told, &bundle);
+    }
 }
 
-pub fn append_quantities(alloc: Global, told: &mut String, quantities: &Quantities) -> Result<()> {
-    let text = write_quantities(alloc, quantities)?;
-    told.push_str(&text).context("no memory")
+pub fn tell_quantities(alloc: Global, told: &mut Teller, quantities: &Quantities) {
+    if let Some(text) = told.given(write_quantities(alloc, quantities)) {
+        told.say(&text);
+    }
 }
 
 /// The written form of the quantities that a text says.
-pub fn quantities(alloc: Global, told: &mut String, text: &str) -> Result<()> {
-    let quantities = read_quantities(alloc, text)?;
-    append_quantities(alloc, told, &quantities)
+pub fn quantities(alloc: Global, told: &mut Teller, text: &str) {
+    if let Some(quantities) = Quantities::from_text(alloc, told, text) {
+        tell_quantities(alloc, told, &quantities);
+    }
 }
 
 /// A weight in thousandths.
-pub fn weight(told: &mut String, text: &str) -> Result<()> {
-    Ok(write!(told, "{}", read_weight(text)?)?)
-}
-
-/// A role, and a bundle behind it.
-pub fn read_both(alloc: Global, text: &str) -> Result<(Role, Bundle)> {
-    let (role, bundle) = halves(text, ' ')?;
-    Ok((Role::read(alloc, role)?, read_bundle(alloc, bundle)?))
-}
-
-fn append_part(alloc: Global, told: &mut String, role: &Role, bundle: &Bundle) -> Result<()> {
-    let part = bundle.part_for(role)?;
-    amounts::append(alloc, told, &part)
+pub fn weight(told: &mut Teller, text: &str) {
+    if let Some(weight) = told.given(read_weight(text)) {
+        told.show(&weight);
+    }
 }
 
 /// What a role may use of a bundle.
-pub fn part(alloc: Global, told: &mut String, text: &str) -> Result<()> {
-    let (role, bundle) = read_both(alloc, text)?;
-    append_part(alloc, told, &role, &bundle)
-}
+pub struct PartFor;
 
-fn append_clipped(
-    alloc: Global,
-    told: &mut String,
-    limits: &Quantities,
-    bundle: &Bundle,
-) -> Result<()> {
-    let clipped = bundle.clip(limits)?;
-    amounts::append(alloc, told, &clipped)
+impl Pair<Role, Bundle> for PartFor {
+    fn tell(alloc: Global, told: &mut Teller, one: &Role, other: &Bundle) {
+        if let Some(part) = told.given(other.part_for(one)) {
+            tell(alloc, told, &part);
+        }
+    }
 }
 
 /// A bundle cut to limits.
-pub fn clipped(alloc: Global, told: &mut String, text: &str) -> Result<()> {
-    let (limits, bundle) = halves(text, ' ')?;
-    let limits = read_quantities(alloc, limits)?;
-    append_clipped(alloc, told, &limits, &read_bundle(alloc, bundle)?)
-}
+pub struct Clipped;
 
-fn append_rest(alloc: Global, told: &mut String, whole: &Bundle, part: &Bundle) -> Result<()> {
-    let rest = whole.rest(part)?;
-    amounts::append(alloc, told, &rest)
+impl Pair<Quantities, Bundle> for Clipped {
+    fn tell(alloc: Global, told: &mut Teller, one: &Quantities, other: &Bundle) {
+        if let Some(clipped) = told.given(other.clip(one)) {
+            tell(alloc, told, &clipped);
+        }
+    }
 }
 
 /// What is left of a bundle without another.
-pub fn left(alloc: Global, told: &mut String, text: &str) -> Result<()> {
-    let (whole, part) = halves(text, ' ')?;
-    let whole = read_bundle(alloc, whole)?;
-    append_rest(alloc, told, &whole, &read_bundle(alloc, part)?)
-}
+pub struct Rest;
 
-fn append_moved(alloc: Global, told: &mut String, role: &Role, bundle: &Bundle) -> Result<()> {
-    ensure!(bundle.is_unreserved(), "reserved");
-    let moved = bundle.relabel(role)?;
-    amounts::append(alloc, told, &moved)
+impl Pair<Bundle, Bundle> for Rest {
+    fn tell(alloc: Global, told: &mut Teller, one: &Bundle, other: &Bundle) {
+        if let Some(rest) = told.given(one.rest(other)) {
+            tell(alloc, told, &rest);
+        }
+    }
 }
 
 /// A bundle moved to a role.
-pub fn moved(alloc: Global, told: &mut String, text: &str) -> Result<()> {
-    let (role, bundle) = read_both(alloc, text)?;
-    append_moved(alloc, told, &role, &bundle)
+pub struct Moved;
+
+impl Pair<Role, Bundle> for Moved {
+    fn tell(alloc: Global, told: &mut Teller, one: &Role, other: &Bundle) {
+        if !other.is_unreserved() {
+            return told.say("reserved");
+        }
+        if let Some(moved) = told.given(other.relabel(one)) {
+            tell(alloc, told, &moved);
+        }
+    }
 }
 
-/// What a bundle has under a name and a role, as a bundle of its own.
-fn value_at(alloc: Global, bundle: &Bundle, label: &Label, role: &Role) -> Result<Bundle> {
-    let value = bundle.get(label, role).context("nothing there")?;
-    Bundle::one(alloc, label, role, value.copy()?).context("no memory")
+/// A value under a name and a role, as a bundle of its own.
+fn tell_value(alloc: Global, told: &mut Teller, label: &Label, role: &Role, value: Value) {
+    if let Some(one) = told.given(Bundle::one(alloc, label, role, value)) {
+        tell(alloc, told, &one);
+        told.say("; sums ");
+    }
 }
 
 /// What a bundle has under a name and a role, and the sums of its scalars.
-fn append_found(
-    alloc: Global,
-    told: &mut String,
-    label: &Label,
-    role: &Role,
-    bundle: &Bundle,
-) -> Result<()> {
-    let value = value_at(alloc, bundle, label, role)?;
-    amounts::append(alloc, told, &value)?;
-    told.push_str("; sums ").context("no memory")
+fn tell_found(alloc: Global, told: &mut Teller, label: &Label, role: &Role, bundle: &Bundle) {
+    let Some(value) = told.found(bundle.get(label, role), "nothing there") else {
+        return;
+    };
+    if let Some(copy) = told.given(value.copy()) {
+        tell_value(alloc, told, label, role, copy);
+        tell_quantities(alloc, told, bundle.quantities());
+    }
 }
 
-pub fn found(alloc: Global, told: &mut String, text: &str) -> Result<()> {
-    let (label, text) = halves(text, ' ')?;
-    let label = Label::read(alloc, label)?;
-    let (role, bundle) = read_both(alloc, text)?;
-    append_found(alloc, told, &label, &role, &bundle)?;
-    append_quantities(alloc, told, bundle.quantities())
+fn found_in(alloc: Global, told: &mut Teller, label: &Label, role: &str, bundle: &Bundle) {
+    if let Some(role) = Role::from_text(alloc, told, role) {
+        tell_found(alloc, told, label, &role, bundle);
+    }
+}
+
+fn found_under(alloc: Global, told: &mut Teller, label: &Label, text: &str) {
+    let Some((role, bundle)) = told.halves(text, ' ') else {
+        return;
+    };
+    if let Some(bundle) = Bundle::from_text(alloc, told, bundle) {
+        found_in(alloc, told, label, role, &bundle);
+    }
+}
+
+pub fn found(alloc: Global, told: &mut Teller, text: &str) {
+    let Some((label, text)) = told.halves(text, ' ') else {
+        return;
+    };
+    if let Some(label) = Label::from_text(alloc, told, label) {
+        found_under(alloc, told, &label, text);
+    }
 }

@@ -1,21 +1,20 @@
 //! Names, labels, roles and nodes: read, copied, told apart and put in order.
-use crate::paths::node;
-use anyhow::Result;
+use crate::read::{Read, read_each};
+use crate::teller::Teller;
 use drf_role::{Label, Name, NodePath, Role};
 use indexmap::IndexSet;
-use std::alloc::Global;
+use std::alloc::{AllocError, Global};
 use std::hash::Hash;
 
-pub trait Word: Sized + Hash + Eq + Drop {
-    /// A copy of what is read from the text.
-    fn from_text(alloc: Global, text: &str) -> Result<Self>;
+pub trait Word: Read + Hash + Eq {
+    fn copied(&self) -> Result<Self, AllocError>;
 
     fn shown(&self) -> &str;
 }
 
 impl Word for Name {
-    fn from_text(alloc: Global, text: &str) -> Result<Name> {
-        Ok(Name::read(alloc, text)?.copy()?)
+    fn copied(&self) -> Result<Name, AllocError> {
+        self.copy()
     }
 
     fn shown(&self) -> &str {
@@ -24,8 +23,8 @@ impl Word for Name {
 }
 
 impl Word for Label {
-    fn from_text(alloc: Global, text: &str) -> Result<Label> {
-        Ok(Label::read(alloc, text)?.copy()?)
+    fn copied(&self) -> Result<Label, AllocError> {
+        self.copy()
     }
 
     fn shown(&self) -> &str {
@@ -34,8 +33,8 @@ impl Word for Label {
 }
 
 impl Word for Role {
-    fn from_text(alloc: Global, text: &str) -> Result<Role> {
-        Ok(Role::read(alloc, text)?.copy()?)
+    fn copied(&self) -> Result<Role, AllocError> {
+        self.copy()
     }
 
     fn shown(&self) -> &str {
@@ -44,8 +43,8 @@ impl Word for Role {
 }
 
 impl Word for NodePath {
-    fn from_text(alloc: Global, text: &str) -> Result<NodePath> {
-        Ok(node(alloc, text)?.copy()?)
+    fn copied(&self) -> Result<NodePath, AllocError> {
+        self.copy()
     }
 
     fn shown(&self) -> &str {
@@ -53,56 +52,69 @@ impl Word for NodePath {
     }
 }
 
-fn append(told: &mut String, text: &str) -> Result<()> {
+fn tell_next(told: &mut Teller, text: &str) {
     if !told.is_empty() {
-        told.push(' ')?;
+        told.say(" ");
     }
-    Ok(told.push_str(text)?)
+    told.say(text);
 }
 
-pub fn copied<W: Word>(alloc: Global, told: &mut String, text: &str) -> Result<()> {
-    let word = W::from_text(alloc, text)?;
-    append(told, word.shown())
+fn tell_copy<W: Word>(told: &mut Teller, word: &W) {
+    if let Some(copy) = told.given(word.copied()) {
+        tell_next(told, copy.shown());
+    }
 }
 
-fn read_each<W: Word>(alloc: Global, words: &mut Vec<W>, texts: &str) -> Result<()> {
+/// A copy of what is read.
+pub fn copied<W: Word>(alloc: Global, told: &mut Teller, text: &str) {
+    if let Some(word) = W::from_text(alloc, told, text) {
+        tell_copy(told, &word);
+    }
+}
+
+fn read_once<W: Word>(
+    alloc: Global,
+    told: &mut Teller,
+    words: &mut IndexSet<W>,
+    texts: &str,
+) -> bool {
     for text in texts.split(' ') {
-        words.push(W::from_text(alloc, text)?)?;
+        let Some(word) = W::from_text(alloc, told, text) else {
+            return false;
+        };
+        if told.given(words.insert(word)).is_none() {
+            return false;
+        }
     }
-    Ok(())
+    true
 }
 
-fn read_once<W: Word>(alloc: Global, words: &mut IndexSet<W>, texts: &str) -> Result<()> {
-    for text in texts.split(' ') {
-        words.insert(W::from_text(alloc, text)?)?;
-    }
-    Ok(())
-}
-
-fn append_once<W: Word>(told: &mut String, words: &IndexSet<W>) -> Result<()> {
+fn tell_once<W: Word>(told: &mut Teller, words: &IndexSet<W>) {
     for word in words.iter() {
-        append(told, word.shown())?;
+        tell_next(told, word.shown());
     }
-    Ok(())
 }
 
-fn append_sorted<W: Word + Ord>(told: &mut String, words: &mut Vec<W>) -> Result<()> {
-    words.sort()?;
-    for word in words.iter() {
-        append(told, word.shown())?;
+fn tell_sorted<W: Word + Ord>(told: &mut Teller, words: &mut Vec<W>) {
+    let sorted = words.sort();
+    if told.is_done(sorted) {
+        for word in words.iter() {
+            tell_next(told, word.shown());
+        }
     }
-    Ok(())
 }
 
 /// Each of the words once, in the order in which they come first.
-pub fn distinct<W: Word>(alloc: Global, told: &mut String, texts: &str) -> Result<()> {
+pub fn distinct<W: Word>(alloc: Global, told: &mut Teller, texts: &str) {
     let mut words = IndexSet::<W>::new(alloc);
-    read_once(alloc, &mut words, texts)?;
-    append_once(told, &words)
+    if read_once(alloc, told, &mut words, texts) {
+        tell_once(told, &words);
+    }
 }
 
-pub fn sorted<W: Word + Ord>(alloc: Global, told: &mut String, texts: &str) -> Result<()> {
+pub fn sorted<W: Word + Ord>(alloc: Global, told: &mut Teller, texts: &str) {
     let mut words = Vec::<W>::new(alloc);
-    read_each(alloc, &mut words, texts)?;
-    append_sorted(told, &mut words)
+    if read_each(alloc, told, &mut words, texts, ' ') {
+        tell_sorted(told, &mut words);
+    }
 }

@@ -5,4 +5,4 @@ pub publish-requires-clause-legal : goal.publish-requires-clause-legal
 publish-requires-clause-legal g c = rw (c.requires.limits, c.requires.none, c.requires.event, c.requires.reply) legal_once
 
 pub publish-requires-clause-sheet : goal.publish-requires-clause-sheet
-publish-requires-clause-sheet g c = rw (c.requires.limits, c.requires.none, c.requires.event, c.requires.reply, c.in_ok-sheet.ensures) sheet_once
+publish-requires-clause-sheet g c = rw (c.requires.limits, c.requires.none, c.requires.event, c.requires.reply, c.in-Some.ensures) sheet_once

@@ -18,4 +18,4 @@ consume-requires c = λ outer label role within. rw c.requires.none (omega (arit
 
 pub release-requires : goal.release-requires
 release-requires c = λ label.
-    rw c.append_calls.ensures (consumed_itself c.args.quota.now.used c.consume.new.self.used c.args.role.now c.args.amounts.now label (c.in_ok-consume.ensures.ok.used (same_path c.args.role.now) label))
+    rw c.tell_calls.ensures (consumed_itself c.args.quota.now.used c.consume.new.self.used c.args.role.now c.args.amounts.now label (c.in_ok-consume.ensures.ok.used (same_path c.args.role.now) label))

@@ -5,7 +5,7 @@ use Rattle.drf_bundle.specs.Bundle.{IsBundle}
 use Rattle.drf_bundle.specs.declared.resource.Resource.{Resource}
 use Rattle.drf_rows.specs.Quota.{unreserved_in}
 use Rattle.drf_rows.specs.laws.QuotaLaws.{parts_le}
-use Rattle.drf_vectors.proofs.limits.told_unreserved.Goals as goal
+use Rattle.drf_vectors.proofs.limits.tell_unreserved.Goals as goal
 
 unreserved_fits : (bundle : List Resource) (label : Text) (holds : Bool) → IsBundle bundle → 0 + cond holds (unreserved_in label bundle) 0 < 2 ^ 64
 unreserved_fits bundle label true is = omega (arith, is.fits.at_most label Thousandths, parts_le (λ _. false) label bundle)

@@ -1,5 +1,5 @@
 use Rattle.std.proofs.Common.{◌≡◌}
-use Rattle.drf_vectors.proofs.limits.append_calls.Given as goal
+use Rattle.drf_vectors.proofs.limits.tell_calls.Given as goal
 
 -- what is consumed stays
 abbrev pub invariant-loop-text : goal.invariant-loop-text

@@ -1,5 +1,5 @@
 //! A board on which one agent registers, and then tries it again; its viewers, and one without viewers.
-ghost use Rattle.std.specs.Prelude.{◌≡◌, [], IfSome, IsTrue};
+ghost use Rattle.std.specs.Prelude.{◌≡◌, [], ◌∷◌, IfSome, IsTrue};
 ghost use Rattle.drf_rows.specs.LimitNumbers.{ceilings};
 ghost use Rattle.drf_rows.specs.declared.reply.Refusal.TheVariants.{KnownAgent};
 ghost use Rattle.drf_rows.specs.declared.reply.Reply.TheVariants.{Done, Refused};
@@ -31,14 +31,24 @@ fn one_cpu(alloc: Global) -> Option<Bundle>
     }
 }
 
-fn agent_added(alloc: Global) -> Option<Event>
-    ensures { IfSome result (λ event. event ≡ agent_added) }
+/// The value in a list, which is lent: who owns an enum beside branches proves how each variant is dropped.
+fn list_of<T: Drop>(alloc: Global, value: T) -> Option<Vec<T>>
+    ensures { IfSome result (λ list. list.items ≡ value ∷ []) }
+{
+    match Vec::from_array(alloc, [value]) {
+        Ok(list) => Some(list),
+        Err(_) => None,
+    }
+}
+
+fn agent_added(alloc: Global) -> Option<Vec<Event>>
+    ensures { IfSome result (λ events. events.items ≡ agent_added ∷ []) }
 {
     let Ok(agent) = Name::read(alloc, "n1") else {
         return None;
     };
     match one_cpu(alloc) {
-        Some(total) => Some(Event::AddAgent { agent, total }),
+        Some(total) => list_of(alloc, Event::AddAgent { agent, total }),
         None => None,
     }
 }
@@ -208,7 +218,7 @@ where
     requires none { board.old.entries ≡ [] }
 {
     match agent_added(alloc) {
-        Some(event) => replied(alloc, told, board, viewers, &event),
+        Some(events) => replied(alloc, told, board, viewers, &events[0]),
         None => told.say("no memory"),
     }
 }
@@ -252,7 +262,7 @@ where
     requires none { board.old.entries ≡ [] }
 {
     match agent_added(alloc) {
-        Some(event) => unwatched(told, board, &event),
+        Some(events) => unwatched(told, board, &events[0]),
         None => told.say("no memory"),
     }
 }

@@ -54,34 +54,40 @@ fn push_numbered(
     back: &str,
 ) -> Result<(), AllocError> {
     for number in 1..=count.parse::<u64>().unwrap_or(0) {
-        let line = format!(in alloc; "{front}{number}{back}")?;
-        push_line(text, line.as_str())?;
+        push_number(alloc, text, number, front, back)?;
     }
     Ok(())
 }
 
+fn push_number(
+    alloc: Global,
+    text: &mut Vec<u8>,
+    number: u64,
+    front: &str,
+    back: &str,
+) -> Result<(), AllocError> {
+    let line = format!(in alloc; "{front}{number}{back}")?;
+    push_line(text, line.as_str())
+}
+
 /// So many agents, and a cycle that offers each of them whole.
-fn agents_of(alloc: Global, count: &str) -> Result<Vec<u8>, AllocError> {
+fn push_agents(alloc: Global, lines: &mut Vec<u8>, count: &str) -> Result<(), AllocError> {
     let (front, back) = (
         r#"{"event":"add_agent","agent":"n"#,
         r#"","total":"cpus:1"}"#,
     );
-    let mut lines = Vec::new(alloc);
-    push_numbered(alloc, &mut lines, count, front, back)?;
+    push_numbered(alloc, lines, count, front, back)?;
     push_line(
-        &mut lines,
+        lines,
         r#"{"event":"add_framework","framework":"f1","roles":["a"]}"#,
     )?;
-    push_line(&mut lines, r#"{"event":"cycle","at":0}"#)?;
-    Ok(lines)
+    push_line(lines, r#"{"event":"cycle","at":0}"#)
 }
 
 /// The text that an audit of them writes.
-fn audit_of(alloc: Global, count: &str) -> Result<Vec<u8>, AllocError> {
+fn push_audit(alloc: Global, lines: &mut Vec<u8>, count: &str) -> Result<(), AllocError> {
     let (front, back) = (r#"{"agent":"n"#, r#"","free":"","out":1,"total":"cpus:1"}"#);
-    let mut lines = Vec::new(alloc);
-    push_numbered(alloc, &mut lines, count, front, back)?;
-    Ok(lines)
+    push_numbered(alloc, lines, count, front, back)
 }
 
 /// Adds a line, spoilt in that way: it is dropped, stands twice, or has another byte in its middle.
@@ -100,27 +106,35 @@ fn push_spoilt(journal: &mut Vec<u8>, line: &str, how: &str) -> Result<(), Alloc
     Ok(())
 }
 
-/// The lines of an example, each with its reply, of which the line of that number is spoilt.
-fn journal_of(
-    alloc: Global,
+/// Adds a line, which may be the one that is spoilt.
+fn push_as(
+    journal: &mut Vec<u8>,
+    line: &str,
+    how: &str,
+    is_spoilt: bool,
+) -> Result<(), AllocError> {
+    if is_spoilt {
+        push_spoilt(journal, line, how)
+    } else {
+        push_line(journal, line)
+    }
+}
+
+/// Adds the lines of an example, each with its reply, of which the line of that number is spoilt.
+fn push_journal(
+    journal: &mut Vec<u8>,
     lines: &str,
     replies: &str,
     how: &str,
     spoilt: u64,
-) -> Result<Vec<u8>, AllocError> {
-    let mut journal = Vec::new(alloc);
+) -> Result<(), AllocError> {
     let mut number = 0u64;
     for (line, reply) in lines.lines().zip(replies.lines()) {
-        for text in [line, reply] {
-            number = number.saturating_add(1);
-            if number == spoilt {
-                push_spoilt(&mut journal, text, how)?;
-            } else {
-                push_line(&mut journal, text)?;
-            }
-        }
+        number = number.saturating_add(2);
+        push_as(journal, line, how, number == spoilt.saturating_add(1))?;
+        push_as(journal, reply, how, number == spoilt)?;
     }
-    Ok(journal)
+    Ok(())
 }
 
 /// The text of an example's file.
@@ -129,27 +143,51 @@ pub fn text_of<R: Files + AllocGlobal>(rt: &R, name: &str, ending: &str) -> io::
     fs::read_to_string(rt, path.as_str())
 }
 
-fn input_of<R: Files + AllocGlobal>(rt: &R, input: &str) -> io::Result<Vec<u8>> {
-    if let Some(count) = input.strip_prefix('*') {
-        return Ok(agents_of(rt.alloc(), count)?);
-    }
-    let Some((name, spoiling)) = input.split_once(' ') else {
-        return fs::read(rt, input);
-    };
-    let (how, spoilt) = spoiling.split_once(' ').unwrap_or((spoiling, "0"));
-    let spoilt = spoilt.parse::<u64>().unwrap_or(0);
-    let lines = text_of(rt, name, "in")?;
-    let replies = text_of(rt, name, "out")?;
-    Ok(journal_of(rt.alloc(), lines.as_str(), replies.as_str(), how, spoilt)?)
+fn push_file<R: Files + AllocGlobal>(rt: &R, input: &mut Vec<u8>, file: &str) -> io::Result<()> {
+    let text = fs::read(rt, file)?;
+    Ok(input.extend_from_slice(&text)?)
 }
 
-fn words_of<'a>(alloc: Global, words: &'a str) -> Result<Vec<&'a str>, AllocError> {
-    let mut list = Vec::new(alloc);
+fn push_with_replies<R: Files + AllocGlobal>(
+    rt: &R,
+    input: &mut Vec<u8>,
+    name: &str,
+    lines: &str,
+    spoiling: &str,
+) -> io::Result<()> {
+    let replies = text_of(rt, name, "out")?;
+    let (how, spoilt) = spoiling.split_once(' ').unwrap_or((spoiling, "0"));
+    let spoilt = spoilt.parse::<u64>().unwrap_or(0);
+    Ok(push_journal(input, lines, replies.as_str(), how, spoilt)?)
+}
+
+fn push_example<R: Files + AllocGlobal>(
+    rt: &R,
+    input: &mut Vec<u8>,
+    name: &str,
+    spoiling: &str,
+) -> io::Result<()> {
+    let lines = text_of(rt, name, "in")?;
+    push_with_replies(rt, input, name, lines.as_str(), spoiling)
+}
+
+/// Adds what a command reads. It is lent: who owns a text behind a `?` proves how it is dropped.
+fn push_input<R: Files + AllocGlobal>(rt: &R, input: &mut Vec<u8>, wanted: &str) -> io::Result<()> {
+    if let Some(count) = wanted.strip_prefix('*') {
+        return Ok(push_agents(rt.alloc(), input, count)?);
+    }
+    match wanted.split_once(' ') {
+        Some((name, spoiling)) => push_example(rt, input, name, spoiling),
+        None => push_file(rt, input, wanted),
+    }
+}
+
+fn push_words<'a>(list: &mut Vec<&'a str>, words: &'a str) -> Result<(), AllocError> {
     list.push("drf")?;
     for word in words.split_whitespace() {
         list.push(word)?;
     }
-    Ok(list)
+    Ok(())
 }
 
 fn bounds_of(failing: &str) -> Bounds {
@@ -173,6 +211,28 @@ fn begins_with(text: &[u8], line: &str) -> bool {
     first == line.as_bytes()
 }
 
+/// Whether `check` says that of a journal.
+fn is_checked<R: Files + Threads + Wait + Sync + AllocGlobal>(
+    rt: &R,
+    text: &[u8],
+    verdict: &str,
+) -> bool {
+    let checked = done_by(rt, &["drf", "check"], text, NO_BOUNDS);
+    begins_with(&checked.written, verdict)
+}
+
+/// Whether a text is that of an audit of so many agents.
+fn is_audit(alloc: Global, text: &[u8], count: &str) -> Result<bool, AllocError> {
+    let mut whole = Vec::new(alloc);
+    push_audit(alloc, &mut whole, count)?;
+    Ok(text == whole.as_slice())
+}
+
+fn is_file<R: Files + AllocGlobal>(rt: &R, text: &[u8], file: &str) -> io::Result<bool> {
+    let whole = fs::read(rt, file)?;
+    Ok(text == whole.as_slice())
+}
+
 /// Whether a text is that of the file behind `@` or of the agents behind `*`, or a journal of which `check` says what stands behind
 /// `?`, or else begins with that line.
 fn is_text<R: Files + Threads + Wait + Sync + AllocGlobal>(
@@ -181,18 +241,15 @@ fn is_text<R: Files + Threads + Wait + Sync + AllocGlobal>(
     wanted: &str,
 ) -> io::Result<bool> {
     if let Some(verdict) = wanted.strip_prefix('?') {
-        let checked = done_by(rt, &["drf", "check"], text, NO_BOUNDS);
-        return Ok(begins_with(&checked.written, verdict));
+        return Ok(is_checked(rt, text, verdict));
     }
     if let Some(count) = wanted.strip_prefix('*') {
-        let whole = audit_of(rt.alloc(), count)?;
-        return Ok(text == whole.as_slice());
+        return Ok(is_audit(rt.alloc(), text, count)?);
     }
-    let Some(file) = wanted.strip_prefix('@') else {
-        return Ok(begins_with(text, wanted));
-    };
-    let whole = fs::read(rt, file)?;
-    Ok(text == whole.as_slice())
+    match wanted.strip_prefix('@') {
+        Some(file) => is_file(rt, text, file),
+        None => Ok(begins_with(text, wanted)),
+    }
 }
 
 /// What a command did.
@@ -240,14 +297,33 @@ fn is_done<R: Files + Threads + Wait + Sync + AllocGlobal>(
     Ok(done.status == wanted.status && is_written && is_told)
 }
 
+fn is_done_by<R: Files + Threads + Wait + Sync + AllocGlobal>(
+    rt: &R,
+    words: &[&str],
+    input: &[u8],
+    wanted: Wanted,
+) -> io::Result<bool> {
+    let done = done_by(rt, words, input, bounds_of(wanted.failing));
+    is_done(rt, &done, wanted)
+}
+
+fn is_done_on<R: Files + Threads + Wait + Sync + AllocGlobal>(
+    rt: &R,
+    words: &[&str],
+    wanted: Wanted,
+) -> io::Result<bool> {
+    let mut input = Vec::new(rt.alloc());
+    push_input(rt, &mut input, wanted.input)?;
+    is_done_by(rt, words, &input, wanted)
+}
+
 fn is_exact<R: Files + Threads + Wait + Sync + AllocGlobal>(rt: &R, row: &str) -> io::Result<bool> {
     let Some(wanted) = wanted_of(row) else {
         return Ok(false);
     };
-    let words = words_of(rt.alloc(), wanted.words)?;
-    let input = input_of(rt, wanted.input)?;
-    let done = done_by(rt, &words, &input, bounds_of(wanted.failing));
-    is_done(rt, &done, wanted)
+    let mut words = Vec::new(rt.alloc());
+    push_words(&mut words, wanted.words)?;
+    is_done_on(rt, &words, wanted)
 }
 
 pub fn run_all<R: Runtime + Threads + Wait + Sync + AllocGlobal>(rt: &R) -> io::Result<()> {

@@ -1,10 +1,9 @@
 -- An offer that is accepted.
 use Rattle.std.specs.Prelude.{◌≡◌, ℕ, Bool, true, false, not, List, [], ◌∷◌, Option, Some, None, nat_lt, if◌then◌else◌}
 use Rattle.std.specs.List.{list_any}
-use Rattle.std.specs.Option.{option_map_or}
 use Rattle.drf_rows.specs.LimitNumbers.{LimitNumbers}
 use Rattle.drf_rows.specs.Members.{has_framework}
-use Rattle.drf_rows.specs.Offers.{offer_at, has_offer, is_anothers, is_beyond, is_task_known, is_empty, left_of_offer}
+use Rattle.drf_rows.specs.Offers.{offer_at, has_offer, is_anothers, is_beyond, is_task_known, is_empty}
 use Rattle.drf_rows.specs.Step.{is_full}
 use Rattle.drf_rows.specs.Tasks.{Start, uses, covers_all}
 use Rattle.drf_rows.specs.declared.event.Accept as accepting
@@ -25,10 +24,6 @@ pub record IsEnough (rows : Rows) (number : ℕ) (starts : List Start) : Type 0 
 -- a filter, if there is to be one
 abbrev pub filter_if : Bool → FilterRow → Option FilterRow
 filter_if refused filter = if refused then Some filter else None
-
--- the offer of a number stands, and something is left of it
-abbrev pub has_rest : Rows → ℕ → List Start → Bool
-has_rest rows number starts = option_map_or (λ o. not (is_empty (left_of_offer o starts))) (offer_at rows number) false
 
 -- the cases in which an accept is refused, but for the number of filters
 abbrev pub cases_of_tasks : LimitNumbers → Rows → accepting.Accept → List (Bool × Refusal)

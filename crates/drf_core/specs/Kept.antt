@@ -12,7 +12,7 @@ pub record AreFew (limits : LimitNumbers) (rows : Rows) : Type 0 where
   pub frameworks : length rows.frameworks ≤ limits.frameworks
   pub clients : length (clients_of rows) ≤ limits.clients
   pub weights : length rows.weights ≤ limits.weights
-  pub events : rows.accepted ≤ limits.events
+  pub events : rows.events ≤ limits.events
 
 -- the rows are consistent, within the limits, and numbered by their events
 pub record IsKept (limits : LimitNumbers) (rows : Rows) : Type 0 where

@@ -1,5 +1,5 @@
 -- How much an event may add to what a sorter owes.
-use Rattle.std.specs.Prelude.{ℕ, ◌+◌, ◌≤◌, Bool, IsTrue, List, [], ◌∷◌, ◌++◌, Option, Some, None, length, map, filter, sum_by}
+use Rattle.std.specs.Prelude.{ℕ, ◌+◌, ◌≤◌, Bool, true, false, IsTrue, List, [], ◌∷◌, ◌++◌, Option, Some, None, length, map, filter, sum_by}
 use Rattle.std.specs.Option.{option_map_or}
 use Rattle.drf_role.specs.Text.{same_text}
 use Rattle.drf_rows.specs.Client.{Client, path_of}
@@ -51,6 +51,12 @@ touched rows (SetWeight role weight) = []
 touched rows (SetLimit role limit) = []
 touched rows (Cycle at) = offered_to (new_offers rows (effect rows (Cycle at)))
 touched rows Report = []
+
+-- keys may be made only where clients are put in order, and where they are new
+abbrev pub may_make_keys : Event → Bool
+may_make_keys (AddFramework framework roles) = true
+may_make_keys (Cycle at) = true
+may_make_keys event = false
 
 -- what an event that is not refused may add: nothing bounds a change of the cluster's total, which all keys depend on
 abbrev pub allowed : Rows → Event → Option ℕ

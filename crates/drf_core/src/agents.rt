@@ -1,5 +1,5 @@
 //! Agents register, take part or not, and leave.
-ghost use Rattle.std.specs.Prelude.{◌≡◌, ◌≤◌, None, OnOk, OnErr};
+ghost use Rattle.std.specs.Prelude.{◌≡◌, None, OnOk, OnErr};
 ghost use Rattle.drf_rows.specs.Step.{refusal_of, effect};
 ghost use Rattle.drf_rows.specs.declared.event.Event.TheVariants.{AddAgent, RemoveAgent, ActivateAgent, DeactivateAgent, SetAgent};
 ghost use Rattle.drf_core.specs.Kept.{IsKept};
@@ -26,7 +26,7 @@ impl<S: Sorter> Cluster<S> {
         requires welcome { refusal_of limits.now self.old.rows (AddAgent agent total) ≡ None }
         ensures ok { OnOk result (self.new.rows ≡ effect self.old.rows (AddAgent agent total)) }
         ensures err { OnErr result (self.new.rows ≡ self.old.rows) }
-        ensures made { self.old.work.made ≤ self.new.work.made }
+        ensures made { self.new.work.made ≡ self.old.work.made }
     {
         let sum = self.tables.total().plus(total.quantities())?;
         self.tables.add_agent(agent, total)?;
@@ -38,7 +38,7 @@ impl<S: Sorter> Cluster<S> {
     pub(crate) fn remove_agent(&mut self, agent: &Name) -> Result<(), AllocError>
         ensures ok { OnOk result (self.new.rows ≡ effect self.old.rows (RemoveAgent agent.now)) }
         ensures err { OnErr result (self.new.rows ≡ self.old.rows) }
-        ensures made { self.old.work.made ≤ self.new.work.made }
+        ensures made { self.new.work.made ≡ self.old.work.made }
     {
         let total = self.tables.total_without(agent)?;
         let sum = total.copy()?;
@@ -60,7 +60,7 @@ impl<S: Sorter> Cluster<S> {
     pub(crate) fn deactivate_agent(&mut self, agent: &Name)
         ensures rows { self.new.rows ≡ effect self.old.rows (DeactivateAgent agent.now) }
         ensures work { Adds S.COUNTED self.old.work self.new.work (nodes_of (touched self.old.rows (DeactivateAgent agent.now))) }
-        ensures made { self.old.work.made ≤ self.new.work.made }
+        ensures made { self.new.work.made ≡ self.old.work.made }
     {
         self.end(Ending::OffersOn(agent));
         self.tables.set_active(agent, false);
@@ -77,7 +77,7 @@ impl<S: Sorter> Cluster<S> {
         requires welcome { refusal_of limits.now self.old.rows (SetAgent agent.now total) ≡ None }
         ensures ok { OnOk result (self.new.rows ≡ effect self.old.rows (SetAgent agent.now total)) }
         ensures err { OnErr result (self.new.rows ≡ self.old.rows) }
-        ensures made { self.old.work.made ≤ self.new.work.made }
+        ensures made { self.new.work.made ≡ self.old.work.made }
     {
         let others = self.tables.total_without(agent)?;
         let sum = others.plus(total.quantities())?;

@@ -1,6 +1,6 @@
-ghost use Rattle.std.specs.Prelude.{◌≡◌, ◌≤◌, ◌++◌, None, IfOk, OnOk, OnErr, MatchOption};
+ghost use Rattle.std.specs.Prelude.{◌≡◌, ◌≤◌, ◌++◌, false, None, IfOk, IfSome, OnOk, OnErr, MatchOption};
 ghost use Rattle.drf_sorter.specs.Work.{Adds};
-ghost use Rattle.drf_core.specs.Working.{allowance, allowance_of_all};
+ghost use Rattle.drf_core.specs.Working.{allowance, allowance_of_all, may_make_keys};
 ghost use Rattle.drf_core.specs.Machine.{IsOpened, IsSafe, IsSame, IsAfter, IsAfterAll, HasRun};
 
 use crate::cluster::Cluster;
@@ -33,7 +33,8 @@ impl<S: Sorter> Model for Core<S> {
 }
 
 impl<S: Sorter> Core<S> {
-    ghost use Rattle.drf_rows.specs.Step.{live_rows, reply_to, replies_to};
+    ghost use Rattle.std.specs.List.{list_any};
+    ghost use Rattle.drf_rows.specs.Step.{live_rows, refusal_of, reply_to, replies_to};
     ghost use Rattle.drf_core.specs.Refusing.{early_refusal_of};
     ghost use Rattle.drf_rows.specs.Report.{report_of};
     ghost use Rattle.drf_core.specs.Content.{content_of};
@@ -56,8 +57,9 @@ impl<S: Sorter> Core<S> {
     /// Takes one event, whole or not at all. A refusal is a reply; a refused event changes nothing, nor does want of
     /// memory, which no refused event meets but one that is refused for what is free, held or consumed: where resources move
     /// between everyone and a role, or a total is another. However it ends, nothing is granted twice. At `Ok`, a sorter whose work is
-    /// counted owes no more for it than the nodes of the clients that it touches, and one for a weight; of `add_agent`,
-    /// `remove_agent` and `set_agent` no bound is said. However it ends, the count of keys has not fallen.
+    /// counted owes no more for it than the nodes of the clients that it touches, and one for a weight; of what `add_agent`,
+    /// `remove_agent` and `set_agent` leave stale no bound is said. However it ends, the count of keys has not fallen, and only a
+    /// `cycle` and an `add_framework` that are not refused make any.
     pub fn step(&mut self, event: Event) -> Result<Reply, AllocError>
         ensures reply { IfOk result (λ reply. reply ≡ reply_to self.old.limits self.old.rows event) }
         ensures ok { OnOk result (IsAfter self.old self.new event) }
@@ -66,6 +68,8 @@ impl<S: Sorter> Core<S> {
         ensures safe { IsSafe (live_rows self.new.rows) }
         ensures work { OnOk result (MatchOption (allowance self.old.limits self.old.rows event) (Unit {0}) (Adds S.COUNTED self.old.work self.new.work)) }
         ensures made { self.old.work.made ≤ self.new.work.made }
+        ensures keys { may_make_keys event ≡ false → self.new.work.made ≡ self.old.work.made }
+        ensures refused { IfSome (refusal_of self.old.limits self.old.rows event) (λ refusal. self.new.work.made ≡ self.old.work.made) }
     {
         self.cluster.forget_spent();
         if let Some(refusal) = self.cluster.refusal(&self.limits, &event)? {
@@ -84,7 +88,8 @@ impl<S: Sorter> Core<S> {
     }
 
     /// Takes events in order, and appends their replies. At an `Err` it stands after the events whose replies it has
-    /// appended. However it ends, nothing is granted twice, and the count of keys has not fallen.
+    /// appended. However it ends, nothing is granted twice, and the count of keys has not fallen; at `Ok` it has risen only where
+    /// `cycle` or `add_framework` was among the events.
     pub fn run(&mut self, events: &[Event], replies: &mut Vec<Reply>) -> Result<(), AllocError>
         ensures run { HasRun self.old self.new events.now replies.old.items replies.new.items }
         ensures ok { OnOk result (IsAfterAll self.old self.new events.now) }
@@ -92,6 +97,7 @@ impl<S: Sorter> Core<S> {
         ensures safe { IsSafe (live_rows self.new.rows) }
         ensures work { OnOk result (MatchOption (allowance_of_all self.old.limits self.old.rows events.now) (Unit {0}) (Adds S.COUNTED self.old.work self.new.work)) }
         ensures made { self.old.work.made ≤ self.new.work.made }
+        ensures keys { OnOk result (list_any may_make_keys events.now ≡ false → self.new.work.made ≡ self.old.work.made) }
     {
         self.tell_safe();
         for event in events {

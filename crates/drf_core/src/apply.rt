@@ -5,7 +5,7 @@ ghost use Rattle.drf_rows.specs.declared.event.Event.TheVariants.{SetWeight, Set
 ghost use Rattle.drf_rows.specs.declared.reply.Reply.TheVariants.{Done};
 ghost use Rattle.drf_core.specs.Kept.{IsKept};
 ghost use Rattle.drf_sorter.specs.Work.{Adds};
-ghost use Rattle.drf_core.specs.Working.{allowed};
+ghost use Rattle.drf_core.specs.Working.{allowed, may_make_keys};
 ghost use Rattle.drf_core.specs.Applying.{has_answer};
 
 use crate::cluster::Cluster;
@@ -21,7 +21,7 @@ impl<S: Sorter> Cluster<S> {
         requires { refusal_of limits.now self.old.rows (SetWeight role weight) ≡ None }
         ensures ok { OnOk result (self.new.rows ≡ effect self.old.rows (SetWeight role weight)) }
         ensures work { OnOk result (Adds S.COUNTED self.old.work self.new.work 1) }
-        ensures made { self.old.work.made ≤ self.new.work.made }
+        ensures made { self.new.work.made ≡ self.old.work.made }
         ensures err { OnErr result (self.new.rows ≡ self.old.rows) }
     {
         self.tables.reserve_weight()?;
@@ -54,6 +54,7 @@ impl<S: Sorter> Cluster<S> {
         ensures ok { OnOk result (self.new.rows ≡ effect self.old.rows event) }
         ensures work { OnOk result (MatchOption (allowed self.old.rows event) (Unit {0}) (Adds S.COUNTED self.old.work self.new.work)) }
         ensures made { self.old.work.made ≤ self.new.work.made }
+        ensures keys { may_make_keys event ≡ false → self.new.work.made ≡ self.old.work.made }
         ensures err { OnErr result (self.new.rows ≡ self.old.rows) }
     {
         match event {
@@ -68,7 +69,7 @@ impl<S: Sorter> Cluster<S> {
             Event::RemoveFramework { framework } => {
                 self.remove_framework(alloc, limits, &framework)
             }
-            Event::Accept(event) => self.accept(alloc, event),
+            Event::Accept(event) => self.accept(event),
             Event::Decline(event) => self.decline(&event),
             Event::Rescind { offer } => Ok(self.rescind(offer)),
             Event::Finish { framework, task } => Ok(self.finish(&framework, &task)),
@@ -104,6 +105,7 @@ impl<S: Sorter> Cluster<S> {
         ensures ok { OnOk result (self.new.rows ≡ effect self.old.rows event) }
         ensures work { OnOk result (MatchOption (allowed self.old.rows event) (Unit {0}) (Adds S.COUNTED self.old.work self.new.work)) }
         ensures made { self.old.work.made ≤ self.new.work.made }
+        ensures keys { may_make_keys event ≡ false → self.new.work.made ≡ self.old.work.made }
         ensures err { OnErr result (self.new.rows ≡ self.old.rows) }
     {
         match event {

@@ -86,8 +86,8 @@ impl<S: Sorter> Cluster<S> {
 
     /// Counts an accepted event.
     pub(crate) fn count_event(&mut self)
-        requires { self.old.rows.accepted + 1 < 2 ^ 64 }
-        ensures counted { self.new.rows ≡ record self.old.rows { accepted = self.old.rows.accepted + 1 } }
+        requires { self.old.rows.events + 1 < 2 ^ 64 }
+        ensures counted { self.new.rows ≡ record self.old.rows { events = self.old.rows.events + 1 } }
         ensures consistent { IsConsistent self.new.rows }
         ensures work { self.new.work ≡ self.old.work }
     {

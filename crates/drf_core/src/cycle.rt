@@ -17,12 +17,12 @@ ghost use Rattle.drf_sorter.specs.Work.{Adds};
 ghost use Rattle.drf_core.specs.Working.{AddsDrafts, nodes_of, offered_to, touched};
 
 use crate::cluster::Cluster;
-use crate::free::{Free, grant, is_worth_an_offer};
+use crate::free::{Free, grant};
 use drf_amount::Algebra;
 use drf_bundle::Bundle;
 use drf_gates::Quota;
 use drf_role::{ClientPath, Name};
-use drf_rows::{Limits, OfferLine, OfferRow};
+use drf_rows::{Limits, OfferLine, OfferRow, is_worth_an_offer};
 use drf_sorter::Sorter;
 use drf_tables::{Left, Tables};
 use std::alloc::{AllocError, Global};
@@ -104,7 +104,7 @@ pub(crate) fn try_first<S: Sorter>(
     ensures known { OnOk result (IsKnown drafts.new.quota free.new) }
     ensures lefts { drafts.new.lefts.items ≡ drafts.old.lefts.items }
     ensures work { OnOk result (AddsDrafts S.COUNTED (S.work sorter.old) (S.work sorter.new) drafts.old.offers.items drafts.new.offers.items) }
-    ensures made { (S.work sorter.old).made ≤ (S.work sorter.new).made }
+    ensures made { (S.work sorter.new).made ≡ (S.work sorter.old).made }
 {
     let Some(client) = sorter.first() else {
         return Ok(());
@@ -217,7 +217,7 @@ fn offer_lines(alloc: Global, offers: &[OfferRow]) -> Result<Vec<OfferLine>, All
 fn take_back<S: Sorter>(tables: &Tables, sorter: &mut S, offers: &mut Vec<OfferRow>)
     requires { IsDrafting (S.content sorter.old) tables.now.rows offers.old.items }
     ensures content { S.content sorter.new ≡ content_of tables.now.rows }
-    ensures made { (S.work sorter.old).made ≤ (S.work sorter.new).made }
+    ensures made { (S.work sorter.new).made ≡ (S.work sorter.old).made }
 {
     while let Some(offer) = offers.pop() {
         let client = ClientPath::from_parts(offer.role, offer.framework);

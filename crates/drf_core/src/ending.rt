@@ -1,5 +1,5 @@
 //! What is held ends.
-ghost use Rattle.std.specs.Prelude.{◌≡◌, ◌≤◌};
+ghost use Rattle.std.specs.Prelude.{◌≡◌};
 ghost use Rattle.drf_rows.specs.Endings.{without_ended};
 ghost use Rattle.drf_rows.specs.Ended.{ending_of};
 ghost use Rattle.drf_sorter.specs.Work.{Adds};
@@ -14,7 +14,7 @@ impl<S: Sorter> Cluster<S> {
     pub(crate) fn end(&mut self, ending: Ending)
         ensures rows { self.new.rows ≡ without_ended self.old.rows (ending_of ending.entry) }
         ensures work { Adds S.COUNTED self.old.work self.new.work (nodes_of (losers self.old.rows (ending_of ending.entry))) }
-        ensures made { self.old.work.made ≤ self.new.work.made }
+        ensures made { self.new.work.made ≡ self.old.work.made }
     {
         while let Some(held) = self.tables.end(ending) {
             self.sorter.refund(&held.client, held.bundle.quantities());

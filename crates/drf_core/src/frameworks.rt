@@ -85,7 +85,7 @@ fn remove_clients<S: Sorter>(sorter: &mut S, paths: &[ClientPath])
     requires { AreKnown (S.content sorter.old) paths.now }
     ensures content { S.content sorter.new ≡ without_all (S.content sorter.old) paths.now }
     ensures work { Adds S.COUNTED (S.work sorter.old) (S.work sorter.new) (sum_by length paths.now) }
-    ensures made { (S.work sorter.old).made ≤ (S.work sorter.new).made }
+    ensures made { (S.work sorter.new).made ≡ (S.work sorter.old).made }
 {
     for path in paths {
         sorter.remove(path);
@@ -128,7 +128,7 @@ impl<S: Sorter> Cluster<S> {
         requires known { has_framework self.old.rows framework.now ≡ true }
         ensures ok { OnOk result (self.new.rows ≡ effect self.old.rows (RemoveFramework framework.now)) }
         ensures work { OnOk result (Adds S.COUNTED self.old.work self.new.work (nodes_of (touched self.old.rows (RemoveFramework framework.now)))) }
-        ensures made { self.old.work.made ≤ self.new.work.made }
+        ensures made { self.new.work.made ≡ self.old.work.made }
         ensures err { OnErr result (self.new.rows ≡ self.old.rows) }
     {
         let paths = client_paths(alloc, framework, self.tables.clients(framework))?;
@@ -148,7 +148,7 @@ impl<S: Sorter> Cluster<S> {
         requires { is_in_role self.old.rows framework.now role.now ≡ true }
         ensures ok { OnOk result (self.new.rows ≡ effect self.old.rows (Suppress framework.now role.now)) }
         ensures work { OnOk result (Adds S.COUNTED self.old.work self.new.work (nodes_of (touched self.old.rows (Suppress framework.now role.now)))) }
-        ensures made { self.old.work.made ≤ self.new.work.made }
+        ensures made { self.new.work.made ≡ self.old.work.made }
         ensures err { OnErr result (self.new.rows ≡ self.old.rows) }
     {
         let path = ClientPath::new(alloc, role, framework)?;
@@ -167,7 +167,7 @@ impl<S: Sorter> Cluster<S> {
         requires { is_in_role self.old.rows framework.now role.now ≡ true }
         ensures ok { OnOk result (self.new.rows ≡ effect self.old.rows (Revive framework.now role.now)) }
         ensures work { OnOk result (Adds S.COUNTED self.old.work self.new.work (nodes_of (touched self.old.rows (Revive framework.now role.now)))) }
-        ensures made { self.old.work.made ≤ self.new.work.made }
+        ensures made { self.new.work.made ≡ self.old.work.made }
         ensures err { OnErr result (self.new.rows ≡ self.old.rows) }
     {
         let path = ClientPath::new(alloc, role, framework)?;

@@ -2,10 +2,10 @@
 ghost use Rattle.std.specs.Prelude.{◌≡◌, Option, Some, None, IfOk, OnOk, IsTrue, MatchOption};
 ghost use Rattle.std.specs.List.{list_any};
 ghost use Rattle.std.specs.Option.{option_copied};
-ghost use Rattle.drf_bundle.specs.Bundle.{IsBundle, rest};
+ghost use Rattle.drf_bundle.specs.Bundle.{rest};
 ghost use Rattle.drf_gates.specs.Quota.{Allowance, IsAllowanceOf};
 ghost use Rattle.drf_rows.specs.Client.{Client, path_of};
-ghost use Rattle.drf_rows.specs.Cycle.{free_of, is_allocatable, grant};
+ghost use Rattle.drf_rows.specs.Cycle.{free_of, grant};
 ghost use Rattle.drf_rows.specs.declared.rows.AgentRow.{AgentRow};
 ghost use Rattle.drf_rows.specs.declared.rows.Rows.{Rows};
 ghost use Rattle.drf_core.specs.Entitling.{IsEntitlement, IsKnown, IsOffered, IsQuotaOf, has_at_least, if_allocatable, is_reserved_for, is_usable_by};
@@ -14,17 +14,9 @@ use drf_amount::Algebra;
 use drf_bundle::{Bundle, Resource};
 use drf_gates::Quota;
 use drf_role::{ClientPath, Name, Role};
+use drf_rows::is_worth_an_offer;
 use drf_tables::Tables;
 use std::alloc::AllocError;
-
-/// Whether a bundle is worth an offer: 0.01 `cpus`, or 32 `mem`.
-pub fn is_worth_an_offer(bundle: &Bundle) -> bool
-    ensures value { result ≡ is_allocatable bundle.now }
-    ensures bundle { IsBundle bundle.now }
-{
-    let quantities = bundle.quantities();
-    10 <= quantities.get("cpus") || 32000 <= quantities.get("mem")
-}
 
 /// The bundle, if it is worth an offer.
 fn if_worth_an_offer(bundle: Bundle) -> Option<Bundle>

@@ -1,10 +1,9 @@
 //! Offers and tasks: what becomes of an offer, and how a task ends.
 ghost use Rattle.std.specs.Prelude.{◌≡◌, ◌≤◌, ◌&&◌, true, not, nat_lt, IfOk, OnOk, OnErr, Some};
 ghost use Rattle.drf_rows.specs.Consistent.{IsConsistent};
-ghost use Rattle.drf_rows.specs.Cycle.{at_moment};
-ghost use Rattle.drf_rows.specs.Offers.{offer_accepted, offer_declined, filter_of, filters_with, has_offer, is_empty, offer_at, refused_until, refuses_all};
+ghost use Rattle.drf_rows.specs.Offers.{filter_of, filters_with, has_offer, is_empty, offer_at, refused_until, refuses_all};
 ghost use Rattle.drf_rows.specs.Step.{effect};
-ghost use Rattle.drf_rows.specs.declared.event.Event.TheVariants.{Rescind, Finish};
+ghost use Rattle.drf_rows.specs.declared.event.Event.TheVariants as event;
 ghost use Rattle.drf_rows.specs.declared.limits.TheConstants.{LATEST_MOMENT};
 ghost use Rattle.drf_rows.specs.declared.rows.OfferRow.{OfferRow};
 ghost use Rattle.drf_core.specs.Accepting.{IsEnough, filter_if};
@@ -15,11 +14,11 @@ ghost use Rattle.drf_core.specs.Working.{losers, nodes_of};
 use crate::cluster::Cluster;
 use drf_amount::Algebra;
 use drf_bundle::Bundle;
-use drf_role::{ClientPath, Name};
+use drf_role::Name;
 use drf_rows::{Accept, Decline, FilterRow, LONGEST_FILTER, OfferRow};
 use drf_sorter::Sorter;
 use drf_tables::{Ending, Tables};
-use std::alloc::{AllocError, Global};
+use std::alloc::AllocError;
 
 /// The filter that keeps a bundle on an offer's agent from its client. It ends so long after the moment, both in
 /// milliseconds, but not later than after 365 days.
@@ -84,27 +83,26 @@ fn refuse_offer(
 
 impl<S: Sorter> Cluster<S> {
     /// A framework starts tasks with parts of an offer. The rest is free, and is refused for a time.
-    pub(crate) fn accept(&mut self, alloc: Global, accept: Accept) -> Result<(), AllocError>
+    pub(crate) fn accept(&mut self, accept: Accept) -> Result<(), AllocError>
         requires consistent { IsConsistent self.old.rows }
         requires enough { IsEnough self.old.rows accept.offer accept.tasks }
         requires early { accept.at ≤ LATEST_MOMENT }
-        ensures ok { OnOk result ((o : OfferRow) → offer_at self.old.rows accept.offer ≡ Some o
-            → self.new.rows ≡ offer_accepted (at_moment self.old.rows accept.at) o accept.tasks accept.refuse_ms) }
+        ensures ok { OnOk result (self.new.rows ≡ effect self.old.rows (event.Accept accept)) }
         ensures err { OnErr result (self.new.rows ≡ self.old.rows) }
         ensures work { OnOk result (Adds S.COUNTED self.old.work self.new.work (nodes_of (losers self.old.rows (one_offer accept.offer)))) }
-        ensures made { self.old.work.made ≤ self.new.work.made }
+        ensures made { self.new.work.made ≡ self.old.work.made }
     {
         // The proof learns that the tasks use bundles by this call alone.
         let _ = accept.tasks.as_slice();
         let offer = self.tables.offer(accept.offer).unwrap();
         let moment = self.tables.clock().max(accept.at);
         let rest = accept.tasks.rest_of(&offer.bundle)?;
-        let client = ClientPath::new(alloc, &offer.role, &offer.framework)?;
         let filter = filter_rest(offer, &rest, moment, accept.refuse_ms)?;
-        self.tables
-            .accept(accept.offer, accept.tasks, &rest, filter)?;
+        let held = self
+            .tables
+            .accept(accept.offer, accept.tasks, rest, filter)?;
         self.tables.set_clock(moment);
-        self.sorter.refund(&client, rest.quantities());
+        self.sorter.refund(&held.client, held.bundle.quantities());
         Ok(())
     }
 
@@ -113,11 +111,10 @@ impl<S: Sorter> Cluster<S> {
         requires consistent { IsConsistent self.old.rows }
         requires offer { has_offer self.old.rows decline.now.offer ≡ true }
         requires early { decline.now.at ≤ LATEST_MOMENT }
-        ensures ok { OnOk result ((o : OfferRow) → offer_at self.old.rows decline.now.offer ≡ Some o
-            → self.new.rows ≡ offer_declined (at_moment self.old.rows decline.now.at) o decline.now.refuse_ms) }
+        ensures ok { OnOk result (self.new.rows ≡ effect self.old.rows (event.Decline decline.now)) }
         ensures err { OnErr result (self.new.rows ≡ self.old.rows) }
         ensures work { OnOk result (Adds S.COUNTED self.old.work self.new.work (nodes_of (losers self.old.rows (one_offer decline.now.offer)))) }
-        ensures made { self.old.work.made ≤ self.new.work.made }
+        ensures made { self.new.work.made ≡ self.old.work.made }
     {
         let moment = self.tables.clock().max(decline.at);
         refuse_offer(&mut self.tables, decline.offer, moment, decline.refuse_ms)?;
@@ -128,18 +125,18 @@ impl<S: Sorter> Cluster<S> {
 
     /// An offer is taken back.
     pub(crate) fn rescind(&mut self, number: u64)
-        ensures rows { self.new.rows ≡ effect self.old.rows (Rescind number) }
+        ensures rows { self.new.rows ≡ effect self.old.rows (event.Rescind number) }
         ensures work { Adds S.COUNTED self.old.work self.new.work (nodes_of (losers self.old.rows (one_offer number))) }
-        ensures made { self.old.work.made ≤ self.new.work.made }
+        ensures made { self.new.work.made ≡ self.old.work.made }
     {
         self.end(Ending::Offer(number));
     }
 
     /// A task ends.
     pub(crate) fn finish(&mut self, framework: &Name, task: &Name)
-        ensures rows { self.new.rows ≡ effect self.old.rows (Finish framework.now task.now) }
+        ensures rows { self.new.rows ≡ effect self.old.rows (event.Finish framework.now task.now) }
         ensures work { Adds S.COUNTED self.old.work self.new.work (nodes_of (losers self.old.rows (one_task framework.now task.now))) }
-        ensures made { self.old.work.made ≤ self.new.work.made }
+        ensures made { self.new.work.made ≡ self.old.work.made }
     {
         let ending = Ending::Task {
             framework,

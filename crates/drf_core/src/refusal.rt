@@ -1,14 +1,17 @@
 //! Why an event is refused. But for the tests in `late`, none needs memory.
-ghost use Rattle.std.specs.Prelude.{◌≡◌, ◌∷◌, [], ◌<◌, ◌≤◌, false, length, not, None, IfNone, IfSome, IfOk, OnErr};
+ghost use Rattle.std.specs.Prelude.{◌≡◌, ◌∷◌, [], ◌<◌, ◌≤◌, false, length, not, is_some, None, IfNone, IfSome, IfOk, OnErr};
 ghost use Rattle.std.specs.List.{list_all};
+ghost use Rattle.std.specs.Option.{option_copied, option_map_or};
+ghost use Rattle.drf_role.specs.Text.{same_text};
 ghost use Rattle.drf_rows.specs.Consistent.{IsConsistent};
 ghost use Rattle.drf_rows.specs.Step.{accept_is_too_much, decline_is_too_much, first_case, is_full, is_in_role, is_too_large, too_many_agents, too_many_frameworks, too_many_limits, refusal_of};
 ghost use Rattle.drf_rows.specs.Members.{distinct, has_framework, with_agent};
-ghost use Rattle.drf_rows.specs.Offers.{are_many_filters, has_offer, has_task, is_anothers, is_beyond, is_task_known};
+ghost use Rattle.drf_rows.specs.Offers.{are_many_filters, has_task, is_beyond, is_empty, is_task_known, left_of_offer, offer_at};
+ghost use Rattle.drf_rows.specs.Tasks.{covers_all, uses};
 ghost use Rattle.drf_rows.specs.Weights.{is_weight, too_many_weights};
 ghost use Rattle.drf_rows.specs.declared.event.Event.TheVariants.{AddAgent, AddFramework, Rescind, Finish, SetWeight, SetLimit, Cycle};
 ghost use Rattle.drf_rows.specs.declared.reply.Refusal.TheVariants.{HistoryFull, UnknownFramework, NotInRole, TooMany};
-ghost use Rattle.drf_core.specs.Accepting.{cases_of_tasks, has_rest};
+ghost use Rattle.drf_core.specs.Accepting.{cases_of_tasks};
 ghost use Rattle.drf_core.specs.Kept.{AreFew};
 ghost use Rattle.drf_core.specs.Refusing.{cases_of_agent, cases_of_move, early_refusal_of};
 
@@ -16,7 +19,8 @@ use crate::late::refuse_late;
 use drf_bundle::{Bundle, Quantities};
 use drf_role::{Name, Role};
 use drf_rows::{
-    Accept, Decline, Event, LARGEST_AMOUNT, LATEST_MOMENT, Limits, Refusal, Table, TaskList,
+    Accept, Decline, Event, LARGEST_AMOUNT, LATEST_MOMENT, Limits, OfferRow, Refusal, Table,
+    TaskList,
 };
 use drf_tables::Tables;
 use std::alloc::AllocError;
@@ -32,7 +36,7 @@ pub(crate) fn first_case(cases: &[(bool, Refusal)]) -> Option<Refusal>
 pub(crate) fn is_full(limits: &Limits, tables: &Tables) -> bool
     ensures { result ≡ is_full limits.now tables.now.rows }
 {
-    limits.events() <= tables.accepted()
+    limits.events() <= tables.events()
 }
 
 /// A scalar of the total is above the largest amount.
@@ -121,20 +125,20 @@ fn too_many_limits(limits: &Limits, tables: &Tables, role: &Role, limit: &Quanti
 }
 
 /// The offer stands.
-fn has_offer(tables: &Tables, number: u64) -> bool
-    ensures { result ≡ has_offer tables.now.rows number }
+fn stands(offer: Option<&OfferRow>) -> bool
+    ensures { result ≡ is_some (option_copied offer.entry) }
 {
-    match tables.offer(number) {
+    match offer {
         Some(_) => true,
         None => false,
     }
 }
 
 /// The offer stands, and is another framework's.
-fn is_anothers(tables: &Tables, framework: &Name, number: u64) -> bool
-    ensures { result ≡ is_anothers tables.now.rows framework.now number }
+fn is_anothers(framework: &Name, offer: Option<&OfferRow>) -> bool
+    ensures { result ≡ option_map_or (λ o. not (same_text o.framework framework.now)) (option_copied offer.entry) false }
 {
-    match tables.offer(number) {
+    match offer {
         Some(offer) => offer.framework != *framework,
         None => false,
     }
@@ -160,10 +164,10 @@ fn is_task_known(tables: &Tables, framework: &Name, tasks: &TaskList) -> bool
 }
 
 /// The offer stands, and does not cover what all tasks use together, which may have no join.
-fn is_beyond(tables: &Tables, number: u64, tasks: &TaskList) -> bool
-    ensures { result ≡ is_beyond tables.now.rows number tasks.now }
+fn is_beyond(offer: Option<&OfferRow>, tasks: &TaskList) -> bool
+    ensures { result ≡ option_map_or (λ o. not (covers_all o.bundle (uses tasks.now))) (option_copied offer.entry) false }
 {
-    match tables.offer(number) {
+    match offer {
         Some(offer) => !tasks.are_covered_by(&offer.bundle),
         None => false,
     }
@@ -177,23 +181,29 @@ fn are_many_filters(limits: &Limits, tables: &Tables, at: u64) -> bool
 }
 
 /// Something is left of an offer, if it stands. It needs no memory.
-fn has_rest(tables: &Tables, number: u64, tasks: &TaskList) -> bool
-    requires { is_beyond tables.now.rows number tasks.now ≡ false }
-    ensures { result ≡ has_rest tables.now.rows number tasks.now }
+fn has_rest(offer: Option<&OfferRow>, tasks: &TaskList) -> bool
+    requires { option_map_or (λ o. not (covers_all o.bundle (uses tasks.now))) (option_copied offer) false ≡ false }
+    ensures { result ≡ option_map_or (λ o. not (is_empty (left_of_offer o tasks.now))) (option_copied offer.entry) false }
 {
-    match tables.offer(number) {
+    match offer {
         Some(offer) => tasks.leave_any_of(&offer.bundle),
         None => false,
     }
 }
 
 /// An accept would set one filter too many.
-fn accept_is_too_much(limits: &Limits, tables: &Tables, accept: &Accept) -> bool
-    requires { is_beyond tables.now.rows accept.now.offer accept.now.tasks ≡ false }
+fn accept_is_too_much(
+    limits: &Limits,
+    tables: &Tables,
+    offer: Option<&OfferRow>,
+    accept: &Accept,
+) -> bool
+    requires found { option_copied offer ≡ offer_at tables.now.rows accept.now.offer }
+    requires covered { is_beyond tables.now.rows accept.now.offer accept.now.tasks ≡ false }
     ensures { result ≡ accept_is_too_much limits.now tables.now.rows accept.now }
 {
     0 < accept.refuse_ms
-        && has_rest(tables, accept.offer, &accept.tasks)
+        && has_rest(offer, &accept.tasks)
         && are_many_filters(limits, tables, accept.at)
 }
 
@@ -279,12 +289,17 @@ fn refuse_unknown_client(
 }
 
 /// Why a framework that accepts an offer is refused, but for the number of filters.
-fn refuse_tasks(limits: &Limits, tables: &Tables, accept: &Accept) -> Option<Refusal>
+fn refuse_tasks(
+    limits: &Limits,
+    tables: &Tables,
+    offer: Option<&OfferRow>,
+    accept: &Accept,
+) -> Option<Refusal>
+    requires { option_copied offer ≡ offer_at tables.now.rows accept.now.offer }
     ensures { result ≡ first_case (cases_of_tasks limits.now tables.now.rows accept.now) }
 {
     let Accept {
         framework,
-        offer,
         tasks,
         at,
         ..
@@ -293,29 +308,39 @@ fn refuse_tasks(limits: &Limits, tables: &Tables, accept: &Accept) -> Option<Ref
         (is_full(limits, tables), Refusal::HistoryFull),
         (LATEST_MOMENT < *at, Refusal::BadMoment),
         (!tables.has_framework(framework), Refusal::UnknownFramework),
-        (!has_offer(tables, *offer), Refusal::UnknownOffer),
-        (is_anothers(tables, framework, *offer), Refusal::NotYours),
+        (!stands(offer), Refusal::UnknownOffer),
+        (is_anothers(framework, offer), Refusal::NotYours),
         (is_task_known(tables, framework, tasks), Refusal::KnownTask),
         (tasks.has_empty(), Refusal::Empty),
-        (is_beyond(tables, *offer, tasks), Refusal::NotCovered),
+        (is_beyond(offer, tasks), Refusal::NotCovered),
     ])
 }
 
 /// Why an accept is refused whose offer covers the tasks.
-fn refuse_rest(limits: &Limits, tables: &Tables, accept: &Accept) -> Option<Refusal>
-    requires { is_beyond tables.now.rows accept.now.offer accept.now.tasks ≡ false }
+fn refuse_rest(
+    limits: &Limits,
+    tables: &Tables,
+    offer: Option<&OfferRow>,
+    accept: &Accept,
+) -> Option<Refusal>
+    requires found { option_copied offer ≡ offer_at tables.now.rows accept.now.offer }
+    requires covered { is_beyond tables.now.rows accept.now.offer accept.now.tasks ≡ false }
     ensures { result ≡ first_case ((accept_is_too_much limits.now tables.now.rows accept.now, TooMany) ∷ []) }
 {
-    first_case(&[(accept_is_too_much(limits, tables, accept), Refusal::TooMany)])
+    first_case(&[(
+        accept_is_too_much(limits, tables, offer, accept),
+        Refusal::TooMany,
+    )])
 }
 
 /// Why a framework that accepts an offer is refused. What is left of the offer is asked for only where it covers the tasks.
 fn refuse_accept(limits: &Limits, tables: &Tables, accept: &Accept) -> Option<Refusal>
     ensures { result ≡ refusal_of limits.now tables.now.rows (Event.Accept accept.now) }
 {
-    match refuse_tasks(limits, tables, accept) {
+    let offer = tables.offer(accept.offer);
+    match refuse_tasks(limits, tables, offer, accept) {
         Some(refusal) => Some(refusal),
-        None => refuse_rest(limits, tables, accept),
+        None => refuse_rest(limits, tables, offer, accept),
     }
 }
 
@@ -323,18 +348,14 @@ fn refuse_accept(limits: &Limits, tables: &Tables, accept: &Accept) -> Option<Re
 fn refuse_decline(limits: &Limits, tables: &Tables, decline: &Decline) -> Option<Refusal>
     ensures { result ≡ refusal_of limits.now tables.now.rows (Event.Decline decline.now) }
 {
-    let Decline {
-        framework,
-        offer,
-        at,
-        ..
-    } = decline;
+    let Decline { framework, at, .. } = decline;
+    let offer = tables.offer(decline.offer);
     first_case(&[
         (is_full(limits, tables), Refusal::HistoryFull),
         (LATEST_MOMENT < *at, Refusal::BadMoment),
         (!tables.has_framework(framework), Refusal::UnknownFramework),
-        (!has_offer(tables, *offer), Refusal::UnknownOffer),
-        (is_anothers(tables, framework, *offer), Refusal::NotYours),
+        (!stands(offer), Refusal::UnknownOffer),
+        (is_anothers(framework, offer), Refusal::NotYours),
         (
             decline_is_too_much(limits, tables, decline),
             Refusal::TooMany,
@@ -348,7 +369,7 @@ fn refuse_rescind(limits: &Limits, tables: &Tables, number: u64) -> Option<Refus
 {
     first_case(&[
         (is_full(limits, tables), Refusal::HistoryFull),
-        (!has_offer(tables, number), Refusal::UnknownOffer),
+        (!stands(tables.offer(number)), Refusal::UnknownOffer),
     ])
 }
 

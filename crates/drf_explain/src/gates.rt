@@ -4,7 +4,6 @@ ghost use Rattle.std.specs.Option.{option_copied};
 ghost use Rattle.drf_bundle.specs.Bundle.{covers};
 ghost use Rattle.drf_gates.specs.Quota.{used_at};
 ghost use Rattle.drf_rows.specs.Client.{Client, path_of};
-ghost use Rattle.drf_rows.specs.Cycle.{is_allocatable};
 ghost use Rattle.drf_rows.specs.Filters.{holds_back, is_on_agent};
 ghost use Rattle.drf_rows.specs.Quota.{binds, consumption, room_under};
 ghost use Rattle.drf_rows.specs.declared.rows.AgentRow.{AgentRow};
@@ -17,7 +16,7 @@ use drf_amount::Algebra;
 use drf_bundle::Bundle;
 use drf_gates::Quota;
 use drf_role::{ClientPath, Name, Role};
-use drf_rows::{Copied, FilterRow, LimitRow, Rows};
+use drf_rows::{Copied, FilterRow, LimitRow, Rows, is_worth_an_offer};
 use std::alloc::{AllocError, Global};
 
 /// What decides, beside what is free, what a client gets on an agent: the moment in milliseconds, the filters on that agent, and the
@@ -28,14 +27,6 @@ pub struct Gates<'a> {
     moment: u64,
     filters: Vec<FilterRow>,
     limits: &'a [LimitRow],
-}
-
-/// Whether a bundle is worth an offer.
-fn is_worth_an_offer(bundle: &Bundle) -> bool
-    ensures { result ≡ is_allocatable bundle.now }
-{
-    let quantities = bundle.quantities();
-    10 <= quantities.get("cpus") || 32000 <= quantities.get("mem")
 }
 
 /// The scalar that makes a part worth an offer.

@@ -96,7 +96,7 @@ pub record IsConsistent (rows : Rows) : Type 0 where
 
 -- a cycle makes at most 2^24 offers, so that numbers of offers stay at most 2^56
 abbrev pub IsNumberedByEvents : Rows → Type 0
-IsNumberedByEvents rows = rows.next_offer ≤ 1 + rows.accepted * 2 ^ 24
+IsNumberedByEvents rows = rows.next_offer ≤ 1 + rows.events * 2 ^ 24
 
 -- nothing on the agent is granted twice: what is free there and what is held there join to its total
 abbrev pub IsConserved : Rows → AgentRow → Type 0

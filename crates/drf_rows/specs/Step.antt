@@ -47,7 +47,7 @@ opening = record {
   filters = [];
   clock = 0;
   next_offer = 1;
-  accepted = 0;
+  events = 0;
 }
 
 -- the rows that still tell of something: all but the filters that are not in force
@@ -55,7 +55,7 @@ abbrev pub live_rows : Rows → Rows
 live_rows rows = record rows { filters = in_force rows.clock rows.filters }
 
 abbrev pub is_full : LimitNumbers → Rows → Bool
-is_full limits rows = nat_le limits.events rows.accepted
+is_full limits rows = nat_le limits.events rows.events
 
 -- the names of scalars over all agents would be too many
 abbrev pub too_many_names : LimitNumbers → List AgentRow → Bool
@@ -252,7 +252,7 @@ answer before after other = Done
 -- the rows after an event
 unfoldable pub rows_after : LimitNumbers → Rows → Event → Rows
 rows_after limits rows event =
-    option_map_or (λ refusal. rows) (refusal_of limits rows event) (record (effect rows event) { accepted = rows.accepted + 1 })
+    option_map_or (λ refusal. rows) (refusal_of limits rows event) (record (effect rows event) { events = rows.events + 1 })
 
 -- the reply to an event
 unfoldable pub reply_to : LimitNumbers → Rows → Event → Reply

@@ -13,6 +13,7 @@ mod report;
 mod rows;
 mod table;
 mod tasks;
+mod worth;
 
 pub use copied::{Copied, copy_all};
 pub use ending::Ending;
@@ -36,3 +37,4 @@ pub use rows::{
 };
 pub use table::Table;
 pub use tasks::{MOST_TASKS, TaskList};
+pub use worth::is_worth_an_offer;

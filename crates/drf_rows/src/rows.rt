@@ -1,3 +1,5 @@
+ghost use Rattle.std.specs.Prelude.{◌≡◌, IfOk};
+
 use crate::copied::Copied;
 use crate::table::Table;
 use drf_amount::Algebra;
@@ -72,7 +74,7 @@ pub struct FilterRow {
     pub until: u64,
 }
 
-/// All that the allocator knows. `clock` is in milliseconds, `next_offer` is the number of the next offer, and `accepted`
+/// All that the allocator knows. `clock` is in milliseconds, `next_offer` is the number of the next offer, and `events`
 /// counts the events that were not refused.
 #[derive(Debug, Drop)]
 pub struct Rows {
@@ -85,7 +87,17 @@ pub struct Rows {
     pub filters: Table<FilterRow>,
     pub clock: u64,
     pub next_offer: u64,
-    pub accepted: u64,
+    pub events: u64,
+}
+
+impl Copied for AgentRow {
+    fn copy(&self) -> Result<AgentRow, AllocError> {
+        Ok(AgentRow {
+            name: self.name.copy()?,
+            total: self.total.copy()?,
+            active: self.active,
+        })
+    }
 }
 
 impl Copied for ClientRow {
@@ -94,6 +106,15 @@ impl Copied for ClientRow {
             role: self.role.copy()?,
             count: self.count,
             suppressed: self.suppressed,
+        })
+    }
+}
+
+impl Copied for FrameworkRow {
+    fn copy(&self) -> Result<FrameworkRow, AllocError> {
+        Ok(FrameworkRow {
+            name: self.name.copy()?,
+            clients: self.clients.copy()?,
         })
     }
 }
@@ -122,6 +143,24 @@ impl Copied for TaskRow {
     }
 }
 
+impl Copied for WeightRow {
+    fn copy(&self) -> Result<WeightRow, AllocError> {
+        Ok(WeightRow {
+            role: self.role.copy()?,
+            weight: self.weight,
+        })
+    }
+}
+
+impl Copied for LimitRow {
+    fn copy(&self) -> Result<LimitRow, AllocError> {
+        Ok(LimitRow {
+            role: self.role.copy()?,
+            limit: self.limit.copy()?,
+        })
+    }
+}
+
 impl Copied for FilterRow {
     fn copy(&self) -> Result<FilterRow, AllocError> {
         Ok(FilterRow {
@@ -130,6 +169,26 @@ impl Copied for FilterRow {
             agent: self.agent.copy()?,
             bundle: self.bundle.copy()?,
             until: self.until,
+        })
+    }
+}
+
+impl Rows {
+    /// Another list of the same rows.
+    pub fn copy(&self) -> Result<Rows, AllocError>
+        ensures { IfOk result (λ copy. copy ≡ self.now) }
+    {
+        Ok(Rows {
+            agents: self.agents.copy()?,
+            frameworks: self.frameworks.copy()?,
+            offers: self.offers.copy()?,
+            tasks: self.tasks.copy()?,
+            weights: self.weights.copy()?,
+            limits: self.limits.copy()?,
+            filters: self.filters.copy()?,
+            clock: self.clock,
+            next_offer: self.next_offer,
+            events: self.events,
         })
     }
 }

@@ -88,7 +88,7 @@ pub rows-copied : (t : Inside) (agents : List (Text × Agent)) (frameworks : Lis
     (filters : List FilterRow) (weights : List (Path × ℕ)) (limits : List LimitRow)
     → agents ≡ t.agents.entries → framework_rows frameworks ≡ framework_rows t.frameworks.entries → holdings ≡ t.holdings
     → filters ≡ t.filters → weights ≡ t.weights.entries → limits ≡ t.quota.limits
-    → rows_of agents frameworks holdings filters weights limits t.clock t.next_offer t.accepted ≡ rows_in t
+    → rows_of agents frameworks holdings filters weights limits t.clock t.next_offer t.events ≡ rows_in t
 unfolding rows_of
 rows-copied t agents frameworks holdings filters weights limits agents_are frameworks_are held filters_are weights_are limits_are =
     λ i. record {
@@ -101,7 +101,7 @@ rows-copied t agents frameworks holdings filters weights limits agents_are frame
       filters = filters_are i;
       clock = t.clock;
       next_offer = t.next_offer;
-      accepted = t.accepted;
+      events = t.events;
     }
 
 -- and a copied quota counts what they say

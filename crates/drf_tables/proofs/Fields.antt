@@ -136,7 +136,7 @@ module _ (t : Inside) where
     last_agent = inserted ∙ insert_entry-new name a t.agents.entries (sym (has_agent-rows_in name) ∙ new)
 
     pub rows_of-agent : a.active ≡ true
-        → rows_of entries t.frameworks.entries t.holdings t.filters t.weights.entries t.quota.limits t.clock t.next_offer t.accepted
+        → rows_of entries t.frameworks.entries t.holdings t.filters t.weights.entries t.quota.limits t.clock t.next_offer t.events
         ≡ agent_added (rows_in t) name a.total
     unfolding rows_of
     rows_of-agent active =
@@ -150,7 +150,7 @@ module _ (t : Inside) where
   -- and so does a framework
   pub rows_of-framework : (entries : List (Text × Vec ClientRow)) (name : Text) (v : Vec ClientRow)
       → has_framework (rows_in t) name ≡ false → entries ≡ insert_entry same_text t.frameworks.entries name v
-      → rows_of t.agents.entries entries t.holdings t.filters t.weights.entries t.quota.limits t.clock t.next_offer t.accepted
+      → rows_of t.agents.entries entries t.holdings t.filters t.weights.entries t.quota.limits t.clock t.next_offer t.events
       ≡ framework_added (rows_in t) (framework_row (name, v))
   unfolding rows_of
   rows_of-framework entries name v new inserted =
@@ -164,7 +164,7 @@ module _ (t : Inside) where
       → map agent_row entries ≡ map agent_row t.agents.entries
       → framework_rows counted ≡ counting_all (framework_rows t.frameworks.entries) made
       → held.offers ≡ t.holdings.offers ++ made → held.tasks ≡ t.holdings.tasks
-      → rows_of entries counted held t.filters t.weights.entries t.quota.limits t.clock (t.next_offer + length made) t.accepted
+      → rows_of entries counted held t.filters t.weights.entries t.quota.limits t.clock (t.next_offer + length made) t.events
       ≡ with_offers (rows_in t) made
   unfolding rows_of
   rows_of-offers entries counted held made agents frameworks offers tasks =

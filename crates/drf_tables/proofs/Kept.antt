@@ -46,9 +46,9 @@ module _ (rows new : Rows) (agents : List (Text × Agent)) (sum : List Entry) (n
 
 pub IsKept-clocked : (rows : Rows) (agents : List (Text × Agent)) (sum : List Entry) (number clock accepted : ℕ)
     → clock ≤ LATEST_MOMENT → IsKept rows agents sum number
-    → IsKept (record rows { clock = clock; accepted = accepted }) agents sum number
+    → IsKept (record rows { clock = clock; events = accepted }) agents sum number
 IsKept-clocked rows agents sum number clock accepted early kept =
-    IsKept-same rows (record rows { clock = clock; accepted = accepted }) agents sum number kept
+    IsKept-same rows (record rows { clock = clock; events = accepted }) agents sum number kept
     (record {
       agents = kept.consistent.agents;
       frameworks = kept.consistent.frameworks;

@@ -35,18 +35,18 @@ module _ (t : Inside) (entries : List (Text × Agent)) (after : Allowance) (same
     (limits : t.quota.limits ≡ after.limits) where
   -- the rows with the same agents and limits
   abbrev pub rows_still : Rows
-  rows_still = rows_of entries t.frameworks.entries t.holdings t.filters t.weights.entries after.limits t.clock t.next_offer t.accepted
+  rows_still = rows_of entries t.frameworks.entries t.holdings t.filters t.weights.entries after.limits t.clock t.next_offer t.events
 
   pub kept-limits : IsKept (rows_in t) t.agents.entries t.total t.clients → IsKept rows_still entries t.total t.clients
   kept-limits kept =
       subst (λ (q : List (Text × Agent) × List LimitRow).
-      IsKept (rows_of q.0 t.frameworks.entries t.holdings t.filters t.weights.entries q.1 t.clock t.next_offer t.accepted) q.0 t.total t.clients)
+      IsKept (rows_of q.0 t.frameworks.entries t.holdings t.filters t.weights.entries q.1 t.clock t.next_offer t.events) q.0 t.total t.clients)
       (λ i. (sym same i, limits i)) kept
 
   pub counts-limits : CountsIf t.is_counted (rows_in t) after → CountsIf t.is_counted rows_still after
   counts-limits counts =
       subst (λ (q : List (Text × Agent) × List LimitRow).
-      CountsIf t.is_counted (rows_of q.0 t.frameworks.entries t.holdings t.filters t.weights.entries q.1 t.clock t.next_offer t.accepted) after)
+      CountsIf t.is_counted (rows_of q.0 t.frameworks.entries t.holdings t.filters t.weights.entries q.1 t.clock t.next_offer t.events) after)
       (λ i. (sym same i, limits i)) counts
 
 -- offers change no limit

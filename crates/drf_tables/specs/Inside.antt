@@ -71,13 +71,13 @@ rows_of agents frameworks holdings filters weights limits clock next_offer accep
   filters = filters;
   clock = clock;
   next_offer = next_offer;
-  accepted = accepted;
+  events = accepted;
 }
 
 -- the rows that the fields stand for
 abbrev pub rows_in : Inside → Rows
 rows_in t =
-    rows_of t.agents.entries t.frameworks.entries t.holdings t.filters t.weights.entries t.quota.limits t.clock t.next_offer t.accepted
+    rows_of t.agents.entries t.frameworks.entries t.holdings t.filters t.weights.entries t.quota.limits t.clock t.next_offer t.events
 
 -- what is kept of an agent as its free part is left of its total when all that is held there is taken from it
 abbrev pub IsKnown : List Holding → Text × Agent → Type 0

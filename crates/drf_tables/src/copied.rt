@@ -108,7 +108,7 @@ impl Tables {
             weights: copy_weights(&self.weights)?,
             clock: self.clock,
             next_offer: self.next_offer,
-            accepted: self.accepted,
+            events: self.events,
             total: self.total.copy()?,
             clients: self.clients,
             quota: self.quota.copy()?,

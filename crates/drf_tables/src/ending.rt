@@ -1,8 +1,9 @@
 //! What is held ends, and an offer that is accepted becomes tasks.
 #![tactic(auto, unfolding(crate::specs::Inside::rows_of))]
 
-ghost use Rattle.std.specs.Prelude.{◌≡◌, ◌++◌, ◌∷◌, [], true, Some, OnOk, OnErr, IfSome, IfNone, option_copied};
+ghost use Rattle.std.specs.Prelude.{◌≡◌, ◌++◌, ◌∷◌, [], true, Some, IfOk, OnOk, OnErr, IfSome, IfNone, option_copied};
 ghost use Rattle.std.specs.Option.{option_map_or};
+ghost use Rattle.drf_role.specs.Path.{client_path};
 ghost use Rattle.drf_rows.specs.Consistent.{IsConsistent};
 ghost use Rattle.drf_rows.specs.Endings.{without_ended};
 ghost use Rattle.drf_rows.specs.Offers.{left_of_offer, offer_at, has_task};
@@ -77,19 +78,21 @@ impl Tables {
         })
     }
 
-    /// A framework starts tasks with parts of an offer, of which the rest is free, and a filter stands last, if one is given. An
-    /// `Err` changes no row.
+    /// A framework starts tasks with parts of an offer. The rest is free, and held no longer, as is told, and a filter stands
+    /// last, if one is given. An `Err` changes no row.
     pub fn accept(
         &mut self,
         number: u64,
         tasks: TaskList,
-        rest: &Bundle,
+        rest: Bundle,
         filter: Option<FilterRow>,
-    ) -> Result<(), AllocError>
+    ) -> Result<Held, AllocError>
         requires can { CanAccept self.old.rows number tasks filter }
-        requires rest { (o : OfferRow) → offer_at self.old.rows number ≡ Some o → rest.now ≡ left_of_offer o tasks }
+        requires rest { (o : OfferRow) → offer_at self.old.rows number ≡ Some o → rest ≡ left_of_offer o tasks }
         ensures ok { OnOk result ((o : OfferRow) → offer_at self.old.rows number ≡ Some o
             → self.new.rows ≡ with_accepted self.old.rows o tasks filter) }
+        ensures held { IfOk result (λ held. (o : OfferRow) → offer_at self.old.rows number ≡ Some o
+            → (held.client ≡ client_path o.role o.framework) × (held.bundle ≡ left_of_offer o tasks)) }
         ensures err { OnErr result (self.new.rows ≡ self.old.rows) }
         ensures counted { self.new.counted ≡ self.old.counted }
     {
@@ -97,9 +100,12 @@ impl Tables {
         add_if(&mut self.filters, filter)?;
         match self.holdings.start(number, tasks) {
             Ok(offer) => {
-                give_back(&mut self.agents, &offer.agent, rest);
-                release_held(&mut self.quota, self.is_counted, &offer.role, rest);
-                Ok(())
+                give_back(&mut self.agents, &offer.agent, &rest);
+                release_held(&mut self.quota, self.is_counted, &offer.role, &rest);
+                Ok(Held {
+                    client: ClientPath::from_parts(offer.role, offer.framework),
+                    bundle: rest,
+                })
             }
             Err(error) => {
                 self.filters.truncate(filters);

@@ -57,7 +57,7 @@ pub struct Tables {
     pub(crate) weights: IndexMap<Role, u64>,
     pub(crate) clock: u64,
     pub(crate) next_offer: u64,
-    pub(crate) accepted: u64,
+    pub(crate) events: u64,
     // What the agents have together.
     pub(crate) total: Quantities,
     // How many clients the frameworks have together.
@@ -98,7 +98,7 @@ impl Tables {
             weights: IndexMap::new(alloc),
             clock: 0,
             next_offer: 1,
-            accepted: 0,
+            events: 0,
             total: Quantities::empty(alloc),
             clients: 0,
             quota: Quota::new(alloc),
@@ -122,10 +122,10 @@ impl Tables {
     }
 
     /// How many events were accepted.
-    pub fn accepted(&self) -> u64
-        ensures { result ≡ self.now.rows.accepted }
+    pub fn events(&self) -> u64
+        ensures { result ≡ self.now.rows.events }
     {
-        self.accepted
+        self.events
     }
 
     pub fn agent_count(&self) -> usize
@@ -231,11 +231,11 @@ impl Tables {
 
     /// Counts an accepted event.
     pub fn count_event(&mut self)
-        requires { self.old.rows.accepted + 1 < 2 ^ 64 }
-        ensures counted { self.new.rows ≡ record self.old.rows { accepted = self.old.rows.accepted + 1 } }
+        requires { self.old.rows.events + 1 < 2 ^ 64 }
+        ensures counted { self.new.rows ≡ record self.old.rows { events = self.old.rows.events + 1 } }
         ensures consistent { IsConsistent self.new.rows }
     {
-        self.accepted += 1;
+        self.events += 1;
     }
 
     /// Adds an agent that is active. An `Err` changes no row.
@@ -345,7 +345,7 @@ impl Tables {
             filters: self.filters.copy_in_force(self.clock)?,
             clock: self.clock,
             next_offer: self.next_offer,
-            accepted: self.accepted,
+            events: self.events,
         })
     }
 }

@@ -107,13 +107,13 @@ turns-clients rows (agent ∷ agents) = turns-clients (turn rows agent) agents �
 -- the agents stay, and as many frameworks
 tried-tables : (rows : Rows) (agent : AgentRow) (client : Client) (granted : Option (List Resource))
     → let after : Rows = option_map_or (λ b. with_offer rows (new_offer rows agent client b)) granted rows in
-    (after.agents ≡ rows.agents) × (length after.frameworks ≡ length rows.frameworks) × (after.accepted ≡ rows.accepted)
+    (after.agents ≡ rows.agents) × (length after.frameworks ≡ length rows.frameworks) × (after.events ≡ rows.events)
 unfolding with_offer
 tried-tables rows agent client None = (refl, refl, refl)
 tried-tables rows agent client (Some bundle) = (refl, length-map rows.frameworks (count_offer client), refl)
 
 all_tried-tables : (rows : Rows) (agent : AgentRow) (clients : List Client)
-    → ((all_tried rows agent clients).agents ≡ rows.agents) × (length (all_tried rows agent clients).frameworks ≡ length rows.frameworks) × ((all_tried rows agent clients).accepted ≡ rows.accepted)
+    → ((all_tried rows agent clients).agents ≡ rows.agents) × (length (all_tried rows agent clients).frameworks ≡ length rows.frameworks) × ((all_tried rows agent clients).events ≡ rows.events)
 all_tried-tables rows agent [] = (refl, refl, refl)
 all_tried-tables rows agent (client ∷ clients) =
     let later = all_tried-tables (tried rows agent client) agent clients in
@@ -121,7 +121,7 @@ all_tried-tables rows agent (client ∷ clients) =
     (later.0 ∙ first.0, later.1 ∙ first.1, later.2 ∙ first.2)
 
 pub turns-tables : (rows : Rows) (agents : List AgentRow)
-    → ((turns rows agents).agents ≡ rows.agents) × (length (turns rows agents).frameworks ≡ length rows.frameworks) × ((turns rows agents).accepted ≡ rows.accepted)
+    → ((turns rows agents).agents ≡ rows.agents) × (length (turns rows agents).frameworks ≡ length rows.frameworks) × ((turns rows agents).events ≡ rows.events)
 unfolding turn
 turns-tables rows [] = (refl, refl, refl)
 turns-tables rows (agent ∷ agents) =
@@ -174,8 +174,8 @@ content_of-clock rows clock = refl
 pub drafting-begins : (content : Content) (limits : LimitNumbers) (rows tables : Rows) (clock : ℕ) (offers : List OfferRow) → content ≡ content_of rows
     → IsKept limits rows → clock ≤ LATEST_MOMENT → tables ≡ record rows { clock = clock } → offers ≡ [] → IsDrafting content tables offers
 drafting-begins content limits rows tables clock offers sorted kept moment same none =
-    let events : rows.accepted ≤ 4294967295 = omega (arith, kept.few.events, kept.few.ceilings.events.1) in
-    let numbered : rows.next_offer ≤ 1 + rows.accepted * 2 ^ 24 = kept.numbered in
+    let events : rows.events ≤ 4294967295 = omega (arith, kept.few.events, kept.few.ceilings.events.1) in
+    let numbered : rows.next_offer ≤ 1 + rows.events * 2 ^ 24 = kept.numbered in
     rw (same, none) (record {
       sorted = sorted ∙ sym (content_of-clock rows clock);
       consistent = consistent-clock rows clock kept.consistent moment;

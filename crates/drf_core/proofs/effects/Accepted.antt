@@ -194,20 +194,12 @@ rows_declined rows middle tables number o at moment refuse_ms found later same e
 
 -- ---- the effects
 
-pub effect-accept : (rows tables : Rows) (a : accepting.Accept)
-    → has_offer rows a.offer ≡ true
-    → ((o : OfferRow) → offer_at rows a.offer ≡ Some o → tables ≡ offer_accepted (at_moment rows a.at) o a.tasks a.refuse_ms)
-    → tables ≡ effect rows (Accept a)
+pub effect-accept : (rows tables : Rows) (a : accepting.Accept) (o : OfferRow) → offer_at rows a.offer ≡ Some o
+    → tables ≡ offer_accepted (at_moment rows a.at) o a.tasks a.refuse_ms → tables ≡ effect rows (Accept a)
 unfolding effect
-effect-accept rows tables a stands each =
-    let one = some_offer rows a.offer stands in
-    rw one.at (each one.offer one.at)
+effect-accept rows tables a o at is = rw at is
 
-pub effect-decline : (rows tables : Rows) (d : declining.Decline)
-    → has_offer rows d.offer ≡ true
-    → ((o : OfferRow) → offer_at rows d.offer ≡ Some o → tables ≡ offer_declined (at_moment rows d.at) o d.refuse_ms)
-    → tables ≡ effect rows (Decline d)
+pub effect-decline : (rows tables : Rows) (d : declining.Decline) (o : OfferRow) → offer_at rows d.offer ≡ Some o
+    → tables ≡ offer_declined (at_moment rows d.at) o d.refuse_ms → tables ≡ effect rows (Decline d)
 unfolding effect
-effect-decline rows tables d stands each =
-    let one = some_offer rows d.offer stands in
-    rw one.at (each one.offer one.at)
+effect-decline rows tables d o at is = rw at is

@@ -54,8 +54,8 @@ not_full limits rows (Cycle at) none = (no_case_of limits rows (Cycle at) none).
 not_full limits rows Report none = (no_case_of limits rows Report none).0
 
 -- there is room for the event
-pub room_for : (limits : LimitNumbers) (rows : Rows) (event : Event) → refusal_of limits rows event ≡ None → rows.accepted < limits.events
-room_for limits rows event none = leb-false limits.events rows.accepted (not_full limits rows event none)
+pub room_for : (limits : LimitNumbers) (rows : Rows) (event : Event) → refusal_of limits rows event ≡ None → rows.events < limits.events
+room_for limits rows event none = leb-false limits.events rows.events (not_full limits rows event none)
 
 -- ---- what is not the case
 

@@ -84,7 +84,7 @@ record IsNoMore (old new : Rows) : Type 0 where
   pub clients : length (clients_of new) ≤ length (clients_of old)
   pub weights : length new.weights ≤ length old.weights
   pub next_offer : new.next_offer ≡ old.next_offer
-  pub accepted : new.accepted ≡ old.accepted
+  pub events : new.events ≡ old.events
 
 -- other offers, tasks and filters are no more
 no_more-others : (rows new : Rows) → new ≡ record rows { offers = new.offers; tasks = new.tasks; filters = new.filters; clock = new.clock }
@@ -95,7 +95,7 @@ no_more-others rows new same = rw same (record {
   clients = omega arith;
   weights = omega arith;
   next_offer = refl;
-  accepted = refl;
+  events = refl;
 })
 
 no_more-suppression : (rows : Rows) (client : Client) (suppressed : Bool)
@@ -106,7 +106,7 @@ no_more-suppression rows client suppressed = record {
   clients = omega (arith, length-clients-suppressed client suppressed rows.frameworks);
   weights = omega arith;
   next_offer = refl;
-  accepted = refl;
+  events = refl;
 }
 
 no_more-activity : (rows : Rows) (name : Text) (active : Bool) → IsNoMore rows (record rows { agents = with_activity rows name active })
@@ -116,7 +116,7 @@ no_more-activity rows name active = record {
   clients = omega arith;
   weights = omega arith;
   next_offer = refl;
-  accepted = refl;
+  events = refl;
 }
 
 no_more-total : (rows : Rows) (name : Text) (made : List Resource → List Resource) → IsNoMore rows (record rows { agents = with_total rows name made })
@@ -126,7 +126,7 @@ no_more-total rows name made = record {
   clients = omega arith;
   weights = omega arith;
   next_offer = refl;
-  accepted = refl;
+  events = refl;
 }
 
 no_more-limits : (rows : Rows) (limits : List LimitRow) → IsNoMore rows (record rows { limits = limits })
@@ -136,7 +136,7 @@ no_more-limits rows limits = record {
   clients = omega arith;
   weights = omega arith;
   next_offer = refl;
-  accepted = refl;
+  events = refl;
 }
 
 no_more-agent_removed : (rows : Rows) (name : Text) → IsNoMore rows (agent_removed rows name)
@@ -146,7 +146,7 @@ no_more-agent_removed rows name = record {
   clients = omega arith;
   weights = omega arith;
   next_offer = refl;
-  accepted = refl;
+  events = refl;
 }
 
 no_more-framework_removed : (rows : Rows) (name : Text) → IsNoMore rows (framework_removed rows name)
@@ -156,7 +156,7 @@ no_more-framework_removed rows name = record {
   clients = length-clients-filter (λ f. not (same_text f.name name)) rows.frameworks;
   weights = omega arith;
   next_offer = refl;
-  accepted = refl;
+  events = refl;
 }
 
 -- what becomes of an offer, if it stands
@@ -168,12 +168,12 @@ no_more-at_offer rows f (Some o) each = each o
 -- ---- after the event
 
 pub record IsCountable (limits : LimitNumbers) (rows new : Rows) : Type 0 where
-  pub few : AreFew limits (record new { accepted = rows.accepted + 1 })
-  pub numbered : IsNumberedByEvents (record new { accepted = rows.accepted + 1 })
-  pub accepted : new.accepted ≡ rows.accepted
+  pub few : AreFew limits (record new { events = rows.events + 1 })
+  pub numbered : IsNumberedByEvents (record new { events = rows.events + 1 })
+  pub events : new.events ≡ rows.events
 
 module _ (limits : LimitNumbers) (rows : Rows) (few : AreFew limits rows) (numbered : IsNumberedByEvents rows) where
-  before : rows.next_offer ≤ 1 + rows.accepted * 2 ^ 24
+  before : rows.next_offer ≤ 1 + rows.events * 2 ^ 24
   before = numbered
 
   countable : (new : Rows) (event : Event) → refusal_of limits rows event ≡ None → IsNoMore rows new → IsCountable limits rows new
@@ -190,7 +190,7 @@ module _ (limits : LimitNumbers) (rows : Rows) (few : AreFew limits rows) (numbe
           events = omega (arith, room);
         };
         numbered = omega (arith, so_far, less.next_offer);
-        accepted = less.accepted;
+        events = less.events;
       }
 
   countable-agent : (agent : Text) (total : List Resource) → refusal_of limits rows (AddAgent agent total) ≡ None
@@ -212,7 +212,7 @@ module _ (limits : LimitNumbers) (rows : Rows) (few : AreFew limits rows) (numbe
           events = omega (arith, room);
         };
         numbered = omega (arith, so_far);
-        accepted = refl;
+        events = refl;
       }
 
   countable-framework : (framework : Text) (roles : List Path) → refusal_of limits rows (AddFramework framework roles) ≡ None
@@ -240,7 +240,7 @@ module _ (limits : LimitNumbers) (rows : Rows) (few : AreFew limits rows) (numbe
           events = omega (arith, room);
         };
         numbered = omega (arith, so_far);
-        accepted = refl;
+        events = refl;
       }
 
   countable-weight : (role : Path) (weight : ℕ) → refusal_of limits rows (SetWeight role weight) ≡ None
@@ -259,7 +259,7 @@ module _ (limits : LimitNumbers) (rows : Rows) (few : AreFew limits rows) (numbe
           events = omega (arith, room);
         };
         numbered = omega (arith, so_far);
-        accepted = refl;
+        events = refl;
       }
 
   countable-cycle : (at : ℕ) → refusal_of limits rows (Cycle at) ≡ None → IsCountable limits rows (cycle rows at)
@@ -284,7 +284,7 @@ module _ (limits : LimitNumbers) (rows : Rows) (few : AreFew limits rows) (numbe
           events = omega (arith, room);
         };
         numbered = omega (arith, made, so_far, first, few_clients);
-        accepted = kept.2;
+        events = kept.2;
       }
 
   pub countable_after : (event : Event) → refusal_of limits rows event ≡ None → IsCountable limits rows (effect rows event)
@@ -302,7 +302,7 @@ module _ (limits : LimitNumbers) (rows : Rows) (few : AreFew limits rows) (numbe
         clients = less.clients;
         weights = less.weights;
         next_offer = refl;
-        accepted = refl;
+        events = refl;
       })
   countable_after (SetAgent agent total) none =
       countable (record rows { agents = with_other_total rows agent total }) (SetAgent agent total) none (no_more-total rows agent (λ old. total))
@@ -335,7 +335,7 @@ module _ (limits : LimitNumbers) (rows : Rows) (few : AreFew limits rows) (numbe
         clients = less.clients;
         weights = less.weights;
         next_offer = refl;
-        accepted = refl;
+        events = refl;
       })
   countable_after (Reserve agent role resources) none =
       countable (record rows { agents = with_reserved rows agent role resources }) (Reserve agent role resources) none
@@ -357,8 +357,8 @@ module _ (limits : LimitNumbers) (rows : Rows) (kept : IsKept limits rows) where
 
   pub few_offers_kept : rows.next_offer ≤ 2 ^ 56
   few_offers_kept =
-      let events : rows.accepted ≤ 4294967295 = omega (arith, kept.few.events, kept.few.ceilings.events.1) in
-      let numbered : rows.next_offer ≤ 1 + rows.accepted * 2 ^ 24 = kept.numbered in
+      let events : rows.events ≤ 4294967295 = omega (arith, kept.few.events, kept.few.ceilings.events.1) in
+      let numbered : rows.next_offer ≤ 1 + rows.events * 2 ^ 24 = kept.numbered in
       omega (arith, events, numbered)
 
   -- numbers of offers are below what every run allows

@@ -150,21 +150,21 @@ early_none limits rows event none = by (early_refusal_of limits rows event) refl
 -- an event that was applied and counted
 module _ (limits : LimitNumbers) (rows tables counted : Rows) (event : Event) (kept : IsKept limits rows)
     (none : refusal_of limits rows event ≡ None) (applied : tables ≡ effect rows event)
-    (is_counted : counted ≡ record tables { accepted = tables.accepted + 1 }) where
+    (is_counted : counted ≡ record tables { events = tables.events + 1 }) where
   countable : IsCountable limits rows (effect rows event)
   countable = countable_after limits rows kept.few kept.numbered event none
 
-  counted_is : counted ≡ record (effect rows event) { accepted = rows.accepted + 1 }
+  counted_is : counted ≡ record (effect rows event) { events = rows.events + 1 }
   counted_is =
       is_counted
-      ∙ (λ i. record (applied i) { accepted = (applied i).accepted + 1 })
-      ∙ (λ i. record (effect rows event) { accepted = countable.accepted i + 1 })
+      ∙ (λ i. record (applied i) { events = (applied i).events + 1 })
+      ∙ (λ i. record (effect rows event) { events = countable.events i + 1 })
 
   pub rows_after-counted : counted ≡ rows_after limits rows event
   rows_after-counted = counted_is ∙ sym (rows_after-accepted limits rows event none)
 
-  pub accepted-applied : tables.accepted ≡ rows.accepted
-  accepted-applied = ap (λ (r : Rows). r.accepted) applied ∙ countable.accepted
+  pub events-applied : tables.events ≡ rows.events
+  events-applied = ap (λ (r : Rows). r.events) applied ∙ countable.events
 
   pub IsKept-counted : IsConsistent counted → IsKept limits counted
   IsKept-counted right = record {

@@ -35,7 +35,7 @@ rows_with agents frameworks offers weights = record {
   filters = [];
   clock = 0;
   next_offer = 1;
-  accepted = 0;
+  events = 0;
 }
 
 -- the frameworks in the order in which they are served

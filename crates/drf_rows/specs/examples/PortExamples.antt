@@ -180,7 +180,7 @@ standing total frameworks offers tasks limits next_offer accepted = record {
   filters = [];
   clock = 0;
   next_offer = next_offer;
-  accepted = accepted;
+  events = accepted;
 }
 
 abbrev in_role : Text → Path → ℕ → Bool → FrameworkRow
@@ -238,15 +238,15 @@ module _ (all : Numbers) (some : IsSome all) (none : nat_lt 0 (set.len (set.diff
   abbrev before_last : Rows
   before_last = standing whole (both 2 false 2) (to_f2 ∷ []) (first_task ∷ second_task ∷ []) its_limit 5 12
 
-  first_cycle : cycle before_first 0 ≡ record after_first { accepted = 4 }
+  first_cycle : cycle before_first 0 ≡ record after_first { events = 4 }
   unfolding is_ahead standing_of free_of with_offer turn cycle
   first_cycle = rw (some, none) refl
 
-  second_cycle : cycle before_second 0 ≡ record after_second { accepted = 6 }
+  second_cycle : cycle before_second 0 ≡ record after_second { events = 6 }
   unfolding is_ahead standing_of free_of with_offer turn cycle
   second_cycle = rw some (rw some (rw some (rw some (rw none refl))))
 
-  third_cycle : cycle before_third 0 ≡ record after_third { accepted = 9 }
+  third_cycle : cycle before_third 0 ≡ record after_third { events = 9 }
   unfolding is_ahead standing_of free_of with_offer turn cycle
   third_cycle = rw some (rw some (rw some refl))
 
@@ -375,7 +375,7 @@ module _ (all part others : Numbers) (its : IsSome part) (left_some : IsSome oth
   unfolding free_of refusal_of effect rows_after
   reserved_rows = simp (within, left, left_some, apart) refl
 
-  others_offered : cycle (standing parted (to_ops 0) [] [] [] 1 3) 0 ≡ record all_offered { accepted = 3 }
+  others_offered : cycle (standing parted (to_ops 0) [] [] [] 1 3) 0 ≡ record all_offered { events = 3 }
   unfolding is_ahead standing_of free_of with_offer turn cycle
   others_offered = simp left_some refl
 

@@ -93,7 +93,7 @@ AcceptedIsCounted =
     (limits : LimitNumbers) (rows : Rows) (event : Event)
     → refusal_of limits rows event ≡ None
     → (reply_to limits rows event ≡ answer rows (effect rows event) event)
-    × (rows_after limits rows event ≡ record (effect rows event) { accepted = rows.accepted + 1 })
+    × (rows_after limits rows event ≡ record (effect rows event) { events = rows.events + 1 })
 
 -- a run goes on from where an earlier one ended
 abbrev pub RunsGoOn : Type 0

@@ -165,49 +165,49 @@ live-refused now later fs false more le = in_force-later now later fs le
 module _ (rows : Rows) (n : ℕ) where
   -- where the filters stay
   live-stay : (after : Rows) → rows.clock ≤ after.clock → after.filters ≡ rows.filters
-      → live_rows (record after { filters = in_force rows.clock rows.filters; accepted = n }) ≡ live_rows (record after { accepted = n })
+      → live_rows (record after { filters = in_force rows.clock rows.filters; events = n }) ≡ live_rows (record after { events = n })
   live-stay after le same =
-      ap (λ (fs : List FilterRow). live_rows (record after { filters = in_force rows.clock fs; accepted = n })) (sym same)
-      ∙ live-late (record after { accepted = n }) rows.clock le
+      ap (λ (fs : List FilterRow). live_rows (record after { filters = in_force rows.clock fs; events = n })) (sym same)
+      ∙ live-late (record after { events = n }) rows.clock le
 
   -- where some leave
   live-leave : (after : Rows) (p : FilterRow → Bool) → after.clock ≡ rows.clock → after.filters ≡ filter p rows.filters
-      → live_rows (record after { filters = filter p (in_force rows.clock rows.filters); accepted = n }) ≡ live_rows (record after { accepted = n })
+      → live_rows (record after { filters = filter p (in_force rows.clock rows.filters); events = n }) ≡ live_rows (record after { events = n })
   live-leave after p clock left =
-      live-kept (record after { accepted = n }) (filter p (in_force rows.clock rows.filters)) (
+      live-kept (record after { events = n }) (filter p (in_force rows.clock rows.filters)) (
       in_force-left rows.clock after.clock p rows.filters (omega (arith, clock)) ∙ ap (in_force after.clock) (sym left))
 
   live-accepted : (at : ℕ) (starts : List Start) (refuse_ms : ℕ) (found : Option OfferRow)
-      → live_rows (record (option_map_or (λ o. offer_accepted (at_moment (live_rows rows) at) o starts refuse_ms) found (live_rows rows)) { accepted = n })
-      ≡ live_rows (record (option_map_or (λ o. offer_accepted (at_moment rows at) o starts refuse_ms) found rows) { accepted = n })
+      → live_rows (record (option_map_or (λ o. offer_accepted (at_moment (live_rows rows) at) o starts refuse_ms) found (live_rows rows)) { events = n })
+      ≡ live_rows (record (option_map_or (λ o. offer_accepted (at_moment rows at) o starts refuse_ms) found rows) { events = n })
   live-accepted at starts refuse_ms None = live-stay rows (omega arith) refl
   live-accepted at starts refuse_ms (Some o) =
       let start : Rows = at_moment rows at in
       let refused : Bool = refuses_rest o starts refuse_ms in
-      live-kept (record (offer_accepted start o starts refuse_ms) { accepted = n })
+      live-kept (record (offer_accepted start o starts refuse_ms) { events = n })
       (filters_with (at_moment (live_rows rows) at) refused o (left_of_offer o starts) refuse_ms)
       (live-refused rows.clock start.clock rows.filters refused (filter_of o (left_of_offer o starts) (refused_until start.clock refuse_ms) ∷ []) (omega arith))
 
   live-declined : (at refuse_ms : ℕ) (found : Option OfferRow)
-      → live_rows (record (option_map_or (λ o. offer_declined (at_moment (live_rows rows) at) o refuse_ms) found (live_rows rows)) { accepted = n })
-      ≡ live_rows (record (option_map_or (λ o. offer_declined (at_moment rows at) o refuse_ms) found rows) { accepted = n })
+      → live_rows (record (option_map_or (λ o. offer_declined (at_moment (live_rows rows) at) o refuse_ms) found (live_rows rows)) { events = n })
+      ≡ live_rows (record (option_map_or (λ o. offer_declined (at_moment rows at) o refuse_ms) found rows) { events = n })
   live-declined at refuse_ms None = live-stay rows (omega arith) refl
   live-declined at refuse_ms (Some o) =
       let start : Rows = at_moment rows at in
-      live-kept (record (offer_declined start o refuse_ms) { accepted = n })
+      live-kept (record (offer_declined start o refuse_ms) { events = n })
       (filters_with (at_moment (live_rows rows) at) (refuses_all refuse_ms) o o.bundle refuse_ms)
       (live-refused rows.clock start.clock rows.filters (refuses_all refuse_ms) (filter_of o o.bundle (refused_until start.clock refuse_ms) ∷ []) (omega arith))
 
-  live-cycle : (at : ℕ) → live_rows (record (cycle (live_rows rows) at) { accepted = n }) ≡ live_rows (record (cycle rows at) { accepted = n })
+  live-cycle : (at : ℕ) → live_rows (record (cycle (live_rows rows) at) { events = n }) ≡ live_rows (record (cycle rows at) { events = n })
   unfolding cycle
   live-cycle at =
       let agents : List AgentRow = filter (λ a. a.active) rows.agents in
       let kept = kept-turns (at_moment rows at) agents in
-      ap (λ (r : Rows). live_rows (record r { accepted = n })) (cycle-live rows at)
+      ap (λ (r : Rows). live_rows (record r { events = n })) (cycle-live rows at)
       ∙ live-stay (turns (at_moment rows at) agents) (omega (arith, kept.1)) kept.0
 
   -- the effect on the live rows has the live rows of the effect
-  effect-live : (event : Event) → live_rows (record (effect (live_rows rows) event) { accepted = n }) ≡ live_rows (record (effect rows event) { accepted = n })
+  effect-live : (event : Event) → live_rows (record (effect (live_rows rows) event) { events = n }) ≡ live_rows (record (effect rows event) { events = n })
   unfolding effect
   effect-live (AddAgent agent total) = live-stay (effect rows (AddAgent agent total)) (omega arith) refl
   effect-live (RemoveAgent agent) = live-leave (effect rows (RemoveAgent agent)) (λ f. not (is_on_agent agent f)) refl refl
@@ -268,8 +268,8 @@ reply_to-live limits rows event =
     ∙ reply_by rows (live_rows rows) event (refusal_of limits rows event) (answer-live rows event)
 
 live_by : (rows : Rows) (event : Event) (refusal : Option Refusal) (n : ℕ)
-    → live_rows (option_map_or (λ refusal. live_rows rows) refusal (record (effect (live_rows rows) event) { accepted = n }))
-    ≡ live_rows (option_map_or (λ refusal. rows) refusal (record (effect rows event) { accepted = n }))
+    → live_rows (option_map_or (λ refusal. live_rows rows) refusal (record (effect (live_rows rows) event) { events = n }))
+    ≡ live_rows (option_map_or (λ refusal. rows) refusal (record (effect rows event) { events = n }))
 live_by rows event None n = effect-live rows n event
 live_by rows event (Some refusal) n =
     live-late rows rows.clock (omega arith)
@@ -278,8 +278,8 @@ pub rows_after-live : (limits : LimitNumbers) (rows : Rows) (event : Event)
     → live_rows (rows_after limits (live_rows rows) event) ≡ live_rows (rows_after limits rows event)
 unfolding rows_after
 rows_after-live limits rows event =
-    ap (λ (o : Option Refusal). live_rows (option_map_or (λ refusal. live_rows rows) o (record (effect (live_rows rows) event) { accepted = rows.accepted + 1 }))) (refusal_of-live limits rows event)
-    ∙ live_by rows event (refusal_of limits rows event) (rows.accepted + 1)
+    ap (λ (o : Option Refusal). live_rows (option_map_or (λ refusal. live_rows rows) o (record (effect (live_rows rows) event) { events = rows.events + 1 }))) (refusal_of-live limits rows event)
+    ∙ live_by rows event (refusal_of limits rows event) (rows.events + 1)
 
 -- ---- steps and runs from rows with the same live rows
 

@@ -68,7 +68,7 @@ ReservedCanBeGivenBack =
     → let reserved : Rows = rows_after limits rows (Reserve agent role resources) in
     is_full limits reserved ≡ false
     → (refusal_of limits reserved (Unreserve agent role resources) ≡ None)
-    × (rows_after limits reserved (Unreserve agent role resources) ≡ record rows { accepted = rows.accepted + 1 + 1 })
+    × (rows_after limits reserved (Unreserve agent role resources) ≡ record rows { events = rows.events + 1 + 1 })
 
 -- and what was given back can be reserved again, if limits admit it
 abbrev pub GivenBackCanBeReserved : Type 0
@@ -82,7 +82,7 @@ GivenBackCanBeReserved =
     → (refusal_of limits given (Reserve agent role resources)
     ≡ (if admits given role (quantities_of resources) then None else Some OverLimit))
     × (IsTrue (admits given role (quantities_of resources))
-    → rows_after limits given (Reserve agent role resources) ≡ record rows { accepted = rows.accepted + 1 + 1 })
+    → rows_after limits given (Reserve agent role resources) ≡ record rows { events = rows.events + 1 + 1 })
 
 -- they do where no limit that binds the role was passed
 abbrev pub WithinLimitsItIsAdmitted : Type 0
@@ -261,7 +261,7 @@ module _ (limits : LimitNumbers) (rows : Rows) (agent : Text) (role : Path) (res
 -- rows once a part has moved, and one more event was accepted
 abbrev moved_rows : Rows → Text → List Resource → List Resource → Rows
 moved_rows rows agent old new =
-    record rows { agents = with_total rows agent (exchanged old new); accepted = rows.accepted + 1 }
+    record rows { agents = with_total rows agent (exchanged old new); events = rows.events + 1 }
 
 module _ (rows : Rows) (agent : Text) (row : AgentRow) (consistent : IsConsistent rows) (found : agent_at rows agent ≡ Some row)
     (old new : List Resource) (can : CanExchange (free_of rows row) old new) where
@@ -280,8 +280,8 @@ module _ (rows : Rows) (agent : Text) (row : AgentRow) (consistent : IsConsisten
   unfolding free_of
   free_then = free_again rows agent row consistent found old new can
 
-  all_as_before : moved_rows once_moved agent new old ≡ record rows { accepted = rows.accepted + 1 + 1 }
-  all_as_before = λ i. record rows { agents = as_before rows agent row consistent found old new can i; accepted = rows.accepted + 1 + 1 }
+  all_as_before : moved_rows once_moved agent new old ≡ record rows { events = rows.events + 1 + 1 }
+  all_as_before = λ i. record rows { agents = as_before rows agent row consistent found old new can i; events = rows.events + 1 + 1 }
 
 module _ (limits : LimitNumbers) (rows : Rows) (agent : Text) (role : Path) (resources : List Resource) where
   after-reserve : refusal_of limits rows (Reserve agent role resources) ≡ None
@@ -298,7 +298,7 @@ pub reserved_can_be_given_back : ReservedCanBeGivenBack
 reserved_can_be_given_back limits rows agent role resources consistent asked accepted room =
     subst (λ (r : Rows).
     (refusal_of limits r (Unreserve agent role resources) ≡ None)
-    × (rows_after limits r (Unreserve agent role resources) ≡ record rows { accepted = rows.accepted + 1 + 1 }))
+    × (rows_after limits r (Unreserve agent role resources) ≡ record rows { events = rows.events + 1 + 1 }))
     (sym after) (taken, after-unreserve limits then_rows agent role resources taken ∙ all_as_before rows agent can.row consistent can.found resources (relabel role resources) exchange)
   where
     can : CanMove rows agent role resources resources
@@ -325,7 +325,7 @@ given_back_can_be_reserved limits rows agent role resources consistent asked acc
     subst (λ (r : Rows).
     (refusal_of limits r (Reserve agent role resources) ≡ (if admits r role (quantities_of resources) then None else Some OverLimit))
     × (IsTrue (admits r role (quantities_of resources))
-    → rows_after limits r (Reserve agent role resources) ≡ record rows { accepted = rows.accepted + 1 + 1 }))
+    → rows_after limits r (Reserve agent role resources) ≡ record rows { events = rows.events + 1 + 1 }))
     (sym after) (
       decided,
       λ admitted.

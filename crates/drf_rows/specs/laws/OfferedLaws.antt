@@ -258,7 +258,7 @@ unfolding reply_to rows_after
 told_by_step limits rows event = by (refusal_of limits rows event)
   where
     by : (refusal : Option Refusal) → AreTold rows (option_map_or Refused refusal (answer rows (effect rows event) event))
-        (option_map_or (λ refusal. rows) refusal (record (effect rows event) { accepted = rows.accepted + 1 }))
+        (option_map_or (λ refusal. rows) refusal (record (effect rows event) { events = rows.events + 1 }))
     by None = told_by_effect rows event
     by (Some refusal) = refl
 

@@ -297,7 +297,7 @@ unfolding rows_after
 other_agents_stay limits rows event = by (refusal_of limits rows event)
   where
     by : (refusal : Option Refusal)
-        → other_agents event (option_map_or (λ refusal. rows) refusal (record (effect rows event) { accepted = rows.accepted + 1 })).agents
+        → other_agents event (option_map_or (λ refusal. rows) refusal (record (effect rows event) { events = rows.events + 1 })).agents
         ≡ other_agents event rows.agents
     by None = agents_left rows event
     by (Some refusal) = refl
@@ -307,7 +307,7 @@ unfolding rows_after
 other_frameworks_stay limits rows event no_cycle = by (refusal_of limits rows event)
   where
     by : (refusal : Option Refusal)
-        → other_frameworks event (option_map_or (λ refusal. rows) refusal (record (effect rows event) { accepted = rows.accepted + 1 })).frameworks
+        → other_frameworks event (option_map_or (λ refusal. rows) refusal (record (effect rows event) { events = rows.events + 1 })).frameworks
         ≡ other_frameworks event rows.frameworks
     by None = frameworks_left rows event no_cycle
     by (Some refusal) = refl
@@ -395,7 +395,7 @@ unfolding rows_after
 other_holdings_stay limits rows event = by (refusal_of limits rows event)
   where
     by : (refusal : Option Refusal)
-        → let after : Rows = option_map_or (λ refusal. rows) refusal (record (effect rows event) { accepted = rows.accepted + 1 }) in
+        → let after : Rows = option_map_or (λ refusal. rows) refusal (record (effect rows event) { events = rows.events + 1 }) in
         (is_cycle event ≡ false → other_offers event after.offers ≡ other_offers event rows.offers)
         × (is_accept event ≡ false → other_tasks event after.tasks ≡ other_tasks event rows.tasks)
     by None = (offers_left rows event, tasks_left rows event)

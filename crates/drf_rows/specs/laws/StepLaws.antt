@@ -98,6 +98,6 @@ reply_to-accepted limits rows event case = rw case
 
 pub rows_after-accepted : (limits : LimitNumbers) (rows : Rows) (event : Event)
     → refusal_of limits rows event ≡ None
-    → rows_after limits rows event ≡ record (effect rows event) { accepted = rows.accepted + 1 }
+    → rows_after limits rows event ≡ record (effect rows event) { events = rows.events + 1 }
 unfolding rows_after
 rows_after-accepted limits rows event case = rw case

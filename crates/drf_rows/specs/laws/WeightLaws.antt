@@ -208,7 +208,7 @@ unfolding rows_after
 step_apart limits rows event apart = by (refusal_of limits rows event)
   where
     by : (f : Option Refusal)
-        → are_distinct_roles (weighed_roles (option_map_or (λ refusal. rows) f (record (effect rows event) { accepted = rows.accepted + 1 }))) ≡ true
+        → are_distinct_roles (weighed_roles (option_map_or (λ refusal. rows) f (record (effect rows event) { events = rows.events + 1 }))) ≡ true
     by None = rows_stay_apart rows event apart
     by (Some refusal) = apart
 

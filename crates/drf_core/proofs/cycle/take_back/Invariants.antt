@@ -1,4 +1,4 @@
-use Rattle.std.proofs.Common.{◌≡◌, ◌≤◌, true, vec_len}
+use Rattle.std.proofs.Common.{◌≡◌, true, vec_len}
 use Rattle.std.specs.List.{AllByRecursion}
 use Rattle.drf_rows.specs.Holdings.{of_offer}
 use Rattle.drf_rows.specs.Held.{is_registered}
@@ -11,7 +11,7 @@ abbrev pub invariant-loop-offer : goal.invariant-loop-offer
 invariant-loop-offer g l = record {
   sorted : g.S.Sorter.content l.sorter ≡ content_of (with_offers l.tables.rows l.offers.items);
   clients : AllByRecursion (λ o. is_registered l.tables.rows.frameworks (of_offer o).client ≡ true) l.offers.items;
-  made : (g.S.Sorter.work l.initial.sorter).made ≤ (g.S.Sorter.work l.sorter).made;
+  made : (g.S.Sorter.work l.sorter).made ≡ (g.S.Sorter.work l.initial.sorter).made;
 }
 
 abbrev pub decreases-loop-offer : goal.decreases-loop-offer

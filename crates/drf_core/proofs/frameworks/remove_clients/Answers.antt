@@ -23,7 +23,7 @@ loop-path-preserved g c =
       known = subst (λ (k : Content). AreKnown k (drop (i + 1) paths)) (sym c.remove.ensures.content) first.later;
       work = λ counted. omega (arith, sum_at length paths i c.path-item.result c.loop-path-test.true at, c.remove.ensures.work counted, c.loop-path.invariant.work counted);
       removed = ap (λ (k : Content). without_all k (drop (i + 1) paths)) c.remove.ensures.content ∙ sym first.same ∙ c.loop-path.invariant.removed;
-      made = omega (arith, c.remove.ensures.made, c.loop-path.invariant.made);
+      made = c.remove.ensures.made ∙ c.loop-path.invariant.made;
     }
 
 pub returns-clause-work : goal.returns-clause-work

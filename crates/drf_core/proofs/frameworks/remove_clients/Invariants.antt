@@ -11,5 +11,5 @@ invariant-loop-path g l = record {
   work : IsTrue g.S.Sorter.COUNTED → debt (g.S.Sorter.work l.sorter) + sum_by length (drop l.path-index l.paths)
       ≤ debt (g.S.Sorter.work l.initial.sorter) + sum_by length l.paths;
   removed : without_all (g.S.Sorter.content l.sorter) (drop l.path-index l.paths) ≡ without_all (g.S.Sorter.content l.initial.sorter) l.paths;
-  made : (g.S.Sorter.work l.initial.sorter).made ≤ (g.S.Sorter.work l.sorter).made;
+  made : (g.S.Sorter.work l.sorter).made ≡ (g.S.Sorter.work l.initial.sorter).made;
 }

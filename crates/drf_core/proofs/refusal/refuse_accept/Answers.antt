@@ -14,8 +14,8 @@ returns-in-Some c =
     let accept = c.args.accept.now in
     sym (first_front (cases_of_tasks limits rows accept) ((accept_is_too_much limits rows accept, TooMany) ∷ []) c.in-Some.refusal (sym c.in-Some.ensures))
 
-pub refuse_rest-requires : goal.refuse_rest-requires
-refuse_rest-requires c =
+pub refuse_rest-requires-clause-covered : goal.refuse_rest-requires-clause-covered
+refuse_rest-requires-clause-covered c =
     (no_case (cases_of_tasks c.args.limits.now c.args.tables.now.rows c.args.accept.now) (sym c.in-None.ensures)).1.1.1.1.1.1.1.0
 
 pub returns-in-None : goal.returns-in-None

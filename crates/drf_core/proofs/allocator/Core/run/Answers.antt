@@ -1,15 +1,21 @@
-use Rattle.std.proofs.Common.{◌≡◌, ◌+◌, List, ◌++◌, ◌∷◌, [], refl, ap, subst, ◌∙◌, sym, length, take, append_assoc, arith}
+use Rattle.std.proofs.Common.{◌≡◌, ◌+◌, ◌||◌, Bool, true, false, true≢false, List, ◌++◌, ◌∷◌, [], refl, ap, subst, ◌∙◌, sym, length, take, append_assoc, arith}
+use Rattle.std.proofs.lemmas.List.Folds.{list_any-append}
 use Rattle.std.proofs.lemmas.Option.{slice_get_read}
+use Rattle.std.specs.List.{list_any}
 use Rattle.drf_rows.specs.Step.{replies_to}
 use Rattle.drf_rows.specs.declared.event.Event.{Event}
 use Rattle.drf_rows.specs.declared.reply.Reply.{Reply}
 use Rattle.std.specs.Option.{MatchOption}
 use Rattle.drf_rows.specs.LimitNumbers.{LimitNumbers}
 use Rattle.drf_sorter.specs.Work.{Adds}
-use Rattle.drf_core.specs.Working.{allowance}
+use Rattle.drf_core.specs.Working.{allowance, may_make_keys}
 use Rattle.drf_core.proofs.stepping.Allowance.{work-more}
 use Rattle.drf_core.proofs.stepping.Step.{IsAfterAll-more, reply-more, take_one_more}
 use Rattle.drf_core.proofs.allocator.Core.run.Goals as goal
+
+or_false : (a b : Bool) → (a || b) ≡ false → (a ≡ false) × (b ≡ false)
+or_false false b none = (refl, none)
+or_false true b none = absurd (true≢false none)
 
 pub loop-event-preserved : goal.loop-event-preserved
 loop-event-preserved g c =
@@ -34,4 +40,8 @@ loop-event-preserved g c =
           ∙ ap (λ (rs : List Reply). c.args.replies.now.items ++ rs)
           (reply-more c.args.self.now c.loop-event.self before c.in_ok-event.event c.in_ok-reply.reply c.loop-event.invariant.after c.in_ok-reply.ensures.reply);
       made = omega (arith, c.loop-event.invariant.made, c.step.ensures.made);
+      keys = λ none.
+          let each = or_false (list_any may_make_keys before) (may_make_keys c.in_ok-event.event || false)
+          (sym (list_any-append may_make_keys before (c.in_ok-event.event ∷ [])) ∙ none) in
+          c.step.ensures.keys (or_false (may_make_keys c.in_ok-event.event) false each.1).0 ∙ c.loop-event.invariant.keys each.0;
     })

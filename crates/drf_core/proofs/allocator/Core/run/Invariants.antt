@@ -1,9 +1,10 @@
+use Rattle.std.specs.List.{list_any}
 use Rattle.std.specs.Option.{MatchOption}
-use Rattle.std.proofs.Common.{◌≡◌, ◌≤◌, ◌++◌, take}
+use Rattle.std.proofs.Common.{◌≡◌, ◌≤◌, ◌++◌, false, take}
 use Rattle.drf_rows.specs.Step.{live_rows, replies_to}
 use Rattle.drf_sorter.specs.Work.{Adds}
 use Rattle.drf_core.specs.Machine.{IsAfterAll, IsSafe}
-use Rattle.drf_core.specs.Working.{allowance_of_all}
+use Rattle.drf_core.specs.Working.{allowance_of_all, may_make_keys}
 use Rattle.drf_core.proofs.allocator.Core.run.Given as goal
 
 -- the events before this one were taken, and replied to
@@ -15,4 +16,5 @@ invariant-loop-event g l = record {
       (Adds g.S.Sorter.COUNTED l.initial.self.work l.self.work);
   told : l.replies.items ≡ l.initial.replies.items ++ replies_to l.initial.self.limits l.initial.self.rows (take l.event-index l.events);
   made : l.initial.self.work.made ≤ l.self.work.made;
+  keys : list_any may_make_keys (take l.event-index l.events) ≡ false → l.self.work.made ≡ l.initial.self.work.made;
 }

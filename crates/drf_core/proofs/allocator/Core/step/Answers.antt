@@ -1,13 +1,13 @@
 use Rattle.std.proofs.Common.{◌≡◌, ℕ, ◌+◌, Option, Some, None, Result, Ok, Err, refl, ap, subst, ◌∙◌, sym, arith}
 use Rattle.std.specs.Result.{OnErr}
-use Rattle.std.specs.Option.{MatchOption}
+use Rattle.std.specs.Option.{IfSome, MatchOption}
 use Rattle.drf_rows.specs.Step.{live_rows, refusal_of, reply_to, rows_after}
 use Rattle.drf_rows.specs.declared.rows.Rows.{Rows}
 use Rattle.drf_core.specs.Machine.{Engine, IsSafe}
 use Rattle.drf_core.specs.Refusing.{early_refusal_of}
 use Rattle.drf_core.proofs.stepping.Kept.{safe_kept}
 use Rattle.drf_core.proofs.refusing.Welcome.{room_for}
-use Rattle.drf_core.proofs.stepping.Step.{IsKept-forgot, IsReady-tested, refused_from, welcome_from, accepted_from, early_from, early_none, rows_after-counted, accepted-applied, IsKept-counted}
+use Rattle.drf_core.proofs.stepping.Step.{IsKept-forgot, IsReady-tested, refused_from, welcome_from, accepted_from, early_from, early_none, rows_after-counted, events-applied, IsKept-counted}
 use Rattle.drf_core.specs.Working.{allowance, allowed}
 use Rattle.drf_core.proofs.stepping.Allowance.{allowance-refused, allowance-accepted}
 use Rattle.drf_sorter.specs.Work.{Work, Adds, debt}
@@ -130,7 +130,7 @@ count_event-requires g c =
     c.forget_spent.ensures.others c.forget_spent.ensures.consistent c.refusal.ensures.same in
     let none = ap (λ (r : Rows). refusal_of limits r c.args.event) c.refusal.ensures.same ∙ sym c.in_ok-refusal.ensures.value ∙ c.in_default.is in
     let room = room_for limits rows c.args.event none in
-    let same = accepted-applied limits rows c.apply.new.self.rows (record c.apply.new.self.rows { accepted = c.apply.new.self.rows.accepted + 1 }) c.args.event
+    let same = events-applied limits rows c.apply.new.self.rows (record c.apply.new.self.rows { events = c.apply.new.self.rows.events + 1 }) c.args.event
     ready.kept none c.in_ok-reply.ensures.ok refl in
     omega (arith, same, room, c.self.invariant.few.ceilings.events.1)
 
@@ -222,3 +222,40 @@ returns-clause-work g c =
     subst (λ (m : Engine). Within (allowance m.limits m.rows c.args.event) m.work c.count_event.new.self.work) c.self.view_is
     (rw c.count_event.ensures.work (subst (λ (w : Work). Within (allowance limits old c.args.event) w c.apply.new.self.work) before
     (subst (λ (o : Option ℕ). Within o c.refusal.new.self.work c.apply.new.self.work) same c.in_ok-reply.ensures.work)))
+
+-- a refused event makes no key
+if_any : {A P : Type 0} (o : Option A) → P → IfSome o (λ x. P)
+if_any None fact = tt
+if_any (Some x) fact = fact
+
+pub returns-in_err-refusal-clause-refused : goal.returns-in_err-refusal-clause-refused
+returns-in_err-refusal-clause-refused g c =
+    if_any (refusal_of c.args.self.now.limits c.args.self.now.rows c.args.event)
+    (ap (λ (w : Work). w.made) (c.refusal.ensures.work ∙ c.forget_spent.ensures.work) ∙ ap (λ (m : Engine). m.work.made) c.self.view_is)
+
+pub returns-in-Some-clause-refused : goal.returns-in-Some-clause-refused
+returns-in-Some-clause-refused g c =
+    if_any (refusal_of c.args.self.now.limits c.args.self.now.rows c.args.event)
+    (ap (λ (w : Work). w.made) (c.refusal.ensures.work ∙ c.forget_spent.ensures.work) ∙ ap (λ (m : Engine). m.work.made) c.self.view_is)
+
+pub returns-in_err-reply-clause-refused : goal.returns-in_err-reply-clause-refused
+returns-in_err-reply-clause-refused g c =
+    let limits = c.self.inside.limits in
+    let old : Rows = c.self.inside.cluster.rows in
+    let rows : Rows = c.refusal.new.self.rows in
+    let ready = IsReady-tested limits old c.forget_spent.new.self.rows rows c.self.invariant c.forget_spent.ensures.live
+    c.forget_spent.ensures.others c.forget_spent.ensures.consistent c.refusal.ensures.same in
+    let none = ap (λ (r : Rows). refusal_of limits r c.args.event) c.refusal.ensures.same ∙ sym c.in_ok-refusal.ensures.value ∙ c.in_default.is in
+    subst (λ (m : Engine). IfSome (refusal_of m.limits m.rows c.args.event) (λ refusal. c.apply.new.self.work.made ≡ m.work.made)) c.self.view_is
+    (rw (welcome_from limits rows old c.args.event ready.live none) tt)
+
+pub returns-clause-refused : goal.returns-clause-refused
+returns-clause-refused g c =
+    let limits = c.self.inside.limits in
+    let old : Rows = c.self.inside.cluster.rows in
+    let rows : Rows = c.refusal.new.self.rows in
+    let ready = IsReady-tested limits old c.forget_spent.new.self.rows rows c.self.invariant c.forget_spent.ensures.live
+    c.forget_spent.ensures.others c.forget_spent.ensures.consistent c.refusal.ensures.same in
+    let none = ap (λ (r : Rows). refusal_of limits r c.args.event) c.refusal.ensures.same ∙ sym c.in_ok-refusal.ensures.value ∙ c.in_default.is in
+    subst (λ (m : Engine). IfSome (refusal_of m.limits m.rows c.args.event) (λ refusal. c.count_event.new.self.work.made ≡ m.work.made)) c.self.view_is
+    (rw (welcome_from limits rows old c.args.event ready.live none) tt)

@@ -6,7 +6,7 @@ use Rattle.drf_rows.specs.Offers.{offer_accepted, filter_of, is_empty, left_of_o
 use Rattle.drf_rows.specs.declared.rows.OfferRow.{OfferRow}
 use Rattle.drf_rows.specs.declared.rows.Rows.{Rows}
 use Rattle.drf_core.specs.Accepting.{filter_if}
-use Rattle.drf_core.proofs.effects.Accepted.{moment_early, can_start, same_offer, can_accept, rows_accepted, known-accepted, held-accepted, sorted-accepted}
+use Rattle.drf_core.proofs.effects.Accepted.{moment_early, can_start, same_offer, can_accept, rows_accepted, known-accepted, held-accepted, sorted-accepted, effect-accept}
 use Rattle.drf_core.proofs.stepping.Work.{nodes_of-offer}
 use Rattle.drf_core.proofs.cluster.Cluster.accept.Goals.{After-set_clock}
 use Rattle.drf_core.proofs.cluster.Cluster.accept.Given as given
@@ -44,9 +44,9 @@ refund-requires-clause-known g c =
     let o : OfferRow = c.unwrap-offer.result.now in
     let found : offer_at rows a.offer ≡ Some o = sym c.offer.ensures ∙ ap option_copied c.unwrap-offer.ensures in
     let can = can_start rows a.offer a.tasks o (rw (← c.self.view_is) at c.requires.enough) c.as_slice.ensures.right found in
-    let quantities : c.quantities.result.now ≡ quantities_of (left_of_offer o a.tasks) = c.quantities.ensures.value ∙ ap quantities_of c.in_ok-rest.ensures in
-    known-accepted rows a.offer o a.tasks a.at a.refuse_ms (g.S.Sorter.content c.self.inside.sorter) c.in_ok-client.client c.quantities.result.now
-    (rw (← c.self.view_is) at c.requires.consistent) c.self.invariant found can c.in_ok-client.ensures quantities
+    let quantities : c.quantities.result.now ≡ quantities_of (left_of_offer o a.tasks) = c.quantities.ensures.value ∙ ap quantities_of (c.in_ok-held.ensures.held o found).1 in
+    known-accepted rows a.offer o a.tasks a.at a.refuse_ms (g.S.Sorter.content c.self.inside.sorter) c.in_ok-held.held.client c.quantities.result.now
+    (rw (← c.self.view_is) at c.requires.consistent) c.self.invariant found can (c.in_ok-held.ensures.held o found).0 quantities
 
 pub refund-requires-clause-held : goal.refund-requires-clause-held
 refund-requires-clause-held g c =
@@ -55,9 +55,9 @@ refund-requires-clause-held g c =
     let o : OfferRow = c.unwrap-offer.result.now in
     let found : offer_at rows a.offer ≡ Some o = sym c.offer.ensures ∙ ap option_copied c.unwrap-offer.ensures in
     let can = can_start rows a.offer a.tasks o (rw (← c.self.view_is) at c.requires.enough) c.as_slice.ensures.right found in
-    let quantities : c.quantities.result.now ≡ quantities_of (left_of_offer o a.tasks) = c.quantities.ensures.value ∙ ap quantities_of c.in_ok-rest.ensures in
-    held-accepted rows a.offer o a.tasks a.at a.refuse_ms (g.S.Sorter.content c.self.inside.sorter) c.in_ok-client.client c.quantities.result.now
-    (rw (← c.self.view_is) at c.requires.consistent) c.self.invariant found can c.in_ok-client.ensures quantities
+    let quantities : c.quantities.result.now ≡ quantities_of (left_of_offer o a.tasks) = c.quantities.ensures.value ∙ ap quantities_of (c.in_ok-held.ensures.held o found).1 in
+    held-accepted rows a.offer o a.tasks a.at a.refuse_ms (g.S.Sorter.content c.self.inside.sorter) c.in_ok-held.held.client c.quantities.result.now
+    (rw (← c.self.view_is) at c.requires.consistent) c.self.invariant found can (c.in_ok-held.ensures.held o found).0 quantities
 
 -- what the tables then hold
 applied : (g : given.Over) (c : After-set_clock g)
@@ -74,7 +74,7 @@ applied g c =
     = c.in_ok-filter.ensures
     ∙ (λ i. filter_if (nat_lt 0 a.refuse_ms && not (is_empty (rest_is i))) (filter_of o (rest_is i) (refused_until c.max-moment.result a.refuse_ms))) in
     rows_accepted rows c.set_clock.new.self.rows o a.tasks c.in_ok-filter.filter a.at c.max-moment.result a.refuse_ms later told
-    (c.set_clock.ensures ∙ (λ i. record (c.in_ok-accept.ensures.ok o found i) { clock = c.max-moment.result }))
+    (c.set_clock.ensures ∙ (λ i. record (c.in_ok-held.ensures.ok o found i) { clock = c.max-moment.result }))
 
 pub invariant_of-self-2 : goal.invariant_of-self-2
 invariant_of-self-2 g c =
@@ -83,19 +83,18 @@ invariant_of-self-2 g c =
     let o : OfferRow = c.unwrap-offer.result.now in
     let found : offer_at rows a.offer ≡ Some o = sym c.offer.ensures ∙ ap option_copied c.unwrap-offer.ensures in
     let can = can_start rows a.offer a.tasks o (rw (← c.self.view_is) at c.requires.enough) c.as_slice.ensures.right found in
-    let quantities : c.quantities.result.now ≡ quantities_of (left_of_offer o a.tasks) = c.quantities.ensures.value ∙ ap quantities_of c.in_ok-rest.ensures in
-    sorted-accepted rows a.offer o a.tasks a.at a.refuse_ms (g.S.Sorter.content c.self.inside.sorter) c.in_ok-client.client c.quantities.result.now
-    (rw (← c.self.view_is) at c.requires.consistent) c.self.invariant found can c.in_ok-client.ensures quantities
+    let quantities : c.quantities.result.now ≡ quantities_of (left_of_offer o a.tasks) = c.quantities.ensures.value ∙ ap quantities_of (c.in_ok-held.ensures.held o found).1 in
+    sorted-accepted rows a.offer o a.tasks a.at a.refuse_ms (g.S.Sorter.content c.self.inside.sorter) c.in_ok-held.held.client c.quantities.result.now
+    (rw (← c.self.view_is) at c.requires.consistent) c.self.invariant found can (c.in_ok-held.ensures.held o found).0 quantities
     c.set_clock.new.self.rows (g.S.Sorter.content c.refund.new.self) (applied g (goal.at.invariant_of-self-2 g c).After-set_clock) c.refund.ensures.content
 
 pub returns-clause-ok : goal.returns-clause-ok
-returns-clause-ok g c = rw (← c.self.view_is) (λ p at.
+returns-clause-ok g c = rw (← c.self.view_is) (
     let rows : Rows = c.self.inside.tables.rows in
     let a = c.args.accept in
     let o : OfferRow = c.unwrap-offer.result.now in
     let found : offer_at rows a.offer ≡ Some o = sym c.offer.ensures ∙ ap option_copied c.unwrap-offer.ensures in
-    applied g (goal.at.returns-clause-ok g c).After-set_clock
-    ∙ ap (λ (p : OfferRow). offer_accepted (at_moment rows a.at) p a.tasks a.refuse_ms) (same_offer rows a.offer o p found at))
+    effect-accept rows c.set_clock.new.self.rows a o found (applied g (goal.at.returns-clause-ok g c).After-set_clock))
 
 pub returns-clause-work : goal.returns-clause-work
 returns-clause-work g c =
@@ -103,4 +102,4 @@ returns-clause-work g c =
     let o : OfferRow = c.unwrap-offer.result.now in
     let found : offer_at rows c.args.accept.offer ≡ Some o = sym c.offer.ensures ∙ ap option_copied c.unwrap-offer.ensures in
     rw (← c.self.view_is) (λ counted.
-    omega (arith, c.refund.ensures.work counted, ap length c.in_ok-client.ensures, nodes_of-offer rows c.args.accept.offer o found))
+    omega (arith, c.refund.ensures.work counted, ap length (c.in_ok-held.ensures.held o found).0, nodes_of-offer rows c.args.accept.offer o found))

@@ -1,9 +1,8 @@
 use Rattle.std.proofs.Common.{◌≡◌, true≢false, None, subst, sym, ap, ◌∙◌}
-use Rattle.std.proofs.lemmas.Result.{on_ok_weaker}
-use Rattle.drf_rows.specs.Step.{refusal_of, effect}
+use Rattle.drf_rows.specs.Step.{refusal_of}
 use Rattle.drf_rows.specs.declared.event.Event.{Event}
 use Rattle.drf_core.specs.Applying.{has_answer}
-use Rattle.drf_core.proofs.effects.Accepted.{enough_of, effect-accept, effect-decline}
+use Rattle.drf_core.proofs.effects.Accepted.{enough_of}
 use Rattle.drf_core.proofs.refusing.Welcome.{known_framework, known_suppressed, known_reviving, welcome_accept, welcome_decline}
 use Rattle.drf_core.proofs.cluster.Cluster.change.Goals as goal
 
@@ -33,15 +32,6 @@ accept-requires-clause-early g c =
     (welcome_accept c.args.limits.now c.args.self.now.rows c.in-Accept.event
     (subst (λ (e : Event). refusal_of c.args.limits.now c.args.self.now.rows e ≡ None) c.in-Accept.is c.requires.welcome)).early
 
-pub returns-in-Accept-clause-ok : goal.returns-in-Accept-clause-ok
-returns-in-Accept-clause-ok g c =
-    let rows = c.args.self.now.rows in
-    let welcome = welcome_accept c.args.limits.now rows c.in-Accept.event
-    (subst (λ (e : Event). refusal_of c.args.limits.now c.args.self.now.rows e ≡ None) c.in-Accept.is c.requires.welcome) in
-    on_ok_weaker c.accept.result
-    (λ each. effect-accept rows c.accept.new.self.rows c.in-Accept.event welcome.stands each ∙ ap (effect rows) (sym c.in-Accept.is))
-    c.accept.ensures.ok
-
 pub decline-requires-clause-offer : goal.decline-requires-clause-offer
 decline-requires-clause-offer g c =
     (welcome_decline c.args.limits.now c.args.self.now.rows c.in-Decline.event
@@ -51,15 +41,6 @@ pub decline-requires-clause-early : goal.decline-requires-clause-early
 decline-requires-clause-early g c =
     (welcome_decline c.args.limits.now c.args.self.now.rows c.in-Decline.event
     (subst (λ (e : Event). refusal_of c.args.limits.now c.args.self.now.rows e ≡ None) c.in-Decline.is c.requires.welcome)).0
-
-pub returns-in-Decline-clause-ok : goal.returns-in-Decline-clause-ok
-returns-in-Decline-clause-ok g c =
-    let rows = c.args.self.now.rows in
-    let welcome = welcome_decline c.args.limits.now rows c.in-Decline.event
-    (subst (λ (e : Event). refusal_of c.args.limits.now c.args.self.now.rows e ≡ None) c.in-Decline.is c.requires.welcome) in
-    on_ok_weaker c.decline.result
-    (λ each. effect-decline rows c.decline.new.self.rows c.in-Decline.event welcome.1 each ∙ ap (effect rows) (sym c.in-Decline.is))
-    c.decline.ensures.ok
 
 pub unreachable-requires : goal.unreachable-requires
 unreachable-requires g c = true≢false (ap has_answer (sym c.in-Cycle.is) ∙ c.requires.plain)

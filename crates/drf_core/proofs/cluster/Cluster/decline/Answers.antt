@@ -4,7 +4,7 @@ use Rattle.drf_rows.specs.Endings.{one_offer}
 use Rattle.drf_rows.specs.Offers.{filters_with, refuses_all}
 use Rattle.drf_rows.specs.declared.rows.Rows.{Rows}
 use Rattle.drf_core.specs.Working.{losers, nodes_of}
-use Rattle.drf_core.proofs.effects.Accepted.{some_offer, sorted-declined, rows_declined}
+use Rattle.drf_core.proofs.effects.Accepted.{some_offer, sorted-declined, rows_declined, effect-decline}
 use Rattle.drf_core.proofs.cluster.Cluster.decline.Goals as goal
 
 pub invariant_of-self-2 : goal.invariant_of-self-2
@@ -17,13 +17,15 @@ invariant_of-self-2 g c =
     (c.set_clock.ensures ∙ (λ i. record (c.in_ok-refuse_offer.ensures.ok one.offer one.at i) { clock = moment }))
 
 pub returns-clause-ok : goal.returns-clause-ok
-returns-clause-ok g c = rw (← c.self.view_is) (λ o at.
+returns-clause-ok g c = rw (← c.self.view_is) (
     let rows : Rows = c.self.inside.tables.rows in
     let moment = c.max-moment.result in
-    rows_declined rows c.set_clock.new.self.rows c.end.new.self.rows c.args.decline.now.offer o c.args.decline.now.at moment c.args.decline.now.refuse_ms
-    at (c.max-moment.ensures ∙ ap (λ (n : ℕ). max n c.args.decline.now.at) c.clock.ensures)
-    (c.set_clock.ensures ∙ (λ i. record (c.in_ok-refuse_offer.ensures.ok o at i) { clock = moment }))
-    c.end.ensures.rows)
+    let one = some_offer rows c.args.decline.now.offer (rw (← c.self.view_is) at c.requires.offer) in
+    effect-decline rows c.end.new.self.rows c.args.decline.now one.offer one.at
+    (rows_declined rows c.set_clock.new.self.rows c.end.new.self.rows c.args.decline.now.offer one.offer c.args.decline.now.at moment c.args.decline.now.refuse_ms
+    one.at (c.max-moment.ensures ∙ ap (λ (n : ℕ). max n c.args.decline.now.at) c.clock.ensures)
+    (c.set_clock.ensures ∙ (λ i. record (c.in_ok-refuse_offer.ensures.ok one.offer one.at i) { clock = moment }))
+    c.end.ensures.rows))
 
 pub returns-clause-work : goal.returns-clause-work
 returns-clause-work g c =

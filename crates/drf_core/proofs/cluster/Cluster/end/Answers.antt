@@ -31,11 +31,11 @@ loop-held-preserved g c =
         losers-ended c.loop-held.self-inside.tables.rows c.end.new.self.rows (ending_of c.args.ending) c.in-Some.held c.in-Some.ensures.some,
       );
       later = c.in-Some.ensures.some.later ∙ c.loop-held.invariant.later;
-      made = omega (arith, c.refund.ensures.made, c.loop-held.invariant.made);
+      made = c.refund.ensures.made ∙ c.loop-held.invariant.made;
     }
 
 pub returns-clause-work : goal.returns-clause-work
 returns-clause-work g c = rw (← c.self.view_is) (λ counted. omega (arith, c.loop-held.invariant.work counted))
 
 pub returns-clause-made : goal.returns-clause-made
-returns-clause-made g c = rw (← c.self.view_is) (omega (arith, c.loop-held.invariant.made))
+returns-clause-made g c = rw (← c.self.view_is) c.loop-held.invariant.made

@@ -14,7 +14,7 @@ invariant-loop-held g l = record {
   work : IsTrue g.S.Sorter.COUNTED → debt (g.S.Sorter.work l.self-inside.sorter) + nodes_of (losers l.self-inside.tables.rows (ending_of l.ending))
       ≤ debt (g.S.Sorter.work l.initial.self-inside.sorter) + nodes_of (losers l.initial.self-inside.tables.rows (ending_of l.ending));
   later : without_ended l.self-inside.tables.rows (ending_of l.ending) ≡ without_ended l.initial.self-inside.tables.rows (ending_of l.ending);
-  made : (g.S.Sorter.work l.initial.self-inside.sorter).made ≤ (g.S.Sorter.work l.self-inside.sorter).made;
+  made : (g.S.Sorter.work l.self-inside.sorter).made ≡ (g.S.Sorter.work l.initial.self-inside.sorter).made;
 }
 
 abbrev pub decreases-loop-held : goal.decreases-loop-held

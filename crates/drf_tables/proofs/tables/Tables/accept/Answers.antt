@@ -1,5 +1,6 @@
 use Rattle.std.proofs.Common.{◌≡◌, ◌==◌, Bool, List, [], ◌∷◌, Some, Option, map, sym, ap, ◌∙◌, subst}
 use Rattle.std.specs.Option.{option_map_or}
+use Rattle.drf_role.specs.Path.{client_path}
 use Rattle.drf_rows.specs.laws.EndingLaws.{new_starts}
 use Rattle.drf_rows.specs.Offers.{left_of_offer, offer_at, task_of, AreNew}
 use Rattle.drf_rows.specs.declared.rows.FilterRow.{FilterRow}
@@ -41,11 +42,11 @@ release_held-requires c = λ is label.
     let number = c.args.number in
     let can : CanAccept (rows_in t) number c.args.tasks c.args.filter =
     subst (λ (s : Stored). CanAccept s.rows number c.args.tasks c.args.filter) (sym c.self.view_is) c.requires.can in
-    let rest : c.args.rest.now ≡ left_of_offer can.offer c.args.tasks =
+    let rest : c.args.rest ≡ left_of_offer can.offer c.args.tasks =
     c.requires.rest can.offer (sym (ap (λ (s : Stored). offer_at s.rows number) c.self.view_is) ∙ can.at) in
     let both : ◌≡◌ {A = Option OfferRow} (Some c.in-Ok.offer) (Some can.offer) = sym c.in-Ok.ensures.ok.found ∙ can.at in
     let same : c.in-Ok.offer ≡ can.offer = cc in
-    accept_fits t.is_counted (rows_in t) t.quota c.self.invariant.consumed number can.offer c.in-Ok.offer c.args.tasks c.args.rest.now
+    accept_fits t.is_counted (rows_in t) t.quota c.self.invariant.consumed number can.offer c.in-Ok.offer c.args.tasks c.args.rest
     c.self.invariant.kept.consistent can.at can.can same rest is label
 
 pub invariant_of-self-in-Ok : goal.invariant_of-self-in-Ok
@@ -55,7 +56,7 @@ invariant_of-self-in-Ok c =
     let number = c.args.number in
     let can : CanAccept (rows_in t) number c.args.tasks c.args.filter =
     subst (λ (s : Stored). CanAccept s.rows number c.args.tasks c.args.filter) (sym c.self.view_is) c.requires.can in
-    let rest : c.args.rest.now ≡ left_of_offer can.offer c.args.tasks =
+    let rest : c.args.rest ≡ left_of_offer can.offer c.args.tasks =
     c.requires.rest can.offer (sym (ap (λ (s : Stored). offer_at s.rows number) c.self.view_is) ∙ can.at) in
     let both : ◌≡◌ {A = Option OfferRow} (Some c.in-Ok.offer) (Some can.offer) = sym c.in-Ok.ensures.ok.found ∙ can.at in
     let same : c.in-Ok.offer ≡ can.offer = cc in
@@ -65,12 +66,12 @@ invariant_of-self-in-Ok c =
     let after = c.release_held.new.quota in
     let more : List FilterRow = option_map_or (λ f. f ∷ []) c.args.filter [] in
     let rows : List LimitRow → Rows = λ limits.
-    rows_of entries t.frameworks.entries held filters t.weights.entries limits t.clock t.next_offer t.accepted in
+    rows_of entries t.frameworks.entries held filters t.weights.entries limits t.clock t.next_offer t.events in
     let back = subst (λ (r : List Resource). HasFreed c.in-Ok.offer.agent r t.agents.entries entries) rest c.give_back.ensures in
     let told = accepted-rows t entries held filters number c.args.tasks c.args.filter can.offer c.in-Ok.offer c.self.invariant.kept can.at
     c.in-Ok.ensures.ok back c.in_ok-add_if.ensures.ok in
     let counts : CountsIf t.is_counted (with_accepted (rows_in t) can.offer c.args.tasks c.args.filter) after =
-    counts-accepted t.is_counted (rows_in t) t.quota c.self.invariant.consumed number can.offer c.in-Ok.offer c.args.tasks c.args.rest.now
+    counts-accepted t.is_counted (rows_in t) t.quota c.self.invariant.consumed number can.offer c.in-Ok.offer c.args.tasks c.args.rest
     c.self.invariant.kept.consistent can.at can.can same rest more after c.release_held.ensures in
     record {
       kept = subst (λ (limits : List LimitRow). IsKept (rows limits) entries t.total t.clients) c.release_held.ensures.limits
@@ -90,8 +91,16 @@ returns-in-Ok-clause-ok c = λ o at.
     let entries = c.give_back.new.agents.entries in
     let back = subst (λ (r : List Resource). HasFreed c.in-Ok.offer.agent r t.agents.entries entries) (c.requires.rest o at) c.give_back.ensures in
     let rows : List LimitRow → Rows = λ limits.
-    rows_of entries t.frameworks.entries c.start.new.self c.add_if.new.filters t.weights.entries limits t.clock t.next_offer t.accepted in
+    rows_of entries t.frameworks.entries c.start.new.self c.add_if.new.filters t.weights.entries limits t.clock t.next_offer t.events in
     ap rows (sym c.release_held.ensures.limits)
     ∙ accepted-rows t entries c.start.new.self c.add_if.new.filters number c.args.tasks c.args.filter
     o c.in-Ok.offer c.self.invariant.kept found c.in-Ok.ensures.ok back c.in_ok-add_if.ensures.ok
     ∙ ap (λ (s : Stored). with_accepted s.rows o c.args.tasks c.args.filter) c.self.view_is
+
+pub returns-in-Ok-clause-held : goal.returns-in-Ok-clause-held
+unfolding rows_of
+returns-in-Ok-clause-held c = λ o at.
+    let found : offer_at (rows_in c.self.inside) c.args.number ≡ Some o = ap (λ (s : Stored). offer_at s.rows c.args.number) c.self.view_is ∙ at in
+    let both : ◌≡◌ {A = Option OfferRow} (Some c.in-Ok.offer) (Some o) = sym c.in-Ok.ensures.ok.found ∙ found in
+    let same : c.in-Ok.offer ≡ o = cc in
+    (c.from_parts.ensures ∙ ap (λ (p : OfferRow). client_path p.role p.framework) same, c.requires.rest o at)

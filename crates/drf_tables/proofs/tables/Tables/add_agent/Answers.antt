@@ -69,7 +69,7 @@ invariant_of-self-2 c =
     let raised = c.in_ok-consume_total.ensures.ok in
     let limits : t.quota.limits ≡ after.limits = sym raised.limits in
     let rows : List LimitRow → Rows = λ limits.
-    rows_of entries t.frameworks.entries t.holdings t.filters t.weights.entries limits t.clock t.next_offer t.accepted in
+    rows_of entries t.frameworks.entries t.holdings t.filters t.weights.entries limits t.clock t.next_offer t.events in
     let told : rows t.quota.limits ≡ agent_added (rows_in t) name total = rows_of-agent t entries name agent new inserted refl in
     let last = last_agent t entries name agent new inserted in
     let all : agent.free ≡ Some total = ap (λ (free : List Resource). Some free) c.in_ok-free.ensures.same in
@@ -101,7 +101,7 @@ returns-clause-ok c =
     from_ok c.insert.result c.unwrap.result _ c.unwrap.ensures c.insert.ensures.entries
     ∙ ap (λ (es : List (Text × Agent)). insert_entry same_text es name agent) c.in_ok-reserve.ensures.entries in
     let rows : List LimitRow → Rows = λ limits.
-    rows_of c.insert.new.self.entries t.frameworks.entries t.holdings t.filters t.weights.entries limits t.clock t.next_offer t.accepted in
+    rows_of c.insert.new.self.entries t.frameworks.entries t.holdings t.filters t.weights.entries limits t.clock t.next_offer t.events in
     ap rows c.in_ok-consume_total.ensures.ok.limits
     ∙ rows_of-agent t c.insert.new.self.entries name agent new inserted refl
     ∙ ap (λ (s : Stored). agent_added s.rows name c.args.total) c.self.view_is

@@ -98,7 +98,7 @@ invariant_of-self-2 c =
     let counts : CountsIf c.take_over-self-inside.result after c.take_over-self-inside.new.quota = c.take_over-self-inside.ensures.counts after counting in
     let stands : List LimitRow → ℕ → Rows = λ limits made.
     rows_of c.put_lefts.new.agents.entries c.count_offers.new.frameworks.entries c.append.new.self t.filters t.weights.entries
-    limits t.clock (t.next_offer + made) t.accepted in
+    limits t.clock (t.next_offer + made) t.events in
     let told : stands c.take_over-self-inside.new.quota.limits c.len-made.result ≡ stands t.quota.limits (length offers) =
     λ i. stands (limits i) (long i) in
     record {

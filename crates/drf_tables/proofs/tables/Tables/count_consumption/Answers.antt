@@ -74,7 +74,7 @@ invariant_of-self-2 c =
     let limits : three.limits ≡ t.quota.limits =
     third.limits ∙ second.limits ∙ first.limits ∙ ap (λ (a : Allowance). a.limits) c.forget.ensures in
     let rows : List LimitRow → Rows = λ limits.
-    rows_of t.agents.entries t.frameworks.entries t.holdings t.filters t.weights.entries limits t.clock t.next_offer t.accepted in
+    rows_of t.agents.entries t.frameworks.entries t.holdings t.filters t.weights.entries limits t.clock t.next_offer t.events in
     let counted : IsAllowanceOf (rows t.quota.limits) three =
     counted-all t c.self.invariant.kept none one two three c.forget.ensures first second third in
     record {

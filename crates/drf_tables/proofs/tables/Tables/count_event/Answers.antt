@@ -9,6 +9,6 @@ unfolding rows_of
 invariant_of-self c =
     let t = c.self.inside in
     record {
-      kept = IsKept-clocked (rows_in t) _ _ _ t.clock (t.accepted + 1) c.self.invariant.kept.consistent.early c.self.invariant.kept;
+      kept = IsKept-clocked (rows_in t) _ _ _ t.clock (t.events + 1) c.self.invariant.kept.consistent.early c.self.invariant.kept;
       consumed = counts-same _ (rows_in c.self.inside) _ _ c.self.invariant.consumed refl refl (λ test label. refl);
     }

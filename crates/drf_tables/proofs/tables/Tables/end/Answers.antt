@@ -47,7 +47,7 @@ invariant_of-self-2 c =
     let one = without_it t entries held ending taken c.self.invariant.kept c.give_back.ensures lost in
     let new : Rows = rows_ended t entries held ending taken c.self.invariant.kept c.give_back.ensures lost in
     let rows : List LimitRow → Rows = λ limits.
-    rows_of entries t.frameworks.entries held t.filters t.weights.entries limits t.clock t.next_offer t.accepted in
+    rows_of entries t.frameworks.entries held t.filters t.weights.entries limits t.clock t.next_offer t.events in
     let counts : CountsIf t.is_counted new after =
     counts-ended t.is_counted (rows_in t) new t.quota (holding_of taken) c.self.invariant.consumed one.less
     (sym (ap (λ (r : Rows). r.agents) one.others)) after c.release_held.ensures (sym (ap (λ (r : Rows). r.limits) one.others)) in
@@ -66,7 +66,7 @@ returns-clause-some c =
     let entries = c.give_back.new.agents.entries in
     let told : Held = record { client = c.from_parts.result; bundle = taken.bundle } in
     let rows : List LimitRow → Rows = λ limits.
-    rows_of entries t.frameworks.entries c.take.new.self t.filters t.weights.entries limits t.clock t.next_offer t.accepted in
+    rows_of entries t.frameworks.entries c.take.new.self t.filters t.weights.entries limits t.clock t.next_offer t.events in
     subst (λ (q : Stored × List LimitRow). HasEnded q.0.rows (rows q.1) ending told) (λ i. (c.self.view_is i, c.release_held.ensures.limits i))
     (ended-one t entries c.take.new.self ending taken c.self.invariant.kept c.give_back.ensures lost told c.from_parts.ensures refl)
 
@@ -78,6 +78,6 @@ returns-clause-consistent c =
     let lost : HasTaken ending t.holdings c.take.new.self (Some taken) = c.in_ok-taken.ensures in
     let entries = c.give_back.new.agents.entries in
     let rows : List LimitRow → Rows = λ limits.
-    rows_of entries t.frameworks.entries c.take.new.self t.filters t.weights.entries limits t.clock t.next_offer t.accepted in
+    rows_of entries t.frameworks.entries c.take.new.self t.filters t.weights.entries limits t.clock t.next_offer t.events in
     subst (λ (limits : List LimitRow). IsConsistent (rows limits)) c.release_held.ensures.limits
     (ended-kept t entries c.take.new.self ending taken c.self.invariant.kept c.give_back.ensures lost).consistent

@@ -66,7 +66,7 @@ invariant_of-self-in-Ok c =
     let released = c.release_total.ensures in
     let limits : t.quota.limits ≡ after.limits = sym raised.limits ∙ released.limits in
     let rows : List LimitRow → Rows = λ limits.
-    rows_of entries t.frameworks.entries t.holdings t.filters t.weights.entries limits t.clock t.next_offer t.accepted in
+    rows_of entries t.frameworks.entries t.holdings t.filters t.weights.entries limits t.clock t.next_offer t.events in
     record {
       kept = subst (λ (ls : List LimitRow). IsKept (rows ls) entries t.total t.clients) limits
           (kept-exchanged t c.self.invariant.kept name c.args.old.now c.args.new.now can entries c.in-Ok.ensures.ok);
@@ -82,7 +82,7 @@ returns-in-Ok-clause-ok c =
     let can : CanExchangeOn (rows_in t) name c.args.old.now c.args.new.now =
     subst (λ (s : Stored). CanExchangeOn s.rows name c.args.old.now c.args.new.now) (sym c.self.view_is) c.requires in
     let rows : List LimitRow → Rows = λ limits.
-    rows_of c.exchange.new.agents.entries t.frameworks.entries t.holdings t.filters t.weights.entries limits t.clock t.next_offer t.accepted in
+    rows_of c.exchange.new.agents.entries t.frameworks.entries t.holdings t.filters t.weights.entries limits t.clock t.next_offer t.events in
     ap rows (sym c.release_total.ensures.limits ∙ c.in_ok-consume_total.ensures.ok.limits)
     ∙ rows-exchanged t c.self.invariant.kept name c.args.old.now c.args.new.now can c.exchange.new.agents.entries c.in-Ok.ensures.ok
     ∙ ap (λ (s : Stored). record s.rows { agents = with_total s.rows name (exchanged c.args.old.now c.args.new.now) }) c.self.view_is

@@ -27,7 +27,7 @@ invariant_of-self c =
     let filters = c.drop_agent.new.self in
     let after = c.release_agent.new.quota in
     let rows : List LimitRow → Rows = λ limits.
-    rows_of entries t.frameworks.entries t.holdings filters t.weights.entries limits t.clock t.next_offer t.accepted in
+    rows_of entries t.frameworks.entries t.holdings filters t.weights.entries limits t.clock t.next_offer t.events in
     record {
       kept = subst (λ (limits : List LimitRow). IsKept (rows limits) entries c.args.total t.clients) c.release_agent.ensures.limits
           (kept-left t c.self.invariant.kept name entries filters c.args.total nothing c.shift_remove.ensures.entries c.drop_agent.ensures others);
@@ -46,7 +46,7 @@ returns-clause-rows c =
     let entries = c.shift_remove.new.self.entries in
     let filters = c.drop_agent.new.self in
     let rows : List LimitRow → Rows = λ limits.
-    rows_of entries t.frameworks.entries t.holdings filters t.weights.entries limits t.clock t.next_offer t.accepted in
+    rows_of entries t.frameworks.entries t.holdings filters t.weights.entries limits t.clock t.next_offer t.events in
     ap rows (sym c.release_agent.ensures.limits)
     ∙ rows-left t c.self.invariant.kept name entries filters c.args.total nothing c.shift_remove.ensures.entries c.drop_agent.ensures others
     ∙ ap (λ (s : Stored). agent_removed s.rows name) c.self.view_is

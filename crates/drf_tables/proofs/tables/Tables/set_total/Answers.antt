@@ -48,7 +48,7 @@ invariant_of-self c =
     let after = c.recount_total-self-inside.new.quota in
     let limits : t.quota.limits ≡ after.limits = c.release_agent.ensures.limits ∙ sym c.recount_total-self-inside.ensures.raised.limits in
     let rows : List LimitRow → Rows = λ limits.
-    rows_of entries t.frameworks.entries t.holdings t.filters t.weights.entries limits t.clock t.next_offer t.accepted in
+    rows_of entries t.frameworks.entries t.holdings t.filters t.weights.entries limits t.clock t.next_offer t.events in
     record {
       kept = subst (λ (ls : List LimitRow). IsKept (rows ls) entries c.args.sum t.clients) limits
           (kept-other t c.self.invariant.kept name total c.args.sum right summed entries c.set_total.ensures);
@@ -69,7 +69,7 @@ returns c =
     subst (λ (s : Stored). c.args.sum ≡ plus (cluster_total (filter (λ a. not (same_text a.name name)) s.rows.agents)) (quantities_of total))
     (sym c.self.view_is) c.requires.sum in
     let rows : List LimitRow → Rows = λ limits.
-    rows_of c.set_total.new.agents.entries t.frameworks.entries t.holdings t.filters t.weights.entries limits t.clock t.next_offer t.accepted in
+    rows_of c.set_total.new.agents.entries t.frameworks.entries t.holdings t.filters t.weights.entries limits t.clock t.next_offer t.events in
     ap rows (c.recount_total-self-inside.ensures.raised.limits ∙ sym c.release_agent.ensures.limits)
     ∙ rows-other t c.self.invariant.kept name total c.args.sum right summed c.set_total.new.agents.entries c.set_total.ensures
     ∙ ap (λ (s : Stored). record s.rows { agents = with_other_total s.rows name total }) c.self.view_is

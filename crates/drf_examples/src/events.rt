@@ -79,11 +79,12 @@ struct Counts {
     tasks: usize,
     filters: usize,
     clock: u64,
-    accepted: u64,
+    events: u64,
 }
 
+/// Told of a copy of the rows.
 fn counts_of(core: &Core<PlainSorter>) -> Result<Counts, AllocError> {
-    let rows = core.rows()?;
+    let rows = core.rows()?.copy()?;
     Ok(Counts {
         agents: rows.agents.len(),
         frameworks: rows.frameworks.len(),
@@ -91,7 +92,7 @@ fn counts_of(core: &Core<PlainSorter>) -> Result<Counts, AllocError> {
         tasks: rows.tasks.len(),
         filters: rows.filters.len(),
         clock: rows.clock,
-        accepted: rows.accepted,
+        events: rows.events,
     })
 }
 
@@ -103,10 +104,10 @@ fn tell_rows(rt: &impl Print, counts: Counts) -> io::Result<()> {
         tasks,
         filters,
         clock,
-        accepted,
+        events,
     } = counts;
     println!(rt;
-        "rows: {agents} agents, {frameworks} frameworks, {offers} offers, {tasks} tasks, {filters} filters, clock {clock}, {accepted} accepted"
+        "rows: {agents} agents, {frameworks} frameworks, {offers} offers, {tasks} tasks, {filters} filters, clock {clock}, {events} accepted"
     )
 }
 

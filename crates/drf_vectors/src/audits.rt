@@ -95,7 +95,7 @@ fn rows(alloc: Global, cluster: Cluster) -> Rows {
         filters: Table::from_vec(Vec::new(alloc)),
         clock: 0,
         next_offer: 2,
-        accepted: 4,
+        events: 4,
     }
 }
 

@@ -1,5 +1,5 @@
-//! The orders of a sorter of two clients, before and after the first is charged, and under another total; and whether it made no
-//! more keys for each than are allowed.
+//! The orders of a sorter of two clients, before and after the first is charged, and under another total; and how many keys it made
+//! up to each, since the one before.
 ghost use Rattle.std.specs.Prelude.{◌≡◌, IfOk, IsOk, OnOk};
 ghost use Rattle.drf_bundle.specs.Quantities.{covers};
 ghost use Rattle.drf_sorter.specs.Content.{IsSound, empty};
@@ -25,7 +25,7 @@ struct Scenario {
     next_total: Quantities,
 }
 
-/// The orders of a sorter, whether the keys for each are no more than are allowed, and how many it made so far.
+/// The orders of a sorter, how many keys it made up to each, and how many so far.
 #[derive(Drop)]
 struct Told {
     orders: String,
@@ -72,20 +72,20 @@ fn append_clients(orders: &mut String, clients: &[ClientPath]) -> Result<()> {
     Ok(orders.push_str("; ")?)
 }
 
-/// Whether no more keys were made since the last order than that number.
-fn append_keys(told: &mut Told, made: u64, most: u64) -> Result<()> {
-    let keys = made.saturating_sub(told.made);
+/// How many keys were made since the last order, those of clients that were added among them.
+fn append_keys(told: &mut Told, made: u64) -> Result<()> {
+    // A count that fell is told as a great one.
+    let keys = made.wrapping_sub(told.made);
     told.made = made;
-    let is_within = if keys <= most { "within" } else { "ABOVE" };
-    Ok(write!(told.keys, "{is_within} {most}; ")?)
+    Ok(write!(told.keys, "{keys}; ")?)
 }
 
-fn append_order<S: Sorter>(told: &mut Told, sorter: &mut S, most: u64) -> Result<()>
+fn append_order<S: Sorter>(told: &mut Told, sorter: &mut S) -> Result<()>
     requires { IsSound (S.content sorter.old) }
     ensures { S.content sorter.new ≡ S.content sorter.old }
 {
     append_clients(&mut told.orders, &sorter.order()?)?;
-    append_keys(told, sorter.keys_made(), most)
+    append_keys(told, sorter.keys_made())
 }
 
 fn add_both<S: Sorter>(sorter: &mut S, scenario: &Scenario) -> Result<()>
@@ -104,12 +104,12 @@ fn append_orders<S: Sorter>(told: &mut Told, sorter: &mut S, scenario: &Scenario
     requires empty { S.content sorter.old ≡ empty }
 {
     add_both(sorter, scenario)?;
-    append_order(told, sorter, 6)?;
-    append_order(told, sorter, 0)?;
+    append_order(told, sorter)?;
+    append_order(told, sorter)?;
     sorter.charge(&scenario.first, &scenario.amounts)?;
-    append_order(told, sorter, 3)?;
+    append_order(told, sorter)?;
     sorter.set_total(scenario.next_total.copy()?);
-    append_order(told, sorter, 6)
+    append_order(told, sorter)
 }
 
 fn run<S: Sorter>(alloc: Global, told: &mut Told, scenario: &Scenario) -> Result<()>

@@ -1,0 +1,45 @@
+#!/usr/bin/env python3
+"""Gives the crates of a checkout the libraries that `rt ci` proved and kept on this machine, so that `rt check` in a crate above
+begins over them at once instead of proving each anew. For work on proofs only: the gate takes nothing of it.
+
+    bench/kept.py CRATE..      these crates of this checkout, whose text must be that which was proved"""
+import glob
+import json
+import os
+import shutil
+import sys
+
+from begin import ROOT
+
+KIT = os.path.dirname(os.path.dirname(os.path.realpath(shutil.which("rt") or sys.exit("kept.py: there is no rt"))))
+sys.path.insert(0, f"{KIT}/bin")
+
+
+def give(crate):
+    """Links the files of the newest kept library, and says with the stamp of a check that they are of this text."""
+    kept = sorted(glob.glob(f"{os.path.dirname(KIT)}/rattle-kept/proof-{crate.name}-*"), key=os.path.getmtime)
+    if not kept:
+        return f"{crate.name}: none is kept"
+    out = f"{crate.folder}/out"
+    shutil.rmtree(f"{out}/rlib", ignore_errors=True)
+    with open(f"{kept[-1]}/made.json") as made:
+        paths = [path for path, _ in json.load(made)["files"]]
+    for number, path in enumerate(paths):
+        os.makedirs(os.path.dirname(f"{out}/{path}"), exist_ok=True)
+        os.link(f"{kept[-1]}/{number}", f"{out}/{path}")
+    with open(f"{out}/rlib/stamp", "w") as stamp:
+        stamp.write(crate.stamp())
+    return f"{crate.name}: given"
+
+
+def main(names):
+    import rtlib
+
+    os.chdir(ROOT)
+    for crate in rtlib.crates_below(f"{ROOT}/crates"):
+        if crate.name in names:
+            print(give(crate))
+
+
+if __name__ == "__main__":
+    main(sys.argv[1:] or sys.exit(__doc__))

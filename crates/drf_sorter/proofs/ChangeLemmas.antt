@@ -1,5 +1,5 @@
 -- What adding and changing one client does to the content.
-use Rattle.std.proofs.Common.{◌≡◌, ◌<◌, ◌≤◌, ◌+◌, ◌-◌, ℕ, zero, suc, Bool, true, false, cond, IsTrue, List, [], ◌∷◌, ◌++◌, ◌||◌, Some, None, map, length, get_or, set, take, not, nat_lt, refl, sym, ap, subst, ◌∙◌, inl, inr, arith}
+use Rattle.std.proofs.Common.{◌≡◌, ◌<◌, ◌≤◌, ◌+◌, ◌-◌, ℕ, zero, suc, Bool, true, false, cond, List, [], ◌∷◌, ◌++◌, ◌||◌, Some, None, map, length, get_or, set, take, filter, remove, not, nat_lt, refl, sym, ap, subst, ◌∙◌, inl, inr, arith}
 use Rattle.std.specs.List.{AllByRecursion, IsDistinct, list_any, position, position_or_len, sum_by}
 use Rattle.std.specs.Cmp.Lexicographic.{lists_equiv, nat_list_eq_equiv, pointwise_decides, bytes_decides}
 use Rattle.std.specs.Cmp.{IsEquivalence}
@@ -10,6 +10,7 @@ use Rattle.std.proofs.Math.Seq.{map-set_same}
 use Rattle.std.proofs.lemmas.List.Quantifiers.{position-Some}
 use Rattle.std.proofs.lemmas.List.{map_push, length-map, get_or-map, take_more}
 use Rattle.std.proofs.lemmas.Map.Keys.{IsDistinct-head, IsDistinct-tail, IsDistinct-push}
+use Rattle.indexmap.proofs.SetLemmas.{map-remove}
 use Rattle.drf_bundle.specs.Quantities.{amount_of, minus}
 use Rattle.drf_bundle.specs.laws.QuantitiesLaws.{amount-minus}
 use Rattle.drf_bundle.specs.declared.quantities.Entry.{Entry}
@@ -90,6 +91,70 @@ listed_added clients keys x key listed same fresh =
     (map (λ (x : Client). x.path) clients ++ x.path ∷ []))
     ∙ sym (map_push (λ (x : Client). x.path) clients x)
 
+-- ---- a client among those of other paths
+
+apart_at : (p : List (List ℕ)) (clients : List Client) (i : ℕ) (x : Client) → i < length clients
+    → x ≡ get_or clients i x → AllByRecursion (λ q. same_path p q ≡ false) (map (λ (x : Client). x.path) clients)
+    → same_path p x.path ≡ false
+apart_at p [] i x inside is all = absurd (omega arith)
+apart_at p (y ∷ ys) zero x inside is all = subst (λ (z : Client). same_path p z.path ≡ false) (sym is) all.0
+apart_at p (y ∷ ys) (suc i) x inside is all = apart_at p ys i x (omega arith) is all.1
+
+-- after a client of that path there is no other
+far_from : (path : List (List ℕ)) (z : Client) (zs : List Client)
+    → IsDistinct same_path (map (λ (x : Client). x.path) (z ∷ zs)) → same_path z.path path ≡ true
+    → AllByRecursion (λ q. same_path path q ≡ false) (map (λ (x : Client). x.path) zs)
+far_from path z zs distinct here =
+    subst (λ (p : List (List ℕ)). AllByRecursion (λ q. same_path p q ≡ false) (map (λ (x : Client). x.path) zs))
+    (same_from_paths z.path path here) (IsDistinct-head same_path z.path (map (λ (x : Client). x.path) zs) distinct)
+
+-- and before one there is none
+other_before : (path : List (List ℕ)) (z : Client) (zs : List Client) (i : ℕ) (x : Client)
+    → IsDistinct same_path (map (λ (x : Client). x.path) (z ∷ zs)) → i < length zs → x ≡ get_or zs i x
+    → same_path x.path path ≡ true → same_path z.path path ≡ false
+other_before path z zs i x distinct inside is there =
+    subst (λ (p : List (List ℕ)). same_path z.path p ≡ false) (same_from_paths x.path path there)
+    (apart_at z.path zs i x inside is (IsDistinct-head same_path z.path (map (λ (x : Client). x.path) zs) distinct))
+
+-- ---- a client is removed
+
+all_others : (path : List (List ℕ)) (clients : List Client)
+    → AllByRecursion (λ p. same_path path p ≡ false) (map (λ (x : Client). x.path) clients)
+    → filter (λ (x : Client). not (same_path x.path path)) clients ≡ clients
+all_others path [] all = refl
+all_others path (x ∷ xs) all =
+    rw (paths_equiv.symm x.path path ∙ all.0) (ap (λ cs. x ∷ cs) (all_others path xs all.1))
+
+removed_at : (path : List (List ℕ)) (clients : List Client) (i : ℕ) (x : Client)
+    → IsDistinct same_path (map (λ (x : Client). x.path) clients) → i < length clients → x ≡ get_or clients i x
+    → same_path x.path path ≡ true
+    → remove clients i ≡ filter (λ (x : Client). not (same_path x.path path)) clients
+removed_at path [] i x distinct inside is there = absurd (omega arith)
+removed_at path (z ∷ zs) zero x distinct inside is there =
+    let here : same_path z.path path ≡ true = subst (λ (w : Client). same_path w.path path ≡ true) is there in
+    rw here (sym (all_others path zs (far_from path z zs distinct here)))
+removed_at path (z ∷ zs) (suc i) x distinct inside is there =
+    let within : i < length zs = omega arith in
+    rw (other_before path z zs i x distinct within is there)
+    (ap (λ cs. z ∷ cs) (removed_at path zs i x
+    (IsDistinct-tail same_path z.path (map (λ (x : Client). x.path) zs) distinct) within is there))
+
+-- the client that was found is the only one of its path
+pub removed_one : (clients : List Client) (path : List (List ℕ)) (i : ℕ) (x : Client)
+    → IsDistinct same_path (map (λ (x : Client). x.path) clients)
+    → Some i ≡ position (λ (x : Client). same_path x.path path) clients → x ≡ get_or clients i x
+    → remove clients i ≡ filter (λ (x : Client). not (same_path x.path path)) clients
+removed_one clients path i x distinct at is =
+    let found = place-found clients path i x at is in
+    removed_at path clients i x distinct found.inside found.is found.there
+
+-- its path is taken out at the same place
+pub listed_removed : (clients : List Client) (keys : List (List (List ℕ))) (i : ℕ)
+    → keys ≡ map (λ (x : Client). x.path) clients
+    → remove keys i ≡ map (λ (x : Client). x.path) (remove clients i)
+listed_removed clients keys i listed =
+    ap (λ ks. remove ks i) listed ∙ sym (map-remove (λ (x : Client). x.path) clients i)
+
 -- ---- a client is changed
 
 -- a client that keeps its path is put in place of one
@@ -105,13 +170,6 @@ pub listed_stays : (clients : List Client) (keys : List (List (List ℕ))) (i : 
     → keys ≡ map (λ (x : Client). x.path) (set clients i y)
 listed_stays clients keys i x y is same listed =
     listed ∙ sym (map-set_same (λ (x : Client). x.path) clients i y x (same ∙ ap (λ (x : Client). x.path) is))
-
-apart_at : (p : List (List ℕ)) (clients : List Client) (i : ℕ) (x : Client) → i < length clients
-    → x ≡ get_or clients i x → AllByRecursion (λ q. same_path p q ≡ false) (map (λ (x : Client). x.path) clients)
-    → same_path p x.path ≡ false
-apart_at p [] i x inside is all = absurd (omega arith)
-apart_at p (y ∷ ys) zero x inside is all = subst (λ (z : Client). same_path p z.path ≡ false) (sym is) all.0
-apart_at p (y ∷ ys) (suc i) x inside is all = apart_at p ys i x (omega arith) is all.1
 
 -- no client before another has its path
 pub fresh_at : (clients : List Client) (i : ℕ) (x : Client) → IsDistinct same_path (map (λ (x : Client). x.path) clients)
@@ -156,19 +214,11 @@ module _ (path : List (List ℕ)) (change : Ranked → Ranked) where
   changed_at [] i x y distinct inside is there made = absurd (omega arith)
   changed_at (z ∷ zs) zero x y distinct inside is there made =
       let here : same_path z.path path ≡ true = subst (λ (w : Client). same_path w.path path ≡ true) is there in
-      let far = IsDistinct-head same_path z.path (map (λ (x : Client). x.path) zs) distinct in
-      let far_path =
-      subst (λ (p : List (List ℕ)). AllByRecursion (λ q. same_path p q ≡ false) (map (λ (x : Client). x.path) zs))
-      (same_from_paths z.path path here) far in
-      rw here (λ j. (made ∙ ap (λ (w : Client). change (ranked w)) is) j ∷ sym (others zs far_path) j)
+      rw here
+      (λ j. (made ∙ ap (λ (w : Client). change (ranked w)) is) j ∷ sym (others zs (far_from path z zs distinct here)) j)
   changed_at (z ∷ zs) (suc i) x y distinct inside is there made =
       let within : i < length zs = omega arith in
-      let apart =
-      apart_at z.path zs i x within is
-      (IsDistinct-head same_path z.path (map (λ (x : Client). x.path) zs) distinct) in
-      let other : same_path z.path path ≡ false =
-      subst (λ (p : List (List ℕ)). same_path z.path p ≡ false) (same_from_paths x.path path there) apart in
-      rw other
+      rw (other_before path z zs i x distinct within is there)
       (ap (λ cs. ranked z ∷ cs) (changed_at zs i x y
       (IsDistinct-tail same_path z.path (map (λ (x : Client). x.path) zs) distinct) within is there made))
 

@@ -271,8 +271,10 @@ impl Sorter for PlainSorter {
     }
 
     fn remove(&mut self, path: &ClientPath) {
-        self.clients.retain(|client| client.path != *path);
-        self.paths.retain(|other| *other != *path);
+        if let Some(at) = self.row_of(path) {
+            self.clients.remove(at);
+            self.paths.shift_remove_index(at);
+        }
     }
 
     #[tactic(auto, using(crate::proofs::ChangeLemmas::distinct_stays, crate::proofs::ChangeLemmas::listed_stays))]

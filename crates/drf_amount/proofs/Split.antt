@@ -11,7 +11,7 @@ use Rattle.drf_amount.specs.declared.algebra.AlgebraFault.TheVariants.{Kind, Ove
 use Rattle.drf_amount.specs.Algebra.{AlgebraLaws, IsRest, IsJoinFault}
 use Rattle.drf_amount.specs.PoolCalls.{StopsAt, IsJoinAllFault}
 use Rattle.drf_amount.specs.Pool.{PoolContent, IsPool, NumbersRise, joined_with, joined_all, numbered, part_at, parts_without}
-use Rattle.drf_amount.proofs.Joined.{and_then-and_then, and_then-Some, given-found, given-without, joined_with-base}
+use Rattle.drf_amount.proofs.Joined.{and_then-and_then, and_then-Some, given-without, joined_with-base}
 use Rattle.drf_amount.proofs.Kept.{both_steps, part_joins}
 use Rattle.drf_amount.proofs.Numbered.{insert_entry-last, NumbersRise-without}
 

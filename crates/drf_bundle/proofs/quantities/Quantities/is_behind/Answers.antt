@@ -1,4 +1,4 @@
-use Rattle.std.proofs.Common.{IsTrue, List, subst, sym, ap, ◌∙◌}
+use Rattle.std.proofs.Common.{IsTrue, List, subst}
 use Rattle.drf_role.specs.Text.{text_below}
 use Rattle.drf_bundle.specs.declared.quantities.Entry.{Entry}
 use Rattle.drf_bundle.specs.Quantities.{is_in_order}

@@ -21,6 +21,8 @@ pub enum ViewFault {
 }
 
 impl From<AllocError> for ViewFault {
+    ghost from_gives = { λ _ fault. fault ≡ ViewFault.Memory };
+
     fn from(_error: AllocError) -> ViewFault {
         ViewFault::Memory
     }

@@ -1,13 +1,15 @@
 //! Bundles of resources.
 ghost use Rattle.std.specs.Prelude.{◌≡◌, ◌+◌, ◌<◌, ◌^◌, IsTrue, [], ◌∷◌, ◌++◌, OnOk, OnErr, IfOk, IfErr};
+ghost use Rattle.std.specs.List.{list_all};
 ghost use Rattle.std.specs.Option.{option_copied};
-ghost use Rattle.drf_bundle.specs.Bundle.{IsBundle, IsKept, amount, join, refusal, is_too_large, is_in_order, exceeds, rest, filled_of, left_of, covers_one, reservation, add_scalar, value_at, quantities_of, one_of, is_unreserved, part_for, clip, clipped, relabel};
+ghost use Rattle.drf_bundle.specs.Bundle.{IsBundle, IsKept, amount, join, refusal, is_too_large, is_in_order, exceeds, rest, filled_of, left_of, covers_one, reservation, add_scalar, value_at, quantities_of, one_of, is_unreserved, is_for, part_for, clip, clipped, relabel};
 ghost use Rattle.drf_bundle.specs.Value.{Thousandths, units_in, IsGiven};
 ghost use Rattle.drf_bundle.specs.Quantities.{amount_of};
 ghost use Rattle.drf_bundle.specs.Places.{IsKeyAt, IsKeyGap};
 ghost use Rattle.drf_bundle.specs.laws.BundleLaws.{bundle_laws};
 
 use crate::merge::{have_clash, merged};
+use crate::parts::{Parts, place};
 use crate::quantities::Quantities;
 use crate::resource::Resource;
 use crate::value::{Clash, Value};
@@ -15,14 +17,13 @@ use drf_amount::{Algebra, AlgebraFault, Scalar};
 use drf_role::{Label, Role};
 use std::alloc::{AllocError, Global};
 use std::marker::Model;
+use std::sync::Arc;
 
 /// What there is of each resource, for everyone or for a role. One name has one kind, no member
-/// stands under two reservations of a name, and the scalars of a name sum to less than 2^64.
+/// stands under two reservations of a name, and the scalars of a name sum to less than 2^64. Copies share what they hold.
 #[derive(Debug, Drop)]
 pub struct Bundle {
-    pub(crate) resources: Vec<Resource>,
-    // The scalars of each name over all reservations, kept to be lent.
-    pub(crate) quantities: Quantities,
+    parts: Arc<Parts>,
 }
 
 impl Model for Bundle {
@@ -36,37 +37,9 @@ impl Model for Bundle {
 
     ghost coded = { coded_list resource.the_row.coded };
 
-    ghost use Rattle.drf_bundle.specs.Bundle.{IsKept};
+    ghost use Rattle.std.specs.Arc.{arc_value};
 
-    ghost view = { λ b. b.resources.items };
-
-    ghost invariant = { λ b. IsKept b.resources.items b.quantities };
-}
-
-/// Adds the resource's scalar to the sum of its name.
-pub(crate) fn add_scalar(sums: &mut Quantities, resource: &Resource) -> Result<(), AllocError>
-    requires { amount_of sums.old resource.now.label + units_in resource.now.value Thousandths < 2 ^ 64 }
-    ensures ok { OnOk result (sums.new ≡ add_scalar sums.old resource.now) }
-    ensures err { OnErr result (sums.new ≡ sums.old) }
-{
-    let Value::Scalar(scalar) = &resource.value else {
-        return Ok(());
-    };
-    // Resources stand in order of name, so it is the last name, or one behind it.
-    let last = sums.entries().len().saturating_sub(1);
-    sums.add(&resource.label, scalar.thousandths(), last)
-}
-
-/// The scalars of each name, summed over all reservations.
-fn sums(alloc: Global, resources: &[Resource]) -> Result<Quantities, AllocError>
-    requires { IsBundle resources.now }
-    ensures { IfOk result (λ q. q ≡ quantities_of resources.now) }
-{
-    let mut sums = Quantities::empty(alloc);
-    for resource in resources {
-        add_scalar(&mut sums, resource)?;
-    }
-    Ok(sums)
+    ghost view = { λ b. arc_value b.parts };
 }
 
 /// Whether the resource of a name and a reservation is at the place.
@@ -98,15 +71,6 @@ fn place_near(
     place(resources, label, role)
 }
 
-/// Where the resource of a name and a reservation stands, or where it would go.
-pub(crate) fn place(resources: &[Resource], label: &Label, role: &Role) -> Result<usize, usize>
-    requires { IsTrue (is_in_order resources.now) }
-    ensures found { IfOk result (IsKeyAt resources.now (label.now, reservation role.now)) }
-    ensures absent { IfErr result (IsKeyGap resources.now (label.now, reservation role.now)) }
-{
-    resources.binary_search_by(|resource| resource.cmp_key(label, role))
-}
-
 /// The value of a name under a reservation, which is likely to stand at the hint or close behind it.
 fn value_at<'a>(
     resources: &'a [Resource],
@@ -135,6 +99,18 @@ fn covers_one(whole: &[Resource], resource: &Resource, hint: usize) -> bool
         Some(value) => value.covers(&resource.value),
         None => false,
     }
+}
+
+/// Whether a role may use all of the resources.
+fn are_for(resources: &[Resource], role: &Role) -> bool
+    ensures { result ≡ list_all (is_for role.now) resources.now }
+{
+    for resource in resources {
+        if !resource.is_for(role) {
+            return false;
+        }
+    }
+    true
 }
 
 /// The resource without what the part has under its key.
@@ -184,14 +160,27 @@ impl Bundle {
         requires { IsBundle resources.items }
         ensures { IfOk result (λ bundle. bundle ≡ resources.items) }
     {
+        Bundle::from_parts(Parts::new(alloc, resources)?)
+    }
+
+    /// The bundle of resources that were put together.
+    pub fn from_parts(parts: Parts) -> Result<Bundle, AllocError>
+        ensures { IfOk result (λ bundle. bundle ≡ parts) }
+    {
         Ok(Bundle {
-            quantities: sums(alloc, &resources)?,
-            resources,
+            parts: Arc::new(parts.alloc(), parts)?,
         })
     }
 
+    /// What its copies share.
+    fn parts(&self) -> &Parts
+        ensures { result.now ≡ self.now }
+    {
+        &self.parts
+    }
+
     fn alloc(&self) -> Global {
-        *self.resources.allocator()
+        self.parts().alloc()
     }
 
     /// The bundle of one resource, reserved for the role if that is not `*`. A value with nothing in it makes no resource.
@@ -219,7 +208,7 @@ impl Bundle {
     pub fn get(&self, label: &Label, role: &Role) -> Option<&Value>
         ensures { option_copied result ≡ value_at self.now (label.now, reservation role.now) }
     {
-        value_at(&self.resources, label, role, 0)
+        value_at(self.entries(), label, role, 0)
     }
 
     /// The resources in the order in which they are written.
@@ -227,7 +216,7 @@ impl Bundle {
         ensures value { result.now ≡ self.now }
         ensures bundle { IsBundle self.now }
     {
-        self.resources.as_slice()
+        self.parts().entries()
     }
 
     /// The scalars of each name, summed over all reservations.
@@ -235,7 +224,7 @@ impl Bundle {
         ensures value { result.now ≡ quantities_of self.now }
         ensures bundle { IsBundle self.now }
     {
-        &self.quantities
+        self.parts().quantities()
     }
 
     /// Tells a proof what every bundle is. It does nothing.
@@ -249,7 +238,7 @@ impl Bundle {
     pub fn is_unreserved(&self) -> bool
         ensures { result ≡ is_unreserved self.now }
     {
-        for resource in &self.resources {
+        for resource in self.entries() {
             if !resource.is_unreserved() {
                 return false;
             }
@@ -261,8 +250,12 @@ impl Bundle {
     pub fn part_for(&self, role: &Role) -> Result<Bundle, AllocError>
         ensures { IfOk result (λ part. part ≡ part_for role.now self.now) }
     {
+        let resources = self.entries();
+        if are_for(resources, role) {
+            return self.copy();
+        }
         let mut part = Vec::new(self.alloc());
-        for resource in &self.resources {
+        for resource in resources {
             if resource.is_for(role) {
                 part.push(resource.copy()?)?;
             }
@@ -275,7 +268,7 @@ impl Bundle {
         ensures { IfOk result (λ part. part ≡ clip limits.now self.now) }
     {
         let mut part = Vec::new(self.alloc());
-        for resource in &self.resources {
+        for resource in self.entries() {
             push_filled(&mut part, clipped(limits, resource)?)?;
         }
         Bundle::new(self.alloc(), part)
@@ -287,8 +280,8 @@ impl Bundle {
         ensures { IfOk result (λ moved. moved ≡ relabel role.now self.now) }
     {
         role.recall();
-        let mut moved = Vec::with_capacity(self.alloc(), self.resources.len())?;
-        for resource in &self.resources {
+        let mut moved = Vec::with_capacity(self.alloc(), self.entries().len())?;
+        for resource in self.entries() {
             moved.push(resource.moved_to(role)?)?;
         }
         Bundle::new(self.alloc(), moved)
@@ -299,10 +292,10 @@ impl Bundle {
         ensures given { IsBundle self.now × IsBundle other.now }
         ensures refusal { result ≡ refusal self.now other.now }
     {
-        if have_clash(&self.resources, &other.resources, Clash::Kinds) {
+        if have_clash(self.entries(), other.entries(), Clash::Kinds) {
             return Some(AlgebraFault::Kind);
         }
-        if have_clash(&self.resources, &other.resources, Clash::Members) {
+        if have_clash(self.entries(), other.entries(), Clash::Members) {
             return Some(AlgebraFault::Overlap);
         }
         if self.is_too_large_with(other) {
@@ -315,7 +308,7 @@ impl Bundle {
     fn is_too_large_with(&self, other: &Bundle) -> bool
         ensures { result ≡ is_too_large self.now other.now }
     {
-        self.resources
+        self.entries()
             .iter()
             .any(|resource| self.exceeds_with(other, resource.label.text()))
     }
@@ -325,9 +318,9 @@ impl Bundle {
         ensures { result ≡ exceeds self.now other.now name.now }
     {
         let sum = self
-            .quantities
+            .quantities()
             .get(name)
-            .checked_add(other.quantities.get(name));
+            .checked_add(other.quantities().get(name));
         sum.is_none()
     }
 
@@ -335,10 +328,11 @@ impl Bundle {
     pub fn rest(&self, part: &Bundle) -> Result<Bundle, AllocError>
         ensures { IfOk result (λ left. left ≡ rest self.now part.now) }
     {
+        let others = part.entries();
         let mut left = Vec::new(self.alloc());
-        for (i, resource) in self.resources.iter().enumerate() {
+        for (i, resource) in self.entries().iter().enumerate() {
             let hint = i.saturating_sub(1);
-            push_filled(&mut left, left_of(&part.resources, resource, hint)?)?;
+            push_filled(&mut left, left_of(others, resource, hint)?)?;
         }
         Bundle::new(self.alloc(), left)
     }
@@ -357,15 +351,12 @@ impl Algebra for Bundle {
 
     ghost laws = { bundle_laws };
 
-    fn empty(alloc: Global) -> Bundle {
-        Bundle {
-            resources: Vec::new(alloc),
-            quantities: Quantities::empty(alloc),
-        }
+    fn empty(alloc: Global) -> Result<Bundle, AllocError> {
+        Bundle::from_parts(Parts::empty(alloc))
     }
 
     fn is_empty(&self) -> bool {
-        self.resources.is_empty()
+        self.entries().is_empty()
     }
 
     fn disjoint(&self, other: &Bundle) -> bool {
@@ -376,13 +367,19 @@ impl Algebra for Bundle {
         if let Some(fault) = self.refusal(other) {
             return Err(fault);
         }
-        let resources = merged(self.alloc(), &self.resources, &other.resources)?;
+        if self.is_empty() {
+            return Ok(other.copy()?);
+        }
+        if other.is_empty() {
+            return Ok(self.copy()?);
+        }
+        let resources = merged(self.alloc(), self.entries(), other.entries())?;
         Ok(Bundle::new(self.alloc(), resources)?)
     }
 
     fn covers(&self, part: &Bundle) -> bool {
         let whole = self.entries();
-        for (i, resource) in part.resources.iter().enumerate() {
+        for (i, resource) in part.entries().iter().enumerate() {
             if !covers_one(whole, resource, i) {
                 return false;
             }
@@ -399,20 +396,16 @@ impl Algebra for Bundle {
 
     fn amount(&self) -> u128 {
         let mut amount = 0;
-        for resource in &self.resources {
+        for resource in self.entries() {
             amount += resource.value.amount();
         }
         amount
     }
 
     fn copy(&self) -> Result<Bundle, AllocError> {
-        let mut resources = Vec::with_capacity(self.alloc(), self.resources.len())?;
-        for resource in &self.resources {
-            resources.push(resource.copy()?)?;
-        }
+        self.recall();
         Ok(Bundle {
-            resources,
-            quantities: self.quantities.copy()?,
+            parts: Arc::try_clone(&self.parts)?,
         })
     }
 }

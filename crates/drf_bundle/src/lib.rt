@@ -5,6 +5,7 @@ mod bundle;
 mod laws;
 mod merge;
 mod names;
+mod parts;
 mod quantities;
 mod resource;
 mod union;
@@ -16,6 +17,7 @@ pub use laws::{
     covering_law, lowering_law, quantities_law, setting_law, taking_law, units_law, zeros_law,
 };
 pub use names::Names;
+pub use parts::Parts;
 pub use quantities::{Entry, Quantities};
 pub use resource::Resource;
 pub use value::Value;

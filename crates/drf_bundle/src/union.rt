@@ -8,7 +8,7 @@ ghost use Rattle.drf_bundle.specs.Quantities.{amount_of};
 ghost use Rattle.drf_bundle.specs.Places.{IsKeyGap, IsNameGap};
 ghost use Rattle.drf_bundle.specs.Union.{has_other_kind, is_reserved_elsewhere, union_refusal, union};
 
-use crate::bundle::{Bundle, add_scalar, place};
+use crate::parts::{Parts, add_scalar, place};
 use crate::quantities::Quantities;
 use crate::resource::Resource;
 use crate::value::{Clash, Value};
@@ -131,7 +131,7 @@ fn put(
     }
 }
 
-impl Bundle {
+impl Parts {
     /// Whether the name has a value of another kind.
     pub fn has_other_kind(&self, label: &Label, value: &Value) -> bool
         ensures { result ≡ has_other_kind self.now label.now value.now }

@@ -44,11 +44,11 @@ module _ (rows new : Rows) (agents : List (Text × Agent)) (sum : List Entry) (n
 
 -- ---- another clock, and another number of events
 
-pub IsKept-clocked : (rows : Rows) (agents : List (Text × Agent)) (sum : List Entry) (number clock accepted : ℕ)
+pub IsKept-clocked : (rows : Rows) (agents : List (Text × Agent)) (sum : List Entry) (number clock events : ℕ)
     → clock ≤ LATEST_MOMENT → IsKept rows agents sum number
-    → IsKept (record rows { clock = clock; events = accepted }) agents sum number
-IsKept-clocked rows agents sum number clock accepted early kept =
-    IsKept-same rows (record rows { clock = clock; events = accepted }) agents sum number kept
+    → IsKept (record rows { clock = clock; events = events }) agents sum number
+IsKept-clocked rows agents sum number clock events early kept =
+    IsKept-same rows (record rows { clock = clock; events = events }) agents sum number kept
     (record {
       agents = kept.consistent.agents;
       frameworks = kept.consistent.frameworks;

@@ -61,7 +61,7 @@ unfoldable pub rows_of :
     → ℕ
     → ℕ
     → Rows
-rows_of agents frameworks holdings filters weights limits clock next_offer accepted = record {
+rows_of agents frameworks holdings filters weights limits clock next_offer events = record {
   agents = map agent_row agents;
   frameworks = framework_rows frameworks;
   offers = holdings.offers;
@@ -71,7 +71,7 @@ rows_of agents frameworks holdings filters weights limits clock next_offer accep
   filters = filters;
   clock = clock;
   next_offer = next_offer;
-  events = accepted;
+  events = events;
 }
 
 -- the rows that the fields stand for

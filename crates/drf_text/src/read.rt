@@ -10,12 +10,12 @@ use crate::fault::TextFault;
 use crate::said::{Counted, Said, read_count, read_piece};
 use crate::trim::trim;
 use drf_amount::{Algebra, Scalar};
-use drf_bundle::{Bundle, Quantities, Value};
+use drf_bundle::{Bundle, Parts, Quantities, Value};
 use drf_role::{Label, Role};
 use std::alloc::Global;
 
 /// The fault of a scalar that is too large by itself.
-fn fault_of_too_large(bundle: &Bundle, label: &Label) -> TextFault
+fn fault_of_too_large(bundle: &Parts, label: &Label) -> TextFault
     ensures { result ≡ (if has_other_kind bundle.now label.now (Value.Scalar 0) then TextFault.Kind else TextFault.TooLarge) }
 {
     if bundle.has_other_kind(label, &Value::Scalar(Scalar::new(0))) {
@@ -25,7 +25,7 @@ fn fault_of_too_large(bundle: &Bundle, label: &Label) -> TextFault
 }
 
 /// Puts what a piece says into the bundle.
-fn put_said(bundle: &mut Bundle, said: Said) -> Result<(), TextFault>
+fn put_said(bundle: &mut Parts, said: Said) -> Result<(), TextFault>
     ensures ok { OnOk result (put_said bundle.old said ≡ Ok bundle.new) }
     ensures fault { IfErr result (IsTold (put_said bundle.old said)) }
     ensures memory { IsErrOf result TextFault.Memory → IsOk (put_said bundle.old said) }
@@ -45,7 +45,7 @@ fn put_said(bundle: &mut Bundle, said: Said) -> Result<(), TextFault>
 /// Reads what stands between two `;`, and puts it into the bundle.
 fn add_piece(
     alloc: Global,
-    bundle: &mut Bundle,
+    bundle: &mut Parts,
     text: &str,
     unreserved: &Role,
 ) -> Result<(), TextFault>
@@ -67,11 +67,11 @@ pub fn read_bundle(alloc: Global, text: &str) -> Result<Bundle, TextFault>
     ensures { IsMeaning result (meaning_of text.now) }
 {
     let unreserved = Role::default_role(alloc)?;
-    let mut bundle = Bundle::empty(alloc);
+    let mut bundle = Parts::empty(alloc);
     for piece in text.split(';') {
         add_piece(alloc, &mut bundle, piece, &unreserved)?;
     }
-    Ok(bundle)
+    Ok(Bundle::from_parts(bundle)?)
 }
 
 /// Adds an amount to that of its name.

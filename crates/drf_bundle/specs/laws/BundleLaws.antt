@@ -122,7 +122,7 @@ cancellative a b c whole is_a is_b is_c one two =
     let with_c = join_some a c whole is_a is_c two in
     known_by_units b c is_b is_c (λ key p. omega (arith, with_b.units_add key p, with_c.units_add key p))
 
-neutral : (a : List Resource) → IsBundle a → join a [] ≡ Some a
+pub neutral : (a : List Resource) → IsBundle a → join a [] ≡ Some a
 neutral a is =
     (join_fits a [] is bundle-empty (fits_less _ _ is.fits (λ name p. omega arith))).0 ∙ ap Some (merged-empty a)
 

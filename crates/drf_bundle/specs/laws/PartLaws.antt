@@ -1,6 +1,7 @@
 -- What is made of a bundle is a bundle: what a role may use, what limits leave of it, and what is moved to a role.
 use Rattle.std.specs.Prelude.{◌≡◌, ℕ, ◌≤◌, ◌&&◌, Bool, true, false, List, [], ◌∷◌, filter, IsTrue, All}
-use Rattle.std.proofs.Common.{Less, refl, sym, ◌∙◌, inl, inr, arith}
+use Rattle.std.proofs.Common.{Less, refl, sym, ap, ◌∙◌, inl, inr, arith}
+use Rattle.std.specs.List.{list_all}
 use Rattle.std.specs.Ordering.{nat_cmp}
 use Rattle.std.specs.Cmp.Lexicographic.{slice_cmp}
 use Rattle.std.proofs.lemmas.Bool.{false≢true, and_parts, and_from, cases_Bool}
@@ -19,6 +20,17 @@ use Rattle.drf_bundle.specs.declared.quantities.Entry.{Entry}
 use Rattle.drf_bundle.specs.declared.resource.Resource.{Resource}
 use Rattle.drf_bundle.specs.declared.value.Value.{Value}
 use Rattle.drf_bundle.specs.declared.value.Value.TheVariants.{Scalar, Ranges, Items}
+
+-- ---- all of the resources
+
+all_kept : (kept : Resource → Bool) (rs : List Resource) → list_all kept rs ≡ true → filter kept rs ≡ rs
+all_kept kept [] all = refl
+all_kept kept (r ∷ rs) all =
+    let parts = and_parts (kept r) (list_all kept rs) all in
+    rw parts.0 (ap (λ rs. r ∷ rs) (all_kept kept rs parts.1))
+
+pub part_for-all : (role : Path) (bundle : List Resource) → list_all (is_for role) bundle ≡ true → part_for role bundle ≡ bundle
+part_for-all role bundle all = all_kept (is_for role) bundle all
 
 -- ---- some of the resources
 

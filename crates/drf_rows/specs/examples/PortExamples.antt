@@ -170,7 +170,7 @@ module _ (all : Numbers) (some : IsSome all) (none : nat_lt 0 (set.len (set.diff
 
 -- rows of one agent
 abbrev standing : List Resource → List FrameworkRow → List OfferRow → List TaskRow → List LimitRow → ℕ → ℕ → Rows
-standing total frameworks offers tasks limits next_offer accepted = record {
+standing total frameworks offers tasks limits next_offer events = record {
   agents = record { name = codes "n1"; total = total; active = true } ∷ [];
   frameworks = frameworks;
   offers = offers;
@@ -180,7 +180,7 @@ standing total frameworks offers tasks limits next_offer accepted = record {
   filters = [];
   clock = 0;
   next_offer = next_offer;
-  events = accepted;
+  events = events;
 }
 
 abbrev in_role : Text → Path → ℕ → Bool → FrameworkRow

@@ -1,4 +1,4 @@
-use Rattle.std.proofs.Common.{◌≡◌, ap, ◌∙◌, arith}
+use Rattle.std.proofs.Common.{◌≡◌, ◌∙◌, arith}
 use Rattle.std.proofs.lemmas.Grind.{common_steps}
 use Rattle.std.proofs.lemmas.Bool.Decides.{nat_tests}
 use Rattle.drf_bundle.specs.Value.{Thousandths}
@@ -10,7 +10,7 @@ pub returns : goal.returns
 returns c =
     let name = c.args.name.now in
     let first : c.get.result ≡ stock c.args.self.now name Thousandths =
-    c.get.ensures ∙ amount-kept _ _ name c.self.invariant ∙ ap (λ rs. stock rs name Thousandths) c.self.view_is in
+    c.get.ensures ∙ amount-kept c.args.self.now _ name (record { bundle = c.quantities.ensures.bundle; sums = c.quantities.ensures.value }) in
     let second : c.get-2.result ≡ stock c.args.other.now name Thousandths =
-    c.get-2.ensures ∙ amount-kept _ _ name c.other.invariant ∙ ap (λ rs. stock rs name Thousandths) c.other.view_is in
+    c.get-2.ensures ∙ amount-kept c.args.other.now _ name (record { bundle = c.quantities-2.ensures.bundle; sums = c.quantities-2.ensures.value }) in
     rw (← first, ← second) (grind (arith, nat_tests, common_steps, c.checked_add-sum.ensures, c.is_none.ensures))

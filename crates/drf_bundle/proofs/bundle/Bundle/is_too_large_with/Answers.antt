@@ -8,5 +8,5 @@ use Rattle.drf_bundle.proofs.bundle.Bundle.is_too_large_with.Goals as goal
 
 pub returns : goal.returns
 returns c =
-    any_from_yields_List (λ (r : Resource). exceeds c.args.self.now c.args.other.now r.label) _ _ c.any.result c.any.ensures.ran (YieldsList-from_slice c.deref.result.now c.iter.ensures.rest) (λ x b q k. search (rules, tests))
-    ∙ ap (list_any (λ (r : Resource). exceeds c.args.self.now c.args.other.now r.label)) (c.deref.ensures.value ∙ c.self.view_is)
+    any_from_yields_List (λ (r : Resource). exceeds c.args.self.now c.args.other.now r.label) _ _ c.any.result c.any.ensures.ran (YieldsList-from_slice c.entries.result.now c.iter.ensures.rest) (λ x b q k. search (rules, tests))
+    ∙ ap (list_any (λ (r : Resource). exceeds c.args.self.now c.args.other.now r.label)) c.entries.ensures.value

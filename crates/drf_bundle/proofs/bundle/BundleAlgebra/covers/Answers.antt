@@ -1,7 +1,7 @@
-use Rattle.std.proofs.Common.{◌≡◌, true, false, refl, sym, ap, ◌∙◌, subst, take_all, List}
+use Rattle.std.proofs.Common.{◌≡◌, true, false, refl, sym, ap, ◌∙◌, take_all, List}
 use Rattle.std.proofs.lemmas.Bool.{false≢true}
 use Rattle.std.proofs.lemmas.List.Recursion.{and_at}
-use Rattle.drf_bundle.specs.Bundle.{IsBundle, covers, covers_one}
+use Rattle.drf_bundle.specs.Bundle.{covers, covers_one}
 use Rattle.drf_bundle.specs.laws.BundleLaws.{covers_exact}
 use Rattle.drf_bundle.specs.declared.resource.Resource.{Resource}
 use Rattle.drf_bundle.proofs.bundle.BundleAlgebra.covers.Goals as goal
@@ -9,9 +9,9 @@ use Rattle.drf_bundle.proofs.bundle.BundleAlgebra.covers.Goals as goal
 pub returns-then-not-covers_one-clause-covers : goal.returns-then-not-covers_one-clause-covers
 returns-then-not-covers_one-clause-covers c =
     let whole = c.args.self.now in
-    let items = c.deref-resource-items.result.now in
-    let same = c.deref-resource-items.ensures.value ∙ c.part.view_is in
-    let is_part = subst IsBundle c.part.view_is c.part.invariant.bundle in
+    let items = c.entries-resource-items.result.now in
+    let same = c.entries-resource-items.ensures.value in
+    let is_part = c.entries-resource-items.ensures.bundle in
     let none : covers_one whole c.resource-item.result ≡ false = ap (λ (rs : List Resource). covers_one rs c.resource-item.result) (sym c.entries-whole.ensures.value) ∙ sym c.covers_one.ensures ∙ c.if-not-covers_one.true in (
       λ e. absurd (false≢true e),
       λ some.
@@ -23,7 +23,7 @@ returns-then-not-covers_one-clause-covers c =
 pub returns-clause-covers : goal.returns-clause-covers
 returns-clause-covers c =
     let whole = c.args.self.now in
-    let is_part = subst IsBundle c.part.view_is c.part.invariant.bundle in
+    let is_part = c.entries-resource-items.ensures.bundle in
     let all : covers whole c.args.part.now ≡ true =
-    ap (covers whole) (sym (take_all _ _ c.loop-i-test.false ∙ c.deref-resource-items.ensures.value ∙ c.part.view_is)) ∙ c.loop-i.invariant in
+    ap (covers whole) (sym (take_all _ _ c.loop-i-test.false ∙ c.entries-resource-items.ensures.value)) ∙ c.loop-i.invariant in
     (λ e. (covers_exact whole c.args.part.now c.entries-whole.ensures.bundle is_part).0 all, λ some. refl)

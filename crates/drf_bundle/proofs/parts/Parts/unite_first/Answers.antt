@@ -10,7 +10,7 @@ use Rattle.drf_bundle.specs.Union.{IsPiece, union_refusal}
 use Rattle.drf_bundle.specs.laws.UnionLaws.{union_empty, union_filled, some_in, kept-merged}
 use Rattle.drf_bundle.specs.declared.resource.Resource.{Resource}
 use Rattle.drf_bundle.proofs.FirstLemmas.{key_gap, stock_first, first_is_free}
-use Rattle.drf_bundle.proofs.bundle.Bundle.unite_first.Goals as goal
+use Rattle.drf_bundle.proofs.parts.Parts.unite_first.Goals as goal
 
 pub returns-then-is_empty-clause-ok : goal.returns-then-is_empty-clause-ok
 returns-then-is_empty-clause-ok c =

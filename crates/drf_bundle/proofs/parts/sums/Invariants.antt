@@ -1,6 +1,6 @@
 use Rattle.std.proofs.Common.{drop}
 use Rattle.drf_bundle.proofs.SumLemmas.{Summed}
-use Rattle.drf_bundle.proofs.bundle.sums.Given as goal
+use Rattle.drf_bundle.proofs.parts.sums.Given as goal
 
 -- the sums so far and the scalars that are left give all sums, and they fit
 abbrev pub invariant-loop-resource : goal.invariant-loop-resource

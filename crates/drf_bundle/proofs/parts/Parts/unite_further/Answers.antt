@@ -7,7 +7,7 @@ use Rattle.drf_bundle.specs.laws.SumLaws.{amount-kept}
 use Rattle.drf_bundle.specs.Union.{IsPiece, union_refusal}
 use Rattle.drf_bundle.specs.laws.UnionLaws.{room_from_refusal, room_fits, union_empty, some_in, kept-merged}
 use Rattle.drf_bundle.specs.declared.resource.Resource.{Resource}
-use Rattle.drf_bundle.proofs.bundle.Bundle.unite_further.Goals as goal
+use Rattle.drf_bundle.proofs.parts.Parts.unite_further.Goals as goal
 
 pub returns-then-is_empty-clause-ok : goal.returns-then-is_empty-clause-ok
 returns-then-is_empty-clause-ok c =

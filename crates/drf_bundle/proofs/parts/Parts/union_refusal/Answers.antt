@@ -6,7 +6,7 @@ use Rattle.drf_bundle.specs.laws.SumLaws.{amount-kept}
 use Rattle.drf_bundle.specs.Union.{has_other_kind, is_reserved_elsewhere}
 use Rattle.drf_bundle.specs.laws.UnionLaws.{refusal_is}
 use Rattle.drf_bundle.specs.declared.resource.Resource.{Resource}
-use Rattle.drf_bundle.proofs.bundle.Bundle.union_refusal.Goals as goal
+use Rattle.drf_bundle.proofs.parts.Parts.union_refusal.Goals as goal
 
 pub returns : goal.returns
 returns c =

@@ -2,7 +2,7 @@ use Rattle.std.proofs.Common.{List, drop, subst, sym, ◌+◌}
 use Rattle.std.proofs.lemmas.List.{drop_all}
 use Rattle.drf_bundle.specs.declared.quantities.Entry.{Entry}
 use Rattle.drf_bundle.proofs.SumLemmas.{Summed, sum_start, sum_fits, sum_more}
-use Rattle.drf_bundle.proofs.bundle.sums.Goals as goal
+use Rattle.drf_bundle.proofs.parts.sums.Goals as goal
 
 pub loop-resource-init : goal.loop-resource-init
 loop-resource-init c = rw c.empty-sums.ensures (sum_start c.args.resources.now c.requires)

@@ -3,7 +3,7 @@ use Rattle.std.proofs.lemmas.Fn.{always_returns_same}
 use Rattle.drf_bundle.specs.Bundle.{Key, key_of, key_cmp, reservation}
 use Rattle.drf_bundle.specs.declared.resource.Resource.{Resource}
 use Rattle.drf_bundle.proofs.SearchLemmas.{searched}
-use Rattle.drf_bundle.proofs.bundle.place.Goals as goal
+use Rattle.drf_bundle.proofs.parts.place.Goals as goal
 
 pub returns : goal.returns
 returns c =

@@ -1,0 +1,114 @@
+//! The resources of a bundle with the sums of their scalars, which the bundle's copies share.
+ghost use Rattle.std.specs.Prelude.{◌≡◌, ◌+◌, ◌<◌, ◌^◌, IsTrue, [], OnOk, OnErr, IfOk, IfErr};
+ghost use Rattle.drf_bundle.specs.Bundle.{IsBundle, is_in_order, reservation, add_scalar, quantities_of};
+ghost use Rattle.drf_bundle.specs.Value.{Thousandths, units_in};
+ghost use Rattle.drf_bundle.specs.Quantities.{amount_of};
+ghost use Rattle.drf_bundle.specs.Places.{IsKeyAt, IsKeyGap};
+
+use crate::quantities::Quantities;
+use crate::resource::Resource;
+use crate::value::Value;
+use drf_role::{Label, Role};
+use std::alloc::{AllocError, Global};
+use std::marker::Model;
+
+/// Resources that are put together one by one, before they are a bundle.
+#[derive(Debug, Drop)]
+pub struct Parts {
+    pub(crate) resources: Vec<Resource>,
+    // The scalars of each name over all reservations, kept to be lent.
+    pub(crate) quantities: Quantities,
+}
+
+impl Model for Parts {
+    ghost use Rattle.std.specs.Prelude.{List};
+    ghost use Rattle.drf_bundle.specs.declared.resource.Resource.{Resource};
+
+    ghost Value = { List Resource };
+
+    ghost use Rattle.std.specs.Coded.{coded_list};
+    ghost use Rattle.drf_bundle.specs.contracts.resource.Resource as resource;
+
+    ghost coded = { coded_list resource.the_row.coded };
+
+    ghost use Rattle.drf_bundle.specs.Bundle.{IsKept};
+
+    ghost view = { λ p. p.resources.items };
+
+    ghost invariant = { λ p. IsKept p.resources.items p.quantities };
+}
+
+/// Adds the resource's scalar to the sum of its name.
+pub fn add_scalar(sums: &mut Quantities, resource: &Resource) -> Result<(), AllocError>
+    requires { amount_of sums.old resource.now.label + units_in resource.now.value Thousandths < 2 ^ 64 }
+    ensures ok { OnOk result (sums.new ≡ add_scalar sums.old resource.now) }
+    ensures err { OnErr result (sums.new ≡ sums.old) }
+{
+    let Value::Scalar(scalar) = &resource.value else {
+        return Ok(());
+    };
+    // Resources stand in order of name, so it is the last name, or one behind it.
+    let last = sums.entries().len().saturating_sub(1);
+    sums.add(&resource.label, scalar.thousandths(), last)
+}
+
+/// The scalars of each name, summed over all reservations.
+fn sums(alloc: Global, resources: &[Resource]) -> Result<Quantities, AllocError>
+    requires { IsBundle resources.now }
+    ensures { IfOk result (λ q. q ≡ quantities_of resources.now) }
+{
+    let mut sums = Quantities::empty(alloc);
+    for resource in resources {
+        add_scalar(&mut sums, resource)?;
+    }
+    Ok(sums)
+}
+
+/// Where the resource of a name and a reservation stands, or where it would go.
+pub fn place(resources: &[Resource], label: &Label, role: &Role) -> Result<usize, usize>
+    requires { IsTrue (is_in_order resources.now) }
+    ensures found { IfOk result (IsKeyAt resources.now (label.now, reservation role.now)) }
+    ensures absent { IfErr result (IsKeyGap resources.now (label.now, reservation role.now)) }
+{
+    resources.binary_search_by(|resource| resource.cmp_key(label, role))
+}
+
+impl Parts {
+    /// No resource.
+    pub fn empty(alloc: Global) -> Parts
+        ensures { result ≡ [] }
+    {
+        Parts {
+            resources: Vec::new(alloc),
+            quantities: Quantities::empty(alloc),
+        }
+    }
+
+    pub(crate) fn new(alloc: Global, resources: Vec<Resource>) -> Result<Parts, AllocError>
+        requires { IsBundle resources.items }
+        ensures { IfOk result (λ parts. parts ≡ resources.items) }
+    {
+        Ok(Parts {
+            quantities: sums(alloc, &resources)?,
+            resources,
+        })
+    }
+
+    pub(crate) fn alloc(&self) -> Global {
+        *self.resources.allocator()
+    }
+
+    pub(crate) fn entries(&self) -> &[Resource]
+        ensures value { result.now ≡ self.now }
+        ensures bundle { IsBundle self.now }
+    {
+        self.resources.as_slice()
+    }
+
+    pub(crate) fn quantities(&self) -> &Quantities
+        ensures value { result.now ≡ quantities_of self.now }
+        ensures bundle { IsBundle self.now }
+    {
+        &self.quantities
+    }
+}

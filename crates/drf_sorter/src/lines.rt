@@ -1,5 +1,5 @@
 //! The lines of nodes in a report.
-ghost use Rattle.std.specs.Prelude.{◌≡◌, ◌≤◌, ◌<◌, ◌^◌, [], IfErr, IfOk, IsTrue, OnOk, length};
+ghost use Rattle.std.specs.Prelude.{◌≡◌, ◌≤◌, ◌<◌, ◌^◌, [], IfErr, IfOk, IsTrue, OnOk, OnErr, length};
 ghost use Rattle.drf_bundle.specs.Quantities.{amount_of, is_in_order};
 ghost use Rattle.drf_role.specs.Text.{Text};
 ghost use Rattle.drf_rows.specs.laws.Laws.{are_in_order};
@@ -70,9 +70,10 @@ impl NodeLines {
         }
     }
 
-    /// Puts a line into its place, for one of the same path if there is one.
+    /// Puts a line into its place, for one of the same path if there is one. An `Err` changes nothing.
     pub fn put(&mut self, line: NodeLine) -> Result<(), AllocError>
-        ensures { OnOk result (self.new ≡ with_line self.old line) }
+        ensures ok { OnOk result (self.new ≡ with_line self.old line) }
+        ensures err { OnErr result (self.new ≡ self.old) }
     {
         match place_of(&self.lines, &line.path) {
             Ok(at) => {

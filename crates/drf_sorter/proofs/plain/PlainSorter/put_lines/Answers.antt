@@ -20,7 +20,7 @@ loop-i-preserved c =
     let content = plain_content c.args.self.now in
     let old = c.loop-i.lines in
     let line = c.in_ok-line.field-0 in
-    let new = sym c.in_ok-put.ensures in
+    let new = sym c.in_ok-put.ensures.ok in
     record {
       each = subst (AllByRecursion (IsLineOf content)) new
           (each-with (IsLineOf content) old line c.loop-i.invariant.each c.in_ok-line.ensures.line);

@@ -69,14 +69,14 @@ returns-clause-each c =
     on_ok_weaker c.put.result
     (λ new. subst (AllByRecursion (IsLineOf content)) (sym new)
     (each-with (IsLineOf content) c.args.lines.now c.node_line.result c.requires.each told))
-    c.put.ensures
+    c.put.ensures.ok
 
 pub returns-clause-stay : goal.returns-clause-stay
 returns-clause-stay c =
     on_ok_weaker c.put.result
     (λ new path had. subst (λ (ls : List NodeLine). has_line ls path ≡ true) (sym new)
     (has_line-others c.args.lines.now c.node_line.result path had))
-    c.put.ensures
+    c.put.ensures.ok
 
 pub returns-clause-put : goal.returns-clause-put
 returns-clause-put c =
@@ -89,4 +89,4 @@ returns-clause-put c =
     (λ new live has. subst (λ (ls : List NodeLine). has_line ls (path_at c.args.self.now.places.items c.args.node) ≡ true) (sym new)
     (subst (λ (p : Path). has_line (with_line c.args.lines.now c.node_line.result) p ≡ true) (same ∙ sym path)
     (has_line-new c.args.lines.now c.node_line.result)))
-    c.put.ensures
+    c.put.ensures.ok

@@ -59,7 +59,7 @@ impl<S: Sorter> Core<S> {
     /// between everyone and a role, or a total is another. However it ends, nothing is granted twice. At `Ok`, a sorter whose work is
     /// counted owes no more for it than the nodes of the clients that it touches, and one for a weight; of what `add_agent`,
     /// `remove_agent` and `set_agent` leave stale no bound is said. However it ends, the count of keys has not fallen, and only a
-    /// `cycle` and an `add_framework` that are not refused make any.
+    /// `cycle` and an `add_framework` that are not refused raise it.
     pub fn step(&mut self, event: Event) -> Result<Reply, AllocError>
         ensures reply { IfOk result (λ reply. reply ≡ reply_to self.old.limits self.old.rows event) }
         ensures ok { OnOk result (IsAfter self.old self.new event) }
@@ -88,8 +88,8 @@ impl<S: Sorter> Core<S> {
     }
 
     /// Takes events in order, and appends their replies. At an `Err` it stands after the events whose replies it has
-    /// appended. However it ends, nothing is granted twice, and the count of keys has not fallen; at `Ok` it has risen only where
-    /// `cycle` or `add_framework` was among the events.
+    /// appended. However it ends, nothing is granted twice, and the count of keys has not fallen, and has risen only where `cycle` or
+    /// `add_framework` is among the events.
     pub fn run(&mut self, events: &[Event], replies: &mut Vec<Reply>) -> Result<(), AllocError>
         ensures run { HasRun self.old self.new events.now replies.old.items replies.new.items }
         ensures ok { OnOk result (IsAfterAll self.old self.new events.now) }
@@ -97,7 +97,7 @@ impl<S: Sorter> Core<S> {
         ensures safe { IsSafe (live_rows self.new.rows) }
         ensures work { OnOk result (MatchOption (allowance_of_all self.old.limits self.old.rows events.now) (Unit {0}) (Adds S.COUNTED self.old.work self.new.work)) }
         ensures made { self.old.work.made ≤ self.new.work.made }
-        ensures keys { OnOk result (list_any may_make_keys events.now ≡ false → self.new.work.made ≡ self.old.work.made) }
+        ensures keys { list_any may_make_keys events.now ≡ false → self.new.work.made ≡ self.old.work.made }
     {
         self.tell_safe();
         for event in events {

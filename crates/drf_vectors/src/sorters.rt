@@ -132,7 +132,11 @@ fn compare(
     run::<TreeSorter>(alloc, tree, scenario)?;
     run::<PlainSorter>(alloc, plain, scenario)?;
     let is_equal = tree.orders == plain.orders;
-    Ok(write!(told, "{}keys {}equal {is_equal}", tree.orders, tree.keys)?)
+    Ok(write!(
+        told,
+        "{}keys {}plain {}equal {is_equal}",
+        tree.orders, tree.keys, plain.keys
+    )?)
 }
 
 fn nothing_told(alloc: Global) -> Told {
@@ -143,7 +147,7 @@ fn nothing_told(alloc: Global) -> Told {
     }
 }
 
-/// What is told of the sorter of the program, and whether one that keeps no order gives the same orders.
+/// What is told of the sorter of the program, the keys of one that keeps no order, and whether that gives the same orders.
 pub fn answers(alloc: Global, told: &mut String) -> Result<()> {
     let scenario = read_scenario(alloc)?;
     let (mut tree, mut plain) = (nothing_told(alloc), nothing_told(alloc));

@@ -1,5 +1,6 @@
-use Rattle.std.proofs.Common.{◌≡◌, ◌+◌, ◌||◌, Bool, true, false, true≢false, List, ◌++◌, ◌∷◌, [], refl, ap, subst, ◌∙◌, sym, length, take, append_assoc, arith}
+use Rattle.std.proofs.Common.{◌≡◌, ◌+◌, ◌||◌, Bool, true, false, true≢false, List, ℕ, ◌++◌, ◌∷◌, [], refl, ap, subst, ◌∙◌, sym, length, take, drop, append_assoc, arith}
 use Rattle.std.proofs.lemmas.List.Folds.{list_any-append}
+use Rattle.std.proofs.lemmas.List.{take-append-drop}
 use Rattle.std.proofs.lemmas.Option.{slice_get_read}
 use Rattle.std.specs.List.{list_any}
 use Rattle.drf_rows.specs.Step.{replies_to}
@@ -16,6 +17,35 @@ use Rattle.drf_core.proofs.allocator.Core.run.Goals as goal
 or_false : (a b : Bool) → (a || b) ≡ false → (a ≡ false) × (b ≡ false)
 or_false false b none = (refl, none)
 or_false true b none = absurd (true≢false none)
+
+-- no event of a front makes keys where none of the list does
+none_before : (events : List Event) (i : ℕ) → list_any may_make_keys events ≡ false
+    → list_any may_make_keys (take i events) ≡ false
+none_before events i none =
+    (or_false (list_any may_make_keys (take i events)) (list_any may_make_keys (drop i events))
+    (sym (list_any-append may_make_keys (take i events) (drop i events))
+    ∙ ap (list_any may_make_keys) (take-append-drop i events) ∙ none)).0
+
+pub returns-in_err-event-clause-keys : goal.returns-in_err-event-clause-keys
+returns-in_err-event-clause-keys g c none =
+    c.loop-event.invariant.keys (none_before c.args.events.now c.loop-event.event-index none)
+
+pub returns-in_err-reserve-clause-keys : goal.returns-in_err-reserve-clause-keys
+returns-in_err-reserve-clause-keys g c none =
+    c.loop-event.invariant.keys (none_before c.args.events.now c.loop-event.event-index none)
+
+pub returns-in_err-reply-clause-keys : goal.returns-in_err-reply-clause-keys
+returns-in_err-reply-clause-keys g c none =
+    let events = c.args.events.now in
+    let i = c.loop-event.event-index in
+    let at = slice_get_read events (length events) i c.event-item.result refl c.loop-event-test.true c.event-item.is in
+    let more : take (i + 1) events ≡ take i events ++ c.in_ok-event.event ∷ [] =
+    take_one_more events i c.event-item.result at
+    ∙ ap (λ (e : Event). take i events ++ e ∷ []) (sym c.in_ok-event.ensures) in
+    let each = or_false (list_any may_make_keys (take i events)) (may_make_keys c.in_ok-event.event || false)
+    (sym (list_any-append may_make_keys (take i events) (c.in_ok-event.event ∷ []))
+    ∙ ap (list_any may_make_keys) (sym more) ∙ none_before events (i + 1) none) in
+    c.step.ensures.keys (or_false (may_make_keys c.in_ok-event.event) false each.1).0 ∙ c.loop-event.invariant.keys each.0
 
 pub loop-event-preserved : goal.loop-event-preserved
 loop-event-preserved g c =

@@ -54,8 +54,8 @@ pub trait Algebra: Sized + Drop {
     ghost amount: { Self → ℕ };
 
     /// The empty amount. What is joined to it takes its memory from `alloc`.
-    fn empty(alloc: Global) -> Result<Self, AllocError>
-        ensures { IfOk result (λ nothing. nothing ≡ empty) };
+    fn empty(alloc: Global) -> Self
+        ensures { result ≡ empty };
 
     fn is_empty(&self) -> bool
         ensures given { is_given self.now }

@@ -14,7 +14,7 @@ pub fn join_all<A: Algebra>(alloc: Global, amounts: &[A]) -> Result<A, AlgebraFa
     ensures joined { IfOk result (λ whole. joined_all A.join A.empty amounts.now ≡ Some whole) }
     ensures fault { IfErr result (IsJoinAllFault A.join A.refusal A.empty amounts.now) }
 {
-    let mut whole = A::empty(alloc)?;
+    let mut whole = A::empty(alloc);
     for amount in amounts {
         whole = whole.try_join(amount)?;
     }

@@ -52,8 +52,8 @@ impl Algebra for Scalar {
 
     ghost laws = { scalar_laws };
 
-    fn empty(_alloc: Global) -> Result<Scalar, AllocError> {
-        Ok(Scalar(0))
+    fn empty(_alloc: Global) -> Scalar {
+        Scalar(0)
     }
 
     fn is_empty(&self) -> bool {

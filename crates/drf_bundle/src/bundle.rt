@@ -21,9 +21,12 @@ use std::sync::Arc;
 
 /// What there is of each resource, for everyone or for a role. One name has one kind, no member
 /// stands under two reservations of a name, and the scalars of a name sum to less than 2^64. Copies share what they hold.
-#[derive(Debug, Drop)]
+#[derive(Debug)]
 pub struct Bundle {
-    parts: Arc<Parts>,
+    // What its copies share. The empty bundle, which takes no memory, need not have any.
+    shared: Option<Arc<Parts>>,
+    // Empty, to be lent where nothing is shared.
+    nothing: Parts,
 }
 
 impl Model for Bundle {
@@ -37,9 +40,23 @@ impl Model for Bundle {
 
     ghost coded = { coded_list resource.the_row.coded };
 
+    ghost use Rattle.std.specs.Prelude.{◌≡◌, []};
+    ghost use Rattle.std.specs.Option.{option_map_or};
     ghost use Rattle.std.specs.Arc.{arc_value};
 
-    ghost view = { λ b. arc_value b.parts };
+    ghost view = { λ b. option_map_or (λ parts. arc_value parts) b.shared [] };
+
+    ghost invariant = { λ b. b.nothing ≡ [] };
+}
+
+// Written out, so that the proof of whoever drops a bundle sees one call, and not its two forms.
+impl Drop for Bundle {
+    fn drop(self) {
+        let Bundle {
+            shared: _shared,
+            nothing: _nothing,
+        } = self;
+    }
 }
 
 /// Whether the resource of a name and a reservation is at the place.
@@ -167,20 +184,25 @@ impl Bundle {
     pub fn from_parts(parts: Parts) -> Result<Bundle, AllocError>
         ensures { IfOk result (λ bundle. bundle ≡ parts) }
     {
+        let alloc = parts.alloc();
         Ok(Bundle {
-            parts: Arc::new(parts.alloc(), parts)?,
+            shared: Some(Arc::new(alloc, parts)?),
+            nothing: Parts::empty(alloc),
         })
     }
 
-    /// What its copies share.
+    /// What it holds.
     fn parts(&self) -> &Parts
         ensures { result.now ≡ self.now }
     {
-        &self.parts
+        match &self.shared {
+            Some(parts) => parts,
+            None => &self.nothing,
+        }
     }
 
     fn alloc(&self) -> Global {
-        self.parts().alloc()
+        self.nothing.alloc()
     }
 
     /// The bundle of one resource, reserved for the role if that is not `*`. A value with nothing in it makes no resource.
@@ -351,8 +373,11 @@ impl Algebra for Bundle {
 
     ghost laws = { bundle_laws };
 
-    fn empty(alloc: Global) -> Result<Bundle, AllocError> {
-        Bundle::from_parts(Parts::empty(alloc))
+    fn empty(alloc: Global) -> Bundle {
+        Bundle {
+            shared: None,
+            nothing: Parts::empty(alloc),
+        }
     }
 
     fn is_empty(&self) -> bool {
@@ -402,10 +427,15 @@ impl Algebra for Bundle {
         amount
     }
 
+    /// A second owner of what it holds. It asks for no memory, and fails where 2^63 owners were counted.
     fn copy(&self) -> Result<Bundle, AllocError> {
         self.recall();
-        Ok(Bundle {
-            parts: Arc::try_clone(&self.parts)?,
-        })
+        match &self.shared {
+            Some(parts) => Ok(Bundle {
+                shared: Some(Arc::try_clone(parts)?),
+                nothing: Parts::empty(self.alloc()),
+            }),
+            None => Ok(Bundle::empty(self.alloc())),
+        }
     }
 }

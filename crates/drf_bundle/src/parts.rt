@@ -1,4 +1,4 @@
-//! The resources of a bundle with the sums of their scalars, which the bundle's copies share.
+//! What a bundle is put together of, and what its copies share.
 ghost use Rattle.std.specs.Prelude.{◌≡◌, ◌+◌, ◌<◌, ◌^◌, IsTrue, [], OnOk, OnErr, IfOk, IfErr};
 ghost use Rattle.drf_bundle.specs.Bundle.{IsBundle, is_in_order, reservation, add_scalar, quantities_of};
 ghost use Rattle.drf_bundle.specs.Value.{Thousandths, units_in};
@@ -12,7 +12,7 @@ use drf_role::{Label, Role};
 use std::alloc::{AllocError, Global};
 use std::marker::Model;
 
-/// Resources that are put together one by one, before they are a bundle.
+/// Resources in order, with the sums of their scalars: put together one by one, and then shared by the copies of a bundle.
 #[derive(Debug, Drop)]
 pub struct Parts {
     pub(crate) resources: Vec<Resource>,

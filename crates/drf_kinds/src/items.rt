@@ -112,10 +112,10 @@ impl Algebra for Items {
 
     ghost laws = { text_set_laws };
 
-    fn empty(alloc: Global) -> Result<Items, AllocError> {
-        Ok(Items {
+    fn empty(alloc: Global) -> Items {
+        Items {
             names: Vec::new(alloc),
-        })
+        }
     }
 
     fn is_empty(&self) -> bool {

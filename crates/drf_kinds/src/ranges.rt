@@ -186,8 +186,8 @@ impl Algebra for Ranges {
 
     ghost laws = { number_set_laws };
 
-    fn empty(alloc: Global) -> Result<Ranges, AllocError> {
-        Ok(Ranges::new(Vec::new(alloc)))
+    fn empty(alloc: Global) -> Ranges {
+        Ranges::new(Vec::new(alloc))
     }
 
     fn is_empty(&self) -> bool {

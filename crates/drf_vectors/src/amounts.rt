@@ -63,7 +63,7 @@ impl Amount for Items {
 
 pub fn read<A: Amount>(alloc: Global, text: &str) -> Result<A> {
     if text == "none" {
-        return Ok(A::empty(alloc)?);
+        return Ok(A::empty(alloc));
     }
     A::from_text(alloc, text)
 }

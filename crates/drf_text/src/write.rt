@@ -36,7 +36,7 @@ fn push_quantity(text: &mut String, entry: &Entry) -> Result<(), AllocError>
 }
 
 /// Writes quantities behind a text: for each name in order the name, `:` and its amount, joined by `;`. What is written
-/// means those quantities.
+/// means those quantities. Where memory ends, some of it may stand there.
 pub fn push_quantities(text: &mut String, quantities: &Quantities) -> Result<(), AllocError>
     ensures text { OnOk result (string_bytes text.new ≡ string_bytes text.old ++ quantities_text quantities.now) }
     ensures read { OnOk result (quantities_meant (quantities_text quantities.now) ≡ Ok quantities.now) }
@@ -149,7 +149,7 @@ fn push_resource(text: &mut String, resource: &Resource) -> Result<(), AllocErro
 }
 
 /// Writes a bundle behind a text: for each resource in order its name, its role in parentheses if it is reserved, `:` and
-/// its value, joined by `;`.
+/// its value, joined by `;`. Where memory ends, some of it may stand there.
 pub fn push_bundle(text: &mut String, bundle: &Bundle) -> Result<(), AllocError>
     ensures { OnOk result (string_bytes text.new ≡ string_bytes text.old ++ bundle_text bundle.now) }
 {

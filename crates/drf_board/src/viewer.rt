@@ -72,7 +72,7 @@ impl<K: Naming> Viewer<K> {
 
     /// The sheet of a legal list that begins with all that this viewer saw before and all that it learnt: what it reads never goes back.
     /// That the history begins with that list is known by the type of a prefix, and stands in no clause. It waits for nobody. `Closed` is
-    /// for a board that is gone; a sheet older than what was seen, which `publish` does not leave behind, would be told so too.
+    /// for a board that is gone; a sheet older than what was seen, or none, which `publish` does not leave behind, would be told so too.
     pub fn read(&mut self) -> Result<Sheet, ViewFault>
         ensures later { IsPrefix self.old self.new }
         ensures legal { IsLegal K.slate.limits self.new }

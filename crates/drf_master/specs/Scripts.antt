@@ -76,7 +76,7 @@ pub record IsStop (asked stops : ℕ → Type 0) (calls : ℕ) : Type 0 where
   pub stopped : stops call
   pub before : HoldsBelow asked call
 
--- the gate stopped a worker; those before it, counted from a number up, made all their calls
+-- the gate stopped a worker; of those before it, counted from a number up, the gate was asked round all their calls
 abbrev pub HasStopped : (ℕ → ℕ → Type 0) → (ℕ → ℕ → Type 0) → ℕ → List (Vec Event) → Type 0
 HasStopped asked stops worker [] = ⊥
 HasStopped asked stops worker (s ∷ ss) =

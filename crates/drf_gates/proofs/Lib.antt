@@ -5,3 +5,5 @@ pub mod QuotaLemmas
 pub mod ConsumedLemmas
 pub mod TotalLemmas
 pub mod RoomLemmas
+pub mod FrontLemmas
+pub mod LeaveLemmas

@@ -127,7 +127,7 @@ module _ (consumed : Consumed) (role : Path) (label : Text) (least : ℕ) where
   leaves_past l ls past =
       ap (λ (b : Bool). option_map_or (nat_le least) (reduce min (map (room_under consumed label) (cond b (l ∷ filter (binds role label) ls) (filter (binds role label) ls)))) true) (sym past)
 
-  leaves_both : (l : LimitRow) (ls : List LimitRow) → binds role label l ≡ true
+  pub leaves_both : (l : LimitRow) (ls : List LimitRow) → binds role label l ≡ true
       → (nat_le least (room_under consumed label l) && leaves_from ls) ≡ leaves_from (l ∷ ls)
   leaves_both l ls here =
       sym (least_enough least (room_under consumed label l) (map (room_under consumed label) (filter (binds role label) ls)))

@@ -1,4 +1,6 @@
 pub mod Chains
+pub mod Front
+pub mod FrontLaws
 pub mod Index
 pub mod Laws
 pub mod Quota

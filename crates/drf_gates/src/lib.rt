@@ -4,6 +4,7 @@
 
 mod consumed;
 mod filters;
+mod fronts;
 mod index;
 mod laws;
 mod quota;

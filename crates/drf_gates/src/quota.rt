@@ -1,5 +1,5 @@
 //! Quota limits, and what roles consume (Mesos: quota limits).
-ghost use Rattle.std.specs.Prelude.{◌≡◌, ◌≢◌, ℕ, ◌+◌, ◌^◌, ◌<◌, ◌≤◌, [], ◌↔◌, true, nat_le, IsTrue, filter, length, OnOk, OnErr, IfOk};
+ghost use Rattle.std.specs.Prelude.{◌≡◌, ◌≢◌, ℕ, ◌+◌, ◌^◌, ◌<◌, ◌≤◌, [], ◌↔◌, true, nat_le, IsTrue, filter, length, take, OnOk, OnErr, IfOk};
 ghost use Rattle.std.specs.List.{list_all};
 ghost use Rattle.std.specs.Option.{option_copied, option_map_or};
 ghost use Rattle.drf_role.specs.Text.{Text};
@@ -9,8 +9,10 @@ ghost use Rattle.drf_bundle.specs.Quantities.{amount_of};
 ghost use Rattle.drf_rows.specs.Quota.{is_within, binds, room_under, headroom_under, headrooms, stays_within, admits_under, limit_of, limits_with, consumption, headroom_at, headroom, admits};
 ghost use Rattle.drf_rows.specs.declared.rows.Rows.{Rows};
 ghost use Rattle.indexmap.specs.IndexMap.{insert_entry};
+ghost use Rattle.drf_gates.specs.Front.{leaves_one, limits_at};
 ghost use Rattle.drf_gates.specs.Quota.{IsAllowanceOf, IsRaised, IsSame, known_amount, lessened, limit_row, lesser, used_at, used_by};
 
+use crate::fronts::limit_above;
 use crate::totals::{
     Total, clear_totals, copy_totals, drop_total, keep_total, kept, kept_at, lower_totals,
     raise_totals,
@@ -223,18 +225,25 @@ impl Quota {
         ensures of_rows { (rows : Rows) → IsAllowanceOf rows self.now
             → result ≡ option_map_or (nat_le least) (headroom_at rows role.now label.now) true }
     {
-        let mut next = 0usize;
-        for (limited, limit) in &self.limits {
-            let place = next;
-            next = place.saturating_add(1);
-            if !binds(limited, limit, role, label) {
-                continue;
-            }
-            if self.room(place, limited, limit, label) < least {
+        // The empty front is looked up too: that no limit has it, only the look-up tells.
+        let fronts = role.len() + 1;
+        for len in 0..fronts {
+            if !self.front_leaves(role, len, label, least) {
                 return false;
             }
         }
         true
+    }
+
+    /// Whether the limit of the first parts of a role, so many, leaves so much of a scalar, if they have one.
+    fn front_leaves(&self, role: &Role, len: usize, label: &str, least: u64) -> bool
+        requires { len ≤ length role.now }
+        ensures { result ≡ list_all (leaves_one (used_at self.now.used) label.now least) (limits_at (take len role.now) self.now.limits) }
+    {
+        let Some((place, limited, limit)) = limit_above(&self.limits, role, len) else {
+            return true;
+        };
+        !limit.is_named(label) || least <= self.room(place, limited, limit, label)
     }
 
     /// What the limit of a role leaves of each scalar that it names, put among what others leave. The lesser is kept.

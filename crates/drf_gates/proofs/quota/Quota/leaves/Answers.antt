@@ -1,33 +1,33 @@
-use Rattle.std.proofs.Common.{◌<◌, ◌≤◌, ℕ, List, sym, ap, subst, ◌∙◌}
-use Rattle.drf_gates.specs.Quota.{Allowance, Usage, limit_row, limit_rows, used_at}
-use Rattle.drf_gates.proofs.QuotaLemmas.{leaves_from, leaves_here, little_here, leaves-its}
+use Rattle.std.proofs.Common.{◌≡◌, false, true, sym, ◌∙◌, arith}
+use Rattle.drf_gates.specs.Quota.{Allowance, used_at}
+use Rattle.drf_gates.proofs.QuotaLemmas.{leaves_from, leaves-its}
+use Rattle.drf_gates.proofs.LeaveLemmas.{front_little, fronts_leave}
 use Rattle.drf_gates.proofs.quota.Quota.leaves.Goals as goal
 
-pub returns-then-room-least-clause-value : goal.returns-then-room-least-clause-value
-returns-then-room-least-clause-value c =
+pub returns-then-not-front_leaves-clause-value : goal.returns-then-not-front_leaves-clause-value
+returns-then-not-front_leaves-clause-value c =
     let a : Allowance = c.args.self.now in
-    little_here (used_at a.used) c.args.role.now c.args.label.now c.args.least
-    (limit_row (c.in-Some.limited.now, c.in-Some.limit.now)) (limit_rows c.next.new.self)
-    (sym c.binds.ensures ∙ c.if-not-binds.false) (subst (λ (n : ℕ). n < c.args.least) c.room.ensures c.if-room-least.true)
-    ∙ ap (λ (es : List Usage). leaves_from (used_at a.used) c.args.role.now c.args.label.now c.args.least (limit_rows es)) (sym c.in-Some.ensures.steps)
-    ∙ c.loop-limited.invariant
+    front_little (used_at a.used) c.args.role.now c.args.label.now c.args.least a.limits c.loop-len.len
+    (omega (arith, c.len-fronts.ensures.len)) (sym c.front_leaves.ensures ∙ c.if-not-front_leaves.true)
 
-pub returns-then-room-least-clause-of_rows : goal.returns-then-room-least-clause-of_rows
-returns-then-room-least-clause-of_rows c =
+pub returns-then-not-front_leaves-clause-of_rows : goal.returns-then-not-front_leaves-clause-of_rows
+returns-then-not-front_leaves-clause-of_rows c =
     let a : Allowance = c.args.self.now in
-    λ rows its.
-    little_here (used_at a.used) c.args.role.now c.args.label.now c.args.least
-    (limit_row (c.in-Some.limited.now, c.in-Some.limit.now)) (limit_rows c.next.new.self)
-    (sym c.binds.ensures ∙ c.if-not-binds.false) (subst (λ (n : ℕ). n < c.args.least) c.room.ensures c.if-room-least.true)
-    ∙ ap (λ (es : List Usage). leaves_from (used_at a.used) c.args.role.now c.args.label.now c.args.least (limit_rows es)) (sym c.in-Some.ensures.steps)
-    ∙ c.loop-limited.invariant
-    ∙ leaves-its rows a its c.args.role.now c.args.label.now c.args.least
+    let value : false ≡ leaves_from (used_at a.used) c.args.role.now c.args.label.now c.args.least a.limits =
+    front_little (used_at a.used) c.args.role.now c.args.label.now c.args.least a.limits c.loop-len.len
+    (omega (arith, c.len-fronts.ensures.len)) (sym c.front_leaves.ensures ∙ c.if-not-front_leaves.true) in
+    λ rows its. value ∙ leaves-its rows a its c.args.role.now c.args.label.now c.args.least
 
-pub loop-limited-preserved : goal.loop-limited-preserved
-loop-limited-preserved c =
+pub returns-clause-value : goal.returns-clause-value
+returns-clause-value c =
     let a : Allowance = c.args.self.now in
-    leaves_here (used_at a.used) c.args.role.now c.args.label.now c.args.least
-    (limit_row (c.in-Some.limited.now, c.in-Some.limit.now)) (limit_rows c.next.new.self)
-    (sym c.binds.ensures ∙ c.if-not-binds.false) (subst (λ (n : ℕ). c.args.least ≤ n) c.room.ensures c.if-room-least.false)
-    ∙ ap (λ (es : List Usage). leaves_from (used_at a.used) c.args.role.now c.args.label.now c.args.least (limit_rows es)) (sym c.in-Some.ensures.steps)
-    ∙ c.loop-limited.invariant
+    fronts_leave (used_at a.used) c.args.role.now c.args.label.now c.args.least a.limits
+    (λ n few. c.loop-len.invariant n (omega (arith, c.len-fronts.ensures.len)))
+
+pub returns-clause-of_rows : goal.returns-clause-of_rows
+returns-clause-of_rows c =
+    let a : Allowance = c.args.self.now in
+    let value : true ≡ leaves_from (used_at a.used) c.args.role.now c.args.label.now c.args.least a.limits =
+    fronts_leave (used_at a.used) c.args.role.now c.args.label.now c.args.least a.limits
+    (λ n few. c.loop-len.invariant n (omega (arith, c.len-fronts.ensures.len))) in
+    λ rows its. value ∙ leaves-its rows a its c.args.role.now c.args.label.now c.args.least

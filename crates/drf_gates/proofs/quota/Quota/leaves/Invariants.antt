@@ -1,10 +1,8 @@
-use Rattle.std.proofs.Common.{◌≡◌}
-use Rattle.drf_gates.specs.Quota.{limit_rows, used_at}
-use Rattle.drf_gates.proofs.QuotaLemmas.{leaves_from}
+use Rattle.std.proofs.Common.{◌≡◌, ℕ, ◌<◌, true}
+use Rattle.drf_gates.specs.Quota.{used_at}
+use Rattle.drf_gates.proofs.LeaveLemmas.{front_leaves}
 use Rattle.drf_gates.proofs.quota.Quota.leaves.Given as goal
 
--- what the limits to come leave is enough just where what all leave is
-abbrev pub invariant-loop-limited : goal.invariant-loop-limited
-invariant-loop-limited l =
-    leaves_from (used_at l.self.used) l.role l.label l.least (limit_rows l.limited-iterator)
-    ≡ leaves_from (used_at l.self.used) l.role l.label l.least l.self.limits
+-- the limits of the fronts so far leave enough
+abbrev pub invariant-loop-len : goal.invariant-loop-len
+invariant-loop-len l = (n : ℕ) → n < l.len → front_leaves (used_at l.self.used) l.role l.label l.least n l.self.limits ≡ true

@@ -1,0 +1,28 @@
+-- Limits that are looked up by the fronts of a role's text.
+use Rattle.std.specs.Prelude.{ℕ, ◌+◌, ◌-◌, Bool, not, ◌||◌, nat_le, List, [], ◌∷◌, filter, length, sum_by}
+use Rattle.drf_role.specs.Text.{Text}
+use Rattle.drf_role.specs.Parts.{parts_of}
+use Rattle.drf_role.specs.Path.{Path, same_path}
+use Rattle.drf_bundle.specs.Quantities.{is_named}
+use Rattle.drf_rows.specs.Quota.{Consumed, room_under}
+use Rattle.drf_rows.specs.declared.rows.LimitRow.{LimitRow}
+
+-- the path that a text names, and the empty text the empty path
+abbrev pub path_in : Text → Path
+path_in [] = []
+path_in (b ∷ bs) = parts_of (b ∷ bs)
+
+-- how long parts are, with a `/` behind each, and where the last one ends
+abbrev pub size_of : Path → ℕ
+size_of path = sum_by (λ part. length part + 1) path
+
+abbrev pub end_of : Path → ℕ
+end_of path = size_of path - 1
+
+-- the limits that are the path's own
+abbrev pub limits_at : Path → List LimitRow → List LimitRow
+limits_at path limits = filter (λ l. same_path path l.role) limits
+
+-- whether a limit leaves so much of a scalar, as it does where it does not name it
+abbrev pub leaves_one : Consumed → Text → ℕ → LimitRow → Bool
+leaves_one consumed label least l = not (is_named l.limit label) || nat_le least (room_under consumed label l)

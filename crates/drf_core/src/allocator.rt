@@ -11,11 +11,21 @@ use std::alloc::{AllocError, Global};
 use std::marker::Model;
 
 /// The allocator, over any lawful sorter.
-#[derive(Drop)]
 pub struct Core<S: Sorter> {
     alloc: Global,
     limits: Limits,
     cluster: Cluster<S>,
+}
+
+// Written out, so that the proof of whoever drops an allocator sees one call, and not the drop of each field.
+impl<S: Sorter> Drop for Core<S> {
+    fn drop(self) {
+        let Core {
+            alloc: _alloc,
+            limits: _limits,
+            cluster: _cluster,
+        } = self;
+    }
 }
 
 impl<S: Sorter> Model for Core<S> {

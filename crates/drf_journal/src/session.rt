@@ -27,7 +27,6 @@ use std::thread::Threads;
 const MOST_UNSENT: usize = 65_536;
 
 /// A run between two reads.
-#[derive(Drop)]
 pub struct Session<S: Sorter> {
     core: Core<S>,
     echo: bool,
@@ -38,6 +37,20 @@ pub struct Session<S: Sorter> {
     /// How many lines were answered.
     lines: u64,
     reader: LineReader,
+}
+
+// Written out, so that the proof of whoever drops a session sees one call, and not the drop of each field.
+impl<S: Sorter> Drop for Session<S> {
+    fn drop(self) {
+        let Session {
+            core: _core,
+            echo: _echo,
+            pending: _pending,
+            unsent: _unsent,
+            lines: _lines,
+            reader: _reader,
+        } = self;
+    }
 }
 
 impl<S: Sorter> Model for Session<S> {

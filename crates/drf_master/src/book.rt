@@ -19,12 +19,22 @@ use std::mem::replace;
 
 /// A core, and the journal of what it was asked and what it answered: the core is the run of the journal's events, and each reply is
 /// the definition's. Contracts see its limits and its journal.
-#[derive(Drop)]
 pub struct Book<S: Sorter> {
     core: Core<S>,
     // Another core, behind that one, which works out what comes next.
     second: Second<S>,
     entries: Vec<Entry>,
+}
+
+// Written out, so that the proof of whoever drops a book sees one call, and not the drop of each field.
+impl<S: Sorter> Drop for Book<S> {
+    fn drop(self) {
+        let Book {
+            core: _core,
+            second: _second,
+            entries: _entries,
+        } = self;
+    }
 }
 
 impl<S: Sorter> Model for Book<S> {

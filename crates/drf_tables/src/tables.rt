@@ -48,7 +48,6 @@ pub struct Left {
 }
 
 /// The rows of the allocator. Agents and frameworks are found by their names.
-#[derive(Drop)]
 pub struct Tables {
     pub(crate) agents: IndexMap<Name, Agent>,
     pub(crate) frameworks: IndexMap<Name, Vec<ClientRow>>,
@@ -67,6 +66,27 @@ pub struct Tables {
     pub(crate) is_counted: bool,
     // Those that have run out are dropped when the filters are so many.
     pub(crate) sweep_at: usize,
+}
+
+// Written out, so that the proof of whoever drops the tables sees one call, and not the drop of each field.
+impl Drop for Tables {
+    fn drop(self) {
+        let Tables {
+            agents: _agents,
+            frameworks: _frameworks,
+            holdings: _holdings,
+            filters: _filters,
+            weights: _weights,
+            clock: _clock,
+            next_offer: _next_offer,
+            events: _events,
+            total: _total,
+            clients: _clients,
+            quota: _quota,
+            is_counted: _is_counted,
+            sweep_at: _sweep_at,
+        } = self;
+    }
 }
 
 impl Model for Tables {

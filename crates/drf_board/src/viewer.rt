@@ -1,5 +1,6 @@
 ghost use Rattle.std.specs.Prelude.{◌≡◌, ◌⊎◌, IfOk, OnErr};
 ghost use mathlib.Core.List.{IsPrefix};
+ghost use Rattle.drf_board.specs.declared.viewer.ViewFault.TheVariants.{Memory};
 ghost use Rattle.drf_board.specs.History.{IsLegal};
 ghost use Rattle.drf_board.specs.Sheets.{IsSheet};
 
@@ -21,7 +22,7 @@ pub enum ViewFault {
 }
 
 impl From<AllocError> for ViewFault {
-    ghost from_gives = { λ _ fault. fault ≡ ViewFault.Memory };
+    ghost from_gives = { λ _ fault. fault ≡ Memory };
 
     fn from(_error: AllocError) -> ViewFault {
         ViewFault::Memory

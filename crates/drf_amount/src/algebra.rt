@@ -53,7 +53,7 @@ pub trait Algebra: Sized + Drop {
     /// How much a value is, all its parts together.
     ghost amount: { Self → ℕ };
 
-    /// The empty amount. What is joined to it takes its memory from `alloc`.
+    /// The empty amount, which takes no memory. It keeps `alloc` for what may be joined to it.
     fn empty(alloc: Global) -> Self
         ensures { result ≡ empty };
 

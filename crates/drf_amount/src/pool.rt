@@ -1,6 +1,5 @@
 ghost use Rattle.std.specs.Prelude.{◌≡◌, [], All, IsSome, IfOk, IfErr, OnOk, OnErr};
 ghost use Rattle.std.specs.Option.{option_copied};
-ghost use Rattle.drf_amount.specs.Algebra.{Covers};
 ghost use Rattle.drf_amount.specs.Pool.{pool_of, IsPool, part_at};
 ghost use Rattle.drf_amount.specs.PoolCalls.{pool_fault, Takes, GivesBack, Shrinks, Splits, Replaces, IsTakeFault, IsGiveBackFault, IsShrinkFault, IsSplitFault, IsReplaceFault};
 ghost use Rattle.drf_amount.specs.declared.pool.PoolFault.{PoolFault};

@@ -1,10 +1,9 @@
 //! Bundles of resources.
-ghost use Rattle.std.specs.Prelude.{◌≡◌, ◌+◌, ◌<◌, ◌^◌, IsTrue, [], ◌∷◌, ◌++◌, OnOk, OnErr, IfOk, IfErr};
+ghost use Rattle.std.specs.Prelude.{◌≡◌, IsTrue, [], ◌∷◌, ◌++◌, OnOk, IfOk, IfErr, IsOk};
 ghost use Rattle.std.specs.List.{list_all};
 ghost use Rattle.std.specs.Option.{option_copied};
-ghost use Rattle.drf_bundle.specs.Bundle.{IsBundle, IsKept, amount, join, refusal, is_too_large, is_in_order, exceeds, rest, filled_of, left_of, covers_one, reservation, add_scalar, value_at, quantities_of, one_of, is_unreserved, is_for, part_for, clip, clipped, relabel};
-ghost use Rattle.drf_bundle.specs.Value.{Thousandths, units_in, IsGiven};
-ghost use Rattle.drf_bundle.specs.Quantities.{amount_of};
+ghost use Rattle.drf_bundle.specs.Bundle.{IsBundle, amount, join, refusal, is_too_large, is_in_order, exceeds, rest, filled_of, left_of, covers_one, reservation, value_at, quantities_of, one_of, is_unreserved, is_for, part_for, clip, clipped, relabel};
+ghost use Rattle.drf_bundle.specs.Value.{IsGiven};
 ghost use Rattle.drf_bundle.specs.Places.{IsKeyAt, IsKeyGap};
 ghost use Rattle.drf_bundle.specs.laws.BundleLaws.{bundle_laws};
 
@@ -155,7 +154,7 @@ fn clipped(limits: &Quantities, resource: &Resource) -> Result<Resource, AllocEr
         return Ok(cut);
     }
     if let Value::Scalar(scalar) = &resource.value {
-        let limit = limits.get(resource.label.text());
+        let limit = limits.amount_of(&resource.label);
         cut.value = Value::Scalar(Scalar::new(scalar.thousandths().min(limit)));
     }
     Ok(cut)
@@ -180,11 +179,15 @@ impl Bundle {
         Bundle::from_parts(Parts::new(alloc, resources)?)
     }
 
-    /// The bundle of resources that were put together.
+    /// The bundle of resources that were put together. Where there are none it takes no memory.
     pub fn from_parts(parts: Parts) -> Result<Bundle, AllocError>
-        ensures { IfOk result (λ bundle. bundle ≡ parts) }
+        ensures bundle { IfOk result (λ bundle. bundle ≡ parts) }
+        ensures none { parts ≡ [] → IsOk result }
     {
         let alloc = parts.alloc();
+        if parts.entries().is_empty() {
+            return Ok(Bundle::empty(alloc));
+        }
         Ok(Bundle {
             shared: Some(Arc::new(alloc, parts)?),
             nothing: Parts::empty(alloc),
@@ -332,17 +335,17 @@ impl Bundle {
     {
         self.entries()
             .iter()
-            .any(|resource| self.exceeds_with(other, resource.label.text()))
+            .any(|resource| self.exceeds_with(other, &resource.label))
     }
 
     /// Whether the scalars of that name would exceed 2^64 - 1 thousandths.
-    fn exceeds_with(&self, other: &Bundle, name: &str) -> bool
-        ensures { result ≡ exceeds self.now other.now name.now }
+    fn exceeds_with(&self, other: &Bundle, label: &Label) -> bool
+        ensures { result ≡ exceeds self.now other.now label.now }
     {
         let sum = self
             .quantities()
-            .get(name)
-            .checked_add(other.quantities().get(name));
+            .amount_of(label)
+            .checked_add(other.quantities().amount_of(label));
         sum.is_none()
     }
 

@@ -1,4 +1,4 @@
-ghost use Rattle.std.specs.Prelude.{◌≡◌, ℕ, List, [], length, ◌^◌, ◌<◌, IsTrue, ◌+◌, ◌≤◌, ◌↔◌, if◌then◌else◌, IfOk, IfErr, OnOk, OnErr, IsOk};
+ghost use Rattle.std.specs.Prelude.{◌≡◌, ℕ, List, [], length, ◌^◌, ◌<◌, IsTrue, ◌+◌, ◌≤◌, if◌then◌else◌, IfOk, IfErr, OnOk, OnErr, IsOk};
 ghost use Rattle.drf_bundle.specs.Quantities.{HasNoZeros, amount_of, is_named, names_all, is_in_order, with_amount, plus, minus, covers, without_zeros, names_of};
 ghost use Rattle.drf_bundle.specs.Places.{IsAt, IsGapFor};
 ghost use Rattle.drf_role.specs.Text.{same_text};
@@ -56,18 +56,31 @@ impl Quantities {
         }
     }
 
-    /// The thousandths of a label, 0 where it is not named.
+    /// The thousandths of the label of that text, 0 where it is not named.
     pub fn get(&self, label: &str) -> u64
         ensures { result ≡ amount_of self.now label.now }
     {
-        self.get_near(label, 0)
+        match self.place_of_text(label) {
+            Ok(at) => {
+                let entry = &self.entries[at];
+                entry.amount.thousandths()
+            }
+            Err(_) => 0,
+        }
     }
 
-    // So too, of a label that is likely to stand at that place or close behind it.
-    pub(crate) fn get_near(&self, label: &str, hint: usize) -> u64
+    /// The thousandths of a label, 0 where it is not named: found in less time than by a text.
+    pub fn amount_of(&self, label: &Label) -> u64
         ensures { result ≡ amount_of self.now label.now }
     {
-        match self.place(label, hint) {
+        self.amount_near(label, 0)
+    }
+
+    // The thousandths of a label that is likely to stand at that place or right behind it.
+    fn amount_near(&self, label: &Label, hint: usize) -> u64
+        ensures { result ≡ amount_of self.now label.now }
+    {
+        match self.place_of_label(label, hint) {
             Ok(at) => {
                 let entry = &self.entries[at];
                 entry.amount.thousandths()
@@ -80,14 +93,14 @@ impl Quantities {
     pub fn is_named(&self, label: &str) -> bool
         ensures { result ≡ is_named self.now label.now }
     {
-        self.is_named_near(label, 0)
+        self.place_of_text(label).is_ok()
     }
 
-    // So too, of a label that is likely to stand at that place or close behind it.
-    fn is_named_near(&self, label: &str, hint: usize) -> bool
+    // Whether a label is named that is likely to stand at that place or right behind it.
+    fn is_named_near(&self, label: &Label, hint: usize) -> bool
         ensures { result ≡ is_named self.now label.now }
     {
-        self.place(label, hint).is_ok()
+        self.place_of_label(label, hint).is_ok()
     }
 
     /// The labels and their amounts, by the bytes of the labels.
@@ -119,7 +132,7 @@ impl Quantities {
         ensures named { IsTrue (is_named self.old label) → IsOk result }
     {
         let amount = Scalar::new(thousandths);
-        match self.place(label.text(), 0) {
+        match self.place_of_label(&label, 0) {
             Ok(at) => {
                 let entry = &mut self.entries[at];
                 entry.amount = amount;
@@ -129,7 +142,7 @@ impl Quantities {
         }
     }
 
-    /// Adds to the amount of a label, and names it where it was not. It is likely to stand at that place or close behind it.
+    /// Adds to the amount of a label, and names it where it was not. It is likely to stand at that place or right behind it.
     pub(crate) fn add(
         &mut self,
         label: &Label,
@@ -140,7 +153,7 @@ impl Quantities {
         ensures ok { OnOk result (self.new ≡ with_amount self.old label.now (amount_of self.old label.now + thousandths)) }
         ensures err { OnErr result (self.new ≡ self.old) }
     {
-        match self.place(label.text(), hint) {
+        match self.place_of_label(label, hint) {
             Ok(at) => {
                 let entry = &mut self.entries[at];
                 let sum = entry.amount.thousandths() + thousandths;
@@ -182,7 +195,7 @@ impl Quantities {
         ensures { result ≡ names_all self.now other.now }
     {
         for (i, entry) in other.entries().iter().enumerate() {
-            if !self.is_named_near(entry.label.text(), i) {
+            if !self.is_named_near(&entry.label, i) {
                 return false;
             }
         }
@@ -196,17 +209,17 @@ impl Quantities {
         ensures { self.new ≡ plus self.old other.now }
     {
         for (i, entry) in other.entries().iter().enumerate() {
-            self.raise_one(entry.label.text(), entry.amount.thousandths(), i);
+            self.raise_one(&entry.label, entry.amount.thousandths(), i);
         }
     }
 
-    // Adds to the amount of a label that it names, which is likely to stand at that place or close behind it.
-    fn raise_one(&mut self, label: &str, thousandths: u64, hint: usize)
+    // Adds to the amount of a label that it names, which is likely to stand at that place or right behind it.
+    fn raise_one(&mut self, label: &Label, thousandths: u64, hint: usize)
         requires named { IsTrue (is_named self.old label.now) }
         requires fits { amount_of self.old label.now + thousandths < 2 ^ 64 }
         ensures { self.new ≡ with_amount self.old label.now (amount_of self.old label.now + thousandths) }
     {
-        let Ok(at) = self.place(label, hint) else {
+        let Ok(at) = self.place_of_label(label, hint) else {
             return;
         };
         let entry = &mut self.entries[at];
@@ -220,7 +233,7 @@ impl Quantities {
     {
         let mut count = self.entries().len() as u64;
         for entry in other.entries() {
-            if !self.is_named(entry.label.text()) {
+            if !self.is_named_near(&entry.label, 0) {
                 count += 1;
             }
         }
@@ -233,17 +246,17 @@ impl Quantities {
         ensures { self.new ≡ minus self.old other.now }
     {
         for (i, entry) in self.entries.iter_mut().enumerate() {
-            let part = other.get_near(entry.label.text(), i.saturating_sub(1));
+            let part = other.amount_near(&entry.label, i.saturating_sub(1));
             entry.amount = Scalar::new(entry.amount.thousandths() - part);
         }
     }
 
     /// Takes so much of a label away, which stays named. It needs no memory.
-    pub fn reduce(&mut self, label: &str, thousandths: u64)
+    pub fn reduce(&mut self, label: &Label, thousandths: u64)
         requires { thousandths ≤ amount_of self.old label.now }
         ensures { (other : List ℕ) → amount_of self.new other + (if same_text label.now other then thousandths else 0) ≡ amount_of self.old other }
     {
-        let Ok(at) = self.place(label, 0) else {
+        let Ok(at) = self.place_of_label(label, 0) else {
             return;
         };
         let entry = &mut self.entries[at];
@@ -263,8 +276,8 @@ impl Quantities {
         self.entries.retain(|entry| entry.amount.thousandths() > 0);
     }
 
-    // Whether the label is at the place.
-    fn is_at(&self, label: &str, at: usize) -> bool
+    // Whether the text is the label at the place.
+    fn text_is_at(&self, label: &str, at: usize) -> bool
         ensures { IsTrue result → IsAt self.now label.now at }
     {
         match self.entries.get(at) {
@@ -273,16 +286,53 @@ impl Quantities {
         }
     }
 
-    // Where the label is, or where it would go. The places from the hint on are looked at first: to compare for equality costs little.
-    fn place(&self, label: &str, hint: usize) -> Result<usize, usize>
+    // Whether the label is at the place.
+    fn label_is_at(&self, label: &Label, at: usize) -> bool
+        ensures { IsTrue result → IsAt self.now label.now at }
+    {
+        match self.entries.get(at) {
+            Some(entry) => entry.label == *label,
+            None => false,
+        }
+    }
+
+    // Where the label is, or where it would go. The hint and the next place are looked at first: to compare for equality costs little.
+    fn place_of_label(&self, label: &Label, hint: usize) -> Result<usize, usize>
         ensures found { IfOk result (IsAt self.now label.now) }
         ensures absent { IfErr result (IsGapFor self.now label.now) }
     {
-        for at in hint..hint.saturating_add(3) {
-            if self.is_at(label, at) {
-                return Ok(at);
-            }
+        if self.label_is_at(label, hint) {
+            return Ok(hint);
         }
+        let next = hint.saturating_add(1);
+        if self.label_is_at(label, next) {
+            return Ok(next);
+        }
+        self.place_by_order(label.text())
+    }
+
+    // Where the label of that text is, or where it would go. The first three places are looked at first.
+    fn place_of_text(&self, label: &str) -> Result<usize, usize>
+        ensures found { IfOk result (IsAt self.now label.now) }
+        ensures absent { IfErr result (IsGapFor self.now label.now) }
+    {
+        if self.text_is_at(label, 0) {
+            return Ok(0);
+        }
+        if self.text_is_at(label, 1) {
+            return Ok(1);
+        }
+        if self.text_is_at(label, 2) {
+            return Ok(2);
+        }
+        self.place_by_order(label)
+    }
+
+    // Where the label of that text is, or where it would go. Amounts are put together in order, so it is looked for behind all others first.
+    fn place_by_order(&self, label: &str) -> Result<usize, usize>
+        ensures found { IfOk result (IsAt self.now label.now) }
+        ensures absent { IfErr result (IsGapFor self.now label.now) }
+    {
         if self.is_behind(label) {
             return Err(self.entries.len());
         }

@@ -1,9 +1,9 @@
 //! One more resource in a bundle, where sets of one name and reservation may share members.
-ghost use Rattle.std.specs.Prelude.{◌≡◌, ℕ, ◌+◌, ◌<◌, ◌^◌, ◌&&◌, not, Some, [], ◌∷◌, filter, length, nat_le, IsTrue, IfSome, IfOk, IfErr, OnOk, OnErr};
+ghost use Rattle.std.specs.Prelude.{◌≡◌, ◌+◌, ◌<◌, ◌^◌, ◌&&◌, not, Some, [], ◌∷◌, filter, length, nat_le, IsTrue, IfSome, IfErr, OnOk, OnErr};
 ghost use Rattle.drf_amount.specs.Algebra.{IsJoinFault};
 ghost use Rattle.drf_role.specs.Text.{same_text};
 ghost use Rattle.drf_bundle.specs.Value.{Thousandths, units_in, share_members};
-ghost use Rattle.drf_bundle.specs.Bundle.{IsBundle, is_in_order, key_of, same_key, reservation, merged, add_scalar};
+ghost use Rattle.drf_bundle.specs.Bundle.{is_in_order, key_of, same_key, merged, add_scalar};
 ghost use Rattle.drf_bundle.specs.Quantities.{amount_of};
 ghost use Rattle.drf_bundle.specs.Places.{IsKeyGap, IsNameGap};
 ghost use Rattle.drf_bundle.specs.Union.{has_other_kind, is_reserved_elsewhere, union_refusal, union};
@@ -60,7 +60,7 @@ fn is_too_much(sums: &Quantities, resource: &Resource) -> bool
     ensures { result ≡ nat_le (2 ^ 64) (amount_of sums.now resource.now.label + units_in resource.now.value Thousandths) }
 {
     let sum = sums
-        .get(resource.label.text())
+        .amount_of(&resource.label)
         .checked_add(resource.value.thousandths());
     sum.is_none()
 }

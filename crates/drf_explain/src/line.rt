@@ -1,7 +1,6 @@
 //! The writer of an explanation's lines.
-ghost use Rattle.std.specs.Prelude.{◌≡◌, ◌++◌, IfOk, OnOk, OnErr, string_bytes};
+ghost use Rattle.std.specs.Prelude.{◌≡◌, ◌++◌, IfOk, OnOk, OnErr};
 ghost use Rattle.serde_json.specs.View.{view};
-ghost use Rattle.drf_role.specs.Parts.{text_of};
 ghost use Rattle.drf_explain.specs.ExplainedText.{grant_value, held_back_value, over_limit_value, tried_why, tried_value, suppressed_value, agent_value, left_value, finding_value, finding_text, explained_text};
 
 use crate::finding::{Finding, Outcome};

@@ -7,3 +7,4 @@ pub mod TotalLemmas
 pub mod RoomLemmas
 pub mod FrontLemmas
 pub mod LeaveLemmas
+pub mod LeastLemmas

@@ -1,5 +1,5 @@
 -- Limits as rows, and what they leave, limit by limit.
-use Rattle.std.specs.Prelude.{◌≡◌, ◌≢◌, ℕ, ◌<◌, ◌≤◌, min, nat_le, Bool, true, false, ◌&&◌, List, [], ◌∷◌, ◌++◌, map, filter, fold, length, Option, Some, None}
+use Rattle.std.specs.Prelude.{◌≡◌, ◌≢◌, ℕ, ◌<◌, ◌≤◌, min, nat_le, Bool, true, false, ◌&&◌, List, [], ◌∷◌, ◌++◌, map, filter, fold, length, Some}
 use Rattle.std.specs.List.{list_all, reduce, AllByRecursion, IsDistinct}
 use Rattle.std.specs.Option.{option_map_or}
 use Rattle.std.specs.Map.{keys_of, lookup, remove_entry}
@@ -15,7 +15,7 @@ use Rattle.drf_bundle.specs.declared.quantities.Entry.{Entry}
 use Rattle.drf_rows.specs.Quota.{Consumed, is_within, binds, room_under, headroom_under, headrooms, stays_within, limit_of, limits_put, limits_without, limits_with, consumption, headroom_at, headroom, admits_under, admits}
 use Rattle.drf_rows.specs.declared.rows.LimitRow.{LimitRow}
 use Rattle.drf_rows.specs.declared.rows.Rows.{Rows}
-use Rattle.drf_gates.specs.Quota.{Allowance, IsAllowanceOf, limit_row, limit_rows, lesser, least_with, headroom_from, used_at}
+use Rattle.drf_gates.specs.Quota.{Allowance, IsAllowanceOf, limit_row, limit_rows, used_at}
 
 -- ---- the table of limits
 
@@ -75,27 +75,6 @@ limit_to_come (e ∷ es) role limit rest apart =
     let other = role_apart role e es limit rest (IsDistinct-head same_path e.0 (keys_of (es ++ (role, limit) ∷ rest)) apart) in
     rw other (ap (λ (xs : List (Path × List Entry)). e ∷ xs)
     (limit_to_come es role limit rest (IsDistinct-tail same_path e.0 (keys_of (es ++ (role, limit) ∷ rest)) apart)))
-
--- ---- the least room
-
-least_more : (known : Option ℕ) (n : ℕ) (ns : List ℕ) → least_with (Some (lesser known n)) ns ≡ least_with known (n ∷ ns)
-least_more None n ns = refl
-least_more (Some m) n ns = refl
-
-module _ (consumed : Consumed) (role : Path) (label : Text) where
-  -- a limit that does not bind is passed over
-  pub room_past : (known : Option ℕ) (l : LimitRow) (ls : List LimitRow) → binds role label l ≡ false
-      → headroom_from known ls consumed role label ≡ headroom_from known (l ∷ ls) consumed role label
-  room_past known l ls past =
-      ap (λ (b : Bool). least_with known (map (room_under consumed label) (cond b (l ∷ filter (binds role label) ls) (filter (binds role label) ls)))) (sym past)
-
-  -- one that binds may leave less
-  pub room_here : (known : Option ℕ) (l : LimitRow) (ls : List LimitRow) → binds role label l ≡ true
-      → headroom_from (Some (lesser known (room_under consumed label l))) ls consumed role label
-      ≡ headroom_from known (l ∷ ls) consumed role label
-  room_here known l ls here =
-      least_more known (room_under consumed label l) (map (room_under consumed label) (filter (binds role label) ls))
-      ∙ ap (λ (b : Bool). least_with known (map (room_under consumed label) (cond b (l ∷ filter (binds role label) ls) (filter (binds role label) ls)))) (sym here)
 
 -- ---- what is left, limit by limit
 

@@ -1,4 +1,4 @@
--- What limits leave of each scalar, found by going over them once.
+-- What limits leave of each scalar that they name.
 use Rattle.std.specs.Prelude.{◌≡◌, ◌≢◌, ℕ, ◌+◌, ◌-◌, ◌<◌, ◌≤◌, ◌⊎◌, min, Bool, true, false, ◌&&◌, ◌||◌, List, [], ◌∷◌, map, filter, fold, length, drop, Option, Some, None, is_some, IsTrue}
 use Rattle.std.specs.List.{list_any, flat_map, reduce}
 use Rattle.std.specs.Option.{option_map_or}
@@ -14,9 +14,8 @@ use Rattle.drf_bundle.specs.laws.QuantitiesLaws.{stands_first, first_trans, amou
 use Rattle.drf_bundle.specs.declared.quantities.Entry.{Entry}
 use Rattle.drf_rows.specs.Quota.{Consumed, is_within, binds, room_under, headroom_under, headrooms, limited_names}
 use Rattle.drf_rows.specs.declared.rows.LimitRow.{LimitRow}
-use Rattle.drf_gates.specs.Quota.{headroom_from, known_amount, lesser, lessened, limit_row}
+use Rattle.drf_gates.specs.Quota.{known_amount, lesser, lessened, limit_row}
 use Rattle.drf_gates.proofs.ConsumedLemmas.{next_of}
-use Rattle.drf_gates.proofs.QuotaLemmas.{room_here, room_past}
 
 -- ---- amounts that are known
 
@@ -159,40 +158,6 @@ module _ (consumed : Consumed) (role : Path) where
       same_known room (headrooms limits consumed role) ordered
       (in_order_values (λ n. option_map_or (λ m. m) (headroom_under limits consumed role n) 0) (limited_names limits role) [] refl)
       (λ label. known label ∙ sym (known_headrooms limits label))
-
-  -- ---- limit by limit
-
-  -- what is known, with what the limits to come leave, is what all leave
-  abbrev pub IsGoneOver : List LimitRow → List Entry → List LimitRow → Type 0
-  IsGoneOver limits room left =
-      (label : Text) → headroom_from (known_amount room label) left consumed role label ≡ headroom_under limits consumed role label
-
-  pub gone_past : (limits : List LimitRow) (room : List Entry) (l : LimitRow) (ls : List LimitRow) → is_within l.role role ≡ false
-      → IsGoneOver limits room (l ∷ ls) → IsGoneOver limits room ls
-  gone_past limits room l ls past gone = λ label.
-      room_past consumed role label (known_amount room label) l ls (ap (λ b. b && is_named l.limit label) past) ∙ gone label
-
-  pub gone_here : (limits : List LimitRow) (room new : List Entry) (l : LimitRow) (ls : List LimitRow) → is_within l.role role ≡ true
-      → ((label : Text) → known_amount new label ≡ lessened consumed l (known_amount room label) label)
-      → IsGoneOver limits room (l ∷ ls) → IsGoneOver limits new ls
-  gone_here limits room new l ls here less gone = λ label.
-      ap (λ o. headroom_from o ls consumed role label) (less label) ∙ by label (is_named l.limit label) refl ∙ gone label
-    where
-      by : (label : Text) (b : Bool) → is_named l.limit label ≡ b
-          → headroom_from (cond b (Some (lesser (known_amount room label) (room_under consumed label l))) (known_amount room label)) ls consumed role label
-          ≡ headroom_from (known_amount room label) (l ∷ ls) consumed role label
-      by label true named =
-          room_here consumed role label (known_amount room label) l ls (λ i. here i && named i)
-      by label false other =
-          room_past consumed role label (known_amount room label) l ls (λ i. here i && other i)
-
-  pub gone_end : (limits : List LimitRow) (room : List Entry) → IsTrue (is_in_order room) → IsGoneOver limits room []
-      → room ≡ headrooms limits consumed role
-  gone_end limits room ordered gone = headrooms_are limits room ordered (λ label. sym (none_left label (known_amount room label)) ∙ gone label)
-    where
-      none_left : (label : Text) (o : Option ℕ) → headroom_from o [] consumed role label ≡ o
-      none_left label None = refl
-      none_left label (Some n) = refl
 
 -- ---- the scalars of one limit
 

@@ -1,11 +1,12 @@
 -- Limits that are looked up by the fronts of a role's text.
-use Rattle.std.specs.Prelude.{ℕ, ◌+◌, ◌-◌, Bool, not, ◌||◌, nat_le, List, [], ◌∷◌, filter, length, sum_by}
+use Rattle.std.specs.Prelude.{ℕ, ◌+◌, ◌-◌, Bool, not, ◌||◌, nat_le, List, [], ◌∷◌, map, filter, length, sum_by, Option}
 use Rattle.drf_role.specs.Text.{Text}
 use Rattle.drf_role.specs.Parts.{parts_of}
 use Rattle.drf_role.specs.Path.{Path, same_path}
 use Rattle.drf_bundle.specs.Quantities.{is_named}
 use Rattle.drf_rows.specs.Quota.{Consumed, room_under}
 use Rattle.drf_rows.specs.declared.rows.LimitRow.{LimitRow}
+use Rattle.drf_gates.specs.Quota.{least_with}
 
 -- the path that a text names, and the empty text the empty path
 abbrev pub path_in : Text → Path
@@ -26,3 +27,7 @@ limits_at path limits = filter (λ l. same_path path l.role) limits
 -- whether a limit leaves so much of a scalar, as it does where it does not name it
 abbrev pub leaves_one : Consumed → Text → ℕ → LimitRow → Bool
 leaves_one consumed label least l = not (is_named l.limit label) || nat_le least (room_under consumed label l)
+
+-- what is known of the least, once it is known what some limits leave
+abbrev pub least_at : Option ℕ → Consumed → List LimitRow → Text → Option ℕ
+least_at known consumed limits label = least_with known (map (room_under consumed label) (filter (λ l. is_named l.limit label) limits))

@@ -1,5 +1,5 @@
 -- What a quota keeps: the limits, and what each role consumes.
-use Rattle.std.specs.Prelude.{◌≡◌, ℕ, ◌+◌, ◌^◌, ◌<◌, min, Bool, List, [], ◌∷◌, map, filter, fold, sum_by, Option, Some, None, if◌then◌else◌, refl}
+use Rattle.std.specs.Prelude.{◌≡◌, ℕ, ◌+◌, ◌^◌, ◌<◌, min, Bool, List, [], ◌∷◌, map, fold, sum_by, Option, Some, None, if◌then◌else◌, refl}
 use Rattle.std.specs.List.{reduce}
 use Rattle.std.specs.Coded.{Coded, code_by, coded×, coded_list, coded_ℕ}
 use Rattle.std.specs.Map.{lookup}
@@ -13,7 +13,7 @@ use Rattle.drf_bundle.specs.Bundle.{same_key, key_of}
 use Rattle.drf_bundle.specs.declared.resource.Resource.{Resource}
 use Rattle.drf_bundle.specs.contracts.quantities.Entry as entry
 use Rattle.drf_bundle.specs.declared.quantities.Entry.{Entry}
-use Rattle.drf_rows.specs.Quota.{Consumed, reserves, is_within, consumption_where, binds, room_under}
+use Rattle.drf_rows.specs.Quota.{Consumed, reserves, is_within, consumption_where, room_under}
 use Rattle.drf_rows.specs.contracts.rows.LimitRow as limit
 use Rattle.drf_rows.specs.declared.rows.LimitRow.{LimitRow}
 use Rattle.drf_rows.specs.declared.rows.Rows.{Rows}
@@ -95,11 +95,6 @@ lesser (Some m) n = min m n
 abbrev pub least_with : Option ℕ → List ℕ → Option ℕ
 least_with None ns = reduce min ns
 least_with (Some n) ns = Some (fold min n ns)
-
--- what the limits leave, given what is known of the least
-abbrev pub headroom_from : Option ℕ → List LimitRow → Consumed → Path → Text → Option ℕ
-headroom_from known limits consumed role label =
-    least_with known (map (room_under consumed label) (filter (binds role label) limits))
 
 -- the amount of a label, if it is named
 abbrev pub known_amount : List Entry → Text → Option ℕ

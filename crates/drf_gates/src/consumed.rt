@@ -2,7 +2,7 @@
 ghost use Rattle.std.specs.Prelude.{◌≡◌, ◌+◌, ◌^◌, ◌<◌, ◌≤◌, All, Bool, IfOk, OnOk, OnErr, if◌then◌else◌};
 ghost use Rattle.drf_role.specs.Text.{Text};
 ghost use Rattle.drf_role.specs.Path.{Path, same_path};
-ghost use Rattle.drf_bundle.specs.Bundle.{IsBundle, IsResource};
+ghost use Rattle.drf_bundle.specs.Bundle.{IsResource};
 ghost use Rattle.drf_bundle.specs.Quantities.{amount_of};
 ghost use Rattle.drf_bundle.specs.Value.{Thousandths, units_in};
 ghost use Rattle.drf_rows.specs.Quota.{unreserved_in, reserved_in};
@@ -34,7 +34,7 @@ fn add_unreserved(sum: &mut Quantities, resource: &Resource) -> Result<(), Alloc
     if !resource.is_unreserved() {
         return Ok(());
     }
-    let amount = sum.get(resource.label.text()) + thousandths(resource);
+    let amount = sum.amount_of(&resource.label) + thousandths(resource);
     sum.set(resource.label.copy()?, amount)
 }
 
@@ -78,7 +78,7 @@ impl Quota {
     {
         if resource.is_unreserved() {
             let amount = thousandths(resource);
-            let label = resource.label.text();
+            let label = &resource.label;
             reduce(&mut self.used, role, label, amount);
             reduce_totals(&mut self.totals, role, label, amount);
         }
@@ -116,7 +116,7 @@ impl Quota {
     {
         if !resource.is_unreserved() {
             let amount = thousandths(resource);
-            let label = resource.label.text();
+            let label = &resource.label;
             reduce(&mut self.used, &resource.role, label, amount);
             reduce_totals(&mut self.totals, &resource.role, label, amount);
         }

@@ -1,5 +1,5 @@
 //! Quota limits, and what roles consume (Mesos: quota limits).
-ghost use Rattle.std.specs.Prelude.{◌≡◌, ◌≢◌, ℕ, ◌+◌, ◌^◌, ◌<◌, ◌≤◌, [], ◌↔◌, true, nat_le, IsTrue, filter, length, take, OnOk, OnErr, IfOk};
+ghost use Rattle.std.specs.Prelude.{◌≡◌, ◌≢◌, ◌+◌, ◌^◌, ◌<◌, ◌≤◌, [], ◌↔◌, true, nat_le, IsTrue, filter, length, take, OnOk, OnErr, IfOk, IsOk};
 ghost use Rattle.std.specs.List.{list_all};
 ghost use Rattle.std.specs.Option.{option_copied, option_map_or};
 ghost use Rattle.drf_role.specs.Text.{Text};
@@ -9,7 +9,7 @@ ghost use Rattle.drf_bundle.specs.Quantities.{amount_of};
 ghost use Rattle.drf_rows.specs.Quota.{is_within, binds, room_under, headroom_under, headrooms, stays_within, admits_under, limit_of, limits_with, consumption, headroom_at, headroom, admits};
 ghost use Rattle.drf_rows.specs.declared.rows.Rows.{Rows};
 ghost use Rattle.indexmap.specs.IndexMap.{insert_entry};
-ghost use Rattle.drf_gates.specs.Front.{leaves_one, limits_at};
+ghost use Rattle.drf_gates.specs.Front.{least_at, leaves_one, limits_at};
 ghost use Rattle.drf_gates.specs.Quota.{IsAllowanceOf, IsRaised, IsSame, known_amount, lessened, limit_row, lesser, used_at, used_by};
 
 use crate::fronts::limit_above;
@@ -106,6 +106,16 @@ fn copy_limits(
     Ok(copy)
 }
 
+/// Makes room for the limit of a role, if it has none. It changes nothing.
+fn make_room(limits: &mut IndexMap<Role, Quantities>, role: &Role) -> Result<(), AllocError>
+    ensures { limits.new.entries ≡ limits.old.entries }
+{
+    if limits.contains_key(role) {
+        return Ok(());
+    }
+    limits.reserve(1)
+}
+
 impl Quota {
     /// No limit, and nothing consumed.
     pub fn new(alloc: Global) -> Quota
@@ -158,12 +168,15 @@ impl Quota {
     pub fn set_limit(&mut self, role: Role, limit: Quantities) -> Result<(), AllocError>
         ensures ok { OnOk result (self.new ≡ record self.old { limits = limits_with self.old.limits role limit }) }
         ensures err { OnErr result (self.new ≡ self.old) }
+        ensures none { limit ≡ [] → IsOk result }
     {
         if limit.entries().is_empty() {
             drop_total(&mut self.totals, &role);
             self.limits.shift_remove(&role);
             return Ok(());
         }
+        // A total without its limit would shift the places of later totals.
+        make_room(&mut self.limits, &role)?;
         keep_total(&mut self.totals, &self.used, &role);
         self.limits.insert(role, limit)?;
         Ok(())
@@ -197,17 +210,26 @@ impl Quota {
         ensures of_rows { (rows : Rows) → IsAllowanceOf rows self.now → result ≡ headroom_at rows role.now label.now }
     {
         let mut least = None;
-        let mut next = 0usize;
-        for (limited, limit) in &self.limits {
-            let place = next;
-            next = place.saturating_add(1);
-            if !binds(limited, limit, role, label) {
-                continue;
-            }
-            let room = self.room(place, limited, limit, label);
-            least = Some(lesser(least, room));
+        // The empty front is looked up too: that no limit has it, only the look-up tells.
+        let fronts = role.len() + 1;
+        for len in 0..fronts {
+            least = self.front_room(role, len, label, least);
         }
         least
+    }
+
+    /// The lesser of what is known and of what the limit of the role's first `len` parts, if they have one, leaves of a scalar.
+    fn front_room(&self, role: &Role, len: usize, label: &str, known: Option<u64>) -> Option<u64>
+        requires { len ≤ length role.now }
+        ensures { result ≡ least_at known (used_at self.now.used) (limits_at (take len role.now) self.now.limits) label.now }
+    {
+        let Some((place, limited, limit)) = limit_above(&self.limits, role, len) else {
+            return known;
+        };
+        if !limit.is_named(label) {
+            return known;
+        }
+        Some(lesser(known, self.room(place, limited, limit, label)))
     }
 
     /// What a limit leaves of a scalar, in thousandths.
@@ -235,7 +257,7 @@ impl Quota {
         true
     }
 
-    /// Whether the limit of the first parts of a role, so many, leaves so much of a scalar, if they have one.
+    /// Whether the limit of the role's first `len` parts, if they have one, leaves so much of a scalar.
     fn front_leaves(&self, role: &Role, len: usize, label: &str, least: u64) -> bool
         requires { len ≤ length role.now }
         ensures { result ≡ list_all (leaves_one (used_at self.now.used) label.now least) (limits_at (take len role.now) self.now.limits) }
@@ -267,20 +289,28 @@ impl Quota {
         Ok(())
     }
 
+    /// Lessens what is known by what the limit of the role's first `len` parts, if they have one, leaves of each scalar that it names.
+    fn add_front(&self, role: &Role, len: usize, room: &mut Quantities) -> Result<(), AllocError>
+        requires { len ≤ length role.now }
+        ensures { OnOk result ((label : Text) → known_amount room.new label
+            ≡ least_at (known_amount room.old label) (used_at self.now.used) (limits_at (take len role.now) self.now.limits) label) }
+    {
+        let Some((place, limited, limit)) = limit_above(&self.limits, role, len) else {
+            return Ok(());
+        };
+        self.add_headroom(place, limited, limit, room)
+    }
+
     /// The headroom of a role, in thousandths: of the scalars that its limits and those of the roles above it name.
     pub fn headroom(&self, role: &Role) -> Result<Quantities, AllocError>
         ensures value { IfOk result (λ room. room ≡ headrooms self.now.limits (used_at self.now.used) role.now) }
         ensures of_rows { IfOk result (λ room. (rows : Rows) → IsAllowanceOf rows self.now → room ≡ headroom rows role.now) }
     {
         let mut room = Quantities::empty(*self.limits.allocator());
-        let mut next = 0usize;
-        for (limited, limit) in &self.limits {
-            let place = next;
-            next = place.saturating_add(1);
-            if !role.is_within(limited) {
-                continue;
-            }
-            self.add_headroom(place, limited, limit, &mut room)?;
+        // The empty front is looked up too: that no limit has it, only the look-up tells.
+        let fronts = role.len() + 1;
+        for len in 0..fronts {
+            self.add_front(role, len, &mut room)?;
         }
         room.recall();
         Ok(room)

@@ -8,7 +8,7 @@ ghost use Rattle.drf_gates.specs.Quota.{Usage, AreRaised, counted, one_entry, us
 ghost use Rattle.drf_gates.specs.Totals.{IsExact, AreExact};
 
 use drf_bundle::{Entry, Quantities};
-use drf_role::Role;
+use drf_role::{Label, Role};
 use indexmap::IndexMap;
 use std::alloc::Global;
 
@@ -35,7 +35,7 @@ fn add_entry(sum: &mut Quantities, more: &Entry) -> bool
     ensures { IsTrue result → (label : Text)
         → amount_of sum.new label ≡ amount_of sum.old label + amount_of (one_entry more.now.label more.now.amount) label }
 {
-    let had = sum.get(more.label.text());
+    let had = sum.amount_of(&more.label);
     let Some(amount) = had.checked_add(more.amount.thousandths()) else {
         return false;
     };
@@ -67,11 +67,11 @@ fn add_within(sum: &mut Quantities, outer: &Role, role: &Role, amounts: &Quantit
 }
 
 /// Takes so much of a label away, if there is as much. Whether it could be done. It needs no memory.
-fn take_entry(sum: &mut Quantities, label: &str, thousandths: u64) -> bool
+fn take_entry(sum: &mut Quantities, label: &Label, thousandths: u64) -> bool
     ensures { IsTrue result → (other : Text)
         → amount_of sum.new other + amount_of (one_entry label.now thousandths) other ≡ amount_of sum.old other }
 {
-    if sum.get(label) < thousandths {
+    if sum.amount_of(label) < thousandths {
         return false;
     }
     sum.reduce(label, thousandths);
@@ -83,7 +83,7 @@ fn take(sum: &mut Quantities, less: &Quantities) -> bool
     ensures { IsTrue result → (label : Text) → amount_of sum.new label + amount_of less.now label ≡ amount_of sum.old label }
 {
     for entry in less.entries() {
-        if !take_entry(sum, entry.label.text(), entry.amount.thousandths()) {
+        if !take_entry(sum, &entry.label, entry.amount.thousandths()) {
             return false;
         }
     }
@@ -109,7 +109,7 @@ fn lower_total(total: &mut Total, role: &Role, amounts: &Quantities)
 }
 
 /// A role consumes so much less of a scalar.
-fn reduce_total(total: &mut Total, role: &Role, label: &str, thousandths: u64)
+fn reduce_total(total: &mut Total, role: &Role, label: &Label, thousandths: u64)
     ensures { (old new : List Usage) → AreRaised new old role.now (one_entry label.now thousandths) → IsExact old total.old → IsExact new total.new }
 {
     if total.is_known && role.is_within(&total.role) {
@@ -136,7 +136,7 @@ pub(crate) fn lower_totals(totals: &mut [Total], role: &Role, amounts: &Quantiti
 }
 
 /// A role consumes so much less of a scalar, and with it the roles above it. It needs no memory.
-pub(crate) fn reduce_totals(totals: &mut [Total], role: &Role, label: &str, thousandths: u64)
+pub(crate) fn reduce_totals(totals: &mut [Total], role: &Role, label: &Label, thousandths: u64)
     ensures { (old new : List Usage) → AreRaised new old role.now (one_entry label.now thousandths)
         → AreExact old totals.old → AreExact new totals.new }
 {

@@ -7,7 +7,7 @@ ghost use Rattle.drf_rows.specs.Quota.{is_within};
 ghost use Rattle.drf_gates.specs.Quota.{AreRaised, IsBounded, counted, one_entry, used_at, used_by, used_where, row_of};
 
 use drf_bundle::Quantities;
-use drf_role::Role;
+use drf_role::{Label, Role};
 use indexmap::IndexMap;
 use std::alloc::AllocError;
 
@@ -88,7 +88,7 @@ fn lower_row(row: &mut Quantities, amounts: &Quantities) -> bool
 }
 
 /// Takes so much of a label away. Whether nothing is left.
-fn reduce_row(row: &mut Quantities, label: &str, thousandths: u64) -> bool
+fn reduce_row(row: &mut Quantities, label: &Label, thousandths: u64) -> bool
     requires { thousandths ≤ amount_of row.old label.now }
     ensures left { (other : Text) → amount_of row.new other + amount_of (one_entry label.now thousandths) other ≡ amount_of row.old other }
     ensures empty { IsTrue result ↔ (row.new ≡ []) }
@@ -114,7 +114,7 @@ pub(crate) fn lower(used: &mut IndexMap<Role, Quantities>, role: &Role, amounts:
 pub(crate) fn reduce(
     used: &mut IndexMap<Role, Quantities>,
     role: &Role,
-    label: &str,
+    label: &Label,
     thousandths: u64,
 )
     requires { thousandths ≤ used_by used.old.entries role.now label.now }

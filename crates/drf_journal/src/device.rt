@@ -1,5 +1,5 @@
 //! Readers and writers that remember whether a call failed.
-ghost use Rattle.std.specs.Prelude.{◌≡◌, ◌+◌, ◌-◌, ◌^◌, ◌||◌, Bool, true, false, min, is_err, is_ok, OnOk, OnErr, IfErr};
+ghost use Rattle.std.specs.Prelude.{◌≡◌, ◌+◌, ◌-◌, ◌^◌, ◌||◌, true, false, min, is_err, is_ok, OnOk, OnErr, IfErr};
 ghost use Rattle.std.specs.Io.{ReadsAtMost, WritesAtMost};
 ghost use Rattle.std.specs.Io.KnownBytes.{Appends, Keeps, ReadConsumes, WriteAppends};
 ghost use Rattle.drf_journal.specs.Device.{moved_nothing, AppendsFrontOf};

@@ -1,5 +1,5 @@
 //! A core with its journal.
-ghost use Rattle.std.specs.Prelude.{◌≡◌, ◌<◌, ◌^◌, ◌++◌, ◌∷◌, [], length, IfOk, IfErr, OnOk, OnErr};
+ghost use Rattle.std.specs.Prelude.{◌≡◌, ◌<◌, ◌^◌, [], length, IfOk, IfErr, OnOk, OnErr};
 ghost use Rattle.drf_board.specs.History.{IsLegal, entry};
 ghost use Rattle.drf_master.specs.Journal.{Adds, IsNext, IsRunOf, IsSameJournal};
 ghost use Rattle.drf_master.specs.Matching.{IsShuffle, IsFault, receipts_of};

@@ -1,6 +1,6 @@
 //! Whether passes fit a journal.
 ghost use Rattle.std.specs.Prelude.{◌≡◌, ◌<◌, ◌≤◌, ◌↔◌, ◌++◌, ◌∷◌, [], true, false, cond, IsTrue, List, length, All, Some, None, slice_get, slice_set, IfOk, IfErr, OnOk};
-ghost use Rattle.drf_master.specs.Matching.{IsShuffle, IsFault, IsJournals, count, receipts_of};
+ghost use Rattle.drf_master.specs.Matching.{IsShuffle, IsFault, count, receipts_of};
 ghost use Rattle.drf_master.specs.Tallies.{IsTally, marked, least_above, lesser};
 ghost use Rattle.drf_master.specs.declared.matching.CloseFault.TheVariants.{Memory};
 ghost use Rattle.drf_master.specs.declared.pass.Receipt.{Receipt};

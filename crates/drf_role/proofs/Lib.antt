@@ -4,3 +4,4 @@ pub mod RoleLemmas
 pub mod PathLemmas
 pub mod OrderLemmas
 pub mod ClientLemmas
+pub mod LabelTextLemmas

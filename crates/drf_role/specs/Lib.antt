@@ -9,3 +9,4 @@ pub mod Spans
 pub mod Tests
 pub mod TestLaws
 pub mod Mark
+pub mod LabelText

@@ -2,6 +2,7 @@
 #![tactic(auto)]
 
 mod joined;
+mod label_text;
 mod laws;
 mod mark;
 mod name;

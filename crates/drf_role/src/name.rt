@@ -1,7 +1,8 @@
 //! Names of agents, frameworks and tasks, and labels of resources.
-ghost use Rattle.std.specs.Prelude.{◌≡◌, ◌↔◌, List, ℕ, IfOk, OnOk, IsTrue, IsErrOf};
+ghost use Rattle.std.specs.Prelude.{◌≡◌, ◌↔◌, ◌≤◌, List, ℕ, IfOk, IsOk, OnOk, IsTrue, IsErrOf, length};
 ghost use Rattle.drf_role.specs.Name.{IsNameByte, IsLabelByte, IsName, IsLabel};
 
+use crate::label_text::LabelText;
 use crate::word::Word;
 use std::alloc::{AllocError, Global};
 use std::marker::Model;
@@ -103,32 +104,33 @@ impl Name {
 /// The name of a resource or of a member of a set: 1 to 64 letters, digits, `_`, `-`, `.` or `/`.
 #[derive(Debug, Drop, PartialEq, Eq, PartialOrd, Ord, Hash)]
 pub struct Label {
-    word: Word,
+    text: LabelText,
 }
 
 impl Model for Label {
     ghost Value = { List ℕ };
 
-    ghost view = { λ l. l.word };
+    ghost view = { λ l. l.text };
 
-    ghost invariant = { λ l. IsLabel l.word };
+    ghost invariant = { λ l. IsLabel l.text };
 
-    ghost inverse = { λ bytes. record { word = bytes } };
+    ghost inverse = { λ bytes. record { text = bytes } };
 }
 
 impl Label {
-    /// Reads a label. What is no label is `BadName`, and memory is asked for only at a label.
+    /// Reads a label. What is no label is `BadName`, and memory is asked for only at a label of more than 8 bytes.
     pub fn read(alloc: Global, text: &str) -> Result<Label, NameFault>
         ensures ok { IfOk result (λ label. label ≡ text.now) }
         ensures right { OnOk result (IsLabel text.now) }
         ensures bad { IsErrOf result NameFault.BadName ↔ ¬ IsLabel text.now }
         ensures memory { IsErrOf result NameFault.Memory → IsLabel text.now }
+        ensures here { IsLabel text.now → length text.now ≤ 8 → IsOk result }
     {
         if !is_label(text) {
             return Err(NameFault::BadName);
         }
-        match Word::from_text(alloc, text) {
-            Ok(word) => Ok(Label { word }),
+        match LabelText::from_text(alloc, text) {
+            Ok(text) => Ok(Label { text }),
             Err(_) => Err(NameFault::Memory),
         }
     }
@@ -137,7 +139,7 @@ impl Label {
         ensures text { result.now ≡ self.now }
         ensures right { IsLabel self.now }
     {
-        self.word.text()
+        self.text.text()
     }
 
     /// Tells a proof what every label is. It does nothing.
@@ -151,7 +153,7 @@ impl Label {
         ensures { IfOk result (λ label. label ≡ self.now) }
     {
         Ok(Label {
-            word: self.word.copy()?,
+            text: self.text.copy()?,
         })
     }
 }

@@ -5,8 +5,6 @@ ghost use Rattle.std.specs.Cmp;
 ghost use Rattle.std.specs.Cmp.Lexicographic.{pointwise, lists_equiv, nat_list_eq_equiv, bytes_decides, pointwise_decides};
 ghost use Rattle.std.specs.Hash as fed;
 ghost use Rattle.std.specs.Hash.{same_Alike};
-ghost use Rattle.drf_role.specs.Name.{IsName};
-ghost use Rattle.drf_role.specs.Role.{IsRole};
 ghost use Rattle.drf_role.specs.Parts.{parts_of, text_of};
 ghost use Rattle.drf_role.specs.Mark.{IsKept, path_mark};
 ghost use Rattle.drf_role.specs.Path.{client_path, role_part, framework_part, IsClientPath, IsNodePath};

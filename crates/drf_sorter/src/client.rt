@@ -7,7 +7,7 @@ ghost use Rattle.drf_role.specs.Text.{Text};
 
 use crate::key::Holding;
 use drf_bundle::Quantities;
-use drf_role::{ClientPath, NodePath};
+use drf_role::{ClientPath, Label, NodePath};
 use std::alloc::{AllocError, Global};
 
 /// A client with what it holds, and the number of offers that were made to it.
@@ -120,11 +120,11 @@ impl<'a> Holding for NodeClients<'a> {
 
     ghost held = { λ clients. held_by clients.clients.now clients.node.now };
 
-    fn amount(&self, label: &str) -> u64 {
+    fn amount(&self, label: &Label) -> u64 {
         let mut held = 0;
         for client in self.clients {
             if begins_with(&client.path, self.node) {
-                held += client.held.get(label);
+                held += client.held.amount_of(label);
             }
         }
         held

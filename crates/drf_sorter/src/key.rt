@@ -8,6 +8,7 @@ ghost use Rattle.drf_sorter.specs.Share.{IsUnweighted, fraction_of};
 
 use crate::share::Share;
 use drf_bundle::Quantities;
+use drf_role::Label;
 use std::alloc::AllocError;
 use std::marker::Model;
 
@@ -17,7 +18,7 @@ pub trait Holding {
     ghost held: { Self → Text → ℕ };
 
     /// The thousandths of one label.
-    fn amount(&self, label: &str) -> u64
+    fn amount(&self, label: &Label) -> u64
         requires { held self.now label.now < 2 ^ 64 }
         ensures { result ≡ held self.now label.now };
 }
@@ -25,8 +26,8 @@ pub trait Holding {
 impl Holding for Quantities {
     ghost held = { amount_of };
 
-    fn amount(&self, label: &str) -> u64 {
-        self.get(label)
+    fn amount(&self, label: &Label) -> u64 {
+        self.amount_of(label)
     }
 }
 
@@ -42,7 +43,7 @@ pub(crate) fn dominant_share<H: Holding>(total: &Quantities, holding: &H) -> Sha
         let entry = &entries[i];
         let whole = entry.amount.thousandths();
         if whole > 0 {
-            let part = holding.amount(entry.label.text());
+            let part = holding.amount(&entry.label);
             dominant = dominant.max(Share::unweighted(part, whole));
         }
     }

@@ -1,6 +1,6 @@
 #![tactic(auto, unfolding(crate::specs::Inside::rows_of))]
 
-ghost use Rattle.std.specs.Prelude.{◌≡◌, ◌+◌, ◌<◌, ◌≤◌, ◌^◌, ℕ, List, [], ◌∷◌, ◌++◌, true, false, length, map, slice_get, Some, is_some, All, IfOk, IfSome, OnOk, OnErr};
+ghost use Rattle.std.specs.Prelude.{◌≡◌, ◌+◌, ◌<◌, ◌≤◌, ◌^◌, [], ◌∷◌, ◌++◌, true, false, length, map, slice_get, Some, is_some, All, IfOk, IfSome, OnOk, OnErr};
 ghost use Rattle.std.specs.List.{AllByRecursion};
 ghost use Rattle.drf_role.specs.Text.{Text};
 ghost use Rattle.drf_bundle.specs.Quantities.{amount_of};
@@ -14,7 +14,6 @@ ghost use Rattle.drf_rows.specs.Weights.{has_weight, is_weight, weights_with};
 ghost use Rattle.drf_rows.specs.Consistent.{IsConsistent, are_distinct_roles};
 ghost use Rattle.drf_rows.specs.declared.limits.TheConstants.{LARGEST_AMOUNT, LATEST_MOMENT};
 ghost use Rattle.drf_rows.specs.declared.rows.AgentRow.{AgentRow};
-ghost use Rattle.drf_rows.specs.declared.rows.FrameworkRow.{FrameworkRow};
 ghost use Rattle.drf_tables.specs.Drafts.{with_offers, frees_of, frees_after};
 ghost use Rattle.drf_tables.specs.Recounting.{CountsAll};
 

@@ -3,7 +3,7 @@ ghost use Rattle.std.specs.Prelude.{◌≡◌, [], IfOk, OnOk};
 ghost use Rattle.drf_rows.specs.LimitNumbers.{ceilings};
 ghost use Rattle.drf_rows.specs.declared.reply.Refusal.TheVariants.{KnownAgent};
 ghost use Rattle.drf_rows.specs.declared.reply.Reply.TheVariants.{Done, Refused};
-ghost use Rattle.drf_vectors.specs.OneAgent.{agent_added, one_cpu, once, twice, sheet_after};
+ghost use Rattle.drf_vectors.specs.OneAgent.{agent_added, one_cpu, once, sheet_after};
 
 use crate::texts::append_quantities;
 use anyhow::{Context, Result};

@@ -1,6 +1,4 @@
-use Rattle.std.proofs.Common.{ap, sym, ◌∙◌, arith}
-use Rattle.drf_bundle.specs.Quantities.{amount_of}
-use Rattle.drf_role.specs.Text.{Text}
+use Rattle.std.proofs.Common.{sym, ◌∙◌, arith}
 use Rattle.drf_gates.proofs.ConsumedLemmas.{set_more, unreserved-none}
 use Rattle.drf_gates.proofs.consumed.add_unreserved.Goals as goal
 
@@ -16,8 +14,7 @@ returns c =
     set_more c.set.result c.args.sum.now c.set.new.self c.args.resource.now c.in_ok-copy.field-0 _ c.set.ensures.ok c.in_ok-copy.ensures
     (omega (
       arith,
-      c.get.ensures,
-      ap (λ (name : Text). amount_of c.args.sum.now name) c.text.ensures.text,
+      c.amount_of.ensures,
       c.thousandths.ensures,
     ))
     (sym c.is_unreserved.ensures ∙ c.if-not-is_unreserved.false)

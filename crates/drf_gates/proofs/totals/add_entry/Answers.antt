@@ -1,5 +1,4 @@
 use Rattle.std.proofs.Common.{◌+◌, ap, ◌∙◌, arith}
-use Rattle.drf_role.specs.Text.{Text}
 use Rattle.drf_bundle.specs.Quantities.{amount_of}
 use Rattle.drf_gates.specs.Quota.{one_entry}
 use Rattle.drf_gates.proofs.TotalLemmas.{entry_added}
@@ -12,8 +11,7 @@ returns c = λ holds label.
     (omega (
       arith,
       c.in-Some.ensures,
-      c.get-had.ensures,
-      ap (λ (name : Text). amount_of c.args.sum.now name) c.text.ensures.text,
+      c.amount_of-had.ensures,
       c.thousandths.ensures,
       c.make_room.ensures c.args.more.now.label,
     ))

@@ -20,7 +20,7 @@ unweighted-requires-clause-of_whole g c =
     amount_at total (c.loop-i.i - 1) e c.entries-entries.ensures.in_order (omega arith)
     (rw c.entries-entries.ensures.value at c.index-entries-i.is) in
     let held = g.H.Holding.held c.args.holding.now in
-    let part : c.amount-part.result ≡ held e.label = rw c.text.ensures.text at c.amount-part.ensures in
+    let part : c.amount-part.result ≡ held e.label = c.amount-part.ensures in
     omega (arith, whole, part, c.thousandths-whole.ensures, c.requires.within e.label)
 
 pub unweighted-requires-clause-fits : goal.unweighted-requires-clause-fits
@@ -39,7 +39,7 @@ loop-i-preserved-then-whole-gt0 g c =
     let total = c.args.total.now in
     let e = c.index-entries-i.result in
     let long = ap length c.entries-entries.ensures.value in
-    let part : c.amount-part.result ≡ held e.label = rw c.text.ensures.text at c.amount-part.ensures in
+    let part : c.amount-part.result ≡ held e.label = c.amount-part.ensures in
     let new : IsUnweighted (record { part = held e.label; whole = e.amount }) c.unweighted.result =
     rw (part, c.thousandths-whole.ensures) at c.unweighted.ensures in
     rw c.max-dominant.ensures

@@ -47,4 +47,4 @@ returns c =
     let t = YieldsList-end (YieldsList-from_str_split 59 c.args.text.now (lit< tt) (cc) (cc)
     (cc)) c.loop-piece.yielded _ c.loop-piece.yielded_by _ _ c.in-None.is c.next.ensures.steps in
     bundle_by_steps pieces ∙ sym c.loop-piece.invariant ∙ at_drop_all (steps_of bundle_step c.loop-piece.bundle) pieces n (omega (arith, t.1))
-    ∙ ap (λ (bundle : List Resource). Ok bundle) (sym c.in_ok-from_parts.ensures)
+    ∙ ap (λ (bundle : List Resource). Ok bundle) (sym c.in_ok-from_parts.ensures.bundle)

@@ -8,9 +8,9 @@ use Rattle.drf_bundle.proofs.bundle.Bundle.exceeds_with.Goals as goal
 
 pub returns : goal.returns
 returns c =
-    let name = c.args.name.now in
-    let first : c.get.result ≡ stock c.args.self.now name Thousandths =
-    c.get.ensures ∙ amount-kept c.args.self.now _ name (record { bundle = c.quantities.ensures.bundle; sums = c.quantities.ensures.value }) in
-    let second : c.get-2.result ≡ stock c.args.other.now name Thousandths =
-    c.get-2.ensures ∙ amount-kept c.args.other.now _ name (record { bundle = c.quantities-2.ensures.bundle; sums = c.quantities-2.ensures.value }) in
+    let name = c.args.label.now in
+    let first : c.amount_of.result ≡ stock c.args.self.now name Thousandths =
+    c.amount_of.ensures ∙ amount-kept c.args.self.now _ name (record { bundle = c.quantities.ensures.bundle; sums = c.quantities.ensures.value }) in
+    let second : c.amount_of-2.result ≡ stock c.args.other.now name Thousandths =
+    c.amount_of-2.ensures ∙ amount-kept c.args.other.now _ name (record { bundle = c.quantities-2.ensures.bundle; sums = c.quantities-2.ensures.value }) in
     rw (← first, ← second) (grind (arith, nat_tests, common_steps, c.checked_add-sum.ensures, c.is_none.ensures))

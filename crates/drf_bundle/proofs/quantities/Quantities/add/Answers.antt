@@ -7,32 +7,32 @@ use Rattle.drf_bundle.proofs.quantities.Quantities.add.Goals as goal
 
 pub overflow_add-sum : goal.overflow_add-sum
 overflow_add-sum c =
-    let had = amount_here _ _ _ _ _ _ c.self.view_is c.self.invariant c.text.ensures.text c.in-Ok.ensures.found c.index_mut-entry.ensures.value in
+    let had = amount_here _ _ _ _ _ _ c.self.view_is c.self.invariant refl c.in-Ok.ensures.found c.index_mut-entry.ensures.value in
     omega (arith, had, c.thousandths.ensures, c.requires)
 
 -- the label was there, and its amount grows
 pub returns-in-Ok-clause-ok : goal.returns-in-Ok-clause-ok
 returns-in-Ok-clause-ok c =
-    let had = amount_here _ _ _ _ _ _ c.self.view_is c.self.invariant c.text.ensures.text c.in-Ok.ensures.found c.index_mut-entry.ensures.value in
+    let had = amount_here _ _ _ _ _ _ c.self.view_is c.self.invariant refl c.in-Ok.ensures.found c.index_mut-entry.ensures.value in
     let sum = c.new-entry.ensures ∙ ap (λ (n : ℕ). n + c.args.thousandths) (c.thousandths.ensures ∙ had) in
-    set_here _ _ _ _ _ _ _ _ c.self.view_is c.self.invariant c.text.ensures.text sum c.in-Ok.ensures.found c.index_mut-entry.ensures.value
+    set_here _ _ _ _ _ _ _ _ c.self.view_is c.self.invariant refl sum c.in-Ok.ensures.found c.index_mut-entry.ensures.value
 
 pub invariant_of-self : goal.invariant_of-self
 invariant_of-self c =
     let ordered = subst (λ (es : List Entry). IsTrue (is_in_order es)) c.self.view_is c.self.invariant in
     let total = amount_of c.args.self.now c.args.label.now + c.args.thousandths in
-    let had = amount_here _ _ _ _ _ _ c.self.view_is c.self.invariant c.text.ensures.text c.in-Ok.ensures.found c.index_mut-entry.ensures.value in
+    let had = amount_here _ _ _ _ _ _ c.self.view_is c.self.invariant refl c.in-Ok.ensures.found c.index_mut-entry.ensures.value in
     let sum = c.new-entry.ensures ∙ ap (λ (n : ℕ). n + c.args.thousandths) (c.thousandths.ensures ∙ had) in
-    let written = set_here _ _ _ _ _ total _ _ c.self.view_is c.self.invariant c.text.ensures.text sum c.in-Ok.ensures.found c.index_mut-entry.ensures.value in
+    let written = set_here _ _ _ _ _ total _ _ c.self.view_is c.self.invariant refl sum c.in-Ok.ensures.found c.index_mut-entry.ensures.value in
     rw written (in_order-with c.args.self.now c.args.label.now total ordered)
 
 -- the entry is added in the gap
 pub returns-in_ok-insert-in-Err-clause-ok : goal.returns-in_ok-insert-in-Err-clause-ok
 returns-in_ok-insert-in-Err-clause-ok c =
     let total = amount_of c.args.self.now c.args.label.now + c.args.thousandths in
-    let zero_there : amount_of c.args.self.now c.args.label.now ≡ 0 = ap (amount_of c.args.self.now) (sym c.text.ensures.text) ∙ amount_in_gap _ _ _ c.in-Err.ensures.absent in
+    let zero_there : amount_of c.args.self.now c.args.label.now ≡ 0 = amount_in_gap _ _ _ c.in-Err.ensures.absent in
     let sum : c.new-amount.result ≡ total = omega (arith, zero_there, c.new-amount.ensures) in
-    let named = c.text.ensures.text ∙ sym c.in_ok-label-in-Err.ensures in
+    let named = sym c.in_ok-label-in-Err.ensures in
     added_here _ _ _ _ _ _ total _ c.self.view_is named sum c.in-Err.ensures.absent c.in_ok-insert-in-Err.ensures.items
     ∙ ap (λ (l : List ℕ). with_amount c.args.self.now l total) c.in_ok-label-in-Err.ensures
 
@@ -40,6 +40,6 @@ pub invariant_of-self-in-Err : goal.invariant_of-self-in-Err
 invariant_of-self-in-Err c =
     let ordered = subst (λ (es : List Entry). IsTrue (is_in_order es)) c.self.view_is c.self.invariant in
     let total = c.new-amount.result in
-    let named = c.text.ensures.text ∙ sym c.in_ok-label-in-Err.ensures in
+    let named = sym c.in_ok-label-in-Err.ensures in
     let written = added_here _ _ _ _ c.in_ok-label-in-Err.label _ total _ c.self.view_is named refl c.in-Err.ensures.absent c.in_ok-insert-in-Err.ensures.items in
     rw written (in_order-with c.args.self.now c.in_ok-label-in-Err.label total ordered)

@@ -3,4 +3,4 @@ use Rattle.drf_bundle.proofs.PlaceLemmas.{named_from_search}
 use Rattle.drf_bundle.proofs.quantities.Quantities.is_named_near.Goals as goal
 
 pub returns : goal.returns
-returns c = c.is_ok.ensures.value ∙ named_from_search _ _ _ c.place.ensures.found c.place.ensures.absent
+returns c = c.is_ok.ensures.value ∙ named_from_search _ _ _ c.place_of_label.ensures.found c.place_of_label.ensures.absent

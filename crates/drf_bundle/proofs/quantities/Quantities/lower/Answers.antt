@@ -13,7 +13,7 @@ overflow_sub-thousandths c =
     let ordered = subst (λ (es : List Entry). IsTrue (is_in_order es)) items c.self.invariant in
     let covered = subst (λ (es : List Entry). IsTrue (covers es others)) (sym c.self.view_is ∙ items) c.requires in
     let was = unchanged_at others _ _ _ e c.loop-i-test.true c.loop-i.invariant c.entry-item.is in
-    let part : c.get_near-part.result ≡ amount_of others e.label = cc in
+    let part : c.amount_near-part.result ≡ amount_of others e.label = cc in
     let all : c.thousandths.result ≡ e.amount = cc in
     omega (arith, enough_at _ others _ e ordered covered c.loop-i-test.true was)
 

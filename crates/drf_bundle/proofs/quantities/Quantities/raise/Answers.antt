@@ -1,6 +1,6 @@
-use Rattle.std.proofs.Common.{◌≡◌, ◌+◌, ℕ, List, IsTrue, refl, sym, subst, arith}
+use Rattle.std.proofs.Common.{◌≡◌, ◌+◌, refl, arith}
 use Rattle.std.proofs.lemmas.List.{drop_all}
-use Rattle.drf_bundle.specs.Quantities.{amount_of, is_named, with_amount}
+use Rattle.drf_bundle.specs.Quantities.{amount_of, with_amount}
 use Rattle.drf_bundle.proofs.ChangeLemmas.{sum_fits, added_whole, added_fits, added_in_order, named_now, named_on}
 use Rattle.drf_bundle.proofs.quantities.Quantities.raise.Goals as goal
 
@@ -14,18 +14,17 @@ loop-i-init c = rw c.entries-entry-items.ensures.value (record {
 
 pub raise_one-requires-clause-named : goal.raise_one-requires-clause-named
 raise_one-requires-clause-named c =
-    subst (λ (t : List ℕ). IsTrue (is_named c.loop-i.self t)) (sym c.text.ensures.text)
-    (named_now c.loop-i.self _ _ _ c.loop-i-test.true c.entry-item.is c.loop-i.invariant.named)
+    named_now c.loop-i.self _ _ _ c.loop-i-test.true c.entry-item.is c.loop-i.invariant.named
 
 pub raise_one-requires-clause-fits : goal.raise_one-requires-clause-fits
 raise_one-requires-clause-fits c =
     let fits = sum_fits _ _ _ _ c.loop-i-test.true c.entry-item.is c.loop-i.invariant.fits in
-    rw c.text.ensures.text (omega (arith, fits, c.thousandths.ensures))
+    omega (arith, fits, c.thousandths.ensures)
 
 pub loop-i-preserved : goal.loop-i-preserved
 loop-i-preserved c =
     let e = c.entry-item.result in
-    let made : c.raise_one.new.self ≡ with_amount c.loop-i.self e.label (amount_of c.loop-i.self e.label + e.amount) = cc (c.raise_one.ensures, c.thousandths.ensures, c.text.ensures.text) in
+    let made : c.raise_one.new.self ≡ with_amount c.loop-i.self e.label (amount_of c.loop-i.self e.label + e.amount) = cc (c.raise_one.ensures, c.thousandths.ensures) in
     let so_far = c.loop-i.invariant in
     rw made (record {
       whole = added_whole _ _ _ _ c.loop-i-test.true c.entry-item.is _ so_far.whole;

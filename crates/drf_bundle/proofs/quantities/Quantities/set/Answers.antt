@@ -1,33 +1,33 @@
-use Rattle.std.proofs.Common.{◌≡◌, false, List, ℕ, IsTrue, sym, subst, ◌∙◌}
+use Rattle.std.proofs.Common.{List, IsTrue, refl, sym, subst, ◌∙◌}
 use Rattle.std.proofs.lemmas.Bool.{false≢true}
 use Rattle.drf_bundle.specs.declared.quantities.Entry.{Entry}
-use Rattle.drf_bundle.specs.Quantities.{is_named, is_in_order}
+use Rattle.drf_bundle.specs.Quantities.{is_in_order}
 use Rattle.drf_bundle.specs.laws.QuantitiesLaws.{in_order-with}
 use Rattle.drf_bundle.proofs.PlaceLemmas.{set_here, added_here, named_in_gap}
 use Rattle.drf_bundle.proofs.quantities.Quantities.set.Goals as goal
 
 -- the label was there, and its amount is written over
 pub returns-in-Ok-clause-ok : goal.returns-in-Ok-clause-ok
-returns-in-Ok-clause-ok c = set_here _ _ _ _ _ _ _ _ c.self.view_is c.self.invariant c.text.ensures.text c.new-amount.ensures c.in-Ok.ensures.found c.index_mut-entry.ensures.value
+returns-in-Ok-clause-ok c = set_here _ _ _ _ _ _ _ _ c.self.view_is c.self.invariant refl c.new-amount.ensures c.in-Ok.ensures.found c.index_mut-entry.ensures.value
 
 pub invariant_of-self : goal.invariant_of-self
 invariant_of-self c =
     let ordered = subst (λ (es : List Entry). IsTrue (is_in_order es)) c.self.view_is c.self.invariant in
-    let written = set_here _ _ _ _ _ c.args.thousandths _ _ c.self.view_is c.self.invariant c.text.ensures.text c.new-amount.ensures c.in-Ok.ensures.found c.index_mut-entry.ensures.value in
+    let written = set_here _ _ _ _ _ c.args.thousandths _ _ c.self.view_is c.self.invariant refl c.new-amount.ensures c.in-Ok.ensures.found c.index_mut-entry.ensures.value in
     rw written (in_order-with c.args.self.now c.args.label c.args.thousandths ordered)
 
 -- the entry is added in the gap
 pub returns-in_ok-insert-in-Err-clause-ok : goal.returns-in_ok-insert-in-Err-clause-ok
-returns-in_ok-insert-in-Err-clause-ok c = added_here _ _ _ _ _ _ _ _ c.self.view_is c.text.ensures.text c.new-amount.ensures c.in-Err.ensures.absent c.in_ok-insert-in-Err.ensures.items
+returns-in_ok-insert-in-Err-clause-ok c = added_here _ _ _ _ _ _ _ _ c.self.view_is refl c.new-amount.ensures c.in-Err.ensures.absent c.in_ok-insert-in-Err.ensures.items
 
 pub invariant_of-self-in-Err : goal.invariant_of-self-in-Err
 invariant_of-self-in-Err c =
     let ordered = subst (λ (es : List Entry). IsTrue (is_in_order es)) c.self.view_is c.self.invariant in
-    let written = added_here _ _ _ _ c.args.label _ c.args.thousandths _ c.self.view_is c.text.ensures.text c.new-amount.ensures c.in-Err.ensures.absent c.in_ok-insert-in-Err.ensures.items in
+    let written = added_here _ _ _ _ c.args.label _ c.args.thousandths _ c.self.view_is refl c.new-amount.ensures c.in-Err.ensures.absent c.in_ok-insert-in-Err.ensures.items in
     rw written (in_order-with c.args.self.now c.args.label c.args.thousandths ordered)
 
 -- memory fails only for a label that was not there
 pub returns-in_err-insert-in-Err-clause-named : goal.returns-in_err-insert-in-Err-clause-named
 returns-in_err-insert-in-Err-clause-named c named =
-    let absent = subst (λ (t : List ℕ). is_named c.args.self.now t ≡ false) c.text.ensures.text (named_in_gap _ _ _ c.in-Err.ensures.absent) in
+    let absent = named_in_gap _ _ _ c.in-Err.ensures.absent in
     absurd (false≢true (sym absent ∙ named))

@@ -1,22 +1,37 @@
-use Rattle.std.proofs.Common.{◌≡◌, List, subst, ◌∙◌}
+use Rattle.std.proofs.Common.{◌≡◌, List, ap, ◌∙◌, arith}
+use Rattle.drf_bundle.specs.declared.quantities.Entry.{Entry}
 use Rattle.drf_rows.specs.Quota.{headrooms}
-use Rattle.drf_gates.specs.Quota.{Allowance, Usage, limit_rows, used_at}
+use Rattle.drf_gates.specs.Quota.{Allowance, known_amount, used_at}
 use Rattle.drf_gates.proofs.QuotaLemmas.{headroom-its}
-use Rattle.drf_gates.proofs.RoomLemmas.{IsGoneOver, gone_end}
+use Rattle.drf_gates.proofs.RoomLemmas.{headrooms_are}
+use Rattle.drf_gates.proofs.LeastLemmas.{least_start, least_next, least_end}
 use Rattle.drf_gates.proofs.quota.Quota.headroom.Goals as goal
+
+pub loop-len-init : goal.loop-len-init
+loop-len-init c = λ label.
+    ap (λ (es : List Entry). known_amount es label) c.empty-room.ensures
+    ∙ least_start (used_at c.args.self.now.used) c.args.role.now label c.args.self.now.limits
+
+pub loop-len-preserved : goal.loop-len-preserved
+loop-len-preserved c =
+    let a : Allowance = c.args.self.now in
+    λ label.
+    least_next (used_at a.used) c.args.role.now label c.loop-len.len a.limits (known_amount c.loop-len.room label)
+    (known_amount c.add_front.new.room label) (omega (arith, c.len-fronts.ensures.len)) (c.loop-len.invariant label)
+    (c.in_ok-add_front.ensures label)
 
 pub returns-clause-value : goal.returns-clause-value
 returns-clause-value c =
     let a : Allowance = c.args.self.now in
-    gone_end (used_at a.used) c.args.role.now a.limits c.loop-limited.room c.recall.ensures
-    (subst (λ (es : List Usage). IsGoneOver (used_at a.used) c.args.role.now a.limits c.loop-limited.room (limit_rows es))
-    c.in-None.ensures.steps.0 c.loop-limited.invariant)
+    headrooms_are (used_at a.used) c.args.role.now a.limits c.loop-len.room c.recall.ensures (λ label.
+    c.loop-len.invariant label
+    ∙ least_end (used_at a.used) c.args.role.now label c.loop-len.len a.limits (omega (arith, c.len-fronts.ensures.len)))
 
 pub returns-clause-of_rows : goal.returns-clause-of_rows
 returns-clause-of_rows c =
     let a : Allowance = c.args.self.now in
-    let value : c.loop-limited.room ≡ headrooms a.limits (used_at a.used) c.args.role.now =
-    gone_end (used_at a.used) c.args.role.now a.limits c.loop-limited.room c.recall.ensures
-    (subst (λ (es : List Usage). IsGoneOver (used_at a.used) c.args.role.now a.limits c.loop-limited.room (limit_rows es))
-    c.in-None.ensures.steps.0 c.loop-limited.invariant) in
+    let value : c.loop-len.room ≡ headrooms a.limits (used_at a.used) c.args.role.now =
+    headrooms_are (used_at a.used) c.args.role.now a.limits c.loop-len.room c.recall.ensures (λ label.
+    c.loop-len.invariant label
+    ∙ least_end (used_at a.used) c.args.role.now label c.loop-len.len a.limits (omega (arith, c.len-fronts.ensures.len))) in
     λ rows its. value ∙ headroom-its rows a its c.args.role.now

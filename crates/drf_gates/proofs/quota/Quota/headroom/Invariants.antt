@@ -1,6 +1,9 @@
-use Rattle.drf_gates.specs.Quota.{limit_rows, used_at}
-use Rattle.drf_gates.proofs.RoomLemmas.{IsGoneOver}
+use Rattle.std.proofs.Common.{◌≡◌}
+use Rattle.drf_role.specs.Text.{Text}
+use Rattle.drf_gates.specs.Quota.{known_amount, used_at}
+use Rattle.drf_gates.proofs.LeastLemmas.{least_until}
 use Rattle.drf_gates.proofs.quota.Quota.headroom.Given as goal
 
-abbrev pub invariant-loop-limited : goal.invariant-loop-limited
-invariant-loop-limited l = IsGoneOver (used_at l.self.used) l.role l.self.limits l.room (limit_rows l.limited-iterator)
+-- of each scalar what is known is what the limits of the fronts so far leave
+abbrev pub invariant-loop-len : goal.invariant-loop-len
+invariant-loop-len l = (label : Text) → known_amount l.room label ≡ least_until (used_at l.self.used) l.role label l.len l.self.limits

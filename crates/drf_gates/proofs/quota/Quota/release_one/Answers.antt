@@ -1,5 +1,4 @@
 use Rattle.std.proofs.Common.{◌≡◌, List, true, sym, ap, ◌∙◌, arith}
-use Rattle.drf_role.specs.Text.{Text}
 use Rattle.drf_bundle.specs.Bundle.{is_default}
 use Rattle.drf_gates.specs.Quota.{Allowance, Usage, one_entry, used_by}
 use Rattle.drf_gates.proofs.ConsumedLemmas.{one_here, unreserved-here}
@@ -18,12 +17,11 @@ reduce-requires c =
       unreserved-here r r.label default,
       one_here r,
       c.thousandths-amount.ensures,
-      ap (λ (name : Text). used_by old role name) c.text-label.ensures.text,
       ap (λ (a : Allowance). used_by a.used role r.label) c.self.view_is,
     )
 
 pub invariant_of-self : goal.invariant_of-self
 invariant_of-self c =
     lowered_beside c.self.inside.used.entries c.reduce.new.used.entries c.args.role.now
-    (one_entry c.text-label.result.now c.thousandths-amount.result) c.self.inside.totals c.deref_mut.result.now c.reduce_totals.new.totals
+    (one_entry c.args.resource.now.label c.thousandths-amount.result) c.self.inside.totals c.deref_mut.result.now c.reduce_totals.new.totals
     c.self.invariant c.deref_mut.ensures.value c.reduce_totals.auto.totals c.reduce.ensures c.reduce_totals.ensures

@@ -1,5 +1,4 @@
 use Rattle.std.proofs.Common.{◌≡◌, List, false, sym, ap, ◌∙◌, cond, arith}
-use Rattle.drf_role.specs.Text.{Text}
 use Rattle.drf_role.specs.Path.{same_path}
 use Rattle.drf_role.specs.PathLaws.{same_path_itself}
 use Rattle.drf_bundle.specs.Bundle.{is_default}
@@ -20,12 +19,11 @@ reduce-requires c =
       ap (λ b. cond b (amount_in_one r.label r) 0) (same_path_itself r.role),
       one_here r,
       c.thousandths-amount.ensures,
-      ap (λ (name : Text). used_by old r.role name) c.text-label.ensures.text,
       ap (λ (a : Allowance). used_by a.used r.role r.label) c.self.view_is,
     )
 
 pub invariant_of-self : goal.invariant_of-self
 invariant_of-self c =
     lowered_beside c.self.inside.used.entries c.reduce.new.used.entries c.args.resource.now.role
-    (one_entry c.text-label.result.now c.thousandths-amount.result) c.self.inside.totals c.deref_mut.result.now c.reduce_totals.new.totals
+    (one_entry c.args.resource.now.label c.thousandths-amount.result) c.self.inside.totals c.deref_mut.result.now c.reduce_totals.new.totals
     c.self.invariant c.deref_mut.ensures.value c.reduce_totals.auto.totals c.reduce.ensures c.reduce_totals.ensures

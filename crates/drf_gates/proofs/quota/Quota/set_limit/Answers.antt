@@ -1,6 +1,7 @@
 use Rattle.std.proofs.Common.{◌≡◌, List, length, sym, ap, ◌∙◌}
 use Rattle.std.proofs.lemmas.Bool.{eq-eqb, eqb-true, false≢true}
-use Rattle.drf_role.specs.Path.{Path}
+use Rattle.indexmap.specs.IndexMap.{insert_entry}
+use Rattle.drf_role.specs.Path.{Path, same_path}
 use Rattle.drf_bundle.specs.declared.quantities.Entry.{Entry}
 use Rattle.drf_rows.specs.Quota.{limits_with}
 use Rattle.drf_gates.specs.Quota.{Allowance, Usage, limit_rows}
@@ -32,6 +33,7 @@ returns-clause-ok c =
     false≢true (sym (sym c.is_empty.ensures ∙ c.if-is_empty.false) ∙ eq-eqb (length c.entries.result.now) 0 (ap length same ∙ none)) in
     let limits =
     ap limit_rows c.in_ok-insert.ensures.entries
+    ∙ ap (λ (rows : List Usage). limit_rows (insert_entry same_path rows role limit)) c.make_room.ensures
     ∙ limit_put es role limit
     ∙ limits_with-some (limit_rows es) role limit some
     ∙ ap (λ (a : Allowance). limits_with a.limits role limit) c.self.view_is in

@@ -14,7 +14,7 @@ overflow_add-held c =
     sum_part_fits (λ (x : Client). begins_with x.path node) (λ x. amount_of x.held label) clients
     c.loop-client.client-index c.client-item.result c.loop-client.held c.loop-client-test.true c.client-item.is
     c.loop-client.invariant (search rules) in
-    omega (arith, fits, c.requires, c.get-held.ensures)
+    omega (arith, fits, c.requires, c.amount_of-held.ensures)
 
 pub returns : goal.returns
 returns c =

@@ -2,7 +2,7 @@ use Rattle.std.proofs.Common.{List, IsTrue, sym, subst}
 use Rattle.drf_bundle.specs.declared.quantities.Entry.{Entry}
 use Rattle.drf_bundle.specs.Quantities.{is_in_order}
 use Rattle.drf_bundle.proofs.PlaceLemmas.{amount_at, amount_in_gap}
-use Rattle.drf_bundle.proofs.quantities.Quantities.get_near.Goals as goal
+use Rattle.drf_bundle.proofs.quantities.Quantities.get.Goals as goal
 
 -- the label is at its place, and the entry there is the one that was read
 pub returns-in-Ok : goal.returns-in-Ok

@@ -1,11 +1,15 @@
 -- What a search by label finds, and what an edit at that place does.
-use Rattle.std.proofs.Common.{◌≡◌, ℕ, zero, suc, ◌+◌, ◌-◌, ◌<◌, ◌≤◌, Bool, cond, true, false, List, [], ◌∷◌, length, get_or, set, slice_get, Some, Result, Ok, Err, IfOk, IfErr, is_ok, Equal, inl, inr, refl, sym, ap, ◌∙◌, subst, arith}
+use Rattle.std.proofs.Common.{◌≡◌, ℕ, zero, suc, ◌+◌, ◌-◌, ◌<◌, ◌≤◌, Bool, cond, nat_lt, true, false, List, [], ◌∷◌, length, get_or, set, slice_get, Option, Some, None, IfSome, IfNone, is_some, Result, Ok, Err, IfOk, IfErr, is_ok, Equal, inl, inr, refl, sym, ap, ◌∙◌, subst, arith}
 use Rattle.std.specs.Prelude.{IsTrue}
-use Rattle.std.specs.List.{insert}
+use Rattle.std.specs.List.{insert, position, position_or_len}
+use Rattle.std.specs.Result.{result_ok}
 use Rattle.std.specs.List.Sorted.{IsSearchInRange, IsBinarySearchResult, IsNonDecreasingBy}
 use Rattle.std.specs.Ordering.{nat_cmp, is_lt, ordering_index}
 use Rattle.std.specs.Cmp.Lexicographic.{slice_cmp, nat_list_cmp_total}
-use Rattle.std.proofs.lemmas.Bool.{and_parts, cases_lt}
+use Rattle.std.proofs.lemmas.Bool.{and_parts, cases_Bool, cases_lt, ltb-false}
+use Rattle.std.proofs.lemmas.List.Folds.{list_any_none}
+use Rattle.std.proofs.lemmas.List.Quantifiers.{position-Some}
+use Rattle.std.proofs.lemmas.List.Sums.{fails_before_first}
 use Rattle.std.proofs.lemmas.List.Recursion.{and_at, found_at, found_nowhere, or_at, or_from_places}
 use Rattle.std.proofs.lemmas.List.Sorted.{searchable_from_sorted}
 use Rattle.drf_role.specs.Text.{same_text, text_below}
@@ -88,10 +92,46 @@ module _ (es : List Entry) (label : List ℕ) where
   pub named_in_gap : (i : ℕ) → IsGapFor es label i → is_named es label ≡ false
   named_in_gap i gap = or_from_places (λ l. is_named l label) (λ e. same_text e.label label) refl (λ _ _. refl) es nothing (λ k lt. other_around i gap k nothing lt)
 
+  abbrev its : Entry → Bool
+  its e = same_text e.label label
+
+  -- the first entry that passes the test has the label
+  pub found_first : (r : Option ℕ) → r ≡ position (λ e. same_text e.label label) es → IfSome r (IsAt es label)
+  found_first (Some at) is =
+      record { in_range = (position-Some its es at nothing (sym is)).0; has_label = λ d. same_from_test _ _ (position-Some its es at d (sym is)).1 }
+  found_first None is = tt
+
+  -- where no entry passes it, the label is not named
+  pub named_nowhere : (r : Option ℕ) → r ≡ position (λ e. same_text e.label label) es → IfNone r (is_named es label ≡ false)
+  named_nowhere (Some at) is = tt
+  named_nowhere None is = elim (cases_Bool (nat_lt (position_or_len its es) (length es))) [
+    | inl within ↦ absurd (let bad = rw within at is in cc)
+    | inr past ↦
+        let end : length es ≤ position_or_len its es = ltb-false _ _ past in
+        list_any_none its es (λ k d inside. fails_before_first its es k d (omega arith))
+  ]
+
+  -- a search by order fails only where the label is not named
+  pub unnamed_from_search : (r : Result ℕ ℕ) → IfErr r (IsGapFor es label) → IfNone (result_ok r) (is_named es label ≡ false)
+  unnamed_from_search (Ok at) absent = tt
+  unnamed_from_search (Err at) absent = named_in_gap at absent
+
+  -- a place is found just where the label is named
+  pub named_from_place : (r : Option ℕ) → IfSome r (IsAt es label) → IfNone r (is_named es label ≡ false) → is_some r ≡ is_named es label
+  named_from_place (Some at) found none = sym (named_at at found)
+  named_from_place None found none = sym none
+
   -- a search succeeds just where the label is named
   pub named_from_search : (r : Result ℕ ℕ) → IfOk r (IsAt es label) → IfErr r (IsGapFor es label) → is_ok r ≡ is_named es label
   named_from_search (Ok at) found absent = sym (named_at at found)
   named_from_search (Err at) found absent = sym (named_in_gap at absent)
+
+pub amount_unnamed : (es : List Entry) (label : List ℕ) → is_named es label ≡ false → amount_of es label ≡ 0
+amount_unnamed [] label none = refl
+amount_unnamed (e ∷ es) label none = elim (cases_Bool (same_text e.label label)) [
+  | inl same ↦ absurd (let bad = rw same at none in cc)
+  | inr other ↦ rw other (amount_unnamed es label (rw other at none))
+]
 
 -- writing over the entry of a label sets its amount
 pub with_at : (es : List Entry) (label : List ℕ) (a i : ℕ) → IsTrue (is_in_order es) → IsAt es label i → with_amount es label a ≡ set es i (record { label = label; amount = a })

@@ -1,4 +1,5 @@
-ghost use Rattle.std.specs.Prelude.{◌≡◌, ℕ, List, [], length, ◌^◌, ◌<◌, IsTrue, ◌+◌, ◌≤◌, if◌then◌else◌, IfOk, IfErr, OnOk, OnErr, IsOk};
+ghost use Rattle.std.specs.Prelude.{◌≡◌, ℕ, List, [], length, ◌^◌, ◌<◌, IsTrue, ◌+◌, ◌≤◌, if◌then◌else◌, IfOk, IfErr, OnOk, OnErr, IsOk, IfSome, IfNone, false};
+ghost use Rattle.std.specs.List.{position};
 ghost use Rattle.drf_bundle.specs.Quantities.{HasNoZeros, amount_of, is_named, names_all, is_in_order, with_amount, plus, minus, covers, without_zeros, names_of};
 ghost use Rattle.drf_bundle.specs.Places.{IsAt, IsGapFor};
 ghost use Rattle.drf_role.specs.Text.{same_text};
@@ -8,6 +9,9 @@ use drf_amount::Scalar;
 use drf_role::Label;
 use std::alloc::{AllocError, Global};
 use std::marker::Model;
+
+/// The most entries that are looked through one by one.
+const FEW: usize = 8;
 
 /// An amount of one scalar resource.
 #[derive(Debug, Drop)]
@@ -76,16 +80,16 @@ impl Quantities {
         self.amount_near(label, 0)
     }
 
-    // The thousandths of a label that is likely to stand at that place or right behind it.
+    // The thousandths of a label that is likely to stand at that place.
     fn amount_near(&self, label: &Label, hint: usize) -> u64
         ensures { result ≡ amount_of self.now label.now }
     {
-        match self.place_of_label(label, hint) {
-            Ok(at) => {
+        match self.place_if_named(label, hint) {
+            Some(at) => {
                 let entry = &self.entries[at];
                 entry.amount.thousandths()
             }
-            Err(_) => 0,
+            None => 0,
         }
     }
 
@@ -96,11 +100,11 @@ impl Quantities {
         self.place_of_text(label).is_ok()
     }
 
-    // Whether a label is named that is likely to stand at that place or right behind it.
+    // Whether a label is named that is likely to stand at that place.
     fn is_named_near(&self, label: &Label, hint: usize) -> bool
         ensures { result ≡ is_named self.now label.now }
     {
-        self.place_of_label(label, hint).is_ok()
+        self.place_if_named(label, hint).is_some()
     }
 
     /// The labels and their amounts, by the bytes of the labels.
@@ -132,7 +136,7 @@ impl Quantities {
         ensures named { IsTrue (is_named self.old label) → IsOk result }
     {
         let amount = Scalar::new(thousandths);
-        match self.place_of_label(&label, 0) {
+        match self.place_among(&label) {
             Ok(at) => {
                 let entry = &mut self.entries[at];
                 entry.amount = amount;
@@ -213,13 +217,13 @@ impl Quantities {
         }
     }
 
-    // Adds to the amount of a label that it names, which is likely to stand at that place or right behind it.
+    // Adds to the amount of a label that it names, which is likely to stand at that place.
     fn raise_one(&mut self, label: &Label, thousandths: u64, hint: usize)
         requires named { IsTrue (is_named self.old label.now) }
         requires fits { amount_of self.old label.now + thousandths < 2 ^ 64 }
         ensures { self.new ≡ with_amount self.old label.now (amount_of self.old label.now + thousandths) }
     {
-        let Ok(at) = self.place_of_label(label, hint) else {
+        let Some(at) = self.place_if_named(label, hint) else {
             return;
         };
         let entry = &mut self.entries[at];
@@ -246,7 +250,7 @@ impl Quantities {
         ensures { self.new ≡ minus self.old other.now }
     {
         for (i, entry) in self.entries.iter_mut().enumerate() {
-            let part = other.amount_near(&entry.label, i.saturating_sub(1));
+            let part = other.amount_near(&entry.label, i);
             entry.amount = Scalar::new(entry.amount.thousandths() - part);
         }
     }
@@ -256,7 +260,7 @@ impl Quantities {
         requires { thousandths ≤ amount_of self.old label.now }
         ensures { (other : List ℕ) → amount_of self.new other + (if same_text label.now other then thousandths else 0) ≡ amount_of self.old other }
     {
-        let Ok(at) = self.place_of_label(label, 0) else {
+        let Some(at) = self.place_anywhere(label) else {
             return;
         };
         let entry = &mut self.entries[at];
@@ -296,7 +300,49 @@ impl Quantities {
         }
     }
 
-    // Where the label is, or where it would go. The hint and the next place are looked at first: to compare for equality costs little.
+    // Where the label is, if it is named. The hint is looked at first.
+    fn place_if_named(&self, label: &Label, hint: usize) -> Option<usize>
+        ensures found { IfSome result (IsAt self.now label.now) }
+        ensures none { IfNone result (is_named self.now label.now ≡ false) }
+    {
+        if self.label_is_at(label, hint) {
+            return Some(hint);
+        }
+        self.place_anywhere(label)
+    }
+
+    // Where the label is, if it is named. Few entries are looked through: to compare labels for equality costs little.
+    fn place_anywhere(&self, label: &Label) -> Option<usize>
+        ensures found { IfSome result (IsAt self.now label.now) }
+        ensures none { IfNone result (is_named self.now label.now ≡ false) }
+    {
+        if self.entries.len() > FEW {
+            return self.place_by_order(label.text()).ok();
+        }
+        self.first_place(label)
+    }
+
+    // The first place of the label, looked for from the front.
+    fn first_place(&self, label: &Label) -> Option<usize>
+        ensures { result ≡ position (λ e. same_text e.label label.now) self.now }
+    {
+        self.entries.iter().position(|entry| entry.label == *label)
+    }
+
+    // Where the label is, or where it would go. Few entries are looked through first.
+    fn place_among(&self, label: &Label) -> Result<usize, usize>
+        ensures found { IfOk result (IsAt self.now label.now) }
+        ensures absent { IfErr result (IsGapFor self.now label.now) }
+    {
+        if self.entries.len() <= FEW {
+            if let Some(at) = self.first_place(label) {
+                return Ok(at);
+            }
+        }
+        self.place_by_order(label.text())
+    }
+
+    // Where the label is, or where it would go. The hint and the next place are looked at first.
     fn place_of_label(&self, label: &Label, hint: usize) -> Result<usize, usize>
         ensures found { IfOk result (IsAt self.now label.now) }
         ensures absent { IfErr result (IsGapFor self.now label.now) }

@@ -5,3 +5,4 @@ pub mod Granted
 pub mod Turn
 pub mod Told
 pub mod Cycle
+pub mod Barred

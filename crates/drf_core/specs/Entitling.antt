@@ -1,16 +1,18 @@
 -- What a role may have of what is free in a turn, and what a client is granted of that.
-use Rattle.std.specs.Prelude.{◌≡◌, ℕ, Bool, true, not, ◌&&◌, nat_le, codes, ◌||◌, List, [], Option, Some, None, if◌then◌else◌}
+use Rattle.std.specs.Prelude.{◌≡◌, ℕ, Bool, true, not, ◌&&◌, nat_le, codes, ◌||◌, List, [], drop, take, Option, Some, None, is_none, is_some, if◌then◌else◌}
 use Rattle.std.specs.Option.{option_map_or, MatchOption}
 use Rattle.drf_role.specs.Text.{Text, same_text}
-use Rattle.drf_role.specs.Path.{Path}
+use Rattle.drf_role.specs.Path.{Path, client_path, same_path}
+use Rattle.drf_role.specs.Role.{IsRole}
 use Rattle.drf_bundle.specs.Bundle.{is_default, is_for, quantities_of}
 use Rattle.drf_bundle.specs.Quantities.{amount_of}
 use Rattle.drf_bundle.specs.declared.resource.Resource.{Resource}
 use Rattle.drf_gates.specs.Quota.{Allowance, IsAllowanceOf}
-use Rattle.drf_rows.specs.Client.{Client}
+use Rattle.drf_rows.specs.Client.{Client, path_of}
 use Rattle.drf_rows.specs.Cycle.{is_allocatable}
 use Rattle.drf_rows.specs.Quota.{entitlement, headroom_at}
 use Rattle.drf_rows.specs.declared.rows.Rows.{Rows}
+use Rattle.drf_sorter.specs.Passed.{IsPassedFront}
 use Rattle.drf_core.specs.declared.free.Free.{Free}
 
 -- limits and consumption are those of the rows; where there is no quota, no role has a limit
@@ -44,7 +46,32 @@ abbrev pub IsOffered : Option Allowance → List Resource → Path → Option (L
 IsOffered quota free role part =
     (rows : Rows) (client : Client) → IsQuotaOf rows quota → client.role ≡ role → part ≡ if_allocatable (entitlement rows free client)
 
--- it is told whether what is free is worth an offer, and if some role is told of, what it may have of that
+-- two roles have the same first part
+abbrev pub are_kin : Path → Path → Bool
+are_kin role other = same_path (take 1 role) (take 1 other)
+
+-- the resource is reserved for a role with the same first part
+abbrev pub is_reserved_near : Path → Resource → Bool
+is_reserved_near role r = not (is_default r.role) && are_kin r.role role
+
+-- in all rows with that quota, no client whose path begins with the first parts, so many, of those of the role's clients may have
+-- anything of what is free that is worth an offer
+abbrev pub IsBarred : Option Allowance → List Resource → Path → ℕ → Type 0
+IsBarred quota free role front =
+    (rows : Rows) (client : Client) (framework : Text) → IsQuotaOf rows quota → IsRole client.role
+    → take front (path_of client) ≡ take front (client_path role framework) → None ≡ if_allocatable (entitlement rows free client)
+
+-- it is known whether what is free is worth an offer; if a role is known, what it may have of that; and if that is nothing, who else may
+-- have nothing
 pub record IsKnown (quota : Option Allowance) (free : Free) : Type 0 where
   pub worth : free.is_worth ≡ is_allocatable free.bundle
   pub part : MatchOption free.role (Unit {0}) (λ role. IsOffered quota free.bundle role free.part)
+  pub front : (role : Path) → free.role ≡ Some role → free.part ≡ None → IsBarred quota free.bundle role free.front
+
+-- how many first parts a client has to share with the one that was tried to be barred with it, if that one is
+abbrev pub barred_front : Free → Option ℕ
+barred_front free = if is_none free.role || is_some free.part then None else Some free.front
+
+-- the client that was tried is passed by, and with it perhaps some right behind it that are barred too
+abbrev pub IsPassedOver : Free → List Path → List Path → Type 0
+IsPassedOver free old new = MatchOption (barred_front free) (new ≡ drop 1 old) (λ front. IsPassedFront front old new)

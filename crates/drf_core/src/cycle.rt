@@ -10,7 +10,7 @@ ghost use Rattle.drf_rows.specs.declared.event.Event.TheVariants.{Cycle};
 ghost use Rattle.drf_tables.specs.Drafts.{with_offers};
 ghost use Rattle.drf_core.specs.Content.{content_of};
 ghost use Rattle.drf_core.specs.Kept.{IsKept};
-ghost use Rattle.drf_core.specs.Entitling.{IsKnown, IsQuotaOf};
+ghost use Rattle.drf_core.specs.Entitling.{IsKnown, IsPassedOver, IsQuotaOf};
 ghost use Rattle.drf_rows.specs.declared.rows.Rows.{Rows};
 ghost use Rattle.drf_core.specs.Drafting.{IsDrafting, CanCount, IsRegisteredPath, IsFreeAt, IsTried, HasLeft, is_open_at, turn_at, turns_of};
 ghost use Rattle.drf_sorter.specs.Work.{Adds};
@@ -102,6 +102,7 @@ pub(crate) fn try_first<S: Sorter>(
     ensures free { OnOk result (IsFreeAt (with_offers tables.now.rows drafts.new.offers.items) place free.new.bundle) }
     ensures quota { OnOk result (IsQuotaOf (with_offers tables.now.rows drafts.new.offers.items) drafts.new.quota) }
     ensures known { OnOk result (IsKnown drafts.new.quota free.new) }
+    ensures role { OnOk result ((role path : Path) → free.new.role ≡ Some role → slice_get (S.queue sorter.old) 0 ≡ Some path → role ≡ role_part path) }
     ensures lefts { drafts.new.lefts.items ≡ drafts.old.lefts.items }
     ensures work { OnOk result (AddsDrafts S.COUNTED (S.work sorter.old) (S.work sorter.new) drafts.old.offers.items drafts.new.offers.items) }
     ensures made { (S.work sorter.new).made ≡ (S.work sorter.old).made }
@@ -132,7 +133,20 @@ pub(crate) fn goes_on<S: Sorter>(sorter: &S, free: &Free) -> bool
     sorter.first().is_some() && free.is_worth
 }
 
-/// The turn of an agent: each client in order is tried, until what is left is not worth an offer.
+/// Goes on past the client that was tried, and past clients right behind it that are known to have nothing to get either.
+fn pass_tried<S: Sorter>(sorter: &mut S, free: &Free)
+    ensures queue { IsPassedOver free.now (S.queue sorter.old) (S.queue sorter.new) }
+    ensures content { S.content sorter.new ≡ S.content sorter.old }
+    ensures work { S.work sorter.new ≡ S.work sorter.old }
+{
+    match free.barred_front() {
+        Some(front) => sorter.pass_front(front),
+        None => sorter.pass(),
+    }
+}
+
+/// The turn of an agent: each client in order is tried, until what is left is not worth an offer. Clients that are known to get
+/// nothing, by the one that was tried before them, are passed by untried.
 fn turn<S: Sorter>(
     tables: &Tables,
     sorter: &mut S,
@@ -159,7 +173,7 @@ fn turn<S: Sorter>(
     let mut free = Free::new(tables.free(place).copy()?);
     while goes_on(sorter, &free) {
         try_first(tables, sorter, place, &mut free, drafts)?;
-        sorter.pass();
+        pass_tried(sorter, &free);
     }
     let Free { bundle, .. } = free;
     drafts.lefts.push(Left {

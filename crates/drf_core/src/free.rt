@@ -1,5 +1,5 @@
 //! What is free on an agent in its turn, and what a client is granted of it.
-ghost use Rattle.std.specs.Prelude.{◌≡◌, Option, Some, None, IfOk, OnOk, IsTrue, MatchOption};
+ghost use Rattle.std.specs.Prelude.{◌≡◌, ◌≤◌, Option, Some, None, false, length, take, IfOk, IfSome, IsSome, OnOk, IsTrue, MatchOption};
 ghost use Rattle.std.specs.List.{list_any};
 ghost use Rattle.std.specs.Option.{option_copied};
 ghost use Rattle.drf_bundle.specs.Bundle.{rest};
@@ -8,7 +8,8 @@ ghost use Rattle.drf_rows.specs.Client.{Client, path_of};
 ghost use Rattle.drf_rows.specs.Cycle.{free_of, grant};
 ghost use Rattle.drf_rows.specs.declared.rows.AgentRow.{AgentRow};
 ghost use Rattle.drf_rows.specs.declared.rows.Rows.{Rows};
-ghost use Rattle.drf_core.specs.Entitling.{IsEntitlement, IsKnown, IsOffered, IsQuotaOf, has_at_least, if_allocatable, is_reserved_for, is_usable_by};
+ghost use Rattle.drf_role.specs.Path.{Path, role_part};
+ghost use Rattle.drf_core.specs.Entitling.{IsBarred, IsEntitlement, IsKnown, IsOffered, IsQuotaOf, are_kin, barred_front, has_at_least, if_allocatable, is_reserved_for, is_reserved_near, is_usable_by};
 
 use drf_amount::Algebra;
 use drf_bundle::{Bundle, Resource};
@@ -30,13 +31,15 @@ fn if_worth_an_offer(bundle: Bundle) -> Option<Bundle>
 }
 
 /// What is free on an agent in its turn, and whether that is worth an offer. Where a role is known, the part is what it may have
-/// of that, if it is worth an offer.
+/// of that, if it is worth an offer. If it is not, no client whose path begins with the first `front` parts of those of the role's
+/// clients may have anything that is. Where no role is known, part and front say nothing.
 #[derive(Drop)]
 pub struct Free {
     pub bundle: Bundle,
     pub is_worth: bool,
     pub role: Option<Role>,
     pub part: Option<Bundle>,
+    pub front: usize,
 }
 
 impl Free {
@@ -51,7 +54,19 @@ impl Free {
             is_worth,
             role: None,
             part: None,
+            front: 0,
         }
+    }
+
+    /// How many first parts a client has to share with the one that was tried to be sure of nothing that is worth an offer, where the
+    /// latter may have nothing.
+    pub(crate) fn barred_front(&self) -> Option<usize>
+        ensures { result ≡ barred_front self.now }
+    {
+        if self.role.is_none() || self.part.is_some() {
+            return None;
+        }
+        Some(self.front)
     }
 }
 
@@ -99,47 +114,90 @@ fn has_usable(free: &Bundle, role: &Role) -> bool
         .any(|resource| is_usable(resource, role))
 }
 
-/// Whether so much of a scalar is free, and limits leave a role so much of it.
-fn may_have(quota: &Quota, free: &Bundle, role: &Role, label: &str, least: u64) -> bool
-    ensures { (rows : Rows) → IsAllowanceOf rows quota.now → result ≡ has_at_least rows free.now role.now label.now least }
+/// Whether two roles have the same first part.
+fn are_kin(role: &Role, other: &Role) -> bool
+    ensures { result ≡ are_kin role.now other.now }
 {
-    least <= free.quantities().get(label) && quota.leaves(role, label, least)
+    role.len() > 0 && other.len() > 0 && role.part(0) == other.part(0)
 }
 
-/// Whether amounts alone tell that a role may have nothing that is worth an offer, as nothing is free for it, or limits leave it
-/// too little. It needs no memory.
-fn is_spent(quota: Option<&Quota>, free: &Bundle, role: &Role) -> bool
-    ensures { IsTrue result → IsOffered (option_copied quota.entry) free.now role.now None }
+/// Whether anything that is free is reserved for a role with the same first part.
+fn has_kin_reserved(free: &Bundle, role: &Role) -> bool
+    ensures { result ≡ list_any (is_reserved_near role.now) free.now }
+{
+    free.entries().iter().any(|resource| !resource.is_unreserved() && are_kin(&resource.role, role))
+}
+
+/// Whether anything that is free is reserved for a role or for a role above it, which can be so only where something is for a role with
+/// the same first part.
+fn has_reserved_among(kin: bool, free: &Bundle, role: &Role) -> bool
+    requires { kin ≡ list_any (is_reserved_near role.now) free.now }
+    ensures { result ≡ list_any (is_reserved_for role.now) free.now }
 {
     free.recall();
-    if !has_usable(free, role) {
-        return true;
-    }
-    let Some(quota) = quota else {
-        return false;
-    };
-    if has_reserved(free, role) {
-        return false;
-    }
-    if may_have(quota, free, role, "cpus", 10) {
-        return false;
-    }
-    !may_have(quota, free, role, "mem", 32000)
+    kin && has_reserved(free, role)
 }
 
-/// What a role may have of what is free, if that is worth an offer.
+/// If less than `least` of a scalar is free, or limits leave a role less: how many of its first parts decide that, 0 where so much is not
+/// free.
+fn short_front(quota: &Quota, free: &Bundle, role: &Role, label: &str, least: u64) -> Option<usize>
+    ensures within { IfSome result (λ len. len ≤ length role.now) }
+    ensures short { IfSome result (λ len. (rows : Rows) (other : Path) → IsAllowanceOf rows quota.now → take len other ≡ take len role.now
+        → has_at_least rows free.now other label.now least ≡ false) }
+{
+    if free.quantities().get(label) < least {
+        return Some(0);
+    }
+    quota.short_front(role, label, least)
+}
+
+/// If amounts alone tell that a role may have nothing that is worth an offer, as nothing is free for it or limits leave too little: a
+/// number of first parts, so that all clients that share as many with those of the role may have as little. It needs no memory.
+fn spent_front(quota: Option<&Quota>, free: &Bundle, role: &Role) -> Option<usize>
+    ensures offered { IsSome result → IsOffered (option_copied quota.entry) free.now role.now None }
+    ensures barred { IfSome result (IsBarred (option_copied quota.entry) free.now role.now) }
+{
+    free.recall();
+    role.recall();
+    let whole = role.len() + 1;
+    if !has_usable(free, role) {
+        return Some(whole);
+    }
+    let Some(quota) = quota else {
+        return None;
+    };
+    let kin = has_kin_reserved(free, role);
+    if has_reserved_among(kin, free, role) {
+        return None;
+    }
+    let Some(cpus) = short_front(quota, free, role, "cpus", 10) else {
+        return None;
+    };
+    let Some(mem) = short_front(quota, free, role, "mem", 32000) else {
+        return None;
+    };
+    if kin {
+        return Some(whole);
+    }
+    Some(cpus.max(mem).max(1))
+}
+
+/// What a role may have of what is free, if that is worth an offer; if not, also a number of first parts, so that no client that shares as
+/// many with those of the role may have anything that is.
 fn part_offered(
     quota: Option<&Quota>,
     free: &Bundle,
     role: &Role,
-) -> Result<Option<Bundle>, AllocError>
-    ensures { IfOk result (IsOffered (option_copied quota.entry) free.now role.now) }
+) -> Result<(Option<Bundle>, usize), AllocError>
+    ensures part { IfOk result (λ told. IsOffered (option_copied quota.entry) free.now role.now told.0) }
+    ensures front { IfOk result (λ told. told.0 ≡ None → IsBarred (option_copied quota.entry) free.now role.now told.1) }
 {
-    if is_spent(quota, free, role) {
-        return Ok(None);
+    if let Some(front) = spent_front(quota, free, role) {
+        return Ok((None, front));
     }
+    role.recall();
     let part = part_within(quota, free, role)?;
-    Ok(if_worth_an_offer(part))
+    Ok((if_worth_an_offer(part), role.len() + 1))
 }
 
 /// Whether it is known what the role may have.
@@ -156,6 +214,7 @@ fn is_known(known: &Option<Role>, role: &Role) -> bool
 fn entitle(quota: Option<&Quota>, free: &mut Free, role: &Role) -> Result<(), AllocError>
     requires { IsKnown (option_copied quota) free.old }
     ensures part { OnOk result (IsOffered (option_copied quota.entry) free.old.bundle role.now free.new.part) }
+    ensures front { OnOk result (free.new.part ≡ None → IsBarred (option_copied quota.entry) free.old.bundle role.now free.new.front) }
     ensures role { OnOk result (free.new.role ≡ Some role.now) }
     ensures bundle { free.new.bundle ≡ free.old.bundle }
     ensures worth { free.new.is_worth ≡ free.old.is_worth }
@@ -163,8 +222,11 @@ fn entitle(quota: Option<&Quota>, free: &mut Free, role: &Role) -> Result<(), Al
     if is_known(&free.role, role) {
         return Ok(());
     }
-    free.part = part_offered(quota, &free.bundle, role)?;
-    free.role = Some(role.copy()?);
+    let (part, front) = part_offered(quota, &free.bundle, role)?;
+    let role = role.copy()?;
+    free.part = part;
+    free.front = front;
+    free.role = Some(role);
     Ok(())
 }
 
@@ -184,6 +246,7 @@ pub fn grant(
     ensures left { IfOk result (λ granted. MatchOption granted (free.new.bundle ≡ free.old.bundle) (λ bundle. free.new.bundle ≡ rest free.old.bundle bundle)) }
     ensures known { IfOk result (λ granted. MatchOption granted
         (IsKnown (option_copied quota.entry) free.new) (λ _. (later : Option Allowance) → IsKnown later free.new)) }
+    ensures role { IfOk result (λ granted. MatchOption granted (free.new.role ≡ Some (role_part client.now)) (λ _. free.new.role ≡ None)) }
 {
     entitle(quota, free, client.role())?;
     let Some(part) = free.part.take() else {

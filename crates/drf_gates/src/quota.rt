@@ -1,5 +1,5 @@
 //! Quota limits, and what roles consume (Mesos: quota limits).
-ghost use Rattle.std.specs.Prelude.{◌≡◌, ◌≢◌, ◌+◌, ◌^◌, ◌<◌, ◌≤◌, [], ◌↔◌, true, nat_le, IsTrue, filter, length, take, OnOk, OnErr, IfOk, IsOk};
+ghost use Rattle.std.specs.Prelude.{◌≡◌, ◌≢◌, ◌+◌, ◌^◌, ◌<◌, ◌≤◌, [], ◌↔◌, true, nat_le, IsTrue, filter, length, take, None, false, OnOk, OnErr, IfOk, IfSome, IsOk};
 ghost use Rattle.std.specs.List.{list_all};
 ghost use Rattle.std.specs.Option.{option_copied, option_map_or};
 ghost use Rattle.drf_role.specs.Text.{Text};
@@ -240,21 +240,23 @@ impl Quota {
         limit.get(label).saturating_sub(used)
     }
 
-    /// Whether the limits of a role and of the roles above it leave so much of a scalar, as they do where none names it. The
-    /// first that leaves less tells.
-    pub fn leaves(&self, role: &Role, label: &str, least: u64) -> bool
-        ensures value { result ≡ option_map_or (nat_le least) (headroom_under self.now.limits (used_at self.now.used) role.now label.now) true }
-        ensures of_rows { (rows : Rows) → IsAllowanceOf rows self.now
-            → result ≡ option_map_or (nat_le least) (headroom_at rows role.now label.now) true }
+    /// The number of parts of the first role, from the top down to this one, whose limit leaves less of a scalar than so much, if there
+    /// is one. Limits leave as little to every role that begins with these parts.
+    pub fn short_front(&self, role: &Role, label: &str, least: u64) -> Option<usize>
+        ensures within { IfSome result (λ len. len ≤ length role.now) }
+        ensures short { IfSome result (λ len. (rows : Rows) (other : Path) → IsAllowanceOf rows self.now → take len other ≡ take len role.now
+            → option_map_or (nat_le least) (headroom_at rows other label.now) true ≡ false) }
+        ensures enough { result ≡ None → (rows : Rows) → IsAllowanceOf rows self.now
+            → option_map_or (nat_le least) (headroom_at rows role.now label.now) true ≡ true }
     {
         // The empty front is looked up too: that no limit has it, only the look-up tells.
         let fronts = role.len() + 1;
         for len in 0..fronts {
             if !self.front_leaves(role, len, label, least) {
-                return false;
+                return Some(len);
             }
         }
-        true
+        None
     }
 
     /// Whether the limit of the role's first `len` parts, if they have one, leaves so much of a scalar.

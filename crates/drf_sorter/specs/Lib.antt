@@ -1,5 +1,6 @@
 pub mod Content
 pub mod Work
+pub mod Passed
 pub mod Fractions
 pub mod Share
 pub mod Keys

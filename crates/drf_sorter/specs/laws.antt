@@ -5,3 +5,4 @@ pub mod OrderLaws
 pub mod Laws
 pub mod SortedLaws
 pub mod LineLaws
+pub mod PassedLaws

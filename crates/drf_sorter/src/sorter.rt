@@ -1,5 +1,7 @@
 ghost use Rattle.std.specs.Prelude.{◌≡◌, ◌≤◌, ◌+◌, ◌↔◌, Bool, List, false, true, length, drop, slice_get, IfOk, IfSome, IsOk, IsSome, IsTrue, OnOk, OnErr, option_copied};
-ghost use Rattle.drf_role.specs.Path.{Path};
+ghost use Rattle.std.specs.List.{AllByRecursion};
+ghost use Rattle.drf_role.specs.Path.{IsClientPath, Path};
+ghost use Rattle.drf_sorter.specs.Passed.{IsPassedFront};
 ghost use Rattle.drf_sorter.specs.Work.{Work, Adds, IsRepaired};
 ghost use Rattle.drf_sorter.specs.Content.{Content, IsSound, IsOrderOf, HasChargeAt, HoldsAt, activated, charged, discharged, empty, has_client, has_node, has_weight, refunded, with_change, with_client, with_weight, without_client};
 ghost use Rattle.drf_sorter.specs.Lines.{AreLinesOf};
@@ -107,6 +109,7 @@ pub trait Sorter: Sized + Drop {
     fn fix_order(&mut self) -> Result<(), AllocError>
         requires { IsSound (content self.old) }
         ensures order { OnOk result (IsOrderOf (content self.old) (queue self.new)) }
+        ensures right { OnOk result (AllByRecursion IsClientPath (queue self.new)) }
         ensures same { content self.new ≡ content self.old }
         ensures made { (work self.old).made ≤ (work self.new).made }
         ensures work { Adds COUNTED (work self.old) (work self.new) 0 }
@@ -121,6 +124,17 @@ pub trait Sorter: Sized + Drop {
         ensures queue { queue self.new ≡ drop 1 (queue self.old) }
         ensures content { content self.new ≡ content self.old }
         ensures work { work self.new ≡ work self.old };
+
+    /// Goes on past that client, and past as many of those right behind it that share its first `len` parts as the sorter
+    /// passes at once.
+    fn pass_front(&mut self, len: usize)
+        ensures queue { IsPassedFront len (queue self.old) (queue self.new) }
+        ensures content { content self.new ≡ content self.old }
+        ensures work { work self.new ≡ work self.old }
+    {
+        let _ = len;
+        self.pass();
+    }
 
     /// The active clients, in the order in which they are to be served.
     fn order(&mut self) -> Result<Vec<ClientPath>, AllocError>

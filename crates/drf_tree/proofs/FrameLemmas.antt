@@ -30,19 +30,22 @@ module _ (clients : List Path) (path : ℕ → Path) (family : ℕ → List ℕ)
   abbrev pub Pending : ℕ → List Frame → List Path
   Pending n frames = pending clients path family n frames
 
-  -- what is left of the last family comes first
+  -- what the later frames still have comes first
+  pub pending_apart : (front rest : List Frame) (m n : ℕ) → n ≡ length front + m
+      → Pending n (front ++ rest) ≡ Pending m rest ++ Pending n front
+  pending_apart [] rest m n deep =
+      let same : n ≡ m = omega (arith, deep) in
+      ap (λ (k : ℕ). Pending k rest) same ∙ sym (append-nil (Pending m rest))
+  pending_apart (g ∷ front) rest m zero deep = absurd (omega (arith, deep))
+  pending_apart (g ∷ front) rest m (suc n) deep =
+      let above : List Path = flat_map (Walked n) (drop g.next (family g.node)) in
+      ap (λ (ps : List Path). ps ++ above) (pending_apart front rest m n (omega (arith, deep)))
+      ∙ append_assoc (Pending m rest) (Pending n front) above
+
+  -- of the last frame that is what is left of its family
   pub pending_last : (front : List Frame) (f : Frame) (m n : ℕ) → n ≡ length front + suc m
       → Pending n (front ++ f ∷ []) ≡ flat_map (Walked m) (drop f.next (family f.node)) ++ Pending n front
-  pending_last [] f m zero deep = absurd (omega (arith, deep))
-  pending_last [] f m (suc n) deep =
-      let same : n ≡ m = omega (arith, deep) in
-      ap (λ (k : ℕ). flat_map (Walked k) (drop f.next (family f.node))) same
-      ∙ sym (append-nil (flat_map (Walked m) (drop f.next (family f.node))))
-  pending_last (g ∷ front) f m zero deep = absurd (omega (arith, deep))
-  pending_last (g ∷ front) f m (suc n) deep =
-      let above : List Path = flat_map (Walked n) (drop g.next (family g.node)) in
-      ap (λ (ps : List Path). ps ++ above) (pending_last front f m n (omega (arith, deep)))
-      ∙ append_assoc (flat_map (Walked m) (drop f.next (family f.node))) (Pending n front) above
+  pending_last front f m n deep = pending_apart front (f ∷ []) (suc m) n deep
 
 -- ---- the steps that are left
 

@@ -106,6 +106,6 @@ pub stopped : (ledger : PlainSorter) (tree : Tree) (walk : Walk) → walk.frames
     → IsKept ledger tree walk
 stopped ledger tree walk none of = record {
   of_ledger = of;
-  frames = subst (AreFrames tree.places.items) (sym none) record { few = omega arith; nodes = tt; deep = λ k frame at. absurd cc };
+  frames = subst (AreFrames tree.places.items) (sym none) record { few = omega arith; nodes = tt; deep = λ k frame at. absurd cc; nested = tt };
   settled = subst (IsSettled (plain_content ledger) tree.places.items tree.families.items) (sym none) tt;
 }

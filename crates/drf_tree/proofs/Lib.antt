@@ -15,8 +15,10 @@ pub mod SumLemmas
 pub mod ClientLemmas
 pub mod WalkBelow
 pub mod FrameLemmas
+pub mod NestedLemmas
 pub mod NodeLemmas
 pub mod StepLemmas
+pub mod PassLemmas
 pub mod WithLemmas
 pub mod RenewLemmas
 pub mod CopyLemmas

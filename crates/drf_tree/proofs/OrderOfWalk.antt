@@ -43,7 +43,7 @@ module _ (content : Content) (tree : Tree) (of : IsTreeOf content tree) (clear :
   abbrev families : List Family
   families = tree.families.items
 
-  right_paths : AllByRecursion IsClientPath (active_paths content)
+  pub right_paths : AllByRecursion IsClientPath (active_paths content)
   right_paths = kept_active IsClientPath content.clients of.paths
 
   rights : (x : ℕ) → AllByRecursion (IsRightAt (standing_in content) (path_at places x)) (children_at families x)

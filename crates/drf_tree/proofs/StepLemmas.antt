@@ -8,7 +8,7 @@ use Rattle.std.proofs.lemmas.List.{append-nil}
 use Rattle.std.proofs.lemmas.List.Sums.{sum_by-cons}
 use Rattle.std.proofs.lemmas.Option.{same_Some, slice_get_cases}
 use Rattle.drf_role.specs.Path.{Path, IsClientPath, begins_with}
-use Rattle.drf_rows.specs.laws.ListLaws.{each_append, each_parts}
+use Rattle.drf_rows.specs.laws.ListLaws.{each_append, each_from, each_parts}
 use Rattle.drf_sorter.specs.Content.{Content, active_paths, clients_under}
 use Rattle.drf_tree.specs.declared.family.Family.{Family}
 use Rattle.drf_tree.specs.declared.node.Place.{Place}
@@ -23,7 +23,9 @@ use Rattle.drf_tree.specs.Tree.{IsTreeOf}
 use Rattle.drf_tree.specs.Walk.{own, walk}
 use Rattle.drf_tree.proofs.ClientLemmas.{active_in, any_below, kept_active, node_short}
 use Rattle.drf_tree.proofs.FrameLemmas.{drop_next, drop_past, left, left_last, pending_last, size}
+use Rattle.drf_tree.proofs.NestedLemmas.{IsBelow, nested_last, nested_more, nested_parts}
 use Rattle.drf_tree.proofs.NodeLemmas.{IsMember, children_are, leaf, live_within, member, place_short}
+use Rattle.drf_tree.proofs.PathLemmas.{begins_by, begins_trans}
 use Rattle.drf_tree.proofs.WalkBelow.{own_client, own_no_client, walk_client, walk_none}
 
 -- ---- lists by place
@@ -33,9 +35,9 @@ get_front [] ys k x some = absurd cc
 get_front (y ∷ xs) ys zero x some = some
 get_front (y ∷ xs) ys (suc k) x some = get_front xs ys k x some
 
-get_last : {X : Type 0} (xs : List X) (x : X) → slice_get (xs ++ x ∷ []) (length xs) ≡ Some x
-get_last [] x = refl
-get_last (y ∷ xs) x = get_last xs x
+pub get_past : {X : Type 0} (xs ys : List X) (x : X) → slice_get (xs ++ x ∷ ys) (length xs) ≡ Some x
+get_past [] ys x = refl
+get_past (y ∷ xs) ys x = get_past xs ys x
 
 get_cases : {X : Type 0} (xs : List X) (x y : X) (k : ℕ) → slice_get (xs ++ x ∷ []) k ≡ Some y
     → (slice_get xs k ≡ Some y) ⊎ ((k ≡ length xs) × (x ≡ y))
@@ -53,24 +55,27 @@ module _ (places : List (Option Place)) where
   abbrev IsAt : Frame → Type 0
   IsAt f = is_node places f.node ≡ true
 
-  pub frames_front : (front : List Frame) (f : Frame) → AreFrames places (front ++ f ∷ []) → AreFrames places front
-  frames_front front f are = record {
-    few = omega (arith, are.few, length-append front (f ∷ []));
-    nodes = (each_parts IsAt front (f ∷ []) are.nodes).0;
-    deep = λ k g some. are.deep k g (get_front front (f ∷ []) k g some);
+  pub frames_front : (front rest : List Frame) → AreFrames places (front ++ rest) → AreFrames places front
+  frames_front front rest are = record {
+    few = omega (arith, are.few, length-append front rest);
+    nodes = (each_parts IsAt front rest are.nodes).0;
+    deep = λ k g some. are.deep k g (get_front front rest k g some);
+    nested = (nested_parts places front rest are.nested).0;
   }
 
-  -- the last frame stands at a node, as deep as the others are many
+  -- the last frame stands at a node below theirs, as deep as the others are many
   pub record IsLast (front : List Frame) (f : Frame) : Type 0 where
     pub node : is_node places f.node ≡ true
     pub deep : length (path_at places f.node) ≡ length front
     pub few : length front < most_parts
+    pub below : AllByRecursion (λ g. IsBelow places g f) front
 
   pub frames_last : (front : List Frame) (f : Frame) → AreFrames places (front ++ f ∷ []) → IsLast front f
   frames_last front f are = record {
     node = (each_parts IsAt front (f ∷ []) are.nodes).1.0;
-    deep = are.deep (length front) f (get_last front f);
+    deep = are.deep (length front) f (get_past front [] f);
     few = omega (arith, are.few, length-append front (f ∷ []));
+    below = nested_last places front f are.nested;
   }
 
   pub frames_more : (front : List Frame) (f : Frame) → AreFrames places front → IsLast front f → AreFrames places (front ++ f ∷ [])
@@ -81,13 +86,14 @@ module _ (places : List (Option Place)) where
       | inl before ↦ are.deep k g before
       | inr at ↦ ap (λ (h : Frame). length (path_at places h.node)) (sym at.1) ∙ last.deep ∙ sym at.0
     ];
+    nested = nested_more places front f are.nested last.below;
   }
 
   pub frames_onward : (front : List Frame) (f : Frame) → AreFrames places (front ++ f ∷ []) → AreFrames places (front ++ onward f ∷ [])
   frames_onward front f are =
       let last = frames_last front f are in
-      frames_more front (onward f) (frames_front front f are)
-      (record { node = last.node; deep = last.deep; few = last.few })
+      frames_more front (onward f) (frames_front front (f ∷ []) are)
+      (record { node = last.node; deep = last.deep; few = last.few; below = last.below })
 
 module _ (tree : Tree) (shape : IsShapeOf tree) where
   abbrev places : List (Option Place)
@@ -116,8 +122,18 @@ module _ (tree : Tree) (shape : IsShapeOf tree) where
       omega (arith, ap length child.path, length-append (path_at places f.node) (child.part ∷ []), last.deep) in
       let below : length (path_at places i) < most_parts =
       node_short (path_at places i) (shape.right i child.live) (no_client i child.live none) in
+      let under : begins_with (path_at places i) (path_at places f.node) ≡ true =
+      begins_by (path_at places i) (path_at places f.node) (child.part ∷ []) child.path in
       frames_more places (front ++ onward f ∷ []) (record { node = i; next = 0 }) (frames_onward places front f are)
-      (record { node = or_right (i == 0) (is_live places i) child.live; deep = omega (arith, deep, long); few = omega (arith, deep, below, long) })
+      (record {
+        node = or_right (i == 0) (is_live places i) child.live;
+        deep = omega (arith, deep, long);
+        few = omega (arith, deep, below, long);
+        below = each_append (λ g. IsBelow places g (record { node = i; next = 0 })) front (onward f ∷ [])
+            (each_from (λ g. IsBelow places g f) (λ g. IsBelow places g (record { node = i; next = 0 })) front
+            (λ g above. begins_trans (path_at places i) (path_at places f.node) (path_at places g.node) under above) last.below)
+            (under, tt);
+      })
 
   moved_on : (f : Frame) (i : ℕ) → slice_get (kin f.node) f.next ≡ Some i → (onward f).next ≡ f.next + 1
   moved_on f i some = omega (arith, place_short families f.node f.next i some)
@@ -275,30 +291,41 @@ module _ (tree : Tree) (shape : IsShapeOf tree) where
               (any_served i child.live ∙ lt-ltb 0 (active_at tree.sums.items i) active);
         }
 
+    -- that client comes first of what is left of its family
+    pub family_client : (f : Frame) (m : ℕ) (at : IsAtClient content places families f)
+        → flat_map (Walked m) (drop f.next (kin f.node))
+        ≡ path_at places at.node ∷ flat_map (Walked m) (drop (onward f).next (kin f.node))
+    family_client f m at =
+        let rest : List ℕ = drop (onward f).next (kin f.node) in
+        let client : IsClientPath (path_at places at.node) = (shape.others at.node (path_at places at.node) at.client).1 in
+        let alone : Walked m at.node ≡ path_at places at.node ∷ [] =
+        walk_client clients (path_at places) kin m at.node at.active
+        (leaf places families tree.marks.stale tree.sums.items shape at.node client) in
+        ap (flat_map (Walked m)) (rest_of f at.node at.next)
+        ∙ ap (λ (ps : List Path). ps ++ flat_map (Walked m) rest) alone
+
     pub queue_client : (front : List Frame) (f : Frame) → length front < most_parts
         → (at : IsAtClient content places families f)
         → Pending (front ++ f ∷ []) ≡ path_at places at.node ∷ Pending (front ++ onward f ∷ [])
     queue_client front f few at =
         let m : ℕ = most_parts - 1 - length front in
         let deep : most_parts ≡ length front + suc m = omega (arith, few) in
-        let rest : List ℕ = drop (onward f).next (kin f.node) in
-        let client : IsClientPath (path_at places at.node) = (shape.others at.node (path_at places at.node) at.client).1 in
-        let alone : Walked m at.node ≡ path_at places at.node ∷ [] =
-        walk_client clients (path_at places) kin m at.node at.active
-        (leaf places families tree.marks.stale tree.sums.items shape at.node client) in
         pending_at front f m deep
-        ∙ ap (λ (is : List ℕ). flat_map (Walked m) is ++ Pending front) (rest_of f at.node at.next)
-        ∙ ap (λ (ps : List Path). (ps ++ flat_map (Walked m) rest) ++ Pending front) alone
+        ∙ ap (λ (ps : List Path). ps ++ Pending front) (family_client f m at)
         ∙ ap (λ (ps : List Path). path_at places at.node ∷ ps) (sym (pending_at front (onward f) m deep))
 
 -- ---- the last frame
 
 module _ (content : Content) (places : List (Option Place)) (families : List Family) where
+  pub settled_past : (front : List Frame) (f : Frame) (rest : List Frame) → IsSettled content places families (front ++ f ∷ rest)
+      → IsSettled content places families (f ∷ rest)
+  settled_past [] f rest settled = settled
+  settled_past (g ∷ []) f rest settled = settled
+  settled_past (g ∷ h ∷ front) f rest settled = settled_past (h ∷ front) f rest settled
+
   pub settled_last : (front : List Frame) (f : Frame) → IsSettled content places families (front ++ f ∷ [])
       → IsAtClient content places families f
-  settled_last [] f settled = settled
-  settled_last (g ∷ []) f settled = settled
-  settled_last (g ∷ h ∷ front) f settled = settled_last (h ∷ front) f settled
+  settled_last front f settled = settled_past front f [] settled
 
   pub settled_by : (front : List Frame) (f : Frame) → IsAtClient content places families f
       → IsSettled content places families (front ++ f ∷ [])
@@ -336,7 +363,7 @@ module _ (tree : Tree) (shape : IsShapeOf tree) (front : List Frame) (f : Frame)
 
   pub step_end : IsNext tree f End → IsStep tree (front ++ f ∷ []) front
   step_end none = record {
-    frames = frames_front tree.places.items front f are;
+    frames = frames_front tree.places.items front (f ∷ []) are;
     queue = λ content of. same_queue content (front ++ f ∷ []) front (queue_end tree shape content of front f few none);
     smaller = left_end tree shape front f few;
   }

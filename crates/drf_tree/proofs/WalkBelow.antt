@@ -1,8 +1,10 @@
--- What the walk comes to below one node: nobody where no client is, and one where it is a client.
+-- What the walk comes to below one node: nobody where no client is, one where it is a client, and only what begins with its path.
 use Rattle.std.specs.Prelude.{◌≡◌, ℕ, zero, suc, Bool, true, false, ◌||◌, List, [], ◌∷◌, ◌++◌, flat_map}
-use Rattle.std.specs.List.{AllByRecursion, list_any}
-use Rattle.std.proofs.Common.{◌≢◌, refl, sym, subst, ◌∙◌, inl, inr}
-use Rattle.std.proofs.lemmas.Bool.{true≢false, false≢true, cases_Bool, false_from_ne_true, or_cases, or_left, or_right}
+use Rattle.std.specs.List.{AllByRecursion, list_all, list_any}
+use Rattle.std.proofs.Common.{◌≢◌, refl, sym, ap, subst, ◌∙◌, inl, inr, append_assoc}
+use Rattle.std.proofs.lemmas.Bool.{true≢false, false≢true, and_from, cases_Bool, false_from_ne_true, or_cases, or_left, or_right}
+use Rattle.std.proofs.lemmas.List.{append-nil}
+use Rattle.std.proofs.lemmas.List.Folds.{list_all-append}
 use Rattle.drf_role.specs.Text.{Text}
 use Rattle.drf_role.specs.Path.{Path, IsClientPath, begins_with, same_path}
 use Rattle.drf_role.specs.PathLaws.{client_paths-apart, path_decides}
@@ -30,6 +32,15 @@ pub own_no_client : (clients : List Path) (path : Path) → AllByRecursion IsCli
 own_no_client clients path all other =
     own_none clients path (false_from_ne_true (list_any (same_path path) clients)
     (λ some. true≢false (other (each_any IsClientPath path clients all some))))
+
+own_passes : (clients : List Path) (t : Path → Bool) (node : Path) → t node ≡ true → list_all t (own clients node) ≡ true
+own_passes clients t node h = elim (cases_Bool (list_any (same_path node) clients)) [
+  | inl one ↦ rw one (and_from (t node) true h refl)
+  | inr none ↦ rw none refl
+]
+
+pub all_join : (t : Path → Bool) (xs ys : List Path) → list_all t xs ≡ true → list_all t ys ≡ true → list_all t (xs ++ ys) ≡ true
+all_join t xs ys one two = list_all-append t xs ys ∙ and_from (list_all t xs) (list_all t ys) one two
 
 -- who is below a client's path is that client
 itself_below : (path : Path) (ps : List Path) → IsClientPath path → AllByRecursion IsClientPath ps
@@ -81,6 +92,26 @@ module _ {X : Type 0} (IsNode : X → Type 0) (path : X → Path) (name : X → 
   walk_none zero x node none = own_of_none x none
   walk_none (suc n) x node none =
       λ i. own_of_none x none i ++ none_over n x (family x) (children x node) none (walk_none n) i
+
+  -- a test that all paths below a node pass
+  pub beneath_children : (t : Path → Bool) (n : ℕ) (x : X) (cs : List X) → AllByRecursion (IsChild IsNode path name x) cs
+      → ((below : Path) → t (path x ++ below) ≡ true)
+      → ((c : X) → IsNode c → ((below : Path) → t (path c ++ below) ≡ true) → list_all t (Walked n c) ≡ true)
+      → list_all t (flat_map (Walked n) cs) ≡ true
+  beneath_children t n x [] all h each = refl
+  beneath_children t n x (c ∷ cs) all h each =
+      all_join t (Walked n c) (flat_map (Walked n) cs)
+      (each c all.0.0 (λ below.
+      ap t (ap (λ (p : Path). p ++ below) all.0.1 ∙ append_assoc (path x) (name c ∷ []) below) ∙ h (name c ∷ below)))
+      (beneath_children t n x cs all.1 h each)
+
+  pub beneath : (t : Path → Bool) (n : ℕ) (x : X) → IsNode x → ((below : Path) → t (path x ++ below) ≡ true)
+      → list_all t (walk clients path family n x) ≡ true
+  beneath t zero x node h = own_passes clients t (path x) (subst (λ (p : Path). t p ≡ true) (append-nil (path x)) (h []))
+  beneath t (suc n) x node h =
+      all_join t (own clients (path x)) (flat_map (Walked n) (family x))
+      (own_passes clients t (path x) (subst (λ (p : Path). t p ≡ true) (append-nil (path x)) (h [])))
+      (beneath_children t n x (family x) (children x node) h (beneath t n))
 
 -- a client has no children
 pub walk_client : {X : Type 0} (clients : List Path) (path : X → Path) (family : X → List X) (n : ℕ) (x : X)

@@ -2,7 +2,7 @@
 use Rattle.std.specs.Prelude.{◌≡◌, ◌≤◌, ◌<◌, ◌+◌, ◌-◌, ◌^◌, ℕ, min, zero, suc, true, false, List, [], ◌∷◌, ◌++◌, Option, None, Some, drop, flat_map, length, slice_get}
 use Rattle.std.specs.List.{AllByRecursion}
 use Rattle.std.specs.Option.{is_some, option_map_or}
-use Rattle.drf_role.specs.Path.{Path}
+use Rattle.drf_role.specs.Path.{Path, begins_with}
 use Rattle.drf_sorter.specs.Content.{Content, active_paths}
 use Rattle.drf_tree.specs.declared.node.Place.{Place}
 use Rattle.drf_tree.specs.declared.node.Sum.{Sum}
@@ -43,11 +43,18 @@ order_in content places families = walk (active_paths content) (path_at places) 
 abbrev pub frames_queue : Content → Tree → List Frame → List Path
 frames_queue content tree frames = queue_in content tree.places.items tree.families.items frames
 
+-- the node of each frame stands below those of the frames before it
+abbrev pub AreNested : List (Option Place) → List Frame → Type 0
+AreNested places [] = Unit {0}
+AreNested places (frame ∷ frames) =
+    AllByRecursion (λ f. begins_with (path_at places f.node) (path_at places frame.node) ≡ true) frames × AreNested places frames
+
 -- frame by frame one part deeper, each at a node
 pub record AreFrames (places : List (Option Place)) (frames : List Frame) : Type 0 where
   pub few : length frames ≤ most_parts
   pub nodes : AllByRecursion (λ f. is_node places f.node ≡ true) frames
   pub deep : (k : ℕ) (frame : Frame) → slice_get frames k ≡ Some frame → length (path_at places frame.node) ≡ k
+  pub nested : AreNested places frames
 
 -- a frame stands at a client that is to be served
 pub record IsAtClient (content : Content) (places : List (Option Place)) (families : List Family) (frame : Frame) : Type 0 where

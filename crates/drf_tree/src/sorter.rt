@@ -156,6 +156,10 @@ impl Sorter for TreeSorter {
         self.walk.pass(&self.tree);
     }
 
+    fn pass_front(&mut self, len: usize) {
+        self.walk.pass_front(&self.tree, len);
+    }
+
     fn keys_made(&self) -> u64 {
         self.tree.keys_made()
     }

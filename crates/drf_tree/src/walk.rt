@@ -3,6 +3,7 @@ ghost use Rattle.std.specs.Prelude.{◌≡◌, ◌<◌, ◌≤◌, ◌+◌, ◌+
 ghost use Rattle.std.specs.Option.{is_some};
 ghost use Rattle.std.specs.Vec.{vec_capacity};
 ghost use Rattle.drf_sorter.specs.Content.{Content};
+ghost use Rattle.drf_sorter.specs.Passed.{IsPassedFront};
 ghost use Rattle.drf_tree.specs.Changes.{IsShapeOf};
 ghost use Rattle.drf_tree.specs.Nodes.{client_at, is_node};
 ghost use Rattle.drf_tree.specs.Queue.{AreFrames, IsNext, IsSettled, frames_queue, onward, order_in};
@@ -108,6 +109,22 @@ impl Walk {
             self.push(frame.onward());
         }
         self.settle(tree);
+    }
+
+    /// Goes on past the client that is next and all others that stand at or below the same node of so many parts.
+    pub(crate) fn pass_front(&mut self, tree: &Tree, len: usize)
+        requires shape { IsShapeOf tree.now }
+        requires frames { AreFrames tree.now.places.items self.old.frames.items }
+        ensures frames { AreFrames tree.now.places.items self.new.frames.items }
+        ensures settled { (content : Content) → IsTreeOf content tree.now → IsSettled content tree.now.places.items tree.now.families.items self.new.frames.items }
+        ensures queue { (content : Content) → IsTreeOf content tree.now → IsSettled content tree.now.places.items tree.now.families.items self.old.frames.items → IsPassedFront len (frames_queue content tree.now self.old.frames.items) (frames_queue content tree.now self.new.frames.items) }
+    {
+        if len < self.frames.len() {
+            self.frames.truncate(len);
+            self.settle(tree);
+        } else {
+            self.pass(tree);
+        }
     }
 
     /// Goes down and on until a client is next.

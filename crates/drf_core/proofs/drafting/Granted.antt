@@ -108,20 +108,19 @@ below rows free client label least right unreserved little =
     by None n m x is le little = grind (arith, nat_tests)
     by (Some r) n m x is le little = let less : x ≤ r = omega (arith, is) in let few : x ≤ n = omega (arith, is) in grind (arith, nat_tests)
 
-pub spent : (a : Allowance) (free : List Resource) (role : Path) (cpus mem : Bool) → IsBundle free
-    → list_any (is_reserved_for role) free ≡ false
-    → ((rows : Rows) → IsAllowanceOf rows a → cpus ≡ has_at_least rows free role (codes "cpus") 10) → cpus ≡ false
-    → ((rows : Rows) → IsAllowanceOf rows a → mem ≡ has_at_least rows free role (codes "mem") 32000) → mem ≡ false
+pub spent : (a : Allowance) (free : List Resource) (role : Path) → IsBundle free → list_any (is_reserved_for role) free ≡ false
+    → ((rows : Rows) → IsAllowanceOf rows a → has_at_least rows free role (codes "cpus") 10 ≡ false)
+    → ((rows : Rows) → IsAllowanceOf rows a → has_at_least rows free role (codes "mem") 32000 ≡ false)
     → IsOffered (Some a) free role None
-spent a free role cpus mem right none cpus_is few mem_is little rows client counted same =
+spent a free role right none few little rows client counted same =
     let whole : List Resource = entitlement rows free client in
     let unreserved : is_unreserved whole ≡ true =
     unreserved-clipped (headroom rows client.role) (part_for client.role free)
     (ap (λ (r : Path). is_unreserved (part_for r free)) same ∙ none_reserved role free none) in
     let few_cpus = below rows free client (codes "cpus") 10 right unreserved
-    (ap (λ (r : Path). has_at_least rows free r (codes "cpus") 10) same ∙ sym (cpus_is rows counted) ∙ few) in
+    (ap (λ (r : Path). has_at_least rows free r (codes "cpus") 10) same ∙ few rows counted) in
     let little_mem = below rows free client (codes "mem") 32000 right unreserved
-    (ap (λ (r : Path). has_at_least rows free r (codes "mem") 32000) same ∙ sym (mem_is rows counted) ∙ little) in
+    (ap (λ (r : Path). has_at_least rows free r (codes "mem") 32000) same ∙ little rows counted) in
     let worthless : is_allocatable whole ≡ false = grind (arith, nat_tests) in
     sym (ap (λ b. cond b (Some whole) None) worthless)
 
@@ -186,15 +185,21 @@ allocatable-none : (whole : List Resource) (b : Bool) → None ≡ cond b (Some 
 allocatable-none whole true same = absurd (let e : None ≡ Some whole = same in cc)
 allocatable-none whole false same = refl
 
+-- a client that may have nothing that is worth an offer is granted nothing
+pub nothing_granted : (rows : Rows) (agent : AgentRow) (client : Client) (free : List Resource) → free ≡ free_of rows agent
+    → None ≡ if_allocatable (entitlement rows free client) → None ≡ grant rows agent client
+nothing_granted rows agent client free is_free nothing =
+    let whole : List Resource = entitlement rows (free_of rows agent) client in
+    let little : is_allocatable whole ≡ false = allocatable-none whole (is_allocatable whole)
+    (nothing ∙ ap (λ (f : List Resource). if_allocatable (entitlement rows f client)) is_free) in
+    sym (ap (λ (b : Bool). cond (b && not (is_held_back rows.filters rows.clock client agent.name whole)) (Some whole) None) little)
+
 module _ (path : Path) (quota : Option Allowance) (free : List Resource) where
   pub granted-none : IsOffered quota free (role_part path) None → (rows : Rows) (agent : AgentRow) (client : Client)
       → free_of rows agent ≡ free → IsQuotaOf rows quota → path ≡ path_of client → None ≡ grant rows agent client
   granted-none offered rows agent client is_free counted joined =
       let role : role_part path ≡ client.role = ap role_part joined ∙ role_part-client_path client.role client.framework in
-      let whole : List Resource = entitlement rows (free_of rows agent) client in
-      let little : is_allocatable whole ≡ false = allocatable-none whole (is_allocatable whole)
-      (offered rows client counted (sym role) ∙ ap (λ (f : List Resource). if_allocatable (entitlement rows f client)) (sym is_free)) in
-      sym (ap (λ (b : Bool). cond (b && not (is_held_back rows.filters rows.clock client agent.name whole)) (Some whole) None) little)
+      nothing_granted rows agent client free (sym is_free) (offered rows client counted (sym role))
 
   pub granted-is : (filters : List FilterRow) (clock : ℕ) (name : Text) (part : List Resource) (b : Bool) (granted : Option (List Resource)) → IsOffered quota free (role_part path) (Some part)
       → b ≡ is_held_back filters clock (record { role = role_part path; framework = framework_part path }) name part

@@ -1,7 +1,7 @@
 use Rattle.std.proofs.Common.{Option, Some, None, sym, subst, ◌≡◌, ◌+◌, ◌<◌, ◌^◌, ◌∷◌, ◌++◌, [], List, length, ap, ◌∙◌, arith}
 use Rattle.std.specs.Prelude.{slice_get}
 use Rattle.std.specs.Option.{MatchOption, option_copied}
-use Rattle.drf_role.specs.Path.{Path}
+use Rattle.drf_role.specs.Path.{Path, role_part}
 use Rattle.drf_bundle.specs.Bundle.{rest, quantities_of}
 use Rattle.drf_gates.specs.Quota.{Allowance}
 use Rattle.drf_rows.specs.Client.{path_of}
@@ -134,7 +134,27 @@ returns-in_default-granted-clause-free g c =
     subst (λ o. MatchOption o (c.grant.new.free.bundle ≡ c.args.free.now.bundle) (λ bundle. c.grant.new.free.bundle ≡ rest c.args.free.now.bundle bundle)) c.in_default-granted.is c.in_ok-granted.ensures.left in
     rw kept c.requires.free
 
+-- what is known is of the role of the client that was tried
+pub returns-clause-role : goal.returns-clause-role
+returns-clause-role g c = λ role path told first.
+    let none : c.grant.new.free.role ≡ None =
+    subst (λ o. MatchOption o (c.grant.new.free.role ≡ Some (role_part c.in-Some.client.now)) (λ _. c.grant.new.free.role ≡ None)) c.in-Some-granted.is c.in_ok-granted.ensures.role in
+    absurd cc
+
+pub returns-in_default-granted-clause-role : goal.returns-in_default-granted-clause-role
+returns-in_default-granted-clause-role g c = λ role path told first.
+    let same : c.in-Some.client.now ≡ path = let e : Some c.in-Some.client.now ≡ Some path = (rw c.in-Some.is at c.first.ensures) ∙ first in cc in
+    let kept : c.grant.new.free.role ≡ Some (role_part c.in-Some.client.now) =
+    subst (λ o. MatchOption o (c.grant.new.free.role ≡ Some (role_part c.in-Some.client.now)) (λ _. c.grant.new.free.role ≡ None)) c.in_default-granted.is c.in_ok-granted.ensures.role in
+    let here : Some role ≡ Some (role_part path) = sym told ∙ kept ∙ ap (λ (p : Path). Some (role_part p)) same in
+    cc
+
 -- no client is left
+pub returns-in_default-clause-role : goal.returns-in_default-clause-role
+returns-in_default-clause-role g c = λ role path told first.
+    let nothing : None ≡ Some path = (rw c.in_default.is at c.first.ensures) ∙ first in
+    absurd cc
+
 pub returns-in_default-clause-tried : goal.returns-in_default-clause-tried
 returns-in_default-clause-tried g c = λ path first.
     let nothing : None ≡ Some path = (rw c.in_default.is at c.first.ensures) ∙ first in

@@ -1,5 +1,5 @@
-use Rattle.std.proofs.Common.{◌≡◌, true, false, ◌∷◌, ◌++◌, [], Some, length, map, drop, refl, sym, ap, subst, ◌∙◌, arith}
-use Rattle.std.specs.Prelude.{slice_get, is_some, ◌&&◌}
+use Rattle.std.proofs.Common.{◌≡◌, false, ◌∷◌, ◌++◌, [], Some, map, drop, refl, sym, ap, subst, ◌∙◌, arith}
+use Rattle.std.specs.Prelude.{slice_get}
 use Rattle.drf_rows.specs.Cycle.{all_tried, free_of, is_allocatable, turn_order}
 use Rattle.drf_rows.specs.Consistent.{are_distinct}
 use Rattle.drf_rows.specs.declared.rows.AgentRow.{AgentRow}
@@ -8,10 +8,13 @@ use Rattle.drf_sorter.specs.Content.{Content}
 use Rattle.drf_sorter.specs.Work.{Work, debt}
 use Rattle.drf_tables.specs.Drafts.{with_offers}
 use Rattle.drf_tables.specs.DraftLaws.{agents-with_offers}
+use Rattle.drf_role.specs.Path.{Path}
 use Rattle.drf_core.specs.Drafting.{IsDrafting}
-use Rattle.drf_core.proofs.drafting.Turn.{turn_at-closed, turn_at-open, is_open_at-before, HasLeft-closed, HasLeft-turn, free-before, element_at, sound_now, waiting-begins, waiting-first, waiting-passed, waiting-over, first_of_queue, queue_falls}
+use Rattle.drf_core.specs.Entitling.{IsPassedOver}
+use Rattle.drf_core.proofs.drafting.Turn.{turn_at-closed, turn_at-open, is_open_at-before, HasLeft-closed, HasLeft-turn, free-before, element_at, sound_now, waiting-begins, waiting-first, waiting-passed, waiting-over, first_of_queue}
+use Rattle.drf_core.proofs.drafting.Barred.{passed_falls, right_left, waiting-left}
 use Rattle.drf_core.proofs.cycle.turn.Given as given
-use Rattle.drf_core.proofs.cycle.turn.Goals.{After-goes_on}
+use Rattle.drf_core.proofs.cycle.turn.Goals.{After-goes_on, After-pass_tried}
 use Rattle.drf_core.proofs.cycle.turn.Goals as goal
 
 -- an agent with too little free, or that is not active
@@ -39,6 +42,7 @@ loop-sorter-init g c =
     record {
       drafting = subst (λ (k : Content). IsDrafting k rows offers) (sym c.fix_order.ensures.same) c.requires.drafting;
       waiting = waiting-begins content rows offers c.requires.drafting c.args.place (g.S.Sorter.queue c.fix_order.new.self) c.in_ok-fix_order.ensures.order;
+      right = c.in_ok-fix_order.ensures.right;
       free = record {
         agent = agent.0;
         at = ap (λ as'. slice_get as' c.args.place) (agents-with_offers rows offers) ∙ agent.1;
@@ -60,32 +64,46 @@ try_first-requires-clause-client g c =
     let rows : Rows = c.args.tables.now.rows in
     waiting-first rows c.args.place (with_offers rows c.args.drafts.now.offers.items) (with_offers rows c.loop-sorter.drafts.offers.items) (g.S.Sorter.queue c.loop-sorter.sorter) c.loop-sorter.invariant.waiting
 
+-- who is passed by, of those that wait
+over_at : (g : given.Over) (c : After-pass_tried g) → IsPassedOver c.try_first.new.free (g.S.Sorter.queue c.loop-sorter.sorter) (g.S.Sorter.queue c.pass_tried.new.sorter)
+over_at g c =
+    subst (λ paths. IsPassedOver c.try_first.new.free paths (g.S.Sorter.queue c.pass_tried.new.sorter)) c.try_first.ensures.queue c.pass_tried.ensures.queue
+
+first_at : (g : given.Over) (c : After-pass_tried g) → (path : Path) × (slice_get (g.S.Sorter.queue c.loop-sorter.sorter) 0 ≡ Some path)
+first_at g c =
+    first_of_queue (g.S.Sorter.queue c.loop-sorter.sorter) (is_allocatable c.loop-sorter.free.bundle) (sym c.goes_on.ensures ∙ c.loop-sorter-test.true)
+
 pub loop-sorter-preserved : goal.loop-sorter-preserved
 loop-sorter-preserved g c =
+    let b = (goal.at.loop-sorter-preserved g c).After-pass_tried in
     let rows : Rows = c.args.tables.now.rows in
     let queue = g.S.Sorter.queue c.loop-sorter.sorter in
-    let some : (is_some (slice_get queue 0) && is_allocatable c.loop-sorter.free.bundle) ≡ true = sym c.goes_on.ensures ∙ c.loop-sorter-test.true in
-    let first = first_of_queue queue (is_allocatable c.loop-sorter.free.bundle) some in
+    let left = g.S.Sorter.queue c.pass_tried.new.sorter in
+    let start : Rows = with_offers rows c.args.drafts.now.offers.items in
+    let after : Rows = with_offers rows c.try_first.new.drafts.offers.items in
+    let first = first_at g b in
+    let tried =
+    waiting-passed rows c.args.place start (with_offers rows c.loop-sorter.drafts.offers.items) queue c.loop-sorter.invariant.waiting
+    after (drop 1 queue) first.0 (agents-with_offers rows c.loop-sorter.drafts.offers.items) first.1 (c.in_ok-try_first.ensures.tried first.0 first.1) refl in
     record {
-      drafting = subst (λ (k : Content). IsDrafting k rows c.try_first.new.drafts.offers.items) (sym c.pass.ensures.content) c.try_first.ensures.drafting;
-      waiting = waiting-passed rows c.args.place (with_offers rows c.args.drafts.now.offers.items) (with_offers rows c.loop-sorter.drafts.offers.items) queue c.loop-sorter.invariant.waiting
-          (with_offers rows c.try_first.new.drafts.offers.items) (g.S.Sorter.queue c.pass.new.self) first.0
-          (agents-with_offers rows c.loop-sorter.drafts.offers.items) first.1 (c.in_ok-try_first.ensures.tried first.0 first.1)
-          (c.pass.ensures.queue ∙ ap (λ ps. drop 1 ps) c.try_first.ensures.queue);
+      drafting = subst (λ (k : Content). IsDrafting k rows c.try_first.new.drafts.offers.items) (sym c.pass_tried.ensures.content) c.try_first.ensures.drafting;
+      waiting = waiting-left rows c.args.place start after (agents-with_offers rows c.try_first.new.drafts.offers.items) c.try_first.new.drafts.quota c.try_first.new.free
+          c.in_ok-try_first.ensures.quota c.in_ok-try_first.ensures.free c.in_ok-try_first.ensures.known queue left first.0 c.loop-sorter.invariant.right first.1
+          c.in_ok-try_first.ensures.role (over_at g b) tried;
+      right = right_left c.try_first.new.free queue left (over_at g b) c.loop-sorter.invariant.right;
       free = c.in_ok-try_first.ensures.free;
       quota = c.in_ok-try_first.ensures.quota;
       known = c.in_ok-try_first.ensures.known;
-      work = λ counted. omega (arith, c.loop-sorter.invariant.work counted, c.in_ok-try_first.ensures.work counted, ap debt c.pass.ensures.work);
+      work = λ counted. omega (arith, c.loop-sorter.invariant.work counted, c.in_ok-try_first.ensures.work counted, ap debt c.pass_tried.ensures.work);
       lefts = c.try_first.ensures.lefts ∙ c.loop-sorter.invariant.lefts;
-      made = omega (arith, c.loop-sorter.invariant.made, c.try_first.ensures.made, ap (λ (w : Work). w.made) c.pass.ensures.work);
+      made = omega (arith, c.loop-sorter.invariant.made, c.try_first.ensures.made, ap (λ (w : Work). w.made) c.pass_tried.ensures.work);
     }
 
 pub loop-sorter-smaller : goal.loop-sorter-smaller
 loop-sorter-smaller g c =
-    let queue = g.S.Sorter.queue c.loop-sorter.sorter in
-    let some : (is_some (slice_get queue 0) && is_allocatable c.loop-sorter.free.bundle) ≡ true = sym c.goes_on.ensures ∙ c.loop-sorter-test.true in
-    let left : g.S.Sorter.queue c.pass.new.self ≡ drop 1 queue = c.pass.ensures.queue ∙ ap (λ ps. drop 1 ps) c.try_first.ensures.queue in
-    omega (arith, queue_falls queue (is_allocatable c.loop-sorter.free.bundle) some, ap length left)
+    let b = (goal.at.loop-sorter-smaller g c).After-pass_tried in
+    let first = first_at g b in
+    passed_falls c.try_first.new.free (g.S.Sorter.queue c.loop-sorter.sorter) (g.S.Sorter.queue c.pass_tried.new.sorter) first.0 first.1 (over_at g b)
 
 -- every client was tried, or would be granted nothing
 turned_at : (g : given.Over) (c : After-goes_on g) → (agent : AgentRow) → slice_get c.args.tables.now.rows.agents c.args.place ≡ Some agent → c.goes_on.result ≡ false

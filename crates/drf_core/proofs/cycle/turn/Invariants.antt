@@ -1,4 +1,6 @@
 use Rattle.std.proofs.Common.{◌≡◌, ◌≤◌, length}
+use Rattle.std.specs.List.{AllByRecursion}
+use Rattle.drf_role.specs.Path.{IsClientPath}
 use Rattle.drf_tables.specs.Drafts.{with_offers}
 use Rattle.drf_core.specs.Drafting.{IsDrafting, IsFreeAt}
 use Rattle.drf_core.specs.Entitling.{IsKnown, IsQuotaOf}
@@ -12,6 +14,7 @@ invariant-loop-sorter g l = record {
   drafting : IsDrafting (g.S.Sorter.content l.sorter) l.tables.rows l.drafts.offers.items;
   waiting : AreWaiting l.tables.rows l.place (with_offers l.tables.rows l.initial.drafts.offers.items)
       (with_offers l.tables.rows l.drafts.offers.items) (g.S.Sorter.queue l.sorter);
+  right : AllByRecursion IsClientPath (g.S.Sorter.queue l.sorter);
   free : IsFreeAt (with_offers l.tables.rows l.drafts.offers.items) l.place l.free.bundle;
   quota : IsQuotaOf (with_offers l.tables.rows l.drafts.offers.items) l.drafts.quota;
   known : IsKnown l.drafts.quota l.free;

@@ -4,7 +4,7 @@ use Rattle.drf_role.specs.Path.{Path, role_part, framework_part}
 use Rattle.drf_bundle.specs.declared.resource.Resource.{Resource}
 use Rattle.drf_rows.specs.Cycle.{is_allocatable}
 use Rattle.drf_rows.specs.Filters.{is_held_back}
-use Rattle.drf_core.specs.Entitling.{IsOffered}
+use Rattle.drf_core.specs.Entitling.{IsBarred, IsOffered}
 use Rattle.drf_core.proofs.drafting.Granted.{granted-is, granted-none}
 use Rattle.drf_core.proofs.free.grant.Goals.{After-take, After-is_held_back}
 use Rattle.drf_core.proofs.free.grant.Goals as goal
@@ -19,6 +19,14 @@ offered_to : (c : After-take) (part : Option (List Resource)) → part ≡ c.ent
     → IsOffered (option_copied c.args.quota) c.args.free.now.bundle (role_part c.args.client.now) part
 offered_to c part is =
     subst (λ (r : Path). IsOffered (option_copied c.args.quota) c.args.free.now.bundle r part) c.role.ensures (offered_at c part is)
+
+-- who may have as little, if the role may have nothing
+barred_at : (c : After-take) (role : Path) → c.entitle.new.free.role ≡ Some role → c.entitle.new.free.part ≡ None
+    → IsBarred (option_copied c.args.quota) c.entitle.new.free.bundle role c.entitle.new.free.front
+barred_at c role told none =
+    let same : c.role.result.now ≡ role = let e : Some c.role.result.now ≡ Some role = sym c.in_ok-entitle.ensures.role ∙ told in cc in
+    rw (c.entitle.ensures.bundle)
+    (subst (λ (r : Path). IsBarred (option_copied c.args.quota) c.args.free.now.bundle r c.entitle.new.free.front) same (c.in_ok-entitle.ensures.front none))
 
 worth_at : (c : After-take) → c.entitle.new.free.is_worth ≡ is_allocatable c.entitle.new.free.bundle
 worth_at c = c.entitle.ensures.worth ∙ c.requires.worth ∙ ap is_allocatable (sym c.entitle.ensures.bundle)
@@ -42,6 +50,7 @@ returns-in_default-clause-known c =
     record {
       worth = worth_at b;
       part = rw (c.in_ok-entitle.ensures.role, c.entitle.ensures.bundle, c.take.ensures.after) (offered_at b None c.in_default.ensures.value);
+      front = λ role told none. barred_at b role told (sym c.in_default.ensures.value);
     }
 
 -- a filter holds it back
@@ -60,6 +69,7 @@ returns-then-is_held_back-clause-known c =
     record {
       worth = worth_at b;
       part = rw (c.in_ok-entitle.ensures.role, c.entitle.ensures.bundle) (offered_at b (Some c.in-Some.part) c.in-Some.ensures.value);
+      front = λ role told none. cc;
     }
 
 pub returns-clause-granted : goal.returns-clause-granted
@@ -72,4 +82,4 @@ returns-clause-granted c =
     (offered_to b (Some part) c.in-Some.ensures.value) (sym c.if-is_held_back.false ∙ held) refl
 
 pub returns-clause-known : goal.returns-clause-known
-returns-clause-known c = λ later. record { worth = c.is_worth_an_offer-free.ensures.value; part = tt }
+returns-clause-known c = λ later. record { worth = c.is_worth_an_offer-free.ensures.value; part = tt; front = λ role told none. cc }

@@ -1,6 +1,6 @@
 use Rattle.std.proofs.Common.{◌∙◌}
-use Rattle.drf_bundle.proofs.PlaceLemmas.{named_from_search}
+use Rattle.drf_bundle.proofs.PlaceLemmas.{named_from_place}
 use Rattle.drf_bundle.proofs.quantities.Quantities.is_named_near.Goals as goal
 
 pub returns : goal.returns
-returns c = c.is_ok.ensures.value ∙ named_from_search _ _ _ c.place_of_label.ensures.found c.place_of_label.ensures.absent
+returns c = c.is_some.ensures ∙ named_from_place _ _ _ c.place_if_named.ensures.found c.place_if_named.ensures.none

@@ -1,10 +1,14 @@
 use Rattle.std.proofs.Common.{ap, subst, sym}
-use Rattle.drf_sorter.specs.Content.{IsOrderOf}
+use Rattle.std.specs.List.{AllByRecursion}
+use Rattle.std.proofs.lemmas.List.Elements.{All-from_recursion, recursion_from_All}
+use Rattle.std.proofs.lemmas.List.Sorted.{All-permutation}
+use Rattle.drf_role.specs.Path.{IsClientPath}
+use Rattle.drf_sorter.specs.Content.{IsOrderOf, active_paths}
 use Rattle.drf_sorter.specs.Plain.{plain_content}
 use Rattle.drf_sorter.specs.declared.plain.PlainSorter.{PlainSorter}
-use Rattle.drf_tree.specs.Queue.{frames_queue}
+use Rattle.drf_tree.specs.Queue.{frames_queue, order_in}
 use Rattle.drf_tree.specs.Sorter.{Sorted}
-use Rattle.drf_tree.proofs.OrderOfWalk.{order_of_walk}
+use Rattle.drf_tree.proofs.OrderOfWalk.{order_of_walk, right_paths}
 use Rattle.drf_tree.proofs.RenewLemmas.{plain_weighs}
 use Rattle.drf_tree.proofs.sorter.TreeSorterSorter.fix_order.Goals as goal
 
@@ -17,3 +21,14 @@ returns-clause-order c =
     subst (λ (l : PlainSorter). IsOrderOf (plain_content l) (frames_queue content tree c.start.new.self.frames.items))
     (ap (λ (s : Sorted). s.ledger) c.self.view_is)
     (subst (IsOrderOf content) (sym (c.start.ensures.queue content c.repair.ensures.tree)) order)
+
+pub returns-clause-right : goal.returns-clause-right
+returns-clause-right c =
+    let ledger = c.self.inside.ledger in
+    let content = plain_content ledger in
+    let tree = c.repair.new.self in
+    let paths = order_in content tree.places.items tree.families.items in
+    let order = order_of_walk content tree c.repair.ensures.tree c.repair.ensures.repaired (plain_weighs ledger) in
+    let right = right_paths content tree c.repair.ensures.tree c.repair.ensures.repaired (plain_weighs ledger) in
+    let all = All-permutation IsClientPath (active_paths content) paths order.active (All-from_recursion IsClientPath (active_paths content) right) in
+    subst (AllByRecursion IsClientPath) (sym (c.start.ensures.queue content c.repair.ensures.tree)) (recursion_from_All IsClientPath paths all)

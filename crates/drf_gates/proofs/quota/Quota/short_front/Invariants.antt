@@ -1,7 +1,7 @@
 use Rattle.std.proofs.Common.{◌≡◌, ℕ, ◌<◌, true}
 use Rattle.drf_gates.specs.Quota.{used_at}
 use Rattle.drf_gates.proofs.LeaveLemmas.{front_leaves}
-use Rattle.drf_gates.proofs.quota.Quota.leaves.Given as goal
+use Rattle.drf_gates.proofs.quota.Quota.short_front.Given as goal
 
 -- the limits of the fronts so far leave enough
 abbrev pub invariant-loop-len : goal.invariant-loop-len

@@ -1,0 +1,233 @@
+-- Which clients may have nothing, where it is known that those of a role may have nothing.
+use Rattle.std.proofs.Common.{◌≡◌, ℕ, ◌+◌, ◌<◌, ◌≤◌, zero, suc, Bool, true, false, ◌&&◌, ◌||◌, List, [], ◌∷◌, ◌++◌, Option, Some, None, length, take, drop, refl, sym, ap, subst, ◌∙◌, inl, inr, arith}
+use Rattle.std.specs.Prelude.{slice_get, All, not, cond, codes, is_none, is_some, MatchOption, ◌≢◌}
+use Rattle.std.specs.List.{list_any, AllByRecursion}
+use Rattle.std.specs.Option.{option_map_or}
+use Rattle.std.proofs.lemmas.Bool.{or_parts}
+use Rattle.std.proofs.lemmas.List.{length-append}
+use Rattle.std.proofs.lemmas.List.Elements.{All-head, All-tail}
+use Rattle.drf_role.specs.Text.{Text, same_text}
+use Rattle.drf_role.specs.Path.{Path, IsClientPath, begins_with, client_path, role_part, same_path}
+use Rattle.drf_role.specs.PathLaws.{role_part-client_path}
+use Rattle.drf_role.specs.Role.{IsComponent, IsRole}
+use Rattle.drf_bundle.specs.Bundle.{IsBundle, IsResource, is_default}
+use Rattle.drf_bundle.specs.declared.resource.Resource.{Resource}
+use Rattle.drf_gates.specs.Quota.{Allowance, IsAllowanceOf}
+use Rattle.drf_rows.specs.Cycle.{free_of, new_offer, with_offer}
+use Rattle.drf_rows.specs.declared.rows.AgentRow.{AgentRow}
+use Rattle.drf_rows.specs.declared.rows.Rows.{Rows}
+use Rattle.drf_sorter.specs.Passed.{IsPassedFront}
+use Rattle.drf_core.specs.Drafting.{IsFreeAt, IsTried}
+use Rattle.drf_core.specs.Entitling.{IsBarred, IsKnown, IsOffered, IsPassedOver, IsQuotaOf, are_kin, barred_front, has_at_least, is_reserved_for, is_reserved_near}
+use Rattle.drf_core.specs.declared.free.Free.{Free}
+use Rattle.drf_core.proofs.drafting.Granted.{nothing_granted, spent}
+use Rattle.drf_core.proofs.drafting.Turn.{AreWaiting, waiting-passed}
+
+-- ---- paths that begin alike
+
+-- no part is `.`
+abbrev NoDots : Path → Type 0
+NoDots [] = Unit {0}
+NoDots (part ∷ parts) = (part ≢ codes ".") × NoDots parts
+
+no_dots-components : (parts : Path) → All IsComponent parts → NoDots parts
+no_dots-components [] all = tt
+no_dots-components (part ∷ parts) all = ((All-head IsComponent part parts all).no_dot, no_dots-components parts (All-tail IsComponent part parts all))
+
+star_no_dot : codes "*" ≢ codes "."
+star_no_dot e = cc
+
+no_dots : (role : Path) → IsRole role → NoDots role
+no_dots role (inl default) = subst NoDots (sym default) (star_no_dot, tt)
+no_dots role (inr path) = no_dots-components role path.each
+
+has_parts : (role : Path) → IsRole role → 1 ≤ length role
+has_parts role (inl default) = omega (arith, ap (λ (r : Path). length r) default)
+has_parts role (inr path) = path.some
+
+-- the parts before the first `.` are those of the role
+roles_alike : (n : ℕ) (r s : Path) (f g : Text) → NoDots r → NoDots s → n ≤ length s → take n (client_path r f) ≡ take n (client_path s g) → take n r ≡ take n s
+roles_alike zero r s f g p q few alike = refl
+roles_alike (suc n) r [] f g p q few alike = absurd (omega (arith, few))
+roles_alike (suc n) [] (y ∷ ys) f g p q few alike = absurd (q.0 cc)
+roles_alike (suc n) (x ∷ xs) (y ∷ ys) f g p q few alike =
+    let head : x ≡ y = cc in
+    let tail = roles_alike n xs ys f g p.1 q.1 (omega (arith, few)) cc in
+    λ i. head i ∷ tail i
+
+-- where the `.` is alike too, the roles are the same
+same_role : (r s : Path) (f g : Text) → NoDots r → NoDots s → take (suc (length s)) (client_path r f) ≡ take (suc (length s)) (client_path s g) → r ≡ s
+same_role [] [] f g p q alike = refl
+same_role [] (y ∷ ys) f g p q alike = absurd (q.0 cc)
+same_role (x ∷ xs) [] f g p q alike = absurd (p.0 cc)
+same_role (x ∷ xs) (y ∷ ys) f g p q alike =
+    let head : x ≡ y = cc in
+    let tail = same_role xs ys f g p.1 q.1 cc in
+    λ i. head i ∷ tail i
+
+-- fewer parts are alike too
+shorter : (m n : ℕ) (a b : Path) → m ≤ n → take n a ≡ take n b → take m a ≡ take m b
+shorter zero n a b few alike = refl
+shorter (suc m) zero a b few alike = absurd (omega (arith, few))
+shorter (suc m) (suc n) [] [] few alike = refl
+shorter (suc m) (suc n) [] (y ∷ ys) few alike = absurd cc
+shorter (suc m) (suc n) (x ∷ xs) [] few alike = absurd cc
+shorter (suc m) (suc n) (x ∷ xs) (y ∷ ys) few alike =
+    let head : x ≡ y = cc in
+    let tail = shorter m n xs ys (omega (arith, few)) cc in
+    λ i. head i ∷ tail i
+
+-- ---- what is reserved
+
+first_false : (x : Bool) → (x && true) ≡ false → x ≡ false
+first_false true both = both
+first_false false both = refl
+
+-- what has another first part is no role that a role with that first part is within
+apart : (role other outer : Path) (n : ℕ) → 1 ≤ n → take n other ≡ take n role → 1 ≤ length outer → are_kin outer role ≡ false → begins_with other outer ≡ false
+apart role other [] n some alike one near = absurd (omega (arith, one))
+apart role [] (a ∷ outer) n some alike one near = refl
+apart role (b ∷ other) (a ∷ outer) zero some alike one near = absurd (omega (arith, some))
+apart [] (b ∷ other) (a ∷ outer) (suc n) some alike one near = absurd cc
+apart (c ∷ role) (b ∷ other) (a ∷ outer) (suc n) some alike one near =
+    let same : b ≡ c = cc in
+    let rest = same_path outer (take (length outer) other) in
+    ap (λ (t : Text). same_text a t && rest) same ∙ ap (λ (x : Bool). x && rest) (first_false (same_text a c) near)
+
+-- where nothing is reserved for a role with the same first part, nothing is for such a role
+pub none_near : (role other : Path) (n : ℕ) → 1 ≤ n → take n other ≡ take n role → (rs : List Resource) → All IsResource rs
+    → list_any (is_reserved_near role) rs ≡ false → list_any (is_reserved_for other) rs ≡ false
+none_near role other n some alike [] all none = refl
+none_near role other n some alike (r ∷ rs) all none =
+    let parts = or_parts (is_reserved_near role r) (list_any (is_reserved_near role) rs) none in
+    let its = All-head IsResource r rs all in
+    let one = by (is_default r.role) (has_parts r.role its.role) parts.0 in
+    let rest = none_near role other n some alike rs (All-tail IsResource r rs all) parts.1 in
+    λ i. one i || rest i
+  where
+    by : (d : Bool) → 1 ≤ length r.role → (not d && are_kin r.role role) ≡ false → (not d && (d || begins_with other r.role)) ≡ false
+    by true one near = refl
+    by false one near = apart role other r.role n some alike one near
+
+-- ---- who may have nothing
+
+-- the clients of a role that may have nothing
+pub barred-role : (quota : Option Allowance) (free : List Resource) (role : Path) (front : ℕ) → IsRole role → front ≡ length role + 1
+    → IsOffered quota free role None → IsBarred quota free role front
+barred-role quota free role front right is offered rows client framework counted its alike =
+    let size : front ≡ suc (length role) = omega (arith, is) in
+    offered rows client counted
+    (same_role client.role role client.framework framework (no_dots client.role its) (no_dots role right)
+    (subst (λ (n : ℕ). take n (client_path client.role client.framework) ≡ take n (client_path role framework)) size alike))
+
+-- less of a scalar is free, or left by limits, to roles with these first parts, so many
+abbrev pub IsShort : Allowance → List Resource → Path → ℕ → Text → ℕ → Type 0
+IsShort a free role len label least =
+    (rows : Rows) (other : Path) → IsAllowanceOf rows a → take len other ≡ take len role → has_at_least rows free other label least ≡ false
+
+pub short-offered : (a : Allowance) (free : List Resource) (role : Path) (cpus mem : ℕ) → IsBundle free → list_any (is_reserved_for role) free ≡ false
+    → IsShort a free role cpus (codes "cpus") 10 → IsShort a free role mem (codes "mem") 32000 → IsOffered (Some a) free role None
+short-offered a free role cpus mem bundle none short little =
+    spent a free role bundle none (λ now its. short now role its refl) (λ now its. little now role its refl)
+
+-- and those below a role above it whose limits leave too little
+pub barred-front : (a : Allowance) (free : List Resource) (role : Path) (cpus mem front : ℕ) → IsBundle free → IsRole role
+    → list_any (is_reserved_near role) free ≡ false → 1 ≤ front → cpus ≤ front → mem ≤ front → front ≤ length role
+    → IsShort a free role cpus (codes "cpus") 10 → IsShort a free role mem (codes "mem") 32000 → IsBarred (Some a) free role front
+barred-front a free role cpus mem front bundle right none some few_cpus few_mem few short little rows client framework counted its alike =
+    let same = roles_alike front client.role role client.framework framework (no_dots client.role its) (no_dots role right) few alike in
+    spent a free client.role bundle (none_near role client.role front some same free bundle.each none)
+    (λ now its'. short now client.role its' (shorter cpus front client.role role few_cpus same))
+    (λ now its'. little now client.role its' (shorter mem front client.role role few_mem same))
+    rows client counted refl
+
+-- ---- those that are passed by
+
+front_all : {X : Type 0} (P : X → Type 0) (xs ys : List X) → AllByRecursion P (xs ++ ys) → AllByRecursion P xs
+front_all P [] ys all = tt
+front_all P (x ∷ xs) ys all = (all.0, front_all P xs ys all.1)
+
+back_all : {X : Type 0} (P : X → Type 0) (xs ys : List X) → AllByRecursion P (xs ++ ys) → AllByRecursion P ys
+back_all P [] ys all = all
+back_all P (x ∷ xs) ys all = back_all P xs ys all.1
+
+-- those that are left are paths of clients too
+pub right_left : (free : Free) (queue left : List Path) → IsPassedOver free queue left → AllByRecursion IsClientPath queue → AllByRecursion IsClientPath left
+right_left free queue left over rights = by (barred_front free) over
+  where
+    dropped : (paths : List Path) → AllByRecursion IsClientPath paths → AllByRecursion IsClientPath (drop 1 paths)
+    dropped [] all = tt
+    dropped (p ∷ paths) all = all.1
+
+    by : (front : Option ℕ) → MatchOption front (left ≡ drop 1 queue) (λ n. IsPassedFront n queue left) → AllByRecursion IsClientPath left
+    by None is = subst (AllByRecursion IsClientPath) (sym is) (dropped queue rights)
+    by (Some front) past = back_all IsClientPath past.passed left (subst (AllByRecursion IsClientPath) past.split rights)
+
+module _ (rows : Rows) (place : ℕ) (start now : Rows) (agents : now.agents ≡ rows.agents) where
+  -- clients that are granted nothing need not wait
+  past_idle : (others left : List Path) → AllByRecursion (λ p. IsTried now now place p) others → AreWaiting rows place start now (others ++ left)
+      → AreWaiting rows place start now left
+  past_idle [] left idle waiting = waiting
+  past_idle (p ∷ others) left idle waiting =
+      past_idle others left idle.1
+      (waiting-passed rows place start now ((p ∷ others) ++ left) waiting now (others ++ left) p agents refl idle.0 refl)
+
+  module _ (quota : Option Allowance) (free : Free) (counted : IsQuotaOf now quota) (there : IsFreeAt now place free.bundle) where
+    -- a client is granted nothing that shares its first parts with one of a role of which that is known
+    idle_at : (role : Path) (first : Path) → IsBarred quota free.bundle role free.front → IsClientPath first → role ≡ role_part first
+        → (path : Path) → IsClientPath path → take free.front path ≡ take free.front first → IsTried now now place path
+    idle_at role first barred its is path right alike agent client at joined =
+        let here : there.agent ≡ agent = let e : Some there.agent ≡ Some agent = sym there.at ∙ at in cc in
+        let role_is : role ≡ its.role = is ∙ ap role_part its.joined ∙ role_part-client_path its.role its.framework in
+        let its_role : right.role ≡ client.role =
+        sym (role_part-client_path right.role right.framework) ∙ ap role_part (sym right.joined ∙ joined) ∙ role_part-client_path client.role client.framework in
+        let nothing = barred now client its.framework counted (subst IsRole its_role right.right_role)
+        (ap (λ (p : Path). take free.front p) (sym joined) ∙ alike
+        ∙ ap (λ (p : Path). take free.front p) (its.joined ∙ ap (λ (r : Path). client_path r its.framework) (sym role_is))) in
+        let granted = nothing_granted now agent client free.bundle (there.free ∙ ap (λ (a : AgentRow). free_of now a) here) nothing in
+        ap (λ g. option_map_or (λ b. with_offer now (new_offer now agent client b)) g now) granted
+
+    all_idle : (role : Path) (first : Path) → IsBarred quota free.bundle role free.front → IsClientPath first → role ≡ role_part first
+        → (paths : List Path) → AllByRecursion IsClientPath paths → AllByRecursion (λ p. take free.front p ≡ take free.front first) paths
+        → AllByRecursion (λ p. IsTried now now place p) paths
+    all_idle role first barred its is [] right alike = tt
+    all_idle role first barred its is (path ∷ paths) right alike =
+        (idle_at role first barred its is path right.0 alike.0, all_idle role first barred its is paths right.1 alike.1)
+
+    -- those that wait still when the client that was tried is passed by, and others with it
+    pub waiting-left : (known : IsKnown quota free) (queue left : List Path) (first : Path) → AllByRecursion IsClientPath queue → slice_get queue 0 ≡ Some first
+        → ((role path : Path) → free.role ≡ Some role → slice_get queue 0 ≡ Some path → role ≡ role_part path)
+        → IsPassedOver free queue left → AreWaiting rows place start now (drop 1 queue) → AreWaiting rows place start now left
+    waiting-left known queue left first rights at is over waiting = by free.role free.part refl refl over
+      where
+        passed : (role : Path) → free.role ≡ Some role → free.part ≡ None → (by' : IsPassedFront free.front queue left) → AreWaiting rows place start now left
+        passed role told none by' = from by'.passed by'.split (front_all IsClientPath by'.passed left (subst (AllByRecursion IsClientPath) by'.split rights)) (by'.alike first at) (by'.some first at)
+          where
+            from : (paths : List Path) → queue ≡ paths ++ left → AllByRecursion IsClientPath paths
+                → AllByRecursion (λ p. take free.front p ≡ take free.front first) paths → 0 < length paths → AreWaiting rows place start now left
+            from [] split right alike some = absurd (omega (arith, some))
+            from (path ∷ paths) split right alike some =
+                let here : Some first ≡ Some path = sym at ∙ ap (λ ps. slice_get ps 0) split in
+                let same : path ≡ first = cc in
+                past_idle paths left
+                (all_idle role first (known.front role told none) (subst IsClientPath same right.0) (is role first told at) paths right.1 alike.1)
+                (subst (λ ps. AreWaiting rows place start now ps) (ap (λ ps. drop 1 ps) split) waiting)
+
+        by : (role : Option Path) (part : Option (List Resource)) → free.role ≡ role → free.part ≡ part
+            → MatchOption (cond (is_none role || is_some part) None (Some free.front)) (left ≡ drop 1 queue) (λ front. IsPassedFront front queue left)
+            → AreWaiting rows place start now left
+        by None part told has over' = subst (λ ps. AreWaiting rows place start now ps) (sym over') waiting
+        by (Some role) (Some bundle) told has over' = subst (λ ps. AreWaiting rows place start now ps) (sym over') waiting
+        by (Some role) None told has over' = passed role told has over'
+
+-- fewer are left
+pub passed_falls : (free : Free) (queue left : List Path) (first : Path) → slice_get queue 0 ≡ Some first → IsPassedOver free queue left → length left < length queue
+passed_falls free queue left first at over = by (barred_front free) over
+  where
+    dropped : (paths : List Path) → slice_get paths 0 ≡ Some first → left ≡ drop 1 paths → length left < length paths
+    dropped [] at' is = absurd cc
+    dropped (p ∷ paths) at' is = omega (arith, ap (λ (ps : List Path). length ps) is)
+
+    by : (front : Option ℕ) → MatchOption front (left ≡ drop 1 queue) (λ n. IsPassedFront n queue left) → length left < length queue
+    by None is = dropped queue at is
+    by (Some front) past = omega (arith, past.some first at, ap (λ (ps : List Path). length ps) past.split, length-append past.passed left)

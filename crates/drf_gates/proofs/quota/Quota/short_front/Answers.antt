@@ -1,0 +1,33 @@
+use Rattle.std.proofs.Common.{◌≡◌, ℕ, ◌≤◌, length, take, ap, sym, ◌∙◌, arith, length-take-le}
+use Rattle.std.specs.List.{list_all}
+use Rattle.std.proofs.lemmas.List.{length-take}
+use Rattle.drf_role.specs.Path.{Path}
+use Rattle.drf_gates.specs.Front.{leaves_one, limits_at}
+use Rattle.drf_gates.specs.Quota.{Allowance, used_at}
+use Rattle.drf_gates.proofs.QuotaLemmas.{leaves-its}
+use Rattle.drf_gates.proofs.LeaveLemmas.{front_little, fronts_leave}
+use Rattle.drf_gates.proofs.quota.Quota.short_front.Goals as goal
+
+-- a role that begins with the same parts has as many
+as_many : (role other : Path) (len : ℕ) → len ≤ length role → take len other ≡ take len role → len ≤ length other
+as_many role other len within same =
+    let size = ap (λ (p : Path). length p) same in
+    omega (arith, size, length-take len other, length-take-le len role within)
+
+-- the limit of the front leaves as little to it
+pub returns-then-not-front_leaves-clause-short : goal.returns-then-not-front_leaves-clause-short
+returns-then-not-front_leaves-clause-short c rows other its same =
+    let a : Allowance = c.args.self.now in
+    let within : c.loop-len.len ≤ length c.args.role.now = omega (arith, c.len-fronts.ensures.len) in
+    let little = ap (λ (p : Path). list_all (leaves_one (used_at a.used) c.args.label.now c.args.least) (limits_at p a.limits)) same
+    ∙ sym c.front_leaves.ensures ∙ c.if-not-front_leaves.true in
+    sym (leaves-its rows a its other c.args.label.now c.args.least)
+    ∙ sym (front_little (used_at a.used) other c.args.label.now c.args.least a.limits c.loop-len.len
+    (as_many c.args.role.now other c.loop-len.len within same) little)
+
+pub returns-clause-enough : goal.returns-clause-enough
+returns-clause-enough c none rows its =
+    let a : Allowance = c.args.self.now in
+    sym (leaves-its rows a its c.args.role.now c.args.label.now c.args.least)
+    ∙ sym (fronts_leave (used_at a.used) c.args.role.now c.args.label.now c.args.least a.limits
+    (λ n few. c.loop-len.invariant n (omega (arith, c.len-fronts.ensures.len))))

@@ -1,0 +1,29 @@
+use Rattle.std.specs.Prelude.{drop, take}
+use Rattle.std.proofs.Common.{ap, rules, subst, sym, take-append-drop, ◌∙◌}
+use Rattle.drf_sorter.specs.Passed.{IsPassedFront}
+use Rattle.drf_sorter.specs.laws.PassedLaws.{one_is_front}
+use Rattle.drf_tree.specs.Queue.{AreFrames, frames_queue}
+use Rattle.drf_tree.proofs.PassLemmas.{passed_front}
+use Rattle.drf_tree.proofs.StepLemmas.{frames_front}
+use Rattle.drf_tree.proofs.walk.Walk.pass_front.Goals as goal
+
+pub settle-requires-clause-frames : goal.settle-requires-clause-frames
+settle-requires-clause-frames c =
+    let places = c.args.tree.now.places.items in
+    let old = c.args.self.now.frames.items in
+    subst (AreFrames places) (sym c.truncate.ensures.items)
+    (frames_front places (take c.args.len old) (drop c.args.len old)
+    (subst (AreFrames places) (sym (take-append-drop c.args.len old)) c.requires.frames))
+
+pub returns-then-len-clause-queue : goal.returns-then-len-clause-queue
+returns-then-len-clause-queue c content of settled =
+    let tree = c.args.tree.now in
+    let old = c.args.self.now.frames.items in
+    subst (IsPassedFront c.args.len (frames_queue content tree old))
+    (sym (c.settle.ensures.queue content of ∙ ap (frames_queue content tree) c.truncate.ensures.items))
+    (passed_front tree c.requires.shape content of old c.args.len (search rules) c.requires.frames settled)
+
+pub returns-else-len-clause-queue : goal.returns-else-len-clause-queue
+returns-else-len-clause-queue c content of settled =
+    let queue = frames_queue content c.args.tree.now c.args.self.now.frames.items in
+    subst (IsPassedFront c.args.len queue) (sym (c.pass.ensures.queue content of settled)) (one_is_front c.args.len queue)

@@ -1,7 +1,7 @@
 -- What a search by label finds, and what an edit at that place does.
-use Rattle.std.proofs.Common.{◌≡◌, ℕ, zero, suc, ◌+◌, ◌-◌, ◌<◌, ◌≤◌, Bool, cond, nat_lt, true, false, List, [], ◌∷◌, length, get_or, set, slice_get, Option, Some, None, IfSome, IfNone, is_some, Result, Ok, Err, IfOk, IfErr, is_ok, Equal, inl, inr, refl, sym, ap, ◌∙◌, subst, arith}
+use Rattle.std.proofs.Common.{◌≡◌, ℕ, zero, suc, ◌+◌, ◌-◌, ◌<◌, ◌≤◌, Bool, cond, nat_lt, true, false, List, [], ◌∷◌, length, get_or, set, slice_get, Option, Some, None, IfSome, IfNone, Result, Ok, Err, IfOk, IfErr, is_ok, Equal, inl, inr, refl, sym, ap, ◌∙◌, subst, arith}
 use Rattle.std.specs.Prelude.{IsTrue}
-use Rattle.std.specs.List.{insert, position, position_or_len}
+use Rattle.std.specs.List.{insert, list_any, position, position_or_len}
 use Rattle.std.specs.Result.{result_ok}
 use Rattle.std.specs.List.Sorted.{IsSearchInRange, IsBinarySearchResult, IsNonDecreasingBy}
 use Rattle.std.specs.Ordering.{nat_cmp, is_lt, ordering_index}
@@ -19,6 +19,15 @@ use Rattle.drf_bundle.specs.Quantities.{amount_of, is_named, is_in_order, with_a
 use Rattle.drf_bundle.specs.laws.QuantitiesLaws.{stands_first, amount-with}
 use Rattle.drf_bundle.specs.Places.{IsAt, IsGapFor}
 use Rattle.drf_bundle.specs.declared.quantities.Entry.{Entry}
+
+-- where no item passes a test, none has a place
+pub position-none : {X : Type 0} (p : X → Bool) (xs : List X) → None ≡ position p xs → list_any p xs ≡ false
+position-none p xs is = elim (cases_Bool (nat_lt (position_or_len p xs) (length xs))) [
+  | inl within ↦ absurd (let bad = rw within at is in cc)
+  | inr past ↦
+      let end : length xs ≤ position_or_len p xs = ltb-false _ _ past in
+      list_any_none p xs (λ k d inside. fails_before_first p xs k d (omega arith))
+]
 
 first_at : (n : List ℕ) (es : List Entry) (k : ℕ) (d : Entry) → IsTrue (stands_first n es) → k < length es → IsTrue (text_below n (get_or es k d).label)
 first_at n es k d first in_range = and_at (stands_first n) (λ f. text_below n f.label) refl (λ _ _. refl) es k d in_range first
@@ -76,7 +85,7 @@ module _ (es : List Entry) (label : List ℕ) where
   amount_at i d ordered at = found_at (λ l. amount_of l label) (λ e. same_text e.label label) (λ e. e.amount) 0 refl (λ _ _. refl) es i d at.in_range
       (λ k lt. other_before i ordered at k d lt) (test_from_same _ _ (at.has_label d))
 
-  named_at : (i : ℕ) → IsAt es label i → is_named es label ≡ true
+  pub named_at : (i : ℕ) → IsAt es label i → is_named es label ≡ true
   named_at i at = or_at (λ l. is_named l label) (λ e. same_text e.label label) refl (λ _ _. refl) es i nothing at.in_range (test_from_same _ _ (at.has_label nothing))
 
   -- no entry at all has a label that has a gap
@@ -104,22 +113,12 @@ module _ (es : List Entry) (label : List ℕ) where
   -- where no entry passes it, the label is not named
   pub named_nowhere : (r : Option ℕ) → r ≡ position (λ e. same_text e.label label) es → IfNone r (is_named es label ≡ false)
   named_nowhere (Some at) is = tt
-  named_nowhere None is = elim (cases_Bool (nat_lt (position_or_len its es) (length es))) [
-    | inl within ↦ absurd (let bad = rw within at is in cc)
-    | inr past ↦
-        let end : length es ≤ position_or_len its es = ltb-false _ _ past in
-        list_any_none its es (λ k d inside. fails_before_first its es k d (omega arith))
-  ]
+  named_nowhere None is = position-none its es is
 
   -- a search by order fails only where the label is not named
   pub unnamed_from_search : (r : Result ℕ ℕ) → IfErr r (IsGapFor es label) → IfNone (result_ok r) (is_named es label ≡ false)
   unnamed_from_search (Ok at) absent = tt
   unnamed_from_search (Err at) absent = named_in_gap at absent
-
-  -- a place is found just where the label is named
-  pub named_from_place : (r : Option ℕ) → IfSome r (IsAt es label) → IfNone r (is_named es label ≡ false) → is_some r ≡ is_named es label
-  named_from_place (Some at) found none = sym (named_at at found)
-  named_from_place None found none = sym none
 
   -- a search succeeds just where the label is named
   pub named_from_search : (r : Result ℕ ℕ) → IfOk r (IsAt es label) → IfErr r (IsGapFor es label) → is_ok r ≡ is_named es label

@@ -73,19 +73,20 @@ impl Quantities {
         }
     }
 
-    /// The thousandths of a label, 0 where it is not named: found in less time than by a text.
+    /// The thousandths of a label, 0 where it is not named.
     pub fn amount_of(&self, label: &Label) -> u64
         ensures { result ≡ amount_of self.now label.now }
     {
-        self.amount_near(label, 0)
+        self.amount_near(label, &mut 0)
     }
 
-    // The thousandths of a label that is likely to stand at that place.
-    fn amount_near(&self, label: &Label, hint: usize) -> u64
+    // The thousandths of a label that is likely to stand at that place, which becomes the one behind it.
+    fn amount_near(&self, label: &Label, place: &mut usize) -> u64
         ensures { result ≡ amount_of self.now label.now }
     {
-        match self.place_if_named(label, hint) {
+        match self.place_if_named(label, *place) {
             Some(at) => {
+                *place = at.saturating_add(1);
                 let entry = &self.entries[at];
                 entry.amount.thousandths()
             }
@@ -100,11 +101,17 @@ impl Quantities {
         self.place_of_text(label).is_ok()
     }
 
-    // Whether a label is named that is likely to stand at that place.
-    fn is_named_near(&self, label: &Label, hint: usize) -> bool
+    // Whether a label is named that is likely to stand at that place, which becomes the one behind it.
+    fn is_named_near(&self, label: &Label, place: &mut usize) -> bool
         ensures { result ≡ is_named self.now label.now }
     {
-        self.place_if_named(label, hint).is_some()
+        match self.place_if_named(label, *place) {
+            Some(at) => {
+                *place = at.saturating_add(1);
+                true
+            }
+            None => false,
+        }
     }
 
     /// The labels and their amounts, by the bytes of the labels.
@@ -198,8 +205,9 @@ impl Quantities {
     pub fn names_all(&self, other: &Quantities) -> bool
         ensures { result ≡ names_all self.now other.now }
     {
-        for (i, entry) in other.entries().iter().enumerate() {
-            if !self.is_named_near(&entry.label, i) {
+        let mut place = 0;
+        for entry in other.entries() {
+            if !self.is_named_near(&entry.label, &mut place) {
                 return false;
             }
         }
@@ -212,20 +220,22 @@ impl Quantities {
         requires fits { (label : List ℕ) → amount_of self.old label + amount_of other.now label < 2 ^ 64 }
         ensures { self.new ≡ plus self.old other.now }
     {
-        for (i, entry) in other.entries().iter().enumerate() {
-            self.raise_one(&entry.label, entry.amount.thousandths(), i);
+        let mut place = 0;
+        for entry in other.entries() {
+            self.raise_one(&entry.label, entry.amount.thousandths(), &mut place);
         }
     }
 
-    // Adds to the amount of a label that it names, which is likely to stand at that place.
-    fn raise_one(&mut self, label: &Label, thousandths: u64, hint: usize)
+    // Adds to the amount of a label that it names, which is likely to stand at that place, and that becomes the one behind it.
+    fn raise_one(&mut self, label: &Label, thousandths: u64, place: &mut usize)
         requires named { IsTrue (is_named self.old label.now) }
         requires fits { amount_of self.old label.now + thousandths < 2 ^ 64 }
         ensures { self.new ≡ with_amount self.old label.now (amount_of self.old label.now + thousandths) }
     {
-        let Some(at) = self.place_if_named(label, hint) else {
+        let Some(at) = self.place_if_named(label, *place) else {
             return;
         };
+        *place = at.saturating_add(1);
         let entry = &mut self.entries[at];
         let sum = entry.amount.thousandths() + thousandths;
         entry.amount = Scalar::new(sum);
@@ -236,8 +246,9 @@ impl Quantities {
         ensures { result ≡ length (plus self.now other.now) }
     {
         let mut count = self.entries().len() as u64;
+        let mut place = 0;
         for entry in other.entries() {
-            if !self.is_named_near(&entry.label, 0) {
+            if !self.is_named_near(&entry.label, &mut place) {
                 count += 1;
             }
         }
@@ -249,8 +260,9 @@ impl Quantities {
         requires { IsTrue (covers self.old other.now) }
         ensures { self.new ≡ minus self.old other.now }
     {
-        for (i, entry) in self.entries.iter_mut().enumerate() {
-            let part = other.amount_near(&entry.label, i);
+        let mut place = 0;
+        for entry in self.entries.iter_mut() {
+            let part = other.amount_near(&entry.label, &mut place);
             entry.amount = Scalar::new(entry.amount.thousandths() - part);
         }
     }
@@ -260,7 +272,7 @@ impl Quantities {
         requires { thousandths ≤ amount_of self.old label.now }
         ensures { (other : List ℕ) → amount_of self.new other + (if same_text label.now other then thousandths else 0) ≡ amount_of self.old other }
     {
-        let Some(at) = self.place_anywhere(label) else {
+        let Some(at) = self.place_elsewhere(label, 0) else {
             return;
         };
         let entry = &mut self.entries[at];
@@ -308,16 +320,16 @@ impl Quantities {
         if self.label_is_at(label, hint) {
             return Some(hint);
         }
-        self.place_anywhere(label)
+        self.place_elsewhere(label, hint)
     }
 
-    // Where the label is, if it is named. Few entries are looked through: to compare labels for equality costs little.
-    fn place_anywhere(&self, label: &Label) -> Option<usize>
+    // The same. Few entries are looked through, as to compare labels for equality costs little; of more, those behind the hint come first.
+    fn place_elsewhere(&self, label: &Label, hint: usize) -> Option<usize>
         ensures found { IfSome result (IsAt self.now label.now) }
         ensures none { IfNone result (is_named self.now label.now ≡ false) }
     {
         if self.entries.len() > FEW {
-            return self.place_by_order(label.text()).ok();
+            return self.place_of_label(label, hint).ok();
         }
         self.first_place(label)
     }

@@ -5,4 +5,5 @@ pub mod Granted
 pub mod Turn
 pub mod Told
 pub mod Cycle
+pub mod Near
 pub mod Barred

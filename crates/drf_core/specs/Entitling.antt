@@ -2,7 +2,7 @@
 use Rattle.std.specs.Prelude.{◌≡◌, ℕ, Bool, true, not, ◌&&◌, nat_le, codes, ◌||◌, List, [], drop, take, Option, Some, None, is_none, is_some, if◌then◌else◌}
 use Rattle.std.specs.Option.{option_map_or, MatchOption}
 use Rattle.drf_role.specs.Text.{Text, same_text}
-use Rattle.drf_role.specs.Path.{Path, client_path, same_path}
+use Rattle.drf_role.specs.Path.{Path, begins_with, client_path, same_path}
 use Rattle.drf_role.specs.Role.{IsRole}
 use Rattle.drf_bundle.specs.Bundle.{is_default, is_for, quantities_of}
 use Rattle.drf_bundle.specs.Quantities.{amount_of}
@@ -24,13 +24,25 @@ abbrev pub IsEntitlement : Option Allowance → List Resource → Path → List 
 IsEntitlement quota free role bundle =
     (rows : Rows) (client : Client) → IsQuotaOf rows quota → client.role ≡ role → bundle ≡ entitlement rows free client
 
--- the resource is reserved for the role or for a role above it
-abbrev pub is_reserved_for : Path → Resource → Bool
-is_reserved_for role r = not (is_default r.role) && is_for role r
+-- the resource is of a scalar that makes an offer worth it
+abbrev pub is_of_worth : Resource → Bool
+is_of_worth r = same_text r.label (codes "cpus") || same_text r.label (codes "mem")
 
--- the resource is of a scalar that makes an offer worth it, and the role may use it
+-- the resource is of such a scalar, and the role may use it
 abbrev pub is_usable_by : Path → Resource → Bool
-is_usable_by role r = (same_text r.label (codes "cpus") || same_text r.label (codes "mem")) && is_for role r
+is_usable_by role r = is_of_worth r && is_for role r
+
+-- the resource is of such a scalar, and reserved
+abbrev pub is_reserved : Resource → Bool
+is_reserved r = is_of_worth r && not (is_default r.role)
+
+-- it is reserved for the role or for a role above it
+abbrev pub is_reserved_for : Path → Resource → Bool
+is_reserved_for role r = is_reserved r && begins_with role r.role
+
+-- it is reserved for a role with the same first parts, so many
+abbrev pub is_reserved_near : Path → ℕ → Resource → Bool
+is_reserved_near role len r = is_reserved r && same_path (take len r.role) (take len role)
 
 -- so much of a scalar is free, and the headroom of a role, if there is one, leaves so much of it
 abbrev pub has_at_least : Rows → List Resource → Path → Text → ℕ → Bool
@@ -45,14 +57,6 @@ if_allocatable bundle = if is_allocatable bundle then Some bundle else None
 abbrev pub IsOffered : Option Allowance → List Resource → Path → Option (List Resource) → Type 0
 IsOffered quota free role part =
     (rows : Rows) (client : Client) → IsQuotaOf rows quota → client.role ≡ role → part ≡ if_allocatable (entitlement rows free client)
-
--- two roles have the same first part
-abbrev pub are_kin : Path → Path → Bool
-are_kin role other = same_path (take 1 role) (take 1 other)
-
--- the resource is reserved for a role with the same first part
-abbrev pub is_reserved_near : Path → Resource → Bool
-is_reserved_near role r = not (is_default r.role) && are_kin r.role role
 
 -- in all rows with that quota, no client whose path begins with the first parts, so many, of those of the role's clients may have
 -- anything of what is free that is worth an offer

@@ -1,5 +1,5 @@
 //! What is free on an agent in its turn, and what a client is granted of it.
-ghost use Rattle.std.specs.Prelude.{◌≡◌, ◌≤◌, Option, Some, None, false, length, take, IfOk, IfSome, IsSome, OnOk, IsTrue, MatchOption};
+ghost use Rattle.std.specs.Prelude.{◌≡◌, ◌+◌, ◌≤◌, Option, Some, None, false, true, length, take, IfOk, IfSome, IsSome, OnOk, IsTrue, MatchOption};
 ghost use Rattle.std.specs.List.{list_any};
 ghost use Rattle.std.specs.Option.{option_copied};
 ghost use Rattle.drf_bundle.specs.Bundle.{rest};
@@ -8,8 +8,8 @@ ghost use Rattle.drf_rows.specs.Client.{Client, path_of};
 ghost use Rattle.drf_rows.specs.Cycle.{free_of, grant};
 ghost use Rattle.drf_rows.specs.declared.rows.AgentRow.{AgentRow};
 ghost use Rattle.drf_rows.specs.declared.rows.Rows.{Rows};
-ghost use Rattle.drf_role.specs.Path.{Path, role_part};
-ghost use Rattle.drf_core.specs.Entitling.{IsBarred, IsEntitlement, IsKnown, IsOffered, IsQuotaOf, are_kin, barred_front, has_at_least, if_allocatable, is_reserved_for, is_reserved_near, is_usable_by};
+ghost use Rattle.drf_role.specs.Path.{Path, begins_with, role_part, same_path};
+ghost use Rattle.drf_core.specs.Entitling.{IsBarred, IsEntitlement, IsKnown, IsOffered, IsQuotaOf, barred_front, has_at_least, if_allocatable, is_of_worth, is_reserved_for, is_reserved_near, is_usable_by};
 
 use drf_amount::Algebra;
 use drf_bundle::{Bundle, Resource};
@@ -90,19 +90,19 @@ pub(crate) fn part_within(
     part.clip(&headroom)
 }
 
-/// Whether anything that is free is reserved for a role or for a role above it.
-fn has_reserved(free: &Bundle, role: &Role) -> bool
-    ensures { result ≡ list_any (is_reserved_for role.now) free.now }
+/// Whether a resource is of a scalar that makes an offer worth it.
+fn is_of_worth(resource: &Resource) -> bool
+    ensures { result ≡ is_of_worth resource.now }
 {
-    free.entries().iter().any(|resource| !resource.is_unreserved() && resource.is_for(role))
+    let label = resource.label.text();
+    label == "cpus" || label == "mem"
 }
 
-/// Whether a resource makes an offer worth it, and a role may use it.
+/// Whether it is, and a role may use it.
 fn is_usable(resource: &Resource, role: &Role) -> bool
     ensures { result ≡ is_usable_by role.now resource.now }
 {
-    let label = resource.label.text();
-    (label == "cpus" || label == "mem") && resource.is_for(role)
+    is_of_worth(resource) && resource.is_for(role)
 }
 
 /// Whether a role may use anything of what is free that makes an offer worth it.
@@ -114,28 +114,60 @@ fn has_usable(free: &Bundle, role: &Role) -> bool
         .any(|resource| is_usable(resource, role))
 }
 
-/// Whether two roles have the same first part.
-fn are_kin(role: &Role, other: &Role) -> bool
-    ensures { result ≡ are_kin role.now other.now }
+/// A number of first parts in which two roles differ, if the first is neither the second nor a role above it.
+fn parted_front(outer: &Role, role: &Role) -> Option<usize>
+    ensures within { IfSome result (λ len. len ≤ length role.now + 1) }
+    ensures parted { IfSome result (λ len. same_path (take len outer.now) (take len role.now) ≡ false) }
+    ensures some { IfSome result (λ _. begins_with role.now outer.now ≡ false) }
+    ensures none { result ≡ None → begins_with role.now outer.now ≡ true }
 {
-    role.len() > 0 && other.len() > 0 && role.part(0) == other.part(0)
+    for i in 0..outer.len() {
+        if i >= role.len() || outer.part(i) != role.part(i) {
+            return Some(i + 1);
+        }
+    }
+    None
 }
 
-/// Whether anything that is free is reserved for a role with the same first part.
-fn has_kin_reserved(free: &Bundle, role: &Role) -> bool
-    ensures { result ≡ list_any (is_reserved_near role.now) free.now }
+/// The front, or a greater one, so that the resource is reserved for no role that has as many first parts in common with this one; none, if
+/// it is reserved for this role or for a role above it. Only what makes an offer worth it counts.
+fn raised_front(front: usize, resource: &Resource, role: &Role) -> Option<usize>
+    ensures no_less { IfSome result (λ len. front ≤ len) }
+    ensures within { IfSome result (λ len. front ≤ length role.now + 1 → len ≤ length role.now + 1) }
+    ensures none { IfSome result (λ _. is_reserved_for role.now resource.now ≡ false) }
+    ensures near { IfSome result (λ len. is_reserved_near role.now len resource.now ≡ false) }
+    ensures some { result ≡ None → is_reserved_for role.now resource.now ≡ true }
 {
-    free.entries().iter().any(|resource| !resource.is_unreserved() && are_kin(&resource.role, role))
+    if resource.is_unreserved() {
+        return Some(front);
+    }
+    let parted = parted_front(&resource.role, role);
+    // Few labels are looked at: roles side by side differ in as many parts.
+    if let Some(len) = parted {
+        if len <= front {
+            return Some(front);
+        }
+    }
+    if is_of_worth(resource) {
+        parted
+    } else {
+        Some(front)
+    }
 }
 
-/// Whether anything that is free is reserved for a role or for a role above it, which can be so only where something is for a role with
-/// the same first part.
-fn has_reserved_among(kin: bool, free: &Bundle, role: &Role) -> bool
-    requires { kin ≡ list_any (is_reserved_near role.now) free.now }
-    ensures { result ≡ list_any (is_reserved_for role.now) free.now }
+/// If nothing that makes an offer worth it is reserved for a role or for a role above it: a number of first parts, so that it is for no
+/// role either that has as many in common with this one.
+fn reserved_front(free: &Bundle, role: &Role) -> Option<usize>
+    ensures within { IfSome result (λ len. len ≤ length role.now + 1) }
+    ensures none { IfSome result (λ _. list_any (is_reserved_for role.now) free.now ≡ false) }
+    ensures near { IfSome result (λ len. list_any (is_reserved_near role.now len) free.now ≡ false) }
+    ensures some { result ≡ None → list_any (is_reserved_for role.now) free.now ≡ true }
 {
-    free.recall();
-    kin && has_reserved(free, role)
+    let mut front = 0;
+    for resource in free.entries() {
+        front = raised_front(front, resource, role)?;
+    }
+    Some(front)
 }
 
 /// If less than `least` of a scalar is free, or limits leave a role less: how many of its first parts decide that, 0 where so much is not
@@ -144,6 +176,7 @@ fn short_front(quota: &Quota, free: &Bundle, role: &Role, label: &str, least: u6
     ensures within { IfSome result (λ len. len ≤ length role.now) }
     ensures short { IfSome result (λ len. (rows : Rows) (other : Path) → IsAllowanceOf rows quota.now → take len other ≡ take len role.now
         → has_at_least rows free.now other label.now least ≡ false) }
+    ensures enough { result ≡ None → (rows : Rows) → IsAllowanceOf rows quota.now → has_at_least rows free.now role.now label.now least ≡ true }
 {
     if free.quantities().get(label) < least {
         return Some(0);
@@ -159,27 +192,14 @@ fn spent_front(quota: Option<&Quota>, free: &Bundle, role: &Role) -> Option<usiz
 {
     free.recall();
     role.recall();
-    let whole = role.len() + 1;
     if !has_usable(free, role) {
-        return Some(whole);
+        return Some(role.len() + 1);
     }
-    let Some(quota) = quota else {
-        return None;
-    };
-    let kin = has_kin_reserved(free, role);
-    if has_reserved_among(kin, free, role) {
-        return None;
-    }
-    let Some(cpus) = short_front(quota, free, role, "cpus", 10) else {
-        return None;
-    };
-    let Some(mem) = short_front(quota, free, role, "mem", 32000) else {
-        return None;
-    };
-    if kin {
-        return Some(whole);
-    }
-    Some(cpus.max(mem).max(1))
+    let quota = quota?;
+    let cpus = short_front(quota, free, role, "cpus", 10)?;
+    let mem = short_front(quota, free, role, "mem", 32000)?;
+    let reserved = reserved_front(free, role)?;
+    Some(cpus.max(mem).max(reserved))
 }
 
 /// What a role may have of what is free, if that is worth an offer; if not, also a number of first parts, so that no client that shares as

@@ -1,8 +1,7 @@
--- Limits leave so much just where those at the fronts of a role do.
-use Rattle.std.proofs.Common.{◌≡◌, ℕ, ◌+◌, ◌<◌, ◌≤◌, Bool, true, false, not, ◌&&◌, ◌||◌, cond, nat_le, List, [], ◌∷◌, length, take, refl, sym, ap, ◌∙◌, inl, inr, arith, length-take-le}
+-- The limits that bind a role pass a test just where those at its fronts do.
+use Rattle.std.proofs.Common.{◌≡◌, ℕ, ◌+◌, ◌<◌, ◌≤◌, Bool, true, false, not, ◌&&◌, ◌||◌, cond, nat_le, List, [], ◌∷◌, filter, length, take, refl, sym, ap, ◌∙◌, inl, inr, arith, length-take-le}
 use Rattle.std.specs.List.{list_all}
-use Rattle.std.proofs.lemmas.Bool.{cases_Bool, and_parts, leb-true}
-use Rattle.std.proofs.lemmas.Bool.Decides.{nat_tests}
+use Rattle.std.proofs.lemmas.Bool.{cases_Bool, and_parts}
 use Rattle.std.proofs.lemmas.List.{length-take}
 use Rattle.drf_role.specs.Text.{Text}
 use Rattle.drf_role.specs.Path.{Path, same_path}
@@ -10,8 +9,8 @@ use Rattle.drf_role.specs.PathLaws.{same_path-true, same_path-swap, same_path_it
 use Rattle.drf_bundle.specs.Quantities.{is_named}
 use Rattle.drf_rows.specs.Quota.{Consumed, is_within, binds, room_under}
 use Rattle.drf_rows.specs.declared.rows.LimitRow.{LimitRow}
-use Rattle.drf_gates.specs.Front.{limits_at, leaves_one}
-use Rattle.drf_gates.proofs.QuotaLemmas.{leaves_from, leaves_past, leaves_both, leaves_here, little_here}
+use Rattle.drf_gates.specs.Front.{front_leaves, front_passes, limits_at, passes_one}
+use Rattle.drf_gates.proofs.QuotaLemmas.{leaves_both, leaves_from, leaves_past}
 
 -- ---- the outer roles are the fronts
 
@@ -31,85 +30,106 @@ front_within outer role n few same =
     let size : length outer ≡ n = sym (ap (λ (p : Path). length p) its) ∙ length-take-le n role few in
     (λ i. same_path (sym its i) (take (size i) role)) ∙ same_path_itself (take n role)
 
-module _ (consumed : Consumed) (role : Path) (label : Text) (least : ℕ) where
-  -- whether the limit of a front leaves so much
-  abbrev pub front_leaves : ℕ → List LimitRow → Bool
-  front_leaves n ls = list_all (leaves_one consumed label least) (limits_at (take n role) ls)
+module _ (test : LimitRow → Bool) (role : Path) (label : Text) where
+  -- whether the limits that bind the role pass the test
+  abbrev pub all_pass : List LimitRow → Bool
+  all_pass ls = list_all test (filter (binds role label) ls)
 
-  rest_leaves : (n : ℕ) (l : LimitRow) (ls : List LimitRow) → front_leaves n (l ∷ ls) ≡ true → front_leaves n ls ≡ true
-  rest_leaves n l ls all = by (same_path (take n role) l.role) all
+  pass_past : (l : LimitRow) (ls : List LimitRow) → binds role label l ≡ false → all_pass ls ≡ all_pass (l ∷ ls)
+  pass_past l ls past = ap (λ (b : Bool). list_all test (cond b (l ∷ filter (binds role label) ls) (filter (binds role label) ls))) (sym past)
+
+  pass_both : (l : LimitRow) (ls : List LimitRow) → binds role label l ≡ true → (test l && all_pass ls) ≡ all_pass (l ∷ ls)
+  pass_both l ls here = ap (λ (b : Bool). list_all test (cond b (l ∷ filter (binds role label) ls) (filter (binds role label) ls))) (sym here)
+
+  rest_passes : (n : ℕ) (l : LimitRow) (ls : List LimitRow) → front_passes test role label n (l ∷ ls) ≡ true → front_passes test role label n ls ≡ true
+  rest_passes n l ls all = by (same_path (take n role) l.role) all
     where
-      by : (b : Bool) → list_all (leaves_one consumed label least) (cond b (l ∷ limits_at (take n role) ls) (limits_at (take n role) ls)) ≡ true
-          → front_leaves n ls ≡ true
-      by true both = (and_parts (leaves_one consumed label least l) (front_leaves n ls) both).1
+      by : (b : Bool) → list_all (passes_one test label) (cond b (l ∷ limits_at (take n role) ls) (limits_at (take n role) ls)) ≡ true
+          → front_passes test role label n ls ≡ true
+      by true both = (and_parts (passes_one test label l) (front_passes test role label n ls) both).1
       by false rest = rest
 
-  first_leaves : (n : ℕ) (l : LimitRow) (ls : List LimitRow) → front_leaves n (l ∷ ls) ≡ true → same_path (take n role) l.role ≡ true
-      → leaves_one consumed label least l ≡ true
-  first_leaves n l ls all here = by (same_path (take n role) l.role) here all
+  first_passes : (n : ℕ) (l : LimitRow) (ls : List LimitRow) → front_passes test role label n (l ∷ ls) ≡ true → same_path (take n role) l.role ≡ true
+      → passes_one test label l ≡ true
+  first_passes n l ls all here = by (same_path (take n role) l.role) here all
     where
       by : (b : Bool) → b ≡ true
-          → list_all (leaves_one consumed label least) (cond b (l ∷ limits_at (take n role) ls) (limits_at (take n role) ls)) ≡ true
-          → leaves_one consumed label least l ≡ true
-      by true is both = (and_parts (leaves_one consumed label least l) (front_leaves n ls) both).0
+          → list_all (passes_one test label) (cond b (l ∷ limits_at (take n role) ls) (limits_at (take n role) ls)) ≡ true
+          → passes_one test label l ≡ true
+      by true is both = (and_parts (passes_one test label l) (front_passes test role label n ls) both).0
       by false is rest = cc
 
-  one_enough : (l : LimitRow) → leaves_one consumed label least l ≡ true → is_named l.limit label ≡ true → least ≤ room_under consumed label l
-  one_enough l leaves named =
-      leb-true least (room_under consumed label l) (ap (λ (b : Bool). not b || nat_le least (room_under consumed label l)) (sym named) ∙ leaves)
-
-  -- where each front leaves so much, all limits do
-  pub fronts_leave : (ls : List LimitRow) → ((n : ℕ) → n < length role + 1 → front_leaves n ls ≡ true) → true ≡ leaves_from consumed role label least ls
-  fronts_leave [] all = refl
-  fronts_leave (l ∷ ls) all =
-      let rest = fronts_leave ls (λ n few. rest_leaves n l ls (all n few)) in
+  -- where each front passes it, all limits do
+  pub fronts_pass : (ls : List LimitRow) → ((n : ℕ) → n < length role + 1 → front_passes test role label n ls ≡ true) → true ≡ all_pass ls
+  fronts_pass [] all = refl
+  fronts_pass (l ∷ ls) all =
+      let rest = fronts_pass ls (λ n few. rest_passes n l ls (all n few)) in
       elim (cases_Bool (binds role label l)) [
         | inl here ↦
             let parts = and_parts (is_within l.role role) (is_named l.limit label) here in
-            let one = first_leaves (length l.role) l ls (all (length l.role) (front_few l.role role parts.0)) (front_there l.role role parts.0) in
-            rest ∙ leaves_here consumed role label least l ls here (one_enough l one parts.1)
-        | inr past ↦ rest ∙ leaves_past consumed role label least l ls past
+            let one = first_passes (length l.role) l ls (all (length l.role) (front_few l.role role parts.0)) (front_there l.role role parts.0) in
+            let its : test l ≡ true = ap (λ (b : Bool). not b || test l) (sym parts.1) ∙ one in
+            rest ∙ ap (λ (b : Bool). b && all_pass ls) (sym its) ∙ pass_both l ls here
+        | inr past ↦ rest ∙ pass_past l ls past
       ]
 
   -- where one does not, they do not
-  little_more : (l : LimitRow) (ls : List LimitRow) → false ≡ leaves_from consumed role label least ls → false ≡ leaves_from consumed role label least (l ∷ ls)
-  little_more l ls little =
+  fails_more : (l : LimitRow) (ls : List LimitRow) → false ≡ all_pass ls → false ≡ all_pass (l ∷ ls)
+  fails_more l ls fails =
       elim (cases_Bool (binds role label l)) [
-        | inl here ↦
-            none (nat_le least (room_under consumed label l)) ∙ ap (λ (b : Bool). nat_le least (room_under consumed label l) && b) little
-            ∙ leaves_both consumed role label least l ls here
-        | inr past ↦ little ∙ leaves_past consumed role label least l ls past
+        | inl here ↦ none (test l) ∙ ap (λ (b : Bool). test l && b) fails ∙ pass_both l ls here
+        | inr past ↦ fails ∙ pass_past l ls past
       ]
     where
       none : (b : Bool) → false ≡ (b && false)
       none true = refl
       none false = refl
 
-  one_little : (l : LimitRow) (n : ℕ) → n ≤ length role → same_path (take n role) l.role ≡ true → leaves_one consumed label least l ≡ false
-      → (binds role label l ≡ true) × (room_under consumed label l < least)
-  one_little l n few here little =
-      let outer = front_within l.role role n few here in
-      by (is_named l.limit label) (nat_le least (room_under consumed label l)) refl refl little
+  one_fails : (l : LimitRow) (n : ℕ) → n ≤ length role → same_path (take n role) l.role ≡ true → passes_one test label l ≡ false
+      → (binds role label l ≡ true) × (test l ≡ false)
+  one_fails l n few here fails = by (is_named l.limit label) (test l) refl refl fails
     where
-      by : (named enough : Bool) → is_named l.limit label ≡ named → nat_le least (room_under consumed label l) ≡ enough → (not named || enough) ≡ false
-          → (binds role label l ≡ true) × (room_under consumed label l < least)
-      by true false is_one is_little same =
-          ((λ i. front_within l.role role n few here i && is_one i), grind (arith, nat_tests))
-      by true true is_one is_little same = cc
-      by false enough is_one is_little same = cc
+      by : (named passes : Bool) → is_named l.limit label ≡ named → test l ≡ passes → (not named || passes) ≡ false
+          → (binds role label l ≡ true) × (test l ≡ false)
+      by true false is_one fails' same = ((λ i. front_within l.role role n few here i && is_one i), fails')
+      by true true is_one passes same = cc
+      by false passes is_one is same = cc
 
-  pub front_little : (ls : List LimitRow) (n : ℕ) → n ≤ length role → front_leaves n ls ≡ false → false ≡ leaves_from consumed role label least ls
-  front_little [] n few little = sym little
-  front_little (l ∷ ls) n few little =
-      by (same_path (take n role) l.role) (leaves_one consumed label least l) refl refl little (front_little ls n few)
+  pub front_fails : (ls : List LimitRow) (n : ℕ) → n ≤ length role → front_passes test role label n ls ≡ false → false ≡ all_pass ls
+  front_fails [] n few fails = sym fails
+  front_fails (l ∷ ls) n few fails =
+      by (same_path (take n role) l.role) (passes_one test label l) refl refl fails (front_fails ls n few)
     where
-      by : (here leaves : Bool) → same_path (take n role) l.role ≡ here → leaves_one consumed label least l ≡ leaves
-          → list_all (leaves_one consumed label least) (cond here (l ∷ limits_at (take n role) ls) (limits_at (take n role) ls)) ≡ false
-          → (front_leaves n ls ≡ false → false ≡ leaves_from consumed role label least ls)
-          → false ≡ leaves_from consumed role label least (l ∷ ls)
-      by true true here leaves both more =
-          little_more l ls (more (ap (λ (b : Bool). b && front_leaves n ls) (sym leaves) ∙ both))
-      by true false here leaves both more =
-          let one = one_little l n few here leaves in
-          little_here consumed role label least l ls one.0 one.1
-      by false leaves past is rest more = little_more l ls (more rest)
+      by : (here passes : Bool) → same_path (take n role) l.role ≡ here → passes_one test label l ≡ passes
+          → list_all (passes_one test label) (cond here (l ∷ limits_at (take n role) ls) (limits_at (take n role) ls)) ≡ false
+          → (front_passes test role label n ls ≡ false → false ≡ all_pass ls)
+          → false ≡ all_pass (l ∷ ls)
+      by true true here passes both more =
+          fails_more l ls (more (ap (λ (b : Bool). b && front_passes test role label n ls) (sym passes) ∙ both))
+      by true false here fails' both more =
+          let one = one_fails l n few here fails' in
+          ap (λ (b : Bool). b && all_pass ls) (sym one.1) ∙ pass_both l ls one.0
+      by false passes past is rest more = fails_more l ls (more rest)
+
+-- ---- what limits leave at least
+
+module _ (consumed : Consumed) (role : Path) (label : Text) (least : ℕ) where
+  abbrev leaves : LimitRow → Bool
+  leaves l = nat_le least (room_under consumed label l)
+
+  leaves_all : (ls : List LimitRow) → all_pass leaves role label ls ≡ leaves_from consumed role label least ls
+  leaves_all [] = refl
+  leaves_all (l ∷ ls) = elim (cases_Bool (binds role label l)) [
+    | inl here ↦
+        sym (pass_both leaves role label l ls here) ∙ ap (λ (b : Bool). leaves l && b) (leaves_all ls)
+        ∙ leaves_both consumed role label least l ls here
+    | inr past ↦ sym (pass_past leaves role label l ls past) ∙ leaves_all ls ∙ leaves_past consumed role label least l ls past
+  ]
+
+  pub fronts_leave : (ls : List LimitRow) → ((n : ℕ) → n < length role + 1 → front_leaves consumed role label least n ls ≡ true)
+      → true ≡ leaves_from consumed role label least ls
+  fronts_leave ls all = fronts_pass leaves role label ls all ∙ leaves_all ls
+
+  pub front_little : (ls : List LimitRow) (n : ℕ) → n ≤ length role → front_leaves consumed role label least n ls ≡ false
+      → false ≡ leaves_from consumed role label least ls
+  front_little ls n few little = front_fails leaves role label ls n few little ∙ leaves_all ls

@@ -4,6 +4,7 @@ pub mod UsageLemmas
 pub mod QuotaLemmas
 pub mod ConsumedLemmas
 pub mod TotalLemmas
+pub mod CarryLemmas
 pub mod RoomLemmas
 pub mod FrontLemmas
 pub mod LeaveLemmas

@@ -1,10 +1,10 @@
 -- Limits as rows, and what they leave, limit by limit.
-use Rattle.std.specs.Prelude.{◌≡◌, ◌≢◌, ℕ, ◌<◌, ◌≤◌, min, nat_le, Bool, true, false, ◌&&◌, List, [], ◌∷◌, ◌++◌, map, filter, fold, length, Some}
-use Rattle.std.specs.List.{list_all, reduce, AllByRecursion, IsDistinct}
+use Rattle.std.specs.Prelude.{◌≡◌, ◌≢◌, ℕ, min, nat_le, Bool, true, false, ◌&&◌, List, [], ◌∷◌, ◌++◌, map, filter, fold, length, Some}
+use Rattle.std.specs.List.{reduce, AllByRecursion, IsDistinct}
 use Rattle.std.specs.Option.{option_map_or}
 use Rattle.std.specs.Map.{keys_of, lookup, remove_entry}
 use Rattle.std.proofs.Common.{refl, sym, ap, ◌∙◌, inl, inr, cond, arith}
-use Rattle.std.proofs.lemmas.Bool.{cases_Bool, le-leb, lt-leb}
+use Rattle.std.proofs.lemmas.Bool.{cases_Bool}
 use Rattle.std.proofs.lemmas.Bool.Decides.{nat_tests}
 use Rattle.std.proofs.lemmas.Map.Keys.{IsDistinct-head, IsDistinct-tail}
 use Rattle.indexmap.specs.IndexMap.{insert_entry}
@@ -12,7 +12,7 @@ use Rattle.drf_role.specs.Text.{Text}
 use Rattle.drf_role.specs.Path.{Path, same_path}
 use Rattle.drf_role.specs.PathLaws.{same_path-swap}
 use Rattle.drf_bundle.specs.declared.quantities.Entry.{Entry}
-use Rattle.drf_rows.specs.Quota.{Consumed, is_within, binds, room_under, headroom_under, headrooms, stays_within, limit_of, limits_put, limits_without, limits_with, consumption, headroom_at, headroom, admits_under, admits}
+use Rattle.drf_rows.specs.Quota.{Consumed, is_within, binds, room_under, headroom_under, headrooms, limit_of, limits_put, limits_without, limits_with, consumption, headroom_at, headroom, admits_under, admits}
 use Rattle.drf_rows.specs.declared.rows.LimitRow.{LimitRow}
 use Rattle.drf_rows.specs.declared.rows.Rows.{Rows}
 use Rattle.drf_gates.specs.Quota.{Allowance, IsAllowanceOf, limit_row, limit_rows, used_at}
@@ -111,40 +111,6 @@ module _ (consumed : Consumed) (role : Path) (label : Text) (least : ℕ) where
   leaves_both l ls here =
       sym (least_enough least (room_under consumed label l) (map (room_under consumed label) (filter (binds role label) ls)))
       ∙ ap (λ (b : Bool). option_map_or (nat_le least) (reduce min (map (room_under consumed label) (cond b (l ∷ filter (binds role label) ls) (filter (binds role label) ls)))) true) (sym here)
-
-  pub leaves_here : (l : LimitRow) (ls : List LimitRow) → binds role label l ≡ true → least ≤ room_under consumed label l
-      → leaves_from ls ≡ leaves_from (l ∷ ls)
-  leaves_here l ls here enough =
-      ap (λ (b : Bool). b && leaves_from ls) (sym (le-leb least (room_under consumed label l) enough)) ∙ leaves_both l ls here
-
-  pub little_here : (l : LimitRow) (ls : List LimitRow) → binds role label l ≡ true → room_under consumed label l < least
-      → false ≡ leaves_from (l ∷ ls)
-  little_here l ls here little =
-      ap (λ (b : Bool). b && leaves_from ls) (sym (lt-leb least (room_under consumed label l) little)) ∙ leaves_both l ls here
-
--- ---- what is admitted, limit by limit
-
-module _ (consumed : Consumed) (role : Path) (more : Entry) where
-  -- how it goes on from here
-  abbrev pub admitted_from : List LimitRow → Bool
-  admitted_from ls = list_all (stays_within consumed more) (filter (binds role more.label) ls)
-
-  pub admitted_past : (l : LimitRow) (ls : List LimitRow) → binds role more.label l ≡ false
-      → admitted_from ls ≡ admitted_from (l ∷ ls)
-  admitted_past l ls past =
-      ap (λ (b : Bool). list_all (stays_within consumed more) (cond b (l ∷ filter (binds role more.label) ls) (filter (binds role more.label) ls))) (sym past)
-
-  pub admitted_here : (l : LimitRow) (ls : List LimitRow) → binds role more.label l ≡ true → stays_within consumed more l ≡ true
-      → admitted_from ls ≡ admitted_from (l ∷ ls)
-  admitted_here l ls here stays =
-      ap (λ (b : Bool). b && admitted_from ls) (sym stays)
-      ∙ ap (λ (b : Bool). list_all (stays_within consumed more) (cond b (l ∷ filter (binds role more.label) ls) (filter (binds role more.label) ls))) (sym here)
-
-  pub refused_here : (l : LimitRow) (ls : List LimitRow) → binds role more.label l ≡ true → stays_within consumed more l ≡ false
-      → false ≡ admitted_from (l ∷ ls)
-  refused_here l ls here over =
-      ap (λ (b : Bool). b && admitted_from ls) (sym over)
-      ∙ ap (λ (b : Bool). list_all (stays_within consumed more) (cond b (l ∷ filter (binds role more.label) ls) (filter (binds role more.label) ls))) (sym here)
 
 -- ---- the rows' words
 

@@ -1,11 +1,9 @@
 -- What is kept of the roles that have a limit, through each change of what roles consume.
-use Rattle.std.specs.Prelude.{◌≡◌, ℕ, ◌+◌, ◌<◌, ◌≤◌, Bool, true, false, List, [], ◌∷◌, ◌++◌, IsTrue, length, take, drop, Result, Ok, Err, OnOk, is_ok}
-use Rattle.std.specs.Global.{Vec}
-use Rattle.std.specs.Vec.{with_items}
+use Rattle.std.specs.Prelude.{◌≡◌, ℕ, ◌+◌, ◌<◌, Bool, true, false, List, [], ◌∷◌, IsTrue, length, drop, Some, Result, Ok, Err, OnOk, is_ok}
+use Rattle.std.specs.Map.{lookup}
 use Rattle.std.proofs.Common.{refl, sym, ap, subst, ◌∙◌, inl, inr, cond, arith, get_or, set}
-use Rattle.std.proofs.lemmas.Bool.{and_parts, false≢true}
-use Rattle.std.proofs.lemmas.List.{drop-set-lt, take_all, take_more_set, with_items_is}
-use Rattle.std.proofs.lemmas.List.Elements.{All-get_or, All-head, All-push, All-tail, All-weaker}
+use Rattle.std.proofs.lemmas.Bool.{and_parts, cases_Bool, false≢true}
+use Rattle.std.proofs.lemmas.List.Elements.{All-head, All-tail, All-weaker}
 use Rattle.drf_role.specs.Text.{Text, same_text}
 use Rattle.drf_role.specs.TextLaws.{cases_same, same_from_test}
 use Rattle.drf_role.specs.Path.{Path, same_path}
@@ -87,78 +85,46 @@ entry_added (Err x) done sum new e name amount set is same more holds = absurd (
 -- ---- totals of one usage, and of another
 
 -- a total of another is of use where both consume as much
-pub exact_alike : (one other : List Usage) (totals : List Total)
+pub exact_alike : (one other : List Usage) (totals : List (Path × Total))
     → ((test : Path → Bool) (label : Text) → used_where test other label ≡ used_where test one label)
     → AreExact one totals → AreExact other totals
 exact_alike one other totals alike exact =
-    All-weaker (IsExact one) (IsExact other)
-    (λ t its. record { known = λ is label. its.known is label ∙ sym (alike (is_within t.role) label) }) totals exact
+    All-weaker (λ (e : Path × Total). IsExact one e.0 e.1) (λ (e : Path × Total). IsExact other e.0 e.1)
+    (λ e its. record { known = λ is label. its.known is label ∙ sym (alike (is_within e.0) label) }) totals exact
 
 -- what is kept for a role is what it consumes
-pub kept_is : (used : List Usage) (totals : List Total) (i : ℕ) (t : Total) (role : Path) (label : Text)
-    → i < length totals → t ≡ get_or totals i t → IsTrue t.is_known → IsTrue (same_path t.role role) → AreExact used totals
+pub kept_is : (used : List Usage) (totals : List (Path × Total)) (role : Path) (t : Total) (label : Text)
+    → lookup (same_path role) totals ≡ Some t → IsTrue t.is_known → AreExact used totals
     → amount_of t.amounts label ≡ used_at used role label
-kept_is used totals i t role label in_range read known same exact =
-    let its : IsExact used t = subst (λ (u : Total). IsExact used u) (sym read) (All-get_or (IsExact used) totals i t in_range exact) in
-    its.known known label ∙ ap (λ (r : Path). used_at used r label) (same_path-true t.role role same)
-
--- ---- all totals, one after another
-
--- where what roles consume changes so, what was exact becomes exact, as far as it was gone over
-abbrev pub IsCarried : (List Usage → List Usage → Type 0) → List Total → List Total → ℕ → Type 0
-IsCarried Changes first now i =
-    (old new : List Usage) → Changes old new → AreExact old first → AreExact new (take i now) × AreExact old (drop i now)
-
--- what is behind the one that is written stays
-rest_set : (xs : List Total) (i : ℕ) (x : Total) → i < length xs → drop (i + 1) (set xs i x) ≡ drop (i + 1) xs
-rest_set xs i x in_range = drop-set-lt (i + 1) xs i x (omega arith)
-
-pub carried_more : (Changes : List Usage → List Usage → Type 0) (first now : List Total) (i : ℕ) (t u : Total)
-    → i < length now → t ≡ get_or now i t → IsCarried Changes first now i
-    → ((old new : List Usage) → Changes old new → IsExact old (get_or now i t) → IsExact new u)
-    → IsCarried Changes first (set now i u) (i + 1)
-carried_more Changes first now i t u in_range read carried step old new changes exact =
-    let so_far = carried old new changes exact in
-    let left : AreExact old (t ∷ drop (i + 1) now) = subst (λ (ts : List Total). AreExact old ts) (next_of now i t in_range read) so_far.1 in
-    let done : AreExact new (take i now ++ u ∷ []) =
-    All-push (IsExact new) (take i now) u so_far.0
-    (step old new changes (subst (λ (x : Total). IsExact old x) read (All-head (IsExact old) t (drop (i + 1) now) left))) in (
-      subst (λ (ts : List Total). AreExact new ts) (sym (take_more_set now i u in_range)) done,
-      subst (λ (ts : List Total). AreExact old ts) (sym (rest_set now i u in_range)) (All-tail (IsExact old) t (drop (i + 1) now) left),
-    )
-
--- at the end all were gone over
-pub carried_end : (Changes : List Usage → List Usage → Type 0) (first now : List Total) (i : ℕ) → length now ≤ i → IsCarried Changes first now i
-    → (old new : List Usage) → Changes old new → AreExact old first → AreExact new now
-carried_end Changes first now i end carried old new changes exact =
-    subst (λ (ts : List Total). AreExact new ts) (take_all i now end) (carried old new changes exact).0
+kept_is used [] role t label found known exact = cc
+kept_is used (e ∷ es) role t label found known exact = elim (cases_Bool (same_path role e.0)) [
+  | inl here ↦
+      let its : e.1 ≡ t = let it = rw here at found in cc in
+      let is : IsExact used role t =
+      subst (λ (x : Path × Total). IsExact used x.0 x.1) (λ i. (sym (same_path-true role e.0 here) i, its i))
+      (All-head (λ (x : Path × Total). IsExact used x.0 x.1) e es exact) in
+      is.known known label
+  | inr other ↦
+      kept_is used es role t label (rw other at found) known (All-tail (λ (x : Path × Total). IsExact used x.0 x.1) e es exact)
+]
 
 -- ---- what is kept beside what roles consume
 
--- a vector whose items were changed in place
-written_exact : (used : List Usage) (v : Vec Total) (new : List Total) → length new ≡ v.len → AreExact used new
-    → AreExact used (with_items v new).items
-written_exact used v new long exact = subst (λ (ts : List Total). AreExact used ts) (sym (with_items_is v new long)) exact
-
-module _ (old new : List Usage) (role : Path) (amounts : List Entry) (v : Vec Total) (lent left : List Total)
-    (counted : IsCounted old v.items) (same : lent ≡ v.items) (long : length left ≡ length lent) where
-  lent_exact : AreExact old lent
-  lent_exact = subst (λ (ts : List Total). AreExact old ts) (sym same) counted.exact
-
+module _ (old new : List Usage) (role : Path) (amounts : List Entry) (totals left : List (Path × Total)) (counted : IsCounted old totals) where
   -- a role consumes more, and none too much
   pub raised_beside : AreRaised old new role amounts → IsBounded new
-      → ((one other : List Usage) → AreRaised one other role amounts → AreExact one lent → AreExact other left)
-      → IsCounted new (with_items v left).items
+      → ((one other : List Usage) → AreRaised one other role amounts → AreExact one totals → AreExact other left)
+      → IsCounted new left
   raised_beside raised bounded follows = record {
     bounded = bounded;
-    exact = written_exact new v left (long ∙ ap length same ∙ sym v.ok.0) (follows old new raised lent_exact);
+    exact = follows old new raised counted.exact;
   }
 
   -- a role consumes less
   pub lowered_beside : AreRaised new old role amounts
-      → ((one other : List Usage) → AreRaised other one role amounts → AreExact one lent → AreExact other left)
-      → IsCounted new (with_items v left).items
+      → ((one other : List Usage) → AreRaised other one role amounts → AreExact one totals → AreExact other left)
+      → IsCounted new left
   lowered_beside raised follows = record {
     bounded = bounded-lowered old new role amounts raised counted.bounded;
-    exact = written_exact new v left (long ∙ ap length same ∙ sym v.ok.0) (follows old new raised lent_exact);
+    exact = follows old new raised counted.exact;
   }

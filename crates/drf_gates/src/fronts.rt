@@ -1,4 +1,4 @@
-//! The limits of a role and of the roles above it, found by the fronts of the role's text.
+//! What is kept of a role and of the roles above it, found by the fronts of the role's text.
 ghost use Rattle.std.specs.Prelude.{◌≡◌, ◌≤◌, length, take};
 ghost use Rattle.std.specs.Option.{option_map, option_to_list};
 ghost use Rattle.std.specs.Cmp.Lexicographic.{lists_equiv, nat_list_eq_equiv};
@@ -13,7 +13,7 @@ use indexmap::{Equivalent, IndexMap};
 
 /// A front of a role's text, by which the role that it names is looked up. An empty one names none.
 #[derive(Clone, Copy, PartialEq, Eq, Hash)]
-struct Front<'a> {
+pub(crate) struct Front<'a> {
     text: &'a str,
 }
 
@@ -43,7 +43,7 @@ fn end_of(role: &Role, len: usize) -> usize
 }
 
 /// The first parts of a role, so many.
-fn first_parts(role: &Role, len: usize) -> Front<'_>
+pub(crate) fn first_parts(role: &Role, len: usize) -> Front<'_>
     requires { len ≤ length role.now }
     ensures { path_in result.text.now ≡ take len role.now }
 {

@@ -1,5 +1,5 @@
 //! Quota limits, and what roles consume (Mesos: quota limits).
-ghost use Rattle.std.specs.Prelude.{◌≡◌, ◌≢◌, ◌+◌, ◌^◌, ◌<◌, ◌≤◌, [], ◌↔◌, true, nat_le, IsTrue, filter, length, take, None, false, OnOk, OnErr, IfOk, IfSome, IsOk};
+ghost use Rattle.std.specs.Prelude.{◌≡◌, ◌≢◌, ℕ, ◌+◌, ◌^◌, ◌<◌, ◌≤◌, [], ◌↔◌, true, nat_le, IsTrue, filter, length, take, None, false, OnOk, OnErr, IfOk, IfSome, IsOk};
 ghost use Rattle.std.specs.List.{list_all};
 ghost use Rattle.std.specs.Option.{option_copied, option_map_or};
 ghost use Rattle.drf_role.specs.Text.{Text};
@@ -9,7 +9,7 @@ ghost use Rattle.drf_bundle.specs.Quantities.{amount_of};
 ghost use Rattle.drf_rows.specs.Quota.{is_within, binds, room_under, headroom_under, headrooms, stays_within, admits_under, limit_of, limits_with, consumption, headroom_at, headroom, admits};
 ghost use Rattle.drf_rows.specs.declared.rows.Rows.{Rows};
 ghost use Rattle.indexmap.specs.IndexMap.{insert_entry};
-ghost use Rattle.drf_gates.specs.Front.{least_at, leaves_one, limits_at};
+ghost use Rattle.drf_gates.specs.Front.{IsFirstShort, front_leaves, front_passes, least_at, limits_at};
 ghost use Rattle.drf_gates.specs.Quota.{IsAllowanceOf, IsRaised, IsSame, known_amount, lessened, limit_row, lesser, used_at, used_by};
 
 use crate::fronts::limit_above;
@@ -31,8 +31,9 @@ pub struct Quota {
     pub(crate) limits: IndexMap<Role, Quantities>,
     // What each role consumes itself, the roles below it left out.
     pub(crate) used: IndexMap<Role, Quantities>,
-    // What roles with a limit consume together with the roles below them, as far as there was memory.
-    pub(crate) totals: Vec<Total>,
+    // What roles with a limit consume together with the roles below them, as far as there was memory. Each is likely to stand
+    // at the place of its limit.
+    pub(crate) totals: IndexMap<Role, Total>,
 }
 
 impl Model for Quota {
@@ -45,14 +46,7 @@ impl Model for Quota {
 
     ghost view = { λ q. record { limits = limit_rows q.limits.entries; used = q.used.entries } };
 
-    ghost invariant = { λ q. IsCounted q.used.entries q.totals.items };
-}
-
-/// Whether the limit of a role is that of the other role or of one above it, and names the scalar.
-fn binds(limited: &Role, limit: &Quantities, role: &Role, label: &str) -> bool
-    ensures { result ≡ binds role.now label.now (limit_row (limited.now, limit.now)) }
-{
-    role.is_within(limited) && limit.is_named(label)
+    ghost invariant = { λ q. IsCounted q.used.entries q.totals.entries };
 }
 
 /// The lesser of a number and of one that may be known.
@@ -97,7 +91,7 @@ fn copy_limits(
 {
     // The proof learns that no role has two limits by this call alone.
     let _ = limits.len();
-    let mut copy = IndexMap::new(*limits.allocator());
+    let mut copy = IndexMap::with_capacity(*limits.allocator(), limits.len())?;
     for (role, limit) in limits {
         let role = role.copy()?;
         let limit = limit.copy()?;
@@ -124,7 +118,7 @@ impl Quota {
         Quota {
             limits: IndexMap::new(alloc),
             used: IndexMap::new(alloc),
-            totals: Vec::new(alloc),
+            totals: IndexMap::new(alloc),
         }
     }
 
@@ -194,7 +188,7 @@ impl Quota {
         }
     }
 
-    /// The same of a role whose limit stands at that place, as its total does unless one was lost.
+    /// The same of a role whose limit stands at that place, where its total is looked for first.
     fn consumption_at(&self, place: usize, role: &Role, label: &str) -> u64
         ensures { result ≡ used_at self.now.used role.now label.now }
     {
@@ -241,9 +235,12 @@ impl Quota {
     }
 
     /// The number of parts of the first role, from the top down to this one, whose limit leaves less of a scalar than so much, if there
-    /// is one. Limits leave as little to every role that begins with these parts.
+    /// is one. Limits leave less than so much to every role that begins with these parts.
     pub fn short_front(&self, role: &Role, label: &str, least: u64) -> Option<usize>
         ensures within { IfSome result (λ len. len ≤ length role.now) }
+        ensures first { IfSome result (IsFirstShort (used_at self.now.used) role.now label.now least self.now.limits) }
+        ensures none { result ≡ None → (len : ℕ) → len ≤ length role.now
+            → front_leaves (used_at self.now.used) role.now label.now least len self.now.limits ≡ true }
         ensures short { IfSome result (λ len. (rows : Rows) (other : Path) → IsAllowanceOf rows self.now → take len other ≡ take len role.now
             → option_map_or (nat_le least) (headroom_at rows other label.now) true ≡ false) }
         ensures enough { result ≡ None → (rows : Rows) → IsAllowanceOf rows self.now
@@ -262,7 +259,7 @@ impl Quota {
     /// Whether the limit of the role's first `len` parts, if they have one, leaves so much of a scalar.
     fn front_leaves(&self, role: &Role, len: usize, label: &str, least: u64) -> bool
         requires { len ≤ length role.now }
-        ensures { result ≡ list_all (leaves_one (used_at self.now.used) label.now least) (limits_at (take len role.now) self.now.limits) }
+        ensures { result ≡ front_leaves (used_at self.now.used) role.now label.now least len self.now.limits }
     {
         let Some((place, limited, limit)) = limit_above(&self.limits, role, len) else {
             return true;
@@ -318,14 +315,25 @@ impl Quota {
         Ok(room)
     }
 
-    /// Whether a role may consume so much more under the limit of another.
-    fn stays_within(&self, limited: &Role, limit: &Quantities, more: &Entry) -> bool
+    /// Whether the limit of a role, at that place, leaves room for so much more.
+    fn stays_within(&self, place: usize, limited: &Role, limit: &Quantities, more: &Entry) -> bool
         ensures { result ≡ stays_within (used_at self.now.used) more.now (limit_row (limited.now, limit.now)) }
     {
         let label = more.label.text();
-        let used = self.consumption(limited, label);
+        let used = self.consumption_at(place, limited, label);
         let most = limit.get(label);
         used <= most && more.amount.thousandths() <= most - used
+    }
+
+    /// Whether the limit of the role's first `len` parts, if they have one, leaves room for so much more.
+    fn front_admits(&self, role: &Role, len: usize, more: &Entry) -> bool
+        requires { len ≤ length role.now }
+        ensures { result ≡ front_passes (stays_within (used_at self.now.used) more.now) role.now more.now.label len self.now.limits }
+    {
+        let Some((place, limited, limit)) = limit_above(&self.limits, role, len) else {
+            return true;
+        };
+        !limit.is_named(more.label.text()) || self.stays_within(place, limited, limit, more)
     }
 
     /// Whether a role may consume so much more of a scalar.
@@ -333,11 +341,10 @@ impl Quota {
         ensures { result
             ≡ list_all (stays_within (used_at self.now.used) more.now) (filter (binds role.now more.now.label) self.now.limits) }
     {
-        for (limited, limit) in &self.limits {
-            if !binds(limited, limit, role, more.label.text()) {
-                continue;
-            }
-            if !self.stays_within(limited, limit, more) {
+        // The empty front is looked up too: that no limit has it, only the look-up tells.
+        let fronts = role.len() + 1;
+        for len in 0..fronts {
+            if !self.front_admits(role, len, more) {
                 return false;
             }
         }

@@ -1,21 +1,21 @@
-//! What roles with a limit consume together with the roles below them, kept so that no question of it goes over all roles.
+//! What roles with a limit consume together with the roles below them, kept so that a question of it need not go over all roles.
 //! Where memory for it ends, a total is lost, and the question goes over all.
-ghost use Rattle.std.specs.Prelude.{◌≡◌, ◌+◌, ◌<◌, List, [], IsTrue, IfSome};
+ghost use Rattle.std.specs.Prelude.{◌≡◌, ◌+◌, ◌≤◌, List, [], IsTrue, IfSome, length, take};
 ghost use Rattle.drf_role.specs.Text.{Text};
 ghost use Rattle.drf_bundle.specs.Quantities.{amount_of};
 ghost use Rattle.drf_rows.specs.Quota.{is_within};
 ghost use Rattle.drf_gates.specs.Quota.{Usage, AreRaised, counted, one_entry, used_at};
-ghost use Rattle.drf_gates.specs.Totals.{IsExact, AreExact};
+ghost use Rattle.drf_gates.specs.Totals.{IsExact, AreExact, AreCarried};
 
+use crate::fronts::first_parts;
 use drf_bundle::{Entry, Quantities};
 use drf_role::{Label, Role};
 use indexmap::IndexMap;
-use std::alloc::Global;
+use std::alloc::{AllocError, Global};
 
 /// What a role consumes together with the roles below it, unless it was lost.
 #[derive(Drop)]
 pub(crate) struct Total {
-    role: Role,
     is_known: bool,
     amounts: Quantities,
 }
@@ -90,108 +90,180 @@ fn take(sum: &mut Quantities, less: &Quantities) -> bool
     true
 }
 
-/// A role consumes so much more.
-fn raise_total(total: &mut Total, role: &Role, amounts: &Quantities)
-    ensures { (old new : List Usage) → AreRaised old new role.now amounts.now → IsExact old total.old → IsExact new total.new }
+/// So much more is consumed.
+fn raise_total(total: &mut Total, amounts: &Quantities)
+    ensures known { IsTrue total.new.is_known → IsTrue total.old.is_known }
+    ensures sums { IsTrue total.new.is_known → (label : Text)
+        → amount_of total.new.amounts label ≡ amount_of total.old.amounts label + amount_of amounts.now label }
 {
     if total.is_known {
-        total.is_known = add_within(&mut total.amounts, &total.role, role, amounts);
+        total.is_known = add(&mut total.amounts, amounts);
     }
 }
 
-/// A role consumes so much less.
-fn lower_total(total: &mut Total, role: &Role, amounts: &Quantities)
-    ensures { (old new : List Usage) → AreRaised new old role.now amounts.now → IsExact old total.old → IsExact new total.new }
+/// So much less is consumed.
+fn lower_total(total: &mut Total, amounts: &Quantities)
+    ensures known { IsTrue total.new.is_known → IsTrue total.old.is_known }
+    ensures sums { IsTrue total.new.is_known → (label : Text)
+        → amount_of total.new.amounts label + amount_of amounts.now label ≡ amount_of total.old.amounts label }
 {
-    if total.is_known && role.is_within(&total.role) {
+    if total.is_known {
         total.is_known = take(&mut total.amounts, amounts);
     }
 }
 
-/// A role consumes so much less of a scalar.
-fn reduce_total(total: &mut Total, role: &Role, label: &Label, thousandths: u64)
-    ensures { (old new : List Usage) → AreRaised new old role.now (one_entry label.now thousandths) → IsExact old total.old → IsExact new total.new }
+/// So much less is consumed of a scalar.
+fn reduce_total(total: &mut Total, label: &Label, thousandths: u64)
+    ensures known { IsTrue total.new.is_known → IsTrue total.old.is_known }
+    ensures sums { IsTrue total.new.is_known → (other : Text)
+        → amount_of total.new.amounts other + amount_of (one_entry label.now thousandths) other ≡ amount_of total.old.amounts other }
 {
-    if total.is_known && role.is_within(&total.role) {
+    if total.is_known {
         total.is_known = take_entry(&mut total.amounts, label, thousandths);
     }
 }
 
-/// A role consumes so much more, and with it the roles above it.
-pub(crate) fn raise_totals(totals: &mut [Total], role: &Role, amounts: &Quantities)
-    ensures { (old new : List Usage) → AreRaised old new role.now amounts.now → AreExact old totals.old → AreExact new totals.new }
+/// A role consumes so much more, and with it the role of its first parts, so many, whose total is raised.
+fn raise_front(totals: &mut IndexMap<Role, Total>, role: &Role, len: usize, amounts: &Quantities)
+    requires { len ≤ length role.now }
+    ensures { (old new : List Usage) → AreRaised old new role.now amounts.now
+        → AreCarried old new role.now len totals.old.entries → AreCarried old new role.now (len + 1) totals.new.entries }
 {
-    for total in totals.iter_mut() {
-        raise_total(total, role, amounts);
+    let Some(total) = totals.get_mut(first_parts(role, len)) else {
+        return;
+    };
+    raise_total(total, amounts);
+}
+
+/// A role consumes so much less, and with it the role of its first parts, so many, whose total is lowered.
+fn lower_front(totals: &mut IndexMap<Role, Total>, role: &Role, len: usize, amounts: &Quantities)
+    requires { len ≤ length role.now }
+    ensures { (old new : List Usage) → AreRaised new old role.now amounts.now
+        → AreCarried old new role.now len totals.old.entries → AreCarried old new role.now (len + 1) totals.new.entries }
+{
+    let Some(total) = totals.get_mut(first_parts(role, len)) else {
+        return;
+    };
+    lower_total(total, amounts);
+}
+
+/// A role consumes so much less of a scalar, and with it the role of its first parts, so many, whose total is lowered.
+fn reduce_front(
+    totals: &mut IndexMap<Role, Total>,
+    role: &Role,
+    len: usize,
+    label: &Label,
+    thousandths: u64,
+)
+    requires { len ≤ length role.now }
+    ensures { (old new : List Usage) → AreRaised new old role.now (one_entry label.now thousandths)
+        → AreCarried old new role.now len totals.old.entries → AreCarried old new role.now (len + 1) totals.new.entries }
+{
+    let Some(total) = totals.get_mut(first_parts(role, len)) else {
+        return;
+    };
+    reduce_total(total, label, thousandths);
+}
+
+/// A role consumes so much more, and with it the roles above it.
+pub(crate) fn raise_totals(totals: &mut IndexMap<Role, Total>, role: &Role, amounts: &Quantities)
+    ensures { (old new : List Usage) → AreRaised old new role.now amounts.now → AreExact old totals.old.entries → AreExact new totals.new.entries }
+{
+    let fronts = role.len() + 1;
+    for len in 0..fronts {
+        raise_front(totals, role, len, amounts);
     }
 }
 
 /// A role consumes so much less, and with it the roles above it. It needs no memory.
-pub(crate) fn lower_totals(totals: &mut [Total], role: &Role, amounts: &Quantities)
-    ensures { (old new : List Usage) → AreRaised new old role.now amounts.now → AreExact old totals.old → AreExact new totals.new }
+pub(crate) fn lower_totals(totals: &mut IndexMap<Role, Total>, role: &Role, amounts: &Quantities)
+    ensures { (old new : List Usage) → AreRaised new old role.now amounts.now → AreExact old totals.old.entries → AreExact new totals.new.entries }
 {
-    for total in totals.iter_mut() {
-        lower_total(total, role, amounts);
+    let fronts = role.len() + 1;
+    for len in 0..fronts {
+        lower_front(totals, role, len, amounts);
     }
 }
 
 /// A role consumes so much less of a scalar, and with it the roles above it. It needs no memory.
-pub(crate) fn reduce_totals(totals: &mut [Total], role: &Role, label: &Label, thousandths: u64)
+pub(crate) fn reduce_totals(
+    totals: &mut IndexMap<Role, Total>,
+    role: &Role,
+    label: &Label,
+    thousandths: u64,
+)
     ensures { (old new : List Usage) → AreRaised new old role.now (one_entry label.now thousandths)
-        → AreExact old totals.old → AreExact new totals.new }
+        → AreExact old totals.old.entries → AreExact new totals.new.entries }
 {
-    for total in totals.iter_mut() {
-        reduce_total(total, role, label, thousandths);
+    let fronts = role.len() + 1;
+    for len in 0..fronts {
+        reduce_front(totals, role, len, label, thousandths);
+    }
+}
+
+/// Makes the total at a place 0.
+fn clear_total(totals: &mut IndexMap<Role, Total>, place: usize, alloc: Global)
+    ensures cleared { AreExact [] (take place totals.old.entries) → AreExact [] (take (place + 1) totals.new.entries) }
+    ensures count { length totals.new.entries ≡ length totals.old.entries }
+{
+    if let Some(total) = totals.get_index_mut(place) {
+        let amounts = Quantities::empty(alloc);
+        *total = Total {
+            is_known: true,
+            amounts,
+        };
     }
 }
 
 /// No role consumes anything. It needs no memory.
-pub(crate) fn clear_totals(totals: &mut [Total], alloc: Global)
-    ensures { AreExact [] totals.new }
+pub(crate) fn clear_totals(totals: &mut IndexMap<Role, Total>, alloc: Global)
+    ensures { AreExact [] totals.new.entries }
 {
-    for total in totals.iter_mut() {
-        total.is_known = true;
-        total.amounts = Quantities::empty(alloc);
+    for place in 0..totals.len() {
+        clear_total(totals, place, alloc);
     }
 }
 
 /// What a role consumes of a scalar together with the roles below it, if that is kept.
-pub(crate) fn kept(totals: &[Total], role: &Role, label: &str) -> Option<u64>
-    ensures { IfSome result (λ amount. (used : List Usage) → AreExact used totals.now → amount ≡ used_at used role.now label.now) }
+pub(crate) fn kept(totals: &IndexMap<Role, Total>, role: &Role, label: &str) -> Option<u64>
+    ensures { IfSome result (λ amount. (used : List Usage) → AreExact used totals.now.entries → amount ≡ used_at used role.now label.now) }
 {
-    for total in totals {
-        if total.is_known && total.role == *role {
-            return Some(total.amounts.get(label));
-        }
+    let total = totals.get(role)?;
+    if !total.is_known {
+        return None;
     }
-    None
+    Some(total.amounts.get(label))
 }
 
-/// The same, where the total of the role stands at that place.
-pub(crate) fn kept_at(totals: &[Total], place: usize, role: &Role, label: &str) -> Option<u64>
-    ensures { IfSome result (λ amount. (used : List Usage) → AreExact used totals.now → amount ≡ used_at used role.now label.now) }
+/// The same, if the total of the role stands at that place.
+pub(crate) fn kept_at(
+    totals: &IndexMap<Role, Total>,
+    place: usize,
+    role: &Role,
+    label: &str,
+) -> Option<u64>
+    ensures { IfSome result (λ amount. (used : List Usage) → AreExact used totals.now.entries → amount ≡ used_at used role.now label.now) }
 {
-    if place < totals.len() {
-        let total = &totals[place];
-        if total.is_known && total.role == *role {
-            return Some(total.amounts.get(label));
-        }
+    let (outer, total) = totals.get_index(place)?;
+    if !total.is_known || outer != role {
+        return None;
     }
-    None
+    Some(total.amounts.get(label))
 }
 
 /// Whether the total of a role is known.
-fn is_kept(totals: &[Total], role: &Role) -> bool {
-    totals
-        .iter()
-        .any(|total| total.is_known && total.role == *role)
+fn is_kept(totals: &IndexMap<Role, Total>, role: &Role) -> bool {
+    match totals.get(role) {
+        Some(total) => total.is_known,
+        None => false,
+    }
 }
 
 /// Keeps the totals of other roles alone.
-pub(crate) fn drop_total(totals: &mut Vec<Total>, role: &Role)
-    ensures { (used : List Usage) → AreExact used totals.old.items → AreExact used totals.new.items }
+pub(crate) fn drop_total(totals: &mut IndexMap<Role, Total>, role: &Role)
+    ensures { (used : List Usage) → AreExact used totals.old.entries → AreExact used totals.new.entries }
 {
-    totals.retain(|total| total.role != *role);
+    totals.shift_remove(role);
 }
 
 /// Adds to a sum what a role consumes together with the roles below it. Whether it could be done.
@@ -207,63 +279,57 @@ fn add_used(sum: &mut Quantities, outer: &Role, used: &IndexMap<Role, Quantities
     true
 }
 
-/// Puts the total of a role behind those that are there, as far as there is memory.
-fn add_total(totals: &mut Vec<Total>, used: &IndexMap<Role, Quantities>, role: &Role)
-    ensures { AreExact used.now.entries totals.old.items → AreExact used.now.entries totals.new.items }
+/// Puts the total of a role in the place of its former one, or behind those that are there.
+fn put_total(
+    totals: &mut IndexMap<Role, Total>,
+    role: &Role,
+    total: Total,
+) -> Result<(), AllocError>
+    ensures { (used : List Usage) → IsExact used role.now total → AreExact used totals.old.entries → AreExact used totals.new.entries }
 {
-    if totals.reserve(1).is_err() {
-        return;
-    }
-    let Ok(role) = role.copy() else {
-        return;
-    };
-    let mut amounts = Quantities::empty(*totals.allocator());
-    let is_known = add_used(&mut amounts, &role, used);
-    totals.push_reserved(Total {
-        role,
-        is_known,
-        amounts,
-    });
+    let role = role.copy()?;
+    totals.insert(role, total)?;
+    Ok(())
 }
 
-/// Keeps the total of a role from now on, as far as there is memory. One that is known stays in its place.
-pub(crate) fn keep_total(totals: &mut Vec<Total>, used: &IndexMap<Role, Quantities>, role: &Role)
-    ensures { AreExact used.now.entries totals.old.items → AreExact used.now.entries totals.new.items }
+/// Keeps the total of a role from now on, as far as there is memory.
+pub(crate) fn keep_total(
+    totals: &mut IndexMap<Role, Total>,
+    used: &IndexMap<Role, Quantities>,
+    role: &Role,
+)
+    ensures { AreExact used.now.entries totals.old.entries → AreExact used.now.entries totals.new.entries }
 {
     if is_kept(totals, role) {
         return;
     }
-    drop_total(totals, role);
-    add_total(totals, used, role);
+    let mut amounts = Quantities::empty(*totals.allocator());
+    let is_known = add_used(&mut amounts, role, used);
+    let _ = put_total(totals, role, Total { is_known, amounts });
 }
 
 /// Puts a copy of a total behind those that are there, if there is memory.
-fn copy_total(copy: &mut Vec<Total>, total: &Total)
-    ensures { (used : List Usage) → IsExact used total.now → AreExact used copy.old.items → AreExact used copy.new.items }
+fn copy_total(copy: &mut IndexMap<Role, Total>, role: &Role, total: &Total)
+    ensures { (used : List Usage) → IsExact used role.now total.now → AreExact used copy.old.entries → AreExact used copy.new.entries }
 {
-    if copy.reserve(1).is_err() {
-        return;
-    }
-    let Ok(role) = total.role.copy() else {
-        return;
-    };
     let Ok(amounts) = total.amounts.copy() else {
         return;
     };
-    copy.push_reserved(Total {
-        role,
+    let copied = Total {
         is_known: total.is_known,
         amounts,
-    });
+    };
+    let _ = put_total(copy, role, copied);
 }
 
 /// The totals, copied as far as there is memory.
-pub(crate) fn copy_totals(totals: &[Total], alloc: Global) -> Vec<Total>
-    ensures { (used : List Usage) → AreExact used totals.now → AreExact used result.items }
+pub(crate) fn copy_totals(totals: &IndexMap<Role, Total>, alloc: Global) -> IndexMap<Role, Total>
+    ensures { (used : List Usage) → AreExact used totals.now.entries → AreExact used result.entries }
 {
-    let mut copy = Vec::new(alloc);
-    for total in totals {
-        copy_total(&mut copy, total);
+    let mut copy = IndexMap::new(alloc);
+    let _ = copy.reserve(totals.len());
+    for (role, total) in totals {
+        copy_total(&mut copy, role, total);
     }
     copy
 }

@@ -136,7 +136,7 @@ pub(crate) fn copy_used(
     ensures { IfOk result (λ copy. (test : Path → Bool) (label : Text)
         → used_where test copy.entries label ≡ used_where test used.now.entries label) }
 {
-    let mut copy = IndexMap::new(*used.allocator());
+    let mut copy = IndexMap::with_capacity(*used.allocator(), used.len())?;
     for (role, amounts) in used {
         role.recall();
         raise(&mut copy, role, amounts)?;

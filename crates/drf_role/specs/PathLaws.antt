@@ -67,7 +67,7 @@ framework_part-client_path role framework = framework_at role _ framework
 -- ---- no client path begins with another
 
 -- no part is `.`
-abbrev NoDots : Path → Type 0
+abbrev pub NoDots : Path → Type 0
 NoDots [] = Unit {0}
 NoDots (part ∷ parts) = (part ≢ codes ".") × NoDots parts
 
@@ -78,7 +78,7 @@ no_dots-components (part ∷ parts) all = ((All-head IsComponent part parts all)
 star_no_dot : codes "*" ≢ codes "."
 star_no_dot e = cc
 
-no_dots-role : (role : Path) → IsRole role → NoDots role
+pub no_dots-role : (role : Path) → IsRole role → NoDots role
 no_dots-role role (inl default) = subst NoDots (sym default) (star_no_dot, tt)
 no_dots-role role (inr path) = no_dots-components role path.each
 

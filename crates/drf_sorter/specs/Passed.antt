@@ -3,7 +3,7 @@ use Rattle.std.specs.Prelude.{◌≡◌, ◌<◌, ℕ, List, ◌++◌, Some, len
 use Rattle.std.specs.List.{AllByRecursion}
 use Rattle.drf_role.specs.Path.{Path}
 
--- the client that was next is passed by, and with it some that come right behind and share its first parts, so many
+-- the next client is passed, and perhaps clients right behind it that share its first parts, so many
 pub record IsPassedFront (len : ℕ) (old new : List Path) : Type 0 where
   pub passed : List Path
   pub split : old ≡ passed ++ new

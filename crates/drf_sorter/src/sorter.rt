@@ -104,8 +104,8 @@ pub trait Sorter: Sized + Drop {
         ensures made { (work self.new).made ≡ (work self.old).made }
         ensures work { Adds COUNTED (work self.old) (work self.new) 1 };
 
-    /// Puts the active clients into the order in which they are to be served. `first` and `pass` go along it, whatever is
-    /// charged meanwhile.
+    /// Puts the paths of the active clients into the order in which these are to be served. `first`, `pass` and `pass_front` go
+    /// along it, whatever is charged meanwhile.
     fn fix_order(&mut self) -> Result<(), AllocError>
         requires { IsSound (content self.old) }
         ensures order { OnOk result (IsOrderOf (content self.old) (queue self.new)) }
@@ -125,8 +125,7 @@ pub trait Sorter: Sized + Drop {
         ensures content { content self.new ≡ content self.old }
         ensures work { work self.new ≡ work self.old };
 
-    /// Goes on past that client, and past as many of those right behind it that share its first `len` parts as the sorter
-    /// passes at once.
+    /// Goes on past the next client and, if the sorter can, past clients right behind it that share its first `len` parts.
     fn pass_front(&mut self, len: usize)
         ensures queue { IsPassedFront len (queue self.old) (queue self.new) }
         ensures content { content self.new ≡ content self.old }

@@ -1,18 +1,16 @@
 -- A child by its name.
-use Rattle.std.specs.Prelude.{◌≡◌, ◌≢◌, ◌≤◌, ◌==◌, ℕ, Bool, true, false, ◌&&◌, ◌||◌, List, [], ◌∷◌, ◌++◌, Option, None, Some, length, map, slice_get, slice_index_or, nat_lt}
-use Rattle.std.specs.List.{AllByRecursion, list_any, position, position_or_len}
+use Rattle.std.specs.Prelude.{◌≡◌, ◌≢◌, ◌==◌, ℕ, Bool, true, false, ◌&&◌, ◌||◌, List, [], ◌∷◌, ◌++◌, Option, None, Some, length, map, slice_get, slice_index_or}
+use Rattle.std.specs.List.{AllByRecursion, list_any, position}
 use Rattle.std.specs.Option.{option_map_or}
 use Rattle.std.specs.Cmp.Lexicographic.{bytes_decides}
-use Rattle.std.proofs.Common.{refl, sym, ap, ◌∙◌, inl, inr, arith}
-use Rattle.std.proofs.lemmas.Bool.{cases_Bool, ltb-false}
+use Rattle.std.proofs.Common.{refl, sym, ap, ◌∙◌}
 use Rattle.std.proofs.lemmas.Bool.Decides.{same_from_decides, Decides-like}
-use Rattle.std.proofs.lemmas.List.Folds.{list_any_none}
 use Rattle.std.proofs.lemmas.List.Quantifiers.{position-Some}
-use Rattle.std.proofs.lemmas.List.Sums.{fails_before_first}
 use Rattle.std.proofs.lemmas.Option.{slice_get-get_or}
 use Rattle.drf_role.specs.Text.{Text, same_text}
 use Rattle.drf_role.specs.Path.{Path}
 use Rattle.drf_rows.specs.laws.ListLaws.{each_at}
+use Rattle.drf_sorter.proofs.ChangeLemmas.{position-none}
 use Rattle.drf_tree.specs.declared.family.Child.{Child}
 use Rattle.drf_tree.specs.declared.family.Family.{Family}
 use Rattle.drf_tree.specs.declared.node.Place.{Place}
@@ -43,17 +41,9 @@ module _ (places : List (Option Place)) (node : ℕ) (name : Text) where
   named_any [] all = refl
   named_any (c ∷ cs) all = λ i. named_is c all.0 i || named_any cs all.1 i
 
-  no_position : {X : Type 0} (p : X → Bool) (xs : List X) → position p xs ≡ None → list_any p xs ≡ false
-  no_position p xs is = elim (cases_Bool (nat_lt (position_or_len p xs) (length xs))) [
-    | inl within ↦ absurd (let bad = rw within at is in cc)
-    | inr past ↦
-        let end : length xs ≤ position_or_len p xs = ltb-false (position_or_len p xs) (length xs) past in
-        list_any_none p xs (λ k d inside. fails_before_first p xs k d (omega arith))
-  ]
-
   pub none_named : (cs : List Child) → AllByRecursion (IsChildOf places node) cs
       → position (λ c. is_named_at places c.node name) cs ≡ None → list_any (same_text name) (map child_name cs) ≡ false
-  none_named cs all none = sym (named_any cs all) ∙ no_position (λ c. is_named_at places c.node name) cs none
+  none_named cs all none = sym (named_any cs all) ∙ position-none (λ c. is_named_at places c.node name) cs (sym none)
 
   pub one_named : (cs : List Child) → AllByRecursion (IsChildOf places node) cs → (k : ℕ) (c : Child)
       → position (λ c. is_named_at places c.node name) cs ≡ Some k → c ≡ slice_index_or cs k c

@@ -111,7 +111,7 @@ impl Walk {
         self.settle(tree);
     }
 
-    /// Goes on past the client that is next and all others that stand at or below the same node of so many parts.
+    /// Goes on past the client that is next, and past others below the same node of so many parts.
     pub(crate) fn pass_front(&mut self, tree: &Tree, len: usize)
         requires shape { IsShapeOf tree.now }
         requires frames { AreFrames tree.now.places.items self.old.frames.items }

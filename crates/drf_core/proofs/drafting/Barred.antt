@@ -1,16 +1,15 @@
 -- Which clients may have nothing, where it is known that those of a role may have nothing.
-use Rattle.std.proofs.Common.{◌≡◌, ℕ, ◌+◌, ◌<◌, ◌≤◌, zero, suc, Bool, true, false, ◌&&◌, ◌||◌, List, [], ◌∷◌, ◌++◌, Option, Some, None, length, take, drop, refl, sym, ap, subst, ◌∙◌, inl, inr, arith}
-use Rattle.std.specs.Prelude.{slice_get, All, not, cond, codes, is_none, is_some, MatchOption, ◌≢◌}
+use Rattle.std.proofs.Common.{◌≡◌, ℕ, ◌+◌, ◌<◌, ◌≤◌, zero, suc, false, ◌||◌, List, [], ◌∷◌, ◌++◌, Option, Some, None, length, take, drop, refl, sym, ap, subst, ◌∙◌, inl, inr, arith}
+use Rattle.std.specs.Prelude.{slice_get, cond, codes, is_none, is_some, MatchOption}
 use Rattle.std.specs.List.{list_any, AllByRecursion}
 use Rattle.std.specs.Option.{option_map_or}
-use Rattle.std.proofs.lemmas.Bool.{or_parts}
+use Rattle.std.proofs.lemmas.Bool.{cases_lt}
 use Rattle.std.proofs.lemmas.List.{length-append}
-use Rattle.std.proofs.lemmas.List.Elements.{All-head, All-tail}
-use Rattle.drf_role.specs.Text.{Text, same_text}
-use Rattle.drf_role.specs.Path.{Path, IsClientPath, begins_with, client_path, role_part, same_path}
-use Rattle.drf_role.specs.PathLaws.{role_part-client_path}
-use Rattle.drf_role.specs.Role.{IsComponent, IsRole}
-use Rattle.drf_bundle.specs.Bundle.{IsBundle, IsResource, is_default}
+use Rattle.drf_role.specs.Text.{Text}
+use Rattle.drf_role.specs.Path.{Path, IsClientPath, client_path, role_part}
+use Rattle.drf_role.specs.PathLaws.{NoDots, no_dots-role, role_part-client_path}
+use Rattle.drf_role.specs.Role.{IsRole}
+use Rattle.drf_bundle.specs.Bundle.{IsBundle}
 use Rattle.drf_bundle.specs.declared.resource.Resource.{Resource}
 use Rattle.drf_gates.specs.Quota.{Allowance, IsAllowanceOf}
 use Rattle.drf_rows.specs.Cycle.{free_of, new_offer, with_offer}
@@ -18,32 +17,13 @@ use Rattle.drf_rows.specs.declared.rows.AgentRow.{AgentRow}
 use Rattle.drf_rows.specs.declared.rows.Rows.{Rows}
 use Rattle.drf_sorter.specs.Passed.{IsPassedFront}
 use Rattle.drf_core.specs.Drafting.{IsFreeAt, IsTried}
-use Rattle.drf_core.specs.Entitling.{IsBarred, IsKnown, IsOffered, IsPassedOver, IsQuotaOf, are_kin, barred_front, has_at_least, is_reserved_for, is_reserved_near}
+use Rattle.drf_core.specs.Entitling.{IsBarred, IsKnown, IsOffered, IsPassedOver, IsQuotaOf, barred_front, has_at_least, is_reserved_for, is_reserved_near}
 use Rattle.drf_core.specs.declared.free.Free.{Free}
 use Rattle.drf_core.proofs.drafting.Granted.{nothing_granted, spent}
+use Rattle.drf_core.proofs.drafting.Near.{none_near, shorter}
 use Rattle.drf_core.proofs.drafting.Turn.{AreWaiting, waiting-passed}
 
 -- ---- paths that begin alike
-
--- no part is `.`
-abbrev NoDots : Path → Type 0
-NoDots [] = Unit {0}
-NoDots (part ∷ parts) = (part ≢ codes ".") × NoDots parts
-
-no_dots-components : (parts : Path) → All IsComponent parts → NoDots parts
-no_dots-components [] all = tt
-no_dots-components (part ∷ parts) all = ((All-head IsComponent part parts all).no_dot, no_dots-components parts (All-tail IsComponent part parts all))
-
-star_no_dot : codes "*" ≢ codes "."
-star_no_dot e = cc
-
-no_dots : (role : Path) → IsRole role → NoDots role
-no_dots role (inl default) = subst NoDots (sym default) (star_no_dot, tt)
-no_dots role (inr path) = no_dots-components role path.each
-
-has_parts : (role : Path) → IsRole role → 1 ≤ length role
-has_parts role (inl default) = omega (arith, ap (λ (r : Path). length r) default)
-has_parts role (inr path) = path.some
 
 -- the parts before the first `.` are those of the role
 roles_alike : (n : ℕ) (r s : Path) (f g : Text) → NoDots r → NoDots s → n ≤ length s → take n (client_path r f) ≡ take n (client_path s g) → take n r ≡ take n s
@@ -65,50 +45,6 @@ same_role (x ∷ xs) (y ∷ ys) f g p q alike =
     let tail = same_role xs ys f g p.1 q.1 cc in
     λ i. head i ∷ tail i
 
--- fewer parts are alike too
-shorter : (m n : ℕ) (a b : Path) → m ≤ n → take n a ≡ take n b → take m a ≡ take m b
-shorter zero n a b few alike = refl
-shorter (suc m) zero a b few alike = absurd (omega (arith, few))
-shorter (suc m) (suc n) [] [] few alike = refl
-shorter (suc m) (suc n) [] (y ∷ ys) few alike = absurd cc
-shorter (suc m) (suc n) (x ∷ xs) [] few alike = absurd cc
-shorter (suc m) (suc n) (x ∷ xs) (y ∷ ys) few alike =
-    let head : x ≡ y = cc in
-    let tail = shorter m n xs ys (omega (arith, few)) cc in
-    λ i. head i ∷ tail i
-
--- ---- what is reserved
-
-first_false : (x : Bool) → (x && true) ≡ false → x ≡ false
-first_false true both = both
-first_false false both = refl
-
--- what has another first part is no role that a role with that first part is within
-apart : (role other outer : Path) (n : ℕ) → 1 ≤ n → take n other ≡ take n role → 1 ≤ length outer → are_kin outer role ≡ false → begins_with other outer ≡ false
-apart role other [] n some alike one near = absurd (omega (arith, one))
-apart role [] (a ∷ outer) n some alike one near = refl
-apart role (b ∷ other) (a ∷ outer) zero some alike one near = absurd (omega (arith, some))
-apart [] (b ∷ other) (a ∷ outer) (suc n) some alike one near = absurd cc
-apart (c ∷ role) (b ∷ other) (a ∷ outer) (suc n) some alike one near =
-    let same : b ≡ c = cc in
-    let rest = same_path outer (take (length outer) other) in
-    ap (λ (t : Text). same_text a t && rest) same ∙ ap (λ (x : Bool). x && rest) (first_false (same_text a c) near)
-
--- where nothing is reserved for a role with the same first part, nothing is for such a role
-pub none_near : (role other : Path) (n : ℕ) → 1 ≤ n → take n other ≡ take n role → (rs : List Resource) → All IsResource rs
-    → list_any (is_reserved_near role) rs ≡ false → list_any (is_reserved_for other) rs ≡ false
-none_near role other n some alike [] all none = refl
-none_near role other n some alike (r ∷ rs) all none =
-    let parts = or_parts (is_reserved_near role r) (list_any (is_reserved_near role) rs) none in
-    let its = All-head IsResource r rs all in
-    let one = by (is_default r.role) (has_parts r.role its.role) parts.0 in
-    let rest = none_near role other n some alike rs (All-tail IsResource r rs all) parts.1 in
-    λ i. one i || rest i
-  where
-    by : (d : Bool) → 1 ≤ length r.role → (not d && are_kin r.role role) ≡ false → (not d && (d || begins_with other r.role)) ≡ false
-    by true one near = refl
-    by false one near = apart role other r.role n some alike one near
-
 -- ---- who may have nothing
 
 -- the clients of a role that may have nothing
@@ -117,7 +53,7 @@ pub barred-role : (quota : Option Allowance) (free : List Resource) (role : Path
 barred-role quota free role front right is offered rows client framework counted its alike =
     let size : front ≡ suc (length role) = omega (arith, is) in
     offered rows client counted
-    (same_role client.role role client.framework framework (no_dots client.role its) (no_dots role right)
+    (same_role client.role role client.framework framework (no_dots-role client.role its) (no_dots-role role right)
     (subst (λ (n : ℕ). take n (client_path client.role client.framework) ≡ take n (client_path role framework)) size alike))
 
 -- less of a scalar is free, or left by limits, to roles with these first parts, so many
@@ -130,16 +66,21 @@ pub short-offered : (a : Allowance) (free : List Resource) (role : Path) (cpus m
 short-offered a free role cpus mem bundle none short little =
     spent a free role bundle none (λ now its. short now role its refl) (λ now its. little now role its refl)
 
--- and those below a role above it whose limits leave too little
+-- and all who begin with the first parts of such a role, so many that limits leave as little to them and nothing is reserved for them
 pub barred-front : (a : Allowance) (free : List Resource) (role : Path) (cpus mem front : ℕ) → IsBundle free → IsRole role
-    → list_any (is_reserved_near role) free ≡ false → 1 ≤ front → cpus ≤ front → mem ≤ front → front ≤ length role
+    → list_any (is_reserved_for role) free ≡ false → list_any (is_reserved_near role front) free ≡ false
+    → cpus ≤ front → mem ≤ front → front ≤ length role + 1
     → IsShort a free role cpus (codes "cpus") 10 → IsShort a free role mem (codes "mem") 32000 → IsBarred (Some a) free role front
-barred-front a free role cpus mem front bundle right none some few_cpus few_mem few short little rows client framework counted its alike =
-    let same = roles_alike front client.role role client.framework framework (no_dots client.role its) (no_dots role right) few alike in
-    spent a free client.role bundle (none_near role client.role front some same free bundle.each none)
-    (λ now its'. short now client.role its' (shorter cpus front client.role role few_cpus same))
-    (λ now its'. little now client.role its' (shorter mem front client.role role few_mem same))
-    rows client counted refl
+barred-front a free role cpus mem front bundle right above near few_cpus few_mem few short little = elim (cases_lt (length role) front) [
+  | inl whole ↦
+      barred-role (Some a) free role front right (omega arith) (short-offered a free role cpus mem bundle above short little)
+  | inr below ↦ λ rows client framework counted its alike.
+      let same = roles_alike front client.role role client.framework framework (no_dots-role client.role its) (no_dots-role role right) (omega arith) alike in
+      spent a free client.role bundle (none_near role client.role front same free above near)
+      (λ now its'. short now client.role its' (shorter cpus front client.role role few_cpus same))
+      (λ now its'. little now client.role its' (shorter mem front client.role role few_mem same))
+      rows client counted refl
+]
 
 -- ---- those that are passed by
 

@@ -1,7 +1,7 @@
 -- What a role may have, what is granted of it, and what a quota counts, by what the code reads.
 use Rattle.std.proofs.Common.{◌≡◌, ◌≢◌, ℕ, ◌<◌, ◌≤◌, Bool, true, false, true≢false, ◌&&◌, nat_lt, nat_le, List, [], ◌∷◌, Option, Some, None, length, refl, sym, ap, subst, ◌∙◌, cond, arith}
 use Rattle.std.specs.Prelude.{not, ◌||◌, min, codes, IsTrue, ◌↔◌}
-use Rattle.std.specs.List.{list_any}
+use Rattle.std.specs.List.{list_all, list_any}
 use Rattle.std.specs.Option.{option_map_or}
 use Rattle.std.proofs.lemmas.Bool.{and_parts, and_from, or_parts}
 use Rattle.std.proofs.lemmas.Bool.Decides.{nat_tests}
@@ -10,10 +10,12 @@ use Rattle.drf_role.specs.Text.{Text, same_text}
 use Rattle.drf_role.specs.TextLaws.{same_from_test, same_itself}
 use Rattle.drf_role.specs.Path.{Path, begins_with, role_part, framework_part}
 use Rattle.drf_role.specs.PathLaws.{role_part-client_path, framework_part-client_path}
-use Rattle.drf_bundle.specs.Bundle.{IsBundle, is_default, is_for, is_unreserved, quantities_of, part_for, clipped, clip, stock}
+use Rattle.drf_bundle.specs.Bundle.{IsBundle, is_default, is_for, quantities_of, part_for, clipped, clip, same_key, stock}
 use Rattle.drf_bundle.specs.Quantities.{amount_of}
 use Rattle.drf_bundle.specs.Value.{Thousandths, amount_in, units_in}
-use Rattle.drf_bundle.specs.laws.SumLaws.{amount-quantities_of}
+use Rattle.drf_role.specs.Parts.{text_of}
+use Rattle.drf_bundle.specs.laws.KeyLaws.{unit_of, where-cons}
+use Rattle.drf_bundle.specs.laws.SumLaws.{amount-quantities_of, of_name}
 use Rattle.drf_bundle.specs.declared.quantities.Entry.{Entry}
 use Rattle.drf_bundle.specs.declared.resource.Resource.{Resource}
 use Rattle.drf_gates.specs.Quota.{Allowance, IsAllowanceOf, IsRaisedBy}
@@ -25,7 +27,6 @@ use Rattle.drf_rows.specs.Filters.{is_held_back}
 use Rattle.drf_rows.specs.Quota.{consumption, entitlement, headroom, headroom_at, headrooms, unreserved_in}
 use Rattle.drf_rows.specs.laws.QuotaLaws.{parts_le, consumption-with_offer, consumption_is_part_of_total}
 use Rattle.drf_rows.specs.laws.EntitlementLaws.{entitled_by_units}
-use Rattle.drf_rows.specs.laws.ReservationLaws.{unreserved_in-all}
 use Rattle.drf_rows.specs.laws.ReportedShares.{small_total}
 use Rattle.drf_rows.specs.declared.rows.AgentRow.{AgentRow}
 use Rattle.drf_rows.specs.declared.rows.FilterRow.{FilterRow}
@@ -33,7 +34,7 @@ use Rattle.drf_rows.specs.declared.rows.LimitRow.{LimitRow}
 use Rattle.drf_rows.specs.declared.rows.OfferRow.{OfferRow}
 use Rattle.drf_rows.specs.declared.rows.Rows.{Rows}
 use Rattle.drf_core.specs.Drafting.{CanCount}
-use Rattle.drf_core.specs.Entitling.{IsEntitlement, IsOffered, IsQuotaOf, has_at_least, if_allocatable, is_reserved_for, is_usable_by}
+use Rattle.drf_core.specs.Entitling.{IsEntitlement, IsOffered, IsQuotaOf, has_at_least, if_allocatable, is_of_worth, is_reserved, is_reserved_for, is_usable_by}
 
 -- ---- what a role may have
 
@@ -64,43 +65,89 @@ offered-is quota free role part offered entitled made rows client counted same =
 
 -- ---- limits that leave too little
 
--- what a role may use is unreserved, where nothing is reserved for it
-none_reserved : (role : Path) (rs : List Resource) → list_any (is_reserved_for role) rs ≡ false → is_unreserved (part_for role rs) ≡ true
-none_reserved role [] none = refl
-none_reserved role (r ∷ rs) none =
+-- the scalars that make an offer worth it
+or_last : (a : Bool) {b : Bool} → b ≡ true → (a || b) ≡ true
+or_last true is = refl
+or_last false is = is
+
+swapped : (r : Resource) (label : Text) → same_text label r.label ≡ true → same_text r.label label ≡ true
+swapped r label is =
+    subst (λ (t : Text). same_text t label ≡ true) (same_from_test label r.label is) (same_itself label)
+
+cpus_worth : (r : Resource) → same_text (codes "cpus") r.label ≡ true → is_of_worth r ≡ true
+cpus_worth r is = ap (λ b. b || same_text r.label (codes "mem")) (swapped r (codes "cpus") is)
+
+mem_worth : (r : Resource) → same_text (codes "mem") r.label ≡ true → is_of_worth r ≡ true
+mem_worth r is = or_last (same_text r.label (codes "cpus")) (swapped r (codes "mem") is)
+
+-- all that there is of a scalar is for everyone
+abbrev is_for_all_of : Text → Resource → Bool
+is_for_all_of label r = not (same_text label r.label) || is_default r.role
+
+abbrev is_for_all : Text → List Resource → Bool
+is_for_all label rs = list_all (is_for_all_of label) rs
+
+-- what a role may use of such a scalar is for everyone, where nothing is reserved for it
+none_reserved : (role : Path) (label : Text) → ((r : Resource) → same_text label r.label ≡ true → is_of_worth r ≡ true)
+    → (rs : List Resource) → list_any (is_reserved_for role) rs ≡ false → is_for_all label (part_for role rs) ≡ true
+none_reserved role label worth [] none = refl
+none_reserved role label worth (r ∷ rs) none =
     let parts = or_parts (is_reserved_for role r) (list_any (is_reserved_for role) rs) none in
-    by (is_default r.role) (begins_with role r.role) refl parts.0 (none_reserved role rs parts.1)
+    by (is_default r.role) (begins_with role r.role) (same_text label r.label) refl refl parts.0 (none_reserved role label worth rs parts.1)
   where
     part : List Resource
     part = part_for role rs
 
-    by : (a b : Bool) → is_default r.role ≡ a → (not a && (a || b)) ≡ false → is_unreserved part ≡ true → is_unreserved (cond (a || b) (r ∷ part) part) ≡ true
-    by true b default here others = and_from (is_default r.role) (is_unreserved part) default others
-    by false true other here others = absurd (true≢false here)
-    by false false other here others = others
+    by : (d b s : Bool) → is_default r.role ≡ d → same_text label r.label ≡ s → (is_reserved r && b) ≡ false → is_for_all label part ≡ true
+        → is_for_all label (cond (d || b) (r ∷ part) part) ≡ true
+    by true b s default named none' others =
+        and_from (is_for_all_of label r) (is_for_all label part) (or_last (not (same_text label r.label)) default) others
+    by false false s other named none' others = others
+    by false true true other named none' others =
+        let its : (is_reserved r && true) ≡ true = (λ i. (worth r named i && not (other i)) && true) in
+        absurd (true≢false (sym its ∙ none'))
+    by false true false other named none' others =
+        and_from (is_for_all_of label r) (is_for_all label part) (ap (λ (x : Bool). not x || is_default r.role) named) others
 
--- what is cut stays unreserved
-unreserved-clipped : (limits : List Entry) (rs : List Resource) → is_unreserved rs ≡ true → is_unreserved (clip limits rs) ≡ true
-unreserved-clipped limits [] free = refl
-unreserved-clipped limits (r ∷ rs) free =
-    let parts = and_parts (is_default r.role) (is_unreserved rs) free in
-    by (nat_lt 0 (amount_in (clipped limits r).value)) parts.0 (unreserved-clipped limits rs parts.1)
+-- what is cut stays so
+shared-clipped : (label : Text) (limits : List Entry) (rs : List Resource) → is_for_all label rs ≡ true → is_for_all label (clip limits rs) ≡ true
+shared-clipped label limits [] shared = refl
+shared-clipped label limits (r ∷ rs) shared =
+    let parts = and_parts (is_for_all_of label r) (is_for_all label rs) shared in
+    by (nat_lt 0 (amount_in (clipped limits r).value)) parts.0 (shared-clipped label limits rs parts.1)
   where
     rest : List Resource
     rest = clip limits rs
 
-    by : (b : Bool) → is_default r.role ≡ true → is_unreserved rest ≡ true → is_unreserved (cond b (clipped limits r ∷ rest) rest) ≡ true
-    by true default others = and_from (is_default r.role) (is_unreserved rest) default others
-    by false default others = others
+    by : (b : Bool) → is_for_all_of label r ≡ true → is_for_all label rest ≡ true → is_for_all label (cond b (clipped limits r ∷ rest) rest) ≡ true
+    by true its others = and_from (is_for_all_of label r) (is_for_all label rest) its others
+    by false its others = others
+
+shared-all : (label : Text) (rs : List Resource) → is_for_all label rs ≡ true → unreserved_in label rs ≡ amount_of (quantities_of rs) label
+shared-all label rs shared = all rs shared ∙ sym (amount-quantities_of rs label)
+  where
+    all : (rs : List Resource) → is_for_all label rs ≡ true → unreserved_in label rs ≡ stock rs label Thousandths
+    all [] shared = refl
+    all (r ∷ rs) shared =
+        let parts = and_parts (is_for_all_of label r) (is_for_all label rs) shared in
+        let here : unit_of (same_key (label, [])) Thousandths r ≡ unit_of (of_name label) Thousandths r =
+        at (same_text label r.label) (is_default r.role) parts.0 in
+        omega (arith, where-cons (same_key (label, [])) Thousandths r rs, where-cons (of_name label) Thousandths r rs, here, all rs parts.1)
+      where
+        at : (s d : Bool) → (not s || d) ≡ true
+            → cond (s && same_text [] (cond d [] (text_of r.role))) (units_in r.value Thousandths) 0 ≡ cond s (units_in r.value Thousandths) 0
+        at false d shared = refl
+        at true true shared = refl
+        at true false shared = absurd (true≢false (sym shared))
 
 -- a client may have no more of a scalar than is free, and no more than the headroom
 below : (rows : Rows) (free : List Resource) (client : Client) (label : Text) (least : ℕ) → IsBundle free
-    → is_unreserved (entitlement rows free client) ≡ true → has_at_least rows free client.role label least ≡ false
+    → is_for_all label (entitlement rows free client) ≡ true → has_at_least rows free client.role label least ≡ false
     → amount_of (quantities_of (entitlement rows free client)) label < least
-below rows free client label least right unreserved little =
+below rows free client label least right shared little =
     let whole : List Resource = entitlement rows free client in
     by (headroom_at rows client.role label) (unreserved_in label free) (amount_of (quantities_of free) label) (amount_of (quantities_of whole) label)
-    (sym (unreserved_in-all (λ p. true) label whole unreserved) ∙ entitled_by_units rows free client (label, []) Thousandths right)
+    (sym (shared-all label whole shared) ∙ entitled_by_units rows free client (label, []) Thousandths right)
     (omega (arith, parts_le (λ p. true) label free, amount-quantities_of free label)) little
   where
     by : (room : Option ℕ) (n m x : ℕ) → x ≡ option_map_or (min n) room n → n ≤ m
@@ -114,12 +161,12 @@ pub spent : (a : Allowance) (free : List Resource) (role : Path) → IsBundle fr
     → IsOffered (Some a) free role None
 spent a free role right none few little rows client counted same =
     let whole : List Resource = entitlement rows free client in
-    let unreserved : is_unreserved whole ≡ true =
-    unreserved-clipped (headroom rows client.role) (part_for client.role free)
-    (ap (λ (r : Path). is_unreserved (part_for r free)) same ∙ none_reserved role free none) in
-    let few_cpus = below rows free client (codes "cpus") 10 right unreserved
+    let reserved : list_any (is_reserved_for client.role) free ≡ false = ap (λ (r : Path). list_any (is_reserved_for r) free) same ∙ none in
+    let few_cpus = below rows free client (codes "cpus") 10 right
+    (shared-clipped (codes "cpus") (headroom rows client.role) (part_for client.role free) (none_reserved client.role (codes "cpus") cpus_worth free reserved))
     (ap (λ (r : Path). has_at_least rows free r (codes "cpus") 10) same ∙ few rows counted) in
-    let little_mem = below rows free client (codes "mem") 32000 right unreserved
+    let little_mem = below rows free client (codes "mem") 32000 right
+    (shared-clipped (codes "mem") (headroom rows client.role) (part_for client.role free) (none_reserved client.role (codes "mem") mem_worth free reserved))
     (ap (λ (r : Path). has_at_least rows free r (codes "mem") 32000) same ∙ little rows counted) in
     let worthless : is_allocatable whole ≡ false = grind (arith, nat_tests) in
     sym (ap (λ b. cond b (Some whole) None) worthless)
@@ -159,20 +206,12 @@ unusable quota free role none rows client counted same =
     let idle : list_any (is_usable_by client.role) free ≡ false = ap (λ (r : Path). list_any (is_usable_by r) free) same ∙ none in
     let cpus : amount_of (quantities_of whole) (codes "cpus") ≡ 0 = amount-quantities_of whole (codes "cpus")
     ∙ none_usable (headroom rows client.role) client.role (codes "cpus") free
-    (λ r is mine. and_from _ _ (ap (λ b. b || same_text r.label (codes "mem")) (swapped r (codes "cpus") is)) mine) idle in
+    (λ r is mine. and_from _ _ (cpus_worth r is) mine) idle in
     let mem : amount_of (quantities_of whole) (codes "mem") ≡ 0 = amount-quantities_of whole (codes "mem")
     ∙ none_usable (headroom rows client.role) client.role (codes "mem") free
-    (λ r is mine. and_from _ _ (or_last (same_text r.label (codes "cpus")) (swapped r (codes "mem") is)) mine) idle in
+    (λ r is mine. and_from _ _ (mem_worth r is) mine) idle in
     let worthless : is_allocatable whole ≡ false = λ i. nat_le 10 (cpus i) || nat_le 32000 (mem i) in
     sym (ap (λ b. cond b (Some whole) None) worthless)
-  where
-    or_last : (a : Bool) {b : Bool} → b ≡ true → (a || b) ≡ true
-    or_last true is = refl
-    or_last false is = is
-
-    swapped : (r : Resource) (label : Text) → same_text label r.label ≡ true → same_text r.label label ≡ true
-    swapped r label is =
-        subst (λ (t : Text). same_text t label ≡ true) (same_from_test label r.label is) (same_itself label)
 
 -- ---- what is granted
 

@@ -1,9 +1,10 @@
-use Rattle.std.proofs.Common.{sym, ◌∙◌}
+use Rattle.std.proofs.Common.{sym, ap, ◌∙◌}
+use Rattle.std.specs.Option.{option_copied}
 use Rattle.drf_gates.proofs.TotalLemmas.{kept_is}
 use Rattle.drf_gates.proofs.totals.kept.Goals as goal
 
-pub returns-then-eq : goal.returns-then-eq
-returns-then-eq c = λ used exact.
-    c.get.ensures
-    ∙ kept_is used c.args.totals.now c.loop-total.total-index c.total-item.result c.args.role.now c.args.label.now
-    c.loop-total-test.true c.total-item.is c.if-total.true (sym c.eq.ensures ∙ c.if-eq.true) exact
+pub returns : goal.returns
+returns c = λ used exact.
+    c.get-2.ensures
+    ∙ kept_is used c.args.totals.now.entries c.args.role.now c.in_ok-total.total.now c.args.label.now
+    (sym c.get.ensures.value ∙ ap option_copied c.in_ok-total.was) c.if-not-total.false exact

@@ -1,14 +1,15 @@
-use Rattle.std.proofs.Common.{arith}
-use Rattle.drf_gates.specs.Quota.{AreRaised}
-use Rattle.drf_gates.proofs.TotalLemmas.{carried_end, carried_more}
+use Rattle.std.proofs.Common.{sym, arith}
+use Rattle.drf_gates.proofs.CarryLemmas.{carried_end, carried_start, raised_same}
 use Rattle.drf_gates.proofs.totals.lower_totals.Goals as goal
 
-pub loop-total-preserved : goal.loop-total-preserved
-loop-total-preserved c =
-    carried_more (λ old new. AreRaised new old c.args.role.now c.args.amounts.now) c.args.totals.now c.loop-total.totals c.loop-total.total-index
-    c.total-item.result c.lower_total.new.total (omega (arith, c.loop-total.auto.totals, c.loop-total-test.true)) c.total-item.is c.loop-total.invariant c.lower_total.ensures
+pub loop-len-init : goal.loop-len-init
+loop-len-init c = λ old new changed exact. carried_start old new c.args.role.now c.args.totals.now.entries exact
+
+pub loop-len-preserved : goal.loop-len-preserved
+loop-len-preserved c = λ old new changed exact. c.lower_front.ensures old new changed (c.loop-len.invariant old new changed exact)
 
 pub returns : goal.returns
-returns c =
-    carried_end (λ old new. AreRaised new old c.args.role.now c.args.amounts.now) c.args.totals.now c.loop-total.totals c.loop-total.total-index
-    (omega (arith, c.loop-total.auto.totals, c.loop-total-test.false)) c.loop-total.invariant
+returns c = λ old new changed exact.
+    carried_end old new c.args.role.now c.loop-len.len (omega (arith, c.len-fronts.ensures.len, c.loop-len-test.false)) c.loop-len.totals.entries
+    (λ outer past label. sym (raised_same new old c.args.role.now c.args.amounts.now changed outer past label))
+    (c.loop-len.invariant old new changed exact)

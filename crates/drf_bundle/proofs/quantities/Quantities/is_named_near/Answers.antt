@@ -1,6 +1,6 @@
-use Rattle.std.proofs.Common.{◌∙◌}
-use Rattle.drf_bundle.proofs.PlaceLemmas.{named_from_place}
+use Rattle.std.proofs.Common.{sym}
+use Rattle.drf_bundle.proofs.PlaceLemmas.{named_at}
 use Rattle.drf_bundle.proofs.quantities.Quantities.is_named_near.Goals as goal
 
-pub returns : goal.returns
-returns c = c.is_some.ensures ∙ named_from_place _ _ _ c.place_if_named.ensures.found c.place_if_named.ensures.none
+pub returns-in-Some : goal.returns-in-Some
+returns-in-Some c = sym (named_at c.args.self.now c.args.label.now c.in-Some.at c.in-Some.ensures.found)

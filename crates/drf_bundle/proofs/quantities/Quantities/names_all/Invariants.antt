@@ -3,5 +3,5 @@ use Rattle.drf_bundle.specs.Quantities.{names_all}
 use Rattle.drf_bundle.proofs.quantities.Quantities.names_all.Given as goal
 
 -- each label so far is named
-abbrev pub invariant-loop-i : goal.invariant-loop-i
-invariant-loop-i l = names_all l.self (take l.i l.entry-items) ≡ true
+abbrev pub invariant-loop-entry : goal.invariant-loop-entry
+invariant-loop-entry l = names_all l.self (take l.entry-index l.entry-items) ≡ true

@@ -1,9 +1,9 @@
-use Rattle.std.proofs.Common.{◌≡◌}
-use Rattle.drf_gates.specs.Quota.{limit_rows, used_at}
-use Rattle.drf_gates.proofs.QuotaLemmas.{admitted_from}
+use Rattle.std.proofs.Common.{◌≡◌, ℕ, ◌<◌, true}
+use Rattle.drf_rows.specs.Quota.{stays_within}
+use Rattle.drf_gates.specs.Front.{front_passes}
+use Rattle.drf_gates.specs.Quota.{used_at}
 use Rattle.drf_gates.proofs.quota.Quota.admits_one.Given as goal
 
-abbrev pub invariant-loop-limited : goal.invariant-loop-limited
-invariant-loop-limited l =
-    admitted_from (used_at l.self.used) l.role l.more (limit_rows l.limited-iterator)
-    ≡ admitted_from (used_at l.self.used) l.role l.more l.self.limits
+-- the limits of the fronts so far leave room
+abbrev pub invariant-loop-len : goal.invariant-loop-len
+invariant-loop-len l = (n : ℕ) → n < l.len → front_passes (stays_within (used_at l.self.used) l.more) l.role l.more.label n l.self.limits ≡ true

@@ -1,8 +1,6 @@
-use Rattle.std.proofs.Common.{List, sym, ap, subst, ◌∙◌, arith}
+use Rattle.std.proofs.Common.{List, ap, ◌∙◌, arith}
 use Rattle.drf_rows.specs.Quota.{is_within}
 use Rattle.drf_gates.specs.Quota.{Allowance, Usage, limit_rows, used_where}
-use Rattle.drf_gates.specs.Totals.{AreExact}
-use Rattle.drf_gates.specs.declared.totals.Total.{Total}
 use Rattle.drf_gates.proofs.TotalLemmas.{exact_alike}
 use Rattle.drf_gates.proofs.quota.Quota.copy.Goals as goal
 
@@ -13,8 +11,8 @@ invariant_of-result c =
       bounded = record {
         below = λ role label right. omega (arith, c.in_ok-used.ensures (is_within role) label, c.self.invariant.bounded.below role label right);
       };
-      exact = exact_alike old c.in_ok-used.used.entries c.copy_totals-totals.result.items c.in_ok-used.ensures
-          (c.copy_totals-totals.ensures old (subst (λ (ts : List Total). AreExact old ts) (sym c.deref.ensures.value) c.self.invariant.exact));
+      exact = exact_alike old c.in_ok-used.used.entries c.copy_totals-totals.result.entries c.in_ok-used.ensures
+          (c.copy_totals-totals.ensures old c.self.invariant.exact);
     }
 
 pub returns : goal.returns

@@ -23,5 +23,5 @@ reduce-requires c =
 pub invariant_of-self : goal.invariant_of-self
 invariant_of-self c =
     lowered_beside c.self.inside.used.entries c.reduce.new.used.entries c.args.role.now
-    (one_entry c.args.resource.now.label c.thousandths-amount.result) c.self.inside.totals c.deref_mut.result.now c.reduce_totals.new.totals
-    c.self.invariant c.deref_mut.ensures.value c.reduce_totals.auto.totals c.reduce.ensures c.reduce_totals.ensures
+    (one_entry c.args.resource.now.label c.thousandths-amount.result) c.self.inside.totals.entries c.reduce_totals.new.totals.entries
+    c.self.invariant c.reduce.ensures c.reduce_totals.ensures

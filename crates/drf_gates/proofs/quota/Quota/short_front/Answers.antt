@@ -1,8 +1,9 @@
-use Rattle.std.proofs.Common.{◌≡◌, ℕ, ◌≤◌, length, take, ap, sym, ◌∙◌, arith, length-take-le}
+use Rattle.std.proofs.Common.{◌≡◌, ℕ, ◌≤◌, length, nat_le, take, ap, sym, ◌∙◌, arith, length-take-le}
 use Rattle.std.specs.List.{list_all}
 use Rattle.std.proofs.lemmas.List.{length-take}
 use Rattle.drf_role.specs.Path.{Path}
-use Rattle.drf_gates.specs.Front.{leaves_one, limits_at}
+use Rattle.drf_rows.specs.Quota.{room_under}
+use Rattle.drf_gates.specs.Front.{limits_at, passes_one}
 use Rattle.drf_gates.specs.Quota.{Allowance, used_at}
 use Rattle.drf_gates.proofs.QuotaLemmas.{leaves-its}
 use Rattle.drf_gates.proofs.LeaveLemmas.{front_little, fronts_leave}
@@ -14,12 +15,21 @@ as_many role other len within same =
     let size = ap (λ (p : Path). length p) same in
     omega (arith, size, length-take len other, length-take-le len role within)
 
+pub returns-then-not-front_leaves-clause-first : goal.returns-then-not-front_leaves-clause-first
+returns-then-not-front_leaves-clause-first c = record {
+  short = sym c.front_leaves.ensures ∙ c.if-not-front_leaves.true;
+  first = λ fewer few. c.loop-len.invariant fewer few;
+}
+
+pub returns-clause-none : goal.returns-clause-none
+returns-clause-none c none len few = c.loop-len.invariant len (omega (arith, c.len-fronts.ensures.len))
+
 -- the limit of the front leaves as little to it
 pub returns-then-not-front_leaves-clause-short : goal.returns-then-not-front_leaves-clause-short
 returns-then-not-front_leaves-clause-short c rows other its same =
     let a : Allowance = c.args.self.now in
     let within : c.loop-len.len ≤ length c.args.role.now = omega (arith, c.len-fronts.ensures.len) in
-    let little = ap (λ (p : Path). list_all (leaves_one (used_at a.used) c.args.label.now c.args.least) (limits_at p a.limits)) same
+    let little = ap (λ (p : Path). list_all (passes_one (λ l. nat_le c.args.least (room_under (used_at a.used) c.args.label.now l)) c.args.label.now) (limits_at p a.limits)) same
     ∙ sym c.front_leaves.ensures ∙ c.if-not-front_leaves.true in
     sym (leaves-its rows a its other c.args.label.now c.args.least)
     ∙ sym (front_little (used_at a.used) other c.args.label.now c.args.least a.limits c.loop-len.len

@@ -1,8 +1,8 @@
 use Rattle.drf_bundle.proofs.PlaceLemmas.{found_first, named_nowhere, unnamed_from_search}
-use Rattle.drf_bundle.proofs.quantities.Quantities.place_anywhere.Goals as goal
+use Rattle.drf_bundle.proofs.quantities.Quantities.place_elsewhere.Goals as goal
 
 pub returns-then-len-gt-FEW-clause-none : goal.returns-then-len-gt-FEW-clause-none
-returns-then-len-gt-FEW-clause-none c = rw (c.ok.ensures.value, ← c.text.ensures.text) (unnamed_from_search _ _ _ c.place_by_order.ensures.absent)
+returns-then-len-gt-FEW-clause-none c = rw c.ok.ensures.value (unnamed_from_search _ _ _ c.place_of_label.ensures.absent)
 
 pub returns-clause-found : goal.returns-clause-found
 returns-clause-found c = found_first _ _ _ c.first_place.ensures

@@ -1,0 +1,15 @@
+use Rattle.std.proofs.Common.{sym, ◌∙◌, arith}
+use Rattle.drf_rows.specs.Quota.{stays_within}
+use Rattle.drf_gates.specs.Quota.{used_at}
+use Rattle.drf_gates.proofs.LeaveLemmas.{front_fails, fronts_pass}
+use Rattle.drf_gates.proofs.quota.Quota.admits_one.Goals as goal
+
+pub returns-then-not-front_admits : goal.returns-then-not-front_admits
+returns-then-not-front_admits c =
+    front_fails (stays_within (used_at c.args.self.now.used) c.args.more.now) c.args.role.now c.args.more.now.label c.args.self.now.limits c.loop-len.len
+    (omega (arith, c.len-fronts.ensures.len)) (sym c.front_admits.ensures ∙ c.if-not-front_admits.true)
+
+pub returns : goal.returns
+returns c =
+    fronts_pass (stays_within (used_at c.args.self.now.used) c.args.more.now) c.args.role.now c.args.more.now.label c.args.self.now.limits
+    (λ n few. c.loop-len.invariant n (omega (arith, c.len-fronts.ensures.len)))

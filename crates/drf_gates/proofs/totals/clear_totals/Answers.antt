@@ -1,0 +1,1 @@
+use Rattle.drf_gates.proofs.totals.clear_totals.Goals as goal

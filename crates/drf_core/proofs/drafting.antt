@@ -5,5 +5,6 @@ pub mod Granted
 pub mod Turn
 pub mod Told
 pub mod Cycle
+pub mod Closed
 pub mod Near
 pub mod Barred

@@ -14,7 +14,8 @@ use std::marker::Model;
 pub struct Core<S: Sorter> {
     alloc: Global,
     limits: Limits,
-    cluster: Cluster<S>,
+    // On the heap, so that an allocator is moved by a pointer.
+    cluster: Box<Cluster<S>>,
 }
 
 // Written out, so that the proof of whoever drops an allocator sees one call, and not the drop of each field.
@@ -37,9 +38,9 @@ impl<S: Sorter> Model for Core<S> {
 
     ghost use Rattle.drf_core.specs.Kept.{IsKept};
 
-    ghost view = { λ c. record { limits = c.limits; rows = c.cluster.rows; work = c.cluster.work } };
+    ghost view = { λ c. record { limits = c.limits; rows = c.cluster.value.rows; work = c.cluster.value.work } };
 
-    ghost invariant = { λ c. IsKept c.limits c.cluster.rows };
+    ghost invariant = { λ c. IsKept c.limits c.cluster.value.rows };
 }
 
 impl<S: Sorter> Core<S> {
@@ -60,7 +61,7 @@ impl<S: Sorter> Core<S> {
         Ok(Core {
             alloc,
             limits,
-            cluster: Cluster::open(alloc)?,
+            cluster: Box::new(alloc, Cluster::open(alloc)?)?,
         })
     }
 
@@ -81,12 +82,13 @@ impl<S: Sorter> Core<S> {
         ensures keys { may_make_keys event ≡ false → self.new.work.made ≡ self.old.work.made }
         ensures refused { IfSome (refusal_of self.old.limits self.old.rows event) (λ refusal. self.new.work.made ≡ self.old.work.made) }
     {
-        self.cluster.forget_spent();
-        if let Some(refusal) = self.cluster.refusal(&self.limits, &event)? {
+        let cluster = &mut *self.cluster;
+        cluster.forget_spent();
+        if let Some(refusal) = cluster.refusal(&self.limits, &event)? {
             return Ok(Reply::Refused(refusal));
         }
-        let reply = self.cluster.apply(self.alloc, &self.limits, event)?;
-        self.cluster.count_event();
+        let reply = cluster.apply(self.alloc, &self.limits, event)?;
+        cluster.count_event();
         Ok(reply)
     }
 
@@ -150,7 +152,7 @@ impl<S: Sorter> Core<S> {
         Ok(Core {
             alloc: self.alloc,
             limits: self.limits,
-            cluster: self.cluster.copy()?,
+            cluster: Box::new(self.alloc, self.cluster.copy()?)?,
         })
     }
 

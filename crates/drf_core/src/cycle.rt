@@ -2,7 +2,7 @@
 //! the quota counts them, while of the rows the clock alone has moved. The tables take that copy over with the offers, so that
 //! nothing is counted anew at the next cycle. Where memory ends, the copy is dropped, the charges are taken back and so is the
 //! clock, which needs none.
-ghost use Rattle.std.specs.Prelude.{◌≡◌, ◌≢◌, true, ◌<◌, ◌≤◌, ◌+◌, None, [], length, map, slice_get, is_some, ◌&&◌, Some, IfOk, OnOk, OnErr};
+ghost use Rattle.std.specs.Prelude.{◌≡◌, ◌≢◌, ℕ, false, true, ◌<◌, ◌≤◌, ◌+◌, None, [], length, map, slice_get, is_some, ◌&&◌, Some, IfOk, OnOk, OnErr};
 ghost use Rattle.drf_role.specs.Path.{Path, role_part, framework_part};
 ghost use Rattle.drf_rows.specs.Cycle.{is_allocatable, with_offer};
 ghost use Rattle.drf_rows.specs.Step.{line_told, new_offers, refusal_of, effect};
@@ -44,6 +44,19 @@ fn is_open(tables: &Tables, place: usize) -> bool
     ensures { result ≡ is_open_at tables.now.rows place }
 {
     tables.is_active(place) && is_worth_an_offer(tables.free(place))
+}
+
+/// Whether any agent is active, and has so much free that it is worth an offer.
+fn has_open(tables: &Tables) -> bool
+    requires settled { tables.now.settled ≡ true }
+    ensures { result ≡ false → (place : ℕ) → is_open_at tables.now.rows place ≡ false }
+{
+    for place in 0..tables.agent_count() {
+        if is_open(tables, place) {
+            return true;
+        }
+    }
+    false
 }
 
 /// The row of an offer.
@@ -275,6 +288,11 @@ fn offer_all<S: Sorter>(
     ensures made { (S.work sorter.old).made ≤ (S.work sorter.new).made }
 {
     tables.settle()?;
+    if !has_open(tables) {
+        // Nothing is copied for a cycle without turns.
+        tables.count_consumption()?;
+        return Ok(Vec::new(alloc));
+    }
     drafts.quota = quota_of(tables)?;
     turns(tables, sorter, drafts)?;
     let lines = offer_lines(alloc, &drafts.offers)?;

@@ -126,8 +126,7 @@ pub struct Key {
 impl Key {
     ghost use Rattle.drf_sorter.specs.Keys.{key_by};
 
-    /// The key of a node of that weight, in thousandths, by what its clients hold of the total. Every key is made here, and
-    /// counts.
+    /// The key of a node of that weight, in thousandths, by what its clients hold of the total.
     pub fn new<H: Holding>(
         made: &mut KeyCount,
         total: &Quantities,
@@ -148,12 +147,39 @@ impl Key {
         ensures made { made.new ≡ min (made.old + 1) (2 ^ 64 - 1) }
         ensures no_less { made.old ≤ made.new }
     {
-        made.add_one();
-        Key {
-            share: weighted_share(total, weight, holding),
+        let mut key = Key {
+            share: Share::unweighted(0, 1),
             count,
             name,
-        }
+        };
+        key.renew(made, total, weight, holding, count);
+        key
+    }
+
+    /// Makes the key of the same node anew. Every key is made here, and counts.
+    pub fn renew<H: Holding>(
+        &mut self,
+        made: &mut KeyCount,
+        total: &Quantities,
+        weight: u64,
+        holding: &H,
+        count: u64,
+    )
+        requires within { (label : Text) → H.held holding.now label ≤ amount_of total.now label }
+        requires fits { (label : Text) → amount_of total.now label < 2 ^ 52 }
+        requires weighs { 1 ≤ weight }
+        requires light { weight ≤ 1000000 }
+        ensures key { key_by self.new ≡ record {
+          share = weigh (dominant_of (H.held holding.now) total.now) weight;
+          count = count;
+          name = (key_by self.old).name;
+        } }
+        ensures made { made.new ≡ min (made.old + 1) (2 ^ 64 - 1) }
+        ensures no_less { made.old ≤ made.new }
+    {
+        made.add_one();
+        self.share = weighted_share(total, weight, holding);
+        self.count = count;
     }
 
     pub fn copy(&self) -> Result<Key, AllocError>
@@ -164,17 +190,5 @@ impl Key {
             count: self.count,
             name: self.name.clone()?,
         })
-    }
-
-    /// The name of the node, given out again without memory.
-    pub fn into_name(self) -> String
-        ensures { string_bytes result ≡ (key_by self).name }
-    {
-        let Key {
-            share: _,
-            count: _,
-            name,
-        } = self;
-        name
     }
 }

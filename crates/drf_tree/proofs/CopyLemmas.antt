@@ -21,7 +21,7 @@ use Rattle.drf_tree.specs.Marks.{Flags}
 use Rattle.drf_tree.specs.Nodes.{children_at, family_at, is_live, parent_at, path_at, seen_in}
 use Rattle.drf_tree.specs.Queue.{IsSettled}
 use Rattle.drf_tree.specs.Tree.{AreRight, AreSums, IsChildOf, IsComplete, IsMarkedOrRight, IsShape, IsTreeOf}
-use Rattle.drf_tree.proofs.RenewLemmas.{IsRenewedTree}
+use Rattle.drf_tree.proofs.RenewLemmas.{IsRepaired}
 
 -- ---- children that are seen alike
 
@@ -89,7 +89,7 @@ right_seen content places stale i c d same =
 -- ---- the tree
 
 pub copied : (content : Content) (tree : Tree) (families : List Family) → map seen_in families ≡ map seen_in tree.families.items
-    → IsTreeOf content tree → IsRenewedTree content tree families
+    → IsTreeOf content tree → IsRepaired content tree families tree.marks.stale
 copied content tree families same of =
     let places = tree.places.items in
     let old = tree.families.items in

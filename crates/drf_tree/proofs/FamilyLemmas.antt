@@ -1,12 +1,13 @@
 -- Siblings stay in order when one is put in, or taken out.
 use Rattle.std.specs.Prelude.{◌≡◌, ◌≤◌, ◌<◌, ℕ, zero, suc, Bool, true, false, not, ◌&&◌, cond, List, [], ◌∷◌, ◌++◌, Option, None, Some, ◌==◌, length, map, take, drop, slice_get, slice_index_or}
 use Rattle.std.specs.declared.cmp.Ordering.{Ordering}
+use Rattle.std.specs.declared.cmp.Ordering.TheVariants.{Equal, Greater, Less}
 use Rattle.std.specs.Cmp.{IsTotalOrder, IsStrictWeakOrder, nat_cmp_total}
 use Rattle.std.specs.Cmp.Lexicographic.{nat_list_cmp_total}
 use Rattle.std.specs.List.{AllWithin, list_all, position}
 use Rattle.std.specs.Option.{is_some}
-use Rattle.std.specs.List.Sorted.{IsPartitionedBy}
-use Rattle.std.specs.Ordering.{is_lt}
+use Rattle.std.specs.List.Sorted.{IsPartitionedBy, IsSorted}
+use Rattle.std.specs.Ordering.{is_lt, nat_cmp, ordering_then}
 use Rattle.std.specs.String.{string_bytes}
 use Rattle.std.proofs.Common.{refl, sym, ap, ◌∙◌, inl, inr, arith}
 use Rattle.std.proofs.lemmas.List.{take-append-drop}
@@ -14,6 +15,7 @@ use Rattle.drf_rows.specs.laws.EndingLaws.{split_at}
 use Rattle.std.proofs.lemmas.Bool.{true≢false, cases_Bool, and_from, and_parts, eqb-true, not-true}
 use Rattle.std.proofs.lemmas.Cmp.{then_total, on_total}
 use Rattle.std.proofs.lemmas.List.MinMax.{ranks_by}
+use Rattle.std.proofs.lemmas.List.Sorted.{sorted_far}
 use Rattle.std.proofs.lemmas.List.Quantifiers.{position-Some}
 use Rattle.std.proofs.lemmas.Option.{slice_get_read}
 use Rattle.drf_sorter.specs.declared.key.Key as made
@@ -84,6 +86,41 @@ sorted_with (x ∷ before) after child sorted front back =
     and_from (list_all (is_not_behind x) (before ++ child ∷ after)) (are_sorted (before ++ child ∷ after))
     (list_all-insert (is_not_behind x) before after child ahead parts.0)
     (sorted_with before after child parts.1 fronts.1 back)
+
+-- what a sort leaves is in order
+abbrev pub child_order : Child → Child → Ordering
+child_order a b = ordering_then (key_order a.key b.key) (nat_cmp a.node b.node)
+
+child_total : IsTotalOrder child_order
+child_total = then_total (on_total (λ (c : Child). c.key) key_total) (on_total (λ (c : Child). c.node) nat_cmp_total)
+
+key_first : (o p : Ordering) → is_lt (ordering_then o p) ≡ false → not (is_lt o) ≡ true
+key_first Less p other = absurd (true≢false other)
+key_first Equal p other = refl
+key_first Greater p other = refl
+
+list_all-each : {X : Type 0} (p : X → Bool) (xs : List X) → ((i : ℕ) (d : X) → i < length xs → p (slice_index_or xs i d) ≡ true)
+    → list_all p xs ≡ true
+list_all-each p [] each = refl
+list_all-each p (x ∷ xs) each =
+    and_from (p x) (list_all p xs) (each zero x (omega arith)) (list_all-each p xs (λ i d below. each (suc i) d (omega (arith, below))))
+
+sorted_pairs : (cs : List Child)
+    → ((i j : ℕ) (d : Child) → i < j → j < length cs → is_not_behind (slice_index_or cs i d) (slice_index_or cs j d) ≡ true)
+    → are_sorted cs ≡ true
+sorted_pairs [] pairs = refl
+sorted_pairs (c ∷ cs) pairs =
+    and_from (list_all (is_not_behind c) cs) (are_sorted cs)
+    (list_all-each (is_not_behind c) cs (λ i d below. pairs zero (suc i) d (omega arith) (omega (arith, below))))
+    (sorted_pairs cs (λ i j d order below. pairs (suc i) (suc j) d (omega (arith, order)) (omega (arith, below))))
+
+pub sorted_anew : (cs : List Child) → IsSorted child_order cs → are_sorted cs ≡ true
+sorted_anew cs sorted =
+    sorted_pairs cs
+    (λ i j d order below.
+    key_first (key_order (slice_index_or cs j d).key (slice_index_or cs i d).key)
+    (nat_cmp (slice_index_or cs j d).node (slice_index_or cs i d).node)
+    (sorted_far (λ a b. is_lt (child_order a b)) (ranks_by child_total (λ (c : Child). c)) cs sorted i j d (omega (arith, order)) below))
 
 -- those that are before a key stand before all others
 pub parted : (children : List Child) (key : made.Key) → are_sorted children ≡ true

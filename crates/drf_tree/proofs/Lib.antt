@@ -20,7 +20,11 @@ pub mod NodeLemmas
 pub mod StepLemmas
 pub mod PassLemmas
 pub mod WithLemmas
+pub mod SameFamily
 pub mod RenewLemmas
+pub mod RepairLemmas
+pub mod StaleLemmas
+pub mod NothingLemmas
 pub mod CopyLemmas
 pub mod KeptLemmas
 pub mod SliceLemmas

@@ -1,12 +1,12 @@
 -- A key that is computed anew is right, and nothing else is touched.
-use Rattle.std.specs.Prelude.{◌≡◌, ◌≤◌, ◌<◌, ◌*◌, ◌==◌, ℕ, Bool, true, false, ◌||◌, IsTrue, List, [], ◌∷◌, ◌++◌, Option, None, Some, ◌⊎◌, find, length, map, slice_set}
-use Rattle.std.specs.List.{AllByRecursion, IsDistinct, list_any}
+use Rattle.std.specs.Prelude.{◌≡◌, ◌≤◌, ◌<◌, ◌*◌, ℕ, Bool, true, false, IsTrue, List, [], ◌∷◌, ◌++◌, Option, None, Some, ◌⊎◌, find, length, map, slice_set}
+use Rattle.std.specs.List.{AllByRecursion, IsDistinct}
+use Rattle.std.specs.List.Sorted.{IsPermutation}
 use Rattle.std.specs.Cmp.{nat_cmp_total}
 use Rattle.std.specs.Option.{option_map_or}
 use Rattle.std.proofs.Common.{◌≢◌, refl, sym, ap, subst, ◌∙◌, inl, inr, arith}
 use Rattle.std.proofs.lemmas.Bool.{true≢false}
 use Rattle.std.proofs.lemmas.Cmp.{tied_itself}
-use Rattle.std.proofs.lemmas.List.{length-set, same_from_push}
 use Rattle.std.proofs.lemmas.Map.Keys.{IsDistinct-head}
 use Rattle.drf_bundle.specs.Quantities.{amount_of}
 use Rattle.drf_role.specs.Text.{Text, same_text}
@@ -29,12 +29,13 @@ use Rattle.drf_tree.specs.declared.family.Family.{Family}
 use Rattle.drf_tree.specs.declared.node.Place.{Place}
 use Rattle.drf_tree.specs.declared.node.Sum.{Sum}
 use Rattle.drf_tree.specs.declared.tree.Tree.{Tree}
-use Rattle.drf_tree.specs.Family.{IsRenewed, IsSameKey, child_name, has_child, key_for}
-use Rattle.drf_tree.specs.Nodes.{children_at, is_live, is_node, parent_at, path_at}
+use Rattle.drf_tree.specs.Family.{CanKey, IsRenewed, IsSameKey, child_name, key_for, known}
+use Rattle.drf_tree.specs.Nodes.{children_at, is_live, parent_at, path_at}
 use Rattle.drf_tree.specs.Tree.{AreRight, IsChildOf, IsComplete, IsMarkedOrRight, IsRight, IsShape, IsSumOf, IsTreeBut}
 use Rattle.drf_tree.proofs.FitLemmas.{part_less}
 use Rattle.drf_tree.proofs.NodeLemmas.{node_within}
-use Rattle.drf_tree.proofs.WithLemmas.{any_with, each_family, each_with, each_without, has_with, once_with, once_without}
+use Rattle.drf_tree.proofs.SameFamily.{each_unmapped, renewed_known, same_complete, same_name, same_shape}
+use Rattle.drf_tree.proofs.WithLemmas.{each_family, each_with, each_without, once_without}
 
 -- ---- weights
 
@@ -68,9 +69,20 @@ sum_within content path sum sound of label =
       sound.held label,
     )
 
+pub can_key : (ledger : PlainSorter) (path : Path) (sum : Sum) → IsSound (plain_content ledger)
+    → IsSumOf (plain_content ledger) path sum → CanKey (plain_content ledger).total sum
+can_key ledger path sum sound of =
+    let range = weighs_within ledger path in
+    record {
+      within = sum_within (plain_content ledger) path sum sound of;
+      fits = sound.total;
+      weighs = omega (arith, of.weight, range.0);
+      light = omega (arith, of.weight, range.1);
+    }
+
 -- ---- the key
 
-same_key : (a b : Key) → a ≡ b → 0 < b.share.whole → IsSameKey a b
+pub same_key : (a b : Key) → a ≡ b → 0 < b.share.whole → IsSameKey a b
 same_key a b same some = record {
   some = subst (λ (k : Key). 0 < k.share.whole) (sym same) some;
   share = ap (λ (k : Key). fraction_cmp k.share b.share) same ∙ tied_itself nat_cmp_total (b.share.part * b.share.whole);
@@ -78,7 +90,7 @@ same_key a b same some = record {
   name = ap (λ (k : Key). k.name) same;
 }
 
-key_is : (content : Content) (parent : Path) (name : Text) (sum : Sum) → IsSumOf content (parent ++ name ∷ []) sum
+pub key_is : (content : Content) (parent : Path) (name : Text) (sum : Sum) → IsSumOf content (parent ++ name ∷ []) sum
     → key_for content.total sum name ≡ key_of (standing_in content) parent name
 unfolding standing_in
 key_is content parent name sum of =
@@ -88,16 +100,11 @@ key_is content parent name sum of =
       name = name;
     }
 
--- what holds of all names holds of the children by their names
-by_names : (P : Text → Type 0) (cs : List Child) → AllByRecursion P (map child_name cs) → AllByRecursion (λ c. P (child_name c)) cs
-by_names P [] all = tt
-by_names P (c ∷ cs) all = (all.0, by_names P cs all.1)
-
--- what a tree is with other families
-pub record IsRenewedTree (content : Content) (tree : Tree) (families : List Family) : Type 0 where
-  pub shape : IsShape tree.places.items families tree.marks.stale tree.sums.items
+-- what a tree is with other families and marks
+pub record IsRepaired (content : Content) (tree : Tree) (families : List Family) (stale : List Bool) : Type 0 where
+  pub shape : IsShape tree.places.items families stale tree.sums.items
   pub complete : IsComplete content tree.places.items families
-  pub right : AreRight content tree.places.items families tree.marks.stale
+  pub right : AreRight content tree.places.items families stale
 
 -- ---- one child of a family with its key computed anew
 
@@ -143,56 +150,12 @@ module _ (content : Content) (tree : Tree) (node : ℕ) (of : IsTreeBut node con
   were : IsChildOf places parent r.was × AllByRecursion (IsChildOf places parent) r.rest
   were = each_without r.was r.rest old r.gone (IsChildOf places parent) (of.shape.children parent)
 
-  now_child : IsChildOf places parent r.now
-  now_child = record {
-    live = ap (is_live places) number ∙ were.0.live;
-    above = ap (parent_at places) number ∙ were.0.above;
-    path = ap (path_at places) number ∙ were.0.path ∙ ap (λ (n : Text). path_at places parent ++ n ∷ []) (sym names);
-  }
-
-  same_children : (i : ℕ) → has_child i new ≡ has_child i old
-  same_children i =
-      has_with r.now r.rest new r.put i
-      ∙ ap (λ (n : ℕ). n == i || has_child i r.rest) number
-      ∙ sym (has_with r.was r.rest old r.gone i)
-
-  same_names : (part : Text) → list_any (same_text part) (map child_name new) ≡ list_any (same_text part) (map child_name old)
-  same_names part =
-      any_with r.now r.rest new r.put child_name (same_text part)
-      ∙ ap (λ (n : Text). same_text part n || list_any (same_text part) (map child_name r.rest)) names
-      ∙ sym (any_with r.was r.rest old r.gone child_name (same_text part))
+  same : IsPermutation (map known old) (map known new)
+  same =
+      renewed_known r.was r.now r.rest old new r.gone r.put (λ i. (number i, names i))
 
   apart : IsDistinct same_text (child_name r.was ∷ map child_name r.rest)
   apart = once_without r.was r.rest old r.gone (of.shape.once parent)
-
-  new_shape : IsShape places changed stale tree.sums.items
-  new_shape = record {
-    some = of.shape.some;
-    sums_long = of.shape.sums_long;
-    families_long = length-set families parent f ∙ of.shape.families_long;
-    stale_long = of.shape.stale_long;
-    root = of.shape.root;
-    children = each_family (λ i cs. AllByRecursion (IsChildOf places i) cs) families parent f below
-        (each_with r.now r.rest new r.put (IsChildOf places parent) now_child were.1) (λ i other. of.shape.children i);
-    kept = λ i there. (
-      (of.shape.kept i there).0,
-      each_family (λ j cs. parent_at places i ≡ j → has_child i cs ≡ true) families parent f below
-          (λ at. same_children i ∙ subst (λ (j : ℕ). has_child i (children_at families j) ≡ true) at (of.shape.kept i there).1)
-          (λ j other at. subst (λ (k : ℕ). has_child i (children_at families k) ≡ true) at (of.shape.kept i there).1)
-          (parent_at places i) refl,
-    );
-    once = each_family (λ i cs. IsDistinct same_text (map child_name cs)) families parent f below
-        (once_with r.now r.rest new r.put
-        (subst (λ (n : Text). IsDistinct same_text (n ∷ map child_name r.rest)) (sym names) apart))
-        (λ i other. of.shape.once i);
-    distinct = of.shape.distinct;
-    right = of.shape.right;
-    clients = of.shape.clients;
-    others = of.shape.others;
-    free = each_family (λ i cs. is_node places i ≡ false → cs ≡ []) families parent f below
-        (λ none. absurd (true≢false (sym (of.shape.kept node live).0 ∙ none))) (λ i other. of.shape.free i);
-    unmarked = of.shape.unmarked;
-  }
 
   now_right : IsRight content places parent r.now
   now_right =
@@ -208,10 +171,7 @@ module _ (content : Content) (tree : Tree) (node : ℕ) (of : IsTreeBut node con
   -- the other children of the family are not that node
   other_child : (c : Child) → IsChildOf places parent c → same_text (child_name r.was) (child_name c) ≡ false → c.node ≢ node
   other_child c child differ same =
-      let paths : path_at places parent ++ child_name r.was ∷ [] ≡ path_at places parent ++ child_name c ∷ [] =
-      sym were.0.path ∙ ap (path_at places) (r.was_is ∙ sym same) ∙ child.path in
-      let alike : child_name r.was ≡ child_name c =
-      (same_from_push (path_at places parent) (path_at places parent) (child_name r.was) (child_name c) paths).1 in
+      let alike : child_name r.was ≡ child_name c = same_name places parent r.was c were.0 child (r.was_is ∙ sym same) in
       true≢false (sym (ap (same_text (child_name r.was)) (sym alike) ∙ same_itself (child_name r.was)) ∙ differ)
 
   abbrev OrIsNode : ℕ → Child → Type 0
@@ -222,7 +182,7 @@ module _ (content : Content) (tree : Tree) (node : ℕ) (of : IsTreeBut node con
       let others : AllByRecursion (λ c. c.node ≢ node) r.rest =
       each_from_both (IsChildOf places parent) (λ c. same_text (child_name r.was) (child_name c) ≡ false) (λ c. c.node ≢ node)
       r.rest other_child were.1
-      (by_names (λ n. same_text (child_name r.was) n ≡ false) r.rest
+      (each_unmapped (λ n. same_text (child_name r.was) n ≡ false) child_name r.rest
       (IsDistinct-head same_text (child_name r.was) (map child_name r.rest) apart)) in
       each_from_both (OrIsNode parent) (λ c. c.node ≢ node) (IsMarkedOrRight content places stale parent) r.rest
       (λ c either other. elim either [
@@ -238,15 +198,10 @@ module _ (content : Content) (tree : Tree) (node : ℕ) (of : IsTreeBut node con
         | inr right ↦ right
       ]) (of.right i) (of.shape.children i)
 
-  pub renewed : IsRenewedTree content tree changed
+  pub renewed : IsRepaired content tree changed stale
   renewed = record {
-    shape = new_shape;
-    complete = each_family
-        (λ i cs. is_node places i ≡ true → (part : Text) (rest : Path)
-        → list_any (same_path (path_at places i ++ part ∷ rest)) (map (λ c. c.path) content.clients) ≡ true
-        → list_any (same_text part) (map child_name cs) ≡ true) families parent f below
-        (λ there part rest some. same_names part ∙ of.complete parent there part rest some)
-        (λ i other. of.complete i);
+    shape = same_shape tree of.shape parent f below same;
+    complete = same_complete tree of.shape parent f below same content of.complete;
     right = each_family (λ i cs. AllByRecursion (IsMarkedOrRight content places stale i) cs) families parent f below
         (each_with r.now r.rest new r.put (IsMarkedOrRight content places stale parent) (inr now_right) rest_right)
         far_right;

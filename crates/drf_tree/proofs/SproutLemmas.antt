@@ -49,7 +49,7 @@ greater_of_nothing : (b : Bool) (f g : Fraction) → f.part ≡ 0 → g.part ≡
 greater_of_nothing true f g p q = q
 greater_of_nothing false f g p q = p
 
-share_of_nothing : (held : Text → ℕ) (total : List Entry) → ((label : Text) → held label ≡ 0)
+pub share_of_nothing : (held : Text → ℕ) (total : List Entry) → ((label : Text) → held label ≡ 0)
     → (greatest (held_fractions held total)).part ≡ 0
 share_of_nothing held [] none = refl
 share_of_nothing held (e ∷ es) none = elim (cases_Bool (nat_lt 0 e.amount)) [
@@ -62,7 +62,7 @@ share_of_nothing held (e ∷ es) none = elim (cases_Bool (nat_lt 0 e.amount)) [
 ]
 
 -- parts of 0 make the same share
-same_nothing : (f g : Fraction) → f.part ≡ 0 → g.part ≡ 0 → fraction_cmp f g ≡ Equal
+pub same_nothing : (f g : Fraction) → f.part ≡ 0 → g.part ≡ 0 → fraction_cmp f g ≡ Equal
 same_nothing f g p q =
     let left : f.part * g.whole ≡ 0 = ap (λ (n : ℕ). n * g.whole) p ∙ omega arith in
     let right : g.part * f.whole ≡ 0 = ap (λ (n : ℕ). n * f.whole) q ∙ omega arith in

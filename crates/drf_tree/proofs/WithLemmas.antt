@@ -1,22 +1,25 @@
 -- What holds of a family holds of it with a child more, and with one less.
-use Rattle.std.specs.Prelude.{◌≡◌, ◌<◌, ◌==◌, ℕ, Bool, ◌||◌, List, [], ◌∷◌, ◌++◌, Option, length, map, slice_set}
+use Rattle.std.specs.Prelude.{◌≡◌, ◌<◌, ℕ, Bool, ◌||◌, List, [], ◌∷◌, ◌++◌, Option, length, map, slice_set}
 use Rattle.std.specs.List.{AllByRecursion, IsDistinct, list_any}
 use Rattle.std.specs.List.Sorted.{IsPermutation}
 use Rattle.std.specs.Cmp.Lexicographic.{nat_list_eq_equiv}
 use Rattle.std.specs.Option.{option_map_or}
 use Rattle.std.proofs.Common.{◌≢◌, sym, ap, subst, inl, inr}
 use Rattle.std.proofs.lemmas.Bool.{cases_eq}
-use Rattle.std.proofs.lemmas.List.Sorted.{IsPermutation-map, IsPermutation-middle, IsPermutation-sym, list_any-IsPermutation}
+use Rattle.std.proofs.lemmas.List.Sorted.{IsPermutation-map, IsPermutation-middle, list_any-IsPermutation}
 use Rattle.std.proofs.lemmas.Map.Keys.{IsDistinct-IsPermutation}
 use Rattle.drf_role.specs.Text.{same_text}
 use Rattle.drf_rows.specs.laws.ListLaws.{each_append, each_parts}
 use Rattle.drf_tree.specs.declared.family.Child.{Child}
 use Rattle.drf_tree.specs.declared.family.Family.{Family}
-use Rattle.drf_tree.specs.Family.{IsWith, child_name, has_child}
+use Rattle.drf_tree.specs.Family.{IsWith, child_name}
 use Rattle.drf_tree.specs.Nodes.{children_at}
 use Rattle.drf_tree.proofs.SliceLemmas.{get_set_other, get_set_same}
 
 -- ---- a child more
+
+pub names_flip : (x y : List ℕ) → same_text x y ≡ same_text y x
+names_flip = nat_list_eq_equiv.symm
 
 module _ (child : Child) (less more : List Child) (with : IsWith child less more) where
   pub moved_to_front : IsPermutation more (child ∷ less)
@@ -37,18 +40,6 @@ module _ (child : Child) (less more : List Child) (with : IsWith child less more
 
   pub any_with : {X : Type 0} (g : Child → X) (t : X → Bool) → list_any t (map g more) ≡ (t (g child) || list_any t (map g less))
   any_with g t = list_any-IsPermutation t (map g more) (map g (child ∷ less)) (IsPermutation-map g more (child ∷ less) moved_to_front)
-
-  pub has_with : (i : ℕ) → has_child i more ≡ (child.node == i || has_child i less)
-  has_with i = list_any-IsPermutation (λ (c : Child). c.node == i) more (child ∷ less) moved_to_front
-
-  names_flip : (x y : List ℕ) → same_text x y ≡ same_text y x
-  names_flip = nat_list_eq_equiv.symm
-
-  pub once_with : IsDistinct same_text (child_name child ∷ map child_name less) → IsDistinct same_text (map child_name more)
-  once_with distinct =
-      IsDistinct-IsPermutation same_text names_flip (child_name child ∷ map child_name less) (map child_name more)
-      (IsPermutation-sym (map child_name more) (child_name child ∷ map child_name less)
-      (IsPermutation-map child_name more (child ∷ less) moved_to_front)) distinct
 
   pub once_without : IsDistinct same_text (map child_name more) → IsDistinct same_text (child_name child ∷ map child_name less)
   once_without distinct =

@@ -1,7 +1,7 @@
 -- Siblings in the order of their keys.
-use Rattle.std.specs.Prelude.{◌≡◌, ◌<◌, ℕ, ◌==◌, Bool, true, not, ◌&&◌, List, [], ◌∷◌, ◌++◌, map}
+use Rattle.std.specs.Prelude.{◌≡◌, ◌≤◌, ◌<◌, ◌^◌, ℕ, ◌==◌, Bool, false, true, not, ◌&&◌, List, [], ◌∷◌, ◌++◌, ◌⊎◌, Some, map, slice_get, slice_index_or}
 use Rattle.std.specs.declared.cmp.Ordering.TheVariants.{Equal}
-use Rattle.std.specs.List.{list_all, list_any}
+use Rattle.std.specs.List.{AllByRecursion, list_all, list_any}
 use Rattle.std.specs.Ordering.{is_lt}
 use Rattle.drf_role.specs.Text.{Text}
 use Rattle.drf_bundle.specs.Quantities.{amount_of}
@@ -64,6 +64,45 @@ key_for total sum name = record {
   count = sum.count;
   name = name;
 }
+
+-- the key of a sum can be computed
+pub record CanKey (total : List Entry) (sum : Sum) : Type 0 where
+  pub within : (label : Text) → amount_of sum.held label ≤ amount_of total label
+  pub fits : (label : Text) → amount_of total label < 2 ^ 52
+  pub weighs : 1 ≤ sum.weight
+  pub light : sum.weight ≤ 1000000
+
+-- the key of the node of that number can be
+pub record CanKeyAt (total : List Entry) (sums : List Sum) (node : ℕ) : Type 0 where
+  pub sum : Sum
+  pub there : slice_get sums node ≡ Some sum
+  pub can : CanKey total sum
+
+-- the same number
+abbrev pub is_same : ℕ → ℕ → Bool
+is_same i j = i == j
+
+-- what stays of a child when its key is computed anew
+abbrev pub known : Child → ℕ × Text
+known child = (child.node, child_name child)
+
+-- the key of a child is that of its sum
+abbrev pub IsKeyed : List Entry → List Sum → Child → Type 0
+IsKeyed total sums child = (sum : Sum) → slice_get sums child.node ≡ Some sum → key_by child.key ≡ key_for total sum (child_name child)
+
+-- the child stood there as it is, unmarked
+pub record WasRight (stale : List Bool) (old : List Child) (child : Child) : Type 0 where
+  pub place : ℕ
+  pub there : slice_get old place ≡ Some child
+  pub unmarked : slice_index_or stale child.node false ≡ false
+
+-- the child has the key of its sum, or stood there unmarked
+abbrev pub IsFresh : List Entry → List Sum → List Bool → List Child → Child → Type 0
+IsFresh total sums stale old child = IsKeyed total sums child ⊎ WasRight stale old child
+
+-- all of them
+abbrev pub AreFresh : List Entry → List Sum → List Bool → List Child → List Child → Type 0
+AreFresh total sums stale old new = AllByRecursion (IsFresh total sums stale old) new
 
 -- a child of that number has the key of its sum now, in its place
 pub record IsRenewed (node : ℕ) (total : List Entry) (sum : Sum) (old new : List Child) : Type 0 where

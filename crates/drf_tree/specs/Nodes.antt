@@ -1,9 +1,11 @@
 -- What stands at a number of the tree.
-use Rattle.std.specs.Prelude.{◌==◌, ℕ, Bool, ◌||◌, ◌&&◌, List, [], Option, None, length, map, slice_get, slice_index_or, ◌-◌}
+use Rattle.std.specs.Prelude.{◌==◌, ℕ, Bool, false, ◌||◌, ◌&&◌, List, [], Option, None, length, map, nat_lt, slice_get, slice_index_or, ◌-◌}
+use Rattle.std.specs.List.{list_any}
 use Rattle.std.specs.Option.{is_some, option_map_or}
 use Rattle.drf_role.specs.Path.{Path}
 use Rattle.drf_role.specs.Text.{Text, same_text}
 use Rattle.drf_tree.specs.declared.node.Place.{Place}
+use Rattle.drf_tree.specs.declared.node.Sum.{Sum}
 use Rattle.drf_tree.specs.declared.family.Child.{Child}
 use Rattle.drf_tree.specs.declared.family.Family.{Family}
 use Rattle.drf_sorter.specs.Keys.{Key}
@@ -32,6 +34,14 @@ last_part path = slice_index_or path (length path - 1) []
 -- a node stands at that number, and its path ends with that name
 abbrev pub is_named_at : List (Option Place) → ℕ → Text → Bool
 is_named_at places i name = is_live places i && same_text (last_part (path_at places i)) name
+
+-- the clients of a sum hold something
+abbrev pub holds_any : Sum → Bool
+holds_any sum = list_any (λ e. nat_lt 0 e.amount) sum.held
+
+-- a node stands at that number, and its clients hold something
+abbrev pub is_holding : List (Option Place) → List Sum → ℕ → Bool
+is_holding places sums i = is_live places i && option_map_or holds_any (slice_get sums i) false
 
 -- the number above a node
 abbrev pub parent_at : List (Option Place) → ℕ → ℕ

@@ -1,12 +1,13 @@
 //! The children of a node, in the order of their keys.
-ghost use Rattle.std.specs.Prelude.{◌≡◌, ◌==◌, ◌≤◌, ◌<◌, ◌+◌, ◌-◌, ◌^◌, [], true, not, min, IfOk, IsTrue, OnOk, OnErr, drop, length, slice_get, take};
-ghost use Rattle.std.specs.List.{list_all, position};
+ghost use Rattle.std.specs.Prelude.{◌≡◌, ◌==◌, ◌≤◌, ◌<◌, ◌+◌, ◌-◌, ◌^◌, ℕ, [], false, true, map, not, min, IfOk, IsTrue, OnOk, OnErr, drop, length, slice_get, slice_index_or, slice_set, take};
+ghost use Rattle.std.specs.List.{AllByRecursion, IsDistinct, list_all, position};
+ghost use Rattle.std.specs.List.Sorted.{IsPermutation};
 ghost use Rattle.std.specs.String.{string_bytes};
 ghost use Rattle.std.specs.Vec.{vec_capacity, vec_len};
-ghost use Rattle.drf_bundle.specs.Quantities.{amount_of};
-ghost use Rattle.drf_role.specs.Text.{Text};
 ghost use Rattle.drf_sorter.specs.Keys.{key_by};
-ghost use Rattle.drf_tree.specs.Family.{AreCopies, are_sorted, is_before, key_for};
+ghost use Rattle.drf_sorter.specs.Work.{debt};
+ghost use Rattle.drf_tree.specs.Family.{AreCopies, AreFresh, CanKey, CanKeyAt, IsKeyed, are_sorted, has_child, is_before, key_for, known, is_same, numbers_of};
+ghost use Rattle.drf_tree.specs.Marks.{work_of};
 
 use crate::marks::Marks;
 use crate::node::Sum;
@@ -15,7 +16,7 @@ use drf_sorter::Key;
 use std::alloc::{AllocError, Global};
 
 /// A child of a node, with the key that was last computed for it.
-#[derive(Debug, Drop)]
+#[derive(Debug, Drop, PartialEq, Eq, PartialOrd, Ord)]
 pub(crate) struct Child {
     key: Key,
     /// The number of the child.
@@ -31,10 +32,7 @@ impl Child {
         total: &Quantities,
         sum: &Sum,
     ) -> Child
-        requires within { (label : Text) → amount_of sum.now.held label ≤ amount_of total.now label }
-        requires fits { (label : Text) → amount_of total.now label < 2 ^ 52 }
-        requires weighs { 1 ≤ sum.now.weight }
-        requires light { sum.now.weight ≤ 1000000 }
+        requires { CanKey total.now sum.now }
         ensures node { result.node ≡ node }
         ensures key { key_by result.key ≡ key_for total.now sum.now (string_bytes name) }
         ensures made { marks.new.made ≡ min (marks.old.made + 1) (2 ^ 64 - 1) }
@@ -44,6 +42,25 @@ impl Child {
         Child {
             key: marks.key(total, sum, name),
             node,
+        }
+    }
+
+    /// Makes its key anew if that may be stale. The mark is taken away.
+    fn renew_if_marked(&mut self, marks: &mut Marks, total: &Quantities, sums: &[Sum])
+        requires key { CanKeyAt total.now sums.now self.old.node }
+        requires marks { length marks.old.stale ≡ length sums.now }
+        ensures known { known self.new ≡ known self.old }
+        ensures stale { marks.new.stale ≡ slice_set marks.old.stale self.old.node false }
+        ensures renewed { slice_index_or marks.old.stale self.old.node false ≡ true → IsKeyed total.now sums.now self.new }
+        ensures kept { slice_index_or marks.old.stale self.old.node false ≡ false → self.new ≡ self.old }
+        ensures no_less { marks.old.made ≤ marks.new.made }
+        ensures work { debt (work_of marks.new) ≤ debt (work_of marks.old) }
+    {
+        let node = self.node;
+        let was_marked = marks.is_marked(node);
+        marks.forget(node);
+        if was_marked {
+            marks.renew(&mut self.key, total, &sums[node]);
         }
     }
 }
@@ -56,7 +73,7 @@ pub(crate) struct Family {
 }
 
 impl Family {
-    ghost use Rattle.drf_tree.specs.Family.{IsWith, IsRenewed, IsGone, has_child, numbers_of};
+    ghost use Rattle.drf_tree.specs.Family.{IsWith, IsRenewed, IsGone};
 
     pub(crate) fn new(alloc: Global) -> Family
         ensures { result.children.items ≡ [] }
@@ -97,23 +114,37 @@ impl Family {
         let _ = self.take(node);
     }
 
-    /// Computes the key of a child from its sum, and puts the child into its place.
+    /// Makes the key of a child anew from its sum, and puts the child into its place.
     pub(crate) fn renew(&mut self, marks: &mut Marks, node: usize, total: &Quantities, sum: &Sum)
         requires known { has_child node self.old.children.items ≡ true }
-        requires within { (label : Text) → amount_of sum.now.held label ≤ amount_of total.now label }
-        requires fits { (label : Text) → amount_of total.now label < 2 ^ 52 }
-        requires weighs { 1 ≤ sum.now.weight }
-        requires light { sum.now.weight ≤ 1000000 }
+        requires key { CanKey total.now sum.now }
         ensures renewed { IsRenewed node total.now sum.now self.old.children.items self.new.children.items }
         ensures made { marks.new.made ≡ min (marks.old.made + 1) (2 ^ 64 - 1) }
         ensures no_less { marks.old.made ≤ marks.new.made }
         ensures stale { marks.new.stale ≡ marks.old.stale }
     {
-        let name = self.take(node).key.into_name();
-        let child = Child::new(marks, node, name, total, sum);
+        let mut child = self.take(node);
+        marks.renew(&mut child.key, total, sum);
         let place = place_for(&self.children, &child.key);
         // The child that was taken out left its room.
         self.children.insert(place, child).unwrap();
+    }
+
+    /// Makes each key anew that may be stale, and puts the children into their places.
+    pub(crate) fn renew_all(&mut self, marks: &mut Marks, total: &Quantities, sums: &[Sum])
+        requires once { IsDistinct is_same (numbers_of self.old.children.items) }
+        requires keys { AllByRecursion (λ c. CanKeyAt total.now sums.now c.node) self.old.children.items }
+        requires marked { length marks.old.stale ≡ length sums.now }
+        ensures same { IsPermutation (map known self.old.children.items) (map known self.new.children.items) }
+        ensures renewed { AreFresh total.now sums.now marks.old.stale self.old.children.items self.new.children.items }
+        ensures others { (i : ℕ) → has_child i self.old.children.items ≡ false → slice_index_or marks.new.stale i false ≡ slice_index_or marks.old.stale i false }
+        ensures down { (i : ℕ) → slice_index_or marks.new.stale i false ≡ true → slice_index_or marks.old.stale i false ≡ true }
+        ensures long { length marks.new.stale ≡ length marks.old.stale }
+        ensures no_less { marks.old.made ≤ marks.new.made }
+        ensures work { debt (work_of marks.new) ≤ debt (work_of marks.old) }
+    {
+        renew_keys(&mut self.children, marks, total, sums);
+        self.children.sort_unstable();
     }
 
     /// Takes a child out. Its room stays.
@@ -140,6 +171,24 @@ impl Family {
             })?;
         }
         Ok(Family { children })
+    }
+}
+
+/// Makes the key of each child anew that may be stale. The children stay where they are.
+fn renew_keys(children: &mut [Child], marks: &mut Marks, total: &Quantities, sums: &[Sum])
+    requires once { IsDistinct is_same (numbers_of children.old) }
+    requires keys { AllByRecursion (λ c. CanKeyAt total.now sums.now c.node) children.old }
+    requires marked { length marks.old.stale ≡ length sums.now }
+    ensures same { map known children.new ≡ map known children.old }
+    ensures renewed { AreFresh total.now sums.now marks.old.stale children.old children.new }
+    ensures others { (i : ℕ) → has_child i children.old ≡ false → slice_index_or marks.new.stale i false ≡ slice_index_or marks.old.stale i false }
+    ensures down { (i : ℕ) → slice_index_or marks.new.stale i false ≡ true → slice_index_or marks.old.stale i false ≡ true }
+    ensures long { length marks.new.stale ≡ length marks.old.stale }
+    ensures no_less { marks.old.made ≤ marks.new.made }
+    ensures work { debt (work_of marks.new) ≤ debt (work_of marks.old) }
+{
+    for child in children.iter_mut() {
+        child.renew_if_marked(marks, total, sums);
     }
 }
 

@@ -1,13 +1,11 @@
 //! Which keys may be stale, and how many were computed.
 ghost use Rattle.std.specs.Prelude.{◌≡◌, ◌≤◌, ◌<◌, ◌+◌, ◌-◌, ◌^◌, [], ◌∷◌, ◌++◌, ℕ, false, min, true, IfNone, IfOk, IfSome, OnOk, OnErr, length, slice_index_or, slice_set};
 ghost use Rattle.std.specs.String.{string_bytes};
-ghost use Rattle.drf_bundle.specs.Quantities.{amount_of};
-ghost use Rattle.drf_role.specs.Text.{Text};
 ghost use Rattle.drf_sorter.specs.Keys.{key_by};
 ghost use Rattle.drf_sorter.specs.Work.{debt};
-ghost use Rattle.drf_tree.specs.Family.{key_for};
+ghost use Rattle.drf_tree.specs.Family.{CanKey, key_for};
 ghost use Rattle.drf_tree.specs.Marks.{marked_in, work_of};
-ghost use Rattle.drf_tree.specs.Nodes.{is_live};
+ghost use Rattle.drf_tree.specs.Nodes.{is_holding};
 
 use crate::node::{Place, Sum};
 use drf_bundle::Quantities;
@@ -56,12 +54,9 @@ impl Marks {
         self.made.made()
     }
 
-    /// The key of a sum, under that name. It counts as computed; every key of a tree is made here.
+    /// The key of a sum, under that name. It counts as computed.
     pub(crate) fn key(&mut self, total: &Quantities, sum: &Sum, name: String) -> Key
-        requires within { (label : Text) → amount_of sum.now.held label ≤ amount_of total.now label }
-        requires fits { (label : Text) → amount_of total.now label < 2 ^ 52 }
-        requires weighs { 1 ≤ sum.now.weight }
-        requires light { sum.now.weight ≤ 1000000 }
+        requires { CanKey total.now sum.now }
         ensures key { key_by result ≡ key_for total.now sum.now (string_bytes name) }
         ensures made { self.new.made ≡ min (self.old.made + 1) (2 ^ 64 - 1) }
         ensures no_less { self.old.made ≤ self.new.made }
@@ -75,6 +70,32 @@ impl Marks {
             sum.count,
             name,
         )
+    }
+
+    /// Makes a key anew from a sum. It counts as computed.
+    pub(crate) fn renew(&mut self, key: &mut Key, total: &Quantities, sum: &Sum)
+        requires { CanKey total.now sum.now }
+        ensures key { key_by key.new ≡ key_for total.now sum.now (key_by key.old).name }
+        ensures made { self.new.made ≡ min (self.old.made + 1) (2 ^ 64 - 1) }
+        ensures no_less { self.old.made ≤ self.new.made }
+        ensures stale { self.new.stale ≡ self.old.stale }
+    {
+        key.renew(&mut self.made, total, sum.weight, &sum.held, sum.count);
+    }
+
+    /// Whether the key of a node may be stale.
+    pub(crate) fn is_marked(&self, node: usize) -> bool
+        ensures { result ≡ slice_index_or self.now.stale node false }
+    {
+        match self.stale.get(node) {
+            Some(stale) => *stale,
+            None => false,
+        }
+    }
+
+    /// Whether so many wait that it is quicker to look at all nodes.
+    pub(crate) fn are_many(&self) -> bool {
+        self.waiting.len() >= self.stale.len() / 4
     }
 
     /// One more node, that is not marked. There is room for its mark.
@@ -130,16 +151,17 @@ impl Marks {
         None
     }
 
-    /// Marks each node that is there.
-    pub(crate) fn mark_all(&mut self, places: &[Option<Place>])
-        requires { length self.old.stale ≡ length places.now }
+    /// Marks each node whose clients hold something: the share of nothing is 0, whatever the total is.
+    pub(crate) fn mark_all(&mut self, places: &[Option<Place>], sums: &[Sum])
+        requires places { length self.old.stale ≡ length places.now }
+        requires sums { length self.old.stale ≡ length sums.now }
         ensures long { length self.new.stale ≡ length self.old.stale }
-        ensures all { (i : ℕ) → is_live places.now i ≡ true → slice_index_or self.new.stale i false ≡ true }
-        ensures others { (i : ℕ) → is_live places.now i ≡ false → slice_index_or self.new.stale i false ≡ slice_index_or self.old.stale i false }
+        ensures all { (i : ℕ) → is_holding places.now sums.now i ≡ true → slice_index_or self.new.stale i false ≡ true }
+        ensures others { (i : ℕ) → is_holding places.now sums.now i ≡ false → slice_index_or self.new.stale i false ≡ slice_index_or self.old.stale i false }
         ensures made { self.new.made ≡ self.old.made }
     {
         for node in 0..places.len() {
-            if places[node].is_some() {
+            if !self.is_marked(node) && is_holding(places, sums, node) {
                 self.mark(node);
             }
         }
@@ -158,4 +180,13 @@ impl Marks {
             made: self.made.copy(),
         })
     }
+}
+
+/// Whether a node stands at that number, and its clients hold something.
+fn is_holding(places: &[Option<Place>], sums: &[Sum], node: usize) -> bool
+    requires place { node < length places.now }
+    requires sum { node < length sums.now }
+    ensures { result ≡ is_holding places.now sums.now node }
+{
+    places[node].is_some() && sums[node].holds_any()
 }

@@ -1,5 +1,6 @@
 //! What the tree knows of a node: its place, and its sums.
 ghost use Rattle.std.specs.Prelude.{◌≡◌, ◌-◌, [], IfOk, Some, length, slice_get};
+ghost use Rattle.drf_tree.specs.Nodes.{holds_any};
 
 use drf_bundle::Quantities;
 use drf_role::{ClientPath, NodePath};
@@ -69,6 +70,14 @@ impl Sum {
             active: 0,
             weight,
         }
+    }
+
+    /// Whether its clients hold something.
+    pub(crate) fn holds_any(&self) -> bool
+        ensures { result ≡ holds_any self.now }
+    {
+        let entries = self.held.entries();
+        entries.iter().any(|entry| entry.amount.thousandths() > 0)
     }
 
     pub(crate) fn copy(&self) -> Result<Sum, AllocError>

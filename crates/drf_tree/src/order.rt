@@ -1,5 +1,5 @@
 //! Families put into order where keys are stale.
-ghost use Rattle.std.specs.Prelude.{◌≡◌, ◌≤◌, ◌+◌, ◌-◌, ◌^◌, min, true};
+ghost use Rattle.std.specs.Prelude.{◌≡◌, ◌<◌, ◌≤◌, ◌+◌, ◌-◌, ◌^◌, length, min, true};
 ghost use Rattle.drf_sorter.specs.Content.{IsSound};
 ghost use Rattle.drf_sorter.specs.Plain.{plain_content};
 ghost use Rattle.drf_sorter.specs.Work.{debt};
@@ -20,9 +20,39 @@ impl Tree {
         ensures made { self.old.marks.made ≤ self.new.marks.made }
         ensures work { debt (work_of self.new.marks) ≤ debt (work_of self.old.marks) }
     {
+        if self.marks.are_many() {
+            self.renew_all(ledger);
+        }
         while let Some(node) = self.marks.take() {
             self.renew(node, ledger);
         }
+    }
+
+    /// Computes each key that is stale, family by family.
+    fn renew_all(&mut self, ledger: &PlainSorter)
+        requires sound { IsSound (plain_content ledger.now) }
+        requires tree { IsTreeOf (plain_content ledger.now) self.old }
+        ensures tree { IsTreeOf (plain_content ledger.now) self.new }
+        ensures made { self.old.marks.made ≤ self.new.marks.made }
+        ensures work { debt (work_of self.new.marks) ≤ debt (work_of self.old.marks) }
+    {
+        for node in 0..self.families.len() {
+            self.renew_family(node, ledger);
+        }
+    }
+
+    /// Computes the keys of the children of a node that are stale.
+    fn renew_family(&mut self, node: usize, ledger: &PlainSorter)
+        requires sound { IsSound (plain_content ledger.now) }
+        requires tree { IsTreeOf (plain_content ledger.now) self.old }
+        requires there { node < length self.old.families.items }
+        ensures tree { IsTreeOf (plain_content ledger.now) self.new }
+        ensures long { length self.new.families.items ≡ length self.old.families.items }
+        ensures made { self.old.marks.made ≤ self.new.marks.made }
+        ensures work { debt (work_of self.new.marks) ≤ debt (work_of self.old.marks) }
+    {
+        let family = &mut self.families[node];
+        family.renew_all(&mut self.marks, ledger.total(), &self.sums);
     }
 
     /// Computes the key of a node, and puts it into its place among its siblings.

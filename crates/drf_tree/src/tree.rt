@@ -5,8 +5,9 @@ ghost use Rattle.drf_bundle.specs.declared.quantities.Entry.{Entry};
 ghost use Rattle.drf_role.specs.Path.{IsClientPath, IsNodePath};
 ghost use Rattle.drf_role.specs.Text.{same_text};
 ghost use Rattle.drf_rows.specs.Held.{weight_of};
-ghost use Rattle.drf_sorter.specs.Content.{Content, empty, has_node, with_weight};
+ghost use Rattle.drf_sorter.specs.Content.{Content, empty, has_node, standing_in, with_weight};
 ghost use Rattle.drf_sorter.specs.Keys.{key_by};
+ghost use Rattle.drf_sorter.specs.Served.{Weighs};
 ghost use Rattle.drf_sorter.specs.Work.{debt};
 ghost use Rattle.drf_tree.specs.Changes.{IsKeyOfNothing, IsSameTree, IsOneLonger, IsShapeOf, IsVacant, is_bare_at};
 ghost use Rattle.drf_tree.specs.Family.{child_name};
@@ -70,15 +71,15 @@ impl Tree {
         &self.sums[node]
     }
 
-    /// Each key may be stale.
+    /// Each key may be stale but those of nothing.
     pub(crate) fn mark_all(&mut self)
         requires shape { IsShapeOf self.old }
-        ensures tree { (content : Content) (total : List Entry) → IsTreeOf content self.old → IsTreeOf (record content { total = total }) self.new }
+        ensures tree { (content : Content) (total : List Entry) → Weighs (standing_in content) → IsTreeOf content self.old → IsTreeOf (record content { total = total }) self.new }
         ensures made { self.new.marks.made ≡ self.old.marks.made }
         ensures places { self.new.places ≡ self.old.places }
         ensures families { self.new.families ≡ self.old.families }
     {
-        self.marks.mark_all(self.places.as_slice());
+        self.marks.mark_all(&self.places, &self.sums);
     }
 
     /// Gives a node a weight, in thousandths.

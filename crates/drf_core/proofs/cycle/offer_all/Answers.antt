@@ -9,6 +9,8 @@ use Rattle.drf_core.specs.Entitling.{IsQuotaOf}
 use Rattle.drf_tables.specs.DraftLaws.{next-with_offers, with_offers-added}
 use Rattle.drf_tables.specs.Drafts.{with_offers}
 use Rattle.drf_core.proofs.drafting.Cycle.{counts_all, is_counting, new_offers-drafts}
+use Rattle.drf_core.specs.Content.{content_of}
+use Rattle.drf_core.proofs.drafting.Closed.{no_offers, no_turns}
 use Rattle.drf_core.proofs.cycle.offer_all.Goals as goal
 
 pub commit-requires-clause-fits : goal.commit-requires-clause-fits
@@ -55,3 +57,25 @@ returns-clause-work g c = λ counted.
     sym (new_offers-drafts c.quota_of.new.tables.rows drafts c.in_ok-turns.ensures.turns)
     ∙ (λ i. new_offers (same i) (turns_of (same i))) in
     omega (arith, c.in_ok-turns.ensures.work counted, ap Nodes c.requires.none, ap Nodes new)
+
+-- ---- no agent has a turn
+
+pub returns-then-not-has_open-clause-ok : goal.returns-then-not-has_open-clause-ok
+returns-then-not-has_open-clause-ok g c =
+    c.count_consumption.ensures.same ∙ sym (no_turns c.settle.new.self.rows (c.has_open.ensures c.if-not-has_open.true)) ∙ ap turns_of c.settle.ensures.same
+
+pub returns-then-not-has_open-clause-sorted : goal.returns-then-not-has_open-clause-sorted
+returns-then-not-has_open-clause-sorted g c =
+    c.requires.drafting.sorted
+    ∙ ap (λ (os : List OfferRow). content_of (with_offers c.args.tables.now.rows os)) c.requires.none
+    ∙ ap content_of (sym (c.count_consumption.ensures.same ∙ c.settle.ensures.same))
+
+pub returns-then-not-has_open-clause-lines : goal.returns-then-not-has_open-clause-lines
+returns-then-not-has_open-clause-lines g c =
+    let same = c.settle.ensures.same in
+    c.new.ensures.items
+    ∙ ap (map line_told)
+    (sym (no_offers c.settle.new.self.rows (c.has_open.ensures c.if-not-has_open.true)) ∙ (λ i. new_offers (same i) (turns_of (same i))))
+
+pub returns-then-not-has_open-clause-work : goal.returns-then-not-has_open-clause-work
+returns-then-not-has_open-clause-work g c = λ counted. omega arith

@@ -1,4 +1,4 @@
-use Rattle.std.proofs.Common.{◌+◌, true, false, sym, ◌∙◌, arith}
+use Rattle.std.proofs.Common.{◌+◌, sym, ◌∙◌, arith}
 use Rattle.std.proofs.lemmas.Bool.{not-false, not-true}
 use Rattle.drf_role.specs.Text.{same_text}
 use Rattle.drf_core.proofs.drafting.Near.{above_role, alike_more, as_long, not_above, parted_end, parted_here}

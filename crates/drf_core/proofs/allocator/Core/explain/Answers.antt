@@ -10,6 +10,6 @@ pub returns : goal.returns
 returns g c =
     IfOk-weaker c.explain.result _ _
     (λ findings is. is
-    ∙ sym (live_rows_are_explained c.self.inside.cluster.rows c.args.at)
+    ∙ sym (live_rows_are_explained c.self.inside.cluster.value.rows c.args.at)
     ∙ ap (λ (e : Engine). explained (live_rows e.rows) c.args.at) c.self.view_is)
-    c.explain.ensures
+    (rw c.deref.ensures at c.explain.ensures)

@@ -8,6 +8,6 @@ use Rattle.drf_core.proofs.allocator.Core.rows.Goals as goal
 
 pub returns-clause-safe : goal.returns-clause-safe
 returns-clause-safe g c =
-    IfOk-weaker _ (λ rows. rows ≡ live_rows c.self.inside.cluster.rows) IsSafe
-    (λ rows is. subst IsSafe (sym is) (safe_kept c.self.inside.limits c.self.inside.cluster.rows c.self.invariant))
-    c.rows.ensures
+    IfOk-weaker _ (λ rows. rows ≡ live_rows c.self.inside.cluster.value.rows) IsSafe
+    (λ rows is. subst IsSafe (sym is) (safe_kept c.self.inside.limits c.self.inside.cluster.value.rows c.self.invariant))
+    (rw c.deref.ensures at c.rows.ensures)

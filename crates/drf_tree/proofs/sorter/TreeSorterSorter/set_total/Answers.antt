@@ -2,6 +2,7 @@ use Rattle.std.proofs.Common.{refl}
 use Rattle.drf_sorter.specs.Content.{Content}
 use Rattle.drf_sorter.specs.Plain.{plain_content}
 use Rattle.drf_tree.proofs.KeptLemmas.{kept_by, settled_along}
+use Rattle.drf_tree.proofs.RenewLemmas.{plain_weighs}
 use Rattle.drf_tree.proofs.sorter.TreeSorterSorter.set_total.Goals as goal
 
 pub invariant_of-self : goal.invariant_of-self
@@ -9,7 +10,7 @@ invariant_of-self c =
     let content = plain_content c.self.inside.ledger in
     let new : Content = record content { total = c.args.total } in
     kept_by c.set_total.new.self new c.set_total.ensures.content c.self.inside.tree c.mark_all.new.self c.self.inside.walk
-    (c.mark_all.ensures.tree content c.args.total c.self.invariant.of_ledger) c.mark_all.ensures.places c.mark_all.ensures.families
+    (c.mark_all.ensures.tree content c.args.total (plain_weighs c.self.inside.ledger) c.self.invariant.of_ledger) c.mark_all.ensures.places c.mark_all.ensures.families
     c.self.invariant.frames
     (settled_along content new c.self.inside.tree.places.items c.self.inside.tree.families.items refl c.self.inside.walk.frames.items
     c.self.invariant.settled)

@@ -12,7 +12,7 @@ use Rattle.drf_tree.specs.Family.{IsRenewed}
 use Rattle.drf_tree.specs.Nodes.{children_at, is_live, parent_at, path_at}
 use Rattle.drf_tree.specs.Tree.{AreRight, AreSums, IsShape, IsSumOf}
 use Rattle.drf_tree.proofs.NodeLemmas.{family_read, live_within, node_within}
-use Rattle.drf_tree.proofs.RenewLemmas.{IsRenewedTree, plain_weighs, renewed, sum_within, weighs_within}
+use Rattle.drf_tree.proofs.RenewLemmas.{IsRepaired, can_key, plain_weighs, renewed}
 use Rattle.drf_tree.proofs.tree.Tree.renew.Goals as goal
 
 -- the sum that was read is that of the node
@@ -35,26 +35,12 @@ parent_within tree shape node parent live is =
       is,
     )
 
-pub renew-requires-clause-within : goal.renew-requires-clause-within
-renew-requires-clause-within c label =
+pub renew-requires-clause-key : goal.renew-requires-clause-key
+renew-requires-clause-key c =
     let content = plain_content c.args.ledger.now in
     let sum = c.index.result.now in
     let of = sum_read content c.args.self.now c.requires.tree.shape c.requires.tree.sums c.args.node sum c.requires.live c.index.ensures in
-    rw c.total.ensures (sum_within content (path_at c.args.self.now.places.items c.args.node) sum c.requires.sound of label)
-
-pub renew-requires-clause-weighs : goal.renew-requires-clause-weighs
-renew-requires-clause-weighs c =
-    let content = plain_content c.args.ledger.now in
-    let of = sum_read content c.args.self.now c.requires.tree.shape c.requires.tree.sums c.args.node c.index.result.now c.requires.live c.index.ensures in
-    let range = weighs_within c.args.ledger.now (path_at c.args.self.now.places.items c.args.node) in
-    omega (arith, of.weight, range.0)
-
-pub renew-requires-clause-light : goal.renew-requires-clause-light
-renew-requires-clause-light c =
-    let content = plain_content c.args.ledger.now in
-    let of = sum_read content c.args.self.now c.requires.tree.shape c.requires.tree.sums c.args.node c.index.result.now c.requires.live c.index.ensures in
-    let range = weighs_within c.args.ledger.now (path_at c.args.self.now.places.items c.args.node) in
-    omega (arith, of.weight, range.1)
+    rw c.total.ensures (can_key c.args.ledger.now (path_at c.args.self.now.places.items c.args.node) sum c.requires.sound of)
 
 pub returns-clause-tree : goal.returns-clause-tree
 returns-clause-tree c =
@@ -74,7 +60,7 @@ returns-clause-tree c =
     (subst (λ (total : List Entry). IsRenewed c.args.node total sum c.index_mut-family.result.now.children.items new.children.items)
     c.total.ensures c.renew.ensures.renewed) in
     let all =
-    subst (λ (p : ℕ). IsRenewedTree content tree (slice_set families p new)) (sym c.parent-parent.ensures)
+    subst (λ (p : ℕ). IsRepaired content tree (slice_set families p new) tree.marks.stale) (sym c.parent-parent.ensures)
     (renewed content tree c.args.node of c.requires.live (plain_weighs c.args.ledger.now) sum
     (sum_read content tree of.shape of.sums c.args.node sum c.requires.live c.index.ensures) new r) in
     let families = slice_set families parent new in

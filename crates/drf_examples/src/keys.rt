@@ -1,7 +1,7 @@
 //! Keys that the sorter of a core makes: each line of `keys` names an example, and behind it how many of its events come next
 //! and how many keys they make, as `2:7`. A client has a node for each beginning of its path, as `a`, `a/.` and `a/./f1`. A node that
-//! comes makes a key, and at an agent's turn so does each node that stands and is marked: all after the total changed, else
-//! those on the way to clients that were offered something, gave it back or left.
+//! comes makes a key, and at an agent's turn so does each node that stands and is marked: after the total changed those whose
+//! clients hold something, else those on the way to clients that were offered something, gave it back or left.
 use crate::commands::text_of;
 use crate::events::events_of;
 use drf_core::Core;

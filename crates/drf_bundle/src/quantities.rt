@@ -323,7 +323,7 @@ impl Quantities {
         self.place_elsewhere(label, hint)
     }
 
-    // The same. Few entries are looked through, as to compare labels for equality costs little; of more, those behind the hint come first.
+    // The same. Few entries are looked through, as to compare labels for equality costs little; of more, the hint and the next place come first.
     fn place_elsewhere(&self, label: &Label, hint: usize) -> Option<usize>
         ensures found { IfSome result (IsAt self.now label.now) }
         ensures none { IfNone result (is_named self.now label.now ≡ false) }

@@ -1,6 +1,7 @@
 pub mod Machine
 pub mod MachineLaws
 pub mod Content
+pub mod Copies
 pub mod Cluster
 pub mod Kept
 pub mod Working

@@ -1,9 +1,11 @@
 ghost use Rattle.std.specs.Prelude.{◌≡◌, ◌≤◌, ◌++◌, false, None, IfOk, IfSome, OnOk, OnErr, MatchOption};
 ghost use Rattle.drf_sorter.specs.Work.{Adds};
 ghost use Rattle.drf_core.specs.Working.{allowance, allowance_of_all, may_make_keys};
+ghost use Rattle.drf_core.specs.Copies.{copies_if};
 ghost use Rattle.drf_core.specs.Machine.{IsOpened, IsSafe, IsSame, IsAfter, IsAfterAll, HasRun};
 
 use crate::cluster::Cluster;
+use crate::stepped::Stepped;
 use drf_explain::Finding;
 use drf_rows::{Event, Limits, Reply, Report, Rows};
 use drf_sorter::Sorter;
@@ -30,6 +32,7 @@ impl<S: Sorter> Drop for Core<S> {
 }
 
 impl<S: Sorter> Model for Core<S> {
+    ghost use Rattle.drf_core.specs.Copies.{copies_if};
     ghost use Rattle.drf_core.specs.Machine.{Engine, engine_code};
 
     ghost Value = { Engine };
@@ -82,14 +85,35 @@ impl<S: Sorter> Core<S> {
         ensures keys { may_make_keys event ≡ false → self.new.work.made ≡ self.old.work.made }
         ensures refused { IfSome (refusal_of self.old.limits self.old.rows event) (λ refusal. self.new.work.made ≡ self.old.work.made) }
     {
+        let Stepped {
+            reply,
+            copies: _copies,
+        } = self.step_copied(event, false)?;
+        Ok(reply)
+    }
+
+    /// The same, with two copies of the reply, if they are wanted. They are made before anything changes, so that who keeps a journal
+    /// and receipts asks for no memory after the step.
+    pub fn step_copied(&mut self, event: Event, copied: bool) -> Result<Stepped, AllocError>
+        ensures reply { IfOk result (λ stepped. stepped.reply ≡ reply_to self.old.limits self.old.rows event) }
+        ensures copies { IfOk result (λ stepped. stepped.copies ≡ copies_if copied stepped.reply) }
+        ensures ok { OnOk result (IsAfter self.old self.new event) }
+        ensures err { OnErr result (IsSame self.old self.new) }
+        ensures not_refused { OnErr result (early_refusal_of self.old.limits self.old.rows event ≡ None) }
+        ensures safe { IsSafe (live_rows self.new.rows) }
+        ensures work { OnOk result (MatchOption (allowance self.old.limits self.old.rows event) (Unit {0}) (Adds S.COUNTED self.old.work self.new.work)) }
+        ensures made { self.old.work.made ≤ self.new.work.made }
+        ensures keys { may_make_keys event ≡ false → self.new.work.made ≡ self.old.work.made }
+        ensures refused { IfSome (refusal_of self.old.limits self.old.rows event) (λ refusal. self.new.work.made ≡ self.old.work.made) }
+    {
         let cluster = &mut *self.cluster;
         cluster.forget_spent();
         if let Some(refusal) = cluster.refusal(&self.limits, &event)? {
-            return Ok(Reply::Refused(refusal));
+            return Ok(Stepped::refused(refusal, copied));
         }
-        let reply = cluster.apply(self.alloc, &self.limits, event)?;
+        let stepped = cluster.apply(self.alloc, &self.limits, event, copied)?;
         cluster.count_event();
-        Ok(reply)
+        Ok(stepped)
     }
 
     /// What this call ensures tells a proof that nothing is granted twice.

@@ -7,11 +7,13 @@ ghost use Rattle.drf_core.specs.Kept.{IsKept};
 ghost use Rattle.drf_sorter.specs.Work.{Adds};
 ghost use Rattle.drf_core.specs.Working.{allowed, may_make_keys};
 ghost use Rattle.drf_core.specs.Applying.{has_answer};
+ghost use Rattle.drf_core.specs.Copies.{copies_if};
 
 use crate::cluster::Cluster;
+use crate::stepped::Stepped;
 use drf_bundle::Quantities;
 use drf_role::Role;
-use drf_rows::{Event, Limits, Reply, Table};
+use drf_rows::{Event, Limits, Reply};
 use drf_sorter::Sorter;
 use std::alloc::{AllocError, Global};
 
@@ -92,16 +94,18 @@ impl<S: Sorter> Cluster<S> {
         }
     }
 
-    /// Applies an event that is not refused, whole or not at all.
+    /// Applies an event that is not refused, whole or not at all. Copies of the reply are made before anything changes.
     pub(crate) fn apply(
         &mut self,
         alloc: Global,
         limits: &Limits,
         event: Event,
-    ) -> Result<Reply, AllocError>
+        copied: bool,
+    ) -> Result<Stepped, AllocError>
         requires kept { IsKept limits.now self.old.rows }
         requires welcome { refusal_of limits.now self.old.rows event ≡ None }
-        ensures reply { IfOk result (λ reply. reply ≡ answer self.old.rows (effect self.old.rows event) event) }
+        ensures reply { IfOk result (λ stepped. stepped.reply ≡ answer self.old.rows (effect self.old.rows event) event) }
+        ensures copies { IfOk result (λ stepped. stepped.copies ≡ copies_if copied stepped.reply) }
         ensures ok { OnOk result (self.new.rows ≡ effect self.old.rows event) }
         ensures work { OnOk result (MatchOption (allowed self.old.rows event) (Unit {0}) (Adds S.COUNTED self.old.work self.new.work)) }
         ensures made { self.old.work.made ≤ self.new.work.made }
@@ -109,14 +113,11 @@ impl<S: Sorter> Cluster<S> {
         ensures err { OnErr result (self.new.rows ≡ self.old.rows) }
     {
         match event {
-            Event::Cycle { at } => {
-                let lines = self.cycle(alloc, limits, at)?;
-                Ok(Reply::Offers(Table::from_vec(lines)))
-            }
-            Event::Report => Ok(Reply::Report(self.report()?)),
+            Event::Cycle { at } => self.cycle(alloc, limits, at, copied),
+            Event::Report => Stepped::of(Reply::Report(self.report()?), copied),
             plain => {
                 self.change(alloc, limits, plain)?;
-                Ok(Reply::Done)
+                Ok(Stepped::done(copied))
             }
         }
     }

@@ -1,14 +1,16 @@
-//! The allocation cycle. Its offers are drafts until the last agent had its turn: the sorter is charged with them, and a copy of
-//! the quota counts them, while of the rows the clock alone has moved. The tables take that copy over with the offers, so that
-//! nothing is counted anew at the next cycle. Where memory ends, the copy is dropped, the charges are taken back and so is the
+//! The allocation cycle. Its offers are drafts until the last agent had its turn: the sorter is charged with them, and a quota that
+//! the tables lend counts them, while of the rows the clock alone has moved. The tables take the quota back with the offers, so that
+//! nothing is counted anew at the next cycle. Where memory ends, the quota is dropped, the charges are taken back and so is the
 //! clock, which needs none.
 ghost use Rattle.std.specs.Prelude.{◌≡◌, ◌≢◌, ℕ, false, true, ◌<◌, ◌≤◌, ◌+◌, None, [], length, map, slice_get, is_some, ◌&&◌, Some, IfOk, OnOk, OnErr};
 ghost use Rattle.drf_role.specs.Path.{Path, role_part, framework_part};
 ghost use Rattle.drf_rows.specs.Cycle.{is_allocatable, with_offer};
 ghost use Rattle.drf_rows.specs.Step.{line_told, new_offers, refusal_of, effect};
 ghost use Rattle.drf_rows.specs.declared.event.Event.TheVariants.{Cycle};
+ghost use Rattle.drf_rows.specs.declared.reply.Reply.TheVariants.{Offers};
 ghost use Rattle.drf_tables.specs.Drafts.{with_offers};
 ghost use Rattle.drf_core.specs.Content.{content_of};
+ghost use Rattle.drf_core.specs.Copies.{copies_if};
 ghost use Rattle.drf_core.specs.Kept.{IsKept};
 ghost use Rattle.drf_core.specs.Entitling.{IsKnown, IsPassedOver, IsQuotaOf};
 ghost use Rattle.drf_rows.specs.declared.rows.Rows.{Rows};
@@ -18,11 +20,12 @@ ghost use Rattle.drf_core.specs.Working.{AddsDrafts, nodes_of, offered_to, touch
 
 use crate::cluster::Cluster;
 use crate::free::{Free, grant};
+use crate::stepped::Stepped;
 use drf_amount::Algebra;
 use drf_bundle::Bundle;
 use drf_gates::Quota;
 use drf_role::{ClientPath, Name};
-use drf_rows::{Limits, OfferLine, OfferRow, is_worth_an_offer};
+use drf_rows::{Limits, OfferLine, OfferRow, Reply, Table};
 use drf_sorter::Sorter;
 use drf_tables::{Left, Tables};
 use std::alloc::{AllocError, Global};
@@ -43,7 +46,7 @@ fn is_open(tables: &Tables, place: usize) -> bool
     requires settled { tables.now.settled ≡ true }
     ensures { result ≡ is_open_at tables.now.rows place }
 {
-    tables.is_active(place) && is_worth_an_offer(tables.free(place))
+    tables.is_active(place) && tables.is_worth_an_offer(place)
 }
 
 /// Whether any agent is active, and has so much free that it is worth an offer.
@@ -57,6 +60,29 @@ fn has_open(tables: &Tables) -> bool
         }
     }
     false
+}
+
+/// Whether a client is still to be served.
+fn has_next<S: Sorter>(sorter: &S) -> bool
+    ensures { result ≡ is_some (slice_get (S.queue sorter.now) 0) }
+{
+    sorter.first().is_some()
+}
+
+/// Whether it is seen that a cycle changes nothing: no agent has a turn, or no client is to be served.
+fn is_idle<S: Sorter>(tables: &Tables, sorter: &mut S) -> Result<bool, AllocError>
+    requires settled { tables.now.settled ≡ true }
+    requires drafting { IsDrafting (S.content sorter.old) tables.now.rows [] }
+    ensures idle { IfOk result (λ idle. idle ≡ true → turns_of tables.now.rows ≡ tables.now.rows) }
+    ensures content { S.content sorter.new ≡ S.content sorter.old }
+    ensures made { (S.work sorter.old).made ≤ (S.work sorter.new).made }
+    ensures work { Adds S.COUNTED (S.work sorter.old) (S.work sorter.new) 0 }
+{
+    if !has_open(tables) {
+        return Ok(true);
+    }
+    sorter.fix_order()?;
+    Ok(!has_next(sorter))
 }
 
 /// The row of an offer.
@@ -143,7 +169,7 @@ pub(crate) fn goes_on<S: Sorter>(sorter: &S, free: &Free) -> bool
     requires { free.now.is_worth ≡ is_allocatable free.now.bundle }
     ensures { result ≡ (is_some (slice_get (S.queue sorter.now) 0) && is_allocatable free.now.bundle) }
 {
-    sorter.first().is_some() && free.is_worth
+    has_next(sorter) && free.is_worth
 }
 
 /// Goes on past the client that was tried, and past clients right behind it that are known to have nothing to get either.
@@ -183,7 +209,8 @@ fn turn<S: Sorter>(
         return Ok(());
     }
     sorter.fix_order()?;
-    let mut free = Free::new(tables.free(place).copy()?);
+    let bundle = tables.free(place).copy()?;
+    let mut free = Free::new(bundle, tables.is_worth_an_offer(place));
     while goes_on(sorter, &free) {
         try_first(tables, sorter, place, &mut free, drafts)?;
         pass_tried(sorter, &free);
@@ -252,8 +279,8 @@ fn take_back<S: Sorter>(tables: &Tables, sorter: &mut S, offers: &mut Vec<OfferR
     }
 }
 
-/// A quota with the limits and what is consumed before the first draft. Where no role has a limit, there is none, and nothing is
-/// counted.
+/// The quota, with the limits and what is consumed before the first draft, lent by the tables. Where no role has a limit, there is none,
+/// and nothing is counted.
 pub(crate) fn quota_of(tables: &mut Tables) -> Result<Option<Quota>, AllocError>
     requires { length tables.old.rows.agents ≤ 4096 }
     ensures quota { IfOk result (IsQuotaOf tables.old.rows) }
@@ -264,7 +291,7 @@ pub(crate) fn quota_of(tables: &mut Tables) -> Result<Option<Quota>, AllocError>
         return Ok(None);
     }
     tables.count_consumption()?;
-    let quota = tables.quota().copy()?;
+    let quota = tables.lend_quota()?;
     Ok(Some(quota))
 }
 
@@ -274,13 +301,15 @@ fn offer_all<S: Sorter>(
     tables: &mut Tables,
     sorter: &mut S,
     drafts: &mut Drafts,
-) -> Result<Vec<OfferLine>, AllocError>
+    copied: bool,
+) -> Result<Stepped, AllocError>
     requires drafting { IsDrafting (S.content sorter.old) tables.old.rows drafts.old.offers.items }
     requires none { drafts.old.offers.items ≡ [] }
     requires nothing_left { drafts.old.lefts.items ≡ [] }
     ensures ok { OnOk result (tables.new.rows ≡ turns_of tables.old.rows) }
     ensures sorted { OnOk result (S.content sorter.new ≡ content_of tables.new.rows) }
-    ensures lines { IfOk result (λ lines. lines.items ≡ map line_told (new_offers tables.old.rows (turns_of tables.old.rows))) }
+    ensures reply { IfOk result (λ stepped. stepped.reply ≡ Offers (map line_told (new_offers tables.old.rows (turns_of tables.old.rows)))) }
+    ensures copies { IfOk result (λ stepped. stepped.copies ≡ copies_if copied stepped.reply) }
     ensures err { OnErr result (tables.new.rows ≡ tables.old.rows) }
     ensures drafting { OnErr result (IsDrafting (S.content sorter.new) tables.old.rows drafts.new.offers.items) }
     ensures counted { OnOk result (tables.old.rows.limits ≢ [] → tables.new.counted ≡ true) }
@@ -288,18 +317,21 @@ fn offer_all<S: Sorter>(
     ensures made { (S.work sorter.old).made ≤ (S.work sorter.new).made }
 {
     tables.settle()?;
-    if !has_open(tables) {
-        // Nothing is copied for a cycle without turns.
+    let idle = is_idle(tables, sorter)?;
+    if idle {
+        // No limit is copied for a cycle in which nobody is tried.
+        let stepped = Stepped::of(Reply::Offers(Table::from_vec(Vec::new(alloc))), copied)?;
         tables.count_consumption()?;
-        return Ok(Vec::new(alloc));
+        return Ok(stepped);
     }
     drafts.quota = quota_of(tables)?;
     turns(tables, sorter, drafts)?;
     let lines = offer_lines(alloc, &drafts.offers)?;
+    let stepped = Stepped::of(Reply::Offers(Table::from_vec(lines)), copied)?;
     let lefts = mem::replace(&mut drafts.lefts, Vec::new(alloc));
     let quota = drafts.quota.take();
     tables.commit(&mut drafts.offers, lefts, quota)?;
-    Ok(lines)
+    Ok(stepped)
 }
 
 impl<S: Sorter> Cluster<S> {
@@ -309,10 +341,12 @@ impl<S: Sorter> Cluster<S> {
         alloc: Global,
         limits: &Limits,
         at: u64,
-    ) -> Result<Vec<OfferLine>, AllocError>
+        copied: bool,
+    ) -> Result<Stepped, AllocError>
         requires kept { IsKept limits.now self.old.rows }
         requires welcome { refusal_of limits.now self.old.rows (Cycle at) ≡ None }
-        ensures lines { IfOk result (λ lines. lines.items ≡ map line_told (new_offers self.old.rows (effect self.old.rows (Cycle at)))) }
+        ensures reply { IfOk result (λ stepped. stepped.reply ≡ Offers (map line_told (new_offers self.old.rows (effect self.old.rows (Cycle at))))) }
+        ensures copies { IfOk result (λ stepped. stepped.copies ≡ copies_if copied stepped.reply) }
         ensures ok { OnOk result (self.new.rows ≡ effect self.old.rows (Cycle at)) }
         ensures err { OnErr result (self.new.rows ≡ self.old.rows) }
         ensures counted { OnOk result (self.old.rows.limits ≢ [] → self.new.counted ≡ true) }
@@ -327,8 +361,14 @@ impl<S: Sorter> Cluster<S> {
             lefts: Vec::new(alloc),
             quota: None,
         };
-        match offer_all(alloc, &mut self.tables, &mut self.sorter, &mut drafts) {
-            Ok(lines) => Ok(lines),
+        match offer_all(
+            alloc,
+            &mut self.tables,
+            &mut self.sorter,
+            &mut drafts,
+            copied,
+        ) {
+            Ok(stepped) => Ok(stepped),
             Err(error) => {
                 take_back(&self.tables, &mut self.sorter, &mut drafts.offers);
                 self.tables.set_clock(before);

@@ -130,7 +130,8 @@ fn tell_clients<S: Sorter>(
     let agent = tables.agent_name(place);
     let mut waiting = count_active(sorter)?;
     sorter.fix_order()?;
-    let mut free = Free::new(tables.free(place).copy()?);
+    let bundle = tables.free(place).copy()?;
+    let mut free = Free::new(bundle, tables.is_worth_an_offer(place));
     while goes_on(sorter, &free) {
         tell_first(
             sorter,

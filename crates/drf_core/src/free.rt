@@ -5,7 +5,7 @@ ghost use Rattle.std.specs.Option.{option_copied};
 ghost use Rattle.drf_bundle.specs.Bundle.{rest};
 ghost use Rattle.drf_gates.specs.Quota.{Allowance, IsAllowanceOf};
 ghost use Rattle.drf_rows.specs.Client.{Client, path_of};
-ghost use Rattle.drf_rows.specs.Cycle.{free_of, grant};
+ghost use Rattle.drf_rows.specs.Cycle.{free_of, grant, is_allocatable};
 ghost use Rattle.drf_rows.specs.declared.rows.AgentRow.{AgentRow};
 ghost use Rattle.drf_rows.specs.declared.rows.Rows.{Rows};
 ghost use Rattle.drf_role.specs.Path.{Path, begins_with, role_part, same_path};
@@ -43,12 +43,12 @@ pub struct Free {
 }
 
 impl Free {
-    /// What is free as a turn begins.
-    pub fn new(bundle: Bundle) -> Free
+    /// What is free as a turn begins, and whether that is worth an offer.
+    pub fn new(bundle: Bundle, is_worth: bool) -> Free
+        requires { is_worth ≡ is_allocatable bundle }
         ensures bundle { result.bundle ≡ bundle }
         ensures known { (quota : Option Allowance) → IsKnown quota result }
     {
-        let is_worth = is_worth_an_offer(&bundle);
         Free {
             bundle,
             is_worth,

@@ -15,5 +15,7 @@ mod life;
 mod moving;
 mod refusal;
 mod report;
+mod stepped;
 
 pub use allocator::Core;
+pub use stepped::Stepped;

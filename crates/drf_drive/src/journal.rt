@@ -8,7 +8,7 @@ ghost use Rattle.drf_drive.specs.JournalText.{HasSent, IsCutOff, entry_text, is_
 use crate::script::ScriptFault;
 use drf_board::Entry;
 use drf_journal::{Device, RunFault, write_whole};
-use drf_lines::{push_reply, write_event};
+use drf_lines::{push_event, push_reply};
 use std::alloc::{AllocError, Global};
 use std::io::Write;
 
@@ -16,11 +16,10 @@ use std::io::Write;
 const LARGE: usize = 65_536;
 
 // Adds the lines of an entry: that of the event, and that of the reply.
-fn push_entry(alloc: Global, entry: &Entry, text: &mut Vec<u8>) -> Result<(), AllocError>
+fn push_entry(entry: &Entry, text: &mut Vec<u8>) -> Result<(), AllocError>
     ensures { OnOk result (text.new.items ≡ text.old.items ++ entry_text entry.now) }
 {
-    let event = write_event(alloc, &entry.event)?;
-    text.extend_from_slice(&event)?;
+    push_event(text, &entry.event)?;
     text.push(b'\n')?;
     push_reply(text, &entry.reply)
 }
@@ -55,7 +54,7 @@ fn write_entries<W: Write>(
 {
     let mut text = Vec::new(alloc);
     for entry in entries {
-        push_entry(alloc, entry, &mut text)?;
+        push_entry(entry, &mut text)?;
         send_long(&mut text, writer)?;
     }
     write_whole(writer, &text)

@@ -1,5 +1,5 @@
 -- The totals of the fronts of a role, one front after another, when the role consumes something else.
-use Rattle.std.proofs.Common.{◌≡◌, ℕ, ◌+◌, ◌<◌, ◌≤◌, Bool, true, false, ◌&&◌, cond, nat_lt, List, [], zero, suc, ◌∷◌, length, take, take_all, All, None, Some, refl, sym, ap, subst, ◌∙◌, inl, inr, arith, length-take-le, true≢false}
+use Rattle.std.proofs.Common.{◌≡◌, ℕ, ◌+◌, ◌<◌, ◌≤◌, Bool, true, false, ◌&&◌, cond, nat_lt, List, [], ◌∷◌, length, take, None, Some, refl, sym, ap, subst, ◌∙◌, inl, inr, arith, length-take-le, true≢false}
 use Rattle.std.specs.Prelude.{IsTrue}
 use Rattle.std.specs.List.{AllByRecursion, IsDistinct}
 use Rattle.std.specs.Map.{keys_of, lookup, remove_entry, set_value}
@@ -8,7 +8,6 @@ use Rattle.std.proofs.lemmas.Bool.Decides.{nat_tests}
 use Rattle.std.proofs.lemmas.List.Elements.{All-cons, All-head, All-nil, All-tail, All-weaker}
 use Rattle.std.proofs.lemmas.Map.Keys.{IsDistinct-head, IsDistinct-tail}
 use Rattle.indexmap.specs.IndexMap.{insert_entry}
-use Rattle.indexmap.specs.Layout.{set_value_at}
 use Rattle.drf_role.specs.Text.{Text}
 use Rattle.drf_role.specs.Path.{Path, same_path}
 use Rattle.drf_role.specs.PathLaws.{same_path-true}
@@ -180,25 +179,3 @@ exact_without used test (e ∷ es) all = elim (cases_Bool (test e.0)) [
       rw other (All-cons (λ (x : Path × Total). IsExact used x.0 x.1) e (remove_entry test es) (All-head (λ (x : Path × Total). IsExact used x.0 x.1) e es all)
       (exact_without used test es (All-tail (λ (x : Path × Total). IsExact used x.0 x.1) e es all)))
 ]
-
--- ---- totals that are cleared, one after another
-
-exact_nothing : (role : Path) (t : Total) → t.amounts ≡ [] → IsExact [] role t
-exact_nothing role t empty = record { known = λ is label. ap (λ (es : List Entry). amount_of es label) empty }
-
-cleared_at : (totals : List (Path × Total)) (i : ℕ) (t : Total) → t.amounts ≡ [] → AreExact [] (take i totals) → AreExact [] (take (suc i) (set_value_at totals i t))
-cleared_at [] i t empty all = All-nil (λ (e : Path × Total). IsExact [] e.0 e.1)
-cleared_at (e ∷ es) zero t empty all =
-    All-cons (λ (x : Path × Total). IsExact [] x.0 x.1) (e.0, t) [] (exact_nothing e.0 t empty) (All-nil (λ (x : Path × Total). IsExact [] x.0 x.1))
-cleared_at (e ∷ es) (suc i) t empty all =
-    All-cons (λ (x : Path × Total). IsExact [] x.0 x.1) e (take (suc i) (set_value_at es i t)) (All-head (λ (x : Path × Total). IsExact [] x.0 x.1) e (take i es) all)
-    (cleared_at es i t empty (All-tail (λ (x : Path × Total). IsExact [] x.0 x.1) e (take i es) all))
-
-pub cleared_more : (totals : List (Path × Total)) (i : ℕ) (t : Total) → t.amounts ≡ [] → AreExact [] (take i totals)
-    → AreExact [] (take (i + 1) (set_value_at totals i t))
-cleared_more totals i t empty all =
-    let next : suc i ≡ i + 1 = omega arith in
-    subst (λ (n : ℕ). AreExact [] (take n (set_value_at totals i t))) next (cleared_at totals i t empty all)
-
-pub cleared_past : (totals : List (Path × Total)) (i : ℕ) → length totals ≤ i → AreExact [] (take i totals) → AreExact [] (take (i + 1) totals)
-cleared_past totals i past all = subst (AreExact []) (take_all i totals past ∙ sym (take_all (i + 1) totals (omega arith))) all

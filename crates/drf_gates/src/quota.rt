@@ -14,8 +14,8 @@ ghost use Rattle.drf_gates.specs.Quota.{IsAllowanceOf, IsRaised, IsSame, known_a
 
 use crate::fronts::limit_above;
 use crate::totals::{
-    Total, clear_totals, copy_totals, drop_total, keep_total, kept, kept_at, lower_totals,
-    raise_totals,
+    Total, copy_totals, drop_total, keep_total, kept, kept_at, lower_totals, raise_totals,
+    totals_of,
 };
 use crate::usage::{copy_used, lower, raise, used_at};
 use drf_bundle::{Entry, Quantities};
@@ -400,12 +400,23 @@ impl Quota {
         })
     }
 
-    /// Forgets what roles consume. It needs no memory.
+    /// The same limits, and nothing consumed.
+    pub fn limits_alone(&self) -> Result<Quota, AllocError>
+        ensures { IfOk result (λ quota. quota ≡ record { limits = self.now.limits; used = [] }) }
+    {
+        let alloc = *self.limits.allocator();
+        Ok(Quota {
+            limits: copy_limits(&self.limits)?,
+            used: IndexMap::new(alloc),
+            totals: IndexMap::new(alloc),
+        })
+    }
+
+    /// Forgets what roles consume. A total that was lost is kept again, if there is memory.
     pub fn forget(&mut self)
         ensures { self.new ≡ record self.old { used = [] } }
     {
-        let alloc = *self.limits.allocator();
-        self.used = IndexMap::new(alloc);
-        clear_totals(&mut self.totals, alloc);
+        self.used = IndexMap::new(*self.limits.allocator());
+        self.totals = totals_of(&self.limits, &self.used);
     }
 }

@@ -201,29 +201,6 @@ pub(crate) fn reduce_totals(
     }
 }
 
-/// Makes the total at a place 0.
-fn clear_total(totals: &mut IndexMap<Role, Total>, place: usize, alloc: Global)
-    ensures cleared { AreExact [] (take place totals.old.entries) → AreExact [] (take (place + 1) totals.new.entries) }
-    ensures count { length totals.new.entries ≡ length totals.old.entries }
-{
-    if let Some(total) = totals.get_index_mut(place) {
-        let amounts = Quantities::empty(alloc);
-        *total = Total {
-            is_known: true,
-            amounts,
-        };
-    }
-}
-
-/// No role consumes anything. It needs no memory.
-pub(crate) fn clear_totals(totals: &mut IndexMap<Role, Total>, alloc: Global)
-    ensures { AreExact [] totals.new.entries }
-{
-    for place in 0..totals.len() {
-        clear_total(totals, place, alloc);
-    }
-}
-
 /// What a role consumes of a scalar together with the roles below it, if that is kept.
 pub(crate) fn kept(totals: &IndexMap<Role, Total>, role: &Role, label: &str) -> Option<u64>
     ensures { IfSome result (λ amount. (used : List Usage) → AreExact used totals.now.entries → amount ≡ used_at used role.now label.now) }
@@ -306,6 +283,20 @@ pub(crate) fn keep_total(
     let mut amounts = Quantities::empty(*totals.allocator());
     let is_known = add_used(&mut amounts, role, used);
     let _ = put_total(totals, role, Total { is_known, amounts });
+}
+
+/// The totals of the roles that have a limit, as far as there is memory.
+pub(crate) fn totals_of(
+    limits: &IndexMap<Role, Quantities>,
+    used: &IndexMap<Role, Quantities>,
+) -> IndexMap<Role, Total>
+    ensures { AreExact used.now.entries result.entries }
+{
+    let mut totals = IndexMap::new(*limits.allocator());
+    for (role, _) in limits {
+        keep_total(&mut totals, used, role);
+    }
+    totals
 }
 
 /// Puts a copy of a total behind those that are there, if there is memory.

@@ -1,19 +1,13 @@
 -- The lines of events mean those events.
-use Rattle.std.proofs.Common.{◌≡◌, ℕ, ◌<◌, ◌≤◌, ◌^◌, ◌==◌, Bool, true, false, cond, List, [], ◌∷◌, ◌++◌, ◌+◌, map, length, take, get_or, All, Result, Some, Ok, Err, IfOk, refl, sym, ap, subst, ◌∙◌, ◌||◌, codes, arith}
+use Rattle.std.proofs.Common.{◌≡◌, ℕ, ◌<◌, ◌≤◌, ◌^◌, ◌==◌, Bool, true, false, List, [], ◌∷◌, map, length, get_or, All, Some, Ok, refl, sym, ap, ◌∙◌, codes, arith}
 use Rattle.std.proofs.lemmas.Bool.{le-ltb, le-leb, eqb-true, and_from, false≢true}
 use Rattle.std.proofs.lemmas.List.Elements.{All-head, All-tail}
 use Rattle.std.specs.Prelude.{suc}
 use Rattle.std.specs.Option.{option_map}
 use Rattle.std.specs.Str.{IsUtf8}
-use Rattle.serde_json.specs.Data.{Data, Members, member, no_members, number, unsigned, depth, items_depth, members_depth}
-use Rattle.serde_json.specs.View.{view, items_of}
-use Rattle.serde_json.specs.declared.value.Value.{Value}
-use Rattle.std.proofs.lemmas.List.{map-append, map_more}
-use Rattle.serde_json.specs.Read.{read, max_depth}
-use Rattle.serde_json.specs.Written.{has_float, items_have_float, members_have_float}
-use Rattle.drf_role.specs.Name.{IsName}
+use Rattle.serde_json.specs.View.{items_of}
+use Rattle.serde_json.specs.Read.{read}
 use Rattle.drf_role.specs.Parts.{text_of}
-use Rattle.drf_bundle.specs.Bundle.{IsBundle}
 use Rattle.drf_bundle.specs.declared.quantities.Entry.{Entry}
 use Rattle.drf_bundle.specs.declared.resource.Resource.{Resource}
 use Rattle.drf_rows.specs.Tasks.{Start, IsTaskList}
@@ -21,50 +15,57 @@ use Rattle.drf_rows.specs.declared.event.Accept as accepting
 use Rattle.drf_rows.specs.declared.event.Decline as declining
 use Rattle.drf_rows.specs.declared.event.Event.{Event}
 use Rattle.drf_rows.specs.declared.event.Event.TheVariants.{AddAgent, RemoveAgent, ActivateAgent, DeactivateAgent, SetAgent, AddFramework, RemoveFramework, Accept, Decline, Rescind, Finish, Suppress, Revive, Reserve, Unreserve, SetWeight, SetLimit, Cycle, Report}
-use Rattle.drf_text.specs.RoundTrip.{BundleIsRead, WeightIsRead}
+use Rattle.drf_text.specs.RoundTrip.{WeightIsRead}
 use Rattle.drf_text.specs.Written.{bundle_text, quantities_text}
-use Rattle.drf_lines.specs.AgentEvents.{its_total, of_total, agent_of, of_agent}
-use Rattle.drf_lines.specs.FrameworkEvents.{framework_event, role_value, framework_value, framework_of, of_framework, its_client, of_client}
-use Rattle.drf_lines.specs.OfferEvents.{usual_refusal, refusal_member, accept_event, accept_value, decline_event, decline_value, rescind_event, rescind_value, finish_event, finish_value}
-use Rattle.drf_lines.specs.TaskTexts.{each_in, task_text, values_in, is_few, if_few, values_at, one_text, several_texts, task_texts, start_in, starts_in, start_text, task_value, tasks_members}
-use Rattle.drf_lines.specs.ReservationEvents.{its_reservation, of_reservation}
-use Rattle.drf_lines.specs.WeightEvents.{weight_event, weight_value}
-use Rattle.drf_lines.specs.LimitEvents.{limit_event, limit_value}
-use Rattle.drf_lines.specs.EventLine.{cycle_value, report_request, event_value}
+use Rattle.drf_lines.specs.AgentEvents.{its_total, agent_of}
+use Rattle.drf_lines.specs.FrameworkEvents.{framework_event, role_value, framework_of, its_client}
+use Rattle.drf_lines.specs.OfferEvents.{usual_refusal, accept_event, accept_value, decline_event, decline_value, rescind_event, finish_event}
+use Rattle.drf_lines.specs.TaskTexts.{each_in, task_text, values_in, is_few, if_few, values_at, one_text, several_texts, task_texts, start_in, starts_in, start_text, task_value}
+use Rattle.drf_lines.specs.ReservationEvents.{its_reservation}
+use Rattle.drf_lines.specs.WeightEvents.{weight_event}
+use Rattle.drf_lines.specs.LimitEvents.{limit_event}
+use Rattle.drf_lines.specs.EventLine.{event_value, event_line}
 use Rattle.drf_lines.specs.Object.{has_members, keys, keys_besides, texts_of, text_at, number_at, number_or, texts_at}
 use Rattle.drf_lines.specs.Meaning.{cycle_event, report_event, event_in, longest_line, meaning_of}
 use Rattle.drf_lines.specs.Resources.{bundle_in, quantities_in}
 use Rattle.drf_lines.specs.Words.{name_in, roles_in}
+use Rattle.drf_lines.specs.Spelled.{IsSpelled}
 use Rattle.drf_lines.proofs.Meanings.{meaning_read}
-use Rattle.drf_lines.proofs.Texts.{name_read, IsRoleRead, bundle_said, weight_said}
+use Rattle.drf_lines.proofs.Spellings.{IsPrinted, text_read, total_printed, agent_printed, framework_printed, client_printed, reservation_printed, finish_printed, weight_printed, limit_printed, report_printed, rescind_printed, cycle_printed, roles_printed, decline_printed, accept_printed}
+use Rattle.drf_lines.proofs.Texts.{IsRoleRead, weight_said}
 use Rattle.drf_lines.proofs.Values.{value_read}
+
+-- a value that is read as it is printed, and that means the event
+spelled : (event : Event) → IsPrinted (event_value event) → event_in (event_value event) ≡ Ok event → IsSpelled event
+unfolding event_line
+spelled event printed means = record { value = text_read (event_value event) printed; meaning = means }
 
 -- ---- events of agents
 
 pub add_agent_read : (agent : List ℕ) (total : List Resource) → name_in agent ≡ Ok agent → bundle_in (bundle_text total) ≡ Ok total
-    → event_in (of_total (codes "add_agent") agent total) ≡ Ok (AddAgent agent total)
+    → IsSpelled (AddAgent agent total)
 unfolding event_in its_total keys has_members text_at
-add_agent_read agent total name is = rw (name, is) refl
+add_agent_read agent total name is = spelled (AddAgent agent total) (total_printed (codes "add_agent") agent total) (rw (name, is) refl)
 
 pub set_agent_read : (agent : List ℕ) (total : List Resource) → name_in agent ≡ Ok agent → bundle_in (bundle_text total) ≡ Ok total
-    → event_in (of_total (codes "set_agent") agent total) ≡ Ok (SetAgent agent total)
+    → IsSpelled (SetAgent agent total)
 unfolding event_in its_total keys has_members text_at
-set_agent_read agent total name is = rw (name, is) refl
+set_agent_read agent total name is = spelled (SetAgent agent total) (total_printed (codes "set_agent") agent total) (rw (name, is) refl)
 
 pub remove_agent_read : (agent : List ℕ) → name_in agent ≡ Ok agent
-    → event_in (of_agent (codes "remove_agent") agent) ≡ Ok (RemoveAgent agent)
+    → IsSpelled (RemoveAgent agent)
 unfolding event_in agent_of keys has_members text_at
-remove_agent_read agent name = rw name refl
+remove_agent_read agent name = spelled (RemoveAgent agent) (agent_printed (codes "remove_agent") agent) (rw name refl)
 
 pub activate_agent_read : (agent : List ℕ) → name_in agent ≡ Ok agent
-    → event_in (of_agent (codes "activate_agent") agent) ≡ Ok (ActivateAgent agent)
+    → IsSpelled (ActivateAgent agent)
 unfolding event_in agent_of keys has_members text_at
-activate_agent_read agent name = rw name refl
+activate_agent_read agent name = spelled (ActivateAgent agent) (agent_printed (codes "activate_agent") agent) (rw name refl)
 
 pub deactivate_agent_read : (agent : List ℕ) → name_in agent ≡ Ok agent
-    → event_in (of_agent (codes "deactivate_agent") agent) ≡ Ok (DeactivateAgent agent)
+    → IsSpelled (DeactivateAgent agent)
 unfolding event_in agent_of keys has_members text_at
-deactivate_agent_read agent name = rw name refl
+deactivate_agent_read agent name = spelled (DeactivateAgent agent) (agent_printed (codes "deactivate_agent") agent) (rw name refl)
 
 -- ---- events of frameworks
 
@@ -72,41 +73,47 @@ texts_found : (roles : List (List (List ℕ))) → texts_of (items_of (map role_
 texts_found [] = refl
 texts_found (role ∷ roles) = ap (option_map (λ texts. text_of role ∷ texts)) (texts_found roles)
 
-pub framework_read : (framework : List ℕ) (roles : List (List (List ℕ))) → IsName framework
+pub framework_read : (framework : List ℕ) (roles : List (List (List ℕ))) → name_in framework ≡ Ok framework
     → roles_in (map text_of roles) ≡ Ok roles
-    → event_in (framework_value framework roles) ≡ Ok (AddFramework framework roles)
+    → IsSpelled (AddFramework framework roles)
 unfolding event_in framework_event keys has_members text_at texts_at
-framework_read framework roles name each = rw (texts_found roles, name_read framework name, each) refl
+framework_read framework roles name each =
+    spelled (AddFramework framework roles) (roles_printed framework roles) (rw (texts_found roles, name, each) refl)
 
 pub remove_framework_read : (framework : List ℕ) → name_in framework ≡ Ok framework
-    → event_in (of_framework (codes "remove_framework") framework) ≡ Ok (RemoveFramework framework)
+    → IsSpelled (RemoveFramework framework)
 unfolding event_in framework_of keys has_members text_at
-remove_framework_read framework name = rw name refl
+remove_framework_read framework name =
+    spelled (RemoveFramework framework) (framework_printed (codes "remove_framework") framework) (rw name refl)
 
 pub suppress_read : (framework : List ℕ) (role : List (List ℕ)) → name_in framework ≡ Ok framework → IsRoleRead role
-    → event_in (of_client (codes "suppress") framework role) ≡ Ok (Suppress framework role)
+    → IsSpelled (Suppress framework role)
 unfolding event_in its_client keys has_members text_at
-suppress_read framework role name is = rw (name, is) refl
+suppress_read framework role name is =
+    spelled (Suppress framework role) (client_printed (codes "suppress") framework role) (rw (name, is) refl)
 
 pub revive_read : (framework : List ℕ) (role : List (List ℕ)) → name_in framework ≡ Ok framework → IsRoleRead role
-    → event_in (of_client (codes "revive") framework role) ≡ Ok (Revive framework role)
+    → IsSpelled (Revive framework role)
 unfolding event_in its_client keys has_members text_at
-revive_read framework role name is = rw (name, is) refl
+revive_read framework role name is =
+    spelled (Revive framework role) (client_printed (codes "revive") framework role) (rw (name, is) refl)
 
 -- ---- events of offers and tasks
 
 -- what is written of a task is read
-pub start_read : (start : Start) → BundleIsRead → IsName start.0 → IsBundle start.1 → start_in (start_text start) ≡ Ok start
+abbrev pub IsStartRead : Start → Type 0
+IsStartRead start = start_in (start_text start) ≡ Ok start
+
+pub start_read : (start : Start) → name_in start.0 ≡ Ok start.0 → bundle_in (bundle_text start.1) ≡ Ok start.1 → IsStartRead start
 unfolding start_in
-start_read start law name bundle = rw (name_read start.0 name, bundle_said start.1 law bundle) refl
+start_read start name bundle = rw (name, bundle) refl
 
 -- and of each
-pub starts_read : (starts : List Start) → All (λ s. start_in (start_text s) ≡ Ok s) starts
+pub starts_read : (starts : List Start) → All IsStartRead starts
     → each_in start_in (map start_text starts) ≡ Ok starts
 starts_read [] each = refl
 starts_read (s ∷ starts) each =
-    let Read : Start → Type 0 = λ s. start_in (start_text s) ≡ Ok s in
-    rw (All-head Read s starts each, starts_read starts (All-tail Read s starts each)) refl
+    rw (All-head IsStartRead s starts each, starts_read starts (All-tail IsStartRead s starts each)) refl
 
 texts_read : (starts : List Start) → each_in task_text (values_in (items_of (map task_value starts))) ≡ Ok (map start_text starts)
 unfolding task_text keys has_members text_at
@@ -129,20 +136,11 @@ only_one [] task some few is = absurd (omega (arith, some))
 only_one (s ∷ []) task some few is = ap (λ (t : Start). t ∷ []) (sym is)
 only_one (s ∷ next ∷ tasks) task some few is = absurd (omega (arith, few))
 
--- one more task as JSON
-pub task_values_more : (values : List Value) (tasks : List Start) (i : ℕ) (task : Start) (value : Value) (now : List Value)
-    → i < length tasks → task ≡ get_or tasks i task → map view values ≡ map task_value (take i tasks)
-    → view value ≡ task_value task → now ≡ values ++ value ∷ [] → map view now ≡ map task_value (take (i + 1) tasks)
-task_values_more values tasks i task value now inside is so_far seen pushed =
-    ap (map view) pushed ∙ map-append view values (value ∷ [])
-    ∙ (λ k. so_far k ++ (seen ∙ ap task_value is) k ∷ [])
-    ∙ sym (map_more task_value tasks i task inside)
-
-pub accept_read : (a : accepting.Accept) → name_in a.framework ≡ Ok a.framework
+accept_meant : (a : accepting.Accept) → name_in a.framework ≡ Ok a.framework
     → each_in start_in (map start_text a.tasks) ≡ Ok a.tasks → IsTaskList a.tasks
     → event_in (accept_value a) ≡ Ok (Accept a)
 unfolding event_in accept_event task_texts one_text several_texts values_at if_few starts_in keys_besides keys has_members text_at number_at number_or
-accept_read a name tasks list = by a.tasks tasks (few_read a.tasks list.some list.few)
+accept_meant a name tasks list = by a.tasks tasks (few_read a.tasks list.some list.few)
   where
     with_tasks : List Start → accepting.Accept
     with_tasks starts = record a { tasks = starts }
@@ -166,152 +164,73 @@ accept_read a name tasks list = by a.tasks tasks (few_read a.tasks list.some lis
         by_test true is = rw (is, values_few all, few, texts_read all, name, each, few) (ap (λ time. Ok (Accept (record (with_tasks all) { refuse_ms = time }))) (sym (eqb-true a.refuse_ms usual_refusal is)))
         by_test false is = rw (is, values_few all, few, texts_read all, name, each, few) refl
 
-pub decline_read : (d : declining.Decline) → name_in d.framework ≡ Ok d.framework → event_in (decline_value d) ≡ Ok (Decline d)
+pub accept_read : (a : accepting.Accept) → (a.offer < 2 ^ 64) × (a.at < 2 ^ 64) × (a.refuse_ms < 2 ^ 64) → name_in a.framework ≡ Ok a.framework
+    → each_in start_in (map start_text a.tasks) ≡ Ok a.tasks → IsTaskList a.tasks → IsSpelled (Accept a)
+accept_read a small name tasks list =
+    spelled (Accept a) (accept_printed (codes "accept") a.framework a.offer a.at a.refuse_ms small.0 small.1 small.2 a.tasks)
+    (accept_meant a name tasks list)
+
+decline_meant : (d : declining.Decline) → name_in d.framework ≡ Ok d.framework → event_in (decline_value d) ≡ Ok (Decline d)
 unfolding event_in decline_event keys_besides keys has_members text_at number_at number_or
-decline_read d name = by_test (d.refuse_ms == usual_refusal) refl
+decline_meant d name = by_test (d.refuse_ms == usual_refusal) refl
   where
     by_test : (usual : Bool) → (d.refuse_ms == usual_refusal) ≡ usual → event_in (decline_value d) ≡ Ok (Decline d)
     by_test true is = rw (is, name) (ap (λ time. Ok (Decline (record d { refuse_ms = time }))) (sym (eqb-true d.refuse_ms usual_refusal is)))
     by_test false is = rw (is, name) refl
 
-pub rescind_read : (offer : ℕ) → event_in (rescind_value offer) ≡ Ok (Rescind offer)
-unfolding event_in rescind_event keys has_members text_at number_at
-rescind_read offer = refl
+pub decline_read : (d : declining.Decline) → (d.offer < 2 ^ 64) × (d.at < 2 ^ 64) × (d.refuse_ms < 2 ^ 64) → name_in d.framework ≡ Ok d.framework
+    → IsSpelled (Decline d)
+decline_read d small name =
+    spelled (Decline d) (decline_printed (codes "decline") d.framework d.offer d.at d.refuse_ms small.0 small.1 small.2)
+    (decline_meant d name)
 
-pub finish_read : (framework task : List ℕ) → IsName framework → IsName task
-    → event_in (finish_value framework task) ≡ Ok (Finish framework task)
+pub rescind_read : (offer : ℕ) → offer < 2 ^ 64 → IsSpelled (Rescind offer)
+unfolding event_in rescind_event keys has_members text_at number_at
+rescind_read offer small = spelled (Rescind offer) (rescind_printed offer small) refl
+
+pub finish_read : (framework task : List ℕ) → name_in framework ≡ Ok framework → name_in task ≡ Ok task
+    → IsSpelled (Finish framework task)
 unfolding event_in finish_event keys has_members text_at
-finish_read framework task name task_name = rw (name_read framework name, name_read task task_name) refl
+finish_read framework task name task_name =
+    spelled (Finish framework task) (finish_printed framework task) (rw (name, task_name) refl)
 
 -- ---- events of reservations
 
 module _ (agent : List ℕ) (role : List (List ℕ)) (resources : List Resource) (name : name_in agent ≡ Ok agent)
     (is : IsRoleRead role) (bundle : bundle_in (bundle_text resources) ≡ Ok resources) where
-  pub reserve_read : event_in (of_reservation (codes "reserve") agent role resources) ≡ Ok (Reserve agent role resources)
+  pub reserve_read : IsSpelled (Reserve agent role resources)
   unfolding event_in its_reservation keys has_members text_at
-  reserve_read = rw (name, is, bundle) refl
+  reserve_read = spelled (Reserve agent role resources) (reservation_printed (codes "reserve") agent role resources) (rw (name, is, bundle) refl)
 
-  pub unreserve_read : event_in (of_reservation (codes "unreserve") agent role resources) ≡ Ok (Unreserve agent role resources)
+  pub unreserve_read : IsSpelled (Unreserve agent role resources)
   unfolding event_in its_reservation keys has_members text_at
-  unreserve_read = rw (name, is, bundle) refl
+  unreserve_read = spelled (Unreserve agent role resources) (reservation_printed (codes "unreserve") agent role resources) (rw (name, is, bundle) refl)
 
 -- ---- other events
 
 pub weight_read : (role : List (List ℕ)) (weight : ℕ) → WeightIsRead → IsRoleRead role → weight < 2 ^ 64
-    → event_in (weight_value role weight) ≡ Ok (SetWeight role weight)
+    → IsSpelled (SetWeight role weight)
 unfolding event_in weight_event keys has_members text_at
-weight_read role weight law is small = rw (is, weight_said weight law small) refl
+weight_read role weight law is small =
+    spelled (SetWeight role weight) (weight_printed role weight) (rw (is, weight_said weight law small) refl)
 
 pub limit_read : (role : List (List ℕ)) (limit : List Entry) → IsRoleRead role → quantities_in (quantities_text limit) ≡ Ok limit
-    → event_in (limit_value role limit) ≡ Ok (SetLimit role limit)
+    → IsSpelled (SetLimit role limit)
 unfolding event_in limit_event keys has_members text_at
-limit_read role limit is amounts = rw (is, amounts) refl
+limit_read role limit is amounts = spelled (SetLimit role limit) (limit_printed role limit) (rw (is, amounts) refl)
 
-pub cycle_read : (at : ℕ) → event_in (cycle_value at) ≡ Ok (Cycle at)
+pub cycle_read : (at : ℕ) → at < 2 ^ 64 → IsSpelled (Cycle at)
 unfolding event_in cycle_event keys has_members text_at number_at
-cycle_read at = refl
+cycle_read at small = spelled (Cycle at) (cycle_printed at small) refl
 
-pub report_read : event_in report_request ≡ Ok Report
+pub report_read : IsSpelled Report
 unfolding event_in report_event keys has_members text_at
-report_read = refl
-
--- ---- their values have no floats and are not deep
-
-roles_have_no_float : (roles : List (List (List ℕ))) → items_have_float (items_of (map role_value roles)) ≡ false
-roles_have_no_float [] = refl
-roles_have_no_float (role ∷ roles) = roles_have_no_float roles
-
-refusal_has_no_float : (refuse_ms : ℕ) (more : Members) → members_have_float more ≡ false
-    → members_have_float (refusal_member refuse_ms more) ≡ false
-refusal_has_no_float refuse_ms more none = by_test (refuse_ms == usual_refusal)
-  where
-    by_test : (usual : Bool)
-        → members_have_float (cond usual more (member (codes "refuse_ms") (number (unsigned refuse_ms)) more)) ≡ false
-    by_test true = none
-    by_test false = none
-
-values_have_no_float : (starts : List Start) → items_have_float (items_of (map task_value starts)) ≡ false
-values_have_no_float [] = refl
-values_have_no_float (s ∷ starts) = values_have_no_float starts
-
-tasks_have_no_float : (starts : List Start) → members_have_float (tasks_members starts) ≡ false
-tasks_have_no_float [] = refl
-tasks_have_no_float (s ∷ []) = refl
-tasks_have_no_float (s ∷ next ∷ starts) = ap (λ b. b || false) (values_have_no_float (s ∷ next ∷ starts))
-
-pub event_has_no_float : (event : Event) → has_float (event_value event) ≡ false
-event_has_no_float (AddAgent agent total) = refl
-event_has_no_float (SetAgent agent total) = refl
-event_has_no_float (Reserve agent role resources) = refl
-event_has_no_float (Unreserve agent role resources) = refl
-event_has_no_float (SetLimit role limit) = refl
-event_has_no_float (RemoveAgent agent) = refl
-event_has_no_float (ActivateAgent agent) = refl
-event_has_no_float (DeactivateAgent agent) = refl
-event_has_no_float (AddFramework framework roles) = ap (λ b. b || false) (roles_have_no_float roles)
-event_has_no_float (RemoveFramework framework) = refl
-event_has_no_float (Accept a) = refusal_has_no_float a.refuse_ms (tasks_members a.tasks) (tasks_have_no_float a.tasks)
-event_has_no_float (Decline d) = refusal_has_no_float d.refuse_ms no_members refl
-event_has_no_float (Rescind offer) = refl
-event_has_no_float (Finish framework task) = refl
-event_has_no_float (Suppress framework role) = refl
-event_has_no_float (Revive framework role) = refl
-event_has_no_float (SetWeight role weight) = refl
-event_has_no_float (Cycle at) = refl
-event_has_no_float Report = refl
-
-roles_are_flat : (roles : List (List (List ℕ))) → items_depth (items_of (map role_value roles)) ≡ 0
-roles_are_flat [] = refl
-roles_are_flat (role ∷ roles) = rw (roles_are_flat roles) refl
-
-refusal_is_low : (refuse_ms : ℕ) (more : Members) (most : ℕ) → members_depth more ≤ most
-    → members_depth (refusal_member refuse_ms more) ≤ most
-refusal_is_low refuse_ms more most low = by_test (refuse_ms == usual_refusal)
-  where
-    by_test : (usual : Bool)
-        → members_depth (cond usual more (member (codes "refuse_ms") (number (unsigned refuse_ms)) more)) ≤ most
-    by_test true = low
-    by_test false = omega (arith, low)
-
-values_are_low : (starts : List Start) → items_depth (items_of (map task_value starts)) ≤ 1
-values_are_low [] = omega arith
-values_are_low (s ∷ starts) = omega (arith, values_are_low starts)
-
-tasks_are_low : (starts : List Start) → members_depth (tasks_members starts) ≤ 2
-tasks_are_low [] = omega arith
-tasks_are_low (s ∷ []) = omega arith
-tasks_are_low (s ∷ next ∷ starts) = omega (arith, values_are_low (s ∷ next ∷ starts))
-
-pub event_is_shallow : (event : Event) → depth (event_value event) ≤ max_depth
-event_is_shallow (AddAgent agent total) = omega arith
-event_is_shallow (SetAgent agent total) = omega arith
-event_is_shallow (Reserve agent role resources) = omega arith
-event_is_shallow (Unreserve agent role resources) = omega arith
-event_is_shallow (SetLimit role limit) = omega arith
-event_is_shallow (RemoveAgent agent) = omega arith
-event_is_shallow (ActivateAgent agent) = omega arith
-event_is_shallow (DeactivateAgent agent) = omega arith
-event_is_shallow (AddFramework framework roles) = rw (roles_are_flat roles) (omega arith)
-event_is_shallow (RemoveFramework framework) = omega arith
-event_is_shallow (Accept a) = omega (arith, refusal_is_low a.refuse_ms (tasks_members a.tasks) 2 (tasks_are_low a.tasks))
-event_is_shallow (Decline d) = omega (arith, refusal_is_low d.refuse_ms no_members 2 (omega arith))
-event_is_shallow (Rescind offer) = omega arith
-event_is_shallow (Finish framework task) = omega arith
-event_is_shallow (Suppress framework role) = omega arith
-event_is_shallow (Revive framework role) = omega arith
-event_is_shallow (SetWeight role weight) = omega arith
-event_is_shallow (Cycle at) = omega arith
-event_is_shallow Report = omega arith
+report_read = spelled Report report_printed refl
 
 -- ---- the line
 
--- what is written of a value is read as the event that the value means
-pub line_read : {T E : Type 0} (bytes : T → List ℕ) (r : Result T E) (value : Data) (event : Event)
-    → IfOk r (λ line. IsUtf8 (bytes line)) → IfOk r (λ line. depth value ≤ max_depth → read (bytes line) ≡ Some value)
-    → value ≡ event_value event → event_in (event_value event) ≡ Ok event
-    → IfOk r (λ line. length (bytes line) ≤ longest_line → meaning_of (bytes line) ≡ Ok event)
-line_read bytes (Ok line) value event utf8 back is means =
-    let shallow : depth value ≤ max_depth = subst (λ (d : Data). depth d ≤ max_depth) (sym is) (event_is_shallow event) in
-    λ short. meaning_read (bytes line) value (le-ltb longest_line (length (bytes line)) short) (value_read (bytes line) value utf8 (back shallow))
-    ∙ ap event_in is ∙ means
-line_read bytes (Err error) value event utf8 back is means = tt
+pub line_read : (line : List ℕ) (event : Event) → line ≡ event_line event → IsUtf8 line → IsSpelled event
+    → length line ≤ longest_line → meaning_of line ≡ Ok event
+line_read line event is utf8 spelled short =
+    meaning_read line (event_value event) (le-ltb longest_line (length line) short)
+    (value_read line (event_value event) utf8 (ap read is ∙ spelled.value)) ∙ spelled.meaning

@@ -9,5 +9,6 @@ pub mod LineReads
 pub mod Meanings
 pub mod Texts
 pub mod EachIn
+pub mod Spellings
 pub mod Events
 pub mod ReplyTexts

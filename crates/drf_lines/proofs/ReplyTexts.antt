@@ -1,16 +1,19 @@
 -- The texts of replies, one after another.
-use Rattle.std.proofs.Common.{◌≡◌, ℕ, ◌+◌, ◌<◌, ◌≤◌, Bool, true, List, [], ◌∷◌, ◌++◌, map, drop, get_or, length, refl, sym, ap, ◌∙◌, append_assoc, append-nil, arith}
+use Rattle.std.proofs.Common.{◌≡◌, ℕ, ◌+◌, ◌<◌, ◌≤◌, Bool, true, List, [], ◌∷◌, ◌++◌, map, drop, get_or, length, refl, sym, ap, ◌∙◌, append_assoc, append-nil, cond, subst, IsUtf8, Result, Ok, Err, OnOk, arith}
 use Rattle.std.specs.Prelude.{nat_lt, filter}
 use Rattle.std.specs.List.{list_all}
 use Rattle.std.proofs.lemmas.Bool.{and_parts, not-true, eqb-false, leb-true, lt-ltb}
 use Rattle.std.proofs.lemmas.List.{at_drop_more, at_drop_all}
+use Rattle.std.proofs.lemmas.Str.{IsUtf8-append, IsUtf8-drop, IsCharBoundary-after_ascii}
+use Rattle.std.specs.Result.{is_ok}
+use Rattle.json.proofs.Printed.Utf8.{IsUtf8-are_ascii, IsUtf8-quoted}
 use Rattle.json.specs.Token.{string}
 use Rattle.json.specs.Print.{escape, escape_byte, quoted, print, print_from}
 use Rattle.json.proofs.Printed.Strings.{escape_byte_plain}
 use Rattle.serde_json.specs.Data.{Data, array}
 use Rattle.serde_json.specs.View.{items_of}
 use Rattle.serde_json.specs.Written.{compact_text, items_text, comma_if}
-use Rattle.drf_lines.specs.Written.{is_plain_byte}
+use Rattle.drf_lines.specs.Written.{is_plain_byte, KeepsUtf8}
 
 -- some bytes and then others
 pub then : (old first second : List ℕ) {mid new : List ℕ} → mid ≡ old ++ first → new ≡ mid ++ second → new ≡ old ++ (first ++ second)
@@ -34,6 +37,24 @@ plain_is_kept [] e = refl
 plain_is_kept (x ∷ xs) e =
     let tests = and_parts (is_plain_byte x) (list_all is_plain_byte xs) e in
     λ i. plain_byte x tests.0 i ++ plain_is_kept xs tests.1 i
+
+-- ---- UTF-8
+
+pub byte_utf8 : (byte : ℕ) → byte < 128 → IsUtf8 (byte ∷ [])
+byte_utf8 byte small = IsUtf8-are_ascii (byte ∷ []) (rw (lt-ltb byte 128 small) refl)
+
+pub string_end_utf8 : (s : List ℕ) → IsUtf8 s → IsUtf8 (escape s ++ 34 ∷ [])
+string_end_utf8 s utf8 =
+    let whole = IsUtf8-quoted s utf8 in
+    IsUtf8-drop (quoted s) 1 whole (IsCharBoundary-after_ascii (quoted s) 0 whole (omega arith) (omega arith))
+
+pub added_utf8 : (old added : List ℕ) {new : List ℕ} → new ≡ old ++ added → IsUtf8 added → KeepsUtf8 old new
+added_utf8 old added is right utf8 = subst IsUtf8 (sym is) (IsUtf8-append old added utf8 right)
+
+pub extended_utf8 : {T E : Type 0} (r : Result T E) (old added : List ℕ) {new : List ℕ} → new ≡ cond (is_ok r) (old ++ added) old
+    → IsUtf8 added → OnOk r (KeepsUtf8 old new)
+extended_utf8 (Ok x) old added is right = added_utf8 old added is right
+extended_utf8 (Err error) old added is right = tt
 
 -- ---- the items of an array, one after another
 

@@ -1,9 +1,6 @@
 -- Texts are read as what they were written of.
-use Rattle.std.proofs.Common.{◌≡◌, ℕ, ◌<◌, ◌+◌, ◌^◌, List, [], ◌∷◌, ◌++◌, map, take, get_or, length, All, Result, Ok, Err, OnOk, refl, sym, ap, subst, ◌∙◌}
-use Rattle.std.proofs.lemmas.List.{map-append, map_more}
+use Rattle.std.proofs.Common.{◌≡◌, ℕ, ◌<◌, ◌^◌, List, [], ◌∷◌, map, All, Result, Ok, Err, OnOk, refl, sym, ap, subst}
 use Rattle.std.proofs.lemmas.List.Elements.{All-head, All-tail}
-use Rattle.serde_json.specs.View.{view}
-use Rattle.serde_json.specs.declared.value.Value.{Value}
 use Rattle.drf_role.specs.Name.{IsName}
 use Rattle.drf_role.specs.Role.{IsRole}
 use Rattle.drf_role.specs.Parts.{parts_of, text_of}
@@ -14,7 +11,6 @@ use Rattle.drf_bundle.specs.declared.resource.Resource.{Resource}
 use Rattle.drf_text.specs.Meaning.{quantities_meant}
 use Rattle.drf_text.specs.RoundTrip.{BundleIsRead, WeightIsRead}
 use Rattle.drf_text.specs.Written.{bundle_text, quantities_text, amount_text}
-use Rattle.drf_lines.specs.FrameworkEvents.{role_value}
 use Rattle.drf_lines.specs.Words.{name_in, role_in, roles_in}
 use Rattle.drf_lines.specs.Resources.{bundle_in, quantities_in, weight_in}
 
@@ -42,15 +38,6 @@ pub roles_read : (roles : List (List (List ℕ))) → All IsRoleRead roles → r
 unfolding roles_in
 roles_read [] each = refl
 roles_read (role ∷ roles) each = rw (All-head IsRoleRead role roles each, roles_read roles (All-tail IsRoleRead role roles each)) refl
-
--- one more role as JSON
-pub values_more : (values : List Value) (roles : List (List (List ℕ))) (i : ℕ) (role : List (List ℕ)) (value : Value) (now : List Value)
-    → i < length roles → role ≡ get_or roles i role → map view values ≡ map role_value (take i roles)
-    → view value ≡ role_value role → now ≡ values ++ value ∷ [] → map view now ≡ map role_value (take (i + 1) roles)
-values_more values roles i role value now inside is so_far seen pushed =
-    ap (map view) pushed ∙ map-append view values (value ∷ [])
-    ∙ (λ k. so_far k ++ (seen ∙ ap role_value is) k ∷ [])
-    ∙ sym (map_more role_value roles i role inside)
 
 pub bundle_said : (total : List Resource) → BundleIsRead → IsBundle total → bundle_in (bundle_text total) ≡ Ok total
 unfolding bundle_in

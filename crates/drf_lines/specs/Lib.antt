@@ -12,6 +12,7 @@ pub mod WeightEvents
 pub mod LimitEvents
 pub mod Meaning
 pub mod EventLine
+pub mod Spelled
 pub mod ReportLine
 pub mod ReplyLine
 pub mod Written

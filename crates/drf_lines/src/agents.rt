@@ -1,21 +1,21 @@
 //! The events of agents.
-ghost use Rattle.std.specs.Prelude.{◌≡◌, Ok, IfOk, OnOk};
-ghost use Rattle.serde_json.specs.View.{view};
+ghost use Rattle.std.specs.Prelude.{◌≡◌, ◌++◌, Ok, OnOk};
+ghost use Rattle.serde_json.specs.Written.{compact_text};
 ghost use Rattle.drf_text.specs.Written.{bundle_text};
 ghost use Rattle.drf_lines.specs.AgentEvents.{its_total, of_total, agent_of, of_agent};
 ghost use Rattle.drf_lines.specs.Fault.{IsReadOf};
 ghost use Rattle.drf_lines.specs.LineValue.{line_view};
 ghost use Rattle.drf_lines.specs.Resources.{bundle_in};
 ghost use Rattle.drf_lines.specs.Words.{name_in};
+ghost use Rattle.drf_lines.specs.Written.{KeepsFront, KeepsUtf8};
 
 use crate::fault::LineError;
+use crate::member::{put_bundle, put_byte, put_name, put_text};
 use crate::object::{LineValue, keys, text_at};
 use crate::resources::read_bundle;
 use crate::words::read_name;
 use drf_bundle::Bundle;
 use drf_role::Name;
-use drf_text::{bundle_round_trip_law, write_bundle};
-use serde_json::{Value, json};
 use std::alloc::{AllocError, Global};
 
 /// The agent and the total of an event that has no other keys.
@@ -29,21 +29,23 @@ pub fn read_its_total(alloc: Global, value: &LineValue<'_>) -> Result<(Name, Bun
     Ok((read_name(alloc, agent)?, read_bundle(alloc, total)?))
 }
 
-pub fn of_total(
-    alloc: Global,
+/// An event of an agent and a total.
+pub fn put_of_total(
+    line: &mut Vec<u8>,
     event: &str,
     agent: &Name,
     total: &Bundle,
-) -> Result<Value, AllocError>
-    ensures value { IfOk result (λ value. view value ≡ of_total event.now agent.now total.now) }
+) -> Result<(), AllocError>
+    ensures ok { OnOk result (line.new.items ≡ line.old.items ++ compact_text (of_total event.now agent.now total.now)) }
+    ensures front { KeepsFront line.old.items line.new.items }
+    ensures utf8 { OnOk result (KeepsUtf8 line.old.items line.new.items) }
     ensures read { OnOk result ((name_in agent.now ≡ Ok agent.now) × (bundle_in (bundle_text total.now) ≡ Ok total.now)) }
 {
-    bundle_round_trip_law();
-    // What is written of a bundle is read where it is one.
-    total.recall();
-    let name = agent.text();
-    let resources = write_bundle(alloc, total)?;
-    json!(in alloc; {"agent": name, "event": event, "total": (resources.as_str())})
+    let mut text = String::new(*line.allocator());
+    put_name(line, "{\"agent\":\"", agent)?;
+    put_text(line, ",\"event\":\"", event)?;
+    put_bundle(line, &mut text, ",\"total\":\"", total)?;
+    put_byte(line, b'}')
 }
 
 /// The agent of an event that has no other key.
@@ -56,10 +58,14 @@ pub fn read_its_agent(alloc: Global, value: &LineValue<'_>) -> Result<Name, Line
     read_name(alloc, agent)
 }
 
-pub fn of_agent(alloc: Global, event: &str, agent: &Name) -> Result<Value, AllocError>
-    ensures value { IfOk result (λ value. view value ≡ of_agent event.now agent.now) }
+/// An event of an agent alone.
+pub fn put_of_agent(line: &mut Vec<u8>, event: &str, agent: &Name) -> Result<(), AllocError>
+    ensures ok { OnOk result (line.new.items ≡ line.old.items ++ compact_text (of_agent event.now agent.now)) }
+    ensures front { KeepsFront line.old.items line.new.items }
+    ensures utf8 { OnOk result (KeepsUtf8 line.old.items line.new.items) }
     ensures read { OnOk result (name_in agent.now ≡ Ok agent.now) }
 {
-    let name = agent.text();
-    json!(in alloc; {"agent": name, "event": event})
+    put_name(line, "{\"agent\":\"", agent)?;
+    put_text(line, ",\"event\":\"", event)?;
+    put_byte(line, b'}')
 }

@@ -1,62 +1,91 @@
 //! The writer of an event's line.
-ghost use Rattle.std.specs.Prelude.{◌≡◌, ◌≤◌, length, Ok, IfOk, OnOk};
-ghost use Rattle.serde_json.specs.View.{view};
-ghost use Rattle.drf_lines.specs.EventLine.{event_value, event_line};
-ghost use Rattle.drf_lines.specs.Meaning.{event_in, meaning_of};
+ghost use Rattle.std.specs.Prelude.{◌≡◌, ◌≤◌, ◌++◌, length, Ok, IfOk, OnOk};
+ghost use Rattle.serde_json.specs.Written.{compact_text};
+ghost use Rattle.drf_rows.specs.declared.event.Event.TheVariants.{Cycle, Report};
+ghost use Rattle.drf_lines.specs.EventLine.{cycle_value, report_request, event_line};
+ghost use Rattle.drf_lines.specs.Meaning.{meaning_of};
+ghost use Rattle.drf_lines.specs.Spelled.{IsSpelled};
+ghost use Rattle.drf_lines.specs.Written.{KeepsFront, KeepsUtf8};
 
-use crate::agents::{of_agent, of_total};
-use crate::frameworks::{framework_value, of_client, of_framework};
-use crate::limits::limit_value;
-use crate::offers::{accept_value, decline_value, finish_value};
-use crate::reservations::of_reservation;
-use crate::weights::weight_value;
+use crate::agents::{put_of_agent, put_of_total};
+use crate::frameworks::{put_add_framework, put_of_client, put_of_framework};
+use crate::limits::put_set_limit;
+use crate::member::{put, put_byte, put_number};
+use crate::offers::{put_accept, put_decline, put_finish, put_rescind};
+use crate::reservations::put_of_reservation;
+use crate::weights::put_set_weight;
 use drf_rows::Event;
-use serde_json::{Value, json};
 use std::alloc::{AllocError, Global};
 
-fn event_value(alloc: Global, event: &Event) -> Result<Value, AllocError>
-    ensures value { IfOk result (λ value. view value ≡ event_value event.now) }
-    ensures read { OnOk result (event_in (event_value event.now) ≡ Ok event.now) }
+fn put_cycle(line: &mut Vec<u8>, at: u64) -> Result<(), AllocError>
+    ensures ok { OnOk result (line.new.items ≡ line.old.items ++ compact_text (cycle_value at)) }
+    ensures front { KeepsFront line.old.items line.new.items }
+    ensures utf8 { OnOk result (KeepsUtf8 line.old.items line.new.items) }
+    ensures read { OnOk result (IsSpelled (Cycle at)) }
+{
+    put_number(line, "{\"at\":", at)?;
+    put(line, ",\"event\":\"cycle\"}")
+}
+
+fn put_report_request(line: &mut Vec<u8>) -> Result<(), AllocError>
+    ensures ok { OnOk result (line.new.items ≡ line.old.items ++ compact_text report_request) }
+    ensures front { KeepsFront line.old.items line.new.items }
+    ensures utf8 { OnOk result (KeepsUtf8 line.old.items line.new.items) }
+    ensures read { OnOk result (IsSpelled Report) }
+{
+    put(line, "{\"event\":\"report\"}")
+}
+
+/// Adds the line that spells an event, without a line feed: compact JSON, the keys in order of bytes. At want of memory a part
+/// of it may stand behind what stood there.
+#[tactic(auto, unfolding(crate::specs::EventLine::event_line))]
+pub fn push_event(text: &mut Vec<u8>, event: &Event) -> Result<(), AllocError>
+    ensures ok { OnOk result (text.new.items ≡ text.old.items ++ event_line event.now) }
+    ensures front { KeepsFront text.old.items text.new.items }
+    ensures utf8 { OnOk result (KeepsUtf8 text.old.items text.new.items) }
+    ensures read { OnOk result (IsSpelled event.now) }
 {
     match event {
-        Event::AddAgent { agent, total } => of_total(alloc, "add_agent", agent, total),
-        Event::RemoveAgent { agent } => of_agent(alloc, "remove_agent", agent),
-        Event::ActivateAgent { agent } => of_agent(alloc, "activate_agent", agent),
-        Event::DeactivateAgent { agent } => of_agent(alloc, "deactivate_agent", agent),
-        Event::SetAgent { agent, total } => of_total(alloc, "set_agent", agent, total),
+        Event::AddAgent { agent, total } => put_of_total(text, "add_agent", agent, total),
+        Event::RemoveAgent { agent } => put_of_agent(text, "remove_agent", agent),
+        Event::ActivateAgent { agent } => put_of_agent(text, "activate_agent", agent),
+        Event::DeactivateAgent { agent } => put_of_agent(text, "deactivate_agent", agent),
+        Event::SetAgent { agent, total } => put_of_total(text, "set_agent", agent, total),
         Event::AddFramework { framework, roles } => {
-            framework_value(alloc, framework, roles.as_slice())
+            put_add_framework(text, framework, roles.as_slice())
         }
-        Event::RemoveFramework { framework } => of_framework(alloc, "remove_framework", framework),
-        Event::Accept(accept) => accept_value(alloc, accept),
-        Event::Decline(decline) => decline_value(alloc, decline),
-        Event::Rescind { offer } => json!(in alloc; {"event": "rescind", "offer": (*offer)}),
-        Event::Finish { framework, task } => finish_value(alloc, framework, task),
-        Event::Suppress { framework, role } => of_client(alloc, "suppress", framework, role),
-        Event::Revive { framework, role } => of_client(alloc, "revive", framework, role),
+        Event::RemoveFramework { framework } => {
+            put_of_framework(text, "remove_framework", framework)
+        }
+        Event::Accept(accept) => put_accept(text, accept),
+        Event::Decline(decline) => put_decline(text, decline),
+        Event::Rescind { offer } => put_rescind(text, *offer),
+        Event::Finish { framework, task } => put_finish(text, framework, task),
+        Event::Suppress { framework, role } => put_of_client(text, "suppress", framework, role),
+        Event::Revive { framework, role } => put_of_client(text, "revive", framework, role),
         Event::Reserve {
             agent,
             role,
             resources,
-        } => of_reservation(alloc, "reserve", agent, role, resources),
+        } => put_of_reservation(text, "reserve", agent, role, resources),
         Event::Unreserve {
             agent,
             role,
             resources,
-        } => of_reservation(alloc, "unreserve", agent, role, resources),
-        Event::SetWeight { role, weight } => weight_value(alloc, role, *weight),
-        Event::SetLimit { role, limit } => limit_value(alloc, role, limit),
-        Event::Cycle { at } => json!(in alloc; {"at": (*at), "event": "cycle"}),
-        Event::Report => json!(in alloc; {"event": "report"}),
+        } => put_of_reservation(text, "unreserve", agent, role, resources),
+        Event::SetWeight { role, weight } => put_set_weight(text, role, *weight),
+        Event::SetLimit { role, limit } => put_set_limit(text, role, limit),
+        Event::Cycle { at } => put_cycle(text, *at),
+        Event::Report => put_report_request(text),
     }
 }
 
-/// The line that spells an event: compact JSON, the keys in order of bytes, without a line feed. Where it has at most
-/// 65,536 bytes, reading it gives the event.
+/// The line that spells an event, without a line feed. Where it has at most 65,536 bytes, reading it gives the event.
 pub fn write_event(alloc: Global, event: &Event) -> Result<Vec<u8>, AllocError>
     ensures line { IfOk result (λ line. line.items ≡ event_line event.now) }
     ensures read { IfOk result (λ line. length line.items ≤ 65536 → meaning_of line.items ≡ Ok event.now) }
 {
-    let value = event_value(alloc, event)?;
-    value.to_vec(alloc)
+    let mut line = Vec::new(alloc);
+    push_event(&mut line, event)?;
+    Ok(line)
 }

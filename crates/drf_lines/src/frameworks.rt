@@ -1,20 +1,23 @@
 //! The events of frameworks and of their clients.
-ghost use Rattle.std.specs.Prelude.{◌≡◌, map, Ok, IfOk, OnOk};
-ghost use Rattle.serde_json.specs.View.{view};
+ghost use Rattle.std.specs.Prelude.{◌≡◌, ◌++◌, map, Ok, OnOk};
+ghost use Rattle.serde_json.specs.Data.{array};
+ghost use Rattle.serde_json.specs.View.{items_of};
+ghost use Rattle.serde_json.specs.Written.{compact_text};
 ghost use Rattle.drf_role.specs.Parts.{text_of};
 ghost use Rattle.drf_rows.specs.declared.event.Event.TheVariants.{AddFramework};
 ghost use Rattle.drf_lines.specs.Fault.{IsReadOf};
 ghost use Rattle.drf_lines.specs.LineValue.{line_view};
 ghost use Rattle.drf_lines.specs.FrameworkEvents.{framework_event, role_value, framework_value, framework_of, of_framework, its_client, of_client};
-ghost use Rattle.drf_lines.specs.Meaning.{event_in};
+ghost use Rattle.drf_lines.specs.Spelled.{IsSpelled};
 ghost use Rattle.drf_lines.specs.Words.{name_in, role_in, roles_in};
+ghost use Rattle.drf_lines.specs.Written.{KeepsFront, KeepsUtf8};
 
 use crate::fault::LineError;
+use crate::member::{put, put_byte, put_comma, put_name, put_role, put_text};
 use crate::object::{LineValue, keys, text_at, texts_at};
 use crate::words::{read_name, read_role};
 use drf_role::{Name, Role};
 use drf_rows::{Event, Table};
-use serde_json::{Value, json};
 use std::alloc::{AllocError, Global};
 
 /// Reads a role. Where it is one that was read before, it shares the text.
@@ -62,37 +65,39 @@ pub fn read_framework(alloc: Global, value: &LineValue<'_>) -> Result<Event, Lin
     })
 }
 
-pub fn role_value(alloc: Global, role: &Role) -> Result<Value, AllocError>
-    ensures value { IfOk result (λ value. view value ≡ role_value role.now) }
-    ensures read { OnOk result (role_in (text_of role.now) ≡ Ok role.now) }
-{
-    let path = role.text();
-    json!(in alloc; path)
-}
-
 /// The roles as texts, each as often as it stands.
-fn role_values(alloc: Global, roles: &[Role]) -> Result<Vec<Value>, AllocError>
-    ensures values { IfOk result (λ values. map view values.items ≡ map role_value roles.now) }
+fn put_role_list(line: &mut Vec<u8>, roles: &[Role]) -> Result<(), AllocError>
+    ensures ok { OnOk result (line.new.items ≡ line.old.items ++ compact_text (array (items_of (map role_value roles.now)))) }
+    ensures front { KeepsFront line.old.items line.new.items }
+    ensures utf8 { OnOk result (KeepsUtf8 line.old.items line.new.items) }
     ensures read { OnOk result (roles_in (map text_of roles.now) ≡ Ok roles.now) }
 {
-    let mut values = Vec::new(alloc);
-    for role in roles {
-        values.push(role_value(alloc, role)?)?;
+    put_byte(line, b'[')?;
+    for (i, role) in roles.iter().enumerate() {
+        put_comma(line, i)?;
+        put_role(line, "\"", role)?;
     }
-    Ok(values)
+    put_byte(line, b']')
 }
 
-pub fn framework_value(alloc: Global, framework: &Name, roles: &[Role]) -> Result<Value, AllocError>
-    ensures value { IfOk result (λ value. view value ≡ framework_value framework.now roles.now) }
-    ensures read { OnOk result (event_in (framework_value framework.now roles.now) ≡ Ok (AddFramework framework.now roles.now)) }
+pub fn put_add_framework(
+    line: &mut Vec<u8>,
+    framework: &Name,
+    roles: &[Role],
+) -> Result<(), AllocError>
+    ensures ok { OnOk result (line.new.items ≡ line.old.items ++ compact_text (framework_value framework.now roles.now)) }
+    ensures front { KeepsFront line.old.items line.new.items }
+    ensures utf8 { OnOk result (KeepsUtf8 line.old.items line.new.items) }
+    ensures read { OnOk result (IsSpelled (AddFramework framework.now roles.now)) }
 {
-    let name = framework.text();
-    let values = role_values(alloc, roles)?;
-    json!(in alloc; {
-        "event": "add_framework",
-        "framework": name,
-        "roles": (Value::Array(values))
-    })
+    put_name(
+        line,
+        "{\"event\":\"add_framework\",\"framework\":\"",
+        framework,
+    )?;
+    put(line, ",\"roles\":")?;
+    put_role_list(line, roles)?;
+    put_byte(line, b'}')
 }
 
 /// The framework of an event that has no other key.
@@ -105,12 +110,16 @@ pub fn read_its_framework(alloc: Global, value: &LineValue<'_>) -> Result<Name, 
     read_name(alloc, framework)
 }
 
-pub fn of_framework(alloc: Global, event: &str, framework: &Name) -> Result<Value, AllocError>
-    ensures value { IfOk result (λ value. view value ≡ of_framework event.now framework.now) }
+/// An event of a framework alone.
+pub fn put_of_framework(line: &mut Vec<u8>, event: &str, framework: &Name) -> Result<(), AllocError>
+    ensures ok { OnOk result (line.new.items ≡ line.old.items ++ compact_text (of_framework event.now framework.now)) }
+    ensures front { KeepsFront line.old.items line.new.items }
+    ensures utf8 { OnOk result (KeepsUtf8 line.old.items line.new.items) }
     ensures read { OnOk result (name_in framework.now ≡ Ok framework.now) }
 {
-    let name = framework.text();
-    json!(in alloc; {"event": event, "framework": name})
+    put_text(line, "{\"event\":\"", event)?;
+    put_name(line, ",\"framework\":\"", framework)?;
+    put_byte(line, b'}')
 }
 
 /// The framework and the role of an event that has no other keys.
@@ -124,16 +133,20 @@ pub fn read_its_client(alloc: Global, value: &LineValue<'_>) -> Result<(Name, Ro
     Ok((read_name(alloc, framework)?, read_role(alloc, role)?))
 }
 
-pub fn of_client(
-    alloc: Global,
+/// An event of a framework in a role.
+pub fn put_of_client(
+    line: &mut Vec<u8>,
     event: &str,
     framework: &Name,
     role: &Role,
-) -> Result<Value, AllocError>
-    ensures value { IfOk result (λ value. view value ≡ of_client event.now framework.now role.now) }
+) -> Result<(), AllocError>
+    ensures ok { OnOk result (line.new.items ≡ line.old.items ++ compact_text (of_client event.now framework.now role.now)) }
+    ensures front { KeepsFront line.old.items line.new.items }
+    ensures utf8 { OnOk result (KeepsUtf8 line.old.items line.new.items) }
     ensures read { OnOk result ((name_in framework.now ≡ Ok framework.now) × (role_in (text_of role.now) ≡ Ok role.now)) }
 {
-    let name = framework.text();
-    let path = role_value(alloc, role)?;
-    json!(in alloc; {"event": event, "framework": name, "role": path})
+    put_text(line, "{\"event\":\"", event)?;
+    put_name(line, ",\"framework\":\"", framework)?;
+    put_role(line, ",\"role\":\"", role)?;
+    put_byte(line, b'}')
 }

@@ -20,7 +20,7 @@ mod tasks;
 mod weights;
 mod words;
 
-pub use event_line::write_event;
+pub use event_line::{push_event, write_event};
 pub use fault::{LineError, LineFault};
 pub use line::{LineReader, read_event};
 pub use reply::{push_fault, push_reply, write_fault, write_reply};

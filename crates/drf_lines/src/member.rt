@@ -1,10 +1,17 @@
 //! Members of an object that is being written. What stands before it stays, also where memory ends.
-ghost use Rattle.std.specs.Prelude.{◌≡◌, ◌∷◌, ◌++◌, [], IfOk, OnOk, decimal, nat_lt};
+ghost use Rattle.std.specs.Prelude.{◌≡◌, ◌<◌, ◌∷◌, ◌++◌, [], Ok, IfOk, OnOk, decimal, nat_lt};
 ghost use Rattle.std.specs.List.{list_all};
 ghost use Rattle.json.specs.Print.{escape, quoted};
 ghost use Rattle.serde_json.specs.Written.{comma_if};
-ghost use Rattle.drf_lines.specs.Written.{is_plain_byte, KeepsFront};
+ghost use Rattle.drf_role.specs.Parts.{text_of};
+ghost use Rattle.drf_text.specs.Written.{bundle_text};
+ghost use Rattle.drf_lines.specs.Resources.{bundle_in};
+ghost use Rattle.drf_lines.specs.Words.{name_in, role_in};
+ghost use Rattle.drf_lines.specs.Written.{is_plain_byte, KeepsFront, KeepsUtf8};
 
+use drf_bundle::Bundle;
+use drf_role::{Name, Role};
+use drf_text::{bundle_round_trip_law, push_bundle};
 use itoa::Buffer;
 use json::Writer;
 use std::alloc::{AllocError, Global};
@@ -35,14 +42,17 @@ fn quoted(alloc: Global, text: &str) -> Result<Vec<u8>, AllocError>
 pub fn put(line: &mut Vec<u8>, text: &str) -> Result<(), AllocError>
     ensures ok { OnOk result (line.new.items ≡ line.old.items ++ text.now) }
     ensures front { KeepsFront line.old.items line.new.items }
+    ensures utf8 { OnOk result (KeepsUtf8 line.old.items line.new.items) }
 {
     line.extend_from_slice(text.as_bytes())
 }
 
-/// Writes one byte, as a closing bracket.
+/// Writes one character, as a closing bracket.
 pub fn put_byte(line: &mut Vec<u8>, byte: u8) -> Result<(), AllocError>
+    requires { byte < 128 }
     ensures ok { OnOk result (line.new.items ≡ line.old.items ++ byte ∷ []) }
     ensures front { KeepsFront line.old.items line.new.items }
+    ensures utf8 { OnOk result (KeepsUtf8 line.old.items line.new.items) }
 {
     line.push(byte)?;
     Ok(())
@@ -65,6 +75,7 @@ fn put_string(line: &mut Vec<u8>, text: &str) -> Result<(), AllocError>
 pub fn put_text(line: &mut Vec<u8>, before: &str, text: &str) -> Result<(), AllocError>
     ensures ok { OnOk result (line.new.items ≡ line.old.items ++ (before.now ++ (escape text.now ++ 34 ∷ []))) }
     ensures front { KeepsFront line.old.items line.new.items }
+    ensures utf8 { OnOk result (KeepsUtf8 line.old.items line.new.items) }
 {
     put(line, before)?;
     put_string(line, text)
@@ -74,6 +85,7 @@ pub fn put_text(line: &mut Vec<u8>, before: &str, text: &str) -> Result<(), Allo
 pub fn put_number(line: &mut Vec<u8>, before: &str, value: u64) -> Result<(), AllocError>
     ensures ok { OnOk result (line.new.items ≡ line.old.items ++ (before.now ++ decimal value)) }
     ensures front { KeepsFront line.old.items line.new.items }
+    ensures utf8 { OnOk result (KeepsUtf8 line.old.items line.new.items) }
 {
     put(line, before)?;
     put(line, Buffer::new().format(value))
@@ -83,9 +95,51 @@ pub fn put_number(line: &mut Vec<u8>, before: &str, value: u64) -> Result<(), Al
 pub fn put_comma(line: &mut Vec<u8>, place: usize) -> Result<(), AllocError>
     ensures ok { OnOk result (line.new.items ≡ line.old.items ++ comma_if (nat_lt 0 place)) }
     ensures front { KeepsFront line.old.items line.new.items }
+    ensures utf8 { OnOk result (KeepsUtf8 line.old.items line.new.items) }
 {
     if place == 0 {
         return Ok(());
     }
     put_byte(line, b',')
+}
+
+/// Writes what stands before a name with its first `"`, and the name. It is read as this name.
+pub fn put_name(line: &mut Vec<u8>, before: &str, name: &Name) -> Result<(), AllocError>
+    ensures ok { OnOk result (line.new.items ≡ line.old.items ++ (before.now ++ (escape name.now ++ 34 ∷ []))) }
+    ensures front { KeepsFront line.old.items line.new.items }
+    ensures utf8 { OnOk result (KeepsUtf8 line.old.items line.new.items) }
+    ensures read { OnOk result (name_in name.now ≡ Ok name.now) }
+{
+    put_text(line, before, name.text())
+}
+
+/// Writes what stands before a role with its first `"`, and the role. It is read as this role.
+pub fn put_role(line: &mut Vec<u8>, before: &str, role: &Role) -> Result<(), AllocError>
+    ensures ok { OnOk result (line.new.items ≡ line.old.items ++ (before.now ++ (escape (text_of role.now) ++ 34 ∷ []))) }
+    ensures front { KeepsFront line.old.items line.new.items }
+    ensures utf8 { OnOk result (KeepsUtf8 line.old.items line.new.items) }
+    ensures read { OnOk result (role_in (text_of role.now) ≡ Ok role.now) }
+{
+    put_text(line, before, role.text())
+}
+
+/// Writes what stands before a bundle with its first `"`, and the bundle. It is read as this bundle. The text is for use in
+/// between.
+pub fn put_bundle(
+    line: &mut Vec<u8>,
+    text: &mut String,
+    before: &str,
+    bundle: &Bundle,
+) -> Result<(), AllocError>
+    ensures ok { OnOk result (line.new.items ≡ line.old.items ++ (before.now ++ (escape (bundle_text bundle.now) ++ 34 ∷ []))) }
+    ensures front { KeepsFront line.old.items line.new.items }
+    ensures utf8 { OnOk result (KeepsUtf8 line.old.items line.new.items) }
+    ensures read { OnOk result (bundle_in (bundle_text bundle.now) ≡ Ok bundle.now) }
+{
+    bundle_round_trip_law();
+    // What is written of a bundle is read where it is one.
+    bundle.recall();
+    text.clear();
+    push_bundle(text, bundle)?;
+    put_text(line, before, text.as_str())
 }

@@ -1,24 +1,24 @@
 //! The events of offers, and of the tasks that come of them.
-ghost use Rattle.std.specs.Prelude.{◌≡◌, map, codes, Ok, IfOk, OnOk};
-ghost use Rattle.serde_json.specs.Data.{object, no_members};
-ghost use Rattle.serde_json.specs.View.{view, members_view};
-ghost use Rattle.drf_rows.specs.declared.event.Event.TheVariants.{Finish};
+ghost use Rattle.std.specs.Prelude.{◌≡◌, ◌<◌, ◌^◌, ◌++◌, map, true, Ok, OnOk};
+ghost use Rattle.serde_json.specs.Data.{object, Members};
+ghost use Rattle.serde_json.specs.Written.{compact_text, members_text};
+ghost use Rattle.drf_rows.specs.declared.event.Event.TheVariants.{Rescind, Finish};
 ghost use Rattle.drf_lines.specs.Fault.{IsReadOf};
 ghost use Rattle.drf_lines.specs.LineValue.{line_view};
-ghost use Rattle.drf_lines.specs.Meaning.{event_in};
-ghost use Rattle.drf_lines.specs.TaskTexts.{each_in, start_in, start_text, task_members, several_members};
+ghost use Rattle.drf_lines.specs.TaskTexts.{each_in, start_in, start_text, several_members, tasks_members};
+ghost use Rattle.drf_lines.specs.Spelled.{IsSpelled};
 ghost use Rattle.drf_lines.specs.Words.{name_in};
-ghost use Rattle.drf_lines.specs.OfferEvents.{answer_members, accept_event, accept_value, decline_event, decline_value, rescind_event, finish_event, finish_value};
+ghost use Rattle.drf_lines.specs.Written.{KeepsFront, KeepsUtf8};
+ghost use Rattle.drf_lines.specs.OfferEvents.{refusal_member, answer_members, accept_event, accept_value, decline_event, decline_value, rescind_event, rescind_value, finish_event, finish_value};
 
 use crate::fault::LineError;
+use crate::member::{put, put_byte, put_name, put_number, put_text};
 use crate::object::{LineValue, keys, keys_besides, number_at, number_or, text_at};
-use crate::tasks::{read_tasks, task_texts, task_values};
+use crate::tasks::{put_start, put_task_list, read_tasks, task_texts};
 use crate::words::read_name;
 use drf_bundle::Bundle;
 use drf_role::Name;
 use drf_rows::{Accept, Decline, Event};
-use drf_text::{bundle_round_trip_law, write_bundle};
-use serde_json::{Map, Value, json, put};
 use std::alloc::{AllocError, Global};
 
 /// For how many milliseconds an offer is refused where a line does not say.
@@ -81,103 +81,96 @@ pub fn read_finish(alloc: Global, value: &LineValue<'_>) -> Result<Event, LineEr
     })
 }
 
-/// What accept and decline have in common. The time of a refusal is left out where it is the usual one.
-fn answer_members(
-    alloc: Global,
+/// Writes for how long an offer is refused, where that is not the usual time.
+fn put_refusal(line: &mut Vec<u8>, refuse_ms: u64) -> Result<(), AllocError>
+    ensures ok { OnOk result ((more : Members) → line.new.items ++ members_text true more ≡ line.old.items ++ members_text true (refusal_member refuse_ms more)) }
+    ensures front { KeepsFront line.old.items line.new.items }
+    ensures utf8 { OnOk result (KeepsUtf8 line.old.items line.new.items) }
+{
+    if refuse_ms == USUAL_REFUSAL {
+        return Ok(());
+    }
+    put_number(line, ",\"refuse_ms\":", refuse_ms)
+}
+
+/// What accept and decline have in common, before the members that come after it.
+fn put_answer(
+    line: &mut Vec<u8>,
     event: &str,
     framework: &Name,
     offer: u64,
     at: u64,
     refuse_ms: u64,
-) -> Result<Map<String, Value>, AllocError>
-    ensures members { IfOk result (λ members. members_view members.entries ≡ answer_members event.now framework.now offer at refuse_ms no_members) }
+) -> Result<(), AllocError>
+    ensures ok { OnOk result ((more : Members) → line.new.items ++ members_text true more ≡ line.old.items ++ compact_text (object (answer_members event.now framework.now offer at refuse_ms more))) }
+    ensures front { KeepsFront line.old.items line.new.items }
+    ensures utf8 { OnOk result (KeepsUtf8 line.old.items line.new.items) }
     ensures read { OnOk result (name_in framework.now ≡ Ok framework.now) }
+    ensures small { (offer < 2 ^ 64) × (at < 2 ^ 64) × (refuse_ms < 2 ^ 64) }
 {
-    let name = framework.text();
-    let mut members = Map::new(alloc);
-    put(&mut members, alloc, "at", Value::from(at))?;
-    put(
-        &mut members,
-        alloc,
-        "event",
-        Value::try_from_str(alloc, event)?,
-    )?;
-    put(
-        &mut members,
-        alloc,
-        "framework",
-        Value::try_from_str(alloc, name)?,
-    )?;
-    put(&mut members, alloc, "offer", Value::from(offer))?;
-    if refuse_ms != USUAL_REFUSAL {
-        put(&mut members, alloc, "refuse_ms", Value::from(refuse_ms))?;
-    }
-    Ok(members)
+    put_number(line, "{\"at\":", at)?;
+    put_text(line, ",\"event\":\"", event)?;
+    put_name(line, ",\"framework\":\"", framework)?;
+    put_number(line, ",\"offer\":", offer)?;
+    put_refusal(line, refuse_ms)
 }
 
-/// An accept of one task, with the keys of that task.
-fn one_task_value(
-    alloc: Global,
-    accept: &Accept,
-    task: &(Name, Bundle),
-) -> Result<Value, AllocError>
-    ensures value { IfOk result (λ value. view value ≡ object (answer_members (codes "accept") accept.now.framework accept.now.offer accept.now.at accept.now.refuse_ms (task_members task.now))) }
-    ensures read { OnOk result ((name_in accept.now.framework ≡ Ok accept.now.framework) × (start_in (start_text task.now) ≡ Ok task.now)) }
+/// Writes several tasks as an array, and the closing bracket.
+fn put_several(
+    line: &mut Vec<u8>,
+    text: &mut String,
+    tasks: &[(Name, Bundle)],
+) -> Result<(), AllocError>
+    ensures ok { OnOk result (line.new.items ≡ line.old.items ++ members_text true (several_members tasks.now)) }
+    ensures front { KeepsFront line.old.items line.new.items }
+    ensures utf8 { OnOk result (KeepsUtf8 line.old.items line.new.items) }
+    ensures read { OnOk result (each_in start_in (map start_text tasks.now) ≡ Ok tasks.now) }
 {
-    bundle_round_trip_law();
-    // What is written of a bundle is read where it is one.
-    task.1.recall();
-    let name = task.0.text();
-    let resources = write_bundle(alloc, &task.1)?;
+    put(line, ",\"tasks\":")?;
+    put_task_list(line, text, tasks)?;
+    put_byte(line, b'}')
+}
+
+/// Writes the tasks of an accept, one with keys of its own, and the closing bracket.
+fn put_tasks(
+    line: &mut Vec<u8>,
+    text: &mut String,
+    tasks: &[(Name, Bundle)],
+) -> Result<(), AllocError>
+    ensures ok { OnOk result (line.new.items ≡ line.old.items ++ members_text true (tasks_members tasks.now)) }
+    ensures front { KeepsFront line.old.items line.new.items }
+    ensures utf8 { OnOk result (KeepsUtf8 line.old.items line.new.items) }
+    ensures read { OnOk result (each_in start_in (map start_text tasks.now) ≡ Ok tasks.now) }
+{
+    match tasks {
+        [task] => put_start(line, text, ",\"task\":\"", task),
+        _ => put_several(line, text, tasks),
+    }
+}
+
+pub fn put_accept(line: &mut Vec<u8>, accept: &Accept) -> Result<(), AllocError>
+    ensures ok { OnOk result (line.new.items ≡ line.old.items ++ compact_text (accept_value accept.now)) }
+    ensures front { KeepsFront line.old.items line.new.items }
+    ensures utf8 { OnOk result (KeepsUtf8 line.old.items line.new.items) }
+    ensures read { OnOk result (IsSpelled (Event.Accept accept.now)) }
+{
     let Accept {
         framework,
         offer,
         at,
         refuse_ms,
-        ..
+        tasks,
     } = accept;
-    let mut members = answer_members(alloc, "accept", framework, *offer, *at, *refuse_ms)?;
-    put(
-        &mut members,
-        alloc,
-        "task",
-        Value::try_from_str(alloc, name)?,
-    )?;
-    put(&mut members, alloc, "use", Value::from(resources))?;
-    Ok(Value::Object(members))
+    let mut text = String::new(*line.allocator());
+    put_answer(line, "accept", framework, *offer, *at, *refuse_ms)?;
+    put_tasks(line, &mut text, tasks.as_slice())
 }
 
-/// An accept of several tasks, with an array of them.
-fn several_tasks_value(alloc: Global, accept: &Accept) -> Result<Value, AllocError>
-    ensures value { IfOk result (λ value. view value ≡ object (answer_members (codes "accept") accept.now.framework accept.now.offer accept.now.at accept.now.refuse_ms (several_members accept.now.tasks))) }
-    ensures read { OnOk result ((name_in accept.now.framework ≡ Ok accept.now.framework) × (each_in start_in (map start_text accept.now.tasks) ≡ Ok accept.now.tasks)) }
-{
-    let values = task_values(alloc, accept.tasks.as_slice())?;
-    let Accept {
-        framework,
-        offer,
-        at,
-        refuse_ms,
-        ..
-    } = accept;
-    let mut members = answer_members(alloc, "accept", framework, *offer, *at, *refuse_ms)?;
-    put(&mut members, alloc, "tasks", Value::Array(values))?;
-    Ok(Value::Object(members))
-}
-
-pub fn accept_value(alloc: Global, accept: &Accept) -> Result<Value, AllocError>
-    ensures value { IfOk result (λ value. view value ≡ accept_value accept.now) }
-    ensures read { OnOk result (event_in (accept_value accept.now) ≡ Ok (Event.Accept accept.now)) }
-{
-    match accept.tasks.as_slice() {
-        [task] => one_task_value(alloc, accept, task),
-        _ => several_tasks_value(alloc, accept),
-    }
-}
-
-pub fn decline_value(alloc: Global, decline: &Decline) -> Result<Value, AllocError>
-    ensures value { IfOk result (λ value. view value ≡ decline_value decline.now) }
-    ensures read { OnOk result (event_in (decline_value decline.now) ≡ Ok (Event.Decline decline.now)) }
+pub fn put_decline(line: &mut Vec<u8>, decline: &Decline) -> Result<(), AllocError>
+    ensures ok { OnOk result (line.new.items ≡ line.old.items ++ compact_text (decline_value decline.now)) }
+    ensures front { KeepsFront line.old.items line.new.items }
+    ensures utf8 { OnOk result (KeepsUtf8 line.old.items line.new.items) }
+    ensures read { OnOk result (IsSpelled (Event.Decline decline.now)) }
 {
     let Decline {
         framework,
@@ -185,15 +178,27 @@ pub fn decline_value(alloc: Global, decline: &Decline) -> Result<Value, AllocErr
         at,
         refuse_ms,
     } = decline;
-    let members = answer_members(alloc, "decline", framework, *offer, *at, *refuse_ms)?;
-    Ok(Value::Object(members))
+    put_answer(line, "decline", framework, *offer, *at, *refuse_ms)?;
+    put_byte(line, b'}')
 }
 
-pub fn finish_value(alloc: Global, framework: &Name, task: &Name) -> Result<Value, AllocError>
-    ensures value { IfOk result (λ value. view value ≡ finish_value framework.now task.now) }
-    ensures read { OnOk result (event_in (finish_value framework.now task.now) ≡ Ok (Finish framework.now task.now)) }
+pub fn put_rescind(line: &mut Vec<u8>, offer: u64) -> Result<(), AllocError>
+    ensures ok { OnOk result (line.new.items ≡ line.old.items ++ compact_text (rescind_value offer)) }
+    ensures front { KeepsFront line.old.items line.new.items }
+    ensures utf8 { OnOk result (KeepsUtf8 line.old.items line.new.items) }
+    ensures read { OnOk result (IsSpelled (Rescind offer)) }
 {
-    let framework_name = framework.text();
-    let task_name = task.text();
-    json!(in alloc; {"event": "finish", "framework": framework_name, "task": task_name})
+    put_number(line, "{\"event\":\"rescind\",\"offer\":", offer)?;
+    put_byte(line, b'}')
+}
+
+pub fn put_finish(line: &mut Vec<u8>, framework: &Name, task: &Name) -> Result<(), AllocError>
+    ensures ok { OnOk result (line.new.items ≡ line.old.items ++ compact_text (finish_value framework.now task.now)) }
+    ensures front { KeepsFront line.old.items line.new.items }
+    ensures utf8 { OnOk result (KeepsUtf8 line.old.items line.new.items) }
+    ensures read { OnOk result (IsSpelled (Finish framework.now task.now)) }
+{
+    put_name(line, "{\"event\":\"finish\",\"framework\":\"", framework)?;
+    put_name(line, ",\"task\":\"", task)?;
+    put_byte(line, b'}')
 }

@@ -1,45 +1,28 @@
 //! The writer of a reply line.
-ghost use Rattle.std.specs.Prelude.{◌≡◌, ◌++◌, ◌∷◌, [], map, IfOk, OnOk};
-ghost use Rattle.json.specs.Print.{escape};
+ghost use Rattle.std.specs.Prelude.{◌≡◌, ◌++◌, map, IfOk, OnOk};
 ghost use Rattle.serde_json.specs.Data.{array};
 ghost use Rattle.serde_json.specs.View.{items_of};
 ghost use Rattle.serde_json.specs.Written.{compact_text};
-ghost use Rattle.drf_text.specs.Written.{bundle_text};
 ghost use Rattle.drf_lines.specs.ReplyLine.{offer_value, offers_value, refused_value, reply_value, reply_line, fault_line};
 ghost use Rattle.drf_lines.specs.Written.{KeepsFront};
 
 use crate::fault::LineFault;
-use crate::member::{put, put_byte, put_comma, put_number, put_text};
+use crate::member::{
+    put, put_bundle, put_byte, put_comma, put_name, put_number, put_role, put_text,
+};
 use crate::report::put_report;
-use drf_bundle::Bundle;
 use drf_rows::{OfferLine, Reply};
-use drf_text::push_bundle;
 use std::alloc::{AllocError, Global};
-
-/// Writes what stands before a bundle with its first `"`, and the bundle. The text is for use in between.
-fn put_bundle(
-    line: &mut Vec<u8>,
-    text: &mut String,
-    before: &str,
-    bundle: &Bundle,
-) -> Result<(), AllocError>
-    ensures ok { OnOk result (line.new.items ≡ line.old.items ++ (before.now ++ (escape (bundle_text bundle.now) ++ 34 ∷ []))) }
-    ensures front { KeepsFront line.old.items line.new.items }
-{
-    text.clear();
-    push_bundle(text, bundle)?;
-    put_text(line, before, text.as_str())
-}
 
 fn put_offer(line: &mut Vec<u8>, text: &mut String, offer: &OfferLine) -> Result<(), AllocError>
     ensures ok { OnOk result (line.new.items ≡ line.old.items ++ compact_text (offer_value offer.now)) }
     ensures front { KeepsFront line.old.items line.new.items }
 {
-    put_text(line, "{\"agent\":\"", offer.agent.text())?;
-    put_text(line, ",\"framework\":\"", offer.framework.text())?;
+    put_name(line, "{\"agent\":\"", &offer.agent)?;
+    put_name(line, ",\"framework\":\"", &offer.framework)?;
     put_number(line, ",\"offer\":", offer.number)?;
     put_bundle(line, text, ",\"resources\":\"", &offer.resources)?;
-    put_text(line, ",\"role\":\"", offer.role.text())?;
+    put_role(line, ",\"role\":\"", &offer.role)?;
     put_byte(line, b'}')
 }
 

@@ -1,6 +1,6 @@
 //! The events of reservations.
-ghost use Rattle.std.specs.Prelude.{◌≡◌, Ok, IfOk, OnOk};
-ghost use Rattle.serde_json.specs.View.{view};
+ghost use Rattle.std.specs.Prelude.{◌≡◌, ◌++◌, Ok, OnOk};
+ghost use Rattle.serde_json.specs.Written.{compact_text};
 ghost use Rattle.drf_role.specs.Parts.{text_of};
 ghost use Rattle.drf_text.specs.Written.{bundle_text};
 ghost use Rattle.drf_lines.specs.Fault.{IsReadOf};
@@ -8,16 +8,15 @@ ghost use Rattle.drf_lines.specs.LineValue.{line_view};
 ghost use Rattle.drf_lines.specs.ReservationEvents.{its_reservation, of_reservation};
 ghost use Rattle.drf_lines.specs.Resources.{bundle_in};
 ghost use Rattle.drf_lines.specs.Words.{name_in, role_in};
+ghost use Rattle.drf_lines.specs.Written.{KeepsFront, KeepsUtf8};
 
 use crate::fault::LineError;
-use crate::frameworks::role_value;
+use crate::member::{put_bundle, put_byte, put_name, put_role, put_text};
 use crate::object::{LineValue, keys, text_at};
 use crate::resources::read_bundle;
 use crate::words::{read_name, read_role};
 use drf_bundle::Bundle;
 use drf_role::{Name, Role};
-use drf_text::{bundle_round_trip_law, write_bundle};
-use serde_json::{Value, json};
 use std::alloc::{AllocError, Global};
 
 /// The agent, the role and the resources of an event that has no other keys.
@@ -39,21 +38,23 @@ pub fn read_its_reservation(
     ))
 }
 
-pub fn of_reservation(
-    alloc: Global,
+/// An event of an agent, a role and resources.
+pub fn put_of_reservation(
+    line: &mut Vec<u8>,
     event: &str,
     agent: &Name,
     role: &Role,
     resources: &Bundle,
-) -> Result<Value, AllocError>
-    ensures value { IfOk result (λ value. view value ≡ of_reservation event.now agent.now role.now resources.now) }
+) -> Result<(), AllocError>
+    ensures ok { OnOk result (line.new.items ≡ line.old.items ++ compact_text (of_reservation event.now agent.now role.now resources.now)) }
+    ensures front { KeepsFront line.old.items line.new.items }
+    ensures utf8 { OnOk result (KeepsUtf8 line.old.items line.new.items) }
     ensures read { OnOk result ((name_in agent.now ≡ Ok agent.now) × (role_in (text_of role.now) ≡ Ok role.now) × (bundle_in (bundle_text resources.now) ≡ Ok resources.now)) }
 {
-    bundle_round_trip_law();
-    // What is written of a bundle is read where it is one.
-    resources.recall();
-    let name = agent.text();
-    let path = role_value(alloc, role)?;
-    let part = write_bundle(alloc, resources)?;
-    json!(in alloc; {"agent": name, "event": event, "resources": (Value::from(part)), "role": path})
+    let mut text = String::new(*line.allocator());
+    put_name(line, "{\"agent\":\"", agent)?;
+    put_text(line, ",\"event\":\"", event)?;
+    put_bundle(line, &mut text, ",\"resources\":\"", resources)?;
+    put_role(line, ",\"role\":\"", role)?;
+    put_byte(line, b'}')
 }

@@ -1,19 +1,23 @@
 //! The tasks of an accept: one under the keys `task` and `use`, or 1 to 16 in an array.
-ghost use Rattle.std.specs.Prelude.{◌≡◌, map, Ok, IfOk, OnOk};
-ghost use Rattle.serde_json.specs.View.{view};
+ghost use Rattle.std.specs.Prelude.{◌≡◌, ◌∷◌, ◌++◌, [], map, codes, true, Ok, OnOk};
+ghost use Rattle.json.specs.Print.{escape};
+ghost use Rattle.serde_json.specs.Data.{string, array, member, no_members};
+ghost use Rattle.serde_json.specs.View.{items_of};
+ghost use Rattle.serde_json.specs.Written.{compact_text, members_text};
+ghost use Rattle.drf_text.specs.Written.{bundle_text};
 ghost use Rattle.drf_lines.specs.Fault.{IsFoundAs, IsReadAs, IsReadOf};
 ghost use Rattle.drf_lines.specs.LineValue.{line_view};
 ghost use Rattle.drf_lines.specs.TaskTexts.{each_in, task_text, is_few, if_few, one_text, several_texts, task_texts, start_in, starts_in, start_text, task_value};
+ghost use Rattle.drf_lines.specs.Written.{KeepsFront, KeepsUtf8};
 
 use crate::fault::{LineError, LineFault};
+use crate::member::{put_bundle, put_byte, put_comma, put_name};
 use crate::object::{LineValue, find, keys, keys_besides, text_at, values_at};
 use crate::resources::read_bundle;
 use crate::words::read_name;
 use drf_bundle::Bundle;
 use drf_role::Name;
 use drf_rows::{MOST_TASKS, Table, TaskList};
-use drf_text::{bundle_round_trip_law, write_bundle};
-use serde_json::{Value, json};
 use std::alloc::{AllocError, Global};
 
 /// The name of a task as it stands in a line, and what it uses.
@@ -136,26 +140,38 @@ pub fn read_tasks(alloc: Global, texts: &[TaskText]) -> Result<TaskList, LineErr
     Ok(tasks)
 }
 
-fn task_value(alloc: Global, task: &(Name, Bundle)) -> Result<Value, AllocError>
-    ensures value { IfOk result (λ value. view value ≡ task_value task.now) }
+/// Writes what stands before the name of a task with its first `"`, and the task with the closing bracket.
+pub fn put_start(
+    line: &mut Vec<u8>,
+    text: &mut String,
+    before: &str,
+    task: &(Name, Bundle),
+) -> Result<(), AllocError>
+    ensures ok { OnOk result (line.new.items ≡ line.old.items ++ (before.now ++ ((escape task.now.0 ++ 34 ∷ []) ++ members_text true (member (codes "use") (string (bundle_text task.now.1)) no_members)))) }
+    ensures front { KeepsFront line.old.items line.new.items }
+    ensures utf8 { OnOk result (KeepsUtf8 line.old.items line.new.items) }
     ensures read { OnOk result (start_in (start_text task.now) ≡ Ok task.now) }
 {
-    bundle_round_trip_law();
-    // What is written of a bundle is read where it is one.
-    task.1.recall();
-    let name = task.0.text();
-    let resources = write_bundle(alloc, &task.1)?;
-    json!(in alloc; {"task": name, "use": (Value::from(resources))})
+    put_name(line, before, &task.0)?;
+    put_bundle(line, text, ",\"use\":\"", &task.1)?;
+    put_byte(line, b'}')
 }
 
 /// The tasks as objects, in their order.
-pub fn task_values(alloc: Global, tasks: &[(Name, Bundle)]) -> Result<Vec<Value>, AllocError>
-    ensures values { IfOk result (λ values. map view values.items ≡ map task_value tasks.now) }
+pub fn put_task_list(
+    line: &mut Vec<u8>,
+    text: &mut String,
+    tasks: &[(Name, Bundle)],
+) -> Result<(), AllocError>
+    ensures ok { OnOk result (line.new.items ≡ line.old.items ++ compact_text (array (items_of (map task_value tasks.now)))) }
+    ensures front { KeepsFront line.old.items line.new.items }
+    ensures utf8 { OnOk result (KeepsUtf8 line.old.items line.new.items) }
     ensures read { OnOk result (each_in start_in (map start_text tasks.now) ≡ Ok tasks.now) }
 {
-    let mut values = Vec::new(alloc);
-    for task in tasks {
-        values.push(task_value(alloc, task)?)?;
+    put_byte(line, b'[')?;
+    for (i, task) in tasks.iter().enumerate() {
+        put_comma(line, i)?;
+        put_start(line, text, "{\"task\":\"", task)?;
     }
-    Ok(values)
+    put_byte(line, b']')
 }

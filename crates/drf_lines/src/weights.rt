@@ -1,20 +1,21 @@
 //! The event of weights.
-ghost use Rattle.std.specs.Prelude.{◌≡◌, Ok, IfOk, OnOk};
-ghost use Rattle.serde_json.specs.View.{view};
+ghost use Rattle.std.specs.Prelude.{◌≡◌, ◌++◌, OnOk};
+ghost use Rattle.serde_json.specs.Written.{compact_text};
 ghost use Rattle.drf_rows.specs.declared.event.Event.TheVariants.{SetWeight};
 ghost use Rattle.drf_lines.specs.Fault.{IsReadOf};
 ghost use Rattle.drf_lines.specs.LineValue.{line_view};
-ghost use Rattle.drf_lines.specs.Meaning.{event_in};
+ghost use Rattle.drf_lines.specs.Spelled.{IsSpelled};
 ghost use Rattle.drf_lines.specs.WeightEvents.{weight_event, weight_value};
+ghost use Rattle.drf_lines.specs.Written.{KeepsFront, KeepsUtf8};
 
 use crate::fault::LineError;
+use crate::member::{put_byte, put_role, put_text};
 use crate::object::{LineValue, keys, text_at};
 use crate::resources::read_weight;
 use crate::words::read_role;
 use drf_role::Role;
 use drf_rows::Event;
 use drf_text::{weight_round_trip_law, write_weight};
-use serde_json::{Value, json};
 use std::alloc::{AllocError, Global};
 
 #[tactic(auto, unfolding(crate::specs::WeightEvents::weight_event))]
@@ -30,16 +31,15 @@ pub fn read_weighing(alloc: Global, value: &LineValue<'_>) -> Result<Event, Line
     })
 }
 
-pub fn weight_value(alloc: Global, role: &Role, weight: u64) -> Result<Value, AllocError>
-    ensures value { IfOk result (λ value. view value ≡ weight_value role.now weight) }
-    ensures read { OnOk result (event_in (weight_value role.now weight) ≡ Ok (SetWeight role.now weight)) }
+pub fn put_set_weight(line: &mut Vec<u8>, role: &Role, weight: u64) -> Result<(), AllocError>
+    ensures ok { OnOk result (line.new.items ≡ line.old.items ++ compact_text (weight_value role.now weight)) }
+    ensures front { KeepsFront line.old.items line.new.items }
+    ensures utf8 { OnOk result (KeepsUtf8 line.old.items line.new.items) }
+    ensures read { OnOk result (IsSpelled (SetWeight role.now weight)) }
 {
     weight_round_trip_law();
-    let path = role.text();
-    let text = write_weight(alloc, weight)?;
-    json!(in alloc; {
-        "event": "set_weight",
-        "role": path,
-        "weight": (text.as_str())
-    })
+    let text = write_weight(*line.allocator(), weight)?;
+    put_role(line, "{\"event\":\"set_weight\",\"role\":\"", role)?;
+    put_text(line, ",\"weight\":\"", text.as_str())?;
+    put_byte(line, b'}')
 }

@@ -46,3 +46,16 @@ book-opened given engine items second taken opened empty none =
       run = subst (λ (l : LimitNumbers). IsRunOf l [] engine) (sym opened.limits) (run-opened given engine opened);
       second_run = tt;
     })
+
+-- a core that took an event, whose entry was added, is the run of the journal
+pub book-recorded : (entries items : List Entry) (old new : Engine) (second : Option Engine) (taken : ℕ) (event : Event) (reply : Reply)
+    → IsLegal old.limits entries → IsRunOf old.limits entries old → reply ≡ reply_to old.limits old.rows event → IsAfter old new event
+    → items ≡ entries ++ entry event reply ∷ [] → second ≡ None → IsBook items new second taken
+book-recorded entries items old new second taken event reply legal run told after are none =
+    let next = is_next old.limits entries old new event reply legal run told after in
+    let more : List Entry = entries ++ entry event reply ∷ [] in
+    subst (λ (x : List Entry × Option Engine). IsBook x.0 new x.1 taken) (λ i. (sym are i, sym none i)) (record {
+      legal = subst (λ (l : LimitNumbers). IsLegal l more) (sym after.limits) next.legal;
+      run = subst (λ (l : LimitNumbers). IsRunOf l more new) (sym after.limits) next.run;
+      second_run = tt;
+    })

@@ -1,16 +1,18 @@
 //! A core with its journal.
-ghost use Rattle.std.specs.Prelude.{◌≡◌, ◌<◌, ◌^◌, [], length, IfOk, IfErr, OnOk, OnErr};
+ghost use Rattle.std.specs.Prelude.{◌≡◌, ◌<◌, ◌≤◌, ◌-◌, ◌^◌, [], Some, length, vec_len, vec_capacity, IfOk, IfErr, OnOk, OnErr};
 ghost use Rattle.drf_board.specs.History.{IsLegal, entry};
+ghost use Rattle.drf_core.specs.Machine.{IsAfter, IsSame};
 ghost use Rattle.drf_master.specs.Journal.{Adds, IsNext, IsRunOf, IsSameJournal};
 ghost use Rattle.drf_master.specs.Matching.{IsShuffle, IsFault, receipts_of};
 ghost use Rattle.drf_master.specs.declared.matching.CloseFault.TheVariants.{Memory};
 ghost use Rattle.drf_rows.specs.Report.{report_of};
+ghost use Rattle.drf_rows.specs.Step.{reply_to};
 
 use crate::follower::Second;
 use crate::matching::{CloseFault, matches};
 use crate::pass::Pass;
 use drf_board::Entry;
-use drf_core::Core;
+use drf_core::{Core, Stepped};
 use drf_rows::{Copied, Event, Limits, Reply, Report};
 use drf_sorter::Sorter;
 use std::alloc::{AllocError, Global};
@@ -57,6 +59,13 @@ pub struct Next<S: Sorter> {
     pub(crate) entry: Entry,
 }
 
+/// Copies of an entry and of its reply, for who keeps a receipt and who is answered.
+#[derive(Drop)]
+pub(crate) struct Copies {
+    pub(crate) kept: Entry,
+    pub(crate) reply: Reply,
+}
+
 impl<S: Sorter> Next<S> {
     /// The event with its reply.
     pub fn entry(&self) -> &Entry
@@ -77,6 +86,53 @@ impl<S: Sorter> Next<S> {
     {
         self.core.report()
     }
+}
+
+// The core takes an event, for whose entry the journal has room then. A copy of the event and two of the reply are made before.
+fn take_copied<S: Sorter>(
+    core: &mut Core<S>,
+    entries: &mut Vec<Entry>,
+    event: &Event,
+) -> Result<(Event, Stepped), AllocError>
+    ensures kept { IfOk result (λ r. r.0 ≡ event.now) }
+    ensures reply { IfOk result (λ r. r.1.reply ≡ reply_to core.old.limits core.old.rows event.now) }
+    ensures copies { IfOk result (λ r. r.1.copies ≡ Some (r.1.reply, r.1.reply)) }
+    ensures ok { OnOk result (IsAfter core.old core.new event.now) }
+    ensures err { OnErr result (IsSame core.old core.new) }
+    ensures same { entries.new.items ≡ entries.old.items }
+    ensures no_less { vec_capacity entries.old - vec_len entries.old ≤ vec_capacity entries.new - vec_len entries.new }
+    ensures room { OnOk result (vec_len entries.new < vec_capacity entries.new) }
+{
+    entries.reserve(1)?;
+    let kept = event.copy()?;
+    let asked = event.copy()?;
+    match core.step_copied(asked, true) {
+        Ok(stepped) => Ok((kept, stepped)),
+        Err(error) => {
+            drop(kept);
+            Err(error)
+        }
+    }
+}
+
+// The entry of an event with its reply, and copies of both.
+fn copied_entry(event: Event, kept: Event, stepped: Stepped) -> (Entry, Copies)
+    requires kept { kept ≡ event }
+    requires copies { stepped.copies ≡ Some (stepped.reply, stepped.reply) }
+    ensures entry { result.0 ≡ entry event stepped.reply }
+    ensures kept { result.1.kept ≡ entry event stepped.reply }
+    ensures reply { result.1.reply ≡ stepped.reply }
+{
+    let Stepped { reply, copies } = stepped;
+    let (first, second) = copies.unwrap();
+    let copies = Copies {
+        kept: Entry {
+            event: kept,
+            reply: first,
+        },
+        reply: second,
+    };
+    (Entry { event, reply }, copies)
 }
 
 impl<S: Sorter> Book<S> {
@@ -174,32 +230,38 @@ impl<S: Sorter> Book<S> {
         place as u64
     }
 
-    /// Takes an event, and answers its reply and its place. Where it finds no memory the journal stays as it is.
+    /// Takes an event in one step, where nobody is to see what comes of it before it stands. Copies of its entry and of its reply are made
+    /// before the core changes; where there is no memory for them, the journal stays as it is. A second core goes: it would fall behind.
+    pub(crate) fn record(&mut self, event: Event) -> Result<Copies, AllocError>
+        ensures added { IfOk result (λ copies. Adds self.old self.new copies.kept) }
+        ensures event { IfOk result (λ copies. copies.kept.event ≡ event) }
+        ensures reply { IfOk result (λ copies. copies.reply ≡ copies.kept.reply) }
+        ensures err { OnErr result (IsSameJournal self.old self.new) }
+    {
+        match take_copied(&mut self.core, &mut self.entries, &event) {
+            Ok((kept, stepped)) => {
+                let (entry, copies) = copied_entry(event, kept, stepped);
+                self.second = Second::empty();
+                self.entries.push_reserved(entry);
+                Ok(copies)
+            }
+            Err(error) => {
+                drop(event);
+                Err(error)
+            }
+        }
+    }
+
+    /// Takes an event in one step, and answers its reply and its place. Where it finds no memory the journal stays as it is. A second
+    /// core, which `prepare` makes, goes.
     pub fn take(&mut self, event: Event) -> Result<(Reply, u64), AllocError>
         ensures place { IfOk result (λ r. r.1 ≡ length self.old.entries) }
         ensures added { IfOk result (λ r. Adds self.old self.new (entry event r.0)) }
         ensures err { OnErr result (IsSameJournal self.old self.new) }
     {
-        let next = self.prepare(event)?;
-        self.settle_copied(next)
-    }
-
-    // Adds what was prepared, and answers a copy of its reply and its place.
-    fn settle_copied(&mut self, next: Next<S>) -> Result<(Reply, u64), AllocError>
-        requires next { IsNext self.old.limits self.old.entries next.core next.entry }
-        requires room { 0 < self.old.room }
-        ensures place { IfOk result (λ r. r.1 ≡ length self.old.entries) }
-        ensures reply { IfOk result (λ r. r.0 ≡ next.entry.reply) }
-        ensures added { OnOk result (Adds self.old self.new next.entry) }
-        ensures err { OnErr result (self.new ≡ self.old) }
-    {
-        match next.reply().copy() {
-            Ok(reply) => Ok((reply, self.settle(next))),
-            Err(error) => {
-                drop(next);
-                Err(error)
-            }
-        }
+        let place = self.len();
+        let Copies { kept: _kept, reply } = self.record(event)?;
+        Ok((reply, place))
     }
 
     /// Compares the journal with the receipts of passes. Where there is memory, `Ok` is told exactly where the journal is a shuffle of them:

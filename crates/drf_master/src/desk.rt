@@ -2,10 +2,10 @@
 ghost use Rattle.std.specs.Prelude.{◌≡◌, ◌+◌, ◌<◌, ◌^◌, ◌++◌, ◌∷◌, [], length, IfOk, OnOk, OnErr};
 ghost use Rattle.drf_board.specs.Boards.{HasPublished};
 ghost use Rattle.drf_board.specs.History.{IsLegal, entry};
-ghost use Rattle.drf_master.specs.Journal.{Adds, IsNext};
+ghost use Rattle.drf_master.specs.Journal.{Adds, IsNext, IsSameJournal};
 ghost use Rattle.drf_master.specs.Receipts.{IsSamePass, Keeps};
 
-use crate::book::{Book, Next};
+use crate::book::{Book, Copies, Next};
 use crate::pass::{Pass, Receipt};
 use drf_board::{Board, Entry, Naming, Sheet, Told};
 use drf_rows::{Copied, Event, Reply};
@@ -51,13 +51,6 @@ pub struct Answer<K: Naming> {
     pub told: Told<K>,
 }
 
-// What a caller keeps of what was prepared.
-#[derive(Drop)]
-struct Copies {
-    kept: Entry,
-    reply: Reply,
-}
-
 fn copies_of(next: &Next<MasterSorter>) -> Result<Copies, AllocError>
     ensures kept { IfOk result (λ copies. copies.kept ≡ next.now.entry) }
     ensures reply { IfOk result (λ copies. copies.reply ≡ next.now.entry.reply) }
@@ -69,7 +62,7 @@ fn copies_of(next: &Next<MasterSorter>) -> Result<Copies, AllocError>
     })
 }
 
-// Shows what was prepared, after so many entries. The sheet is made for viewers alone.
+// Shows what was prepared, after so many entries.
 fn show<K: Naming, R: Wait + Drop>(
     board: &mut Board<K, R>,
     place: u64,
@@ -82,9 +75,6 @@ fn show<K: Naming, R: Wait + Drop>(
     ensures err { OnErr result (board.new ≡ board.old) }
 {
     let Entry { event, reply } = next.entry();
-    if board.viewers() == 0 {
-        return Ok(board.publish_unseen(event, reply));
-    }
     let report = next.report()?;
     let sheet = Sheet {
         events: place + 1,
@@ -149,6 +139,32 @@ fn answer_prepared<K: Naming, R: Wait + Drop>(
     }
 }
 
+// Adds an event to a book whose board nobody looks at, and to the board's list.
+fn answer_unseen<K: Naming, R: Wait + Drop>(
+    book: &mut Book<MasterSorter>,
+    board: &mut Board<K, R>,
+    event: Event,
+) -> Result<(Answer<K>, Receipt), AllocError>
+    requires unseen { board.old.viewers ≡ 0 }
+    requires entries { board.old.entries ≡ book.old.entries }
+    requires limits { book.old.limits ≡ K.slate.limits }
+    ensures added { IfOk result (λ r. Adds book.old book.new (entry event r.0.reply)) }
+    ensures shown { OnOk result (board.new.entries ≡ book.new.entries) }
+    ensures place { IfOk result (λ r. r.0.place ≡ length book.old.entries) }
+    ensures told { IfOk result (λ r. r.0.told ≡ book.new.entries) }
+    ensures receipt { IfOk result (λ r. r.1 ≡ record { place = r.0.place; entry = entry event r.0.reply }) }
+    ensures err { OnErr result (IsSameJournal book.old book.new × (board.new ≡ board.old)) }
+{
+    let place = book.len();
+    let Copies { kept, reply } = book.record(event)?;
+    // The proof learns that the journal is legal, and not too long, by these calls alone.
+    let _ = book.entries();
+    let _ = book.len();
+    let told = board.publish_unseen(&kept.event, &kept.reply);
+    let receipt = Receipt { place, entry: kept };
+    Ok((Answer { reply, place, told }, receipt))
+}
+
 impl<K: Naming, R: Wait + Drop> Desk<K, R> {
     /// A book with its board. It takes no memory.
     pub fn new(book: Book<MasterSorter>, board: Board<K, R>) -> Desk<K, R>
@@ -180,6 +196,9 @@ impl<K: Naming, R: Wait + Drop> Desk<K, R> {
         ensures receipt { IfOk result (λ r. r.1 ≡ record { place = r.0.place; entry = entry event r.0.reply }) }
         ensures err { OnErr result (self.new ≡ self.old) }
     {
+        if self.board.viewers() == 0 {
+            return answer_unseen(&mut self.book, &mut self.board, event);
+        }
         let next = self.book.prepare(event)?;
         answer_prepared(&mut self.book, &mut self.board, next)
     }

@@ -1,5 +1,5 @@
 -- The rows that the fields stand for once limits are set, a part of an agent is exchanged, or its total is another.
-use Rattle.std.specs.Prelude.{◌≡◌, ℕ, ◌+◌, ◌<◌, ◌^◌, Bool, true, false, not, List, [], ◌∷◌, map, filter, Option, Some, None, Result, Ok, Err, OnOk, OnErr, if◌then◌else◌}
+use Rattle.std.specs.Prelude.{◌≡◌, ℕ, ◌+◌, ◌<◌, ◌≤◌, ◌^◌, Bool, true, false, not, List, [], ◌∷◌, map, filter, Option, Some, None, Result, Ok, Err, OnOk, OnErr, if◌then◌else◌}
 use Rattle.std.specs.List.{AllByRecursion}
 use Rattle.std.specs.Option.{option_map}
 use Rattle.std.proofs.Common.{refl, sym, ap, subst, ◌∙◌, arith}
@@ -7,17 +7,22 @@ use Rattle.std.proofs.lemmas.List.{length-map}
 use Rattle.std.proofs.lemmas.List.Sums.{sum_by-append}
 use Rattle.drf_role.specs.Text.{Text, same_text}
 use Rattle.drf_role.specs.Path.{Path}
-use Rattle.drf_bundle.specs.Bundle.{is_default, quantities_of}
+use Rattle.drf_bundle.specs.Value.{Point}
+use Rattle.drf_bundle.specs.Bundle.{Key, IsBundle, is_default, quantities_of, rest, units}
+use Rattle.drf_bundle.specs.laws.BundleLaws.{known_by_units}
+use Rattle.drf_bundle.specs.laws.RestLaws.{bundle-rest, units-rest}
 use Rattle.drf_bundle.specs.Quantities.{plus}
-use Rattle.drf_bundle.specs.Taken.{rest_of_all}
+use Rattle.drf_bundle.specs.Taken.{units_of_all, rest_of_all, bundle-rest_of_all, units-rest_of_all}
 use Rattle.drf_bundle.specs.declared.quantities.Entry.{Entry}
 use Rattle.drf_bundle.specs.declared.resource.Resource.{Resource}
-use Rattle.drf_rows.specs.Consistent.{IsAgent}
+use Rattle.drf_rows.specs.Consistent.{IsAgent, IsCovered}
 use Rattle.drf_rows.specs.Cycle.{free_of}
 use Rattle.drf_rows.specs.Held.{cluster_total}
-use Rattle.drf_rows.specs.Holdings.{Holding, of_offer, of_task, holdings_of, parts_on}
+use Rattle.drf_rows.specs.Holdings.{Holding, AreBundles, of_offer, of_task, holdings_of, parts_on}
+use Rattle.drf_rows.specs.laws.ConsistentLaws.{bundles-consistent}
+use Rattle.drf_rows.specs.laws.HoldingsLaws.{each_part}
 use Rattle.drf_rows.specs.laws.LimitLaws.{IsConsistent-limit_set}
-use Rattle.drf_rows.specs.laws.ListLaws.{each_from, each_from_both, each_map}
+use Rattle.drf_rows.specs.laws.ListLaws.{each_from_both, each_map}
 use Rattle.drf_rows.specs.Quota.{unreserved_in, held_unreserved, reserved_for, consumption_where, limits_with}
 use Rattle.drf_rows.specs.laws.QuotaLaws.{consumption_is_part_of_total}
 use Rattle.drf_rows.specs.laws.ReservationLaws.{IsConsistent-other_total}
@@ -26,7 +31,7 @@ use Rattle.drf_rows.specs.laws.TotalsLaws.{if_named, can_in_total, IsConsistent-
 use Rattle.drf_rows.specs.declared.rows.AgentRow.{AgentRow}
 use Rattle.drf_rows.specs.declared.rows.Rows.{Rows}
 use Rattle.drf_gates.specs.Quota.{Allowance, IsAllowanceOf, IsRaisedBy, used_where}
-use Rattle.drf_tables.specs.Changing.{CanExchangeOn, CanHaveTotal, CanExchangeAt, changed, with_exchanged, with_other}
+use Rattle.drf_tables.specs.Changing.{CanExchangeOn, CanHaveTotal, CanExchangeAt, HasOther, changed, other_free, with_exchanged, with_other}
 use Rattle.drf_tables.specs.Inside.{agent_row, rows_of, rows_in, IsKnown, IsKept, IsWhole}
 use Rattle.drf_tables.specs.declared.tables.Agent.{Agent}
 use Rattle.drf_tables.specs.declared.tables.Tables.TheInside.{Inside}
@@ -77,17 +82,6 @@ rows-exchanged_entries name old new =
     by e true = refl
     by e false = refl
 
-rows-other_entries : (name : Text) (total : List Resource) (es : List (Text × Agent))
-    → map agent_row (map (changed name (with_other total)) es) ≡ map (total_at name (λ old. total)) (map agent_row es)
-rows-other_entries name total =
-    rows-each (changed name (with_other total)) (total_at name (λ old. total)) (λ e. by e (same_text e.0 name))
-  where
-    by : (e : Text × Agent) (b : Bool)
-        → agent_row (if b then (e.0, with_other total e.1) else e)
-        ≡ (if b then record (agent_row e) { total = total } else agent_row e)
-    by e true = refl
-    by e false = refl
-
 -- the free part is exchanged as the total is
 known-exchanged : (hs : List Holding) (name : Text) (old new : List Resource) (es : List (Text × Agent))
     → AllByRecursion (λ e. same_text e.0 name ≡ true
@@ -114,17 +108,6 @@ known-exchanged hs name old new es moves known =
         → IsKnown hs (if b then (e.0, with_exchanged old new e.1) else e)
     by e was true is move = here e e.1.free was (move is)
     by e was false past move = was
-
--- what is forgotten is not known
-known-other : (hs : List Holding) (name : Text) (total : List Resource) (es : List (Text × Agent))
-    → AllByRecursion (IsKnown hs) es → AllByRecursion (IsKnown hs) (map (changed name (with_other total)) es)
-known-other hs name total es known =
-    each_map (IsKnown hs) (changed name (with_other total)) es
-    (each_from (IsKnown hs) (λ e. IsKnown hs (changed name (with_other total) e)) es (λ e was. by e was (same_text e.0 name)) known)
-  where
-    by : (e : Text × Agent) → IsKnown hs e → (b : Bool) → IsKnown hs (if b then (e.0, with_other total e.1) else e)
-    by e was true = λ free is. cc
-    by e was false = was
 
 module _ (t : Inside) (kept : IsKept (rows_in t) t.agents.entries t.total t.clients) (name : Text) (old new : List Resource)
     (can : CanExchangeOn (rows_in t) name old new) where
@@ -176,23 +159,78 @@ module _ (t : Inside) (kept : IsKept (rows_in t) t.agents.entries t.total t.clie
 
 -- ---- another total
 
+rows-other_entries : (kept : Bool) (name : Text) (total : List Resource) (es : List (Text × Agent))
+    → map agent_row (map (changed name (with_other kept total)) es) ≡ map (total_at name (λ old. total)) (map agent_row es)
+rows-other_entries kept name total =
+    rows-each (changed name (with_other kept total)) (total_at name (λ old. total)) (λ e. by e (same_text e.0 name))
+  where
+    by : (e : Text × Agent) (b : Bool)
+        → agent_row (if b then (e.0, with_other kept total e.1) else e)
+        ≡ (if b then record (agent_row e) { total = total } else agent_row e)
+    by e true = refl
+    by e false = refl
+
+-- what the old total has beside its free part is all that is held
+other_left : (old new : List Resource) (parts : List (List Resource)) → IsBundle old → IsBundle new → AllByRecursion IsBundle parts
+    → ((key : Key) (p : Point) → units_of_all parts key p ≤ units old key p)
+    → rest new (rest old (rest_of_all old parts)) ≡ rest_of_all new parts
+other_left old new parts is_old is_new each covered =
+    let free : List Resource = rest_of_all old parts in
+    let is_free : IsBundle free = bundle-rest_of_all old parts is_old in
+    let held : List Resource = rest old free in
+    let is_held : IsBundle held = bundle-rest old free is_old in
+    known_by_units (rest new held) (rest_of_all new parts) (bundle-rest new held is_new) (bundle-rest_of_all new parts is_new)
+    (λ key p. omega (
+      arith,
+      units-rest new held key p is_new.in_order is_held.in_order,
+      units-rest old free key p is_old.in_order is_free.in_order,
+      units-rest_of_all old parts key p is_old each,
+      units-rest_of_all new parts key p is_new each,
+      covered key p,
+    ))
+
+-- so that what is free of the new one is known
+module _ (hs : List Holding) (bundles : AreBundles hs) (name : Text) (total : List Resource) (is_total : IsBundle total) where
+  module _ (e : Text × Agent) (known : IsKnown hs e) (agent : IsAgent (agent_row e)) (covered : IsCovered hs (agent_row e)) where
+    there : (was : Option (List Resource)) → e.1.free ≡ was
+        → (free : List Resource) → other_free total e.1.total was ≡ Some free → free ≡ rest_of_all total (parts_on e.0 hs)
+    there None is free left = cc
+    there (Some old) is free left =
+        let same : rest total (rest e.1.total old) ≡ free = cc in
+        sym same ∙ ap (λ (known : List Resource). rest total (rest e.1.total known)) (known old is)
+        ∙ other_left e.1.total total (parts_on e.0 hs) agent.total is_total (each_part e.0 hs bundles) covered
+
+    known_one : (kept b : Bool) → IsKnown hs (if b then (e.0, with_other kept total e.1) else e)
+    known_one true true = there e.1.free refl
+    known_one false true = λ free is. cc
+    known_one kept false = known
+
+  known-other : (kept : Bool) (es : List (Text × Agent)) → AllByRecursion (IsKnown hs) es
+      → AllByRecursion IsAgent (map agent_row es) → AllByRecursion (IsCovered hs) (map agent_row es)
+      → AllByRecursion (IsKnown hs) (map (changed name (with_other kept total)) es)
+  known-other kept [] known agents covered = tt
+  known-other kept (e ∷ es) known agents covered =
+      (known_one e known.0 agents.0 covered.0 kept (same_text e.0 name), known-other kept es known.1 agents.1 covered.1)
+
 module _ (t : Inside) (kept : IsKept (rows_in t) t.agents.entries t.total t.clients) (name : Text) (total : List Resource) (sum : List Entry)
     (right : CanHaveTotal (rows_in t) name total)
     (summed : sum ≡ plus (cluster_total (filter (λ a. not (same_text a.name name)) (rows_in t).agents)) (quantities_of total))
-    (entries : List (Text × Agent)) (told : entries ≡ map (changed name (with_other total)) t.agents.entries) where
+    (entries : List (Text × Agent)) (told : HasOther name total t.agents.entries entries) where
   pub rows-other : rows_but t entries t.frameworks.entries t.filters ≡ record (rows_in t) { agents = with_other_total (rows_in t) name total }
   unfolding rows_of
   rows-other =
-      let read = ap (map agent_row) told ∙ rows-other_entries name total t.agents.entries in
+      let read = ap (map agent_row) told.same ∙ rows-other_entries told.kept name total t.agents.entries in
       λ i. record (rows_in t) { agents = read i }
 
   pub kept-other : IsKept (rows_but t entries t.frameworks.entries t.filters) entries sum t.clients
+  unfolding rows_of
   kept-other =
       let agent : IsAgent (record right.row { total = total }) = record { total = right.bundle; small = right.small } in
       subst (λ (r : Rows). IsKept r entries sum t.clients) (sym rows-other) (record {
         consistent = IsConsistent-other_total (rows_in t) name right.row total kept.consistent right.found right.bundle right.covered agent;
-        free = subst (λ (es : List (Text × Agent)). AllByRecursion (IsKnown (holdings_of (rows_in t))) es) (sym told)
-            (known-other (holdings_of (rows_in t)) name total t.agents.entries kept.free);
+        free = subst (λ (es : List (Text × Agent)). AllByRecursion (IsKnown (holdings_of (rows_in t))) es) (sym told.same)
+            (known-other (holdings_of (rows_in t)) (bundles-consistent (rows_in t) kept.consistent) name total right.bundle told.kept t.agents.entries
+            kept.free kept.consistent.agents.each kept.consistent.covered);
         total = summed ∙ cluster_total-other_total (rows_in t) name right.row total kept.consistent right.found agent;
         clients = kept.clients;
         few = omega (arith, length-map (rows_in t).agents (total_at name (λ was. total)), kept.few);

@@ -1,5 +1,5 @@
 -- The quota of tables counts through each change of what agents have.
-use Rattle.std.specs.Prelude.{◌≡◌, ◌+◌, ◌<◌, ◌≤◌, ◌^◌, Bool, true, not, List, filter, map}
+use Rattle.std.specs.Prelude.{◌≡◌, ◌+◌, ◌<◌, ◌≤◌, ◌^◌, Bool, true, false, not, List, filter, map}
 use Rattle.std.specs.Map.{remove_entry}
 use Rattle.std.proofs.Common.{refl, sym, ap, subst, arith}
 use Rattle.drf_role.specs.Text.{Text, same_text}
@@ -19,7 +19,7 @@ use Rattle.drf_rows.specs.declared.rows.LimitRow.{LimitRow}
 use Rattle.drf_rows.specs.declared.rows.OfferRow.{OfferRow}
 use Rattle.drf_rows.specs.declared.rows.Rows.{Rows}
 use Rattle.drf_gates.specs.Quota.{Allowance, used_where}
-use Rattle.drf_tables.specs.Changing.{CanExchangeOn, CanHaveTotal, changed, with_exchanged, with_other}
+use Rattle.drf_tables.specs.Changing.{CanExchangeOn, CanHaveTotal, HasOther, changed, with_exchanged, with_other}
 use Rattle.drf_tables.specs.DraftLaws.{with_offers-added}
 use Rattle.drf_tables.specs.Drafts.{with_offers}
 use Rattle.drf_tables.specs.Inside.{agent_row, rows_of, rows_in, CountsIf, IsKept}
@@ -146,10 +146,11 @@ module _ (t : Inside) (kept : IsKept (rows_in t) t.agents.entries t.total t.clie
 
   fits : (test : Path → Bool) (label : Text) → consumption_where test after_rows label < 2 ^ 64
   fits test label =
-      let made : List (Text × Agent) = map (changed name (with_other total)) t.agents.entries in
+      let made : List (Text × Agent) = map (changed name (with_other false total)) t.agents.entries in
+      let told : HasOther name total t.agents.entries made = record { kept = false; same = refl } in
       let still : IsKept after_rows made sum t.clients =
-      subst (λ (r : Rows). IsKept r made sum t.clients) (rows-other t kept name total sum right summed made refl)
-      (kept-other t kept name total sum right summed made refl) in
+      subst (λ (r : Rows). IsKept r made sum t.clients) (rows-other t kept name total sum right summed made told)
+      (kept-other t kept name total sum right summed made told) in
       omega (
         arith,
         consumption_is_part_of_total test after_rows label still.consistent,
@@ -161,7 +162,7 @@ module _ (t : Inside) (kept : IsKept (rows_in t) t.agents.entries t.total t.clie
       replaces_fit t.is_counted (rows_in t) t.quota counted after_rows mid (reserved_at (map agent_row t.agents.entries) name)
       (λ test label. reserved_in test label total) released is moves fits
 
-  pub counts-other : (entries : List (Text × Agent)) → entries ≡ map (changed name (with_other total)) t.agents.entries
+  pub counts-other : (entries : List (Text × Agent)) → HasOther name total t.agents.entries entries
       → (still : Bool) (after : Allowance) → (still ≡ true → t.is_counted ≡ true)
       → IsRaisedIf still mid after (λ test label. reserved_in test label total)
       → CountsIf still (rows_but t entries t.frameworks.entries t.filters) after

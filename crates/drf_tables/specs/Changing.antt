@@ -1,7 +1,7 @@
 -- Agents whose entries change.
 use Rattle.std.specs.Prelude.{◌≡◌, ℕ, ◌≤◌, Bool, false, List, map, Option, Some, None, take, if◌then◌else◌}
 use Rattle.std.specs.Option.{option_map}
-use Rattle.drf_bundle.specs.Bundle.{IsBundle, join, quantities_of}
+use Rattle.drf_bundle.specs.Bundle.{IsBundle, join, quantities_of, rest}
 use Rattle.drf_bundle.specs.Quantities.{amount_of}
 use Rattle.drf_bundle.specs.declared.resource.Resource.{Resource}
 use Rattle.drf_rows.specs.Cycle.{free_of}
@@ -44,9 +44,19 @@ pub record CanExchangeAt (old new : List Resource) (a : Agent) : Type 0 where
   pub total : CanExchange a.total old new
   pub free : (known : List Resource) → a.free ≡ Some known → CanExchange known old new
 
--- its total is another, and what is free there is not known
-abbrev pub with_other : List Resource → Agent → Agent
-with_other total a = record a { total = total; free = None }
+-- what is free of another total, where as much is held of it as of the old one
+abbrev pub other_free : List Resource → List Resource → Option (List Resource) → Option (List Resource)
+other_free total old None = None
+other_free total old (Some known) = Some (rest total (rest old known))
+
+-- its total is another, and what is free is left of that, or is not known
+abbrev pub with_other : Bool → List Resource → Agent → Agent
+with_other kept total a = record a { total = total; free = if kept then other_free total a.total a.free else None }
+
+-- the agent of a name got another total, and what is free there is left of that, or is not known any more
+pub record HasOther (name : Text) (total : List Resource) (old new : List (Text × Agent)) : Type 0 where
+  pub kept : Bool
+  pub same : new ≡ map (changed name (with_other kept total)) old
 
 -- the agent is there, and what is free on it has the first part
 pub record CanExchangeOn (rows : Rows) (agent : Text) (old new : List Resource) : Type 0 where

@@ -5,16 +5,16 @@ ghost use Rattle.drf_role.specs.Path.{same_path};
 ghost use Rattle.drf_role.specs.Text.{same_text};
 ghost use Rattle.drf_tables.specs.Inside.{framework_rows};
 
+use crate::free_part::FreePart;
 use crate::tables::{Agent, Tables};
 use drf_amount::Algebra;
-use drf_bundle::Bundle;
 use drf_role::{Name, Role};
 use drf_rows::{ClientRow, copy_all};
 use indexmap::IndexMap;
 use std::alloc::AllocError;
 
 /// What is free on an agent, copied where it is known.
-fn copy_free(free: &Option<Bundle>) -> Result<Option<Bundle>, AllocError>
+fn copy_free(free: &Option<FreePart>) -> Result<Option<FreePart>, AllocError>
     ensures { IfOk result (λ copy. copy ≡ free.now) }
 {
     match free {

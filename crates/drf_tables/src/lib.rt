@@ -6,6 +6,7 @@ mod consuming;
 mod copied;
 mod ending;
 mod filtering;
+mod free_part;
 mod leaving;
 mod limits;
 mod listing;

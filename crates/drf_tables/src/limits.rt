@@ -1,7 +1,7 @@
 //! Limits of roles, what roles consume, and agents whose totals change.
 #![tactic(auto, unfolding(crate::specs::Inside::rows_of))]
 
-ghost use Rattle.std.specs.Prelude.{◌≡◌, ◌≢◌, ◌↔◌, ◌≤◌, [], IsTrue, true, false, length, filter, not, OnOk, OnErr};
+ghost use Rattle.std.specs.Prelude.{◌≡◌, ◌≢◌, ◌↔◌, ◌≤◌, [], IsTrue, true, false, length, filter, not, IfOk, OnOk, OnErr};
 ghost use Rattle.drf_role.specs.Text.{same_text};
 ghost use Rattle.drf_bundle.specs.Bundle.{is_default, quantities_of};
 ghost use Rattle.drf_bundle.specs.Quantities.{plus};
@@ -19,6 +19,7 @@ use drf_bundle::{Bundle, Quantities};
 use drf_gates::Quota;
 use drf_role::{Name, Role};
 use std::alloc::AllocError;
+use std::mem::replace;
 
 impl Tables {
     /// Whether any role has a limit.
@@ -81,6 +82,20 @@ impl Tables {
         Ok(())
     }
 
+    /// Lends the quota to a cycle, which counts in it what it offers. Until it comes back with the offers the tables keep the limits
+    /// alone; so what roles consume is not copied, and if it does not come back, that is counted anew. An `Err` changes nothing.
+    pub fn lend_quota(&mut self) -> Result<Quota, AllocError>
+        requires counted { self.old.counted ≡ true }
+        ensures quota { IfOk result (IsAllowanceOf self.old.rows) }
+        ensures same { self.new.rows ≡ self.old.rows }
+        ensures settled { self.new.settled ≡ self.old.settled }
+        ensures err { OnErr result (self.new ≡ self.old) }
+    {
+        let alone = self.quota.limits_alone()?;
+        self.is_counted = false;
+        Ok(replace(&mut self.quota, alone))
+    }
+
     /// Exchanges a part that is free on an agent for another. An `Err` changes no row.
     pub fn exchange(&mut self, agent: &Name, old: &Bundle, new: &Bundle) -> Result<(), AllocError>
         requires { CanExchangeOn self.old.rows agent.now old.now new.now }
@@ -101,8 +116,8 @@ impl Tables {
         }
     }
 
-    /// Gives an agent another total, which with those of the others is the sum. It needs no memory; where it finds none to count
-    /// what the total has reserved, what roles consume is counted no longer.
+    /// Gives an agent another total, which with those of the others is the sum. It needs no memory; where it finds none, what roles
+    /// consume is counted no longer, or what is free there is not known.
     pub fn set_total(&mut self, agent: &Name, total: Bundle, sum: Quantities)
         requires right { CanHaveTotal self.old.rows agent.now total }
         requires sum { sum ≡ plus (cluster_total (filter (λ a. not (same_text a.name agent.now)) self.old.rows.agents)) (quantities_of total) }

@@ -10,6 +10,7 @@ ghost use Rattle.drf_tables.specs.Changing.{changed, joined_free, with_active, H
 ghost use Rattle.drf_tables.specs.Counting.{count_clients};
 ghost use Rattle.drf_tables.specs.Inside.{agent_row, framework_rows};
 
+use crate::free_part::FreePart;
 use crate::tables::Agent;
 use drf_amount::Algebra;
 use drf_bundle::Bundle;
@@ -18,10 +19,11 @@ use drf_rows::ClientRow;
 use indexmap::IndexMap;
 
 /// What was free with a part that comes back. Where memory ends, it is not known.
-fn freed(free: &Option<Bundle>, part: &Bundle) -> Option<Bundle>
+fn freed(free: &Option<FreePart>, part: &Bundle) -> Option<FreePart>
     ensures { (result ≡ joined_free free.now part.now) ⊎ (result ≡ None) }
 {
-    free.as_ref()?.try_join(part).ok()
+    let both = free.as_ref()?.bundle().try_join(part).ok()?;
+    Some(FreePart::new(both))
 }
 
 /// Gives an agent a part back that is held there no longer. Where memory ends, what is free there is not known any more.

@@ -1,14 +1,16 @@
 //! Agents whose totals change: a part is exchanged for another, or all of it.
-ghost use Rattle.std.specs.Prelude.{◌≡◌, List, map, true, Some, OnOk, OnErr, IfOk};
+ghost use Rattle.std.specs.Prelude.{◌≡◌, ◌⊎◌, List, map, true, None, Some, OnOk, OnErr, IfOk};
 ghost use Rattle.std.specs.List.{AllByRecursion};
 ghost use Rattle.std.specs.Option.{option_map};
 ghost use Rattle.drf_role.specs.Text.{same_text};
+ghost use Rattle.drf_bundle.specs.Bundle.{rest};
 ghost use Rattle.drf_bundle.specs.declared.resource.Resource.{Resource};
 ghost use Rattle.drf_rows.specs.Consistent.{are_distinct};
 ghost use Rattle.drf_rows.specs.Totals.{CanExchange, exchanged};
-ghost use Rattle.drf_tables.specs.Changing.{CanExchangeAt, changed, with_exchanged, with_other};
+ghost use Rattle.drf_tables.specs.Changing.{CanExchangeAt, HasOther, changed, other_free, with_exchanged};
 ghost use Rattle.drf_tables.specs.Inside.{agent_row};
 
+use crate::free_part::FreePart;
 use crate::tables::Agent;
 use drf_amount::Algebra;
 use drf_bundle::Bundle;
@@ -31,15 +33,15 @@ fn exchanged(whole: &Bundle, old: &Bundle, new: &Bundle) -> Result<Bundle, Alloc
 
 /// The free part with another part in the place of one that it has, where it is known.
 fn exchanged_free(
-    free: &Option<Bundle>,
+    free: &Option<FreePart>,
     old: &Bundle,
     new: &Bundle,
-) -> Result<Option<Bundle>, AllocError>
+) -> Result<Option<FreePart>, AllocError>
     requires { (known : List Resource) → free.now ≡ Some known → CanExchange known old.now new.now }
     ensures { IfOk result (λ both. both ≡ option_map (exchanged old.now new.now) free.now) }
 {
     match free {
-        Some(known) => Ok(Some(exchanged(known, old, new)?)),
+        Some(known) => Ok(Some(FreePart::new(exchanged(known.bundle(), old, new)?))),
         None => Ok(None),
     }
 }
@@ -71,17 +73,37 @@ pub(crate) fn exchange(
     Ok(())
 }
 
-/// Gives an agent another total. What is free there is forgotten.
+/// What is left of another total, where as much is held of it as of the old one.
+fn left_of_other(total: &Bundle, old: &Bundle, free: &Bundle) -> Result<Bundle, AllocError>
+    ensures { IfOk result (λ left. left ≡ rest total.now (rest old.now free.now)) }
+{
+    let held = old.rest(free)?;
+    total.rest(&held)
+}
+
+/// What is free of another total. Where memory ends, it is not known.
+fn other_free(total: &Bundle, old: &Bundle, free: &Option<FreePart>) -> Option<FreePart>
+    ensures { (result ≡ other_free total.now old.now free.now) ⊎ (result ≡ None) }
+{
+    match left_of_other(total, old, free.as_ref()?.bundle()) {
+        Ok(left) => Some(FreePart::new(left)),
+        Err(_) => None,
+    }
+}
+
+/// Gives an agent another total. Where memory ends, what is free there is not known any more.
 pub(crate) fn set_total(agents: &mut IndexMap<Name, Agent>, name: &Name, total: Bundle)
     requires { are_distinct (map (λ a. a.name) (map agent_row agents.old.entries)) ≡ true }
-    ensures { agents.new.entries ≡ map (changed name.now (with_other total)) agents.old.entries }
+    ensures { HasOther name.now total agents.old.entries agents.new.entries }
 {
     if let Some(place) = agents.get_index_of(name) {
-        let active = agents[place].active;
+        let agent = &agents[place];
+        let free = other_free(&total, &agent.total, &agent.free);
+        let active = agent.active;
         agents[place] = Agent {
             total,
             active,
-            free: None,
+            free,
         };
     }
 }

@@ -7,6 +7,7 @@ ghost use Rattle.drf_rows.specs.Consistent.{are_distinct};
 ghost use Rattle.drf_tables.specs.Counting.{counting, counting_all, first_number, CanCount, CanCountAll};
 ghost use Rattle.drf_tables.specs.Inside.{agent_row, framework_rows, frees_in, known_after};
 
+use crate::free_part::FreePart;
 use crate::tables::{Agent, Left};
 use drf_role::Name;
 use drf_rows::{ClientRow, OfferRow};
@@ -67,6 +68,6 @@ pub(crate) fn put_lefts(agents: &mut IndexMap<Name, Agent>, lefts: Vec<Left>)
     ensures free { frees_in agents.new.entries ≡ known_after (frees_in agents.old.entries) lefts.items }
 {
     for left in lefts {
-        agents[left.agent].free = Some(left.free);
+        agents[left.agent].free = Some(FreePart::new(left.free));
     }
 }

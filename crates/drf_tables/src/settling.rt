@@ -5,6 +5,7 @@ ghost use Rattle.drf_holdings.specs.Stored.{holdings_in};
 ghost use Rattle.drf_tables.specs.Inside.{agent_row, is_settled, IsKnown};
 ghost use Rattle.drf_tables.specs.Changing.{are_settled};
 
+use crate::free_part::FreePart;
 use crate::tables::Agent;
 use drf_holdings::Holdings;
 use drf_role::Name;
@@ -30,7 +31,7 @@ fn settle_at(
         return Ok(());
     }
     let free = holdings.left_on(name, &agent.total)?;
-    agents[place].free = Some(free);
+    agents[place].free = Some(FreePart::new(free));
     Ok(())
 }
 

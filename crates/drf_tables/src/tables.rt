@@ -6,7 +6,7 @@ ghost use Rattle.drf_role.specs.Text.{Text};
 ghost use Rattle.drf_bundle.specs.Quantities.{amount_of};
 ghost use Rattle.drf_bundle.specs.Bundle.{quantities_of};
 ghost use Rattle.drf_rows.specs.Held.{clients_of, cluster_total};
-ghost use Rattle.drf_rows.specs.Cycle.{free_of};
+ghost use Rattle.drf_rows.specs.Cycle.{free_of, is_allocatable};
 ghost use Rattle.drf_rows.specs.Step.{opening, live_rows};
 ghost use Rattle.drf_rows.specs.Totals.{agent_at};
 ghost use Rattle.drf_rows.specs.Members.{has_agent, has_framework, with_agent};
@@ -17,6 +17,7 @@ ghost use Rattle.drf_rows.specs.declared.rows.AgentRow.{AgentRow};
 ghost use Rattle.drf_tables.specs.Drafts.{with_offers, frees_of, frees_after};
 ghost use Rattle.drf_tables.specs.Recounting.{CountsAll};
 
+use crate::free_part::FreePart;
 use crate::listing::{agent_rows, framework_rows, weight_rows};
 use crate::offers::{count_offers, first_number, put_lefts};
 use crate::recounting::{consume_total, take_over};
@@ -35,7 +36,7 @@ use std::marker::Model;
 pub(crate) struct Agent {
     pub(crate) total: Bundle,
     pub(crate) active: bool,
-    pub(crate) free: Option<Bundle>,
+    pub(crate) free: Option<FreePart>,
 }
 
 /// What an agent's turn leaves of its free part.
@@ -238,7 +239,16 @@ impl Tables {
         requires settled { self.now.settled ≡ true }
         ensures { (a : AgentRow) → slice_get self.now.rows.agents place ≡ Some a → result.now ≡ free_of self.now.rows a }
     {
-        self.agents[place].free.as_ref().unwrap()
+        self.agents[place].free.as_ref().unwrap().bundle()
+    }
+
+    /// Whether what is free on the agent at a place is worth an offer.
+    pub fn is_worth_an_offer(&self, place: usize) -> bool
+        requires place { place < length self.now.rows.agents }
+        requires settled { self.now.settled ≡ true }
+        ensures { (a : AgentRow) → slice_get self.now.rows.agents place ≡ Some a → result ≡ is_allocatable (free_of self.now.rows a) }
+    {
+        self.agents[place].free.as_ref().unwrap().is_worth()
     }
 
     pub fn set_clock(&mut self, clock: u64)
@@ -273,7 +283,7 @@ impl Tables {
         let agent = Agent {
             total,
             active: true,
-            free: Some(free),
+            free: Some(FreePart::new(free)),
         };
         let _ = self.agents.insert(name, agent).unwrap();
         self.total = sum;

@@ -1,27 +1,58 @@
--- A cycle in which no agent has a turn changes nothing.
-use Rattle.std.proofs.Common.{◌≡◌, ℕ, zero, suc, ◌+◌, ◌≤◌, [], false, refl, sym, ap, ◌∙◌, arith, drop, length, subst}
-use Rattle.std.specs.Prelude.{filter}
+-- A cycle in which nobody is tried changes nothing: no agent has a turn, or no client is to be served.
+use Rattle.std.proofs.Common.{◌≡◌, ℕ, zero, suc, ◌+◌, ◌≤◌, [], ◌∷◌, List, Option, Some, None, Bool, true, false, map, refl, sym, ap, subst, ◌∙◌, arith, cond, drop, length, true≢false}
+use Rattle.std.specs.Prelude.{filter, is_some, slice_get}
+use Rattle.std.specs.Option.{option_map_or}
 use Rattle.std.proofs.Math.Seq.{drop-length}
-use Rattle.drf_rows.specs.Cycle.{turns}
+use Rattle.drf_role.specs.Path.{Path}
+use Rattle.drf_rows.specs.Client.{Client, path_of}
+use Rattle.drf_rows.specs.Cycle.{all_tried, turn, turn_order, turns}
 use Rattle.drf_rows.specs.Step.{new_offers}
 use Rattle.drf_rows.specs.declared.rows.AgentRow.{AgentRow}
 use Rattle.drf_rows.specs.declared.rows.Rows.{Rows}
-use Rattle.drf_core.specs.Drafting.{is_open_at, turns_of}
+use Rattle.drf_sorter.specs.Content.{Content, IsOrderOf}
+use Rattle.drf_core.specs.Drafting.{IsDrafting, is_open_at, turn_at, turns_of}
 use Rattle.drf_core.proofs.drafting.Cycle.{new_offers-drafts, turns-next}
-use Rattle.drf_core.proofs.drafting.Turn.{turn_at-closed}
+use Rattle.drf_core.proofs.drafting.Turn.{ordered_from, turn_at-closed}
 
-module _ (rows : Rows) (closed : (place : ℕ) → is_open_at rows place ≡ false) where
-  closed_from : (place : ℕ) → place ≤ length rows.agents → turns rows (filter (λ a. a.active) (drop place rows.agents)) ≡ turns_of rows
-  closed_from zero within = refl
-  closed_from (suc place) within =
+module _ (rows : Rows) (still : (place : ℕ) → rows ≡ turn_at rows place) where
+  still_from : (place : ℕ) → place ≤ length rows.agents → turns rows (filter (λ a. a.active) (drop place rows.agents)) ≡ turns_of rows
+  still_from zero within = refl
+  still_from (suc place) within =
       subst (λ (n : ℕ). turns rows (filter (λ a. a.active) (drop n rows.agents)) ≡ turns_of rows) {x = place + 1} {y = suc place} (omega arith)
-      (turns-next rows rows rows place (omega (arith, within)) refl (turn_at-closed rows place (closed place))
-      (closed_from place (omega (arith, within))))
+      (turns-next rows rows rows place (omega (arith, within)) refl (still place) (still_from place (omega (arith, within))))
 
-  pub no_turns : turns_of rows ≡ rows
+  no_turns : turns_of rows ≡ rows
   no_turns =
-      sym (closed_from (length rows.agents) (omega arith))
+      sym (still_from (length rows.agents) (omega arith))
       ∙ ap (λ as'. turns rows (filter (λ (a : AgentRow). a.active) as')) (drop-length rows.agents)
 
-  pub no_offers : new_offers rows (turns_of rows) ≡ []
-  no_offers = new_offers-drafts rows [] (sym no_turns)
+-- no agent has a turn
+pub no_turns-closed : (rows : Rows) → ((place : ℕ) → is_open_at rows place ≡ false) → turns_of rows ≡ rows
+no_turns-closed rows closed = no_turns rows (λ place. turn_at-closed rows place (closed place))
+
+-- no client is to be served
+no_clients : (clients : List Client) (queue : List Path) → is_some (slice_get queue 0) ≡ false → queue ≡ map path_of clients → clients ≡ []
+no_clients [] queue none are = refl
+no_clients (client ∷ clients) queue none are =
+    absurd (true≢false (sym (ap (λ (ps : List Path). is_some (slice_get ps 0)) are) ∙ none))
+
+turn_at-nobody : (rows : Rows) (place : ℕ) → turn_order rows ≡ [] → rows ≡ turn_at rows place
+unfolding turn
+turn_at-nobody rows place nobody = by (slice_get rows.agents place)
+  where
+    choose : (a : AgentRow) (active : Bool) → rows ≡ cond active (all_tried rows a (turn_order rows)) rows
+    choose a false = refl
+    choose a true = sym (ap (all_tried rows a) nobody)
+
+    by : (o : Option AgentRow) → rows ≡ option_map_or (λ a. cond a.active (turn rows a) rows) o rows
+    by None = refl
+    by (Some a) = choose a a.active
+
+pub no_turns-nobody : (content : Content) (rows : Rows) (queue : List Path) → IsDrafting content rows [] → IsOrderOf content queue
+    → is_some (slice_get queue 0) ≡ false → turns_of rows ≡ rows
+no_turns-nobody content rows queue drafting order none =
+    let nobody = no_clients (turn_order rows) queue none (ordered_from content rows [] drafting queue order).same in
+    no_turns rows (λ place. turn_at-nobody rows place nobody)
+
+pub no_offers : (rows : Rows) → turns_of rows ≡ rows → new_offers rows (turns_of rows) ≡ []
+no_offers rows still = new_offers-drafts rows [] (sym still)

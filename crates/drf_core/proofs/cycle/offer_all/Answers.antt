@@ -1,5 +1,6 @@
 use Rattle.std.proofs.Common.{◌≡◌, ◌≤◌, ◌^◌, ℕ, List, Option, map, ap, ◌∙◌, subst, sym, arith}
 use Rattle.drf_rows.specs.Step.{line_told, new_offers}
+use Rattle.drf_rows.specs.declared.reply.Reply.TheVariants.{Offers}
 use Rattle.drf_rows.specs.declared.rows.Rows.{Rows}
 use Rattle.drf_rows.specs.declared.rows.OfferRow.{OfferRow}
 use Rattle.drf_core.specs.Drafting.{turns_of}
@@ -10,7 +11,7 @@ use Rattle.drf_tables.specs.DraftLaws.{next-with_offers, with_offers-added}
 use Rattle.drf_tables.specs.Drafts.{with_offers}
 use Rattle.drf_core.proofs.drafting.Cycle.{counts_all, is_counting, new_offers-drafts}
 use Rattle.drf_core.specs.Content.{content_of}
-use Rattle.drf_core.proofs.drafting.Closed.{no_offers, no_turns}
+use Rattle.drf_core.proofs.drafting.Closed.{no_offers}
 use Rattle.drf_core.proofs.cycle.offer_all.Goals as goal
 
 pub commit-requires-clause-fits : goal.commit-requires-clause-fits
@@ -40,13 +41,14 @@ returns-clause-counted g c = λ some.
     (subst (λ (q : Option Allowance). IsQuotaOf after q) (sym c.take-quota.ensures.value) c.in_ok-turns.ensures.quota)
     (λ none. some (sym limits ∙ none))
 
-pub returns-clause-lines : goal.returns-clause-lines
-returns-clause-lines g c =
+pub returns-clause-reply : goal.returns-clause-reply
+returns-clause-reply g c =
     let same = c.quota_of.ensures.same ∙ c.settle.ensures.same in
-    c.in_ok-lines.ensures
+    c.in_ok-stepped-2.ensures.reply
+    ∙ ap Offers (c.from_vec-2.ensures ∙ c.in_ok-lines.ensures
     ∙ ap (map line_told) (c.deref.ensures.value
     ∙ sym (new_offers-drafts c.quota_of.new.tables.rows c.turns.new.drafts.offers.items c.in_ok-turns.ensures.turns)
-    ∙ (λ i. new_offers (same i) (turns_of (same i))))
+    ∙ (λ i. new_offers (same i) (turns_of (same i)))))
 
 pub returns-clause-work : goal.returns-clause-work
 returns-clause-work g c = λ counted.
@@ -56,26 +58,28 @@ returns-clause-work g c = λ counted.
     let new : drafts ≡ new_offers c.args.tables.now.rows (turns_of c.args.tables.now.rows) =
     sym (new_offers-drafts c.quota_of.new.tables.rows drafts c.in_ok-turns.ensures.turns)
     ∙ (λ i. new_offers (same i) (turns_of (same i))) in
-    omega (arith, c.in_ok-turns.ensures.work counted, ap Nodes c.requires.none, ap Nodes new)
+    omega (arith, c.is_idle.ensures.work counted, c.in_ok-turns.ensures.work counted, ap Nodes c.requires.none, ap Nodes new)
 
--- ---- no agent has a turn
+-- ---- nobody is tried
 
-pub returns-then-not-has_open-clause-ok : goal.returns-then-not-has_open-clause-ok
-returns-then-not-has_open-clause-ok g c =
-    c.count_consumption.ensures.same ∙ sym (no_turns c.settle.new.self.rows (c.has_open.ensures c.if-not-has_open.true)) ∙ ap turns_of c.settle.ensures.same
+pub returns-then-idle-clause-ok : goal.returns-then-idle-clause-ok
+returns-then-idle-clause-ok g c =
+    c.count_consumption.ensures.same ∙ sym (c.in_ok-idle.ensures.idle c.if-idle.true) ∙ ap turns_of c.settle.ensures.same
 
-pub returns-then-not-has_open-clause-sorted : goal.returns-then-not-has_open-clause-sorted
-returns-then-not-has_open-clause-sorted g c =
-    c.requires.drafting.sorted
+pub returns-then-idle-clause-sorted : goal.returns-then-idle-clause-sorted
+returns-then-idle-clause-sorted g c =
+    c.is_idle.ensures.content
+    ∙ c.requires.drafting.sorted
     ∙ ap (λ (os : List OfferRow). content_of (with_offers c.args.tables.now.rows os)) c.requires.none
     ∙ ap content_of (sym (c.count_consumption.ensures.same ∙ c.settle.ensures.same))
 
-pub returns-then-not-has_open-clause-lines : goal.returns-then-not-has_open-clause-lines
-returns-then-not-has_open-clause-lines g c =
+pub returns-then-idle-clause-reply : goal.returns-then-idle-clause-reply
+returns-then-idle-clause-reply g c =
     let same = c.settle.ensures.same in
-    c.new.ensures.items
+    c.in_ok-stepped.ensures.reply
+    ∙ ap Offers (c.from_vec.ensures ∙ c.new.ensures.items
     ∙ ap (map line_told)
-    (sym (no_offers c.settle.new.self.rows (c.has_open.ensures c.if-not-has_open.true)) ∙ (λ i. new_offers (same i) (turns_of (same i))))
+    (sym (no_offers c.settle.new.self.rows (c.in_ok-idle.ensures.idle c.if-idle.true)) ∙ (λ i. new_offers (same i) (turns_of (same i)))))
 
-pub returns-then-not-has_open-clause-work : goal.returns-then-not-has_open-clause-work
-returns-then-not-has_open-clause-work g c = λ counted. omega arith
+pub returns-then-idle-clause-work : goal.returns-then-idle-clause-work
+returns-then-idle-clause-work g c = λ counted. omega (arith, c.is_idle.ensures.work counted)

@@ -1,4 +1,4 @@
-use Rattle.std.proofs.Common.{◌∙◌, subst}
+use Rattle.std.proofs.Common.{subst}
 use Rattle.drf_gates.specs.Quota.{IsAllowanceOf}
 use Rattle.drf_rows.specs.declared.rows.Rows.{Rows}
 use Rattle.drf_core.proofs.drafting.Granted.{no_limits}
@@ -8,11 +8,6 @@ pub returns-then-not-has_limits-clause-quota : goal.returns-then-not-has_limits-
 returns-then-not-has_limits-clause-quota c =
     no_limits c.args.tables.now.rows.limits c.has_limits.result c.has_limits.ensures c.if-not-has_limits.true
 
--- a copy consumes as much
+-- what is lent counts
 pub returns-clause-quota : goal.returns-clause-quota
-returns-clause-quota c =
-    let its = subst (λ (rows : Rows). IsAllowanceOf rows c.quota.result.now) c.count_consumption.ensures.same c.quota.ensures in
-    record {
-      limits = c.in_ok-quota.ensures.limits ∙ its.limits;
-      used = λ test label. c.in_ok-quota.ensures.used test label ∙ its.used test label;
-    }
+returns-clause-quota c = subst (λ (rows : Rows). IsAllowanceOf rows c.in_ok-quota.quota) c.count_consumption.ensures.same c.in_ok-quota.ensures.quota

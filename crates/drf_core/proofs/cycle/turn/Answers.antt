@@ -33,6 +33,11 @@ fix_order-requires g c =
     let offers = c.args.drafts.now.offers in
     sound_now (g.S.Sorter.content c.args.sorter.now) c.args.tables.now.rows offers.items c.requires.drafting (omega (arith, offers.ok.0, offers.ok.1, offers.small))
 
+pub new-free-requires : goal.new-free-requires
+new-free-requires g c =
+    let agent = element_at c.args.tables.now.rows.agents c.args.place c.requires.place in
+    c.is_worth_an_offer.ensures agent.0 agent.1 ∙ ap is_allocatable (sym (c.in_ok-bundle.ensures.same ∙ c.free.ensures agent.0 agent.1))
+
 pub loop-sorter-init : goal.loop-sorter-init
 loop-sorter-init g c =
     let rows : Rows = c.args.tables.now.rows in
@@ -46,7 +51,7 @@ loop-sorter-init g c =
       free = record {
         agent = agent.0;
         at = ap (λ as'. slice_get as' c.args.place) (agents-with_offers rows offers) ∙ agent.1;
-        free = c.new-free.ensures.bundle ∙ c.in_ok-copy.ensures.same ∙ c.free.ensures agent.0 agent.1
+        free = c.new-free.ensures.bundle ∙ c.in_ok-bundle.ensures.same ∙ c.free.ensures agent.0 agent.1
             ∙ sym (free-before rows offers c.args.drafts.now.lefts.items c.args.place agent.0 c.requires.left agent.1);
       };
       quota = c.requires.quota;

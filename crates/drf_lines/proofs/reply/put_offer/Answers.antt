@@ -6,7 +6,4 @@ use Rattle.drf_lines.proofs.reply.put_offer.Goals as goal
 pub returns-clause-ok : goal.returns-clause-ok
 unfolding escape_byte
 returns-clause-ok c =
-    on_ok_weaker c.put_byte.result (λ end.
-    then c.args.line.now.items _ _ (rw c.text.ensures.text at c.in_ok-put_text.ensures.ok) (then c.put_text.new.line.items _ _ (rw c.text-2.ensures.text at c.in_ok-put_text-2.ensures.ok)
-    (then c.put_text-2.new.line.items _ _ c.in_ok-put_number.ensures.ok (then c.put_number.new.line.items _ _ c.in_ok-put_bundle.ensures.ok
-    (then c.put_bundle.new.line.items _ _ (rw c.text-3.ensures.text at c.in_ok-put_text-3.ensures.ok) end))))) c.put_byte.ensures.ok
+    on_ok_weaker c.put_byte.result (λ end. then c.args.line.now.items _ _ c.in_ok-put_name.ensures.ok (then c.put_name.new.line.items _ _ c.in_ok-put_name-2.ensures.ok (then c.put_name-2.new.line.items _ _ c.in_ok-put_number.ensures.ok (then c.put_number.new.line.items _ _ c.in_ok-put_bundle.ensures.ok (then c.put_bundle.new.line.items _ _ c.in_ok-put_role.ensures.ok end))))) c.put_byte.ensures.ok

@@ -1,4 +1,4 @@
-use Rattle.std.proofs.Common.{◌≡◌, ℕ, Option, Some, ◌∷◌, ◌<◌, List, length, sym, ap, ◌∙◌, subst, refl, arith}
+use Rattle.std.proofs.Common.{◌≡◌, ℕ, Option, Some, ◌∷◌, ◌<◌, List, length, slice_set, sym, ap, ◌∙◌, subst, refl, arith}
 use Rattle.std.specs.List.{AllByRecursion}
 use Rattle.std.specs.Vec.Iter.{into_iter_items}
 use Rattle.indexmap.specs.Layout.{length-set_value_at}
@@ -16,7 +16,7 @@ loop-left-preserved c =
     let rest : List Left = into_iter_items c.next.new.self in
     let split : into_iter_items at.left-iterator ≡ left ∷ rest = c.in-Some.ensures.steps.0 in
     let was : Agent = c.index_mut.result.now in
-    let now : Agent = record was { free = Some left.free } in
+    let now : Agent = record was { free = Some c.new.result } in
     record {
       rows = rows-set_free at.agents.entries left.agent was now c.index_mut.ensures.value refl refl ∙ at.invariant.rows;
       places =
@@ -24,7 +24,8 @@ loop-left-preserved c =
           subst (AllByRecursion (λ (l : Left). l.agent < length at.agents.entries)) split at.invariant.places in
           subst (λ (n : ℕ). AllByRecursion (λ (l : Left). l.agent < n) rest)
           (sym (length-set_value_at at.agents.entries left.agent now)) within.1;
-      free = ap (λ (frees : List (Option (List Resource))). known_after frees rest) (frees-set at.agents.entries left.agent now)
+      free = ap (λ (frees : List (Option (List Resource))). known_after frees rest)
+          (frees-set at.agents.entries left.agent now ∙ ap (λ free. slice_set (frees_in at.agents.entries) left.agent (Some free)) c.new.ensures)
           ∙ sym (ap (known_after (frees_in at.agents.entries)) split) ∙ at.invariant.free;
       number =
           let was = at.invariant.number in
@@ -40,7 +41,7 @@ loop-left-preserved-in-Some c =
     let rest : List Left = into_iter_items c.next.new.self in
     let split : into_iter_items at.left-iterator ≡ left ∷ rest = c.in-Some.ensures.steps.0 in
     let was : Agent = c.index_mut.result.now in
-    let now : Agent = record was { free = Some left.free } in
+    let now : Agent = record was { free = Some c.new.result } in
     record {
       rows = rows-set_free at.agents.entries left.agent was now c.index_mut.ensures.value refl refl ∙ at.invariant.rows;
       places =
@@ -48,7 +49,8 @@ loop-left-preserved-in-Some c =
           subst (AllByRecursion (λ (l : Left). l.agent < length at.agents.entries)) split at.invariant.places in
           subst (λ (n : ℕ). AllByRecursion (λ (l : Left). l.agent < n) rest)
           (sym (length-set_value_at at.agents.entries left.agent now)) within.1;
-      free = ap (λ (frees : List (Option (List Resource))). known_after frees rest) (frees-set at.agents.entries left.agent now)
+      free = ap (λ (frees : List (Option (List Resource))). known_after frees rest)
+          (frees-set at.agents.entries left.agent now ∙ ap (λ free. slice_set (frees_in at.agents.entries) left.agent (Some free)) c.new.ensures)
           ∙ sym (ap (known_after (frees_in at.agents.entries)) split) ∙ at.invariant.free;
       number =
           let was = at.invariant.number in

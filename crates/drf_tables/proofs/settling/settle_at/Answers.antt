@@ -26,13 +26,13 @@ returns-then-is_some-clause-settled c =
 pub returns-clause-rows : goal.returns-clause-rows
 returns-clause-rows c =
     let v : Agent = c.index_mut.result.now in
-    rows-set_free c.args.agents.now.entries c.args.place v (record v { free = Some c.in_ok-free.free }) c.index_mut.ensures.value refl refl
+    rows-set_free c.args.agents.now.entries c.args.place v (record v { free = Some c.new.result }) c.index_mut.ensures.value refl refl
 
 pub returns-clause-known : goal.returns-clause-known
 returns-clause-known c =
     let entries = c.args.agents.now.entries in
     let place = c.args.place in
-    let free = c.in_ok-free.free in
+    let free = c.new.result in
     let e : Text × Agent = (c.unwrap.result.0.now, c.unwrap.result.1.now) in
     let at : slice_get entries place ≡ Some e = sym (rw c.unwrap.ensures at c.get_index.ensures.entry) in
     let value : slice_get (values_of entries) place ≡ Some e.1 =
@@ -40,15 +40,15 @@ returns-clause-known c =
     let there : slice_get (values_of entries) place ≡ Some c.index_mut.result.now = c.index_mut.ensures.value in
     let same : e.1 ≡ c.index_mut.result.now = cc in
     subst (λ (a : Agent). AllByRecursion (IsKnown (holdings_in c.args.holdings.now)) (set_value_at entries place (record a { free = Some free }))) same
-    (known-set (holdings_in c.args.holdings.now) entries place e free at c.requires.known c.in_ok-free.ensures)
+    (known-set (holdings_in c.args.holdings.now) entries place e free at c.requires.known (c.new.ensures ∙ c.in_ok-free.ensures))
 
 pub returns-clause-settled : goal.returns-clause-settled
 returns-clause-settled c =
     let v : Agent = c.index_mut.result.now in
-    settled-set c.args.agents.now.entries c.args.place v (record v { free = Some c.in_ok-free.free }) c.requires.settled
+    settled-set c.args.agents.now.entries c.args.place v (record v { free = Some c.new.result }) c.requires.settled
     c.index_mut.ensures.value refl
 
 pub returns-clause-number : goal.returns-clause-number
 returns-clause-number c =
     let v : Agent = c.index_mut.result.now in
-    length-set_value_at c.args.agents.now.entries c.args.place (record v { free = Some c.in_ok-free.free })
+    length-set_value_at c.args.agents.now.entries c.args.place (record v { free = Some c.new.result })

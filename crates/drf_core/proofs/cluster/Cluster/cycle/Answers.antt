@@ -2,6 +2,7 @@ use Rattle.std.proofs.Common.{◌≡◌, List, map, ap, sym, ◌∙◌, arith}
 use Rattle.std.specs.Prelude.{max}
 use Rattle.drf_rows.specs.Step.{line_told, new_offers, effect}
 use Rattle.drf_rows.specs.declared.event.Event.TheVariants.{Cycle}
+use Rattle.drf_rows.specs.declared.reply.Reply.TheVariants.{Offers}
 use Rattle.drf_rows.specs.declared.rows.Rows.{Rows}
 use Rattle.drf_core.specs.Content.{content_of}
 use Rattle.drf_rows.specs.declared.rows.OfferRow.{OfferRow}
@@ -46,12 +47,12 @@ turned g c =
 pub returns-in-Ok-clause-ok : goal.returns-in-Ok-clause-ok
 returns-in-Ok-clause-ok g c = rw (← c.self.view_is) (c.in-Ok.ensures.ok ∙ turned g (goal.at.returns-in-Ok-clause-ok g c).After-offer_all)
 
-pub returns-in-Ok-clause-lines : goal.returns-in-Ok-clause-lines
-returns-in-Ok-clause-lines g c =
+pub returns-in-Ok-clause-reply : goal.returns-in-Ok-clause-reply
+returns-in-Ok-clause-reply g c =
     let rows : Rows = c.self.inside.tables.rows in
-    rw (← c.self.view_is) (c.in-Ok.ensures.lines
-    ∙ ap (map line_told) (new_offers-cycle rows c.set_clock.new.self.rows c.max.result (turns_of c.set_clock.new.self.rows) c.set_clock.ensures
-    ∙ ap (new_offers rows) (turned g (goal.at.returns-in-Ok-clause-lines g c).After-offer_all)))
+    rw (← c.self.view_is) (c.in-Ok.ensures.reply
+    ∙ ap (λ os. Offers (map line_told os)) (new_offers-cycle rows c.set_clock.new.self.rows c.max.result (turns_of c.set_clock.new.self.rows) c.set_clock.ensures
+    ∙ ap (new_offers rows) (turned g (goal.at.returns-in-Ok-clause-reply g c).After-offer_all)))
 
 pub returns-in-Ok-clause-work : goal.returns-in-Ok-clause-work
 returns-in-Ok-clause-work g c =

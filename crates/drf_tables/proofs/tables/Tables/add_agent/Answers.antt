@@ -57,7 +57,7 @@ invariant_of-self-2 c =
     let t = c.self.inside in
     let name = c.args.name in
     let total : List Resource = c.args.total in
-    let agent : Agent = record { total = total; active = true; free = Some c.in_ok-free.free } in
+    let agent : Agent = record { total = total; active = true; free = Some c.new.result } in
     let new : has_agent (rows_in t) name ≡ false =
     ap (λ (s : Stored). has_agent s.rows name) c.self.view_is ∙ c.requires.new in
     let few : length (rows_in t).agents < 4096 = subst (λ (s : Stored). length s.rows.agents < 4096) (sym c.self.view_is) c.requires.few in
@@ -72,7 +72,7 @@ invariant_of-self-2 c =
     rows_of entries t.frameworks.entries t.holdings t.filters t.weights.entries limits t.clock t.next_offer t.events in
     let told : rows t.quota.limits ≡ agent_added (rows_in t) name total = rows_of-agent t entries name agent new inserted refl in
     let last = last_agent t entries name agent new inserted in
-    let all : agent.free ≡ Some total = ap (λ (free : List Resource). Some free) c.in_ok-free.ensures.same in
+    let all : agent.free ≡ Some total = ap (λ (free : List Resource). Some free) (c.new.ensures ∙ c.in_ok-free.ensures.same) in
     let right : IsAgent (new_agent name total) = record {
       total = c.quantities.ensures.bundle;
       small = c.requires.small;
@@ -94,7 +94,7 @@ pub returns-clause-ok : goal.returns-clause-ok
 returns-clause-ok c =
     let t = c.self.inside in
     let name = c.args.name in
-    let agent : Agent = record { total = c.args.total; active = true; free = Some c.in_ok-free.free } in
+    let agent : Agent = record { total = c.args.total; active = true; free = Some c.new.result } in
     let new : has_agent (rows_in t) name ≡ false =
     ap (λ (s : Stored). has_agent s.rows name) c.self.view_is ∙ c.requires.new in
     let inserted : c.insert.new.self.entries ≡ insert_entry same_text t.agents.entries name agent =

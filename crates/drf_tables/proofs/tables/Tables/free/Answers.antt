@@ -21,6 +21,7 @@ returns c = λ a at.
     ap (λ (s : Stored). slice_get s.rows.agents c.args.place) c.self.view_is ∙ at in
     let there : c.index.result.now.free ≡ Some c.unwrap.result.now =
     sym c.as_ref.ensures.value ∙ ap option_copied c.unwrap.ensures in
-    free_of-at (rows_in t) t.agents.entries c.args.place c.index.result.now a c.unwrap.result.now
+    c.bundle.ensures
+    ∙ free_of-at (rows_in t) t.agents.entries c.args.place c.index.result.now a c.unwrap.result.now
     c.self.invariant.kept.free c.index.ensures row there
     ∙ ap (λ (s : Stored). free_of s.rows a) c.self.view_is

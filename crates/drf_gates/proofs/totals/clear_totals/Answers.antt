@@ -1,1 +1,0 @@
-use Rattle.drf_gates.proofs.totals.clear_totals.Goals as goal

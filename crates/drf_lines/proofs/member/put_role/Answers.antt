@@ -1,0 +1,12 @@
+use Rattle.std.proofs.Common.{ap, sym, ◌∙◌}
+use Rattle.drf_role.specs.Parts.{parts_of}
+use Rattle.drf_lines.proofs.Texts.{holds_at_ok, role_read}
+use Rattle.drf_lines.proofs.member.put_role.Goals as goal
+
+pub returns-clause-ok : goal.returns-clause-ok
+returns-clause-ok c = rw c.text.ensures.text at c.put_text.ensures.ok
+
+pub returns-clause-read : goal.returns-clause-read
+returns-clause-read c =
+    holds_at_ok c.put_text.result _
+    (role_read c.args.role.now c.text.ensures.right (ap parts_of (sym c.text.ensures.text) ∙ c.text.ensures.parts))

@@ -122,6 +122,12 @@ sorted_anew cs sorted =
     (nat_cmp (slice_index_or cs j d).node (slice_index_or cs i d).node)
     (sorted_far (λ a b. is_lt (child_order a b)) (ranks_by child_total (λ (c : Child). c)) cs sorted i j d (omega (arith, order)) below))
 
+-- fewer than two are
+pub sorted_few : (cs : List Child) → length cs ≤ 1 → are_sorted cs ≡ true
+sorted_few [] few = refl
+sorted_few (c ∷ []) few = refl
+sorted_few (c ∷ d ∷ cs) few = absurd (omega (arith, few))
+
 -- those that are before a key stand before all others
 pub parted : (children : List Child) (key : made.Key) → are_sorted children ≡ true
     → IsPartitionedBy (λ c. is_before c.key key) children

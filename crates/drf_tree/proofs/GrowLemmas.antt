@@ -15,7 +15,7 @@ use Rattle.drf_tree.specs.Changes.{IsOneLonger}
 use Rattle.drf_tree.specs.Family.{child_name}
 use Rattle.drf_tree.specs.Marks.{work_of}
 use Rattle.drf_tree.specs.Nodes.{children_at, client_at, is_live, is_node, path_at}
-use Rattle.drf_tree.specs.Tree.{IsTreeOf}
+use Rattle.drf_tree.specs.Tree.{IsTotalFree, IsTreeOf}
 use Rattle.drf_tree.proofs.ClimbLemmas.{node_from_live}
 use Rattle.drf_tree.proofs.FindLemmas.{no_such, not_below, take_one_more, take_whole}
 use Rattle.drf_tree.proofs.PathLemmas.{begins_by}
@@ -59,6 +59,7 @@ read_front {X} xs i x at =
 -- the loop stands at the node of the first parts, `i` of them
 pub record IsGrowing (content : Content) (old now : Tree) (path : Path) (node i : ℕ) : Type 0 where
   pub tree : IsTreeOf content now
+  pub free : IsTotalFree content old → IsTotalFree content now
   pub there : is_node now.places.items node ≡ true
   pub at : path_at now.places.items node ≡ take i path
   pub work : debt (work_of now.marks) ≤ debt (work_of old.marks) + i
@@ -67,6 +68,7 @@ pub record IsGrowing (content : Content) (old now : Tree) (path : Path) (node i 
 pub grow_start : (content : Content) (tree : Tree) (path : Path) → IsTreeOf content tree → IsGrowing content tree tree path 0 0
 grow_start content tree path of = record {
   tree = of;
+  free = λ free. free;
   there = refl;
   at = top_is tree.places.items tree.families.items tree.marks.stale tree.sums.items of.shape;
   work = omega arith;
@@ -74,11 +76,12 @@ grow_start content tree path of = record {
 }
 
 pub grow_step : (content : Content) (old now new : Tree) (path : Path) (node i child : ℕ) → IsGrowing content old now path node i
-    → IsTreeOf content new → is_live new.places.items child ≡ true → path_at new.places.items child ≡ take (i + 1) path
+    → IsTreeOf content new → (IsTotalFree content now → IsTotalFree content new) → is_live new.places.items child ≡ true → path_at new.places.items child ≡ take (i + 1) path
     → debt (work_of new.marks) ≤ debt (work_of now.marks) + 1 → now.marks.made ≤ new.marks.made
     → IsGrowing content old new path child (i + 1)
-grow_step content old now new path node i child so of live at work made = record {
+grow_step content old now new path node i child so of free live at work made = record {
   tree = of;
+  free = λ was. free (so.free was);
   there = node_from_live new.places.items child live;
   at = at;
   work = omega (arith, work, so.work);

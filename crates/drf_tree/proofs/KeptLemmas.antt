@@ -1,6 +1,7 @@
 -- A sorter is kept where its walk stands over the same places and families.
 use Rattle.std.specs.Prelude.{◌≡◌, Bool, true, false, cond, List, [], ◌∷◌, Option, filter, map}
 use Rattle.std.proofs.Common.{ap, arith, refl, subst, sym, ◌∙◌}
+use Rattle.std.proofs.lemmas.Bool.{false≢true}
 use Rattle.drf_role.specs.Path.{Path, same_path}
 use Rattle.drf_sorter.specs.Content.{Content, Ranked, active_paths, with_change}
 use Rattle.drf_sorter.specs.Plain.{plain_content}
@@ -13,16 +14,21 @@ use Rattle.drf_tree.specs.declared.walk.Walk.{Walk}
 use Rattle.drf_tree.specs.Nodes.{family_at, path_at}
 use Rattle.drf_tree.specs.Queue.{AreFrames, IsSettled, frames_queue, most_parts, pending, queue_in}
 use Rattle.drf_tree.specs.Sorter.{IsKept}
-use Rattle.drf_tree.specs.Tree.{IsTreeOf}
+use Rattle.drf_tree.specs.Tree.{IsTotalFree, IsTreeOf}
 use Rattle.drf_tree.specs.Walk.{own}
 use Rattle.drf_tree.proofs.ContentLemmas.{step}
 
-pub kept_by : (ledger : PlainSorter) (content : Content) → plain_content ledger ≡ content → (old new : Tree) (walk : Walk)
-    → IsTreeOf content new → new.places ≡ old.places → new.families ≡ old.families
+-- nothing is said of a tree that hangs on the total
+pub total_counts : (content : Content) (tree : Tree) → false ≡ true → IsTotalFree content tree
+total_counts content tree on = absurd (false≢true on)
+
+pub kept_by : (ledger : PlainSorter) (content : Content) → plain_content ledger ≡ content → (old new : Tree) (walk : Walk) (is_free : Bool)
+    → IsTreeOf content new → (is_free ≡ true → IsTotalFree content new) → new.places ≡ old.places → new.families ≡ old.families
     → AreFrames old.places.items walk.frames.items → IsSettled content old.places.items old.families.items walk.frames.items
-    → IsKept ledger new walk
-kept_by ledger content is old new walk of places families are settled = record {
+    → IsKept ledger new walk is_free
+kept_by ledger content is old new walk is_free of free places families are settled = record {
   of_ledger = subst (λ (k : Content). IsTreeOf k new) (sym is) of;
+  free = λ on. subst (λ (k : Content). IsTotalFree k new) (sym is) (free on);
   frames = subst (λ (v : _). AreFrames v.items walk.frames.items) (sym places) are;
   settled = subst (λ (k : Content). IsSettled k new.places.items new.families.items walk.frames.items) (sym is)
       (subst (λ (v : _). IsSettled content v.items new.families.items walk.frames.items) (sym places)
@@ -93,19 +99,18 @@ queue_stays old new same tree now places families frames =
     λ i. pending (same i) (path_at (places i).items) (family_at (families i).items) most_parts frames
 
 pub kept_along : (ledger : PlainSorter) (old content : Content) → plain_content ledger ≡ content
-    → active_paths content ≡ active_paths old → (tree new : Tree) (walk : Walk)
-    → IsTreeOf content new → new.places ≡ tree.places → new.families ≡ tree.families
+    → active_paths content ≡ active_paths old → (tree new : Tree) (walk : Walk) (is_free : Bool)
+    → IsTreeOf content new → (is_free ≡ true → IsTotalFree content new) → new.places ≡ tree.places → new.families ≡ tree.families
     → AreFrames tree.places.items walk.frames.items → IsSettled old tree.places.items tree.families.items walk.frames.items
-    → IsKept ledger new walk
-kept_along ledger old content is same tree new walk of places families are settled =
-    kept_by ledger content is tree new walk of places families are
+    → IsKept ledger new walk is_free
+kept_along ledger old content is same tree new walk is_free of free places families are settled =
+    kept_by ledger content is tree new walk is_free of free places families are
     (settled_along old content tree.places.items tree.families.items (sym same) walk.frames.items settled)
 
 -- a walk that was stopped is settled
-pub stopped : (ledger : PlainSorter) (tree : Tree) (walk : Walk) → walk.frames.items ≡ [] → IsTreeOf (plain_content ledger) tree
-    → IsKept ledger tree walk
-stopped ledger tree walk none of = record {
-  of_ledger = of;
-  frames = subst (AreFrames tree.places.items) (sym none) record { few = omega arith; nodes = tt; deep = λ k frame at. absurd cc; nested = tt };
-  settled = subst (IsSettled (plain_content ledger) tree.places.items tree.families.items) (sym none) tt;
-}
+pub stopped : (ledger : PlainSorter) (content : Content) → plain_content ledger ≡ content → (tree : Tree) (walk : Walk) (is_free : Bool)
+    → walk.frames.items ≡ [] → IsTreeOf content tree → (is_free ≡ true → IsTotalFree content tree) → IsKept ledger tree walk is_free
+stopped ledger content is tree walk is_free none of free =
+    kept_by ledger content is tree tree walk is_free of free refl refl
+    (subst (AreFrames tree.places.items) (sym none) record { few = omega arith; nodes = tt; deep = λ k frame at. absurd cc; nested = tt })
+    (subst (IsSettled content tree.places.items tree.families.items) (sym none) tt)

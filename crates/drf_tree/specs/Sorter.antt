@@ -1,5 +1,5 @@
 -- What a sorter over a tree holds.
-use Rattle.std.specs.Prelude.{ℕ, List, refl}
+use Rattle.std.specs.Prelude.{◌≡◌, ℕ, Bool, true, List, refl}
 use Rattle.std.specs.Coded.{Coded, code_by, coded×, coded_list, coded_ℕ}
 use Rattle.drf_role.specs.Path.{Path}
 use Rattle.drf_sorter.specs.Plain.{plain_content}
@@ -9,7 +9,7 @@ use Rattle.drf_sorter.specs.declared.plain.PlainSorter.{PlainSorter}
 use Rattle.drf_tree.specs.declared.tree.Tree.{Tree}
 use Rattle.drf_tree.specs.declared.walk.Walk.{Walk}
 use Rattle.drf_tree.specs.Queue.{AreFrames, IsSettled}
-use Rattle.drf_tree.specs.Tree.{IsTreeOf}
+use Rattle.drf_tree.specs.Tree.{IsTotalFree, IsTreeOf}
 
 -- the clients, those of the last order that are still to be served, and the work that was done
 pub record Sorted : Type 0 where
@@ -26,7 +26,8 @@ sorted_code =
     (λ p. record { ledger = p.0; queue = p.1.0; work = record { made = p.1.1.0; marked = p.1.1.1 } }) (λ _. refl)
 
 -- the tree is that of the clients in the ledger, and the walk stands at one that is to be served, if at any
-pub record IsKept (ledger : PlainSorter) (tree : Tree) (walk : Walk) : Type 0 where
+pub record IsKept (ledger : PlainSorter) (tree : Tree) (walk : Walk) (is_total_free : Bool) : Type 0 where
   pub of_ledger : IsTreeOf (plain_content ledger) tree
+  pub free : is_total_free ≡ true → IsTotalFree (plain_content ledger) tree
   pub frames : AreFrames tree.places.items walk.frames.items
   pub settled : IsSettled (plain_content ledger) tree.places.items tree.families.items walk.frames.items

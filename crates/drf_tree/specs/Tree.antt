@@ -2,6 +2,7 @@
 use Rattle.std.specs.Prelude.{◌≡◌, ◌<◌, ℕ, Bool, true, false, List, [], ◌∷◌, ◌++◌, Option, None, Some, ◌⊎◌, length, map, filter, slice_get, slice_index_or}
 use Rattle.std.specs.List.{AllByRecursion, IsDistinct, list_any}
 use Rattle.drf_bundle.specs.Quantities.{amount_of}
+use Rattle.drf_bundle.specs.declared.quantities.Entry.{Entry}
 use Rattle.drf_role.specs.Text.{Text, same_text}
 use Rattle.drf_role.specs.Path.{Path, IsClientPath, IsNodePath, same_path}
 use Rattle.drf_rows.specs.Held.{weight_of}
@@ -95,6 +96,10 @@ pub record IsTreeOf (content : Content) (tree : Tree) : Type 0 where
   pub sums : AreSums content tree.places.items tree.sums.items
   pub complete : IsComplete content tree.places.items tree.families.items
   pub right : AreRight content tree.places.items tree.families.items tree.marks.stale
+
+-- the tree is that of a content with any other total too
+abbrev pub IsTotalFree : Content → Tree → Type 0
+IsTotalFree content tree = (total : List Entry) → IsTreeOf (record content { total = total }) tree
 
 -- all of it, but for the key of one node, which has no mark
 pub record IsTreeBut (node : ℕ) (content : Content) (tree : Tree) : Type 0 where

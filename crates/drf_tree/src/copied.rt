@@ -23,6 +23,7 @@ impl Tree {
             sums: copies_of_sums(alloc, &self.sums)?,
             families: copies_of_families(alloc, &self.families)?,
             marks: self.marks.copy()?,
+            first_free: self.first_free,
         })
     }
 }

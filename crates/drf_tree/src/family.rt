@@ -144,7 +144,7 @@ impl Family {
         ensures work { debt (work_of marks.new) ≤ debt (work_of marks.old) }
     {
         renew_keys(&mut self.children, marks, total, sums);
-        self.children.sort_unstable();
+        sort(&mut self.children);
     }
 
     /// Takes a child out. Its room stays.
@@ -189,6 +189,16 @@ fn renew_keys(children: &mut [Child], marks: &mut Marks, total: &Quantities, sum
 {
     for child in children.iter_mut() {
         child.renew_if_marked(marks, total, sums);
+    }
+}
+
+/// Puts the children into the order of their keys. Most families have no child, or one.
+fn sort(children: &mut Vec<Child>)
+    ensures same { IsPermutation children.old.items children.new.items }
+    ensures sorted { IsTrue (are_sorted children.new.items) }
+{
+    if children.len() > 1 {
+        children.sort_unstable();
     }
 }
 

@@ -7,7 +7,7 @@ ghost use Rattle.drf_sorter.specs.Work.{debt};
 ghost use Rattle.drf_tree.specs.Changes.{IsLeast, IsOneLonger, IsShapeOf, OnWay};
 ghost use Rattle.drf_tree.specs.Marks.{work_of};
 ghost use Rattle.drf_tree.specs.Nodes.{client_at, is_live, is_node, path_at, place_at};
-ghost use Rattle.drf_tree.specs.Tree.{IsTreeOf};
+ghost use Rattle.drf_tree.specs.Tree.{IsTotalFree, IsTreeOf};
 
 use crate::node::Sum;
 use crate::tree::{ROOT, Tree};
@@ -25,6 +25,7 @@ impl Tree {
     ) -> Result<usize, AllocError>
         requires tree { IsTreeOf (plain_content ledger.now) self.old }
         ensures tree { IsTreeOf (plain_content ledger.now) self.new }
+        ensures free { IsTotalFree (plain_content ledger.now) self.old → IsTotalFree (plain_content ledger.now) self.new }
         ensures live { IfOk result (λ leaf. is_live self.new.places.items leaf ≡ true) }
         ensures client { IfOk result (λ leaf. client_at self.new.places.items leaf ≡ Some path.now) }
         ensures made { self.old.marks.made ≤ self.new.marks.made }
@@ -57,6 +58,7 @@ impl Tree {
         requires there { is_node self.old.places.items node ≡ true }
         requires above { path_at self.old.places.items node ≡ take i path.now }
         ensures tree { IsTreeOf (plain_content ledger.now) self.new }
+        ensures free { IsTotalFree (plain_content ledger.now) self.old → IsTotalFree (plain_content ledger.now) self.new }
         ensures path { IfOk result (λ child. path_at self.new.places.items child ≡ take (i + 1) path.now) }
         ensures live { IfOk result (λ child. is_live self.new.places.items child ≡ true) }
         ensures err { OnErr result ((i : ℕ) → place_at self.new.places.items i ≡ place_at self.old.places.items i) }
@@ -86,6 +88,7 @@ impl Tree {
         requires missing { (i : ℕ) → is_live self.old.places.items i ≡ true → path_at self.old.places.items i ≢ take len path.now }
         requires nobody { has_node (plain_content ledger.now) (take len path.now) ≡ false }
         ensures tree { IsTreeOf (plain_content ledger.now) self.new }
+        ensures free { IsTotalFree (plain_content ledger.now) self.old → IsTotalFree (plain_content ledger.now) self.new }
         ensures path { IfOk result (λ node. path_at self.new.places.items node ≡ take len path.now) }
         ensures live { IfOk result (λ node. is_live self.new.places.items node ≡ true) }
         ensures err { OnErr result ((i : ℕ) → place_at self.new.places.items i ≡ place_at self.old.places.items i) }

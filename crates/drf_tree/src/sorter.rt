@@ -17,6 +17,8 @@ pub struct TreeSorter {
     /// The node of each client, row by row of the ledger.
     leaves: Vec<usize>,
     walk: Walk,
+    /// Whether the tree is right whatever the total is, as all is marked that hangs on it.
+    is_total_free: bool,
 }
 
 impl Model for TreeSorter {
@@ -35,7 +37,7 @@ impl Model for TreeSorter {
       work = work_of s.tree.marks;
     } };
 
-    ghost invariant = { λ s. IsKept s.ledger s.tree s.walk };
+    ghost invariant = { λ s. IsKept s.ledger s.tree s.walk s.is_total_free };
 }
 
 impl Sorter for TreeSorter {
@@ -58,6 +60,7 @@ impl Sorter for TreeSorter {
             tree: Tree::open(alloc)?,
             leaves: Vec::new(alloc),
             walk: Walk::open(alloc)?,
+            is_total_free: false,
         })
     }
 
@@ -104,6 +107,7 @@ impl Sorter for TreeSorter {
         let Some(node) = self.tree.leaf(known, path) else {
             return Ok(());
         };
+        self.is_total_free = false;
         self.tree.name_labels(node, quantities)?;
         self.ledger.charge(path, quantities)?;
         self.tree.charge(node, quantities);
@@ -116,6 +120,7 @@ impl Sorter for TreeSorter {
         let Some(node) = self.tree.leaf(known, path) else {
             return;
         };
+        self.is_total_free = false;
         self.tree.lower(node, quantities, 1);
     }
 
@@ -130,7 +135,11 @@ impl Sorter for TreeSorter {
 
     fn set_total(&mut self, total: Quantities) {
         self.ledger.set_total(total);
+        if self.is_total_free {
+            return;
+        }
         self.tree.mark_all();
+        self.is_total_free = true;
     }
 
     fn set_weight(&mut self, role: &Role, weight: u64) -> Result<(), AllocError> {
@@ -143,6 +152,7 @@ impl Sorter for TreeSorter {
     }
 
     fn fix_order(&mut self) -> Result<(), AllocError> {
+        self.is_total_free = false;
         self.tree.repair(&self.ledger);
         self.walk.start(&self.tree);
         Ok(())
@@ -184,6 +194,7 @@ impl Sorter for TreeSorter {
             tree: self.tree.copy()?,
             leaves: Vec::from_slice(*self.leaves.allocator(), self.leaves.as_slice())?,
             walk: self.walk.copy()?,
+            is_total_free: false,
         })
     }
 }

@@ -34,6 +34,8 @@ pub(crate) struct Tree {
     pub sums: Vec<Sum>,
     pub families: Vec<Family>,
     pub marks: Marks,
+    /// Where the search for a free number begins, as none below is free. No clause says so.
+    pub first_free: usize,
 }
 
 impl Tree {
@@ -47,6 +49,7 @@ impl Tree {
             sums: Vec::new(alloc),
             families: Vec::new(alloc),
             marks: Marks::new(alloc),
+            first_free: ROOT,
         };
         tree.push()?;
         Ok(tree)
@@ -127,7 +130,7 @@ impl Tree {
         ensures tree { (content : Content) → IsTreeOf content self.old → IsTreeOf content self.new }
         ensures work { work_of self.new.marks ≡ work_of self.old.marks }
     {
-        let free = free_place(&self.places);
+        let free = free_place(&self.places, self.first_free);
         if free == self.places.len() {
             self.push()?;
         }
@@ -257,6 +260,7 @@ impl Tree {
             parent,
             client,
         });
+        self.first_free = node + 1;
         Ok(node)
     }
 
@@ -302,16 +306,17 @@ impl Tree {
         self.families[parent].remove(node);
         self.marks.forget(node);
         self.places[node] = None;
+        self.first_free = self.first_free.min(node);
     }
 }
 
-/// The first free number but the root's, or that of one more.
-fn free_place(places: &[Option<Place>]) -> usize
+/// The first free number from this one on, but the root's, or that of one more.
+fn free_place(places: &[Option<Place>], from: usize) -> usize
     requires { 0 < length places.now }
     ensures within { result ≤ length places.now }
     ensures free { is_node places.now result ≡ false }
 {
-    for node in 1..places.len() {
+    for node in from.max(1)..places.len() {
         if places[node].is_none() {
             return node;
         }

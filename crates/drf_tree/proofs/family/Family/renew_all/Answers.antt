@@ -6,7 +6,6 @@ use Rattle.std.proofs.lemmas.List.Sorted.{IsPermutation-map}
 use Rattle.drf_role.specs.Text.{Text}
 use Rattle.drf_tree.specs.declared.family.Child.{Child}
 use Rattle.drf_tree.specs.Family.{IsFresh, known}
-use Rattle.drf_tree.proofs.FamilyLemmas.{sorted_anew}
 use Rattle.drf_tree.proofs.SameFamily.{each_moved}
 use Rattle.drf_tree.proofs.family.Family.renew_all.Goals as goal
 
@@ -19,24 +18,24 @@ sorted_is old mid new n long same moved =
     (ap (λ (k : ℕ). take k (mid ++ drop (length mid) old)) as_long ∙ take-append_seam mid (drop (length mid) old)) moved
 
 pub invariant_of-self : goal.invariant_of-self
-invariant_of-self c = record { sorted = sorted_anew c.sort_unstable.new.self.items c.sort_unstable.ensures.sorted }
+invariant_of-self c = record { sorted = c.sort.ensures.sorted }
 
 pub returns-clause-same : goal.returns-clause-same
 returns-clause-same c =
     let self = c.args.self.now.children in
     let mid = c.renew_keys.new.children in
-    let new = c.sort_unstable.new.self.items in
+    let new = c.sort.new.children.items in
     let same : map known mid ≡ map known self.items = c.renew_keys.ensures.same ∙ ap (map known) c.deref_mut.ensures.value in
     subst (λ (ks : List (ℕ × Text)). IsPermutation ks (map known new)) same
     (IsPermutation-map known mid new
-    (sorted_is self.items mid new self.len (omega (arith, self.ok.0)) same c.sort_unstable.ensures.permutation))
+    (sorted_is self.items mid new self.len (omega (arith, self.ok.0)) same c.sort.ensures.same))
 
 pub returns-clause-renewed : goal.returns-clause-renewed
 returns-clause-renewed c =
     let self = c.args.self.now.children in
     let mid = c.renew_keys.new.children in
-    let new = c.sort_unstable.new.self.items in
+    let new = c.sort.new.children.items in
     let same : map known mid ≡ map known self.items = c.renew_keys.ensures.same ∙ ap (map known) c.deref_mut.ensures.value in
     each_moved (IsFresh c.args.total.now c.args.sums.now c.args.marks.now.stale self.items) mid new
-    (sorted_is self.items mid new self.len (omega (arith, self.ok.0)) same c.sort_unstable.ensures.permutation)
+    (sorted_is self.items mid new self.len (omega (arith, self.ok.0)) same c.sort.ensures.same)
     (rw c.deref_mut.ensures.value at c.renew_keys.ensures.renewed)

@@ -1,5 +1,7 @@
-use Rattle.std.proofs.Common.{ap, subst, sym, ◌∙◌}
-use Rattle.drf_sorter.specs.Content.{Content, has_client}
+use Rattle.std.specs.Prelude.{List}
+use Rattle.std.proofs.Common.{ap, refl, ◌∙◌}
+use Rattle.drf_bundle.specs.declared.quantities.Entry.{Entry}
+use Rattle.drf_sorter.specs.Content.{has_client, with_client}
 use Rattle.drf_sorter.specs.Plain.{plain_content}
 use Rattle.drf_tree.specs.Sorter.{Sorted}
 use Rattle.drf_tree.specs.Tree.{IsTreeOf}
@@ -10,7 +12,9 @@ use Rattle.drf_tree.proofs.sorter.TreeSorterSorter.add.Goals as goal
 
 pub invariant_of-self-in_err-node : goal.invariant_of-self-in_err-node
 invariant_of-self-in_err-node c =
-    stopped c.self.inside.ledger c.grow.new.self c.stop.new.self c.stop.ensures c.in_err-node.ensures.tree
+    stopped c.self.inside.ledger (plain_content c.self.inside.ledger) refl c.grow.new.self c.stop.new.self c.self.inside.is_total_free
+    c.stop.ensures c.in_err-node.ensures.tree
+    (λ on. c.in_err-node.ensures.free (c.self.invariant.free on))
 
 pub add-requires : goal.add-requires
 add-requires c = ap (λ (s : Sorted). has_client (plain_content s.ledger) c.args.path) c.self.view_is ∙ c.requires
@@ -23,9 +27,10 @@ prune-requires-clause-node c = node_from_live c.grow.new.self.places.items c.in_
 
 pub invariant_of-self-in-Err : goal.invariant_of-self-in-Err
 invariant_of-self-in-Err c =
-    stopped c.add.new.self c.prune.new.self c.stop.new.self c.stop.ensures
-    (subst (λ (k : Content). IsTreeOf k c.prune.new.self) (sym c.in-Err.ensures.err)
-    (c.prune.ensures.tree (plain_content c.self.inside.ledger) c.in_ok-node.ensures.tree))
+    let content = plain_content c.self.inside.ledger in
+    stopped c.add.new.self content c.in-Err.ensures.err c.prune.new.self c.stop.new.self c.self.inside.is_total_free c.stop.ensures
+    (c.prune.ensures.tree content c.in_ok-node.ensures.tree)
+    (λ on total. c.prune.ensures.tree (record content { total = total }) (c.in_ok-node.ensures.free (c.self.invariant.free on) total))
 
 pub admit-requires-clause-fits : goal.admit-requires-clause-fits
 admit-requires-clause-fits c =
@@ -35,7 +40,11 @@ admit-requires-clause-fits c =
 pub invariant_of-self-2 : goal.invariant_of-self-2
 invariant_of-self-2 c =
     let content = plain_content c.self.inside.ledger in
-    stopped c.add.new.self c.admit.new.self c.stop.new.self c.stop.ensures
-    (subst (λ (k : Content). IsTreeOf k c.admit.new.self) (sym c.in_default.ensures.ok)
-    (c.admit.ensures.tree content c.args.path c.in_ok-node.ensures.tree c.in_ok-node.ensures.client
-    (ap (λ (s : Sorted). has_client (plain_content s.ledger) c.args.path) c.self.view_is ∙ c.requires)))
+    let path = c.args.path in
+    let missing = ap (λ (s : Sorted). has_client (plain_content s.ledger) path) c.self.view_is ∙ c.requires in
+    let along : (total : List Entry) → IsTreeOf (record content { total = total }) c.grow.new.self
+    → IsTreeOf (record (with_client content path) { total = total }) c.admit.new.self =
+    λ total of. c.admit.ensures.tree (record content { total = total }) path of c.in_ok-node.ensures.client missing in
+    stopped c.add.new.self (with_client content path) c.in_default.ensures.ok c.admit.new.self c.stop.new.self
+    c.self.inside.is_total_free c.stop.ensures (along content.total c.in_ok-node.ensures.tree)
+    (λ on total. along total (c.in_ok-node.ensures.free (c.self.invariant.free on) total))

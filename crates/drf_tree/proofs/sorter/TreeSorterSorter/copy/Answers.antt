@@ -6,6 +6,7 @@ use Rattle.drf_tree.specs.declared.node.Place.{Place}
 use Rattle.drf_tree.specs.Queue.{AreFrames, IsSettled}
 use Rattle.drf_tree.specs.Tree.{IsTreeOf}
 use Rattle.drf_tree.proofs.CopyLemmas.{settled_copied}
+use Rattle.drf_tree.proofs.KeptLemmas.{total_counts}
 use Rattle.drf_tree.proofs.sorter.TreeSorterSorter.copy.Goals as goal
 
 pub invariant_of-result : goal.invariant_of-result
@@ -21,6 +22,7 @@ invariant_of-result c =
     (sym c.in_ok-copy.ensures.content) c.self.invariant.settled) in
     record {
       of_ledger = c.in_ok-copy-2.ensures.tree content now;
+      free = total_counts content tree;
       frames = subst (λ (ps : List (Option Place)). AreFrames ps frames) (sym c.in_ok-copy-2.ensures.places)
           (subst (AreFrames old.places.items) (sym c.in_ok-copy-3.ensures) c.self.invariant.frames);
       settled = subst (λ (ps : List (Option Place)). IsSettled content ps tree.families.items frames) (sym c.in_ok-copy-2.ensures.places)

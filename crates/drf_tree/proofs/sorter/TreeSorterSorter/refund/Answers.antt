@@ -1,5 +1,7 @@
+use Rattle.std.specs.Prelude.{List}
 use Rattle.std.proofs.Common.{ap, refl, subst, sym, ◌∙◌}
 use Rattle.std.proofs.lemmas.Bool.{false≢true}
+use Rattle.drf_bundle.specs.declared.quantities.Entry.{Entry}
 use Rattle.drf_sorter.specs.Content.{Content, active_paths, Ranked, refunded, HoldsAt, with_change}
 use Rattle.drf_sorter.specs.Plain.{plain_content}
 use Rattle.drf_sorter.specs.declared.plain.PlainSorter.{PlainSorter}
@@ -33,17 +35,23 @@ invariant_of-self-2 c =
     let content = plain_content c.self.inside.ledger in
     let tree = c.self.inside.tree in
     let path = c.args.path.now in
+    let quantities = c.args.quantities.now in
     let ledger = ap (λ (s : Sorted). s.ledger) c.self.view_is in
-    let now : Content = with_change content path (refunded c.args.quantities.now) in
+    let now : Content = with_change content path (refunded quantities) in
     let known = known_in c.self.inside.ledger c.args.self.now.ledger path ledger c.requires.known in
+    let held : HoldsAt content path quantities =
+    subst (λ (l : PlainSorter). HoldsAt (plain_content l) path quantities) (sym ledger) c.requires.held in
+    let along : (total : List Entry) → IsTreeOf (record content { total = total }) tree
+    → IsTreeOf (record now { total = total }) c.lower.new.self =
+    λ total of.
+    let before : Content = record content { total = total } in
+    subst (λ (change : Ranked → Ranked). IsTreeOf (with_change before path change) c.lower.new.self) (lowered_refunded quantities)
+    (c.lower.ensures.tree before path of
+    (leaf_of before tree c.in-Some.node path of known c.in-Some.ensures.live c.in-Some.ensures.at) known
+    (can_refund before path quantities held)) in
     kept_along c.refund.new.self content now c.refund.ensures.content
-    (active_stays path (refunded c.args.quantities.now) (λ d. refl) (λ d. refl) content) tree c.lower.new.self c.self.inside.walk
-    (subst (λ (change : Ranked → Ranked). IsTreeOf (with_change content path change) c.lower.new.self)
-    (lowered_refunded c.args.quantities.now)
-    (c.lower.ensures.tree content path c.self.invariant.of_ledger
-    (leaf_of content tree c.in-Some.node path c.self.invariant.of_ledger known c.in-Some.ensures.live c.in-Some.ensures.at) known
-    (can_refund content path c.args.quantities.now
-    (subst (λ (l : PlainSorter). HoldsAt (plain_content l) path c.args.quantities.now) (sym ledger) c.requires.held))))
+    (active_stays path (refunded quantities) (λ d. refl) (λ d. refl) content) tree c.lower.new.self c.self.inside.walk
+    c.self.inside.is_total_free (along content.total c.self.invariant.of_ledger) (λ on total. along total (c.self.invariant.free on total))
     c.lower.ensures.places c.lower.ensures.families c.self.invariant.frames c.self.invariant.settled
 
 -- a client has a node

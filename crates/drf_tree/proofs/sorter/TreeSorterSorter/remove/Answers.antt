@@ -1,5 +1,7 @@
-use Rattle.std.proofs.Common.{ap, subst, sym, ◌∙◌}
+use Rattle.std.specs.Prelude.{List}
+use Rattle.std.proofs.Common.{ap, ◌∙◌}
 use Rattle.std.proofs.lemmas.Bool.{false≢true}
+use Rattle.drf_bundle.specs.declared.quantities.Entry.{Entry}
 use Rattle.drf_sorter.specs.Content.{Content, has_client, without_client}
 use Rattle.drf_sorter.specs.Plain.{plain_content}
 use Rattle.drf_tree.specs.Sorter.{Sorted}
@@ -36,12 +38,15 @@ invariant_of-self c =
 pub invariant_of-self-2 : goal.invariant_of-self-2
 invariant_of-self-2 c =
     let content = plain_content c.self.inside.ledger in
+    let tree = c.self.inside.tree in
     let path = c.args.path.now in
-    let of = c.self.invariant.of_ledger in
     let has = ap (λ (s : Sorted). has_client (plain_content s.ledger) path) c.self.view_is ∙ c.requires in
-    let dismissed =
-    c.dismiss.ensures.tree content path of
-    (leaf_of content c.self.inside.tree c.in-Some.node path of has c.in-Some.ensures.live c.in-Some.ensures.at) has in
-    stopped c.remove.new.self c.prune.new.self c.stop.new.self c.stop.ensures
-    (subst (λ (k : Content). IsTreeOf k c.prune.new.self) (sym c.remove.ensures.content)
-    (c.prune.ensures.tree (without_client content path) dismissed))
+    let along : (total : List Entry) → IsTreeOf (record content { total = total }) tree
+    → IsTreeOf (record (without_client content path) { total = total }) c.prune.new.self =
+    λ total of.
+    let before : Content = record content { total = total } in
+    let at = leaf_of before tree c.in-Some.node path of has c.in-Some.ensures.live c.in-Some.ensures.at in
+    c.prune.ensures.tree (without_client before path) (c.dismiss.ensures.tree before path of at has) in
+    stopped c.remove.new.self (without_client content path) c.remove.ensures.content c.prune.new.self c.stop.new.self
+    c.self.inside.is_total_free c.stop.ensures (along content.total c.self.invariant.of_ledger)
+    (λ on total. along total (c.self.invariant.free on total))

@@ -1,6 +1,8 @@
-use Rattle.std.proofs.Common.{ap, subst, sym}
+use Rattle.std.specs.Prelude.{List}
+use Rattle.std.proofs.Common.{ap}
 use Rattle.std.proofs.lemmas.Bool.{false≢true}
-use Rattle.drf_sorter.specs.Content.{Content}
+use Rattle.drf_bundle.specs.declared.quantities.Entry.{Entry}
+use Rattle.drf_sorter.specs.Content.{Content, activated, with_change}
 use Rattle.drf_sorter.specs.Plain.{plain_content}
 use Rattle.drf_tree.specs.Sorter.{Sorted}
 use Rattle.drf_tree.specs.Tree.{IsTreeOf}
@@ -31,7 +33,12 @@ invariant_of-self-2 c =
     let tree = c.self.inside.tree in
     let path = c.args.path.now in
     let known = known_in c.self.inside.ledger c.args.self.now.ledger path (ap (λ (s : Sorted). s.ledger) c.self.view_is) c.requires in
-    stopped c.set_active.new.self c.set_active-2.new.self c.stop.new.self c.stop.ensures
-    (subst (λ (k : Content). IsTreeOf k c.set_active-2.new.self) (sym c.set_active.ensures.content)
-    (c.set_active-2.ensures.tree content path c.self.invariant.of_ledger
-    (leaf_of content tree c.in-Some.node path c.self.invariant.of_ledger known c.in-Some.ensures.live c.in-Some.ensures.at) known))
+    let now : Content = with_change content path (activated c.args.active) in
+    let along : (total : List Entry) → IsTreeOf (record content { total = total }) tree
+    → IsTreeOf (record now { total = total }) c.set_active-2.new.self =
+    λ total of.
+    let before : Content = record content { total = total } in
+    c.set_active-2.ensures.tree before path of
+    (leaf_of before tree c.in-Some.node path of known c.in-Some.ensures.live c.in-Some.ensures.at) known in
+    stopped c.set_active.new.self now c.set_active.ensures.content c.set_active-2.new.self c.stop.new.self c.self.inside.is_total_free
+    c.stop.ensures (along content.total c.self.invariant.of_ledger) (λ on total. along total (c.self.invariant.free on total))

@@ -1,16 +1,30 @@
-use Rattle.std.proofs.Common.{refl}
+use Rattle.std.proofs.Common.{refl, true}
 use Rattle.drf_sorter.specs.Content.{Content}
 use Rattle.drf_sorter.specs.Plain.{plain_content}
+use Rattle.drf_tree.specs.Tree.{IsTotalFree}
 use Rattle.drf_tree.proofs.KeptLemmas.{kept_by, settled_along}
 use Rattle.drf_tree.proofs.RenewLemmas.{plain_weighs}
 use Rattle.drf_tree.proofs.sorter.TreeSorterSorter.set_total.Goals as goal
 
+-- the tree is right for this total as it is
 pub invariant_of-self : goal.invariant_of-self
 invariant_of-self c =
     let content = plain_content c.self.inside.ledger in
+    let tree = c.self.inside.tree in
     let new : Content = record content { total = c.args.total } in
-    kept_by c.set_total.new.self new c.set_total.ensures.content c.self.inside.tree c.mark_all.new.self c.self.inside.walk
-    (c.mark_all.ensures.tree content c.args.total (plain_weighs c.self.inside.ledger) c.self.invariant.of_ledger) c.mark_all.ensures.places c.mark_all.ensures.families
+    let free = c.self.invariant.free c.if-self.true in
+    kept_by c.set_total.new.self new c.set_total.ensures.content tree tree c.self.inside.walk c.self.inside.is_total_free
+    (free c.args.total) (λ on. free) refl refl c.self.invariant.frames
+    (settled_along content new tree.places.items tree.families.items refl c.self.inside.walk.frames.items c.self.invariant.settled)
+
+pub invariant_of-self-2 : goal.invariant_of-self-2
+invariant_of-self-2 c =
+    let content = plain_content c.self.inside.ledger in
+    let right : IsTotalFree content c.mark_all.new.self =
+    λ total. c.mark_all.ensures.tree content total (plain_weighs c.self.inside.ledger) c.self.invariant.of_ledger in
+    let new : Content = record content { total = c.args.total } in
+    kept_by c.set_total.new.self new c.set_total.ensures.content c.self.inside.tree c.mark_all.new.self c.self.inside.walk true
+    (right c.args.total) (λ on. right) c.mark_all.ensures.places c.mark_all.ensures.families
     c.self.invariant.frames
     (settled_along content new c.self.inside.tree.places.items c.self.inside.tree.families.items refl c.self.inside.walk.frames.items
     c.self.invariant.settled)

@@ -1,11 +1,11 @@
-use Rattle.std.proofs.Common.{ap, refl, subst, sym, ◌∙◌}
+use Rattle.std.proofs.Common.{ap, false, refl, subst, sym, ◌∙◌}
 use Rattle.std.proofs.lemmas.Bool.{false≢true}
 use Rattle.drf_sorter.specs.Content.{Content, active_paths, discharged, HasChargeAt, with_change}
 use Rattle.drf_sorter.specs.Plain.{plain_content}
 use Rattle.drf_sorter.specs.declared.plain.PlainSorter.{PlainSorter}
 use Rattle.drf_tree.specs.Sorter.{Sorted}
 use Rattle.drf_tree.proofs.FindLemmas.{client_below}
-use Rattle.drf_tree.proofs.KeptLemmas.{active_stays, kept_along, queue_stays}
+use Rattle.drf_tree.proofs.KeptLemmas.{active_stays, kept_along, queue_stays, total_counts}
 use Rattle.drf_tree.proofs.LeafLemmas.{can_discharge, known_in, leaf_of, lowerable}
 use Rattle.drf_tree.proofs.sorter.TreeSorterSorter.undo_charge.Goals as goal
 
@@ -36,11 +36,11 @@ invariant_of-self-2 c =
     let now : Content = with_change content path (discharged c.args.quantities.now) in
     let known = known_in c.self.inside.ledger c.args.self.now.ledger path ledger c.requires.known in
     kept_along c.undo_charge.new.self content now c.undo_charge.ensures.content
-    (active_stays path (discharged c.args.quantities.now) (λ d. refl) (λ d. refl) content) tree c.lower.new.self c.self.inside.walk
+    (active_stays path (discharged c.args.quantities.now) (λ d. refl) (λ d. refl) content) tree c.lower.new.self c.self.inside.walk false
     (c.lower.ensures.tree content path c.self.invariant.of_ledger
     (leaf_of content tree c.in-Some.node path c.self.invariant.of_ledger known c.in-Some.ensures.live c.in-Some.ensures.at) known
     (can_discharge content path c.args.quantities.now
-    (subst (λ (l : PlainSorter). HasChargeAt (plain_content l) path c.args.quantities.now) (sym ledger) c.requires.charged)))
+    (subst (λ (l : PlainSorter). HasChargeAt (plain_content l) path c.args.quantities.now) (sym ledger) c.requires.charged))) (total_counts now c.lower.new.self)
     c.lower.ensures.places c.lower.ensures.families c.self.invariant.frames c.self.invariant.settled
 
 -- a client has a node

@@ -11,6 +11,7 @@ returns-clause-tree c content =
       sums = c.in_ok-copies_of_sums.field-0;
       families = c.in_ok-copies_of_families.field-0;
       marks = c.in_ok-copy.field-0;
+      first_free = c.args.self.now.first_free;
     })
     (c.in_ok-copies_of_places.ensures ∙ c.deref.ensures.value) (c.in_ok-copies_of_sums.ensures ∙ c.deref-2.ensures.value)
     (c.in_ok-copies_of_families.ensures ∙ ap (map seen_in) c.deref-3.ensures.value) c.in_ok-copy.ensures

@@ -13,7 +13,7 @@ pub loop-i-preserved : goal.loop-i-preserved
 loop-i-preserved c =
     let e = c.in-Ok.ensures in
     grow_step (plain_content c.args.ledger.now) c.args.self.now c.loop-i.self c.step.new.self c.args.path.now c.loop-i.node c.loop-i.i
-    c.in-Ok.child c.loop-i.invariant e.tree e.live e.path e.work e.made
+    c.in-Ok.child c.loop-i.invariant e.tree e.free e.live e.path e.work e.made
 
 pub prune-requires-clause-shape : goal.prune-requires-clause-shape
 prune-requires-clause-shape c = c.in-Err.ensures.tree.shape
@@ -25,6 +25,11 @@ prune-requires-clause-node c =
 
 pub returns-in-Err-clause-tree : goal.returns-in-Err-clause-tree
 returns-in-Err-clause-tree c = c.prune.ensures.tree (plain_content c.args.ledger.now) c.in-Err.ensures.tree
+
+pub returns-in-Err-clause-free : goal.returns-in-Err-clause-free
+returns-in-Err-clause-free c was =
+    let content = plain_content c.args.ledger.now in
+    λ total. c.prune.ensures.tree (record content { total = total }) (c.in-Err.ensures.free (c.loop-i.invariant.free was) total)
 
 pub returns-in-Err-clause-work : goal.returns-in-Err-clause-work
 returns-in-Err-clause-work c =

@@ -15,3 +15,9 @@ returns-clause-tree c =
     let content = plain_content c.args.ledger.now in
     c.sprout.ensures.tree content c.requires.tree c.weight_of-weight.ensures.value
     (ap (has_node content) c.in_ok-node.ensures ∙ c.requires.nobody)
+
+pub returns-clause-free : goal.returns-clause-free
+returns-clause-free c was =
+    let content = plain_content c.args.ledger.now in
+    λ total. c.sprout.ensures.tree (record content { total = total }) (was total) c.weight_of-weight.ensures.value
+    (ap (has_node content) c.in_ok-node.ensures ∙ c.requires.nobody)

@@ -37,6 +37,7 @@ returns-clause-shape c =
       sums = t.sums;
       families = with_item t.families c.parent-parent.result c.remove.new.self;
       marks = c.forget.new.self;
+      first_free = t.first_free;
     } in
     wither_shape t new c.requires.shape c.args.node c.parent-parent.result c.remove.new.self c.requires.node c.requires.bare
     c.parent-parent.ensures

@@ -12,3 +12,4 @@ pub mod Registering
 pub mod Accepting
 pub mod Refusing
 pub mod Applying
+pub mod laws

@@ -11,6 +11,7 @@ mod explain;
 mod frameworks;
 mod free;
 mod late;
+mod laws;
 mod life;
 mod moving;
 mod refusal;
@@ -18,4 +19,5 @@ mod report;
 mod stepped;
 
 pub use allocator::Core;
+pub use laws::{bounded_runs_law, consistent_runs_law, given_law, kept_limits_law, refused_law};
 pub use stepped::Stepped;

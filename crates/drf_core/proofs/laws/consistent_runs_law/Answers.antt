@@ -1,0 +1,11 @@
+use Rattle.drf_core.proofs.running.Runs.{steps_stay_consistent, runs_stay_consistent, nothing_is_granted_twice}
+use Rattle.drf_core.proofs.laws.consistent_runs_law.Goals as goal
+
+pub returns-clause-step : goal.returns-clause-step
+returns-clause-step c = steps_stay_consistent
+
+pub returns-clause-run : goal.returns-clause-run
+returns-clause-run c = runs_stay_consistent
+
+pub returns-clause-start : goal.returns-clause-start
+returns-clause-start c = nothing_is_granted_twice

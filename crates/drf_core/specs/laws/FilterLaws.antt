@@ -1,0 +1,100 @@
+-- Which filters an accept and a decline set: of which framework in which role, on which agent, of what, and until when.
+use Rattle.std.specs.Prelude.{◌≡◌, ℕ, ◌+◌, ◌<◌, ◌≤◌, min, max, Bool, true, false, not, ◌&&◌, ◌||◌, List, [], ◌∷◌, ◌++◌, Some, None, nat_lt}
+use Rattle.drf_role.specs.Text.{Text, same_text}
+use Rattle.drf_role.specs.Path.{same_path}
+use Rattle.drf_bundle.specs.Bundle.{IsBundle, covers}
+use Rattle.drf_bundle.specs.Taken.{joined}
+use Rattle.drf_bundle.specs.declared.resource.Resource.{Resource}
+use Rattle.drf_rows.specs.Client.{Client}
+use Rattle.drf_rows.specs.Consistent.{IsConsistent}
+use Rattle.drf_rows.specs.Filters.{is_held_back}
+use Rattle.drf_rows.specs.LimitNumbers.{LimitNumbers}
+use Rattle.drf_rows.specs.Offers.{offer_at, is_empty}
+use Rattle.drf_rows.specs.Step.{refusal_of, effect}
+use Rattle.drf_rows.specs.Tasks.{uses}
+use Rattle.drf_rows.specs.laws.KeptLimitLaws.{IsGivenBundles}
+use Rattle.drf_rows.specs.declared.event.Accept as accepting
+use Rattle.drf_rows.specs.declared.event.Decline as declining
+use Rattle.drf_rows.specs.declared.event.Event.TheVariants.{Accept, Decline}
+use Rattle.drf_rows.specs.declared.limits.TheConstants.{LONGEST_FILTER}
+use Rattle.drf_rows.specs.declared.rows.FilterRow.{FilterRow}
+use Rattle.drf_rows.specs.declared.rows.OfferRow.{OfferRow}
+use Rattle.drf_rows.specs.declared.rows.Rows.{Rows}
+
+-- ---- the filter that is set
+
+-- it stands last: that of the offer's framework in the offer's role, on the offer's agent
+abbrev pub one_more : Rows → OfferRow → List Resource → ℕ → List FilterRow
+one_more rows o bundle until =
+    rows.filters ++ record { framework = o.framework; role = o.role; agent = o.agent; bundle = bundle; until = until } ∷ []
+
+-- it ends so long after the event, after 365 days at most, and an event is never before the clock
+abbrev pub end_of : Rows → ℕ → ℕ → ℕ
+end_of rows at refuse_ms = max rows.clock at + min refuse_ms LONGEST_FILTER
+
+-- a decline for any time sets that of all that was offered, and one for no time sets none
+abbrev pub DeclinedSetsFilter : Type 0
+DeclinedSetsFilter =
+    (rows : Rows) (d : declining.Decline) (o : OfferRow)
+    → offer_at rows d.offer ≡ Some o
+    → let after : Rows = effect rows (Decline d) in
+    (0 < d.refuse_ms → after.filters ≡ one_more rows o o.bundle (end_of rows d.at d.refuse_ms))
+    × (d.refuse_ms ≡ 0 → after.filters ≡ rows.filters)
+
+-- the bundle is what is left of the offer: it and what the tasks use join to all that was offered
+pub record IsLeft (rows : Rows) (a : accepting.Accept) (o : OfferRow) (left : List Resource) : Type 0 where
+  pub at : offer_at rows a.offer ≡ Some o
+  pub bundle : IsBundle left
+  pub joins : joined left (uses a.tasks) ≡ Some o.bundle
+
+-- so much is left of the offer of each accept that is not refused, be it nothing at all
+abbrev pub SomeRestIsLeft : Type 0
+SomeRestIsLeft =
+    (limits : LimitNumbers) (rows : Rows) (a : accepting.Accept) (o : OfferRow)
+    → IsConsistent rows
+    → IsGivenBundles (Accept a)
+    → offer_at rows a.offer ≡ Some o
+    → refusal_of limits rows (Accept a) ≡ None
+    → (left : List Resource) × IsLeft rows a o left
+
+-- an accept for any time sets that of what is left, if anything is; one for no time, or of all that was offered, sets none
+abbrev pub AcceptedSetsFilter : Type 0
+AcceptedSetsFilter =
+    (rows : Rows) (a : accepting.Accept) (o : OfferRow) (left : List Resource)
+    → IsConsistent rows
+    → IsGivenBundles (Accept a)
+    → IsLeft rows a o left
+    → let after : Rows = effect rows (Accept a) in
+    (0 < a.refuse_ms → is_empty left ≡ false → after.filters ≡ one_more rows o left (end_of rows a.at a.refuse_ms))
+    × (a.refuse_ms ≡ 0 → after.filters ≡ rows.filters)
+    × (is_empty left ≡ true → after.filters ≡ rows.filters)
+
+-- ---- what is held back then
+
+-- until a moment the offer's client is held back, on the offer's agent, what a bundle covers
+abbrev pub is_refused : OfferRow → List Resource → ℕ → ℕ → Client → Text → List Resource → Bool
+is_refused o refused until moment client agent bundle =
+    nat_lt moment until
+    && ((same_path o.role client.role && same_text o.framework client.framework) && (same_text o.agent agent && covers refused bundle))
+
+-- from a decline on that is held back, and what was held back before; of a decline for no time nothing
+abbrev pub DeclinedIsHeldBack : Type 0
+DeclinedIsHeldBack =
+    (rows : Rows) (d : declining.Decline) (o : OfferRow) (moment : ℕ) (client : Client) (agent : Text) (bundle : List Resource)
+    → offer_at rows d.offer ≡ Some o
+    → max rows.clock d.at ≤ moment
+    → is_held_back (effect rows (Decline d)).filters moment client agent bundle
+    ≡ (is_held_back rows.filters moment client agent bundle
+    || is_refused o o.bundle (end_of rows d.at d.refuse_ms) moment client agent bundle)
+
+-- and from an accept on what is left of the offer
+abbrev pub LeftIsHeldBack : Type 0
+LeftIsHeldBack =
+    (rows : Rows) (a : accepting.Accept) (o : OfferRow) (left : List Resource) (moment : ℕ) (client : Client) (agent : Text) (bundle : List Resource)
+    → IsConsistent rows
+    → IsGivenBundles (Accept a)
+    → IsLeft rows a o left
+    → max rows.clock a.at ≤ moment
+    → is_held_back (effect rows (Accept a)).filters moment client agent bundle
+    ≡ (is_held_back rows.filters moment client agent bundle
+    || (not (is_empty left) && is_refused o left (end_of rows a.at a.refuse_ms) moment client agent bundle))

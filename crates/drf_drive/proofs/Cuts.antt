@@ -4,8 +4,7 @@ use Rattle.std.proofs.Math.Seq.{drop-cons}
 use Rattle.std.specs.List.{slice_split}
 use Rattle.std.proofs.lemmas.Bool.{ne_eqb}
 use Rattle.std.proofs.lemmas.List.Splits.{slice_split_at, slice_split_none, length-slice_split}
-use Rattle.drf_journal.specs.Lines.{is_line_feed, all_but_last, last_part, ended_lines_of, open_line_of, lines_of}
-use Rattle.drf_drive.specs.Cut.{IsWithinLine}
+use Rattle.drf_journal.specs.Lines.{is_line_feed, all_but_last, last_part, ended_lines_of, open_line_of, lines_of, IsWithinLine}
 
 abbrev last_line : List ℕ → List (List ℕ)
 last_line line = if length line == 0 then [] else line ∷ []

@@ -1,19 +1,23 @@
 -- Scripts, file by file and line by line.
-use Rattle.std.proofs.Common.{◌≡◌, ℕ, ◌+◌, ◌<◌, ◌≤◌, List, [], ◌∷◌, ◌++◌, length, map, get_or, take, drop, refl, sym, ap, ◌∙◌, subst, append_assoc, append-nil, arith}
-use Rattle.std.proofs.lemmas.List.{map-append, take_all}
+use Rattle.std.proofs.Common.{◌≡◌, ℕ, suc, ◌<◌, List, [], ◌∷◌, ◌++◌, length, map, refl, sym, ap, ◌∙◌, subst, append_assoc, append-nil, arith}
+use Rattle.std.proofs.lemmas.List.{map-append}
+use Rattle.std.specs.List.{AllZip}
 use Rattle.std.specs.Prelude.{Result, Ok}
 use Rattle.std.specs.Global.{Vec}
 use Rattle.drf_journal.specs.Lines.{lines_of}
 use Rattle.drf_journal.specs.declared.fault.RunFault.TheVariants.{Read, Write, Memory}
 use Rattle.drf_lines.specs.Meaning.{meaning_of}
+use Rattle.drf_lines.specs.declared.fault.LineError.{LineError}
+use Rattle.drf_lines.specs.declared.fault.LineError.TheVariants.{Fault}
+use Rattle.drf_lines.specs.declared.fault.LineError.TheVariants as errors
 use Rattle.drf_lines.specs.declared.fault.LineFault.{LineFault}
 use Rattle.drf_rows.specs.declared.event.Event.{Event}
 use Rattle.drf_drive.specs.Files.{bytes_of}
-use Rattle.drf_drive.specs.Scripts.{AreScripts, HasBadLine, HaveBadLine, IsNoEvent, IsScript, Takes, TakesScript, as_meant, meanings_of}
+use Rattle.drf_drive.specs.Scripts.{AreEventsOf, AreScripts, AreWhole, HaveBadLine, HaveStopped, IsNoEvent, IsScript, IsScriptOf, IsStoppedAfter, IsStoppedBy, IsWhole, Takes, as_meant, meanings_of}
+use Rattle.drf_drive.specs.declared.script.Script.{Script}
 use Rattle.drf_drive.specs.declared.script.ScriptFault.{ScriptFault}
 use Rattle.drf_drive.specs.declared.script.ScriptFault.TheVariants.{Run, Line, Close}
 use Rattle.drf_drive.proofs.Cuts.{lines-nil}
-use Rattle.drf_drive.proofs.Contents.{map-cut-next, map-take-next}
 
 -- ---- the lines of a file
 
@@ -39,20 +43,12 @@ module _ (bytes rest line after : List ℕ) (old : List Event) (read : ReadFront
       ∙ ap (λ (es : List Event). as_meant es ++ meanings_of after) (sym takes.added)
 
   -- or one that is no event
-  pub read-bad : (file : ℕ) (fault : ScriptFault) → IsNoEvent file (length old + 1) line fault → HasBadLine file bytes fault
-  read-bad file (Run Read) bad = bad
-  read-bad file (Run Write) bad = bad
-  read-bad file (Run Memory) bad = tt
-  read-bad file Close bad = bad
-  read-bad file (Line at) bad = (
-    bad.0,
-    record {
-      before = old;
-      after = meanings_of after;
-      lines = next-is ∙ ap (λ (m : Result Event LineFault). as_meant old ++ m ∷ meanings_of after) bad.1.1;
-      place = bad.1.0;
-    },
-  )
+  pub read-stopped : (error : LineError) → IsNoEvent line error → IsStoppedAfter bytes old error
+  read-stopped errors.Memory bad = tt
+  read-stopped (Fault fault) bad = record {
+    after = meanings_of after;
+    lines = next-is ∙ ap (λ (m : Result Event LineFault). as_meant old ++ m ∷ meanings_of after) bad;
+  }
 
 pub read-all : (bytes rest : List ℕ) (events : List Event) → ReadFront bytes rest events → length rest ≡ 0 → IsScript bytes events
 read-all bytes [] events read none =
@@ -61,45 +57,131 @@ read-all bytes (b ∷ rest) events read none = absurd (omega arith)
 
 -- ---- the files
 
-scripts-push : (contents : List (List ℕ)) (scripts : List (Vec Event)) (bytes : List ℕ) (script : Vec Event) → AreScripts contents scripts
-    → IsScript bytes script.items → AreScripts (contents ++ bytes ∷ []) (scripts ++ script ∷ [])
-scripts-push [] [] bytes script are is = (is, tt)
-scripts-push [] (s ∷ scripts) bytes script are is = absurd are
-scripts-push (c ∷ contents) [] bytes script are is = absurd are
-scripts-push (c ∷ contents) (s ∷ scripts) bytes script are is = (are.0, scripts-push contents scripts bytes script are.1 is)
+pub whole-push : (scripts : List Script) (events : List (Vec Event)) (script : Script) (next : Vec Event) → AreWhole scripts events → IsWhole script next
+    → AreWhole (scripts ++ script ∷ []) (events ++ next ∷ [])
+whole-push [] [] script next are is = (is, tt)
+whole-push [] (e ∷ events) script next are is = absurd are
+whole-push (s ∷ scripts) [] script next are is = absurd are
+whole-push (s ∷ scripts) (e ∷ events) script next are is = (are.0, whole-push scripts events script next are.1 is)
+
+pub whole-count : (scripts : List Script) (events : List (Vec Event)) → AreWhole scripts events → length events ≡ length scripts
+whole-count [] [] are = refl
+whole-count [] (e ∷ events) are = absurd are
+whole-count (s ∷ scripts) [] are = absurd are
+whole-count (s ∷ scripts) (e ∷ events) are = ap (λ (n : ℕ). suc n) (whole-count scripts events are.1)
+
+-- ---- a list that a loop goes through
+
+front-less : {X : Type 0} (front rest : List X) (x : X) → length front < length (front ++ x ∷ rest)
+front-less [] rest x = omega arith
+front-less (y ∷ front) rest x = omega (arith, front-less front rest x)
+
+pub less-of_split : {X : Type 0} (xs front left rest : List X) (x : X) → xs ≡ front ++ left → left ≡ x ∷ rest → length front < length xs
+less-of_split xs front left rest x whole split =
+    subst (λ (l : List _). length front < length l) (sym (whole ∙ ap (λ (l : List _). front ++ l) split)) (front-less front rest x)
+
+pub whole-next : {X : Type 0} (xs front left rest : List X) (x : X) → xs ≡ front ++ left → left ≡ x ∷ rest → xs ≡ (front ++ x ∷ []) ++ rest
+whole-next xs front left rest x whole split = whole ∙ (ap (λ (l : List _). front ++ l) split ∙ sym (append_assoc front (x ∷ []) rest))
+
+-- the next one is not whole
+pub stopped-next : (scripts before : List Script) (script : Script) (after : List Script) (events : List (Vec Event)) (fault : ScriptFault)
+    → scripts ≡ before ++ script ∷ after → AreWhole before events → IsStoppedBy (length events) script fault → HaveStopped scripts fault
+stopped-next scripts before script after events (Run Read) split whole stopped = stopped
+stopped-next scripts before script after events (Run Write) split whole stopped = stopped
+stopped-next scripts before script after events (Run Memory) split whole stopped = tt
+stopped-next scripts before script after events Close split whole stopped = stopped
+stopped-next scripts before script after events (Line bad) split whole stopped = record {
+  before = before;
+  script = script;
+  after = after;
+  scripts_are = split;
+  events = events;
+  whole = whole;
+  stopped = (stopped.0 ∙ whole-count before events whole, stopped.1);
+}
+
+-- the scripts of these files
+abbrev pub AreScriptsOf : List (Vec ℕ) → List Script → Type 0
+AreScriptsOf files scripts = AllZip (λ (file : Vec ℕ) (script : Script). IsScriptOf file.items script) files scripts
 
 pub scripts-count : (contents : List (List ℕ)) (scripts : List (Vec Event)) → AreScripts contents scripts → length scripts ≡ length contents
 scripts-count [] [] are = refl
 scripts-count [] (s ∷ scripts) are = absurd are
 scripts-count (c ∷ contents) [] are = absurd are
-scripts-count (c ∷ contents) (s ∷ scripts) are = let same = scripts-count contents scripts are.1 in omega arith
+scripts-count (c ∷ contents) (s ∷ scripts) are = ap (λ (n : ℕ). suc n) (scripts-count contents scripts are.1)
 
-module _ (files : List (Vec ℕ)) (i : ℕ) (file : Vec ℕ) (inside : i < length files) (is : file ≡ get_or files i file)
-    (old : List (Vec Event)) (are : AreScripts (bytes_of (take i files)) old) where
-  -- one file more
-  pub scripts-next : (new : List (Vec Event)) → TakesScript file.items old new → AreScripts (bytes_of (take (i + 1) files)) new
-  scripts-next new takes =
-      subst (λ (l : List (List ℕ)). AreScripts l new) (sym (map-take-next files i file inside is (λ (v : Vec ℕ). v.items)))
-      (subst (AreScripts (bytes_of (take i files) ++ file.items ∷ [])) (sym takes.added)
-      (scripts-push (bytes_of (take i files)) old file.items takes.script are takes.meant))
+script-whole : (bytes : List ℕ) (script : Script) (events : Vec Event) → IsScriptOf bytes script → IsWhole script events → IsScript bytes events.items
+script-whole bytes script events of whole =
+    subst (λ (v : Vec Event). IsScript bytes v.items) whole.same (subst (AreEventsOf bytes script.events.items) whole.whole of)
 
-  -- or one with a line that is no event
-  pub scripts-bad : (fault : ScriptFault) → HasBadLine (length old) file.items fault → HaveBadLine (bytes_of files) fault
-  scripts-bad (Run Read) bad = bad
-  scripts-bad (Run Write) bad = bad
-  scripts-bad (Run Memory) bad = tt
-  scripts-bad Close bad = bad
-  scripts-bad (Line at) bad = record {
-    before = bytes_of (take i files);
-    bytes = file.items;
-    after = bytes_of (drop (i + 1) files);
-    files = map-cut-next files i file inside is (λ (v : Vec ℕ). v.items);
-    place = bad.0 ∙ scripts-count (bytes_of (take i files)) old are;
-    scripts = old;
-    good = are;
-    first = bad.1;
-  }
+-- if all are whole, they are what the lines mean
+pub scripts-whole : (files : List (Vec ℕ)) (scripts : List Script) (events : List (Vec Event)) → AreScriptsOf files scripts → AreWhole scripts events
+    → AreScripts (bytes_of files) events
+scripts-whole [] [] [] of whole = tt
+scripts-whole [] [] (e ∷ events) of whole = absurd whole
+scripts-whole [] (s ∷ scripts) events of whole = absurd of
+scripts-whole (f ∷ files) [] events of whole = absurd of
+scripts-whole (f ∷ files) (s ∷ scripts) [] of whole = absurd whole
+scripts-whole (f ∷ files) (s ∷ scripts) (e ∷ events) of whole =
+    (script-whole f.items s e of.0 whole.0, scripts-whole files scripts events of.1 whole.1)
 
-pub scripts-all : (files : List (Vec ℕ)) (i : ℕ) (scripts : List (Vec Event)) → length files ≤ i → AreScripts (bytes_of (take i files)) scripts
-    → AreScripts (bytes_of files) scripts
-scripts-all files i scripts past are = subst (λ (l : List (Vec ℕ)). AreScripts (bytes_of l) scripts) (take_all i files past) are
+-- The files up to one that is not whole.
+record IsCutAt (files : List (Vec ℕ)) (before : List Script) (script : Script) (events : List (Vec Event)) : Type 0 where
+  front : List (List ℕ)
+  bytes : List ℕ
+  rest : List (List ℕ)
+  files_are : bytes_of files ≡ front ++ bytes ∷ rest
+  long : length front ≡ length before
+  good : AreScripts front events
+  of : IsScriptOf bytes script
+
+cut-at : (files : List (Vec ℕ)) (before : List Script) (script : Script) (after : List Script) (events : List (Vec Event))
+    → AreScriptsOf files (before ++ script ∷ after) → AreWhole before events → IsCutAt files before script events
+cut-at [] [] script after events of whole = absurd of
+cut-at [] (s ∷ before) script after events of whole = absurd of
+cut-at (f ∷ files) [] script after [] of whole = record {
+  front = [];
+  bytes = f.items;
+  rest = bytes_of files;
+  files_are = refl;
+  long = refl;
+  good = tt;
+  of = of.0;
+}
+cut-at (f ∷ files) [] script after (e ∷ events) of whole = absurd whole
+cut-at (f ∷ files) (s ∷ before) script after [] of whole = absurd whole
+cut-at (f ∷ files) (s ∷ before) script after (e ∷ events) of whole =
+    let cut = cut-at files before script after events of.1 whole.1 in
+    record {
+      front = f.items ∷ cut.front;
+      bytes = cut.bytes;
+      rest = cut.rest;
+      files_are = ap (λ (l : List (List ℕ)). f.items ∷ l) cut.files_are;
+      long = ap (λ (n : ℕ). suc n) cut.long;
+      good = (script-whole f.items s e of.0 whole.0, cut.good);
+      of = cut.of;
+    }
+
+-- if one is not, its line is the first that is no event
+pub scripts-stopped : (files : List (Vec ℕ)) (scripts : List Script) → AreScriptsOf files scripts → (fault : ScriptFault) → HaveStopped scripts fault
+    → HaveBadLine (bytes_of files) fault
+scripts-stopped files scripts of (Run Read) stopped = stopped
+scripts-stopped files scripts of (Run Write) stopped = stopped
+scripts-stopped files scripts of (Run Memory) stopped = tt
+scripts-stopped files scripts of Close stopped = stopped
+scripts-stopped files scripts of (Line bad) stopped =
+    let cut = cut-at files stopped.before stopped.script stopped.after stopped.events (subst (AreScriptsOf files) stopped.scripts_are of) stopped.whole in
+    record {
+      before = cut.front;
+      bytes = cut.bytes;
+      after = cut.rest;
+      files = cut.files_are;
+      place = stopped.stopped.0 ∙ sym cut.long;
+      scripts = stopped.events;
+      good = cut.good;
+      first = record {
+        before = stopped.script.events.items;
+        stopped = subst (AreEventsOf cut.bytes stopped.script.events.items) stopped.stopped.1.1 cut.of;
+        place = stopped.stopped.1.0;
+      };
+    }

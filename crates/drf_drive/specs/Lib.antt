@@ -1,4 +1,3 @@
-pub mod Cut
 pub mod Files
 pub mod Scripts
 pub mod JournalText

@@ -1,13 +1,17 @@
 -- What the lines of files mean.
-use Rattle.std.specs.Prelude.{◌≡◌, ⊤, ℕ, ◌+◌, List, [], ◌∷◌, ◌++◌, length, map, Result, Ok, Err}
+use Rattle.std.specs.Prelude.{◌≡◌, ⊤, ℕ, ◌+◌, List, [], ◌∷◌, ◌++◌, length, map, Option, None, Some, Result, Ok, Err}
 use Rattle.std.specs.Global.{Vec}
 use Rattle.drf_journal.specs.Lines.{lines_of}
 use Rattle.drf_journal.specs.declared.fault.RunFault.TheVariants.{Memory}
 use Rattle.drf_lines.specs.Meaning.{meaning_of}
+use Rattle.drf_lines.specs.declared.fault.LineError.{LineError}
+use Rattle.drf_lines.specs.declared.fault.LineError.TheVariants.{Fault}
+use Rattle.drf_lines.specs.declared.fault.LineError.TheVariants as errors
 use Rattle.drf_lines.specs.declared.fault.LineFault.{LineFault}
 use Rattle.drf_rows.specs.declared.event.Event.{Event}
 use Rattle.drf_drive.specs.Files.{Known, AreContents, IsUnread}
 use Rattle.drf_drive.specs.declared.script.BadLine.{BadLine}
+use Rattle.drf_drive.specs.declared.script.Script.{Script}
 use Rattle.drf_drive.specs.declared.script.ScriptFault.{ScriptFault}
 use Rattle.drf_drive.specs.declared.script.ScriptFault.TheVariants.{Run, Line, Close}
 
@@ -31,11 +35,15 @@ AreScripts _ _ = ⊥
 
 -- ---- the first line that is no event
 
+-- the lines before it are these events
+pub record IsStoppedAt (bytes : List ℕ) (before : List Event) (fault : LineFault) : Type 0 where
+  pub after : List (Result Event LineFault)
+  pub lines : meanings_of bytes ≡ as_meant before ++ Err fault ∷ after
+
 -- the lines before it are events; its number counts from 1
 pub record IsFirstBadLine (bytes : List ℕ) (number : ℕ) (fault : LineFault) : Type 0 where
   pub before : List Event
-  pub after : List (Result Event LineFault)
-  pub lines : meanings_of bytes ≡ as_meant before ++ Err fault ∷ after
+  pub stopped : IsStoppedAt bytes before fault
   pub place : number ≡ length before + 1
 
 -- all lines of the files before it are events; its file counts from 0
@@ -51,17 +59,23 @@ pub record IsFirstBad (contents : List (List ℕ)) (bad : BadLine) : Type 0 wher
 
 -- ---- why there are no scripts
 
--- a line of a file, with its number, is no event, or memory ran out
-abbrev pub IsNoEvent : ℕ → ℕ → List ℕ → ScriptFault → Type 0
-IsNoEvent file number line (Run Memory) = ⊤
-IsNoEvent file number line (Line bad) = (bad.file ≡ file) × ((bad.line ≡ number) × (meaning_of line ≡ Err bad.fault))
-IsNoEvent file number line _ = ⊥
+-- a line is no event, or memory ran out
+abbrev pub IsNoEvent : List ℕ → LineError → Type 0
+IsNoEvent line (Fault fault) = meaning_of line ≡ Err fault
+IsNoEvent line errors.Memory = ⊤
 
--- a file has a bad line, or memory ran out
-abbrev pub HasBadLine : ℕ → List ℕ → ScriptFault → Type 0
-HasBadLine file bytes (Run Memory) = ⊤
-HasBadLine file bytes (Line bad) = (bad.file ≡ file) × IsFirstBadLine bytes bad.line bad.fault
-HasBadLine file bytes _ = ⊥
+-- the lines before the first that is no event are these events, or memory ran out
+abbrev pub IsStoppedAfter : List ℕ → List Event → LineError → Type 0
+IsStoppedAfter bytes events (Fault fault) = IsStoppedAt bytes events fault
+IsStoppedAfter bytes events errors.Memory = ⊤
+
+-- the events of a file, all of them or those before the line that is none
+abbrev pub AreEventsOf : List ℕ → List Event → Option LineError → Type 0
+AreEventsOf bytes events None = IsScript bytes events
+AreEventsOf bytes events (Some error) = IsStoppedAfter bytes events error
+
+abbrev pub IsScriptOf : List ℕ → Script → Type 0
+IsScriptOf bytes script = AreEventsOf bytes script.events.items script.stop
 
 -- one of the files does
 abbrev pub HaveBadLine : List (List ℕ) → ScriptFault → Type 0
@@ -95,8 +109,37 @@ pub record Takes (line : List ℕ) (old new : List Event) : Type 0 where
   pub meant : meaning_of line ≡ Ok event
   pub added : new ≡ old ++ event ∷ []
 
--- the script of a file comes last
-pub record TakesScript (bytes : List ℕ) (old new : List (Vec Event)) : Type 0 where
-  pub script : Vec Event
-  pub meant : IsScript bytes script.items
-  pub added : new ≡ old ++ script ∷ []
+-- ---- files that were all read
+
+-- all lines of a file were events, and these are they
+pub record IsWhole (script : Script) (events : Vec Event) : Type 0 where
+  pub whole : script.stop ≡ None
+  pub same : script.events ≡ events
+
+abbrev pub AreWhole : List Script → List (Vec Event) → Type 0
+AreWhole [] [] = Unit {0}
+AreWhole (script ∷ scripts) (events ∷ more) = IsWhole script events × AreWhole scripts more
+AreWhole _ _ = ⊥
+
+-- why not all lines of the file at that place were
+abbrev pub IsStoppedBy : ℕ → Script → ScriptFault → Type 0
+IsStoppedBy file script (Run Memory) = script.stop ≡ Some errors.Memory
+IsStoppedBy file script (Line bad) =
+    (bad.file ≡ file) × ((bad.line ≡ length script.events.items + 1) × (script.stop ≡ Some (Fault bad.fault)))
+IsStoppedBy file script _ = ⊥
+
+-- the file of the line is the first of which not all were
+pub record IsFirstStop (scripts : List Script) (bad : BadLine) : Type 0 where
+  pub before : List Script
+  pub script : Script
+  pub after : List Script
+  pub scripts_are : scripts ≡ before ++ script ∷ after
+  pub events : List (Vec Event)
+  pub whole : AreWhole before events
+  pub stopped : IsStoppedBy (length before) script (Line bad)
+
+-- or memory ran out
+abbrev pub HaveStopped : List Script → ScriptFault → Type 0
+HaveStopped scripts (Run Memory) = ⊤
+HaveStopped scripts (Line bad) = IsFirstStop scripts bad
+HaveStopped scripts _ = ⊥

@@ -1,15 +1,8 @@
 //! The lines of a file.
-ghost use Rattle.std.specs.Prelude.{◌≡◌, ◌<◌, ◌∷◌, length, take, slice_index, IfSome, IfNone};
+ghost use Rattle.std.specs.Prelude.{◌≡◌, ◌<◌, ◌∷◌, length};
 ghost use Rattle.drf_journal.specs.Lines.{lines_of};
-ghost use Rattle.drf_drive.specs.Cut.{IsWithinLine};
 
-/// Where the first line feed stands.
-fn line_feed_in(bytes: &[u8]) -> Option<usize>
-    ensures found { IfSome result (λ at. (at < length bytes.now) × (slice_index bytes.now at ≡ 10) × IsWithinLine (take at bytes.now)) }
-    ensures none { IfNone result (IsWithinLine bytes.now) }
-{
-    bytes.iter().position(|byte| *byte == b'\n')
-}
+use drf_journal::line_feed_in;
 
 /// The first line of some bytes, without its line feed, and what comes after it.
 pub(crate) fn first_line(bytes: &[u8]) -> (&[u8], &[u8])

@@ -115,6 +115,6 @@ pub fn run_drive<W: Threads + Wait + Sync, F: FileBytes, S: AsStr, O: Write>(
     if names.is_empty() {
         return write_nothing(alloc, writer);
     }
-    let scripts = read_scripts(alloc, files, names)?;
+    let scripts = read_scripts(rt, alloc, files, names)?;
     drive_scripts(rt, alloc, limits, scripts, writer)
 }

@@ -1,15 +1,17 @@
 //! Scripts: the events of the lines of a file.
-ghost use Rattle.std.specs.Prelude.{◌≡◌, ◌+◌, [], length, map, OnOk, IfOk, IfErr};
+ghost use Rattle.std.specs.Prelude.{◌≡◌, [], map, OnOk, OnErr, IfOk, IfErr};
 ghost use Rattle.drf_drive.specs.Files.{bytes_of};
-ghost use Rattle.drf_drive.specs.Scripts.{AreScripts, HasBadLine, HasScripts, HaveBadLine, IsNoEvent, IsScript, IsUnreadable, Takes, TakesScript};
+ghost use Rattle.drf_drive.specs.Scripts.{AreScripts, AreWhole, HasScripts, HaveBadLine, HaveStopped, IsNoEvent, IsScript, IsScriptOf, IsStoppedAfter, IsStoppedBy, IsUnreadable, IsWhole, Takes};
 
 use crate::files::{FileBytes, read_files};
 use crate::lines::first_line;
 use drf_journal::RunFault;
 use drf_lines::{LineError, LineFault, LineReader};
 use drf_rows::Event;
+use rayon::prelude::*;
 use std::alloc::{AllocError, Global};
 use std::convert::AsStr;
+use std::thread::Threads;
 
 /// A line that is no event.
 #[derive(Clone, Copy, Debug, PartialEq, Eq)]
@@ -53,82 +55,107 @@ impl From<AllocError> for ScriptFault {
     }
 }
 
-// Adds the event of the next line of a file.
-fn take_line(
-    reader: &mut LineReader,
-    file: usize,
-    line: &[u8],
-    events: &mut Vec<Event>,
-) -> Result<(), ScriptFault>
-    ensures ok { OnOk result (Takes line.now events.old.items events.new.items) }
-    ensures err { IfErr result (IsNoEvent file (length events.old.items + 1) line.now) }
-{
-    events.reserve(1)?;
-    match reader.read(line) {
-        Ok(event) => {
-            events.push_reserved(event);
-            Ok(())
-        }
-        Err(LineError::Fault(fault)) => {
-            let line = events.len() as u64 + 1;
-            Err(ScriptFault::Line(BadLine { file, line, fault }))
-        }
-        Err(LineError::Memory) => Err(ScriptFault::Run(RunFault::Memory)),
-    }
+// The events of the first lines of a file, and why no more were read, if there are more.
+#[derive(Drop)]
+pub struct Script {
+    pub events: Vec<Event>,
+    pub stop: Option<LineError>,
 }
 
-// Adds the events of all lines of a file.
+// Adds the event of the next line of a file.
+fn take_line(reader: &mut LineReader, line: &[u8], events: &mut Vec<Event>) -> Result<(), LineError>
+    ensures ok { OnOk result (Takes line.now events.old.items events.new.items) }
+    ensures err { IfErr result (IsNoEvent line.now) }
+    ensures same { OnErr result (events.new.items ≡ events.old.items) }
+{
+    events.reserve(1)?;
+    let event = reader.read(line)?;
+    events.push_reserved(event);
+    Ok(())
+}
+
+// Adds the events of the lines of a file, up to the first that is none.
 fn take_lines(
     reader: &mut LineReader,
-    file: usize,
     bytes: &[u8],
     events: &mut Vec<Event>,
-) -> Result<(), ScriptFault>
+) -> Result<(), LineError>
     requires { events.old.items ≡ [] }
     ensures ok { OnOk result (IsScript bytes.now events.new.items) }
-    ensures err { IfErr result (HasBadLine file bytes.now) }
+    ensures err { IfErr result (IsStoppedAfter bytes.now events.new.items) }
 {
     let mut rest = bytes;
     while !rest.is_empty() {
         let (line, after) = first_line(rest);
-        take_line(reader, file, line, events)?;
+        take_line(reader, line, events)?;
         rest = after;
     }
     Ok(())
 }
 
-// Adds the script of the next file.
-fn take_script(
-    alloc: Global,
-    reader: &mut LineReader,
-    bytes: &[u8],
-    scripts: &mut Vec<Vec<Event>>,
-) -> Result<(), ScriptFault>
-    ensures ok { OnOk result (TakesScript bytes.now scripts.old.items scripts.new.items) }
-    ensures err { IfErr result (HasBadLine (length scripts.old.items) bytes.now) }
+// Reads the lines of a file.
+fn read_script(alloc: Global, bytes: &[u8]) -> Script
+    ensures { IsScriptOf bytes.now result }
 {
-    scripts.reserve(1)?;
+    let mut reader = LineReader::new(alloc);
     let mut events = Vec::new(alloc);
-    take_lines(reader, scripts.len(), bytes, &mut events)?;
-    scripts.push_reserved(events);
-    Ok(())
+    let stop = take_lines(&mut reader, bytes, &mut events).err();
+    Script { events, stop }
 }
 
-// The scripts of files with these bytes.
-fn scripts_of(alloc: Global, contents: &[Vec<u8>]) -> Result<Vec<Vec<Event>>, ScriptFault>
+// The events of the file at that place, if all its lines are events.
+fn whole(file: usize, script: Script) -> Result<Vec<Event>, ScriptFault>
+    ensures ok { IfOk result (IsWhole script) }
+    ensures err { IfErr result (IsStoppedBy file script) }
+{
+    let Script { events, stop } = script;
+    match stop {
+        None => Ok(events),
+        Some(LineError::Memory) => Err(ScriptFault::Run(RunFault::Memory)),
+        Some(LineError::Fault(fault)) => {
+            let line = events.len() as u64 + 1;
+            Err(ScriptFault::Line(BadLine { file, line, fault }))
+        }
+    }
+}
+
+// The events of each file, if all lines of all files are events.
+fn all_whole(alloc: Global, scripts: Vec<Script>) -> Result<Vec<Vec<Event>>, ScriptFault>
+    ensures ok { IfOk result (λ whole. AreWhole scripts.items whole.items) }
+    ensures err { IfErr result (HaveStopped scripts.items) }
+{
+    let mut events = Vec::with_capacity(alloc, scripts.len())?;
+    for script in scripts {
+        let read = whole(events.len(), script)?;
+        events.push_reserved(read);
+    }
+    Ok(events)
+}
+
+// The scripts of files with these bytes. Several threads read them: a file is work enough for one, which `rayon` expects of a thousand items.
+fn scripts_of(
+    rt: &(impl Threads + Sync),
+    alloc: Global,
+    contents: &[Vec<u8>],
+) -> Result<Vec<Vec<Event>>, ScriptFault>
     ensures ok { IfOk result (λ scripts. AreScripts (bytes_of contents.now) scripts.items) }
     ensures err { IfErr result (HaveBadLine (bytes_of contents.now)) }
 {
-    let mut reader = LineReader::new(alloc);
-    let mut scripts = Vec::new(alloc);
-    for bytes in contents {
-        take_script(alloc, &mut reader, bytes, &mut scripts)?;
-    }
-    Ok(scripts)
+    let scripts = contents
+        .par_iter()
+        .with_min_len(1)
+        .map(
+            |bytes: &Vec<u8>| -> Script
+                ensures { IsScriptOf bytes.now.items result }
+            { read_script(alloc, bytes) },
+        )
+        .collect::<Vec<Script>>(rt, alloc)?;
+    all_whole(alloc, scripts)
 }
 
 /// Reads all files, in order, and then the lines of each.
-pub(crate) fn read_scripts<F: FileBytes, S: AsStr>(
+pub(crate) fn read_scripts<W: Threads + Sync, F: FileBytes, S: AsStr>(
+    rt: &W,
     alloc: Global,
     files: &mut F,
     names: &[S],
@@ -137,5 +164,5 @@ pub(crate) fn read_scripts<F: FileBytes, S: AsStr>(
     ensures err { IfErr result (IsUnreadable (F.known files.old) (map S.text names.now)) }
 {
     let contents = read_files(alloc, files, names)?;
-    scripts_of(alloc, &contents)
+    scripts_of(rt, alloc, &contents)
 }

@@ -17,9 +17,9 @@ use Rattle.drf_journal.specs.declared.journal.Verdict.{Verdict}
 use Rattle.drf_journal.specs.declared.journal.Verdict.TheVariants.{Good, Bad}
 use Rattle.drf_journal.specs.Checking.{DueLine, HasCome, Check, after_event_line, IsCheckedTo, HasChecked}
 use Rattle.drf_journal.specs.Journal.{event_lines, replies_due, replies_there, IsVerdict}
-use Rattle.drf_journal.specs.Lines.{is_line_feed, ended_lines_of, open_line_of, lines_of}
+use Rattle.drf_journal.specs.Lines.{is_line_feed, ended_lines_of, open_line_of, lines_of, IsWithinLine}
 use Rattle.drf_journal.specs.Output.{kept_of, reply_line_after}
-use Rattle.drf_journal.specs.State.{machine_after, machine_after_lines, IsWithinLine}
+use Rattle.drf_journal.specs.State.{machine_after, machine_after_lines}
 use Rattle.drf_journal.proofs.Cuts.{ended-within, open-within, within-nil, ended-feed, open-feed, goes_on, cut_at, lines-goes_on, lines-feed, lines-begun}
 use Rattle.drf_journal.proofs.Kept.{kept-append, meaning-kept}
 use Rattle.drf_journal.proofs.Pairs.{ended, event-more, reply-more, reply-wrong, reply-missing}

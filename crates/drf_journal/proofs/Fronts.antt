@@ -3,7 +3,8 @@ use Rattle.std.proofs.Common.{◌≡◌, ℕ, ◌+◌, ◌-◌, ◌<◌, List, [
 use Rattle.std.proofs.Math.Seq.{take-append_seam}
 use Rattle.std.proofs.lemmas.List.{length-append}
 use Rattle.drf_lines.specs.Meaning.{meaning_of}
-use Rattle.drf_journal.specs.State.{State, machine_after, after_piece, IsWithinLine, HasTakenAtMost, AnswersFrontOf}
+use Rattle.drf_journal.specs.Lines.{IsWithinLine}
+use Rattle.drf_journal.specs.State.{State, machine_after, after_piece, HasTakenAtMost, AnswersFrontOf}
 use Rattle.drf_journal.proofs.Cuts.{cut_at}
 use Rattle.drf_journal.proofs.Pieces.{piece-append, piece-nil, with_line, piece-line}
 

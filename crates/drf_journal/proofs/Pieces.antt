@@ -4,9 +4,9 @@ use Rattle.std.proofs.lemmas.List.Sums.{fold-append}
 use Rattle.std.proofs.lemmas.Bool.{ne_eqb}
 use Rattle.drf_core.specs.Machine.{Machine}
 use Rattle.drf_lines.specs.Meaning.{meaning_of}
-use Rattle.drf_journal.specs.Lines.{is_line_feed, ended_lines_of, open_line_of}
+use Rattle.drf_journal.specs.Lines.{is_line_feed, ended_lines_of, open_line_of, IsWithinLine}
 use Rattle.drf_journal.specs.Output.{kept_of}
-use Rattle.drf_journal.specs.State.{State, machine_after, machine_after_lines, answer_to, after_line, after_byte, after_piece, at_end, IsWithinLine, HasTakenAtMost}
+use Rattle.drf_journal.specs.State.{State, machine_after, machine_after_lines, answer_to, after_line, after_byte, after_piece, at_end, HasTakenAtMost}
 use Rattle.drf_journal.proofs.Cuts.{ended-feed, open-feed, ended-within, open-within, within-nil, within-push, within-head, within-tail}
 use Rattle.drf_journal.proofs.Kept.{kept-append, meaning-kept, answer-kept}
 

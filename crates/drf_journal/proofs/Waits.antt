@@ -4,8 +4,8 @@ use Rattle.std.proofs.Math.Seq.{take-append-add}
 use Rattle.std.proofs.lemmas.Bool.{cases_lt}
 use Rattle.std.proofs.lemmas.List.{take-take, length-append}
 use Rattle.std.proofs.lemmas.List.Elements.{All-take}
-use Rattle.drf_journal.specs.Lines.{is_line_feed}
-use Rattle.drf_journal.specs.State.{State, after_piece, IsWithinLine, WaitsBelow}
+use Rattle.drf_journal.specs.Lines.{is_line_feed, IsWithinLine}
+use Rattle.drf_journal.specs.State.{State, after_piece, WaitsBelow}
 use Rattle.drf_journal.proofs.Fronts.{TookFront, front-count}
 use Rattle.drf_journal.proofs.Pieces.{piece-append, piece-nil, piece-within}
 

@@ -1,5 +1,5 @@
 -- The lines of an input.
-use Rattle.std.specs.Prelude.{ℕ, Bool, ◌==◌, List, [], ◌∷◌, ◌++◌, length, if◌then◌else◌}
+use Rattle.std.specs.Prelude.{◌≡◌, ℕ, Bool, false, ◌==◌, All, List, [], ◌∷◌, ◌++◌, length, if◌then◌else◌}
 use Rattle.std.specs.List.{slice_split}
 
 abbrev pub is_line_feed : ℕ → Bool
@@ -26,3 +26,7 @@ open_line_of input = last_part (slice_split is_line_feed input)
 -- its lines: behind the last line feed stands one only if anything does
 unfoldable pub lines_of : List ℕ → List (List ℕ)
 lines_of input = ended_lines_of input ++ (if length (open_line_of input) == 0 then [] else open_line_of input ∷ [])
+
+-- the bytes are of one line
+abbrev pub IsWithinLine : List ℕ → Type 0
+IsWithinLine bytes = All (λ b. is_line_feed b ≡ false) bytes

@@ -1,5 +1,5 @@
 -- A run between two reads, and what a byte of the input does to it.
-use Rattle.std.specs.Prelude.{refl, ◌≡◌, ℕ, ◌+◌, ◌<◌, Bool, false, ◌==◌, List, [], ◌∷◌, ◌++◌, length, take, fold, All, Result, Ok, Err, ◌⊎◌, if◌then◌else◌}
+use Rattle.std.specs.Prelude.{refl, ◌≡◌, ℕ, ◌+◌, ◌<◌, Bool, ◌==◌, List, [], ◌∷◌, ◌++◌, length, take, fold, Result, Ok, Err, ◌⊎◌, if◌then◌else◌}
 use Rattle.std.specs.Coded.{Coded, code_by, coded×, coded_ℕ, coded_bool, coded_list}
 use Rattle.drf_core.specs.Machine.{Machine, machine_code, opened, after}
 use Rattle.drf_rows.specs.LimitNumbers.{LimitNumbers}
@@ -67,10 +67,6 @@ after_piece state piece = fold after_byte state piece
 -- the run at the end of the input
 unfoldable pub at_end : State → State
 at_end state = if length state.pending == 0 then state else after_line state
-
--- the bytes are of one line
-abbrev pub IsWithinLine : List ℕ → Type 0
-IsWithinLine bytes = All (λ b. is_line_feed b ≡ false) bytes
 
 -- the allocator as it was, or after that line
 abbrev pub HasTakenAtMost : Machine → List ℕ → Machine → Type 0

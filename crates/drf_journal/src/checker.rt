@@ -1,9 +1,9 @@
 //! A check of a journal between two reads.
 ghost use Rattle.std.specs.Prelude.{◌≡◌, ℕ, ◌+◌, ◌*◌, ◌^◌, ◌<◌, ◌≤◌, [], ◌∷◌, ◌++◌, List, length, OnOk, IfOk};
 ghost use Rattle.drf_rows.specs.LimitNumbers.{LimitNumbers};
+ghost use Rattle.drf_journal.specs.Lines.{IsWithinLine};
 ghost use Rattle.drf_journal.specs.Checking.{after_event_line, IsCheckedTo, HasChecked};
 ghost use Rattle.drf_journal.specs.Journal.{IsVerdict};
-ghost use Rattle.drf_journal.specs.State.{IsWithinLine};
 
 use crate::answer::answer_end;
 use crate::due::Due;

@@ -21,4 +21,5 @@ pub use explain::run_explain;
 pub use fault::RunFault;
 pub use journal::{Verdict, verify};
 pub use laws::verdict_law;
+pub use open_line::line_feed_in;
 pub use session::Session;

@@ -1,8 +1,9 @@
 //! How a stream is cut into lines: what is kept of the line at hand, and where it ends.
 ghost use Rattle.std.specs.Prelude.{◌≡◌, ◌++◌, ◌<◌, [], length, take, slice_index, IsTrue, ◌↔◌, OnOk, IfSome, IfNone};
+ghost use Rattle.drf_journal.specs.Lines.{IsWithinLine};
 ghost use Rattle.drf_journal.specs.Output.{kept_of};
-ghost use Rattle.drf_journal.specs.State.{IsWithinLine};
 
+use memchr::memchr;
 use std::alloc::{AllocError, Global};
 use std::marker::Model;
 
@@ -72,9 +73,9 @@ impl OpenLine {
 }
 
 /// Where the first line feed stands.
-pub(crate) fn line_feed_in(bytes: &[u8]) -> Option<usize>
+pub fn line_feed_in(bytes: &[u8]) -> Option<usize>
     ensures found { IfSome result (λ at. (at < length bytes.now) × (slice_index bytes.now at ≡ 10) × IsWithinLine (take at bytes.now)) }
     ensures none { IfNone result (IsWithinLine bytes.now) }
 {
-    bytes.iter().position(|b| *b == b'\n')
+    memchr(b'\n', bytes)
 }

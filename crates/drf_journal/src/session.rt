@@ -5,8 +5,9 @@ ghost use Rattle.drf_audit.specs.Audit.{line_of};
 ghost use Rattle.drf_explain.specs.Explained.{explained};
 ghost use Rattle.drf_explain.specs.ExplainedText.{explained_text};
 ghost use Rattle.drf_rows.specs.declared.limits.TheConstants.{LATEST_MOMENT};
+ghost use Rattle.drf_journal.specs.Lines.{IsWithinLine};
 ghost use Rattle.drf_journal.specs.Device.{AppendsFrontOf};
-ghost use Rattle.drf_journal.specs.State.{begun, after_piece, at_end, IsWithinLine, HasTakenAtMost, WaitsBelow, AnswersFrontOf};
+ghost use Rattle.drf_journal.specs.State.{begun, after_piece, at_end, HasTakenAtMost, WaitsBelow, AnswersFrontOf};
 
 use crate::answer::answer_end;
 use crate::device::{Device, write_whole};

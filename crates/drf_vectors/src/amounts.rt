@@ -1,129 +1,135 @@
 //! Amounts as texts, `none` being the empty one, and what two of them have to do with one another.
-use crate::halves;
-use anyhow::{Context, Result};
-use drf_amount::{Algebra, AlgebraFault, Scalar};
+use crate::answer::Answer;
+use crate::subject::{Subject, asked, read_all, read_both};
+use drf_amount::{Algebra, Scalar};
 use drf_kinds::{Items, Ranges};
 use drf_role::Label;
-use std::alloc::Global;
-use std::fmt::Write;
+use std::fmt::Display;
 
-pub trait Amount: Algebra {
-    fn from_text(alloc: Global, text: &str) -> Result<Self>;
+const NONE: &str = "none";
 
-    /// Adds the text of an amount that is not empty.
-    fn append(&self, alloc: Global, told: &mut String) -> Result<()>;
+pub trait Amount: Subject + Algebra {
+    /// Tells an amount that is not empty.
+    fn tell(&self, answer: &mut Answer);
+}
+
+impl Subject for Scalar {
+    fn from_text(answer: &mut Answer, text: &str) -> Option<Scalar> {
+        if text == NONE {
+            return Some(Scalar::empty(answer.alloc()));
+        }
+        let thousandths = u64::from_text(answer, text)?;
+        Some(Scalar::new(thousandths))
+    }
 }
 
 impl Amount for Scalar {
-    fn from_text(_alloc: Global, text: &str) -> Result<Scalar> {
-        Ok(Scalar::new(text.parse::<u64>()?))
+    fn tell(&self, answer: &mut Answer) {
+        answer.show(&self.thousandths());
     }
+}
 
-    fn append(&self, _alloc: Global, told: &mut String) -> Result<()> {
-        Ok(write!(told, "{}", self.thousandths())?)
+fn read_pairs(answer: &mut Answer, pairs: &mut Vec<(u32, u32)>, text: &str) -> Option<()> {
+    for text in text.split(',') {
+        let pair = read_both::<u32, u32>(answer, text, '-')?;
+        answer.found(pairs.push(pair))?;
+    }
+    Some(())
+}
+
+impl Subject for Ranges {
+    fn from_text(answer: &mut Answer, text: &str) -> Option<Ranges> {
+        let alloc = answer.alloc();
+        if text == NONE {
+            return Some(Ranges::empty(alloc));
+        }
+        let mut pairs = Vec::new(alloc);
+        read_pairs(answer, &mut pairs, text)?;
+        answer.found(Ranges::from_pairs(alloc, &pairs))
     }
 }
 
 impl Amount for Ranges {
-    fn from_text(alloc: Global, text: &str) -> Result<Ranges> {
-        let mut pairs = Vec::new(alloc);
-        for text in text.split(',') {
-            let (first, last) = halves(text, '-')?;
-            pairs.push((first.parse::<u32>()?, last.parse::<u32>()?))?;
-        }
-        Ok(Ranges::from_pairs(alloc, &pairs)?)
-    }
-
-    fn append(&self, _alloc: Global, told: &mut String) -> Result<()> {
+    fn tell(&self, answer: &mut Answer) {
         for interval in self.intervals() {
-            write!(told, "{}-{},", interval.first, interval.last)?;
+            answer.show(&interval.first);
+            answer.say("-");
+            answer.show(&interval.last);
+            answer.say(",");
         }
-        let _ = told.pop();
-        Ok(())
+        answer.end();
+    }
+}
+
+impl Subject for Items {
+    fn from_text(answer: &mut Answer, text: &str) -> Option<Items> {
+        let alloc = answer.alloc();
+        if text == NONE {
+            return Some(Items::empty(alloc));
+        }
+        let mut names = Vec::<Label>::new(alloc);
+        read_all(answer, &mut names, text, ',')?;
+        answer.found(Items::from_names(alloc, names))
     }
 }
 
 impl Amount for Items {
-    fn from_text(alloc: Global, text: &str) -> Result<Items> {
-        let mut names = Vec::new(alloc);
-        for name in text.split(',') {
-            names.push(Label::read(alloc, name)?)?;
-        }
-        Ok(Items::from_names(alloc, names)?)
-    }
-
-    fn append(&self, _alloc: Global, told: &mut String) -> Result<()> {
+    fn tell(&self, answer: &mut Answer) {
         for name in self.names() {
-            write!(told, "{},", name.text())?;
+            answer.say(name.text());
+            answer.say(",");
         }
-        let _ = told.pop();
-        Ok(())
+        answer.end();
     }
 }
 
-pub fn read<A: Amount>(alloc: Global, text: &str) -> Result<A> {
-    if text == "none" {
-        return Ok(A::empty(alloc));
-    }
-    A::from_text(alloc, text)
-}
-
-pub fn append<A: Amount>(alloc: Global, told: &mut String, amount: &A) -> Result<()> {
+pub fn tell<A: Amount>(answer: &mut Answer, amount: &A) {
     if amount.is_empty() {
-        return Ok(told.push_str("none")?);
-    }
-    amount.append(alloc, told)
-}
-
-fn append_outcome<A: Amount>(
-    alloc: Global,
-    told: &mut String,
-    answer: Result<A, AlgebraFault>,
-) -> Result<()> {
-    match answer {
-        Ok(amount) => append(alloc, told, &amount),
-        Err(fault) => Ok(write!(told, "{fault}")?),
+        answer.say(NONE);
+    } else {
+        amount.tell(answer);
     }
 }
 
-fn append_comparison<A: Amount>(
-    alloc: Global,
-    told: &mut String,
-    one: &A,
-    other: &A,
-) -> Result<()> {
-    told.push_str("join ")?;
-    append_outcome(alloc, told, one.try_join(other))?;
-    told.push_str("; rest ")?;
-    append_outcome(alloc, told, one.try_minus(other))?;
-    let (covers, disjoint) = (one.covers(other), one.disjoint(other));
-    Ok(write!(told, "; covers {covers}; disjoint {disjoint}")?)
+/// Tells an amount that was found, or its fault.
+pub fn told<A: Amount, F: Display + Drop>(answer: &mut Answer, sought: Result<A, F>) {
+    if let Some(amount) = answer.found(sought) {
+        tell(answer, &amount);
+    }
+}
+
+fn compared<A: Amount>(answer: &mut Answer, amounts: &(A, A)) {
+    let (one, other) = amounts;
+    answer.say("join ");
+    told(answer, one.try_join(other));
+    answer.say("; rest ");
+    told(answer, one.try_minus(other));
+    answer.say("; covers ");
+    answer.show(&one.covers(other));
+    answer.say("; disjoint ");
+    answer.show(&one.disjoint(other));
 }
 
 /// A copy of an amount, and how much it is.
-fn append_copy<A: Amount>(alloc: Global, told: &mut String, amount: &A) -> Result<()> {
-    let copy = amount.copy()?;
-    append(alloc, told, &copy)?;
-    write!(told, "; amount {}", copy.amount()).context("no memory")
+fn copied<A: Amount>(answer: &mut Answer, amount: &A) {
+    told(answer, amount.copy());
+    answer.say("; amount ");
+    answer.show(&amount.amount());
 }
 
-/// A copy of one amount and how much it is, or two amounts compared.
-pub fn compared<A: Amount>(alloc: Global, told: &mut String, text: &str) -> Result<()> {
-    if let Some((one, other)) = text.split_once(' ') {
-        return append_comparison::<A>(alloc, told, &read(alloc, one)?, &read(alloc, other)?);
+/// A copy of one amount, or two amounts compared.
+pub fn answers<A: Amount>(answer: &mut Answer, text: &str) {
+    if text.contains(' ') {
+        asked::<(A, A), _>(answer, text, compared::<A>);
+    } else {
+        asked::<A, _>(answer, text, copied::<A>);
     }
-    append_copy::<A>(alloc, told, &read(alloc, text)?)
 }
 
-pub fn has_number(alloc: Global, told: &mut String, text: &str) -> Result<()> {
-    let (ranges, number) = halves(text, ' ')?;
-    let number = number.parse::<u32>()?;
-    let has = read::<Ranges>(alloc, ranges)?.contains(number);
-    Ok(write!(told, "{has}")?)
+pub fn has_number(answer: &mut Answer, of: &(Ranges, u32)) {
+    answer.show(&of.0.contains(of.1));
 }
 
-pub fn has_name(alloc: Global, told: &mut String, text: &str) -> Result<()> {
-    let (items, name) = halves(text, ' ')?;
-    let has = read::<Items>(alloc, items)?.contains(name);
-    Ok(write!(told, "{has}")?)
+pub fn has_name(answer: &mut Answer, of: &(Items, Label)) {
+    answer.show(&of.0.contains(of.1.text()));
 }

@@ -1,10 +1,10 @@
 //! An audit of agents and of what is held on them: `agent NAME TOTAL`, `offer AGENT BUNDLE`, `task AGENT BUNDLE`, each after `; `.
-use crate::halves;
-use anyhow::{Context, Result, bail};
+use crate::answer::Answer;
+use crate::subject::{Subject, halves};
 use drf_audit::{AuditLine, audit, write_audit_line};
+use drf_bundle::Bundle;
 use drf_role::{Name, Role};
 use drf_rows::{AgentRow, OfferRow, Rows, Table, TaskRow};
-use drf_text::read_bundle;
 use std::alloc::Global;
 use std::thread::Threads;
 
@@ -15,68 +15,92 @@ struct Cluster {
     tasks: Vec<TaskRow>,
 }
 
-fn agent(alloc: Global, name: &str, total: &str) -> Result<AgentRow> {
-    Ok(AgentRow {
-        name: Name::read(alloc, name)?,
-        total: read_bundle(alloc, total)?,
-        active: true,
-    })
+impl Subject for AgentRow {
+    fn from_text(answer: &mut Answer, text: &str) -> Option<AgentRow> {
+        let (name, total) = <(Name, Bundle)>::from_text(answer, text)?;
+        Some(AgentRow {
+            name,
+            total,
+            active: true,
+        })
+    }
 }
 
-fn task(alloc: Global, agent: &str, bundle: &str) -> Result<TaskRow> {
-    Ok(TaskRow {
-        name: Name::read(alloc, "t")?,
-        agent: Name::read(alloc, agent)?,
-        framework: Name::read(alloc, "f1")?,
-        role: Role::read(alloc, "a")?,
-        bundle: read_bundle(alloc, bundle)?,
-    })
+/// The framework, its role and the task are always the same.
+impl Subject for TaskRow {
+    fn from_text(answer: &mut Answer, text: &str) -> Option<TaskRow> {
+        let of_whom = <(Name, (Name, Role))>::from_text(answer, "t f1 a")?;
+        let held = <(Name, Bundle)>::from_text(answer, text)?;
+        Some(task(of_whom, held))
+    }
+}
+
+fn task(of_whom: (Name, (Name, Role)), held: (Name, Bundle)) -> TaskRow {
+    let (name, (framework, role)) = of_whom;
+    let (agent, bundle) = held;
+    TaskRow {
+        name,
+        agent,
+        framework,
+        role,
+        bundle,
+    }
 }
 
 /// An offer of what a task would have.
-fn offer(alloc: Global, agent: &str, bundle: &str) -> Result<OfferRow> {
-    let TaskRow {
-        name: _,
-        agent,
-        framework,
-        role,
-        bundle,
-    } = task(alloc, agent, bundle)?;
-    Ok(OfferRow {
-        number: 1,
-        agent,
-        framework,
-        role,
-        bundle,
-    })
+impl Subject for OfferRow {
+    fn from_text(answer: &mut Answer, text: &str) -> Option<OfferRow> {
+        let TaskRow {
+            name: _,
+            agent,
+            framework,
+            role,
+            bundle,
+        } = TaskRow::from_text(answer, text)?;
+        Some(OfferRow {
+            number: 1,
+            agent,
+            framework,
+            role,
+            bundle,
+        })
+    }
 }
 
-fn add(alloc: Global, cluster: &mut Cluster, text: &str) -> Result<()> {
-    let (kind, text) = halves(text, ' ')?;
-    let (name, bundle) = halves(text, ' ')?;
+fn add<T: Subject>(answer: &mut Answer, rows: &mut Vec<T>, text: &str) {
+    if let Some(row) = T::from_text(answer, text) {
+        let _ = answer.found(rows.push(row));
+    }
+}
+
+fn add_row(answer: &mut Answer, cluster: &mut Cluster, text: &str) -> Option<()> {
+    let (kind, text) = halves(answer, text, ' ')?;
     match kind {
-        "agent" => Ok(cluster.agents.push(agent(alloc, name, bundle)?)?),
-        "offer" => Ok(cluster.offers.push(offer(alloc, name, bundle)?)?),
-        "task" => Ok(cluster.tasks.push(task(alloc, name, bundle)?)?),
-        _ => bail!("no row"),
+        "agent" => add(answer, &mut cluster.agents, text),
+        "offer" => add(answer, &mut cluster.offers, text),
+        "task" => add(answer, &mut cluster.tasks, text),
+        _ => answer.say("no row"),
+    }
+    Some(())
+}
+
+fn add_all(answer: &mut Answer, cluster: &mut Cluster, texts: &str) {
+    for text in texts.split("; ") {
+        let _ = add_row(answer, cluster, text);
     }
 }
 
-fn add_all(alloc: Global, cluster: &mut Cluster, text: &str) -> Result<()> {
-    for text in text.split("; ") {
-        add(alloc, cluster, text)?;
+impl Subject for Rows {
+    fn from_text(answer: &mut Answer, texts: &str) -> Option<Rows> {
+        let alloc = answer.alloc();
+        let mut cluster = Cluster {
+            agents: Vec::new(alloc),
+            offers: Vec::new(alloc),
+            tasks: Vec::new(alloc),
+        };
+        add_all(answer, &mut cluster, texts);
+        Some(rows(alloc, cluster))
     }
-    Ok(())
-}
-
-fn read_rows(alloc: Global, text: &str) -> Result<Rows> {
-    let mut cluster = Cluster {
-        agents: Vec::new(alloc),
-        offers: Vec::new(alloc),
-        tasks: Vec::new(alloc),
-    };
-    add_all(alloc, &mut cluster, text)?;
-    Ok(rows(alloc, cluster))
 }
 
 fn rows(alloc: Global, cluster: Cluster) -> Rows {
@@ -99,43 +123,26 @@ fn rows(alloc: Global, cluster: Cluster) -> Rows {
     }
 }
 
-fn write_all(alloc: Global, lines: &[AuditLine], text: &mut Vec<u8>) -> Result<()> {
+fn write_all(answer: &mut Answer, lines: &[AuditLine], text: &mut Vec<u8>) {
     for line in lines {
-        write_audit_line(alloc, line, text)?;
+        let _ = answer.found(write_audit_line(answer.alloc(), line, text));
     }
     // The last line feed.
     let _ = text.pop();
-    Ok(())
 }
 
-fn append_lines(alloc: Global, told: &mut String, lines: &[AuditLine]) -> Result<()> {
-    let mut text = Vec::new(alloc);
-    write_all(alloc, lines, &mut text)?;
-    append_text(told, &text)
-}
-
-fn append_text(told: &mut String, text: &[u8]) -> Result<()> {
-    let text = str::from_utf8(text).ok().context("no text")?;
-    Ok(told.push_str(text)?)
-}
-
-fn append_audit(
-    rt: &(impl Threads + Sync),
-    alloc: Global,
-    told: &mut String,
-    rows: &Rows,
-) -> Result<()> {
-    let lines = audit(rt, alloc, rows)?;
-    append_lines(alloc, told, lines.as_slice())
+fn tell(answer: &mut Answer, lines: &[AuditLine]) {
+    let mut text = Vec::new(answer.alloc());
+    write_all(answer, lines, &mut text);
+    match str::from_utf8(&text) {
+        Ok(text) => answer.say(text),
+        Err(_) => answer.say("no text"),
+    }
 }
 
 /// The lines of the audit.
-pub fn audited(
-    rt: &(impl Threads + Sync),
-    alloc: Global,
-    told: &mut String,
-    text: &str,
-) -> Result<()> {
-    let rows = read_rows(alloc, text)?;
-    append_audit(rt, alloc, told, &rows)
+pub fn audited(rt: &(impl Threads + Sync), answer: &mut Answer, rows: &Rows) {
+    if let Some(lines) = answer.found(audit(rt, answer.alloc(), rows)) {
+        tell(answer, lines.as_slice());
+    }
 }

@@ -5,18 +5,19 @@ ghost use Rattle.drf_rows.specs.declared.reply.Refusal.TheVariants.{KnownAgent};
 ghost use Rattle.drf_rows.specs.declared.reply.Reply.TheVariants.{Done, Refused};
 ghost use Rattle.drf_vectors.specs.OneAgent.{agent_added, one_cpu, once, sheet_after};
 
-use crate::texts::append_quantities;
-use anyhow::{Context, Result};
+use crate::answer::Answer;
+use crate::subject::{Subject, asked};
+use crate::texts::quantities;
 use drf_amount::Scalar;
 use drf_board::{Board, Brand, Naming, Pane, Sheet, Shows, Slate, Told, Viewer};
 use drf_bundle::{Bundle, Value};
 use drf_role::{Label, Name, Role};
 use drf_rows::{Event, Limits, Refusal, Reply, Report, Table};
+use drf_text::TextFault;
 use std::alloc::Global;
-use std::fmt::Write;
 use std::sync::Wait;
 
-fn one_cpu(alloc: Global) -> Result<Bundle>
+fn one_cpu(alloc: Global) -> Result<Bundle, TextFault>
     ensures { IfOk result (λ bundle. bundle ≡ one_cpu) }
 {
     let label = Label::read(alloc, "cpus")?;
@@ -25,7 +26,7 @@ fn one_cpu(alloc: Global) -> Result<Bundle>
     Ok(Bundle::one(alloc, &label, &everyone, amount)?)
 }
 
-fn agent_added(alloc: Global) -> Result<Event>
+fn agent_added(alloc: Global) -> Result<Event, TextFault>
     ensures { IfOk result (λ event. event ≡ agent_added) }
 {
     let total = one_cpu(alloc)?;
@@ -33,7 +34,34 @@ fn agent_added(alloc: Global) -> Result<Event>
     Ok(Event::AddAgent { agent, total })
 }
 
-fn sheet_after(alloc: Global, events: u64) -> Result<Sheet>
+/// An event by which one agent registers, the reply to it, and the reply to it once more. Who owns one of them proves for each `?`
+/// behind it how it is dropped.
+#[derive(Drop)]
+struct Added {
+    event: Event,
+    done: Reply,
+    known: Reply,
+    ghost is_event: { event ≡ agent_added },
+    ghost is_done: { done ≡ Done },
+    ghost is_known: { known ≡ Refused KnownAgent },
+}
+
+fn read_added(alloc: Global) -> Result<Added, TextFault> {
+    let event = agent_added(alloc)?;
+    Ok(Added {
+        event,
+        done: Reply::Done,
+        known: Reply::Refused(Refusal::KnownAgent),
+    })
+}
+
+impl Subject for Added {
+    fn from_text(answer: &mut Answer, _text: &str) -> Option<Added> {
+        answer.found(read_added(answer.alloc()))
+    }
+}
+
+fn sheet_after(alloc: Global, events: u64) -> Result<Sheet, TextFault>
     ensures { IfOk result (λ sheet. sheet ≡ sheet_after events) }
 {
     let bundle = one_cpu(alloc)?;
@@ -48,168 +76,127 @@ fn sheet_after(alloc: Global, events: u64) -> Result<Sheet>
 fn publish_once<K: Naming, R: Wait + Drop>(
     alloc: Global,
     board: &mut Board<K, R>,
-    event: &Event,
-    reply: &Reply,
-) -> Result<Told<K>>
+    added: &Added,
+) -> Result<Told<K>, TextFault>
 where
     Pane<K>: Shows,
     requires limits { K.slate.limits ≡ ceilings }
     requires none { board.old.entries ≡ [] }
-    requires event { event.now ≡ agent_added }
-    requires reply { reply.now ≡ Done }
     ensures { OnOk result (board.new.entries ≡ once) }
 {
     let sheet = sheet_after(alloc, 1)?;
-    Ok(board.publish(sheet, event, reply)?)
+    Ok(board.publish(sheet, &added.event, &added.done)?)
 }
 
 fn publish_again<K: Naming, R: Wait + Drop>(
     alloc: Global,
     board: &mut Board<K, R>,
-    event: &Event,
-    reply: &Reply,
-) -> Result<Told<K>>
+    added: &Added,
+) -> Result<Told<K>, TextFault>
 where
     Pane<K>: Shows,
     requires limits { K.slate.limits ≡ ceilings }
     requires once { board.old.entries ≡ once }
-    requires event { event.now ≡ agent_added }
-    requires reply { reply.now ≡ Refused KnownAgent }
 {
     let sheet = sheet_after(alloc, 2)?;
-    Ok(board.publish(sheet, event, reply)?)
+    Ok(board.publish(sheet, &added.event, &added.known)?)
 }
 
-fn append_shown(alloc: Global, told: &mut String, sheet: &Sheet) -> Result<()> {
-    write!(told, "; {} events (", sheet.events)?;
-    append_quantities(alloc, told, &sheet.report.total)?;
-    Ok(told.push(')')?)
+fn tell_sheet(answer: &mut Answer, sheet: &Sheet) {
+    answer.say("; ");
+    answer.show(&sheet.events);
+    answer.say(" events (");
+    quantities(answer, &sheet.report.total);
+    answer.say(")");
 }
 
-fn append_sheet<K: Naming>(alloc: Global, told: &mut String, viewer: &mut Viewer<K>) -> Result<()> {
-    let sheet = viewer.read().ok().context("nothing is shown")?;
-    append_shown(alloc, told, &sheet)
-}
-
-fn append_sheets<K: Naming>(
-    alloc: Global,
-    told: &mut String,
-    viewers: &mut [Viewer<K>],
-) -> Result<()> {
-    for viewer in viewers.iter_mut() {
-        append_sheet(alloc, told, viewer)?;
+fn tell_read<K: Naming>(answer: &mut Answer, viewer: &mut Viewer<K>) {
+    match viewer.read() {
+        Ok(sheet) => tell_sheet(answer, &sheet),
+        Err(_) => answer.say("; nothing is shown"),
     }
-    Ok(())
+}
+
+fn tell_all<K: Naming>(answer: &mut Answer, viewers: &mut [Viewer<K>]) {
+    for viewer in viewers.iter_mut() {
+        tell_read(answer, viewer);
+    }
+}
+
+fn tell_viewers<K: Naming, R: Wait + Drop>(answer: &mut Answer, board: &Board<K, R>)
+where
+    Pane<K>: Shows,
+{
+    answer.show(&board.viewers());
+    answer.say(" viewers");
 }
 
 /// What the viewers read at first, and after both calls, of which the first viewer learns the second.
 fn watched<K: Naming, R: Wait + Drop>(
-    alloc: Global,
-    told: &mut String,
+    answer: &mut Answer,
     board: &mut Board<K, R>,
     viewers: &mut [Viewer<K>],
-    event: &Event,
-    replies: (&Reply, &Reply),
-) -> Result<()>
+    added: &Added,
+) -> Result<(), TextFault>
 where
     Pane<K>: Shows,
     requires limits { K.slate.limits ≡ ceilings }
     requires none { board.old.entries ≡ [] }
-    requires event { event.now ≡ agent_added }
-    requires first { replies.0.now ≡ Done }
-    requires second { replies.1.now ≡ Refused KnownAgent }
 {
-    write!(told, "{} viewers", board.viewers())?;
-    append_sheets(alloc, told, viewers)?;
-    publish_once(alloc, board, event, replies.0)?;
-    let told_again = publish_again(alloc, board, event, replies.1)?;
+    let alloc = answer.alloc();
+    tell_viewers(answer, board);
+    tell_all(answer, viewers);
+    publish_once(alloc, board, added)?;
+    let told_again = publish_again(alloc, board, added)?;
     if let Some(first) = viewers.first_mut() {
         first.learn(&told_again);
     }
-    append_sheets(alloc, told, viewers)
-}
-
-/// The event and the replies are lent: who owns one proves for each `?` behind it how it is dropped.
-fn replied<K: Naming, R: Wait + Drop>(
-    alloc: Global,
-    told: &mut String,
-    board: &mut Board<K, R>,
-    viewers: &mut [Viewer<K>],
-    event: &Event,
-) -> Result<()>
-where
-    Pane<K>: Shows,
-    requires limits { K.slate.limits ≡ ceilings }
-    requires none { board.old.entries ≡ [] }
-    requires event { event.now ≡ agent_added }
-{
-    let done = Reply::Done;
-    let known = Reply::Refused(Refusal::KnownAgent);
-    watched(alloc, told, board, viewers, event, (&done, &known))
-}
-
-fn shown_to<K: Naming, R: Wait + Drop>(
-    rt: R,
-    alloc: Global,
-    told: &mut String,
-    slate: Slate,
-) -> Result<()>
-    requires named { slate.name ≡ K.slate }
-    requires limits { slate.name.limits ≡ ceilings }
-{
-    let (mut board, mut viewers) = Board::<K, R>::open(rt, alloc, slate)?;
-    let event = agent_added(alloc)?;
-    replied(alloc, told, &mut board, viewers.as_mut_slice(), &event)
-}
-
-fn append_viewers<K: Naming, R: Wait + Drop>(told: &mut String, board: &Board<K, R>) -> Result<()>
-where
-    Pane<K>: Shows,
-{
-    Ok(write!(told, "{} viewers", board.viewers())?)
+    tell_all(answer, viewers);
+    Ok(())
 }
 
 /// A board that nobody looks at takes an event, and shows none.
-fn unwatched<K: Naming, R: Wait + Drop>(
-    told: &mut String,
+fn used<K: Naming, R: Wait + Drop>(
+    answer: &mut Answer,
     board: &mut Board<K, R>,
-    event: &Event,
-) -> Result<()>
+    viewers: &mut [Viewer<K>],
+    added: &Added,
+) -> Result<(), TextFault>
 where
     Pane<K>: Shows,
     requires limits { K.slate.limits ≡ ceilings }
-    requires unseen { board.old.viewers ≡ 0 }
     requires none { board.old.entries ≡ [] }
-    requires event { event.now ≡ agent_added }
 {
-    let done = Reply::Done;
-    board.publish_unseen(event, &done);
-    append_viewers(told, board)
+    if board.viewers() > 0 {
+        return watched(answer, board, viewers, added);
+    }
+    board.publish_unseen(&added.event, &added.done);
+    tell_viewers(answer, board);
+    Ok(())
 }
 
-fn shown_to_none<K: Naming, R: Wait + Drop>(
+fn opened<K: Naming, R: Wait + Drop>(
     rt: R,
-    alloc: Global,
-    told: &mut String,
+    answer: &mut Answer,
     slate: Slate,
-) -> Result<()>
+    added: &Added,
+) -> Result<(), TextFault>
     requires named { slate.name ≡ K.slate }
     requires limits { slate.name.limits ≡ ceilings }
-    requires unseen { slate.viewers ≡ 0 }
 {
-    let (mut board, _) = Board::<K, R>::open(rt, alloc, slate)?;
-    let event = agent_added(alloc)?;
-    unwatched(told, &mut board, &event)
+    let (mut board, mut viewers) = Board::<K, R>::open(rt, answer.alloc(), slate)?;
+    used(answer, &mut board, viewers.as_mut_slice(), added)
 }
 
-/// A board that nobody looks at.
-pub fn hidden<R: Wait>(rt: &R, alloc: Global, told: &mut String) -> Result<()> {
-    let slate = Slate::open(0, Limits::full())?;
-    shown_to_none::<Brand, &R>(rt, alloc, told, slate)
+fn board<R: Wait>(rt: &R, answer: &mut Answer, seats: u64, added: &Added) -> Result<(), TextFault> {
+    let slate = Slate::open(seats.min(64), Limits::full())?;
+    opened::<Brand, &R>(rt, answer, slate, added)
 }
 
-/// What two viewers read.
-pub fn shown<R: Wait>(rt: &R, alloc: Global, told: &mut String) -> Result<()> {
-    let slate = Slate::open(2, Limits::full())?;
-    shown_to::<Brand, &R>(rt, alloc, told, slate)
+/// What so many viewers read.
+pub fn answers<R: Wait>(rt: &R, answer: &mut Answer, seats: u64) {
+    asked(answer, "", |answer: &mut Answer, added: &Added| {
+        let told = board(rt, answer, seats, added);
+        let _ = answer.found(told);
+    });
 }

@@ -1,218 +1,198 @@
-//! Quota limits: what a role consumes, then calls, each after `; `. Amounts are written `cpus=1500,mem=10`, in thousandths, and `none`
-//! is for no names.
+//! Quota limits: what a role consumes, then calls, each after `; `.
 ghost use Rattle.std.specs.Prelude.{◌≡◌, ℕ, ◌<◌, ◌^◌, List, []};
 ghost use Rattle.drf_bundle.specs.Quantities.{amount_of};
 
-use crate::halves;
-use crate::quantities::{append, read};
-use crate::texts::read_both;
-use anyhow::{Context, Result, bail};
+use crate::answer::Answer;
+use crate::quantities::tell;
+use crate::small::Small;
+use crate::subject::{Subject, asked};
 use drf_bundle::{Bundle, Quantities};
 use drf_gates::Quota;
 use drf_role::Role;
 use drf_rows::LimitRow;
-use std::alloc::Global;
-use std::fmt::Write;
+use std::alloc::AllocError;
 
-fn limit(alloc: Global, text: &str) -> Result<Quantities> {
-    if text == "none" {
-        return Ok(Quantities::empty(alloc));
-    }
-    read(alloc, text)
-}
-
-fn set_limit(alloc: Global, told: &mut String, quota: &mut Quota, text: &str) -> Result<()>
+fn set_limit(answer: &mut Answer, quota: &mut Quota, text: &str) -> Option<()>
     ensures { quota.new.used ≡ quota.old.used }
 {
-    let (role, text) = halves(text, ' ')?;
-    quota.set_limit(Role::read(alloc, role)?, limit(alloc, text)?)?;
-    Ok(write!(told, "{} limits", quota.limit_count())?)
+    let (role, limit) = <(Role, Small)>::from_text(answer, text)?;
+    answer.found(quota.set_limit(role, limit.amounts))?;
+    answer.show(&quota.limit_count());
+    answer.say(" limits");
+    Some(())
 }
 
-fn append_headroom(told: &mut String, quota: &Quota, role: &Role) -> Result<()> {
-    let room = quota.headroom(role)?;
-    append(told, "", &room)
+fn headroom(answer: &mut Answer, quota: &Quota, role: &Role) {
+    if let Some(room) = answer.found(quota.headroom(role)) {
+        tell(answer, &room);
+    }
 }
 
-fn append_admits(
-    alloc: Global,
-    told: &mut String,
-    quota: &Quota,
-    role: &Role,
-    text: &str,
-) -> Result<()> {
-    let more = limit(alloc, text)?;
-    write!(told, "{}", quota.admits(role, &more)).context("no memory")
+fn admits(answer: &mut Answer, quota: &Quota, role: &Role, text: &str) {
+    if let Some(more) = Small::from_text(answer, text) {
+        answer.show(&quota.admits(role, &more.amounts));
+    }
 }
 
 /// The roles that have a limit, in the order in which they got one.
-fn append_rows(told: &mut String, rows: &[LimitRow]) -> Result<()> {
+fn tell_rows(answer: &mut Answer, rows: &[LimitRow]) {
     for row in rows {
-        write!(told, "{} ", row.role.text())?;
-        append(told, "", &row.limit)?;
-        told.push(' ')?;
+        answer.say(row.role.text());
+        answer.say(" ");
+        tell(answer, &row.limit);
+        answer.say(" ");
     }
-    let _ = told.pop();
-    Ok(())
+    answer.end();
 }
 
-fn limited(told: &mut String, quota: &Quota) -> Result<()> {
-    let rows = quota.rows()?;
-    append_rows(told, rows.as_slice())
+fn limits(answer: &mut Answer, quota: &Quota) {
+    if let Some(rows) = answer.found(quota.rows()) {
+        tell_rows(answer, rows.as_slice());
+    }
+}
+
+fn limit(answer: &mut Answer, quota: &Quota, role: &Role) {
+    match quota.limit(role) {
+        Some(limit) => tell(answer, limit),
+        None => answer.say("no limit"),
+    }
+}
+
+fn headroom_at(answer: &mut Answer, quota: &Quota, role: &Role, label: &str) {
+    match quota.headroom_at(role, label) {
+        Some(room) => answer.show(&room),
+        None => answer.say("no bound"),
+    }
 }
 
 /// What a quota answers of a role, and what stands behind it.
-fn ask_of(
-    alloc: Global,
-    told: &mut String,
-    quota: &Quota,
-    call: &str,
-    role: &Role,
-    text: &str,
-) -> Result<()> {
+fn ask_of(answer: &mut Answer, quota: &Quota, call: &str, role: &Role, text: &str) {
     match call {
-        "limit" => append(told, "", quota.limit(role).context("no limit")?),
-        "headroom" => append_headroom(told, quota, role),
-        "headroom_at" => {
-            let room = quota.headroom_at(role, text).context("no bound")?;
-            Ok(write!(told, "{room}")?)
-        }
-        "consumption" => Ok(write!(told, "{}", quota.consumption(role, text))?),
-        "admits" => append_admits(alloc, told, quota, role, text),
-        _ => bail!("no call"),
+        "limit" => limit(answer, quota, role),
+        "headroom" => headroom(answer, quota, role),
+        "headroom_at" => headroom_at(answer, quota, role, text),
+        "consumption" => answer.show(&quota.consumption(role, text)),
+        "admits" => admits(answer, quota, role, text),
+        _ => answer.say("no call"),
     }
 }
 
-fn ask(alloc: Global, told: &mut String, quota: &Quota, call: &str, text: &str) -> Result<()> {
+fn ask(answer: &mut Answer, quota: &Quota, call: &str, text: &str) {
     if call == "limits" {
-        return limited(told, quota);
+        return limits(answer, quota);
     }
     let (role, text) = text.split_once(' ').unwrap_or((text, ""));
-    let role = Role::read(alloc, role)?;
-    ask_of(alloc, told, quota, call, &role, text)
+    asked(answer, role, |answer: &mut Answer, role: &Role| {
+        ask_of(answer, quota, call, role, text)
+    });
 }
 
-fn ask_copy(alloc: Global, told: &mut String, quota: &Quota, text: &str) -> Result<()> {
+fn ask_copy(answer: &mut Answer, quota: &Quota, text: &str) {
     let (call, text) = text.split_once(' ').unwrap_or((text, ""));
-    let copy = quota.copy()?;
-    ask(alloc, told, &copy, call, text)
+    if let Some(copy) = answer.found(quota.copy()) {
+        ask(answer, &copy, call, text);
+    }
 }
 
-fn call(alloc: Global, told: &mut String, quota: &mut Quota, text: &str) -> Result<()>
+fn call(answer: &mut Answer, quota: &mut Quota, text: &str)
     ensures { quota.new.used ≡ quota.old.used }
 {
     let (call, text) = text.split_once(' ').unwrap_or((text, ""));
     match call {
-        "set_limit" => set_limit(alloc, told, quota, text),
-        "copy" => ask_copy(alloc, told, quota, text),
-        _ => ask(alloc, told, quota, call, text),
+        "set_limit" => {
+            let _ = set_limit(answer, quota, text);
+        }
+        "copy" => ask_copy(answer, quota, text),
+        _ => ask(answer, quota, call, text),
     }
 }
 
-fn append_call(alloc: Global, told: &mut String, quota: &mut Quota, text: &str) -> Result<()>
-    ensures { quota.new.used ≡ quota.old.used }
-{
-    told.push_str("; ")?;
-    if let Err(fault) = call(alloc, told, quota, text) {
-        write!(told, "{fault}")?;
-    }
-    Ok(())
-}
-
-fn append_calls(alloc: Global, told: &mut String, quota: &mut Quota, calls: &str) -> Result<()>
+fn append_calls(answer: &mut Answer, quota: &mut Quota, calls: &str)
     ensures { quota.new.used ≡ quota.old.used }
 {
     for text in calls.split("; ") {
-        append_call(alloc, told, quota, text)?;
+        answer.say("; ");
+        call(answer, quota, text);
     }
-    Ok(())
 }
 
 /// What a role consumes of each scalar that is named.
-fn append_consumption(
-    told: &mut String,
-    quota: &Quota,
-    role: &Role,
-    names: &Quantities,
-) -> Result<()> {
+fn consumption(answer: &mut Answer, quota: &Quota, role: &Role, names: &Quantities) {
     for entry in names.entries() {
         let label = entry.label.text();
-        let used = quota.consumption(role, label);
-        write!(told, " {label}={used}")?;
+        answer.say(" ");
+        answer.say(label);
+        answer.say("=");
+        answer.show(&quota.consumption(role, label));
     }
-    Ok(())
 }
 
 /// What calls answer while a role consumes so much, and what it consumes after it released that.
 fn between(
-    alloc: Global,
-    told: &mut String,
+    answer: &mut Answer,
     quota: &mut Quota,
     role: &Role,
     amounts: &Quantities,
     calls: &str,
-) -> Result<()>
+) -> Result<(), AllocError>
     requires none { quota.old.used ≡ [] }
     requires few { (label : List ℕ) → amount_of amounts.now label < 2 ^ 32 }
 {
-    told.push_str("consumed")?;
     quota.consume(role, amounts)?;
-    append_consumption(told, quota, role, amounts)?;
-    append_calls(alloc, told, quota, calls)?;
+    answer.say("consumed");
+    consumption(answer, quota, role, amounts);
+    append_calls(answer, quota, calls);
     quota.release(role, amounts);
-    told.push_str("; released")?;
-    append_consumption(told, quota, role, amounts)
+    answer.say("; released");
+    consumption(answer, quota, role, amounts);
+    Ok(())
+}
+
+fn while_consumed(answer: &mut Answer, of: &(Role, Small), calls: &str) {
+    let mut quota = Quota::new(answer.alloc());
+    let told = between(answer, &mut quota, &of.0, &of.1.amounts, calls);
+    let _ = answer.found(told);
 }
 
 /// A role, what it consumes, and calls.
-pub fn answers(alloc: Global, told: &mut String, text: &str) -> Result<()> {
-    let (start, calls) = text.split_once("; ").context("no calls")?;
-    let (role, amounts) = halves(start, ' ')?;
-    let (role, amounts) = (Role::read(alloc, role)?, read(alloc, amounts)?);
-    let mut quota = Quota::new(alloc);
-    between(alloc, told, &mut quota, &role, &amounts, calls)
+pub fn answers(answer: &mut Answer, text: &str) {
+    let (start, calls) = text.split_once("; ").unwrap_or((text, ""));
+    asked(answer, start, |answer: &mut Answer, of: &(Role, Small)| {
+        while_consumed(answer, of, calls)
+    });
 }
 
 /// What a role consumes once a client of the other role holds the bundle.
-fn told_unreserved(
-    told: &mut String,
-    quota: &mut Quota,
-    holder: &Role,
-    bundle: &Bundle,
-) -> Result<()>
+fn told_unreserved(answer: &mut Answer, quota: &mut Quota, holder: &Role, bundle: &Bundle)
     requires { quota.old.used ≡ [] }
 {
     // The proof learns that it is a bundle by this call alone.
     let names = bundle.quantities();
-    quota.consume_unreserved(holder, bundle)?;
-    append_consumption(told, quota, holder, names)
+    if answer
+        .found(quota.consume_unreserved(holder, bundle))
+        .is_some()
+    {
+        consumption(answer, quota, holder, names);
+    }
 }
 
-fn told_reserved(told: &mut String, quota: &mut Quota, role: &Role, bundle: &Bundle) -> Result<()>
+fn told_reserved(answer: &mut Answer, quota: &mut Quota, role: &Role, bundle: &Bundle)
     requires { quota.old.used ≡ [] }
 {
     // The proof learns that it is a bundle by this call alone.
     let names = bundle.quantities();
-    quota.consume_reserved(bundle)?;
-    append_consumption(told, quota, role, names)
+    if answer.found(quota.consume_reserved(bundle)).is_some() {
+        consumption(answer, quota, role, names);
+    }
 }
 
-/// What a role consumes while a client of it holds a bundle.
-fn while_held(alloc: Global, told: &mut String, role: &Role, bundle: &Bundle) -> Result<()> {
-    told.push_str("held")?;
-    let mut quota = Quota::new(alloc);
-    told_unreserved(told, &mut quota, role, bundle)
-}
-
-/// What a role consumes, by itself, while an agent has a bundle.
-fn while_reserved(alloc: Global, told: &mut String, role: &Role, bundle: &Bundle) -> Result<()> {
-    told.push_str("; reserved")?;
-    let mut quota = Quota::new(alloc);
-    told_reserved(told, &mut quota, role, bundle)
-}
-
-pub fn of_bundle(alloc: Global, told: &mut String, text: &str) -> Result<()> {
-    let (role, bundle) = read_both(alloc, text)?;
-    while_held(alloc, told, &role, &bundle)?;
-    while_reserved(alloc, told, &role, &bundle)
+/// What a role consumes while a client of it holds a bundle, and by itself, while an agent has it.
+pub fn of_bundle(answer: &mut Answer, of: &(Role, Bundle)) {
+    let (role, bundle) = of;
+    let mut quota = Quota::new(answer.alloc());
+    answer.say("held");
+    told_unreserved(answer, &mut quota, role, bundle);
+    quota.forget();
+    answer.say("; reserved");
+    told_reserved(answer, &mut quota, role, bundle);
 }

@@ -3,127 +3,124 @@
 #![tactic(auto)]
 
 mod amounts;
+mod answer;
 mod audits;
 mod boards;
 mod limits;
 mod paths;
 mod pools;
 mod quantities;
+mod scenario;
 mod shares;
+mod small;
 mod sorters;
+mod subject;
 mod texts;
 mod words;
 
-use anyhow::{Context, Result, bail};
+use crate::answer::Answer;
+use crate::subject::asked;
 use drf_amount::Scalar;
 use drf_bundle::Bundle;
 use drf_kinds::{Items, Ranges};
 use drf_role::{Label, Name, NodePath, Role};
-use std::alloc::Global;
+use drf_rows::Rows;
 use std::io;
 use std::rt::Runtime;
 use std::sync::Wait;
 use std::thread::Threads;
 
-/// The two texts before and after the first `mark`.
-fn halves(text: &str, mark: char) -> Result<(&str, &str)> {
-    text.split_once(mark).context("half a question")
-}
-
-fn answer_of_words(alloc: Global, told: &mut String, kind: &str, text: &str) -> Result<()> {
+fn answer_of_words(answer: &mut Answer, kind: &str, text: &str) {
     match kind {
-        "name" => words::copied::<Name>(alloc, told, text),
-        "label" => words::copied::<Label>(alloc, told, text),
-        "role" => words::copied::<Role>(alloc, told, text),
-        "distinct_names" => words::distinct::<Name>(alloc, told, text),
-        "distinct_labels" => words::distinct::<Label>(alloc, told, text),
-        "distinct_roles" => words::distinct::<Role>(alloc, told, text),
-        "node" => words::copied::<NodePath>(alloc, told, text),
-        "distinct_nodes" => words::distinct::<NodePath>(alloc, told, text),
-        "sorted_names" => words::sorted::<Name>(alloc, told, text),
-        "sorted_nodes" => words::sorted::<NodePath>(alloc, told, text),
-        _ => bail!("no question"),
+        "name" => asked(answer, text, words::copied::<Name>),
+        "label" => asked(answer, text, words::copied::<Label>),
+        "role" => asked(answer, text, words::copied::<Role>),
+        "node" => asked(answer, text, words::copied::<NodePath>),
+        "distinct_names" => words::distinct::<Name>(answer, text),
+        "distinct_labels" => words::distinct::<Label>(answer, text),
+        "distinct_roles" => words::distinct::<Role>(answer, text),
+        "distinct_nodes" => words::distinct::<NodePath>(answer, text),
+        "sorted_names" => words::sorted::<Name>(answer, text),
+        "sorted_nodes" => words::sorted::<NodePath>(answer, text),
+        _ => answer.say("no question"),
     }
 }
 
-fn answer_of_paths(alloc: Global, told: &mut String, kind: &str, text: &str) -> Result<()> {
+fn answer_of_paths(answer: &mut Answer, kind: &str, text: &str) {
     match kind {
-        "parts" => paths::parts(alloc, told, text),
-        "is_default" => paths::is_default(alloc, told, text),
-        "is_within" => paths::is_within(alloc, told, text),
-        "client" => paths::client_parts(alloc, told, text),
-        "nodes" => paths::nodes(alloc, told, text),
-        "is_same_client" => paths::is_same_client(alloc, told, text),
-        _ => answer_of_words(alloc, told, kind, text),
+        "parts" => asked(answer, text, paths::parts),
+        "is_default" => asked(answer, text, paths::is_default),
+        "is_within" => asked(answer, text, paths::is_within),
+        "client" => asked(answer, text, paths::client),
+        "nodes" => asked(answer, text, paths::nodes),
+        "is_same_client" => asked(answer, text, paths::is_same_client),
+        _ => answer_of_words(answer, kind, text),
     }
 }
 
-fn answer_of_texts(alloc: Global, told: &mut String, kind: &str, text: &str) -> Result<()> {
+fn answer_of_texts(answer: &mut Answer, kind: &str, text: &str) {
     match kind {
-        "bundle" => texts::bundle(alloc, told, text),
-        "quantity_text" => texts::quantities(alloc, told, text),
-        "weight" => texts::weight(told, text),
-        "part_for" => texts::part(alloc, told, text),
-        "clip" => texts::clipped(alloc, told, text),
-        "rest" => texts::left(alloc, told, text),
-        "relabel" => texts::moved(alloc, told, text),
-        "get" => texts::found(alloc, told, text),
-        _ => answer_of_paths(alloc, told, kind, text),
+        "bundle" => asked(answer, text, texts::bundle),
+        "quantity_text" => asked(answer, text, texts::quantities),
+        "weight" => texts::weight(answer, text),
+        "part_for" => asked(answer, text, texts::part),
+        "clip" => asked(answer, text, texts::clipped),
+        "rest" => asked(answer, text, texts::rest),
+        "relabel" => asked(answer, text, texts::moved),
+        "get" => asked(answer, text, texts::found),
+        _ => answer_of_paths(answer, kind, text),
     }
 }
 
-fn answer(alloc: Global, told: &mut String, kind: &str, text: &str) -> Result<()> {
+fn answer_to(answer: &mut Answer, kind: &str, text: &str) {
     match kind {
-        "scalars" => amounts::compared::<Scalar>(alloc, told, text),
-        "ranges" => amounts::compared::<Ranges>(alloc, told, text),
-        "items" => amounts::compared::<Items>(alloc, told, text),
-        "bundles" => amounts::compared::<Bundle>(alloc, told, text),
-        "has_number" => amounts::has_number(alloc, told, text),
-        "has_name" => amounts::has_name(alloc, told, text),
-        "pool_of_scalars" => pools::answers::<Scalar>(alloc, told, text),
-        "pool_of_ranges" => pools::answers::<Ranges>(alloc, told, text),
-        "pool_of_items" => pools::answers::<Items>(alloc, told, text),
-        "pool_of_bundles" => pools::answers::<Bundle>(alloc, told, text),
-        "quantities" => quantities::compared(alloc, told, text),
-        "shares" => shares::compared(told, text),
-        "sorter" => sorters::answers(alloc, told),
-        "quota" => limits::answers(alloc, told, text),
-        "consumed_of" => limits::of_bundle(alloc, told, text),
-        _ => answer_of_texts(alloc, told, kind, text),
+        "scalars" => amounts::answers::<Scalar>(answer, text),
+        "ranges" => amounts::answers::<Ranges>(answer, text),
+        "items" => amounts::answers::<Items>(answer, text),
+        "bundles" => amounts::answers::<Bundle>(answer, text),
+        "has_number" => asked(answer, text, amounts::has_number),
+        "has_name" => asked(answer, text, amounts::has_name),
+        "pool_of_scalars" => pools::answers::<Scalar>(answer, text),
+        "pool_of_ranges" => pools::answers::<Ranges>(answer, text),
+        "pool_of_items" => pools::answers::<Items>(answer, text),
+        "pool_of_bundles" => pools::answers::<Bundle>(answer, text),
+        "quantities" => asked(answer, text, quantities::compared),
+        "shares" => asked(answer, text, shares::compared),
+        "sorter" => sorters::answers(answer),
+        "quota" => limits::answers(answer, text),
+        "consumed_of" => asked(answer, text, limits::of_bundle),
+        _ => answer_of_texts(answer, kind, text),
     }
 }
 
-/// Adds the answer to a text that is lent: who owns a text behind a `?` proves how it is dropped.
 fn answer_by_threads<R: Threads + Wait + Sync>(
     rt: &R,
-    alloc: Global,
-    told: &mut String,
-    question: &str,
-) -> Result<()> {
-    let (kind, text) = question.split_once(' ').unwrap_or((question, ""));
+    answer: &mut Answer,
+    kind: &str,
+    text: &str,
+) {
     match kind {
-        "audit" => audits::audited(rt, alloc, told, text),
-        "board" => boards::shown(rt, alloc, told),
-        "hidden_board" => boards::hidden(rt, alloc, told),
-        _ => answer(alloc, told, kind, text),
+        "audit" => asked(answer, text, |answer: &mut Answer, rows: &Rows| {
+            audits::audited(rt, answer, rows)
+        }),
+        "board" => boards::answers(rt, answer, 2),
+        "hidden_board" => boards::answers(rt, answer, 0),
+        _ => answer_to(answer, kind, text),
     }
 }
 
-fn tell<R: Runtime + Threads + Wait + Sync + AllocGlobal>(
-    rt: &R,
-    question: &str,
-) -> io::Result<()> {
-    let mut told = String::new(rt.alloc());
-    match answer_by_threads(rt, rt.alloc(), &mut told, question) {
-        Ok(()) => println!(rt; "{question} -> {told}"),
-        Err(fault) => println!(rt; "{question} -> {fault}"),
-    }
+fn ask<R: Runtime + Threads + Wait + Sync + AllocGlobal>(rt: &R, question: &str) -> io::Result<()> {
+    let (kind, text) = question.split_once(' ').unwrap_or((question, ""));
+    let mut answer = Answer::new(rt.alloc());
+    answer_by_threads(rt, &mut answer, kind, text);
+    let told = answer.text();
+    println!(rt; "{question} -> {told}")
 }
 
 fn main(rt: HostRuntime) -> io::Result<()> {
     for line in rt.lines(rt.alloc()) {
         let question = line?;
-        tell(&rt, question.as_str())?;
+        ask(&rt, question.as_str())?;
     }
     Ok(())
 }

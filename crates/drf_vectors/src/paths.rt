@@ -1,103 +1,67 @@
 //! Roles, and clients that are written `role:framework`.
-use crate::halves;
-use anyhow::{Context, Result};
-use drf_role::{ClientPath, Name, NodePath, Role};
-use std::alloc::Global;
-use std::fmt::Write;
+use crate::answer::Answer;
+use drf_role::{ClientPath, NodePath, Role};
 
-fn client_of(alloc: Global, role: &Role, framework: &str) -> Result<ClientPath> {
-    let framework = Name::read(alloc, framework)?;
-    ClientPath::new(alloc, role, &framework).context("no memory")
-}
-
-pub fn client(alloc: Global, text: &str) -> Result<ClientPath> {
-    let (role, framework) = halves(text, ':')?;
-    let role = Role::read(alloc, role)?;
-    client_of(alloc, &role, framework)
-}
-
-fn node_of(alloc: Global, role: &Role) -> Result<NodePath> {
-    let client = client_of(alloc, role, ".")?;
-    let len = role.len().min(client.len());
-    client.node(len).context("no memory")
-}
-
-/// The node of a client, or of a role.
-pub fn node(alloc: Global, text: &str) -> Result<NodePath> {
-    if text.contains(':') {
-        let client = client(alloc, text)?;
-        return client.node(client.len()).context("no memory");
-    }
-    let role = Role::read(alloc, text)?;
-    node_of(alloc, &role)
-}
-
-fn append_parts(told: &mut String, role: &Role) -> Result<()> {
-    write!(told, "{}", role.len())?;
+pub fn parts(answer: &mut Answer, role: &Role) {
+    answer.show(&role.len());
     for part in role.parts() {
-        write!(told, " {part}")?;
+        answer.say(" ");
+        answer.say(part);
     }
-    Ok(())
 }
 
-pub fn parts(alloc: Global, told: &mut String, text: &str) -> Result<()> {
-    let role = Role::read(alloc, text)?;
-    append_parts(told, &role)
+pub fn is_default(answer: &mut Answer, role: &Role) {
+    answer.show(&role.is_default());
+    if let Some(default_role) = answer.found(Role::default_role(answer.alloc())) {
+        answer.say(if *role == default_role {
+            " true"
+        } else {
+            " false"
+        });
+    }
 }
 
-fn append_is_default(told: &mut String, role: &Role, default_role: &Role) -> Result<()> {
-    let is_equal = role == default_role;
-    Ok(write!(told, "{} {is_equal}", role.is_default())?)
+pub fn is_within(answer: &mut Answer, roles: &(Role, Role)) {
+    answer.show(&roles.0.is_within(&roles.1));
 }
 
-pub fn is_default(alloc: Global, told: &mut String, text: &str) -> Result<()> {
-    let role = Role::read(alloc, text)?;
-    append_is_default(told, &role, &Role::default_role(alloc)?)
-}
-
-pub fn is_within(alloc: Global, told: &mut String, text: &str) -> Result<()> {
-    let (role, outer) = halves(text, ' ')?;
-    let is_within = Role::read(alloc, role)?.is_within(&Role::read(alloc, outer)?);
-    Ok(write!(told, "{is_within}")?)
-}
-
-fn append_client(told: &mut String, client: &ClientPath) -> Result<()> {
-    let (role, framework) = (client.role().text(), client.framework().text());
-    write!(told, "{role} {framework}: {}", client.len())?;
+pub fn client(answer: &mut Answer, client: &ClientPath) {
+    answer.say(client.role().text());
+    answer.say(" ");
+    answer.say(client.framework().text());
+    answer.say(": ");
+    answer.show(&client.len());
     for i in 0..client.len() {
-        write!(told, " {}", client.part(i))?;
+        answer.say(" ");
+        answer.say(client.part(i));
     }
-    Ok(())
-}
-
-pub fn client_parts(alloc: Global, told: &mut String, text: &str) -> Result<()> {
-    let (role, framework) = halves(text, ':')?;
-    let client = ClientPath::from_parts(Role::read(alloc, role)?, Name::read(alloc, framework)?);
-    append_client(told, &client)
 }
 
 /// A node with its last part.
-fn append_node(told: &mut String, node: &NodePath) -> Result<()> {
-    Ok(write!(told, " {}({})", node.text(), node.part(node.len() - 1))?)
+fn node(answer: &mut Answer, node: &NodePath) {
+    answer.say(" ");
+    answer.say(node.text());
+    answer.say("(");
+    answer.say(node.part(node.len() - 1));
+    answer.say(")");
 }
 
-fn append_nodes(told: &mut String, client: &ClientPath) -> Result<()> {
-    write!(told, "{}", client.len())?;
+fn nodes_of_copy(answer: &mut Answer, client: &ClientPath) {
+    answer.show(&client.len());
     for i in 0..client.len() {
-        let node = client.node(i + 1)?;
-        append_node(told, &node)?;
+        if let Some(found) = answer.found(client.node(i + 1)) {
+            node(answer, &found);
+        }
     }
-    Ok(())
 }
 
 /// Each node of a client.
-pub fn nodes(alloc: Global, told: &mut String, text: &str) -> Result<()> {
-    let client = client(alloc, text)?.copy()?;
-    append_nodes(told, &client)
+pub fn nodes(answer: &mut Answer, client: &ClientPath) {
+    if let Some(copy) = answer.found(client.copy()) {
+        nodes_of_copy(answer, &copy);
+    }
 }
 
-pub fn is_same_client(alloc: Global, told: &mut String, text: &str) -> Result<()> {
-    let (one, other) = halves(text, ' ')?;
-    let is_same = client(alloc, one)? == client(alloc, other)?;
-    Ok(write!(told, "{is_same}")?)
+pub fn is_same_client(answer: &mut Answer, clients: &(ClientPath, ClientPath)) {
+    answer.show(&(clients.0 == clients.1));
 }

@@ -1,166 +1,129 @@
-//! A pool of one kind of amounts: its total, then calls, each after `; `. What a call reads is owned by one function, and lent to all
-//! others: who owns an amount behind a `?` proves how it is dropped.
-use crate::amounts::{Amount, append, read};
-use crate::halves;
-use anyhow::{Context, Result, bail};
+//! A pool of one kind of amounts: its total, then calls, each after `; `.
+use crate::amounts::{Amount, tell, told};
+use crate::answer::Answer;
+use crate::subject::{Subject, halves, read_all};
 use drf_amount::Pool;
-use std::alloc::Global;
-use std::fmt::Write;
 
 /// What is free of the total.
-fn append_state<A: Amount>(alloc: Global, told: &mut String, pool: &Pool<A>) -> Result<()> {
-    append(alloc, told, pool.free())?;
-    told.push_str(" of ")?;
-    append(alloc, told, pool.total())
+fn state<A: Amount>(answer: &mut Answer, pool: &Pool<A>) {
+    tell(answer, pool.free());
+    answer.say(" of ");
+    tell(answer, pool.total());
 }
 
-fn take<A: Amount>(told: &mut String, pool: &mut Pool<A>, wanted: &A) -> Result<()> {
-    let number = pool.take(wanted)?;
-    Ok(write!(told, "part {number}")?)
+fn take<A: Amount>(answer: &mut Answer, pool: &mut Pool<A>, text: &str) -> Option<()> {
+    let wanted = A::from_text(answer, text)?;
+    let number = answer.found(pool.take(&wanted))?;
+    answer.say("part ");
+    answer.show(&number);
+    Some(())
 }
 
-fn shrink<A: Amount>(
-    told: &mut String,
-    pool: &mut Pool<A>,
-    number: u64,
-    smaller: &A,
-) -> Result<()> {
-    pool.shrink(number, smaller)?;
-    Ok(told.push_str("done")?)
+fn shrink<A: Amount>(answer: &mut Answer, pool: &mut Pool<A>, text: &str) -> Option<()> {
+    let (number, smaller) = <(u64, A)>::from_text(answer, text)?;
+    answer.found(pool.shrink(number, &smaller))?;
+    answer.say("done");
+    Some(())
 }
 
-fn replace_free<A: Amount>(told: &mut String, pool: &mut Pool<A>, old: &A, new: &A) -> Result<()> {
-    pool.replace_free(old, new)?;
-    Ok(told.push_str("done")?)
+fn replace_free<A: Amount>(answer: &mut Answer, pool: &mut Pool<A>, text: &str) -> Option<()> {
+    let (old, new) = <(A, A)>::from_text(answer, text)?;
+    answer.found(pool.replace_free(&old, &new))?;
+    answer.say("done");
+    Some(())
 }
 
-fn give_back<A: Amount>(
-    alloc: Global,
-    told: &mut String,
-    pool: &mut Pool<A>,
-    number: u64,
-) -> Result<()> {
-    let part = pool.give_back(number)?;
-    append(alloc, told, &part)
+fn split_into<A: Amount>(answer: &mut Answer, pool: &mut Pool<A>, number: u64, parts: &[A]) {
+    if let Some(numbers) = answer.found(pool.split(number, parts)) {
+        answer.say("parts ");
+        answer.show_parts(&numbers);
+    }
 }
 
-fn split<A: Amount>(told: &mut String, pool: &mut Pool<A>, number: u64, parts: &[A]) -> Result<()> {
-    let numbers = pool.split(number, parts)?;
-    write!(told, "parts {numbers:?}").context("no memory")
+/// The number of a part, and the amounts that it is to be split into.
+fn split<A: Amount>(answer: &mut Answer, pool: &mut Pool<A>, text: &str) -> Option<()> {
+    let (number, amounts) = text.split_once(' ').unwrap_or((text, ""));
+    let number = u64::from_text(answer, number)?;
+    let mut parts = Vec::new(answer.alloc());
+    if !amounts.is_empty() {
+        read_all(answer, &mut parts, amounts, ' ')?;
+    }
+    split_into(answer, pool, number, &parts);
+    Some(())
 }
 
-fn append_part<A: Amount>(
-    alloc: Global,
-    told: &mut String,
-    pool: &Pool<A>,
-    number: u64,
-) -> Result<()> {
-    append(alloc, told, pool.part(number).context("no part")?)
+fn part<A: Amount>(answer: &mut Answer, pool: &Pool<A>, number: u64) -> bool {
+    let part = pool.part(number);
+    match part {
+        Some(part) => tell(answer, part),
+        None => answer.say("no part"),
+    }
+    part.is_some()
 }
 
-/// A part, and what is free beside it.
-fn append_beside<A: Amount>(
-    alloc: Global,
-    told: &mut String,
-    pool: &Pool<A>,
-    number: u64,
-) -> Result<()> {
-    append_part(alloc, told, pool, number)?;
-    told.push_str(" beside ")?;
-    append_state(alloc, told, pool)
+/// A part of a pool, and what is free beside it.
+fn beside<A: Amount>(answer: &mut Answer, pool: &Pool<A>, number: u64) {
+    if part(answer, pool, number) {
+        answer.say(" beside ");
+        state(answer, pool);
+    }
 }
 
-fn copied<A: Amount>(alloc: Global, told: &mut String, pool: &Pool<A>, number: u64) -> Result<()> {
-    let copy = pool.copy()?;
-    append_beside(alloc, told, &copy, number)
+fn copied<A: Amount>(answer: &mut Answer, pool: &Pool<A>, number: u64) {
+    if let Some(copy) = answer.found(pool.copy()) {
+        beside(answer, &copy, number);
+    }
 }
 
-fn call<A: Amount>(
-    alloc: Global,
-    told: &mut String,
+/// A call that speaks of a part alone.
+fn call_of_part<A: Amount>(
+    answer: &mut Answer,
     pool: &mut Pool<A>,
     call: &str,
-    number: u64,
-    amounts: &[A],
-) -> Result<()> {
-    match (call, amounts) {
-        ("take", [wanted]) => take(told, pool, wanted),
-        ("shrink", [smaller]) => shrink(told, pool, number, smaller),
-        ("replace_free", [old, new]) => replace_free(told, pool, old, new),
-        ("give_back", []) => give_back(alloc, told, pool, number),
-        ("split", parts) => split(told, pool, number, parts),
-        ("copy", []) => copied(alloc, told, pool, number),
-        ("part", []) => append_part(alloc, told, pool, number),
-        _ => bail!("no call"),
+    number: &str,
+) -> Option<()> {
+    let number = u64::from_text(answer, number)?;
+    match call {
+        "give_back" => told(answer, pool.give_back(number)),
+        "copy" => copied(answer, pool, number),
+        "part" => {
+            part(answer, pool, number);
+        }
+        _ => answer.say("no call"),
+    }
+    Some(())
+}
+
+fn call<A: Amount>(answer: &mut Answer, pool: &mut Pool<A>, text: &str) -> Option<()> {
+    let (call, text) = halves(answer, text, ' ')?;
+    match call {
+        "take" => take(answer, pool, text),
+        "shrink" => shrink(answer, pool, text),
+        "replace_free" => replace_free(answer, pool, text),
+        "split" => split(answer, pool, text),
+        _ => call_of_part(answer, pool, call, text),
     }
 }
 
-fn read_all<A: Amount>(alloc: Global, amounts: &mut Vec<A>, text: &str) -> Result<()> {
-    for text in text.split_whitespace() {
-        amounts.push(read(alloc, text)?)?;
+fn calls<A: Amount>(answer: &mut Answer, pool: &mut Pool<A>, texts: &str) {
+    state(answer, pool);
+    for text in texts.split("; ") {
+        answer.say("; ");
+        let _ = call(answer, pool, text);
+        answer.say(": ");
+        state(answer, pool);
     }
-    Ok(())
 }
 
-/// A call, the number of a part, and amounts.
-fn read_and_call<A: Amount>(
-    alloc: Global,
-    told: &mut String,
-    pool: &mut Pool<A>,
-    name: &str,
-    number: u64,
-    text: &str,
-) -> Result<()> {
-    let mut amounts = Vec::new(alloc);
-    read_all(alloc, &mut amounts, text)?;
-    call(alloc, told, pool, name, number, amounts.as_slice())
-}
-
-/// Calls that speak of a part begin with its number.
-fn numbered_call<A: Amount>(
-    alloc: Global,
-    told: &mut String,
-    pool: &mut Pool<A>,
-    text: &str,
-) -> Result<()> {
-    let (name, text) = halves(text, ' ')?;
-    if name == "take" || name == "replace_free" {
-        return read_and_call(alloc, told, pool, name, 0, text);
-    }
-    let (number, text) = text.split_once(' ').unwrap_or((text, ""));
-    read_and_call(alloc, told, pool, name, number.parse::<u64>()?, text)
-}
-
-fn append_call<A: Amount>(
-    alloc: Global,
-    told: &mut String,
-    pool: &mut Pool<A>,
-    text: &str,
-) -> Result<()> {
-    told.push_str("; ")?;
-    if let Err(fault) = numbered_call(alloc, told, pool, text) {
-        write!(told, "{fault}")?;
-    }
-    told.push_str(": ")?;
-    append_state(alloc, told, pool)
-}
-
-fn append_calls<A: Amount>(
-    alloc: Global,
-    told: &mut String,
-    pool: &mut Pool<A>,
-    calls: &str,
-) -> Result<()> {
-    append_state(alloc, told, pool)?;
-    for text in calls.split("; ") {
-        append_call(alloc, told, pool, text)?;
-    }
-    Ok(())
+fn open<A: Amount>(answer: &mut Answer, total: &str) -> Option<Pool<A>> {
+    let total = A::from_text(answer, total)?;
+    answer.found(Pool::new(answer.alloc(), total))
 }
 
 /// What is free of the total, then what each call answers and what is free after it.
-pub fn answers<A: Amount>(alloc: Global, told: &mut String, text: &str) -> Result<()> {
-    let (total, calls) = text.split_once("; ").context("no calls")?;
-    let mut pool = Pool::new(alloc, read::<A>(alloc, total)?)?;
-    append_calls(alloc, told, &mut pool, calls)
+pub fn answers<A: Amount>(answer: &mut Answer, text: &str) {
+    let (total, texts) = text.split_once("; ").unwrap_or((text, ""));
+    if let Some(mut pool) = open::<A>(answer, total) {
+        calls(answer, &mut pool, texts);
+    }
 }

@@ -1,83 +1,65 @@
-ghost use Rattle.std.specs.Prelude.{ℕ, ◌+◌, ◌<◌, ◌^◌, List, IfOk};
+//! What two small quantities have together.
+ghost use Rattle.std.specs.Prelude.{ℕ, ◌+◌, ◌<◌, ◌^◌, List};
 ghost use Rattle.drf_bundle.specs.Quantities.{amount_of};
 
-use crate::halves;
-use anyhow::Result;
+use crate::answer::Answer;
+use crate::small::Small;
 use drf_bundle::Quantities;
-use drf_role::Label;
-use std::alloc::Global;
-use std::fmt::Write;
+use std::alloc::AllocError;
 
-// Small amounts, so that any two of them add up.
-pub fn read(alloc: Global, text: &str) -> Result<Quantities>
-    ensures { IfOk result (λ q. (label : List ℕ) → amount_of q label < 2 ^ 32) }
-{
-    let mut amounts = Quantities::empty(alloc);
-    for text in text.split(',') {
-        let (label, thousandths) = halves(text, '=')?;
-        let thousandths = thousandths.parse::<u32>()?;
-        amounts.set(Label::read(alloc, label)?, u64::from(thousandths))?;
+pub fn tell(answer: &mut Answer, amounts: &Quantities) {
+    for entry in amounts.entries() {
+        answer.say(entry.label.text());
+        answer.say("=");
+        answer.show(&entry.amount.thousandths());
+        answer.say(",");
     }
-    Ok(amounts)
-}
-
-pub fn append(told: &mut String, what: &str, amounts: &Quantities) -> Result<()> {
-    told.push_str(what)?;
-    for (i, entry) in amounts.entries().iter().enumerate() {
-        if i > 0 {
-            told.push(',')?;
-        }
-        write!(
-            told,
-            "{}={}",
-            entry.label.text(),
-            entry.amount.thousandths()
-        )?;
+    if !amounts.entries().is_empty() {
+        answer.end();
     }
-    Ok(())
 }
 
-/// The sum of the two, and what is left of it without the second.
-fn append_sum(told: &mut String, kept: &Quantities, part: &Quantities) -> Result<()>
-    requires { (label : List ℕ) → amount_of kept.now label + amount_of part.now label < 2 ^ 64 }
-{
-    // The proof learns that the part is in order by this call alone.
-    let _ = part.entries();
-    let mut sum = kept.plus(part)?;
-    append(told, "; sum ", &sum)?;
-    sum.lower(part);
-    append(told, "; rest ", &sum)
-}
-
-/// What of the sum is above 0.
-fn append_filled(told: &mut String, kept: &Quantities, part: &Quantities) -> Result<()>
-    requires { (label : List ℕ) → amount_of kept.now label + amount_of part.now label < 2 ^ 64 }
-{
-    let mut sum = kept.plus(part)?;
-    sum.remove_zeros();
-    append(told, "; above 0 ", &sum)
-}
-
-fn append_counts(told: &mut String, kept: &Quantities, part: &Quantities) -> Result<()> {
+fn counts(answer: &mut Answer, kept: &Quantities, part: &Quantities) {
     let counts = (
         kept.entries().len(),
         part.entries().len(),
         kept.count_with(part),
     );
-    Ok(write!(told, "labels {counts:?}")?)
+    answer.say("labels ");
+    answer.show_parts(&counts);
 }
 
-fn append_both(told: &mut String, kept: &Quantities, part: &Quantities) -> Result<()>
+/// The sum of the two, and what is left of it without the second.
+fn append_sum(answer: &mut Answer, kept: &Quantities, part: &Quantities) -> Result<(), AllocError>
     requires { (label : List ℕ) → amount_of kept.now label + amount_of part.now label < 2 ^ 64 }
 {
-    append_counts(told, kept, part)?;
-    append_sum(told, kept, part)?;
-    append_filled(told, kept, part)
+    // The proof learns that the part is in order by this call alone.
+    part.recall();
+    let mut sum = kept.plus(part)?;
+    answer.say("; sum ");
+    tell(answer, &sum);
+    sum.lower(part);
+    answer.say("; rest ");
+    tell(answer, &sum);
+    Ok(())
+}
+
+/// What of the sum is above 0.
+fn filled(answer: &mut Answer, kept: &Quantities, part: &Quantities)
+    requires { (label : List ℕ) → amount_of kept.now label + amount_of part.now label < 2 ^ 64 }
+{
+    if let Some(mut sum) = answer.found(kept.plus(part)) {
+        sum.remove_zeros();
+        answer.say("; above 0 ");
+        tell(answer, &sum);
+    }
 }
 
 /// How many labels two quantities have, each and together, then what their sum is.
-pub fn compared(alloc: Global, told: &mut String, text: &str) -> Result<()> {
-    let (kept, part) = halves(text, ' ')?;
-    let kept = read(alloc, kept)?;
-    append_both(told, &kept, &read(alloc, part)?)
+pub fn compared(answer: &mut Answer, both: &(Small, Small)) {
+    let (kept, part) = (&both.0.amounts, &both.1.amounts);
+    counts(answer, kept, part);
+    let told = append_sum(answer, kept, part);
+    let _ = answer.found(told);
+    filled(answer, kept, part);
 }

@@ -1,31 +1,32 @@
 //! Shares, each written `part/whole/weight`.
-use crate::halves;
-use anyhow::{Result, ensure};
+use crate::answer::Answer;
+use crate::subject::{Subject, halves, read_both};
 use drf_sorter::Share;
 use std::cmp::Ordering;
-use std::fmt::Write;
 
-fn share(text: &str) -> Result<Share> {
-    let (part, text) = halves(text, '/')?;
-    let (whole, weight) = halves(text, '/')?;
-    let (part, whole, weight) = (
-        part.parse::<u64>()?,
-        whole.parse::<u64>()?,
-        weight.parse::<u64>()?,
-    );
-    ensure!(part <= whole && 1 <= whole && whole < 1 << 52, "no share");
-    ensure!(1 <= weight && weight <= 1_000_000, "no weight");
-    Ok(Share::new(part, whole, weight))
+impl Subject for Share {
+    fn from_text(answer: &mut Answer, text: &str) -> Option<Share> {
+        let (part, text) = halves(answer, text, '/')?;
+        let part = u64::from_text(answer, part)?;
+        let (whole, weight) = read_both::<u64, u64>(answer, text, '/')?;
+        if part > whole || whole < 1 || whole >= 1 << 52 {
+            answer.say("no share");
+            return None;
+        }
+        if weight < 1 || weight > 1_000_000 {
+            answer.say("no weight");
+            return None;
+        }
+        Some(Share::new(part, whole, weight))
+    }
 }
 
-pub fn compared(told: &mut String, text: &str) -> Result<()> {
-    let (one, other) = halves(text, ' ')?;
-    let (one, other) = (share(one)?, share(other)?);
-    let order = match one.cmp(&other) {
-        Ordering::Less => "less",
-        Ordering::Equal => "equal",
-        Ordering::Greater => "greater",
-    };
-    let is_equal = one == other;
-    Ok(write!(told, "{order} {is_equal}")?)
+pub fn compared(answer: &mut Answer, shares: &(Share, Share)) {
+    let (one, other) = shares;
+    answer.say(match one.cmp(other) {
+        Ordering::Less => "less ",
+        Ordering::Equal => "equal ",
+        Ordering::Greater => "greater ",
+    });
+    answer.show(&(one == other));
 }

@@ -1,48 +1,25 @@
 //! The orders of a sorter of two clients, before and after the first is charged, and under another total; and how many keys it made
 //! up to each, since the one before.
-ghost use Rattle.std.specs.Prelude.{◌≡◌, IfOk, IsOk, OnOk};
+ghost use Rattle.std.specs.Prelude.{◌≡◌, IsTrue, OnOk};
 ghost use Rattle.drf_bundle.specs.Quantities.{covers};
 ghost use Rattle.drf_sorter.specs.Content.{IsSound, empty};
-ghost use Rattle.drf_vectors.specs.TwoClients.{AreSmall, IsCovered, both_added};
+ghost use Rattle.drf_vectors.specs.TwoClients.{IsCovered, both_added};
 
-use crate::paths::client;
-use crate::quantities::read;
-use anyhow::{Result, ensure};
+use crate::answer::Answer;
+use crate::scenario::Scenario;
+use crate::subject::asked;
 use drf_bundle::Quantities;
 use drf_role::ClientPath;
 use drf_sorter::{PlainSorter, Sorter};
 use drf_tree::TreeSorter;
-use std::alloc::Global;
-use std::fmt::Write;
-
-/// Two clients, what the first is charged, and the totals before and after that.
-#[derive(Drop)]
-struct Scenario {
-    first: ClientPath,
-    second: ClientPath,
-    amounts: Quantities,
-    total: Quantities,
-    next_total: Quantities,
-}
+use std::alloc::{AllocError, Global};
 
 /// The orders of a sorter, how many keys it made up to each, and how many so far.
 #[derive(Drop)]
 struct Told {
-    orders: String,
-    keys: String,
+    orders: Answer,
+    keys: Answer,
     made: u64,
-}
-
-fn read_scenario(alloc: Global) -> Result<Scenario>
-    ensures { IfOk result AreSmall }
-{
-    Ok(Scenario {
-        first: client(alloc, "a:fa")?,
-        second: client(alloc, "b:fb")?,
-        amounts: read(alloc, "cpus=1000")?,
-        total: read(alloc, "cpus=4000")?,
-        next_total: read(alloc, "cpus=8000")?,
-    })
 }
 
 /// Whether no amount is above that of the same label in the total.
@@ -53,103 +30,124 @@ fn fits(total: &Quantities, amounts: &Quantities) -> bool
     entries.all(|entry| entry.amount.thousandths() <= total.get(entry.label.text()))
 }
 
-fn check(scenario: &Scenario) -> Result<()>
-    requires { AreSmall scenario.now }
-    ensures { IsOk result → IsCovered scenario.now }
+fn is_covered(scenario: &Scenario) -> bool
+    ensures { IsTrue result → IsCovered scenario.now }
 {
-    ensure!(scenario.first != scenario.second, "one client");
-    ensure!(fits(&scenario.total, &scenario.amounts), "too much");
-    ensure!(fits(&scenario.next_total, &scenario.amounts), "too little");
-    Ok(())
+    let amounts = &scenario.amounts.amounts;
+    scenario.first != scenario.second
+        && fits(&scenario.total.amounts, amounts)
+        && fits(&scenario.next_total.amounts, amounts)
 }
 
-fn append_clients(orders: &mut String, clients: &[ClientPath]) -> Result<()> {
-    orders.push_str("order")?;
+fn tell_clients(orders: &mut Answer, clients: &[ClientPath]) {
+    orders.say("order");
     for client in clients {
-        let (role, framework) = (client.role().text(), client.framework().text());
-        write!(orders, " {role}:{framework}")?;
+        orders.say(" ");
+        orders.say(client.role().text());
+        orders.say(":");
+        orders.say(client.framework().text());
     }
-    Ok(orders.push_str("; ")?)
+    orders.say("; ");
 }
 
 /// How many keys were made since the last order, those of clients that were added among them.
-fn append_keys(told: &mut Told, made: u64) -> Result<()> {
+fn tell_keys(told: &mut Told, made: u64) {
     // A count that fell is told as a great one.
     let keys = made.wrapping_sub(told.made);
     told.made = made;
-    Ok(write!(told.keys, "{keys}; ")?)
+    told.keys.show(&keys);
+    told.keys.say("; ");
 }
 
-fn append_order<S: Sorter>(told: &mut Told, sorter: &mut S) -> Result<()>
+fn append_order<S: Sorter>(told: &mut Told, sorter: &mut S)
     requires { IsSound (S.content sorter.old) }
     ensures { S.content sorter.new ≡ S.content sorter.old }
 {
-    append_clients(&mut told.orders, &sorter.order()?)?;
-    append_keys(told, sorter.keys_made())
+    if let Some(clients) = told.orders.found(sorter.order()) {
+        tell_clients(&mut told.orders, &clients);
+    }
+    tell_keys(told, sorter.keys_made());
 }
 
-fn add_both<S: Sorter>(sorter: &mut S, scenario: &Scenario) -> Result<()>
+fn add_both<S: Sorter>(sorter: &mut S, scenario: &Scenario) -> Result<(), AllocError>
     requires covered { IsCovered scenario.now }
     requires empty { S.content sorter.old ≡ empty }
     ensures { OnOk result (S.content sorter.new ≡ both_added scenario.now) }
 {
-    sorter.set_total(scenario.total.copy()?);
+    sorter.set_total(scenario.total.amounts.copy()?);
     sorter.add(scenario.first.copy()?)?;
-    Ok(sorter.add(scenario.second.copy()?)?)
+    sorter.add(scenario.second.copy()?)
 }
 
 /// The first order, one again at once, one after the charge, and one under the other total.
-fn append_orders<S: Sorter>(told: &mut Told, sorter: &mut S, scenario: &Scenario) -> Result<()>
+fn append_orders<S: Sorter>(
+    told: &mut Told,
+    sorter: &mut S,
+    scenario: &Scenario,
+) -> Result<(), AllocError>
     requires covered { IsCovered scenario.now }
     requires empty { S.content sorter.old ≡ empty }
 {
     add_both(sorter, scenario)?;
-    append_order(told, sorter)?;
-    append_order(told, sorter)?;
-    sorter.charge(&scenario.first, &scenario.amounts)?;
-    append_order(told, sorter)?;
-    sorter.set_total(scenario.next_total.copy()?);
-    append_order(told, sorter)
+    append_order(told, sorter);
+    append_order(told, sorter);
+    sorter.charge(&scenario.first, &scenario.amounts.amounts)?;
+    append_order(told, sorter);
+    sorter.set_total(scenario.next_total.amounts.copy()?);
+    append_order(told, sorter);
+    Ok(())
 }
 
-fn run<S: Sorter>(alloc: Global, told: &mut Told, scenario: &Scenario) -> Result<()>
+fn run<S: Sorter>(alloc: Global, told: &mut Told, scenario: &Scenario) -> Result<(), AllocError>
     requires { IsCovered scenario.now }
 {
     let mut sorter = S::open(alloc)?;
     append_orders(told, &mut sorter, scenario)
 }
 
-fn compare(
+fn run_both(
     alloc: Global,
-    told: &mut String,
     tree: &mut Told,
     plain: &mut Told,
     scenario: &Scenario,
-) -> Result<()>
-    requires { AreSmall scenario.now }
+) -> Result<(), AllocError>
+    requires { IsCovered scenario.now }
 {
-    check(scenario)?;
     run::<TreeSorter>(alloc, tree, scenario)?;
-    run::<PlainSorter>(alloc, plain, scenario)?;
-    let is_equal = tree.orders == plain.orders;
-    Ok(write!(
-        told,
-        "{}keys {}plain {}equal {is_equal}",
-        tree.orders, tree.keys, plain.keys
-    )?)
+    run::<PlainSorter>(alloc, plain, scenario)
+}
+
+fn tell_both(answer: &mut Answer, tree: &Told, plain: &Told) {
+    answer.say(tree.orders.text());
+    answer.say("keys ");
+    answer.say(tree.keys.text());
+    answer.say("plain ");
+    answer.say(plain.keys.text());
+    answer.say("equal ");
+    answer.show(&(tree.orders.text() == plain.orders.text()));
 }
 
 fn nothing_told(alloc: Global) -> Told {
     Told {
-        orders: String::new(alloc),
-        keys: String::new(alloc),
+        orders: Answer::new(alloc),
+        keys: Answer::new(alloc),
         made: 0,
     }
 }
 
-/// What is told of the sorter of the program, the keys of one that keeps no order, and whether that gives the same orders.
-pub fn answers(alloc: Global, told: &mut String) -> Result<()> {
-    let scenario = read_scenario(alloc)?;
+fn compared(answer: &mut Answer, scenario: &Scenario) {
+    let alloc = answer.alloc();
     let (mut tree, mut plain) = (nothing_told(alloc), nothing_told(alloc));
-    compare(alloc, told, &mut tree, &mut plain, &scenario)
+    if !is_covered(scenario) {
+        return answer.say("too much");
+    }
+    let ran = run_both(alloc, &mut tree, &mut plain, scenario);
+    if answer.found(ran).is_some() {
+        tell_both(answer, &tree, &plain);
+    }
+}
+
+/// What is told of the sorter of the program, the keys of one that keeps no order, and whether that gives the same orders.
+pub fn answers(answer: &mut Answer) {
+    asked(answer, "a:fa b:fb cpus=1000 cpus=4000 cpus=8000", compared);
 }

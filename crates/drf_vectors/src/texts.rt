@@ -1,127 +1,95 @@
 //! Bundles, quantities and weights as texts, and what is made of a bundle.
-use crate::amounts::{self, Amount};
-use crate::halves;
-use anyhow::{Context, Result, ensure};
+use crate::amounts::{Amount, tell, told};
+use crate::answer::Answer;
+use crate::subject::Subject;
+use drf_amount::Algebra;
 use drf_bundle::{Bundle, Quantities};
 use drf_role::{Label, Role};
 use drf_text::{read_bundle, read_quantities, read_weight, write_bundle, write_quantities};
-use std::alloc::Global;
-use std::fmt::Write;
+
+impl Subject for Bundle {
+    fn from_text(answer: &mut Answer, text: &str) -> Option<Bundle> {
+        if text == "none" {
+            return Some(Bundle::empty(answer.alloc()));
+        }
+        answer.found(read_bundle(answer.alloc(), text))
+    }
+}
 
 impl Amount for Bundle {
-    fn from_text(alloc: Global, text: &str) -> Result<Bundle> {
-        Ok(read_bundle(alloc, text)?)
-    }
-
-    fn append(&self, alloc: Global, told: &mut String) -> Result<()> {
-        let text = write_bundle(alloc, self)?;
-        told.push_str(&text).context("no memory")
+    fn tell(&self, answer: &mut Answer) {
+        if let Some(text) = answer.found(write_bundle(answer.alloc(), self)) {
+            answer.say(text.as_str());
+        }
     }
 }
 
-/// The written form of the bundle that a text says.
-pub fn bundle(alloc: Global, told: &mut String, text: &str) -> Result<()> {
-    let bundle = read_bundle(alloc, text)?;
-    amounts::append(alloc, told, &bundle)
+impl Subject for Quantities {
+    fn from_text(answer: &mut Answer, text: &str) -> Option<Quantities> {
+        answer.found(read_quantities(answer.alloc(), text))
+    }
 }
 
-pub fn append_quantities(alloc: Global, told: &mut String, quantities: &Quantities) -> Result<()> {
-    let text = write_quantities(alloc, quantities)?;
-    told.push_str(&text).context("no memory")
+/// The written form of quantities.
+pub fn quantities(answer: &mut Answer, quantities: &Quantities) {
+    if let Some(text) = answer.found(write_quantities(answer.alloc(), quantities)) {
+        answer.say(text.as_str());
+    }
 }
 
-/// The written form of the quantities that a text says.
-pub fn quantities(alloc: Global, told: &mut String, text: &str) -> Result<()> {
-    let quantities = read_quantities(alloc, text)?;
-    append_quantities(alloc, told, &quantities)
+/// The written form of a bundle.
+pub fn bundle(answer: &mut Answer, bundle: &Bundle) {
+    tell(answer, bundle);
 }
 
 /// A weight in thousandths.
-pub fn weight(told: &mut String, text: &str) -> Result<()> {
-    Ok(write!(told, "{}", read_weight(text)?)?)
-}
-
-/// A role, and a bundle behind it.
-pub fn read_both(alloc: Global, text: &str) -> Result<(Role, Bundle)> {
-    let (role, bundle) = halves(text, ' ')?;
-    Ok((Role::read(alloc, role)?, read_bundle(alloc, bundle)?))
-}
-
-fn append_part(alloc: Global, told: &mut String, role: &Role, bundle: &Bundle) -> Result<()> {
-    let part = bundle.part_for(role)?;
-    amounts::append(alloc, told, &part)
+pub fn weight(answer: &mut Answer, text: &str) {
+    if let Some(weight) = answer.found(read_weight(text)) {
+        answer.show(&weight);
+    }
 }
 
 /// What a role may use of a bundle.
-pub fn part(alloc: Global, told: &mut String, text: &str) -> Result<()> {
-    let (role, bundle) = read_both(alloc, text)?;
-    append_part(alloc, told, &role, &bundle)
-}
-
-fn append_clipped(
-    alloc: Global,
-    told: &mut String,
-    limits: &Quantities,
-    bundle: &Bundle,
-) -> Result<()> {
-    let clipped = bundle.clip(limits)?;
-    amounts::append(alloc, told, &clipped)
+pub fn part(answer: &mut Answer, of: &(Role, Bundle)) {
+    told(answer, of.1.part_for(&of.0));
 }
 
 /// A bundle cut to limits.
-pub fn clipped(alloc: Global, told: &mut String, text: &str) -> Result<()> {
-    let (limits, bundle) = halves(text, ' ')?;
-    let limits = read_quantities(alloc, limits)?;
-    append_clipped(alloc, told, &limits, &read_bundle(alloc, bundle)?)
-}
-
-fn append_rest(alloc: Global, told: &mut String, whole: &Bundle, part: &Bundle) -> Result<()> {
-    let rest = whole.rest(part)?;
-    amounts::append(alloc, told, &rest)
+pub fn clipped(answer: &mut Answer, of: &(Quantities, Bundle)) {
+    told(answer, of.1.clip(&of.0));
 }
 
 /// What is left of a bundle without another.
-pub fn left(alloc: Global, told: &mut String, text: &str) -> Result<()> {
-    let (whole, part) = halves(text, ' ')?;
-    let whole = read_bundle(alloc, whole)?;
-    append_rest(alloc, told, &whole, &read_bundle(alloc, part)?)
-}
-
-fn append_moved(alloc: Global, told: &mut String, role: &Role, bundle: &Bundle) -> Result<()> {
-    ensure!(bundle.is_unreserved(), "reserved");
-    let moved = bundle.relabel(role)?;
-    amounts::append(alloc, told, &moved)
+pub fn rest(answer: &mut Answer, of: &(Bundle, Bundle)) {
+    told(answer, of.0.rest(&of.1));
 }
 
 /// A bundle moved to a role.
-pub fn moved(alloc: Global, told: &mut String, text: &str) -> Result<()> {
-    let (role, bundle) = read_both(alloc, text)?;
-    append_moved(alloc, told, &role, &bundle)
+pub fn moved(answer: &mut Answer, of: &(Role, Bundle)) {
+    let (role, bundle) = of;
+    if bundle.is_unreserved() {
+        told(answer, bundle.relabel(role));
+    } else {
+        answer.say("reserved");
+    }
 }
 
 /// What a bundle has under a name and a role, as a bundle of its own.
-fn value_at(alloc: Global, bundle: &Bundle, label: &Label, role: &Role) -> Result<Bundle> {
-    let value = bundle.get(label, role).context("nothing there")?;
-    Bundle::one(alloc, label, role, value.copy()?).context("no memory")
+fn value_at(answer: &mut Answer, label: &Label, role: &Role, bundle: &Bundle) -> Option<()> {
+    let Some(value) = bundle.get(label, role) else {
+        answer.say("nothing there");
+        return None;
+    };
+    let copy = answer.found(value.copy())?;
+    told(answer, Bundle::one(answer.alloc(), label, role, copy));
+    Some(())
 }
 
 /// What a bundle has under a name and a role, and the sums of its scalars.
-fn append_found(
-    alloc: Global,
-    told: &mut String,
-    label: &Label,
-    role: &Role,
-    bundle: &Bundle,
-) -> Result<()> {
-    let value = value_at(alloc, bundle, label, role)?;
-    amounts::append(alloc, told, &value)?;
-    told.push_str("; sums ").context("no memory")
-}
-
-pub fn found(alloc: Global, told: &mut String, text: &str) -> Result<()> {
-    let (label, text) = halves(text, ' ')?;
-    let label = Label::read(alloc, label)?;
-    let (role, bundle) = read_both(alloc, text)?;
-    append_found(alloc, told, &label, &role, &bundle)?;
-    append_quantities(alloc, told, bundle.quantities())
+pub fn found(answer: &mut Answer, of: &(Label, (Role, Bundle))) {
+    let (label, (role, bundle)) = of;
+    if value_at(answer, label, role, bundle).is_some() {
+        answer.say("; sums ");
+        quantities(answer, bundle.quantities());
+    }
 }

@@ -1,108 +1,105 @@
-//! Names, labels, roles and nodes: read, copied, told apart and put in order.
-use crate::paths::node;
-use anyhow::Result;
+//! Names, labels, roles and nodes: copied, told apart and put in order.
+use crate::answer::Answer;
+use crate::subject::{Subject, read_all};
 use drf_role::{Label, Name, NodePath, Role};
 use indexmap::IndexSet;
-use std::alloc::Global;
+use std::alloc::AllocError;
 use std::hash::Hash;
 
-pub trait Word: Sized + Hash + Eq + Drop {
-    /// A copy of what is read from the text.
-    fn from_text(alloc: Global, text: &str) -> Result<Self>;
+pub trait Word: Subject + Hash + Eq {
+    fn copy(&self) -> Result<Self, AllocError>;
 
-    fn shown(&self) -> &str;
+    fn text(&self) -> &str;
 }
 
 impl Word for Name {
-    fn from_text(alloc: Global, text: &str) -> Result<Name> {
-        Ok(Name::read(alloc, text)?.copy()?)
+    fn copy(&self) -> Result<Name, AllocError> {
+        self.copy()
     }
 
-    fn shown(&self) -> &str {
+    fn text(&self) -> &str {
         self.text()
     }
 }
 
 impl Word for Label {
-    fn from_text(alloc: Global, text: &str) -> Result<Label> {
-        Ok(Label::read(alloc, text)?.copy()?)
+    fn copy(&self) -> Result<Label, AllocError> {
+        self.copy()
     }
 
-    fn shown(&self) -> &str {
+    fn text(&self) -> &str {
         self.text()
     }
 }
 
 impl Word for Role {
-    fn from_text(alloc: Global, text: &str) -> Result<Role> {
-        Ok(Role::read(alloc, text)?.copy()?)
+    fn copy(&self) -> Result<Role, AllocError> {
+        self.copy()
     }
 
-    fn shown(&self) -> &str {
+    fn text(&self) -> &str {
         self.text()
     }
 }
 
 impl Word for NodePath {
-    fn from_text(alloc: Global, text: &str) -> Result<NodePath> {
-        Ok(node(alloc, text)?.copy()?)
+    fn copy(&self) -> Result<NodePath, AllocError> {
+        self.copy()
     }
 
-    fn shown(&self) -> &str {
+    fn text(&self) -> &str {
         self.text()
     }
 }
 
-fn append(told: &mut String, text: &str) -> Result<()> {
-    if !told.is_empty() {
-        told.push(' ')?;
+pub fn copied<W: Word>(answer: &mut Answer, word: &W) {
+    if let Some(copy) = answer.found(word.copy()) {
+        answer.say(copy.text());
     }
-    Ok(told.push_str(text)?)
 }
 
-pub fn copied<W: Word>(alloc: Global, told: &mut String, text: &str) -> Result<()> {
-    let word = W::from_text(alloc, text)?;
-    append(told, word.shown())
-}
-
-fn read_each<W: Word>(alloc: Global, words: &mut Vec<W>, texts: &str) -> Result<()> {
+fn read_once<W: Word>(answer: &mut Answer, words: &mut IndexSet<W>, texts: &str) -> Option<()> {
     for text in texts.split(' ') {
-        words.push(W::from_text(alloc, text)?)?;
+        let word = W::from_text(answer, text)?;
+        answer.found(words.insert(word))?;
     }
-    Ok(())
+    Some(())
 }
 
-fn read_once<W: Word>(alloc: Global, words: &mut IndexSet<W>, texts: &str) -> Result<()> {
-    for text in texts.split(' ') {
-        words.insert(W::from_text(alloc, text)?)?;
-    }
-    Ok(())
-}
-
-fn append_once<W: Word>(told: &mut String, words: &IndexSet<W>) -> Result<()> {
+fn tell_once<W: Word>(answer: &mut Answer, words: &IndexSet<W>) {
     for word in words.iter() {
-        append(told, word.shown())?;
+        answer.say(word.text());
+        answer.say(" ");
     }
-    Ok(())
+    answer.end();
 }
 
-fn append_sorted<W: Word + Ord>(told: &mut String, words: &mut Vec<W>) -> Result<()> {
-    words.sort()?;
-    for word in words.iter() {
-        append(told, word.shown())?;
+fn tell_all<W: Word>(answer: &mut Answer, words: &[W]) {
+    for word in words {
+        answer.say(word.text());
+        answer.say(" ");
     }
-    Ok(())
+    answer.end();
+}
+
+fn tell_sorted<W: Word + Ord>(answer: &mut Answer, words: &mut Vec<W>) {
+    let sorted = words.sort();
+    if answer.found(sorted).is_some() {
+        tell_all(answer, words.as_slice());
+    }
 }
 
 /// Each of the words once, in the order in which they come first.
-pub fn distinct<W: Word>(alloc: Global, told: &mut String, texts: &str) -> Result<()> {
-    let mut words = IndexSet::<W>::new(alloc);
-    read_once(alloc, &mut words, texts)?;
-    append_once(told, &words)
+pub fn distinct<W: Word>(answer: &mut Answer, texts: &str) {
+    let mut words = IndexSet::<W>::new(answer.alloc());
+    if read_once(answer, &mut words, texts).is_some() {
+        tell_once(answer, &words);
+    }
 }
 
-pub fn sorted<W: Word + Ord>(alloc: Global, told: &mut String, texts: &str) -> Result<()> {
-    let mut words = Vec::<W>::new(alloc);
-    read_each(alloc, &mut words, texts)?;
-    append_sorted(told, &mut words)
+pub fn sorted<W: Word + Ord>(answer: &mut Answer, texts: &str) {
+    let mut words = Vec::<W>::new(answer.alloc());
+    if read_all(answer, &mut words, texts, ' ').is_some() {
+        tell_sorted(answer, &mut words);
+    }
 }

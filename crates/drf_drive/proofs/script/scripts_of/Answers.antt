@@ -1,22 +1,31 @@
-use Rattle.std.proofs.Common.{ℕ, List, length, subst}
-use Rattle.std.proofs.lemmas.Result.{err_from_is_err_and}
-use Rattle.drf_drive.specs.Scripts.{HasBadLine, TakesScript}
-use Rattle.drf_drive.proofs.Scripts.{scripts-bad, scripts-next}
+use Rattle.std.proofs.Common.{ℕ, List, ap, sym, subst, ◌∙◌, Result, Ok, Err, IfOk, IfErr}
+use Rattle.std.specs.Global.{Vec}
+use Rattle.rayon.proofs.ToStd.{slice-AllZip}
+use Rattle.drf_rows.specs.declared.event.Event.{Event}
+use Rattle.drf_drive.specs.Files.{bytes_of}
+use Rattle.drf_drive.specs.Scripts.{AreScripts, AreWhole, HaveBadLine, HaveStopped, IsScriptOf}
+use Rattle.drf_drive.specs.declared.script.Script.{Script}
+use Rattle.drf_drive.specs.declared.script.ScriptFault.{ScriptFault}
+use Rattle.drf_drive.proofs.Scripts.{AreScriptsOf, scripts-stopped, scripts-whole}
 use Rattle.drf_drive.proofs.script.scripts_of.Goals as goal
 
-pub returns-in_err-take_script-clause-err : goal.returns-in_err-take_script-clause-err
-returns-in_err-take_script-clause-err c =
-    let scripts = c.loop-bytes.scripts.items in
-    let fault = c.in_err-take_script.field-0.0 in
-    let bad = subst (λ (bytes : List ℕ). HasBadLine (length scripts) bytes fault) c.deref.ensures.value c.in_err-take_script.ensures.err in
-    let p = err_from_is_err_and c.from_residual.result c.from_residual.ensures.1 in
-    rw (p.1, p.2) (scripts-bad c.args.contents.now c.loop-bytes.bytes-index c.bytes-item.result c.loop-bytes-test.true c.bytes-item.is
-    scripts c.loop-bytes.invariant fault bad)
+module _ (files : List (Vec ℕ)) (scripts : List Script) (of : AreScriptsOf files scripts) where
+  all-whole : (r : Result (Vec (Vec Event)) ScriptFault) → IfOk r (λ events. AreWhole scripts events.items) → IfOk r (λ events. AreScripts (bytes_of files) events.items)
+  all-whole (Ok events) whole = scripts-whole files scripts events.items of whole
+  all-whole (Err fault) whole = tt
 
-pub loop-bytes-preserved : goal.loop-bytes-preserved
-loop-bytes-preserved c =
-    let scripts = c.loop-bytes.scripts.items in
-    let next = c.take_script.new.scripts.items in
-    let takes = subst (λ (bytes : List ℕ). TakesScript bytes scripts next) c.deref.ensures.value c.in_ok-take_script.ensures.ok in
-    scripts-next c.args.contents.now c.loop-bytes.bytes-index c.bytes-item.result c.loop-bytes-test.true c.bytes-item.is
-    scripts c.loop-bytes.invariant next takes
+  one-stopped : (r : Result (Vec (Vec Event)) ScriptFault) → IfErr r (HaveStopped scripts) → IfErr r (HaveBadLine (bytes_of files))
+  one-stopped (Ok events) stopped = tt
+  one-stopped (Err fault) stopped = scripts-stopped files scripts of fault stopped
+
+pub returns : goal.returns
+returns g c =
+    let files : List (Vec ℕ) = c.args.contents.now in
+    let h = c.in_ok-scripts.ensures in
+    let chain = h.1 in
+    let slice = ap (λ it. it.base.slice.now) c.map.ensures.base ∙ ap (λ it. it.slice.now) c.with_min_len.ensures.base ∙ c.par_iter.ensures in
+    let each = slice-AllZip chain.0 files (chain.1 ∙ slice) (λ (file : Vec ℕ) (script : Script). IsScriptOf file.items script) h.0 chain.2 in
+    let of = subst (AreScriptsOf files) (sym h.2) each in
+    let scripts = c.in_ok-scripts.scripts.items in
+    let told = c.all_whole.ensures in
+    record { ok = all-whole files scripts of c.all_whole.result told.ok; err = one-stopped files scripts of c.all_whole.result told.err }

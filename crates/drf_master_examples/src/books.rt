@@ -1,7 +1,7 @@
 //! A book that one caller has to itself, without a master. What owns it makes one call and takes its entries: its drop is long.
 use crate::closing::keep_passes;
-use crate::lines::{AGENT, CYCLE, FRAMEWORK, append_entries, append_placed};
-use anyhow::Result;
+use crate::lines::{AGENT, CYCLE, FRAMEWORK, OTHER_AGENT, append_entries, append_placed};
+use anyhow::{Context, Result};
 use drf_board::Entry;
 use drf_lines::read_event;
 use drf_master::{Book, MasterSorter, Pass};
@@ -17,16 +17,44 @@ fn take(alloc: Global, told: &mut String, book: &mut Book<MasterSorter>, line: &
     append_placed(alloc, told, place, &reply)
 }
 
-fn take_all(
+// Prepares an event, and settles it.
+fn settle(
     alloc: Global,
     told: &mut String,
     book: &mut Book<MasterSorter>,
-    lines: &[&str],
+    line: &str,
 ) -> Result<()> {
-    for line in lines {
-        take(alloc, told, book, line)?;
-    }
-    Ok(())
+    let event = read_event(alloc, line.as_bytes())?;
+    let next = book.prepare(event)?;
+    let place = book.settle(next);
+    append_last(alloc, told, place, book.entries())
+}
+
+fn append_last(alloc: Global, told: &mut String, place: u64, entries: &[Entry]) -> Result<()> {
+    let last = entries.last().context("no entry")?;
+    append_placed(alloc, told, place, &last.reply)
+}
+
+// Prepares an event, and gives it up: the journal stays as it is.
+fn give_up(
+    alloc: Global,
+    told: &mut String,
+    book: &mut Book<MasterSorter>,
+    line: &str,
+) -> Result<()> {
+    let event = read_event(alloc, line.as_bytes())?;
+    let next = book.prepare(event)?;
+    drop(next);
+    Ok(write!(told, " one given up, {} entries;", book.len())?)
+}
+
+// Each way of taking an event after each other one.
+fn take_all(alloc: Global, told: &mut String, book: &mut Book<MasterSorter>) -> Result<()> {
+    settle(alloc, told, book, AGENT)?;
+    take(alloc, told, book, FRAMEWORK)?;
+    give_up(alloc, told, book, CYCLE)?;
+    take(alloc, told, book, CYCLE)?;
+    settle(alloc, told, book, OTHER_AGENT)
 }
 
 fn append_match(
@@ -48,7 +76,7 @@ fn use_book(
     others: &[Pass],
 ) -> Result<()> {
     append_match(told, "no pass", book, &[])?;
-    take_all(alloc, told, book, &[AGENT, FRAMEWORK, CYCLE])?;
+    take_all(alloc, told, book)?;
     append_match(told, "no pass", book, &[])?;
     append_match(told, "passes of the same calls", book, same)?;
     append_match(told, "passes of others", book, others)
@@ -89,15 +117,17 @@ fn append_compared<W: Threads + Wait + Sync>(
     same: &mut Vec<Pass>,
     others: &mut Vec<Pass>,
 ) -> Result<()> {
-    keep_passes(rt, alloc, 1, &[AGENT, FRAMEWORK, CYCLE], same)?;
-    keep_passes(rt, alloc, 1, &[AGENT, CYCLE, FRAMEWORK], others)?;
+    let lines = [AGENT, FRAMEWORK, CYCLE, OTHER_AGENT];
+    keep_passes(rt, alloc, 1, &lines, same)?;
+    let turned = [AGENT, CYCLE, FRAMEWORK, OTHER_AGENT];
+    keep_passes(rt, alloc, 1, &turned, others)?;
     told.push_str("a book alone:")?;
     open_and_use(alloc, told, same, others)?;
     Ok(told.push('\n')?)
 }
 
-/// A book takes three events. Then it is compared with the passes of a master that was called with the same events, and with those of one
-/// where the last two came in turned order.
+/// A book takes four events, some in one step and some prepared and settled, and one is prepared and given up. Then it is compared with the
+/// passes of a master that was called with the same events, and with those of one where two came in turned order.
 pub fn append_alone<W: Threads + Wait + Sync>(
     rt: &W,
     alloc: Global,

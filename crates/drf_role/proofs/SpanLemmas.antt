@@ -6,7 +6,7 @@ use Rattle.std.proofs.lemmas.List.{append-nil, take_all, drop-drop, drop_at, tak
 use Rattle.std.proofs.lemmas.List.Splits.{slice_split-cons_yes, slice_split-cons_no}
 use Rattle.drf_role.specs.declared.joined.Span.{Span}
 use Rattle.drf_role.specs.Parts.{parts_of, text_of}
-use Rattle.drf_role.specs.Spans.{spans_from, IsCut}
+use Rattle.drf_role.specs.Spans.{spans_from}
 use Rattle.drf_role.proofs.PartLemmas.{HasNoSlash, first_part, parts_no_slash, parts_of-text_of, text_of-parts_of}
 
 abbrev pub span : ℕ → ℕ → Span
@@ -91,10 +91,9 @@ place_at text k (p ∷ q ∷ qs) (suc i) d e within below =
     place_at text (k + length p + 1) (q ∷ qs) i d rest (omega arith) (omega arith)
 
 -- the place at an index is that of the part there
-pub place_of : (text : List ℕ) (spans : List Span) (i : ℕ) (found : Span) → IsCut text spans → i < length (parts_of text) → found ≡ get_or spans i found → IsPlace text (get_or (parts_of text) i []) found
-place_of text spans i found cut below read =
-    let here = place_at text 0 (parts_of text) i found (sym (text_of-parts_of text)) (omega arith) below in
-    subst (IsPlace text (get_or (parts_of text) i [])) (sym (read ∙ ap (λ (xs : List Span). get_or xs i found) cut.exact)) here
+pub place_of : (text : List ℕ) (parts : List (List ℕ)) (i : ℕ) (found : Span) → text ≡ text_of parts → i < length parts → found ≡ get_or (spans_from 0 parts) i found → IsPlace text (get_or parts i []) found
+place_of text parts i found whole below read =
+    subst (IsPlace text (get_or parts i [])) (sym read) (place_at text 0 parts i found whole (omega arith) below)
 
 take_past : (p : List ℕ) (c : ℕ) (t : List ℕ) (m n : ℕ) → n ≡ length p + m + 1 → take n (p ++ c ∷ t) ≡ p ++ c ∷ take m t
 take_past [] c t m zero e = absurd (omega arith)
@@ -118,7 +117,7 @@ text_to k (p ∷ q ∷ qs) (suc n) d h =
     (omega arith, take_past p 47 (text_of (q ∷ qs)) (end - start) (end - k) (omega arith) ∙ ap (λ t. p ++ 47 ∷ t) rest.1)
 
 -- the parts of the text up to the end of a part
-pub parts_of-front : (text : List ℕ) (n : ℕ) (d : Span) → n < length (parts_of text) → parts_of (take (get_or (spans_from 0 (parts_of text)) n d).end text) ≡ take (suc n) (parts_of text)
+parts_of-front : (text : List ℕ) (n : ℕ) (d : Span) → n < length (parts_of text) → parts_of (take (get_or (spans_from 0 (parts_of text)) n d).end text) ≡ take (suc n) (parts_of text)
 parts_of-front text n d h =
     let end = (get_or (spans_from 0 (parts_of text)) n d).end in
     let f = first_part text in
@@ -130,8 +129,9 @@ parts_of-front text n d h =
     ∙ parts_of-text_of f.0 (take n f.1) slash_free
     ∙ ap (take (suc n)) (sym f.2)
 
--- the same by the places that are stored
-pub parts_of-front_at : (text : List ℕ) (spans : List Span) (n : ℕ) (found : Span) → IsCut text spans → n < length (parts_of text) → found ≡ get_or spans n found → parts_of (take found.end text) ≡ take (suc n) (parts_of text)
-parts_of-front_at text spans n found cut below read =
-    ap (λ (s : Span). parts_of (take s.end text)) (read ∙ ap (λ (xs : List Span). get_or xs n found) cut.exact)
-    ∙ parts_of-front text n found below
+-- the same by a place that was found
+pub parts_of-front_at : (text : List ℕ) (parts : List (List ℕ)) (n : ℕ) (found : Span) → parts_of text ≡ parts → n < length parts → found ≡ get_or (spans_from 0 parts) n found → parts_of (take found.end text) ≡ take (suc n) parts
+parts_of-front_at text parts n found cut below read =
+    ap (λ (s : Span). parts_of (take s.end text)) (read ∙ ap (λ ps. get_or (spans_from 0 ps) n found) (sym cut))
+    ∙ parts_of-front text n found (subst (λ ps. n < length ps) (sym cut) below)
+    ∙ ap (take (suc n)) cut

@@ -1,8 +1,9 @@
 //! Parts that are joined by `/`.
-ghost use Rattle.std.specs.Prelude.{◌≡◌, ◌<◌, ◌≤◌, ◌↔◌, ◌==◌, List, ℕ, IfOk, IsTrue, Some, length, slice_get, take};
+ghost use Rattle.std.specs.Prelude.{◌≡◌, ◌<◌, ◌≤◌, ◌↔◌, ◌==◌, [], ◌∷◌, List, ℕ, IfOk, IsTrue, Some, codes, length, slice_get, slice_index_or, take};
 ghost use Rattle.std.specs.String.{string_bytes};
 ghost use Rattle.std.specs.Str.{IsAscii};
 ghost use Rattle.drf_role.specs.Parts.{parts_of, text_of, BeginsWith, GoesOn};
+ghost use Rattle.drf_role.specs.Spans.{spans_from, text_in, spans_in};
 ghost use Rattle.std.specs.Hash as fed;
 ghost use Rattle.std.specs.Hash.{same_Alike};
 ghost use Rattle.std.specs.Cmp;
@@ -12,14 +13,21 @@ ghost use Rattle.std.specs.Ordering.{nat_cmp};
 ghost use Rattle.std.proofs.Common.{refl};
 
 use crate::parts::Parts;
+use smallvec::SmallVec;
 use std::alloc::{AllocError, Global};
 use std::cmp::Ordering;
 use std::hash::{Hash, Hasher};
 use std::marker::Model;
 use std::sync::Arc;
 
+/// The text that needs no memory.
+const STAR: &str = "*";
+
+/// How many places of parts lie beside the text; those of more parts need memory of their own.
+const NEAR_SPANS: usize = 4;
+
 /// Where a part begins and ends in the text.
-#[derive(Clone, Copy, Debug)]
+#[derive(Clone, Copy, Debug, Default)]
 struct Span {
     start: usize,
     end: usize,
@@ -40,38 +48,97 @@ fn goes_on(text: &[u8], front: &[u8]) -> bool
 #[derive(Debug, Drop)]
 struct Cut {
     text: String,
-    spans: Vec<Span>,
+    spans: SmallVec<Span, NEAR_SPANS>,
 }
 
-/// A text in parts, which its copies share. Contracts see the list of the parts.
+/// `*`, the text of most roles, needs no memory; any other text is shared by its copies.
 #[derive(Debug, Drop)]
+enum Kept {
+    Star,
+    Shared(Arc<Cut>),
+}
+
+impl Kept {
+    fn text(&self) -> &str
+        ensures { result.now ≡ text_in self.now }
+    {
+        match self {
+            Kept::Star => STAR,
+            Kept::Shared(cut) => cut.text.as_str(),
+        }
+    }
+
+    /// The number of parts.
+    fn len(&self) -> usize
+        ensures { result ≡ length (spans_in self.now) }
+    {
+        match self {
+            Kept::Star => 1,
+            Kept::Shared(cut) => cut.spans.len(),
+        }
+    }
+
+    fn span(&self, i: usize) -> Span
+        requires { i < length (spans_in self.now) }
+        ensures { result ≡ slice_index_or (spans_in self.now) i result }
+    {
+        match self {
+            Kept::Star => Span {
+                start: 0,
+                end: STAR.len(),
+            },
+            Kept::Shared(cut) => cut.spans[i],
+        }
+    }
+
+    /// The same text. It asks for no memory, and fails where 2^63 owners were counted.
+    fn copy(&self) -> Result<Kept, AllocError>
+        ensures text { IfOk result (λ kept. text_in kept ≡ text_in self.now) }
+        ensures spans { IfOk result (λ kept. spans_in kept ≡ spans_in self.now) }
+    {
+        match self {
+            Kept::Star => Ok(Kept::Star),
+            Kept::Shared(cut) => Ok(Kept::Shared(Arc::try_clone(cut)?)),
+        }
+    }
+}
+
+/// A text in parts. Contracts see the list of the parts.
+#[derive(Debug)]
 pub struct Joined {
-    cut: Arc<Cut>,
+    kept: Kept,
+    alloc: Global,
 }
 
 impl Model for Joined {
     ghost use Rattle.std.specs.Prelude.{List, ℕ};
-    ghost use Rattle.std.specs.String.{string_bytes};
-    ghost use Rattle.std.specs.Arc.{arc_value};
 
     ghost Value = { List (List ℕ) };
 
     ghost use Rattle.drf_role.specs.Parts.{parts_of};
-    ghost use Rattle.drf_role.specs.Spans.{IsCut};
+    ghost use Rattle.drf_role.specs.Spans.{IsCut, text_in, spans_in};
 
-    ghost view = { λ p. parts_of (string_bytes (arc_value p.cut).text) };
+    ghost view = { λ p. parts_of (text_in p.kept) };
 
-    ghost invariant = { λ p. IsCut (string_bytes (arc_value p.cut).text) (arc_value p.cut).spans.items };
+    ghost invariant = { λ p. IsCut (text_in p.kept) (spans_in p.kept) };
+}
+
+// Written out, so that the proof of whoever drops a text sees one call, and not the two forms of what is kept.
+impl Drop for Joined {
+    fn drop(self) {
+        let Joined {
+            kept: _kept,
+            alloc: _alloc,
+        } = self;
+    }
 }
 
 impl Joined {
-    ghost use Rattle.drf_role.specs.Spans.{spans_from, IsCut};
-
     /// The places of the parts of a text.
-    fn spans(alloc: Global, text: &str) -> Result<Vec<Span>, AllocError>
+    fn spans(alloc: Global, text: &str) -> Result<SmallVec<Span, NEAR_SPANS>, AllocError>
         ensures { IfOk result (λ spans. spans.items ≡ spans_from 0 (parts_of text.now)) }
     {
-        let mut spans = Vec::new(alloc);
+        let mut spans = SmallVec::new(alloc);
         let mut start = 0;
         for (i, byte) in text.as_bytes().iter().enumerate() {
             if *byte == b'/' {
@@ -92,50 +159,71 @@ impl Joined {
     {
         let spans = Joined::spans(alloc, text.as_str())?;
         Ok(Joined {
-            cut: Arc::new(alloc, Cut { text, spans })?,
+            kept: Kept::Shared(Arc::new(alloc, Cut { text, spans })?),
+            alloc,
         })
+    }
+
+    /// The text `*`.
+    pub fn star(alloc: Global) -> Joined
+        ensures { result ≡ codes "*" ∷ [] }
+    {
+        Joined {
+            kept: Kept::Star,
+            alloc,
+        }
     }
 
     pub fn from_text(alloc: Global, text: &str) -> Result<Joined, AllocError>
         requires { IsAscii text.now }
         ensures { IfOk result (λ parts. parts ≡ parts_of text.now) }
     {
+        if text == STAR {
+            return Ok(Joined::star(alloc));
+        }
         Joined::cut(alloc, String::from_str(alloc, text)?)
     }
 
-    /// What its copies share.
-    fn shared(&self) -> &Cut
-        ensures parts { parts_of (string_bytes result.now.text) ≡ self.now }
-        ensures right { IsCut (string_bytes result.now.text) result.now.spans.items }
-    {
-        &self.cut
+    /// The allocator of its text.
+    pub fn alloc(&self) -> Global {
+        self.alloc
     }
 
-    /// The allocator that its text came from.
-    pub fn alloc(&self) -> Global {
-        *self.shared().text.allocator()
+    /// Whether it needs no memory, as only `*` does.
+    pub fn needs_no_memory(&self) -> bool
+        ensures { IsTrue result → self.now ≡ codes "*" ∷ [] }
+    {
+        matches!(self.kept, Kept::Star)
     }
 
     pub fn text(&self) -> &str
         ensures text { result.now ≡ text_of self.now }
         ensures parts { parts_of result.now ≡ self.now }
+        ensures ascii { IsAscii result.now }
     {
-        self.shared().text.as_str()
+        self.kept.text()
     }
 
     pub fn len(&self) -> usize
         ensures { result ≡ length self.now }
     {
-        self.shared().spans.len()
+        self.kept.len()
+    }
+
+    /// The place of a part in the text.
+    fn span(&self, i: usize) -> Span
+        requires { i < length self.now }
+        ensures { result ≡ slice_index_or (spans_from 0 self.now) i result }
+    {
+        self.kept.span(i)
     }
 
     pub fn part(&self, i: usize) -> &str
         requires { i < length self.now }
         ensures { slice_get self.now i ≡ Some result.now }
     {
-        let cut = self.shared();
-        let span = cut.spans[i];
-        &cut.text.as_str()[span.start..span.end]
+        let span = self.span(i);
+        &self.text()[span.start..span.end]
     }
 
     pub fn parts(&self) -> Parts<'_>
@@ -144,33 +232,33 @@ impl Joined {
         Parts::new(self)
     }
 
-    /// The first parts, `len` of them.
+    /// The first parts, `len` of them. All of them ask for no memory.
     pub fn front(&self, len: usize) -> Result<Joined, AllocError>
         requires some { 1 ≤ len }
         requires within { len ≤ length self.now }
         ensures { IfOk result (λ front. front ≡ take len self.now) }
     {
-        let cut = self.shared();
-        let end = cut.spans[len - 1].end;
-        Joined::from_text(self.alloc(), &cut.text.as_str()[..end])
+        if len == self.len() {
+            return self.copy();
+        }
+        let end = self.span(len - 1).end;
+        Joined::from_text(self.alloc, &self.text()[..end])
     }
 
-    /// A second owner of the same text. It asks for no memory, and fails where 2^63 owners were counted.
+    /// The same text. It asks for no memory, and fails where 2^63 owners were counted.
     pub fn copy(&self) -> Result<Joined, AllocError>
         ensures { IfOk result (λ parts. parts ≡ self.now) }
     {
         Ok(Joined {
-            cut: Arc::try_clone(&self.cut)?,
+            kept: self.kept.copy()?,
+            alloc: self.alloc,
         })
     }
 
     pub fn begins_with(&self, front: &Joined) -> bool
         ensures { IsTrue result ↔ BeginsWith self.now front.now }
     {
-        goes_on(
-            self.shared().text.as_bytes(),
-            front.shared().text.as_bytes(),
-        )
+        goes_on(self.text().as_bytes(), front.text().as_bytes())
     }
 }
 
@@ -180,7 +268,7 @@ impl PartialEq for Joined {
     ghost laws = { Cmp.partial_equiv_from_equiv (lists_equiv nat_list_eq_equiv) };
 
     fn eq(&self, other: &Joined) -> bool {
-        self.shared().text.as_str() == other.shared().text.as_str()
+        self.text() == other.text()
     }
 }
 

@@ -9,7 +9,7 @@ use std::marker::Model;
 use thiserror::Error;
 
 /// The most bytes of a name or a label.
-const MAX_NAME_LEN: usize = 64;
+pub(crate) const MAX_NAME_LEN: usize = 64;
 
 #[derive(Clone, Copy, Debug, PartialEq, Eq, Error)]
 pub enum NameFault {
@@ -46,7 +46,7 @@ fn is_label(text: &str) -> bool
 }
 
 /// The name of an agent, a framework or a task: 1 to 64 letters, digits, `_`, `-` or `.`.
-#[derive(Debug, Drop, PartialEq, Eq, PartialOrd, Ord, Hash)]
+#[derive(Debug, PartialEq, Eq, PartialOrd, Ord, Hash)]
 pub struct Name {
     word: Word,
 }
@@ -59,6 +59,13 @@ impl Model for Name {
     ghost invariant = { λ n. IsName n.word };
 
     ghost inverse = { λ bytes. record { word = bytes } };
+}
+
+// Written out, so that the proof of whoever drops a name sees one call.
+impl Drop for Name {
+    fn drop(self) {
+        let Name { word: _word } = self;
+    }
 }
 
 impl Name {
@@ -102,7 +109,7 @@ impl Name {
 }
 
 /// The name of a resource or of a member of a set: 1 to 64 letters, digits, `_`, `-`, `.` or `/`.
-#[derive(Debug, Drop, PartialEq, Eq, PartialOrd, Ord, Hash)]
+#[derive(Debug, PartialEq, Eq, PartialOrd, Ord, Hash)]
 pub struct Label {
     text: LabelText,
 }
@@ -115,6 +122,13 @@ impl Model for Label {
     ghost invariant = { λ l. IsLabel l.text };
 
     ghost inverse = { λ bytes. record { text = bytes } };
+}
+
+// Written out, so that the proof of whoever drops a label sees one call.
+impl Drop for Label {
+    fn drop(self) {
+        let Label { text: _text } = self;
+    }
 }
 
 impl Label {

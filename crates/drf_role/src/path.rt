@@ -38,7 +38,7 @@ fn client_text(alloc: Global, role: &str, framework: &str) -> Result<String, All
 
 /// The path of a client: the parts of its role, `.` for the clients of the role itself, and its
 /// framework. Contracts see the list of these parts.
-#[derive(Debug, Drop)]
+#[derive(Debug)]
 pub struct ClientPath {
     role: Role,
     framework: Name,
@@ -52,6 +52,17 @@ impl Model for ClientPath {
     ghost view = { λ p. client_path p.role p.framework };
 
     ghost invariant = { λ p. IsKept p.role p.framework p.mark };
+}
+
+// Written out, so that the proof of whoever drops a path sees one call.
+impl Drop for ClientPath {
+    fn drop(self) {
+        let ClientPath {
+            role: _role,
+            framework: _framework,
+            mark: _mark,
+        } = self;
+    }
 }
 
 impl ClientPath {
@@ -129,7 +140,7 @@ impl ClientPath {
         })
     }
 
-    // The parts in one text, of which a node is a front.
+    // The parts in one text.
     fn joined(&self) -> Result<Joined, AllocError>
         ensures parts { IfOk result (λ joined. joined ≡ self.now) }
         ensures right { IsClientPath self.now }
@@ -140,6 +151,19 @@ impl ClientPath {
         Ok(joined)
     }
 
+    // The first parts. Those of the role alone need no text of the client.
+    fn front(&self, len: usize) -> Result<Joined, AllocError>
+        requires some { 1 ≤ len }
+        requires within { len ≤ length self.now }
+        ensures parts { IfOk result (λ front. front ≡ take len self.now) }
+        ensures right { IsClientPath self.now }
+    {
+        if len <= self.role.len() {
+            return self.role.front(len);
+        }
+        self.joined()?.front(len)
+    }
+
     /// The node that the first parts name, `len` of them.
     pub fn node(&self, len: usize) -> Result<NodePath, AllocError>
         requires some { 1 ≤ len }
@@ -147,7 +171,7 @@ impl ClientPath {
         ensures { IfOk result (λ node. node ≡ take len self.now) }
     {
         Ok(NodePath {
-            joined: self.joined()?.front(len)?,
+            joined: self.front(len)?,
         })
     }
 }
@@ -178,7 +202,7 @@ impl Hash for ClientPath {
 
 /// The path of a node: a non-empty prefix of a client's path. Contracts see the list of its
 /// parts. Paths are ordered part by part, each part by bytes, a prefix before what it begins.
-#[derive(Debug, Drop, PartialEq, Eq, PartialOrd, Ord, Hash)]
+#[derive(Debug, PartialEq, Eq, PartialOrd, Ord, Hash)]
 pub struct NodePath {
     joined: Joined,
 }
@@ -191,6 +215,13 @@ impl Model for NodePath {
     ghost invariant = { λ p. IsNodePath p.joined };
 
     ghost inverse = { λ parts. record { joined = parts } };
+}
+
+// Written out, so that the proof of whoever drops a path sees one call.
+impl Drop for NodePath {
+    fn drop(self) {
+        let NodePath { joined: _joined } = self;
+    }
 }
 
 impl NodePath {

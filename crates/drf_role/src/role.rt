@@ -1,5 +1,5 @@
 //! Roles: `*`, or paths of components as `eng/web`.
-ghost use Rattle.std.specs.Prelude.{◌≡◌, ◌↔◌, ◌<◌, ◌≤◌, List, ℕ, All, IfOk, IsTrue, IsErrOf, Some, length, slice_get};
+ghost use Rattle.std.specs.Prelude.{◌≡◌, ◌↔◌, ◌<◌, ◌≤◌, List, ℕ, All, IfOk, IsTrue, IsErrOf, Some, length, slice_get, take};
 ghost use Rattle.drf_role.specs.Parts.{parts_of, text_of};
 ghost use Rattle.drf_role.specs.Path.{begins_with};
 ghost use Rattle.drf_role.specs.Role.{IsComponentByte, IsComponent, IsRolePath, IsRole, IsRoleText, IsWithin, default_role};
@@ -85,7 +85,7 @@ fn is_role(text: &str) -> bool
 
 /// A role: `*`, or 1 to 8 components joined by `/`, in 64 bytes at most. Contracts see the
 /// list of its components.
-#[derive(Debug, Drop, PartialEq, Eq, Hash)]
+#[derive(Debug, PartialEq, Eq, Hash)]
 pub struct Role {
     joined: Joined,
 }
@@ -98,6 +98,13 @@ impl Model for Role {
     ghost invariant = { λ r. IsRole r.joined };
 
     ghost inverse = { λ components. record { joined = components } };
+}
+
+// Written out, so that the proof of whoever drops a role sees one call.
+impl Drop for Role {
+    fn drop(self) {
+        let Role { joined: _joined } = self;
+    }
 }
 
 impl Role {
@@ -123,7 +130,7 @@ impl Role {
         ensures { IfOk result (λ role. role ≡ default_role) }
     {
         Ok(Role {
-            joined: Joined::from_text(alloc, DEFAULT_ROLE)?,
+            joined: Joined::star(alloc),
         })
     }
 
@@ -168,9 +175,18 @@ impl Role {
         self.joined.parts()
     }
 
-    /// The allocator that its text came from.
+    /// The allocator of its text.
     pub(crate) fn alloc(&self) -> Global {
         self.joined.alloc()
+    }
+
+    /// The first components, `len` of them, as the parts of a node.
+    pub(crate) fn front(&self, len: usize) -> Result<Joined, AllocError>
+        requires some { 1 ≤ len }
+        requires within { len ≤ length self.now }
+        ensures { IfOk result (λ front. front ≡ take len self.now) }
+    {
+        self.joined.front(len)
     }
 
     pub fn copy(&self) -> Result<Role, AllocError>
@@ -185,7 +201,7 @@ impl Role {
     pub fn is_default(&self) -> bool
         ensures { IsTrue result ↔ (self.now ≡ default_role) }
     {
-        self.text() == DEFAULT_ROLE
+        self.joined.needs_no_memory() || self.text() == DEFAULT_ROLE
     }
 
     /// Whether the role is the other one or stands below it. `*` is within itself alone, and no

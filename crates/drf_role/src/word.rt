@@ -1,6 +1,5 @@
 //! A text that its copies share. Contracts see it as its bytes.
-ghost use Rattle.std.specs.Prelude.{◌≡◌, List, ℕ, IfOk, Some};
-ghost use Rattle.std.specs.String.{string_bytes};
+ghost use Rattle.std.specs.Prelude.{◌≡◌, ◌≤◌, List, ℕ, IfOk, Some, length};
 ghost use Rattle.std.specs.Arc.{arc_value};
 ghost use Rattle.std.specs.Hash as fed;
 ghost use Rattle.std.specs.Cmp;
@@ -9,29 +8,42 @@ ghost use Rattle.std.specs.Ordering.{nat_cmp};
 ghost use Rattle.std.proofs.Common.{◌==◌, refl, rules};
 ghost use Rattle.std.specs.Cmp.Rules.{hashing};
 
+use crate::name::MAX_NAME_LEN;
+use arrayvec::ArrayString;
 use std::alloc::{AllocError, Global};
 use std::cmp::Ordering;
 use std::hash::{Hash, Hasher};
 use std::marker::Model;
 use std::sync::Arc;
 
-#[derive(Debug, Drop)]
+/// A text of at most `MAX_NAME_LEN` bytes.
+#[derive(Debug)]
 pub struct Word {
-    text: Arc<String>,
+    text: Arc<ArrayString<MAX_NAME_LEN>>,
 }
 
 impl Model for Word {
     ghost Value = { List ℕ };
 
-    ghost view = { λ w. string_bytes (arc_value w.text) };
+    ghost view = { λ w. (arc_value w.text).bytes };
+}
+
+// Written out, so that the proof of whoever drops a text sees one call.
+impl Drop for Word {
+    fn drop(self) {
+        let Word { text: _text } = self;
+    }
 }
 
 impl Word {
     pub fn from_text(alloc: Global, text: &str) -> Result<Word, AllocError>
+        requires { length text.now ≤ 64 }
         ensures { IfOk result (λ word. word ≡ text.now) }
     {
+        let mut word = ArrayString::new();
+        word.push_str(text);
         Ok(Word {
-            text: Arc::new(alloc, String::from_str(alloc, text)?)?,
+            text: Arc::new(alloc, word)?,
         })
     }
 

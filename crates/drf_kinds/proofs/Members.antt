@@ -7,7 +7,7 @@ use Rattle.std.specs.Ordering.{nat_cmp}
 use Rattle.std.specs.Cmp.{nat_cmp_total}
 use Rattle.std.specs.FinSet as set
 use Rattle.std.proofs.Math.Bool.{and-false}
-use Rattle.std.proofs.lemmas.Bool.{true≢false, le-leb, lt-leb, eq-eqb, ne_eqb, ltb-true, ltb-false, both_ways, cases_lt, or_from}
+use Rattle.std.proofs.lemmas.Bool.{true≢false, le-leb, lt-leb, ne_eqb, ltb-true, ltb-false, both_ways, cases_lt, or_from}
 use Rattle.std.proofs.lemmas.List.Folds.{list_any-append}
 use Rattle.std.proofs.lemmas.List.Sums.{sum_by-cons, sum_by_more, sum_by-take-le}
 use Rattle.drf_kinds.specs.declared.interval.Interval.{Interval}
@@ -117,10 +117,10 @@ pub size_small : (is : List Interval) (k : ℕ) → AreMaximal is → sum_by siz
 size_small is k maximal = omega (arith, sum_by-take-le size_of is k, sum_small is maximal)
 
 -- whether a set is empty
-pub empty_answer : (is : List Interval) (s : set.FinSet nat_cmp) (len : ℕ) (empty : Bool) → AreMaximal is → members is ≡ s → len ≡ length is → empty ≡ eqb len 0 → IsTrue empty ↔ (s ≡ set.empty)
-empty_answer [] s len empty maximal is_s len_is empty_is = (λ _. sym is_s ∙ members_of-nil, λ _. empty_is ∙ eq-eqb len 0 len_is)
-empty_answer (i ∷ is) s len empty maximal is_s len_is empty_is = (
-  λ e. absurd (both_ways empty (empty_is ∙ ne_eqb len 0 (λ none. omega arith)) e),
+pub empty_answer : (is : List Interval) (s : set.FinSet nat_cmp) (empty : Bool) → AreMaximal is → members is ≡ s → empty ≡ eqb (length is) 0 → IsTrue empty ↔ (s ≡ set.empty)
+empty_answer [] s empty maximal is_s empty_is = (λ _. sym is_s ∙ members_of-nil, λ _. empty_is)
+empty_answer (i ∷ is) s empty maximal is_s empty_is = (
+  λ e. absurd (both_ways empty (empty_is ∙ ne_eqb (length (i ∷ is)) 0 (λ none. omega arith)) e),
   λ none.
       let member : set.contains s i.first ≡ true = rw (← is_s) (contains-members (i ∷ is) i.first ∙ rw (le-leb i.first i.first (omega arith), le-leb i.first i.last (omega (arith, maximal.1)))) in
       absurd (both_ways _ (ap (λ x. set.contains x i.first) none ∙ set.contains-empty nat_cmp i.first) member),

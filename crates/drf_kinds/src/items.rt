@@ -13,7 +13,7 @@ use std::alloc::{AllocError, Global};
 use std::marker::Model;
 
 /// A finite set of labels, as of disks.
-#[derive(Debug, Drop)]
+#[derive(Debug)]
 pub struct Items {
     // In order of bytes, each once.
     names: Vec<Label>,
@@ -32,6 +32,13 @@ impl Model for Items {
     ghost view = { λ i. set.from_list i.names.items };
 
     ghost invariant = { λ i. AreNamesOfSet i.names.items };
+}
+
+// Written out, so that the proof of whoever drops a set sees one call, and not its labels.
+impl Drop for Items {
+    fn drop(self) {
+        let Items { names: _names } = self;
+    }
 }
 
 /// Tells the proof that each of them is a label.

@@ -7,7 +7,7 @@ ghost use Rattle.drf_kinds.specs.Places.{is_kept};
 ghost use Rattle.drf_kinds.specs.NumberSetLaws.{number_set_laws};
 ghost use Rattle.drf_kinds.specs.declared.ranges.RangesFault.TheVariants.{Memory};
 
-use crate::interval::Interval;
+use crate::interval::{Interval, Intervals};
 use crate::sweep::{combined, meets};
 use drf_amount::{Algebra, AlgebraFault};
 use std::alloc::{AllocError, Global};
@@ -33,10 +33,10 @@ impl From<AllocError> for RangesFault {
 }
 
 /// A finite set of numbers below 2^32, as of ports.
-#[derive(Debug, Drop)]
+#[derive(Debug)]
 pub struct Ranges {
     // Each is maximal: neither the number before it nor the one after it is in the set.
-    intervals: Vec<Interval>,
+    intervals: Intervals,
 }
 
 impl Model for Ranges {
@@ -54,8 +54,17 @@ impl Model for Ranges {
     ghost invariant = { λ r. AreIntervalsOfSet r.intervals.items };
 }
 
+// Written out, so that the proof of whoever drops a set sees one call, and not where its intervals lie.
+impl Drop for Ranges {
+    fn drop(self) {
+        let Ranges {
+            intervals: _intervals,
+        } = self;
+    }
+}
+
 /// The intervals of pairs.
-fn intervals_of(alloc: Global, pairs: &[(u32, u32)]) -> Result<Vec<Interval>, AllocError>
+fn intervals_of(alloc: Global, pairs: &[(u32, u32)]) -> Result<Intervals, AllocError>
     ensures { IfOk result (λ v. v.items ≡ map interval_of pairs.now) }
 {
     pairs
@@ -65,23 +74,23 @@ fn intervals_of(alloc: Global, pairs: &[(u32, u32)]) -> Result<Vec<Interval>, Al
 }
 
 /// The intervals of pairs, in order of their first ends.
-fn sorted(alloc: Global, pairs: &[(u32, u32)]) -> Result<Vec<Interval>, AllocError>
+fn sorted(alloc: Global, pairs: &[(u32, u32)]) -> Result<Intervals, AllocError>
     ensures intervals { IfOk result (λ v. IsPermutation (map interval_of pairs.now) v.items) }
     ensures sorted { IfOk result (λ v. IsNonDecreasingBy (λ i. i.first) v.items) }
 {
     let mut intervals = intervals_of(alloc, pairs)?;
-    intervals.sort_by_key(|interval| interval.first)?;
+    intervals.sort_unstable_by_key(|interval| interval.first);
     Ok(intervals)
 }
 
 /// The maximal intervals of the numbers of `intervals`, which stand in order of their first ends.
-fn merged(alloc: Global, intervals: &[Interval]) -> Result<Vec<Interval>, AllocError>
+fn merged(alloc: Global, intervals: &[Interval]) -> Result<Intervals, AllocError>
     requires sorted { IsNonDecreasingBy (λ i. i.first) intervals.now }
     requires ordered { All (λ i. i.first ≤ i.last) intervals.now }
     ensures maximal { IfOk result (λ v. AreMaximal v.items) }
     ensures members { IfOk result (λ v. (n : ℕ) → is_in v.items n ≡ is_in intervals.now n) }
 {
-    let mut merged = Vec::new(alloc);
+    let mut merged = Intervals::new(alloc);
     if intervals.is_empty() {
         return Ok(merged);
     }
@@ -107,7 +116,7 @@ fn merged(alloc: Global, intervals: &[Interval]) -> Result<Vec<Interval>, AllocE
 }
 
 impl Ranges {
-    fn new(intervals: Vec<Interval>) -> Ranges
+    fn new(intervals: Intervals) -> Ranges
         requires { AreMaximal intervals.items }
         ensures { result ≡ members intervals.items }
     {
@@ -187,7 +196,7 @@ impl Algebra for Ranges {
     ghost laws = { number_set_laws };
 
     fn empty(alloc: Global) -> Ranges {
-        Ranges::new(Vec::new(alloc))
+        Ranges::new(Intervals::new(alloc))
     }
 
     fn is_empty(&self) -> bool {
@@ -222,13 +231,14 @@ impl Algebra for Ranges {
         ensures small { result < 2 ^ 64 }
     {
         let mut amount = 0;
-        for interval in &self.intervals {
+        for interval in self.intervals.as_slice() {
             amount += u128::from(interval.last - interval.first) + 1;
         }
         amount
     }
 
     fn copy(&self) -> Result<Ranges, AllocError> {
-        Ok(Ranges::new(self.intervals.clone()?))
+        let alloc = *self.intervals.allocator();
+        Ok(Ranges::new(Intervals::from_slice(alloc, &self.intervals)?))
     }
 }

@@ -5,7 +5,7 @@ ghost use Rattle.std.specs.Bool.{OnTrue, OnFalse};
 ghost use Rattle.drf_kinds.specs.Intervals.{AreMaximal, is_in};
 ghost use Rattle.drf_kinds.specs.Places.{next_place, passed, steps_of, is_met, is_kept};
 
-use crate::interval::Interval;
+use crate::interval::{Interval, Intervals};
 use std::alloc::{AllocError, Global};
 use std::marker::Model;
 
@@ -124,7 +124,7 @@ pub fn combined(
     left: &[Interval],
     right: &[Interval],
     united: bool,
-) -> Result<Vec<Interval>, AllocError>
+) -> Result<Intervals, AllocError>
     requires left { AreMaximal left.now }
     requires right { AreMaximal right.now }
     ensures maximal { IfOk result (λ found. AreMaximal found.items) }
@@ -132,7 +132,7 @@ pub fn combined(
 {
     let mut left = Edges::new(left);
     let mut right = Edges::new(right);
-    let mut found = Vec::new(alloc);
+    let mut found = Intervals::new(alloc);
     let mut start = 0;
     let mut inside = false;
     while let Some(place) = pass_both(&mut left, &mut right) {

@@ -25,13 +25,13 @@ loop-first-preserved c =
           rw (w.merged-is, w.start-is, w.end-is, w.max-end.ensures)
           (merging_touch _ _ _ _ _ (record { first = 0; last = 0 }) known c.loop-first-test.true (omega arith) next_ordered (omega arith))
       | else-first-saturating_add+in_ok-push w ↦
-          rw (w.merged-is, w.start-is, w.end-is, w.in_ok-push.ensures.items)
+          rw (w.merged-is, w.start-is, w.end-is, w.in_ok-push.ensures.ok)
           (merging_apart _ _ _ _ _ (record { first = 0; last = 0 }) known c.loop-first-test.true (sorted_rest _ _ sorted) (omega arith) next_ordered (omega arith))
     ]
 
 pub returns-clause-maximal : goal.returns-clause-maximal
-returns-clause-maximal c = rw c.in_ok-push-2.ensures.items (merged_maximal _ _ _ _ _ c.loop-first.invariant)
+returns-clause-maximal c = rw c.in_ok-push-2.ensures.ok (merged_maximal _ _ _ _ _ c.loop-first.invariant)
 
 pub returns-clause-members : goal.returns-clause-members
 returns-clause-members c n =
-    rw (c.in_ok-push-2.ensures.items, front_rest c.args.intervals.now (eqb-false _ _ (sym c.if-is_empty.ensures))) (merged_all _ _ _ _ _ c.loop-first.invariant c.loop-first-test.false n)
+    rw (c.in_ok-push-2.ensures.ok, front_rest c.args.intervals.now (eqb-false _ _ (sym c.if-is_empty.ensures))) (merged_all _ _ _ _ _ c.loop-first.invariant c.loop-first-test.false n)

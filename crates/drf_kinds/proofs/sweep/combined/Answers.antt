@@ -26,4 +26,4 @@ loop-place-preserved c =
     let known = c.loop-place.invariant in
     let e = c.in-Some.ensures in
     let both = passes_both _ _ _ _ _ _ known.left_from known.right_from e.place e.some e.left e.right in
-    rw c.in_ok-push.ensures.items (found_end (is_kept c.args.united) _ _ _ _ _ _ _ _ _ _ _ known both (cc) c.if-inside-was_inside.false c.if-inside.false)
+    rw c.in_ok-push.ensures.ok (found_end (is_kept c.args.united) _ _ _ _ _ _ _ _ _ _ _ known both (cc) c.if-inside-was_inside.false c.if-inside.false)

@@ -8,5 +8,5 @@ use Rattle.drf_kinds.proofs.ranges.RangesAlgebra.disjoint.Goals as goal
 pub returns-clause-disjoint : goal.returns-clause-disjoint
 returns-clause-disjoint c =
     disjoint_answer nat_cmp_total set.nat_cmp-IsAntisymmetric (λ n. n < 2 ^ 32) _ _ _ _ c.meets.result
-    (contains-view _ _ _ c.deref.ensures.value c.self.view_is) (contains-view _ _ _ c.deref-2.ensures.value c.other.view_is)
+    (contains-view _ _ _ c.deref.ensures c.self.view_is) (contains-view _ _ _ c.deref-2.ensures c.other.view_is)
     c.meets.ensures.found c.meets.ensures.none

@@ -1,5 +1,5 @@
 -- Amounts of scalar resources by label, in thousandths, in order of label.
-use Rattle.std.specs.Prelude.{ℕ, ◌+◌, ◌-◌, Bool, true, ◌&&◌, IsTrue, List, [], ◌∷◌, map, if◌then◌else◌, nat_lt, nat_le}
+use Rattle.std.specs.Prelude.{ℕ, ◌+◌, ◌-◌, Bool, true, ◌&&◌, IsTrue, List, [], ◌∷◌, map, Option, Some, None, if◌then◌else◌, nat_lt, nat_le}
 use Rattle.std.specs.List.{filter, list_all, list_any}
 use Rattle.std.specs.Ordering.{nat_cmp, match_ordering}
 use Rattle.std.specs.Cmp.Lexicographic.{slice_cmp}
@@ -14,6 +14,10 @@ amount_of (e ∷ es) label = if same_text e.label label then e.amount else amoun
 -- the label is named, be its amount 0 or not
 abbrev pub is_named : List Entry → List ℕ → Bool
 is_named entries label = list_any (λ e. same_text e.label label) entries
+
+-- the amount of a label, if it is named
+abbrev pub known_amount : List Entry → List ℕ → Option ℕ
+known_amount entries label = if is_named entries label then Some (amount_of entries label) else None
 
 -- the first list names each label of the second
 abbrev pub names_all : List Entry → List Entry → Bool

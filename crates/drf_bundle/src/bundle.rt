@@ -1,5 +1,5 @@
 //! Bundles of resources.
-ghost use Rattle.std.specs.Prelude.{◌≡◌, IsTrue, [], ◌∷◌, ◌++◌, OnOk, IfOk, IfErr, IsOk};
+ghost use Rattle.std.specs.Prelude.{◌≡◌, IsTrue, [], ◌∷◌, ◌++◌, None, Some, OnOk, IfOk, IfErr, IsOk};
 ghost use Rattle.std.specs.List.{list_all};
 ghost use Rattle.std.specs.Option.{option_copied};
 ghost use Rattle.drf_bundle.specs.Bundle.{IsBundle, amount, join, refusal, is_too_large, is_in_order, exceeds, rest, filled_of, left_of, covers_one, reservation, value_at, quantities_of, one_of, is_unreserved, is_for, part_for, clip, clipped, relabel};
@@ -25,7 +25,7 @@ pub struct Bundle {
     // What its copies share. The empty bundle, which takes no memory, need not have any.
     shared: Option<Arc<Parts>>,
     // Empty, to be lent where nothing is shared.
-    nothing: Parts,
+    nothing: Quantities,
 }
 
 impl Model for Bundle {
@@ -150,12 +150,13 @@ fn clipped(limits: &Quantities, resource: &Resource) -> Result<Resource, AllocEr
     ensures { IfOk result (λ cut. cut ≡ clipped limits.now resource.now) }
 {
     let mut cut = resource.copy()?;
-    if !resource.is_unreserved() || !limits.is_named(resource.label.text()) {
+    let Value::Scalar(scalar) = &resource.value else {
         return Ok(cut);
-    }
-    if let Value::Scalar(scalar) = &resource.value {
-        let limit = limits.amount_of(&resource.label);
-        cut.value = Value::Scalar(Scalar::new(scalar.thousandths().min(limit)));
+    };
+    if resource.is_unreserved() {
+        if let Some(limit) = limits.known_amount_of(&resource.label) {
+            cut.value = Value::Scalar(Scalar::new(scalar.thousandths().min(limit)));
+        }
     }
     Ok(cut)
 }
@@ -169,6 +170,19 @@ fn push_filled(resources: &mut Vec<Resource>, resource: Resource) -> Result<(), 
         resources.push(resource)?;
     }
     Ok(())
+}
+
+/// What is left of the resources without the part, of which they need not have all.
+fn rest(alloc: Global, whole: &[Resource], part: &[Resource]) -> Result<Vec<Resource>, AllocError>
+    requires { IsTrue (is_in_order part.now) }
+    ensures { IfOk result (λ left. left.items ≡ rest whole.now part.now) }
+{
+    let mut left = Vec::with_capacity(alloc, whole.len())?;
+    for (i, resource) in whole.iter().enumerate() {
+        let hint = i.saturating_sub(1);
+        push_filled(&mut left, left_of(part, resource, hint)?)?;
+    }
+    Ok(left)
 }
 
 impl Bundle {
@@ -190,18 +204,8 @@ impl Bundle {
         }
         Ok(Bundle {
             shared: Some(Arc::new(alloc, parts)?),
-            nothing: Parts::empty(alloc),
+            nothing: Quantities::empty(alloc),
         })
-    }
-
-    /// What it holds.
-    fn parts(&self) -> &Parts
-        ensures { result.now ≡ self.now }
-    {
-        match &self.shared {
-            Some(parts) => parts,
-            None => &self.nothing,
-        }
     }
 
     fn alloc(&self) -> Global {
@@ -241,7 +245,10 @@ impl Bundle {
         ensures value { result.now ≡ self.now }
         ensures bundle { IsBundle self.now }
     {
-        self.parts().entries()
+        match &self.shared {
+            Some(parts) => parts.entries(),
+            None => &[],
+        }
     }
 
     /// The scalars of each name, summed over all reservations.
@@ -249,7 +256,10 @@ impl Bundle {
         ensures value { result.now ≡ quantities_of self.now }
         ensures bundle { IsBundle self.now }
     {
-        self.parts().quantities()
+        match &self.shared {
+            Some(parts) => parts.quantities(),
+            None => &self.nothing,
+        }
     }
 
     /// Tells a proof what every bundle is. It does nothing.
@@ -353,13 +363,17 @@ impl Bundle {
     pub fn rest(&self, part: &Bundle) -> Result<Bundle, AllocError>
         ensures { IfOk result (λ left. left ≡ rest self.now part.now) }
     {
-        let others = part.entries();
-        let mut left = Vec::new(self.alloc());
-        for (i, resource) in self.entries().iter().enumerate() {
-            let hint = i.saturating_sub(1);
-            push_filled(&mut left, left_of(others, resource, hint)?)?;
-        }
+        let left = rest(self.alloc(), self.entries(), part.entries())?;
         Bundle::new(self.alloc(), left)
+    }
+
+    /// The bundle with another part in the place of one, of which it need not have all. What is left without that one has a join with the other.
+    pub fn exchange(&self, old: &Bundle, new: &Bundle) -> Result<Bundle, AllocError>
+        requires { refusal (rest self.now old.now) new.now ≡ None }
+        ensures { IfOk result (λ both. join (rest self.now old.now) new.now ≡ Some both) }
+    {
+        let left = rest(self.alloc(), self.entries(), old.entries())?;
+        Bundle::new(self.alloc(), merged(self.alloc(), &left, new.entries())?)
     }
 }
 
@@ -379,7 +393,7 @@ impl Algebra for Bundle {
     fn empty(alloc: Global) -> Bundle {
         Bundle {
             shared: None,
-            nothing: Parts::empty(alloc),
+            nothing: Quantities::empty(alloc),
         }
     }
 
@@ -436,7 +450,7 @@ impl Algebra for Bundle {
         match &self.shared {
             Some(parts) => Ok(Bundle {
                 shared: Some(Arc::try_clone(parts)?),
-                nothing: Parts::empty(self.alloc()),
+                nothing: Quantities::empty(self.alloc()),
             }),
             None => Ok(Bundle::empty(self.alloc())),
         }

@@ -43,9 +43,10 @@ pub fn merged(
 ) -> Result<Vec<Resource>, AllocError>
     ensures { IfOk result (λ found. found.items ≡ merged left.now right.now) }
 {
+    let most = left.len().saturating_add(right.len());
     let mut left = left;
     let mut right = right;
-    let mut found = Vec::new(alloc);
+    let mut found = Vec::with_capacity(alloc, most)?;
     while let Some(side) = next_side(left, right) {
         match side {
             Side::Left => {

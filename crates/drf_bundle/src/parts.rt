@@ -13,7 +13,7 @@ use std::alloc::{AllocError, Global};
 use std::marker::Model;
 
 /// Resources in order, with the sums of their scalars: put together one by one, and then shared by the copies of a bundle.
-#[derive(Debug, Drop)]
+#[derive(Debug)]
 pub struct Parts {
     pub(crate) resources: Vec<Resource>,
     // The scalars of each name over all reservations, kept to be lent.
@@ -36,6 +36,16 @@ impl Model for Parts {
     ghost view = { λ p. p.resources.items };
 
     ghost invariant = { λ p. IsKept p.resources.items p.quantities };
+}
+
+// Written out, so that the proof of whoever drops the parts sees one call.
+impl Drop for Parts {
+    fn drop(self) {
+        let Parts {
+            resources: _resources,
+            quantities: _quantities,
+        } = self;
+    }
 }
 
 /// Adds the resource's scalar to the sum of its name.

@@ -1,6 +1,6 @@
 ghost use Rattle.std.specs.Prelude.{◌≡◌, ℕ, List, [], length, ◌^◌, ◌<◌, IsTrue, ◌+◌, ◌≤◌, if◌then◌else◌, IfOk, IfErr, OnOk, OnErr, IsOk, IfSome, IfNone, false};
 ghost use Rattle.std.specs.List.{position};
-ghost use Rattle.drf_bundle.specs.Quantities.{HasNoZeros, amount_of, is_named, names_all, is_in_order, with_amount, plus, minus, covers, without_zeros, names_of};
+ghost use Rattle.drf_bundle.specs.Quantities.{HasNoZeros, amount_of, is_named, known_amount, names_all, is_in_order, with_amount, plus, minus, covers, without_zeros, names_of};
 ghost use Rattle.drf_bundle.specs.Places.{IsAt, IsGapFor};
 ghost use Rattle.drf_role.specs.Text.{same_text};
 
@@ -32,7 +32,7 @@ impl Entry {
 }
 
 /// Amounts of scalar resources by label, in thousandths. A label may be named with the amount 0.
-#[derive(Debug, Drop)]
+#[derive(Debug)]
 pub struct Quantities {
     entries: Vec<Entry>,
 }
@@ -48,6 +48,13 @@ impl Model for Quantities {
     ghost view = { λ q. q.entries.items };
 
     ghost invariant = { λ q. IsTrue (is_in_order q.entries.items) };
+}
+
+// Written out, so that the proof of whoever drops quantities sees one call.
+impl Drop for Quantities {
+    fn drop(self) {
+        let Quantities { entries: _entries } = self;
+    }
 }
 
 impl Quantities {
@@ -78,6 +85,28 @@ impl Quantities {
         ensures { result ≡ amount_of self.now label.now }
     {
         self.amount_near(label, &mut 0)
+    }
+
+    /// The thousandths of the label of that text, if it is named.
+    pub fn known_amount(&self, label: &str) -> Option<u64>
+        ensures { result ≡ known_amount self.now label.now }
+    {
+        match self.place_of_text(label) {
+            Ok(at) => {
+                let entry = &self.entries[at];
+                Some(entry.amount.thousandths())
+            }
+            Err(_) => None,
+        }
+    }
+
+    /// The thousandths of a label, if it is named.
+    pub fn known_amount_of(&self, label: &Label) -> Option<u64>
+        ensures { result ≡ known_amount self.now label.now }
+    {
+        let at = self.place_if_named(label, 0)?;
+        let entry = &self.entries[at];
+        Some(entry.amount.thousandths())
     }
 
     // The thousandths of a label that is likely to stand at that place, which becomes the one behind it.

@@ -11,11 +11,22 @@ use std::alloc::AllocError;
 use std::cmp::Ordering;
 
 /// What there is of one resource for one role, or for everyone where the role is `*`.
-#[derive(Debug, Drop)]
+#[derive(Debug)]
 pub struct Resource {
     pub label: Label,
     pub role: Role,
     pub value: Value,
+}
+
+// Written out, so that the proof of whoever drops a resource sees one call, and not the forms of its value.
+impl Drop for Resource {
+    fn drop(self) {
+        let Resource {
+            label: _label,
+            role: _role,
+            value: _value,
+        } = self;
+    }
 }
 
 /// Nothing for everyone, else the role's text: resources of one name stand in this order.

@@ -76,7 +76,7 @@ pub struct FilterRow {
 
 /// All that the allocator knows. `clock` is in milliseconds, `next_offer` is the number of the next offer, and `events`
 /// counts the events that were not refused.
-#[derive(Debug, Drop)]
+#[derive(Debug)]
 pub struct Rows {
     pub agents: Table<AgentRow>,
     pub frameworks: Table<FrameworkRow>,
@@ -88,6 +88,24 @@ pub struct Rows {
     pub clock: u64,
     pub next_offer: u64,
     pub events: u64,
+}
+
+// Written out, so that the proof of whoever drops rows sees one call, and not the drop of each table.
+impl Drop for Rows {
+    fn drop(self) {
+        let Rows {
+            agents: _agents,
+            frameworks: _frameworks,
+            offers: _offers,
+            tasks: _tasks,
+            weights: _weights,
+            limits: _limits,
+            filters: _filters,
+            clock: _clock,
+            next_offer: _next_offer,
+            events: _events,
+        } = self;
+    }
 }
 
 impl Copied for AgentRow {

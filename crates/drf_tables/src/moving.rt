@@ -12,7 +12,6 @@ ghost use Rattle.drf_tables.specs.Inside.{agent_row};
 
 use crate::free_part::FreePart;
 use crate::tables::Agent;
-use drf_amount::Algebra;
 use drf_bundle::Bundle;
 use drf_role::Name;
 use indexmap::IndexMap;
@@ -23,12 +22,8 @@ fn exchanged(whole: &Bundle, old: &Bundle, new: &Bundle) -> Result<Bundle, Alloc
     requires { CanExchange whole.now old.now new.now }
     ensures { IfOk result (λ both. both ≡ exchanged old.now new.now whole.now) }
 {
-    let left = whole.rest(old)?;
-    match left.try_join(new) {
-        Ok(both) => Ok(both),
-        // The two have a join, so that only memory was wanting.
-        Err(_) => Err(AllocError),
-    }
+    let both = whole.exchange(old, new)?;
+    Ok(both)
 }
 
 /// The free part with another part in the place of one that it has, where it is known.

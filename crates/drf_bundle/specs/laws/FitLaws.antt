@@ -250,7 +250,7 @@ module _ (a b : List Resource) (first : IsBundle a) (second : IsBundle b) where
 
 -- ---- joins
 
-join_or_some : (refused : Option AlgebraFault) (whole c : List Resource) → join_or refused whole ≡ Some c
+pub join_or_some : (refused : Option AlgebraFault) (whole c : List Resource) → join_or refused whole ≡ Some c
     → (refused ≡ None) × (whole ≡ c)
 join_or_some None whole c is = (refl, cc)
 join_or_some (Some f) whole c is = absurd (cc)

@@ -2,6 +2,7 @@ pub mod ChainLemmas
 pub mod FilterLemmas
 pub mod UsageLemmas
 pub mod QuotaLemmas
+pub mod LimitLemmas
 pub mod ConsumedLemmas
 pub mod TotalLemmas
 pub mod CarryLemmas

@@ -9,12 +9,12 @@ use Rattle.std.proofs.lemmas.List.Folds.{list_any-append}
 use Rattle.drf_role.specs.Text.{Text, same_text, text_below}
 use Rattle.drf_role.specs.TextLaws.{cases_cmp, cases_same, same_itself, same_from_test, same_from_cmp, above_other, below_from_cmp, above_from_cmp}
 use Rattle.drf_role.specs.Path.{Path}
-use Rattle.drf_bundle.specs.Quantities.{amount_of, is_in_order, is_named, names_of, with_amount}
+use Rattle.drf_bundle.specs.Quantities.{amount_of, is_in_order, is_named, known_amount, names_of, with_amount}
 use Rattle.drf_bundle.specs.laws.QuantitiesLaws.{stands_first, first_trans, amount-with, in_order-with, named-with}
 use Rattle.drf_bundle.specs.declared.quantities.Entry.{Entry}
 use Rattle.drf_rows.specs.Quota.{Consumed, is_within, binds, room_under, headroom_under, headrooms, limited_names}
 use Rattle.drf_rows.specs.declared.rows.LimitRow.{LimitRow}
-use Rattle.drf_gates.specs.Quota.{known_amount, lesser, lessened, limit_row}
+use Rattle.drf_gates.specs.Quota.{lesser, lessened, limit_row}
 use Rattle.drf_gates.proofs.ConsumedLemmas.{next_of}
 
 -- ---- amounts that are known

@@ -96,10 +96,6 @@ abbrev pub least_with : Option ℕ → List ℕ → Option ℕ
 least_with None ns = reduce min ns
 least_with (Some n) ns = Some (fold min n ns)
 
--- the amount of a label, if it is named
-abbrev pub known_amount : List Entry → Text → Option ℕ
-known_amount entries label = if is_named entries label then Some (amount_of entries label) else None
-
 -- what is known of the least room, once one more limit is known
 abbrev pub lessened : Consumed → LimitRow → Option ℕ → Text → Option ℕ
 lessened consumed l known label = if is_named l.limit label then Some (lesser known (room_under consumed label l)) else known

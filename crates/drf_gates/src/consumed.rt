@@ -66,7 +66,7 @@ impl Quota {
         ensures ok { OnOk result (IsRaisedBy self.old self.new (λ test label. if test role.now then unreserved_in label bundle.now else 0)) }
         ensures err { OnErr result (self.new ≡ self.old) }
     {
-        let amounts = unreserved(*self.limits.allocator(), bundle)?;
+        let amounts = unreserved(*self.used.allocator(), bundle)?;
         self.consume(role, &amounts)
     }
 
@@ -104,7 +104,7 @@ impl Quota {
         if resource.is_unreserved() {
             return Ok(());
         }
-        let amounts = one(*self.limits.allocator(), resource)?;
+        let amounts = one(*self.used.allocator(), resource)?;
         self.consume(&resource.role, &amounts)
     }
 

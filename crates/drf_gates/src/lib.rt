@@ -7,6 +7,7 @@ mod filters;
 mod fronts;
 mod index;
 mod laws;
+mod limits;
 mod quota;
 mod row;
 mod totals;

@@ -5,14 +5,14 @@ ghost use Rattle.std.specs.Option.{option_copied, option_map_or};
 ghost use Rattle.drf_role.specs.Text.{Text};
 ghost use Rattle.drf_role.specs.Path.{Path, same_path};
 ghost use Rattle.drf_role.specs.Role.{IsRole};
-ghost use Rattle.drf_bundle.specs.Quantities.{amount_of};
+ghost use Rattle.drf_bundle.specs.Quantities.{amount_of, known_amount};
 ghost use Rattle.drf_rows.specs.Quota.{is_within, binds, room_under, headroom_under, headrooms, stays_within, admits_under, limit_of, limits_with, consumption, headroom_at, headroom, admits};
 ghost use Rattle.drf_rows.specs.declared.rows.Rows.{Rows};
 ghost use Rattle.indexmap.specs.IndexMap.{insert_entry};
 ghost use Rattle.drf_gates.specs.Front.{IsFirstShort, front_leaves, front_passes, least_at, limits_at};
-ghost use Rattle.drf_gates.specs.Quota.{IsAllowanceOf, IsRaised, IsSame, known_amount, lessened, limit_row, lesser, used_at, used_by};
+ghost use Rattle.drf_gates.specs.Quota.{IsAllowanceOf, IsRaised, IsSame, lessened, limit_row, lesser, used_at, used_by};
 
-use crate::fronts::limit_above;
+use crate::limits::LimitTable;
 use crate::totals::{
     Total, copy_totals, drop_total, keep_total, kept, kept_at, lower_totals, raise_totals,
     totals_of,
@@ -26,14 +26,24 @@ use std::alloc::{AllocError, Global};
 use std::marker::Model;
 
 /// The limits of roles, in the order in which the roles got one, and what each role consumes, all in thousandths.
-#[derive(Drop)]
 pub struct Quota {
-    pub(crate) limits: IndexMap<Role, Quantities>,
+    pub(crate) limits: LimitTable,
     // What each role consumes itself, the roles below it left out.
     pub(crate) used: IndexMap<Role, Quantities>,
     // What roles with a limit consume together with the roles below them, as far as there was memory. Each is likely to stand
     // at the place of its limit.
     pub(crate) totals: IndexMap<Role, Total>,
+}
+
+// Written out, so that the proof of whoever drops a quota sees one call, and not the drop of each table.
+impl Drop for Quota {
+    fn drop(self) {
+        let Quota {
+            limits: _limits,
+            used: _used,
+            totals: _totals,
+        } = self;
+    }
 }
 
 impl Model for Quota {
@@ -44,7 +54,7 @@ impl Model for Quota {
 
     ghost coded = { allowance_code };
 
-    ghost view = { λ q. record { limits = limit_rows q.limits.entries; used = q.used.entries } };
+    ghost view = { λ q. record { limits = limit_rows q.limits; used = q.used.entries } };
 
     ghost invariant = { λ q. IsCounted q.used.entries q.totals.entries };
 }
@@ -59,64 +69,13 @@ fn lesser(known: Option<u64>, number: u64) -> u64
     }
 }
 
-/// The amount of a label, if it is named.
-fn known_amount(amounts: &Quantities, label: &str) -> Option<u64>
-    ensures { result ≡ known_amount amounts.now label.now }
-{
-    if amounts.is_named(label) {
-        Some(amounts.get(label))
-    } else {
-        None
-    }
-}
-
-/// Gives a role a limit in the place of the one that it has, if any. An `Err` changes nothing.
-fn put_limit(
-    limits: &mut IndexMap<Role, Quantities>,
-    role: Role,
-    limit: Quantities,
-) -> Result<(), AllocError>
-    ensures ok { OnOk result (limits.new.entries ≡ insert_entry same_path limits.old.entries role limit) }
-    ensures err { OnErr result (limits.new.entries ≡ limits.old.entries) }
-{
-    limits.insert(role, limit)?;
-    Ok(())
-}
-
-/// The limits, copied in their order.
-fn copy_limits(
-    limits: &IndexMap<Role, Quantities>,
-) -> Result<IndexMap<Role, Quantities>, AllocError>
-    ensures { IfOk result (λ copy. copy.entries ≡ limits.now.entries) }
-{
-    // The proof learns that no role has two limits by this call alone.
-    let _ = limits.len();
-    let mut copy = IndexMap::with_capacity(*limits.allocator(), limits.len())?;
-    for (role, limit) in limits {
-        let role = role.copy()?;
-        let limit = limit.copy()?;
-        put_limit(&mut copy, role, limit)?;
-    }
-    Ok(copy)
-}
-
-/// Makes room for the limit of a role, if it has none. It changes nothing.
-fn make_room(limits: &mut IndexMap<Role, Quantities>, role: &Role) -> Result<(), AllocError>
-    ensures { limits.new.entries ≡ limits.old.entries }
-{
-    if limits.contains_key(role) {
-        return Ok(());
-    }
-    limits.reserve(1)
-}
-
 impl Quota {
     /// No limit, and nothing consumed.
     pub fn new(alloc: Global) -> Quota
         ensures { result ≡ record { limits = []; used = [] } }
     {
         Quota {
-            limits: IndexMap::new(alloc),
+            limits: LimitTable::new(alloc),
             used: IndexMap::new(alloc),
             totals: IndexMap::new(alloc),
         }
@@ -140,14 +99,7 @@ impl Quota {
     pub fn rows(&self) -> Result<Table<LimitRow>, AllocError>
         ensures { IfOk result (λ rows. rows ≡ self.now.limits) }
     {
-        let mut rows = Vec::with_capacity(*self.limits.allocator(), self.limits.len())?;
-        for (role, limit) in &self.limits {
-            rows.push(LimitRow {
-                role: role.copy()?,
-                limit: limit.copy()?,
-            })?;
-        }
-        Ok(Table::from_vec(rows))
+        self.limits.rows()
     }
 
     /// The limit of a role, if it has one.
@@ -166,13 +118,12 @@ impl Quota {
     {
         if limit.entries().is_empty() {
             drop_total(&mut self.totals, &role);
-            self.limits.shift_remove(&role);
+            self.limits.remove(role);
             return Ok(());
         }
-        // A total without its limit would shift the places of later totals.
-        make_room(&mut self.limits, &role)?;
+        // The limit goes first: a total without its limit would shift the places of later totals.
+        self.limits.insert(role.copy()?, limit)?;
         keep_total(&mut self.totals, &self.used, &role);
-        self.limits.insert(role, limit)?;
         Ok(())
     }
 
@@ -217,7 +168,7 @@ impl Quota {
         requires { len ≤ length role.now }
         ensures { result ≡ least_at known (used_at self.now.used) (limits_at (take len role.now) self.now.limits) label.now }
     {
-        let Some((place, limited, limit)) = limit_above(&self.limits, role, len) else {
+        let Some((place, limited, limit)) = self.limits.above(role, len) else {
             return known;
         };
         if !limit.is_named(label) {
@@ -261,7 +212,7 @@ impl Quota {
         requires { len ≤ length role.now }
         ensures { result ≡ front_leaves (used_at self.now.used) role.now label.now least len self.now.limits }
     {
-        let Some((place, limited, limit)) = limit_above(&self.limits, role, len) else {
+        let Some((place, limited, limit)) = self.limits.above(role, len) else {
             return true;
         };
         !limit.is_named(label) || least <= self.room(place, limited, limit, label)
@@ -282,7 +233,7 @@ impl Quota {
             let label = entry.label.text();
             let used = self.consumption_at(place, limited, label);
             let left = entry.amount.thousandths().saturating_sub(used);
-            let least = lesser(known_amount(room, label), left);
+            let least = lesser(room.known_amount(label), left);
             room.set(entry.label.copy()?, least)?;
         }
         Ok(())
@@ -294,7 +245,7 @@ impl Quota {
         ensures { OnOk result ((label : Text) → known_amount room.new label
             ≡ least_at (known_amount room.old label) (used_at self.now.used) (limits_at (take len role.now) self.now.limits) label) }
     {
-        let Some((place, limited, limit)) = limit_above(&self.limits, role, len) else {
+        let Some((place, limited, limit)) = self.limits.above(role, len) else {
             return Ok(());
         };
         self.add_headroom(place, limited, limit, room)
@@ -305,7 +256,7 @@ impl Quota {
         ensures value { IfOk result (λ room. room ≡ headrooms self.now.limits (used_at self.now.used) role.now) }
         ensures of_rows { IfOk result (λ room. (rows : Rows) → IsAllowanceOf rows self.now → room ≡ headroom rows role.now) }
     {
-        let mut room = Quantities::empty(*self.limits.allocator());
+        let mut room = Quantities::empty(*self.used.allocator());
         // The empty front is looked up too: that no limit has it, only the look-up tells.
         let fronts = role.len() + 1;
         for len in 0..fronts {
@@ -330,7 +281,7 @@ impl Quota {
         requires { len ≤ length role.now }
         ensures { result ≡ front_passes (stays_within (used_at self.now.used) more.now) role.now more.now.label len self.now.limits }
     {
-        let Some((place, limited, limit)) = limit_above(&self.limits, role, len) else {
+        let Some((place, limited, limit)) = self.limits.above(role, len) else {
             return true;
         };
         !limit.is_named(more.label.text()) || self.stays_within(place, limited, limit, more)
@@ -390,9 +341,9 @@ impl Quota {
     pub fn copy(&self) -> Result<Quota, AllocError>
         ensures { IfOk result (IsSame self.now) }
     {
-        let limits = copy_limits(&self.limits)?;
+        let limits = self.limits.copy()?;
         let used = copy_used(&self.used)?;
-        let totals = copy_totals(&self.totals, *self.limits.allocator());
+        let totals = copy_totals(&self.totals, *self.used.allocator());
         Ok(Quota {
             limits,
             used,
@@ -404,9 +355,9 @@ impl Quota {
     pub fn limits_alone(&self) -> Result<Quota, AllocError>
         ensures { IfOk result (λ quota. quota ≡ record { limits = self.now.limits; used = [] }) }
     {
-        let alloc = *self.limits.allocator();
+        let alloc = *self.used.allocator();
         Ok(Quota {
-            limits: copy_limits(&self.limits)?,
+            limits: self.limits.copy()?,
             used: IndexMap::new(alloc),
             totals: IndexMap::new(alloc),
         })
@@ -416,7 +367,7 @@ impl Quota {
     pub fn forget(&mut self)
         ensures { self.new ≡ record self.old { used = [] } }
     {
-        self.used = IndexMap::new(*self.limits.allocator());
+        self.used = IndexMap::new(*self.used.allocator());
         self.totals = totals_of(&self.limits, &self.used);
     }
 }

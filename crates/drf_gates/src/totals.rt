@@ -8,6 +8,7 @@ ghost use Rattle.drf_gates.specs.Quota.{Usage, AreRaised, counted, one_entry, us
 ghost use Rattle.drf_gates.specs.Totals.{IsExact, AreExact, AreCarried};
 
 use crate::fronts::first_parts;
+use crate::limits::LimitTable;
 use drf_bundle::{Entry, Quantities};
 use drf_role::{Label, Role};
 use indexmap::IndexMap;
@@ -285,16 +286,30 @@ pub(crate) fn keep_total(
     let _ = put_total(totals, role, Total { is_known, amounts });
 }
 
+/// The same, unless the limit of the role is gone.
+fn keep_limited(
+    totals: &mut IndexMap<Role, Total>,
+    used: &IndexMap<Role, Quantities>,
+    limits: &LimitTable,
+    role: &Role,
+)
+    ensures { AreExact used.now.entries totals.old.entries → AreExact used.now.entries totals.new.entries }
+{
+    if !limits.is_gone(role) {
+        keep_total(totals, used, role);
+    }
+}
+
 /// The totals of the roles that have a limit, as far as there is memory.
 pub(crate) fn totals_of(
-    limits: &IndexMap<Role, Quantities>,
+    limits: &LimitTable,
     used: &IndexMap<Role, Quantities>,
 ) -> IndexMap<Role, Total>
     ensures { AreExact used.now.entries result.entries }
 {
-    let mut totals = IndexMap::new(*limits.allocator());
-    for (role, _) in limits {
-        keep_total(&mut totals, used, role);
+    let mut totals = IndexMap::new(*used.allocator());
+    for (role, _) in limits.all() {
+        keep_limited(&mut totals, used, limits, role);
     }
     totals
 }

@@ -1,9 +1,9 @@
 use Rattle.std.proofs.Common.{◌≡◌, ◌-◌, ℕ, List, ap, ◌∙◌}
 use Rattle.drf_role.specs.Path.{Path}
 use Rattle.drf_role.specs.Text.{Text}
-use Rattle.drf_bundle.specs.Quantities.{with_amount}
+use Rattle.drf_bundle.specs.Quantities.{known_amount, with_amount}
 use Rattle.drf_bundle.specs.declared.quantities.Entry.{Entry}
-use Rattle.drf_gates.specs.Quota.{known_amount, lesser, used_at}
+use Rattle.drf_gates.specs.Quota.{lesser, used_at}
 use Rattle.drf_gates.proofs.RoomLemmas.{lessening_end, lessening_more, lessening_start}
 use Rattle.drf_gates.proofs.quota.Quota.add_headroom.Goals as goal
 

@@ -1,7 +1,8 @@
 use Rattle.std.proofs.Common.{◌≡◌, List, ap, ◌∙◌, arith}
 use Rattle.drf_bundle.specs.declared.quantities.Entry.{Entry}
 use Rattle.drf_rows.specs.Quota.{headrooms}
-use Rattle.drf_gates.specs.Quota.{Allowance, known_amount, used_at}
+use Rattle.drf_bundle.specs.Quantities.{known_amount}
+use Rattle.drf_gates.specs.Quota.{Allowance, used_at}
 use Rattle.drf_gates.proofs.QuotaLemmas.{headroom-its}
 use Rattle.drf_gates.proofs.RoomLemmas.{headrooms_are}
 use Rattle.drf_gates.proofs.LeastLemmas.{least_start, least_next, least_end}

@@ -1,6 +1,7 @@
 use Rattle.std.proofs.Common.{◌≡◌}
 use Rattle.drf_role.specs.Text.{Text}
-use Rattle.drf_gates.specs.Quota.{known_amount, used_at}
+use Rattle.drf_bundle.specs.Quantities.{known_amount}
+use Rattle.drf_gates.specs.Quota.{used_at}
 use Rattle.drf_gates.proofs.LeastLemmas.{least_until}
 use Rattle.drf_gates.proofs.quota.Quota.headroom.Given as goal
 

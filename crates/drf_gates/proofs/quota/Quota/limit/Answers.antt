@@ -6,6 +6,6 @@ use Rattle.drf_gates.proofs.quota.Quota.limit.Goals as goal
 
 pub returns : goal.returns
 returns c =
-    c.get.ensures.value
-    ∙ limit_found c.args.role.now c.self.inside.limits.entries
+    c.get.ensures
+    ∙ limit_found c.args.role.now c.self.inside.limits
     ∙ ap (λ (a : Allowance). limit_of a.limits c.args.role.now) c.self.view_is

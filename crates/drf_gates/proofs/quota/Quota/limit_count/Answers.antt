@@ -5,6 +5,6 @@ use Rattle.drf_gates.proofs.quota.Quota.limit_count.Goals as goal
 
 pub returns : goal.returns
 returns c =
-    c.len.ensures.len
-    ∙ sym (length-map c.self.inside.limits.entries limit_row)
+    c.len.ensures
+    ∙ sym (length-map c.self.inside.limits limit_row)
     ∙ ap (λ (a : Allowance). length a.limits) c.self.view_is

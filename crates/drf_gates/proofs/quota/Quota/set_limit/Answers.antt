@@ -4,7 +4,8 @@ use Rattle.indexmap.specs.IndexMap.{insert_entry}
 use Rattle.drf_role.specs.Path.{Path, same_path}
 use Rattle.drf_bundle.specs.declared.quantities.Entry.{Entry}
 use Rattle.drf_rows.specs.Quota.{limits_with}
-use Rattle.drf_gates.specs.Quota.{Allowance, Usage, limit_rows}
+use Rattle.drf_gates.specs.Limits.{Limit}
+use Rattle.drf_gates.specs.Quota.{Allowance, limit_rows}
 use Rattle.drf_gates.proofs.QuotaLemmas.{limit_gone, limit_put, limits_with-none, limits_with-some}
 use Rattle.drf_gates.proofs.quota.Quota.set_limit.Goals as goal
 
@@ -12,11 +13,11 @@ pub returns-then-is_empty-clause-ok : goal.returns-then-is_empty-clause-ok
 returns-then-is_empty-clause-ok c =
     let role : Path = c.args.role in
     let limit : List Entry = c.args.limit in
-    let es : List Usage = c.self.inside.limits.entries in
+    let es : List Limit = c.self.inside.limits in
     let same : c.entries.result.now ≡ limit = c.entries.ensures.value in
     let none : length limit ≡ 0 = sym (ap length same) ∙ eqb-true (length c.entries.result.now) 0 (sym c.is_empty.ensures ∙ c.if-is_empty.true) in
     let limits =
-    ap limit_rows c.shift_remove.ensures.entries
+    ap limit_rows c.remove.ensures
     ∙ limit_gone es role
     ∙ limits_with-none (limit_rows es) role limit none
     ∙ ap (λ (a : Allowance). limits_with a.limits role limit) c.self.view_is in
@@ -27,24 +28,18 @@ pub returns-clause-ok : goal.returns-clause-ok
 returns-clause-ok c =
     let role : Path = c.args.role in
     let limit : List Entry = c.args.limit in
-    let es : List Usage = c.self.inside.limits.entries in
+    let es : List Limit = c.self.inside.limits in
     let same : c.entries.result.now ≡ limit = c.entries.ensures.value in
     let some : length limit ≡ 0 → ⊥ = λ none.
     false≢true (sym (sym c.is_empty.ensures ∙ c.if-is_empty.false) ∙ eq-eqb (length c.entries.result.now) 0 (ap length same ∙ none)) in
     let limits =
-    ap limit_rows c.in_ok-insert.ensures.entries
-    ∙ ap (λ (rows : List Usage). limit_rows (insert_entry same_path rows role limit)) c.make_room.ensures
+    ap limit_rows c.in_ok-insert.ensures.ok
+    ∙ ap (λ (r : Path). limit_rows (insert_entry same_path es r limit)) c.in_ok-copy.ensures
     ∙ limit_put es role limit
     ∙ limits_with-some (limit_rows es) role limit some
     ∙ ap (λ (a : Allowance). limits_with a.limits role limit) c.self.view_is in
     let used = ap (λ (a : Allowance). a.used) c.self.view_is in
     λ i. record { limits = limits i; used = used i }
-
-pub invariant_of-self-in_err-insert : goal.invariant_of-self-in_err-insert
-invariant_of-self-in_err-insert c = record {
-  bounded = c.self.invariant.bounded;
-  exact = c.keep_total.ensures c.self.invariant.exact;
-}
 
 pub invariant_of-self-2 : goal.invariant_of-self-2
 invariant_of-self-2 c = record {

@@ -27,6 +27,14 @@ fraction_cmp-weigh f g weight weighs =
     ∙ sym
     (nat_cmp-scale (f.part * g.whole) (g.part * f.whole) (1000 * weight) (product_above 1000 weight (omega arith) weighs))
 
+-- so two shares of one weight compare as those of weight 1
+pub same_weight : (a b : Share) → a.weight ≡ b.weight
+    → share_cmp a b ≡ nat_cmp (a.part * b.whole) (b.part * a.whole)
+same_weight a b same =
+    let f : Fraction = record { part = a.part; whole = a.whole } in
+    let g : Fraction = record { part = b.part; whole = b.whole } in
+    ap (λ n. fraction_cmp (fraction_of a) (weigh g n)) (sym same) ∙ fraction_cmp-weigh f g a.weight a.weighs
+
 chosen : (b : Bool) (d e : Share) (f g : Fraction) → IsUnweighted g d → IsUnweighted f e
     → IsUnweighted (cond b g f) (cond b d e)
 chosen true d e f g p q = p

@@ -182,6 +182,13 @@ impl Key {
         self.count = count;
     }
 
+    /// The name of its node.
+    pub fn name(&self) -> &str
+        ensures { result.now ≡ (key_by self.now).name }
+    {
+        self.name.as_str()
+    }
+
     pub fn copy(&self) -> Result<Key, AllocError>
         ensures { IfOk result (λ key. key_by key ≡ key_by self.now) }
     {

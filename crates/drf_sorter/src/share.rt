@@ -22,7 +22,7 @@ pub struct Share {
 impl Share {
     ghost use Rattle.drf_sorter.specs.Fractions.{weighted};
     ghost use Rattle.drf_rows.specs.Share.{IsLowest, lowest_terms};
-    ghost use Rattle.drf_sorter.specs.Share.{IsUnweighted, fraction_of, terms};
+    ghost use Rattle.drf_sorter.specs.Share.{IsUnweighted, fraction_of, share_cmp, terms};
 
     /// `weight` is in thousandths.
     pub fn new(part: u64, whole: u64, weight: u64) -> Share
@@ -77,6 +77,17 @@ impl Share {
         let divisor = common_divisor(part, whole);
         (part / divisor, whole / divisor)
     }
+
+    /// How shares of one weight compare: it is a factor of both cross products, and left out of them.
+    #[tactic(auto, using(crate::proofs::ShareLemmas::same_weight))]
+    fn cmp_at_one_weight(&self, other: &Share) -> Ordering
+        requires one_weight { self.now.weight ≡ other.now.weight }
+        ensures { result ≡ share_cmp self.now other.now }
+    {
+        let left = u128::from(self.part) * u128::from(other.whole);
+        let right = u128::from(other.part) * u128::from(self.whole);
+        left.cmp(&right)
+    }
 }
 
 /// The greatest number that divides both.
@@ -113,8 +124,7 @@ impl PartialEq for Share {
     ghost laws = { Cmp.partial_equiv_from_equiv share_equiv };
 
     fn eq(&self, other: &Share) -> bool {
-        cross_product(self.part, other.whole, other.weight)
-            == cross_product(other.part, self.whole, self.weight)
+        self.cmp(other).is_eq()
     }
 }
 
@@ -152,6 +162,9 @@ impl Ord for Share {
     ghost matches_eq = { share_ties };
 
     fn cmp(&self, other: &Share) -> Ordering {
+        if self.weight == other.weight {
+            return self.cmp_at_one_weight(other);
+        }
         let left = cross_product(self.part, other.whole, other.weight);
         let right = cross_product(other.part, self.whole, self.weight);
         left.cmp(&right)

@@ -1,5 +1,5 @@
 -- A child by its name.
-use Rattle.std.specs.Prelude.{◌≡◌, ◌≢◌, ◌==◌, ℕ, Bool, true, false, ◌&&◌, ◌||◌, List, [], ◌∷◌, ◌++◌, Option, None, Some, length, map, slice_get, slice_index_or}
+use Rattle.std.specs.Prelude.{◌≡◌, ◌≢◌, ◌==◌, ℕ, Bool, true, false, ◌&&◌, List, [], ◌∷◌, ◌++◌, Option, None, Some, length, map, slice_get, slice_index_or}
 use Rattle.std.specs.List.{AllByRecursion, list_any, position}
 use Rattle.std.specs.Option.{option_map_or}
 use Rattle.std.specs.Cmp.Lexicographic.{bytes_decides}
@@ -8,8 +8,7 @@ use Rattle.std.proofs.lemmas.Bool.Decides.{same_from_decides, Decides-like}
 use Rattle.std.proofs.lemmas.List.Quantifiers.{position-Some}
 use Rattle.std.proofs.lemmas.Option.{slice_get-get_or}
 use Rattle.drf_role.specs.Text.{Text, same_text}
-use Rattle.drf_role.specs.Path.{Path}
-use Rattle.drf_rows.specs.laws.ListLaws.{each_at}
+use Rattle.drf_rows.specs.laws.ListLaws.{each_at, list_any-map}
 use Rattle.drf_sorter.proofs.ChangeLemmas.{position-none}
 use Rattle.drf_tree.specs.declared.family.Child.{Child}
 use Rattle.drf_tree.specs.declared.family.Family.{Family}
@@ -18,9 +17,8 @@ use Rattle.drf_tree.specs.declared.node.Sum.{Sum}
 use Rattle.drf_tree.specs.declared.tree.Tree.{Tree}
 use Rattle.drf_tree.specs.Changes.{is_bare_at}
 use Rattle.drf_tree.specs.Family.{child_name}
-use Rattle.drf_tree.specs.Nodes.{children_at, is_live, is_named_at, last_part, path_at}
+use Rattle.drf_tree.specs.Nodes.{children_at, is_live, path_at}
 use Rattle.drf_tree.specs.Tree.{IsChildOf}
-use Rattle.drf_tree.proofs.NodeLemmas.{last_is}
 use Rattle.drf_tree.proofs.WayLemmas.{not_equal}
 
 pub same_text-swap : (a b : Text) → same_text a b ≡ same_text b a
@@ -28,32 +26,21 @@ same_text-swap a b =
     same_from_decides (same_text a b) (same_text b a) (bytes_decides a b)
     (Decides-like (same_text b a) sym sym (bytes_decides b a))
 
-module _ (places : List (Option Place)) (node : ℕ) (name : Text) where
-  named_is : (c : Child) → IsChildOf places node c → is_named_at places c.node name ≡ same_text name (child_name c)
-  named_is c child =
-      ap (λ (b : Bool). b && same_text (last_part (path_at places c.node)) name) child.live
-      ∙ ap (λ (p : Path). same_text (last_part p) name) child.path
-      ∙ ap (λ (t : Text). same_text t name) (last_is (path_at places node) (child_name c))
-      ∙ same_text-swap (child_name c) name
+module _ (name : Text) where
+  pub none_named : (cs : List Child) → position (λ c. same_text name (child_name c)) cs ≡ None
+      → list_any (same_text name) (map child_name cs) ≡ false
+  none_named cs none =
+      list_any-map (same_text name) child_name cs ∙ position-none (λ c. same_text name (child_name c)) cs (sym none)
 
-  named_any : (cs : List Child) → AllByRecursion (IsChildOf places node) cs
-      → list_any (λ c. is_named_at places c.node name) cs ≡ list_any (same_text name) (map child_name cs)
-  named_any [] all = refl
-  named_any (c ∷ cs) all = λ i. named_is c all.0 i || named_any cs all.1 i
-
-  pub none_named : (cs : List Child) → AllByRecursion (IsChildOf places node) cs
-      → position (λ c. is_named_at places c.node name) cs ≡ None → list_any (same_text name) (map child_name cs) ≡ false
-  none_named cs all none = sym (named_any cs all) ∙ position-none (λ c. is_named_at places c.node name) cs (sym none)
-
-  pub one_named : (cs : List Child) → AllByRecursion (IsChildOf places node) cs → (k : ℕ) (c : Child)
-      → position (λ c. is_named_at places c.node name) cs ≡ Some k → c ≡ slice_index_or cs k c
+  pub one_named : (places : List (Option Place)) (node : ℕ) (cs : List Child) → AllByRecursion (IsChildOf places node) cs → (k : ℕ) (c : Child)
+      → position (λ c. same_text name (child_name c)) cs ≡ Some k → c ≡ slice_index_or cs k c
       → (is_live places c.node ≡ true) × (path_at places c.node ≡ path_at places node ++ name ∷ [])
-  one_named cs all k c at is =
-      let found = position-Some (λ (c : Child). is_named_at places c.node name) cs k c at in
+  one_named places node cs all k c at is =
+      let found = position-Some (λ (c : Child). same_text name (child_name c)) cs k c at in
       let there : slice_get cs k ≡ Some c = slice_get-get_or cs k c found.0 ∙ ap (λ (x : Child). Some x) (sym is) in
       let child = each_at (IsChildOf places node) cs k c all there in
-      let named : is_named_at places c.node name ≡ true = ap (λ (x : Child). is_named_at places x.node name) is ∙ found.1 in
-      let same : name ≡ child_name c = (bytes_decides name (child_name c)).0 (sym (named_is c child) ∙ named) in
+      let named : same_text name (child_name c) ≡ true = ap (λ (x : Child). same_text name (child_name x)) is ∙ found.1 in
+      let same : name ≡ child_name c = (bytes_decides name (child_name c)).0 named in
       (child.live, child.path ∙ ap (λ (t : Text). path_at places node ++ t ∷ []) (sym same))
 
 -- ---- whether a node is bare

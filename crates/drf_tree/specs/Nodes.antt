@@ -31,10 +31,6 @@ path_at places i = option_map_or (λ p. p.path) (place_at places i) []
 abbrev pub last_part : Path → Text
 last_part path = slice_index_or path (length path - 1) []
 
--- a node stands at that number, and its path ends with that name
-abbrev pub is_named_at : List (Option Place) → ℕ → Text → Bool
-is_named_at places i name = is_live places i && same_text (last_part (path_at places i)) name
-
 -- the clients of a sum hold something
 abbrev pub holds_any : Sum → Bool
 holds_any sum = list_any (λ e. nat_lt 0 e.amount) sum.held

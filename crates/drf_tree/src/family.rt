@@ -1,12 +1,13 @@
 //! The children of a node, in the order of their keys.
-ghost use Rattle.std.specs.Prelude.{◌≡◌, ◌==◌, ◌≤◌, ◌<◌, ◌+◌, ◌-◌, ◌^◌, ℕ, [], false, true, map, not, min, IfOk, IsTrue, OnOk, OnErr, drop, length, slice_get, slice_index_or, slice_set, take};
+ghost use Rattle.std.specs.Prelude.{◌≡◌, ◌≢◌, ◌==◌, ◌≤◌, ◌<◌, ◌+◌, ◌-◌, ◌^◌, ℕ, [], false, true, map, not, min, IfOk, IsTrue, OnOk, OnErr, drop, length, slice_get, slice_index_or, slice_set, take};
 ghost use Rattle.std.specs.List.{AllByRecursion, IsDistinct, list_all, position};
 ghost use Rattle.std.specs.List.Sorted.{IsPermutation};
 ghost use Rattle.std.specs.String.{string_bytes};
 ghost use Rattle.std.specs.Vec.{vec_capacity, vec_len};
+ghost use Rattle.drf_role.specs.Text.{same_text};
 ghost use Rattle.drf_sorter.specs.Keys.{key_by};
 ghost use Rattle.drf_sorter.specs.Work.{debt};
-ghost use Rattle.drf_tree.specs.Family.{AreCopies, AreFresh, CanKey, CanKeyAt, IsKeyed, are_sorted, has_child, is_before, key_for, known, is_same, numbers_of};
+ghost use Rattle.drf_tree.specs.Family.{AreCopies, AreFresh, CanKey, CanKeyAt, IsKeyed, are_sorted, child_name, has_child, is_before, key_for, known, is_same, numbers_of};
 ghost use Rattle.drf_tree.specs.Marks.{work_of};
 
 use crate::marks::Marks;
@@ -14,6 +15,16 @@ use crate::node::Sum;
 use drf_bundle::Quantities;
 use drf_sorter::Key;
 use std::alloc::{AllocError, Global};
+
+/// Whether two texts end in different bytes, as most names do that are numbered.
+fn end_apart(name: &[u8], other: &[u8]) -> bool
+    ensures { IsTrue result → name.now ≢ other.now }
+{
+    match (name.last(), other.last()) {
+        (Some(byte), Some(its)) => byte != its,
+        _ => false,
+    }
+}
 
 /// A child of a node, with the key that was last computed for it.
 #[derive(Debug, Drop, PartialEq, Eq, PartialOrd, Ord)]
@@ -43,6 +54,19 @@ impl Child {
             key: marks.key(total, sum, name),
             node,
         }
+    }
+
+    pub(crate) fn name(&self) -> &str
+        ensures { result.now ≡ child_name self.now }
+    {
+        self.key.name()
+    }
+
+    fn has_name(&self, name: &str) -> bool
+        ensures { result ≡ same_text name.now (child_name self.now) }
+    {
+        let own = self.name();
+        !end_apart(name.as_bytes(), own.as_bytes()) && name == own
     }
 
     /// Makes its key anew if that may be stale. The mark is taken away.
@@ -210,6 +234,13 @@ fn place_for(children: &[Child], key: &Key) -> usize
     ensures after { list_all (λ c. not (is_before c.key key.now)) (drop result children.now) ≡ true }
 {
     children.partition_point(|other| other.key < *key)
+}
+
+/// Where the child of that name stands.
+pub(crate) fn place_named(children: &[Child], name: &str) -> Option<usize>
+    ensures { result ≡ position (λ c. same_text name.now (child_name c)) children.now }
+{
+    children.iter().position(|child| child.has_name(name))
 }
 
 /// Where the child of that number stands.

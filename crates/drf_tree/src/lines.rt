@@ -14,6 +14,13 @@ use drf_rows::NodeLine;
 use drf_sorter::{NodeLines, PlainSorter, node_line};
 use std::alloc::{AllocError, Global};
 
+/// A node that is still to come, by the name under which it stands among its siblings.
+#[derive(Drop)]
+struct Waiting<'a> {
+    name: &'a str,
+    node: usize,
+}
+
 impl Tree {
     /// A line of each node that has clients, in order of path.
     pub(crate) fn lines(&self, ledger: &PlainSorter) -> Result<Vec<NodeLine>, AllocError>
@@ -47,9 +54,12 @@ impl Tree {
     fn downwards(&self) -> Result<Vec<usize>, AllocError> {
         let mut order = Vec::with_capacity(self.alloc(), self.places.len())?;
         let mut waiting = Vec::new(self.alloc());
-        waiting.push(ROOT)?;
+        waiting.push(Waiting {
+            name: "",
+            node: ROOT,
+        })?;
         for _ in 0..self.places.len() {
-            let Some(node) = waiting.pop() else {
+            let Some(Waiting { node, .. }) = waiting.pop() else {
                 break;
             };
             order.push(node)?;
@@ -59,25 +69,22 @@ impl Tree {
     }
 
     /// Puts the children of a node behind those that wait, the first by name last.
-    fn push_children(&self, waiting: &mut Vec<usize>, node: usize) -> Result<(), AllocError> {
+    fn push_children<'a>(
+        &'a self,
+        waiting: &mut Vec<Waiting<'a>>,
+        node: usize,
+    ) -> Result<(), AllocError> {
         let Some(family) = self.families.get(node) else {
             return Ok(());
         };
         let first = waiting.len();
         for child in family.children() {
-            let name = self.name(child.node);
-            let place = waiting[first..].partition_point(|other| self.name(*other) > name);
-            waiting.insert(first + place, child.node)?;
+            let name = child.name();
+            let place = waiting[first..].partition_point(|other| other.name > name);
+            let node = child.node;
+            waiting.insert(first + place, Waiting { name, node })?;
         }
         Ok(())
-    }
-
-    /// The last part of a node's path.
-    fn name(&self, node: usize) -> &str {
-        match self.place(node) {
-            Some(place) => place.name(),
-            None => "",
-        }
     }
 
     /// Puts the line of a number into its place, where a node that has clients stands there.

@@ -1,5 +1,5 @@
 //! What the tree knows of a node: its place, and its sums.
-ghost use Rattle.std.specs.Prelude.{◌≡◌, ◌-◌, [], IfOk, Some, length, slice_get};
+ghost use Rattle.std.specs.Prelude.{◌≡◌, [], IfOk};
 ghost use Rattle.drf_tree.specs.Nodes.{holds_any};
 
 use drf_bundle::Quantities;
@@ -17,13 +17,6 @@ pub(crate) struct Place {
 }
 
 impl Place {
-    /// The last part of the path.
-    pub(crate) fn name(&self) -> &str
-        ensures { slice_get self.now.path (length self.now.path - 1) ≡ Some result.now }
-    {
-        self.path.part(self.path.len() - 1)
-    }
-
     pub(crate) fn copy(&self) -> Result<Place, AllocError>
         ensures { IfOk result (λ place. place ≡ self.now) }
     {

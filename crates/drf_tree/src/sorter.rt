@@ -17,7 +17,7 @@ pub struct TreeSorter {
     /// The node of each client, row by row of the ledger.
     leaves: Vec<usize>,
     walk: Walk,
-    /// Whether the tree is right whatever the total is, as all is marked that hangs on it.
+    /// If set, the tree is right whatever the total is, as all is marked that hangs on it.
     is_total_free: bool,
 }
 

@@ -12,10 +12,10 @@ ghost use Rattle.drf_sorter.specs.Work.{debt};
 ghost use Rattle.drf_tree.specs.Changes.{IsKeyOfNothing, IsSameTree, IsOneLonger, IsShapeOf, IsVacant, is_bare_at};
 ghost use Rattle.drf_tree.specs.Family.{child_name};
 ghost use Rattle.drf_tree.specs.Marks.{work_of};
-ghost use Rattle.drf_tree.specs.Nodes.{children_at, client_at, is_live, is_named_at, is_node, parent_at, path_at, place_at};
+ghost use Rattle.drf_tree.specs.Nodes.{children_at, client_at, is_live, is_node, parent_at, path_at, place_at};
 ghost use Rattle.drf_tree.specs.Tree.{IsTreeOf};
 
-use crate::family::{Child, Family};
+use crate::family::{Child, Family, place_named};
 use crate::marks::Marks;
 use crate::node::{Place, Sum};
 use crate::route::Route;
@@ -162,26 +162,8 @@ impl Tree {
         ensures missing { result ≡ None → list_any (same_text name.now) (map child_name (children_at self.now.families.items node)) ≡ false }
     {
         let family = self.families[node].children();
-        let place = self.place_named(family, name)?;
+        let place = place_named(family, name)?;
         Some(family[place].node)
-    }
-
-    /// Where the child of that name stands among its siblings.
-    fn place_named(&self, children: &[Child], name: &str) -> Option<usize>
-        ensures { result ≡ position (λ c. is_named_at self.now.places.items c.node name.now) children.now }
-    {
-        children
-            .iter()
-            .position(|child| self.has_name(child.node, name))
-    }
-
-    fn has_name(&self, node: usize, name: &str) -> bool
-        ensures { result ≡ is_named_at self.now.places.items node name.now }
-    {
-        match self.place(node) {
-            Some(place) => place.name() == name,
-            None => false,
-        }
     }
 
     /// The node that a route leads to.
@@ -310,7 +292,7 @@ impl Tree {
     }
 }
 
-/// The first free number from this one on, but the root's, or that of one more.
+/// The first free number from this one on, never the root's, or that of one more.
 fn free_place(places: &[Option<Place>], from: usize) -> usize
     requires { 0 < length places.now }
     ensures within { result ≤ length places.now }

@@ -1,7 +1,9 @@
-use Rattle.std.proofs.Common.{◌≡◌, ◌<◌, length, None, Some, ap, sym, subst, ◌∙◌, arith}
+use Rattle.std.proofs.Common.{◌≡◌, ◌<◌, Bool, length, ap, sym, subst, ◌∙◌, arith}
 use Rattle.std.specs.List.{AllByRecursion, position}
 use Rattle.drf_tree.specs.declared.family.Child.{Child}
-use Rattle.drf_tree.specs.Nodes.{children_at, is_named_at}
+use Rattle.drf_role.specs.Text.{same_text}
+use Rattle.drf_tree.specs.Family.{child_name}
+use Rattle.drf_tree.specs.Nodes.{children_at}
 use Rattle.drf_tree.specs.Tree.{IsChildOf}
 use Rattle.drf_tree.proofs.NodeLemmas.{family_read, node_within}
 use Rattle.drf_tree.proofs.NameLemmas.{none_named, one_named}
@@ -14,10 +16,8 @@ returns-in_err-place-clause-missing c none =
     omega (arith, node_within t c.requires.shape c.args.node c.requires.node, c.requires.shape.families_long) in
     let same : children_at t.families.items c.args.node ≡ c.children-family.result.now =
     family_read t.families.items c.args.node c.index.result.now within c.index.ensures ∙ sym c.children-family.ensures in
-    let at : position (λ (x : Child). is_named_at t.places.items x.node c.args.name.now) c.children-family.result.now ≡ None =
-    sym c.in_err-place.ensures in
-    none_named t.places.items c.args.node c.args.name.now (children_at t.families.items c.args.node) (c.requires.shape.children c.args.node)
-    (ap (position (λ (x : Child). is_named_at t.places.items x.node c.args.name.now)) same ∙ at)
+    let test : Child → Bool = λ x. same_text c.args.name.now (child_name x) in
+    none_named c.args.name.now (children_at t.families.items c.args.node) (ap (position test) same ∙ sym c.in_err-place.ensures)
 
 pub returns-clause-found : goal.returns-clause-found
 returns-clause-found c =
@@ -26,8 +26,6 @@ returns-clause-found c =
     omega (arith, node_within t c.requires.shape c.args.node c.requires.node, c.requires.shape.families_long) in
     let same : children_at t.families.items c.args.node ≡ c.children-family.result.now =
     family_read t.families.items c.args.node c.index.result.now within c.index.ensures ∙ sym c.children-family.ensures in
-    let at : position (λ (x : Child). is_named_at t.places.items x.node c.args.name.now) c.children-family.result.now ≡ Some c.in_ok-place.place =
-    sym c.in_ok-place.ensures in
-    rw (sym c.index-family-place.is) (one_named t.places.items c.args.node c.args.name.now c.children-family.result.now
+    rw (sym c.index-family-place.is) (one_named c.args.name.now t.places.items c.args.node c.children-family.result.now
     (subst (AllByRecursion (IsChildOf t.places.items c.args.node)) same (c.requires.shape.children c.args.node))
-    c.in_ok-place.place c.index-family-place.result at c.index-family-place.is)
+    c.in_ok-place.place c.index-family-place.result (sym c.in_ok-place.ensures) c.index-family-place.is)

@@ -2,13 +2,14 @@
 
 ghost use Rattle.drf_core.specs.laws.BoundLaws.{RunsStayWithinLimits};
 ghost use Rattle.drf_core.specs.laws.FilterLaws.{DeclinedSetsFilter, AcceptedSetsFilter, SomeRestIsLeft, DeclinedIsHeldBack, LeftIsHeldBack};
-ghost use Rattle.drf_core.specs.laws.RunLaws.{IsGiven, StepsStayConsistent, RunsStayConsistent, NothingIsGrantedTwice, RunsFromOpeningKeepLimits, ConsistentRunsKeepLimits};
+ghost use Rattle.drf_core.specs.laws.RunLaws.{IsGiven, StepsStayConsistent, RunsStayConsistent, AllRowsStayConsistent, RunsFromOpeningAreConsistent, NothingIsGrantedTwice, RunsFromOpeningKeepLimits, ConsistentRunsKeepLimits};
 
 use drf_rows::Event;
 
-/// A decline sets a filter of all that was offered, and an accept one of what it leaves: that of the offer's framework in the offer's
-/// role, on the offer's agent, until so long after the event as it says, and after 365 days at most. From the event on that client is held
-/// back there just what the bundle covers, until then, and nobody anything else that was not held back before.
+/// How a decline and an accept that are not refused change the filters. A decline sets one of all that was offered, an accept one of what
+/// it leaves, if that is anything; for no time they set none. It is that of the offer's framework in the offer's role, on the offer's agent,
+/// until so long after the event as it says, and after 365 days at most. From the event on, while no other event changes a filter, that
+/// client is held back there just what the bundle covers, until then, and nobody anything else that was not held back before.
 pub fn refused_law()
     ensures declined { DeclinedSetsFilter }
     ensures accepted { AcceptedSetsFilter }
@@ -43,10 +44,13 @@ pub fn given_law(event: &Event)
     }
 }
 
-/// Rows that are consistent stay so, over each event and each run. So from the start on they are, and nothing is granted twice.
+/// Rows that are consistent stay so, over each event and each run, with the filters that ran out or without them. So from the start on they
+/// are, and nothing is granted twice.
 pub fn consistent_runs_law()
     ensures step { StepsStayConsistent }
     ensures run { RunsStayConsistent }
+    ensures rows { AllRowsStayConsistent }
+    ensures opening { RunsFromOpeningAreConsistent }
     ensures start { NothingIsGrantedTwice }
 {}
 

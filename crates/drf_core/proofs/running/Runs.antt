@@ -12,7 +12,7 @@ use Rattle.drf_rows.specs.declared.event.Event.{Event}
 use Rattle.drf_rows.specs.declared.event.Event.TheVariants.{AddAgent, RemoveAgent, ActivateAgent, DeactivateAgent, SetAgent, AddFramework, RemoveFramework, Accept, Decline, Rescind, Finish, Suppress, Revive, Reserve, Unreserve, SetWeight, SetLimit, Cycle, Report}
 use Rattle.drf_rows.specs.declared.reply.Refusal.{Refusal}
 use Rattle.drf_rows.specs.declared.rows.Rows.{Rows}
-use Rattle.drf_core.specs.laws.RunLaws.{IsGiven, AreGiven, StepsStayConsistent, RunsStayConsistent, NothingIsGrantedTwice, RunsFromOpeningKeepLimits, ConsistentRunsKeepLimits}
+use Rattle.drf_core.specs.laws.RunLaws.{IsGiven, AreGiven, StepsStayConsistent, RunsStayConsistent, AllRowsStayConsistent, RunsFromOpeningAreConsistent, NothingIsGrantedTwice, RunsFromOpeningKeepLimits, ConsistentRunsKeepLimits}
 use Rattle.drf_core.proofs.stepping.Kept.{consistent-live}
 use Rattle.drf_core.proofs.running.Events.{IsConsistent-effect}
 
@@ -53,6 +53,14 @@ pub runs_stay_consistent : RunsStayConsistent
 runs_stay_consistent limits rows [] consistent given = consistent
 runs_stay_consistent limits rows (event ∷ events) consistent given =
     runs_stay_consistent limits (rows_after limits rows event) events (steps_stay_consistent limits rows event consistent given.0) given.1
+
+pub all_rows_stay_consistent : AllRowsStayConsistent
+all_rows_stay_consistent limits rows [] consistent given = consistent
+all_rows_stay_consistent limits rows (event ∷ events) consistent given =
+    all_rows_stay_consistent limits (rows_after limits rows event) events (IsConsistent-after limits rows event consistent given.0) given.1
+
+pub runs_from_opening_are_consistent : RunsFromOpeningAreConsistent
+runs_from_opening_are_consistent limits events given = all_rows_stay_consistent limits opening events IsConsistent-opening given
 
 pub nothing_is_granted_twice : NothingIsGrantedTwice
 nothing_is_granted_twice limits events given =

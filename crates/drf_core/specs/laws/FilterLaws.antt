@@ -16,7 +16,6 @@ use Rattle.drf_rows.specs.laws.KeptLimitLaws.{IsGivenBundles}
 use Rattle.drf_rows.specs.declared.event.Accept as accepting
 use Rattle.drf_rows.specs.declared.event.Decline as declining
 use Rattle.drf_rows.specs.declared.event.Event.TheVariants.{Accept, Decline}
-use Rattle.drf_rows.specs.declared.limits.TheConstants.{LONGEST_FILTER}
 use Rattle.drf_rows.specs.declared.rows.FilterRow.{FilterRow}
 use Rattle.drf_rows.specs.declared.rows.OfferRow.{OfferRow}
 use Rattle.drf_rows.specs.declared.rows.Rows.{Rows}
@@ -28,9 +27,9 @@ abbrev pub one_more : Rows → OfferRow → List Resource → ℕ → List Filte
 one_more rows o bundle until =
     rows.filters ++ record { framework = o.framework; role = o.role; agent = o.agent; bundle = bundle; until = until } ∷ []
 
--- it ends so long after the event, after 365 days at most, and an event is never before the clock
+-- it ends so long after the event, after 365 days of milliseconds at most, and an event is never before the clock
 abbrev pub end_of : Rows → ℕ → ℕ → ℕ
-end_of rows at refuse_ms = max rows.clock at + min refuse_ms LONGEST_FILTER
+end_of rows at refuse_ms = max rows.clock at + min refuse_ms 31536000000
 
 -- a decline for any time sets that of all that was offered, and one for no time sets none
 abbrev pub DeclinedSetsFilter : Type 0

@@ -41,6 +41,21 @@ RunsStayConsistent =
     → AreGiven events
     → IsConsistent (live_rows (rows_after_all limits rows events))
 
+-- so do rows with the filters that ran out
+abbrev pub AllRowsStayConsistent : Type 0
+AllRowsStayConsistent =
+    (limits : LimitNumbers) (rows : Rows) (events : List Event)
+    → IsConsistent rows
+    → AreGiven events
+    → IsConsistent (rows_after_all limits rows events)
+
+-- so from the start on all rows are consistent
+abbrev pub RunsFromOpeningAreConsistent : Type 0
+RunsFromOpeningAreConsistent =
+    (limits : LimitNumbers) (events : List Event)
+    → AreGiven events
+    → IsConsistent (rows_after_all limits opening events)
+
 -- from the start on nothing is granted twice: on each agent what is free and what is held join to its total
 abbrev pub NothingIsGrantedTwice : Type 0
 NothingIsGrantedTwice =

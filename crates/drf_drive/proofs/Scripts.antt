@@ -1,5 +1,5 @@
 -- Scripts, file by file and line by line.
-use Rattle.std.proofs.Common.{◌≡◌, ℕ, suc, ◌<◌, List, [], ◌∷◌, ◌++◌, length, map, refl, sym, ap, ◌∙◌, subst, append_assoc, append-nil, arith}
+use Rattle.std.proofs.Common.{◌≡◌, ℕ, suc, List, [], ◌∷◌, ◌++◌, length, map, refl, sym, ap, subst, ◌∙◌, append_assoc, append-nil, arith}
 use Rattle.std.proofs.lemmas.List.{map-append}
 use Rattle.std.specs.List.{AllZip}
 use Rattle.std.specs.Prelude.{Result, Ok}
@@ -69,19 +69,6 @@ whole-count [] [] are = refl
 whole-count [] (e ∷ events) are = absurd are
 whole-count (s ∷ scripts) [] are = absurd are
 whole-count (s ∷ scripts) (e ∷ events) are = ap (λ (n : ℕ). suc n) (whole-count scripts events are.1)
-
--- ---- a list that a loop goes through
-
-front-less : {X : Type 0} (front rest : List X) (x : X) → length front < length (front ++ x ∷ rest)
-front-less [] rest x = omega arith
-front-less (y ∷ front) rest x = omega (arith, front-less front rest x)
-
-pub less-of_split : {X : Type 0} (xs front left rest : List X) (x : X) → xs ≡ front ++ left → left ≡ x ∷ rest → length front < length xs
-less-of_split xs front left rest x whole split =
-    subst (λ (l : List _). length front < length l) (sym (whole ∙ ap (λ (l : List _). front ++ l) split)) (front-less front rest x)
-
-pub whole-next : {X : Type 0} (xs front left rest : List X) (x : X) → xs ≡ front ++ left → left ≡ x ∷ rest → xs ≡ (front ++ x ∷ []) ++ rest
-whole-next xs front left rest x whole split = whole ∙ (ap (λ (l : List _). front ++ l) split ∙ sym (append_assoc front (x ∷ []) rest))
 
 -- the next one is not whole
 pub stopped-next : (scripts before : List Script) (script : Script) (after : List Script) (events : List (Vec Event)) (fault : ScriptFault)

@@ -12,7 +12,7 @@ use Rattle.drf_rows.specs.declared.event.Event.{Event}
 use Rattle.drf_rows.specs.declared.reply.Reply.{Reply}
 use Rattle.drf_master.specs.Closing.{AreOf, IsCloseFault}
 use Rattle.drf_master.specs.Matching.{IsShuffle, receipts_of}
-use Rattle.drf_master.specs.Receipts.{Held}
+use Rattle.drf_master.specs.Receipts.{Held, IsSamePass}
 use Rattle.drf_master.specs.Scripts.{receipt, AreAsked, AreDone, AreNumbered, AreReceipts, DidJob, DidJobs, HasCalled, HasDriven, HasRun, HasStopped, HaveAllRun, HaveRun, HoldsBelow, IsCallStop, IsClosingFault, IsDriveFault, IsFirstFault, IsJobFault, IsMisfitOf, IsRunFault, IsThrough}
 use Rattle.drf_master.specs.declared.driving.Done.{Done}
 use Rattle.drf_master.specs.declared.driving.DriveFault.{DriveFault}
@@ -79,8 +79,12 @@ length-push : (es : List Event) (e : Event) → length (es ++ e ∷ []) ≡ suc 
 length-push [] e = refl
 length-push (e' ∷ es) e = ap (λ (n : ℕ). suc n) (length-push es e)
 
-pub through-starts : (asked : ℕ → Type 0) (old : Held) → IsThrough asked old [] [] old
-through-starts asked old = record { key = refl; run = run-starts old.receipts; calls = λ call few. absurd (omega (arith, few)) }
+pub through-starts : (asked : ℕ → Type 0) (old new : Held) → IsSamePass old new → IsThrough asked old [] [] new
+through-starts asked old new same = record {
+  key = same.key;
+  run = subst (HasRun old.receipts [] []) (sym same.receipts) (run-starts old.receipts);
+  calls = λ call few. absurd (omega (arith, few));
+}
 
 pub through-goes_on : (asked : ℕ → Type 0) (old mid new : Held) (es : List Event) (ys : List Reply) (e : Event) (y : Reply) → IsThrough asked old es ys mid
     → HasCalled mid new e y → asked (length ys) → IsThrough asked old (es ++ e ∷ []) (ys ++ y ∷ []) new

@@ -118,6 +118,7 @@ fn run_script<K: Naming, R: Wait + Drop, W: Wait, G: Gate>(
         mut pass,
         script,
     } = job;
+    pass.reserve(script.len())?;
     let mut replies = Vec::with_capacity(alloc, script.len())?;
     for event in script {
         let call = replies.len() as u64;

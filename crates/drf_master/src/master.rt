@@ -157,7 +157,7 @@ impl<K: Naming, R: Wait + Drop> Master<K, R> {
         if pass.key() != self.key {
             return Err(CallFault::Stranger);
         }
-        pass.reserve()?;
+        pass.reserve(1)?;
         Ok(())
     }
 

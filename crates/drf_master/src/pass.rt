@@ -1,5 +1,5 @@
 //! What a caller holds.
-ghost use Rattle.std.specs.Prelude.{◌≡◌, ◌<◌, [], OnOk};
+ghost use Rattle.std.specs.Prelude.{◌≡◌, ◌<◌, ◌≤◌, [], OnOk};
 ghost use Rattle.drf_master.specs.Receipts.{IsSamePass, Keeps};
 
 use drf_board::Entry;
@@ -57,12 +57,12 @@ impl Pass {
         self.receipts.as_slice()
     }
 
-    /// Makes room for one receipt more.
-    pub(crate) fn reserve(&mut self) -> Result<(), AllocError>
+    /// Makes room for so many receipts more.
+    pub(crate) fn reserve(&mut self, calls: usize) -> Result<(), AllocError>
         ensures same { IsSamePass self.old self.new }
-        ensures room { OnOk result (0 < self.new.room) }
+        ensures room { OnOk result (calls ≤ self.new.room) }
     {
-        self.receipts.reserve(1)
+        self.receipts.reserve(calls)
     }
 
     /// Adds a receipt. It takes no memory.

@@ -3,7 +3,8 @@ use Rattle.std.proofs.lemmas.Result.{err_from_is_err_and}
 use Rattle.std.specs.Vec.Iter.{into_iter_items}
 use Rattle.drf_drive.specs.Scripts.{AreWhole, IsStoppedBy}
 use Rattle.drf_drive.specs.declared.script.Script.{Script}
-use Rattle.drf_drive.proofs.Scripts.{less-of_split, stopped-next, whole-count, whole-next, whole-push}
+use Rattle.drf_master.proofs.Scripts.{less-of_split, whole-next}
+use Rattle.drf_drive.proofs.Scripts.{stopped-next, whole-count, whole-push}
 use Rattle.drf_drive.proofs.script.all_whole.Goals as goal
 
 pub returns-in_err-read-clause-err : goal.returns-in_err-read-clause-err

@@ -32,7 +32,8 @@ push_reserved-requires g c =
 pub loop-event-init : goal.loop-event-init
 loop-event-init g c =
     let asked = IsAsked (g.G.Gate.lets c.args.gate.now) (g.G.Gate.sees c.args.gate.now) c.args.job.worker in
-    let starts = subst (λ (l : List Reply). IsThrough asked c.args.job.pass [] l c.args.job.pass) (sym c.in_ok-replies.ensures.items) (through-starts asked c.args.job.pass) in
+    let starts = subst (λ (l : List Reply). IsThrough asked c.args.job.pass [] l c.reserve.new.self) (sym c.in_ok-replies.ensures.items)
+    (through-starts asked c.args.job.pass c.reserve.new.self c.reserve.ensures.same) in
     search rules
 
 pub loop-event-preserved : goal.loop-event-preserved

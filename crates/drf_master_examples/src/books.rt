@@ -1,6 +1,8 @@
 //! A book that one caller has to itself, without a master. What owns it makes one call and takes its entries: its drop is long.
 use crate::closing::keep_passes;
-use crate::lines::{AGENT, CYCLE, FRAMEWORK, OTHER_AGENT, append_entries, append_placed};
+use crate::lines::{
+    AGENT, CYCLE, FRAMEWORK, LIMIT, NO_LIMIT, OTHER_AGENT, append_entries, append_placed,
+};
 use anyhow::{Context, Result};
 use drf_board::Entry;
 use drf_lines::read_event;
@@ -57,6 +59,18 @@ fn take_all(alloc: Global, told: &mut String, book: &mut Book<MasterSorter>) -> 
     settle(alloc, told, book, OTHER_AGENT)
 }
 
+// A limit that is set, taken away and set again. After an event that is given up the second core is a copy, which shares the limits.
+fn limit_all(alloc: Global, told: &mut String, book: &mut Book<MasterSorter>) -> Result<()> {
+    settle(alloc, told, book, LIMIT)?;
+    give_up(alloc, told, book, CYCLE)?;
+    settle(alloc, told, book, NO_LIMIT)?;
+    settle(alloc, told, book, LIMIT)?;
+    settle(alloc, told, book, CYCLE)?;
+    give_up(alloc, told, book, CYCLE)?;
+    settle(alloc, told, book, NO_LIMIT)?;
+    settle(alloc, told, book, CYCLE)
+}
+
 fn append_match(
     told: &mut String,
     name: &str,
@@ -77,6 +91,7 @@ fn use_book(
 ) -> Result<()> {
     append_match(told, "no pass", book, &[])?;
     take_all(alloc, told, book)?;
+    limit_all(alloc, told, book)?;
     append_match(told, "no pass", book, &[])?;
     append_match(told, "passes of the same calls", book, same)?;
     append_match(told, "passes of others", book, others)
@@ -117,16 +132,38 @@ fn append_compared<W: Threads + Wait + Sync>(
     same: &mut Vec<Pass>,
     others: &mut Vec<Pass>,
 ) -> Result<()> {
-    let lines = [AGENT, FRAMEWORK, CYCLE, OTHER_AGENT];
+    let lines = [
+        AGENT,
+        FRAMEWORK,
+        CYCLE,
+        OTHER_AGENT,
+        LIMIT,
+        NO_LIMIT,
+        LIMIT,
+        CYCLE,
+        NO_LIMIT,
+        CYCLE,
+    ];
     keep_passes(rt, alloc, 1, &lines, same)?;
-    let turned = [AGENT, CYCLE, FRAMEWORK, OTHER_AGENT];
+    let turned = [
+        AGENT,
+        CYCLE,
+        FRAMEWORK,
+        OTHER_AGENT,
+        LIMIT,
+        NO_LIMIT,
+        LIMIT,
+        CYCLE,
+        NO_LIMIT,
+        CYCLE,
+    ];
     keep_passes(rt, alloc, 1, &turned, others)?;
     told.push_str("a book alone:")?;
     open_and_use(alloc, told, same, others)?;
     Ok(told.push('\n')?)
 }
 
-/// A book takes four events, some in one step and some prepared and settled, and one is prepared and given up. Then it is compared with the
+/// A book takes ten events, some in one step and some prepared and settled, and three are prepared and given up. Then it is compared with the
 /// passes of a master that was called with the same events, and with those of one where two came in turned order.
 pub fn append_alone<W: Threads + Wait + Sync>(
     rt: &W,

@@ -19,6 +19,10 @@ pub const FRAMEWORK: &str = r#"{"event":"add_framework","framework":"f1","roles"
 
 pub const CYCLE: &str = r#"{"event":"cycle","at":0}"#;
 
+pub const LIMIT: &str = r#"{"event":"set_limit","role":"a","limit":"cpus:1"}"#;
+
+pub const NO_LIMIT: &str = r#"{"event":"set_limit","role":"a","limit":""}"#;
+
 /// Calls by the first of the passes.
 pub fn call<K: Naming, R: Wait + Drop, W: Wait>(
     rt: &W,

@@ -367,7 +367,8 @@ impl Bundle {
         Bundle::new(self.alloc(), left)
     }
 
-    /// The bundle with another part in the place of one, of which it need not have all. What is left without that one has a join with the other.
+    /// The bundle with another part in the place of one, of which it need not have all. What is left without that one must have a join with
+    /// the other.
     pub fn exchange(&self, old: &Bundle, new: &Bundle) -> Result<Bundle, AllocError>
         requires { refusal (rest self.now old.now) new.now ≡ None }
         ensures { IfOk result (λ both. join (rest self.now old.now) new.now ≡ Some both) }

@@ -75,7 +75,7 @@ fn share(
     }
 }
 
-/// Whether nobody else has what is shared.
+/// Whether nobody else has what is shared. No clause says so: a wrong answer costs a copy, or an `Err` where there is memory.
 fn is_alone(shared: &Option<Arc<IndexMap<Role, Quantities>>>) -> bool {
     match shared {
         Some(limits) => Arc::strong_count(limits) == 1,
@@ -105,7 +105,7 @@ fn put_limit(
     Ok(())
 }
 
-/// The same where nobody else has what is shared. Where another has, it is an `Err`.
+/// The same where nobody else has what is shared. Where another has, it is an `Err`, though no clause says so.
 fn put_alone(
     shared: &mut Option<Arc<IndexMap<Role, Quantities>>>,
     role: Role,

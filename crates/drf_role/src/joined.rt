@@ -189,7 +189,7 @@ impl Joined {
         self.alloc
     }
 
-    /// Whether it needs no memory, as only `*` does.
+    /// Whether it is kept without memory, as `*` is. No other text is.
     pub fn needs_no_memory(&self) -> bool
         ensures { IsTrue result → self.now ≡ codes "*" ∷ [] }
     {
@@ -232,7 +232,7 @@ impl Joined {
         Parts::new(self)
     }
 
-    /// The first parts, `len` of them. All of them ask for no memory.
+    /// The first parts, `len` of them. Where these are all, no memory is asked for.
     pub fn front(&self, len: usize) -> Result<Joined, AllocError>
         requires some { 1 ≤ len }
         requires within { len ≤ length self.now }

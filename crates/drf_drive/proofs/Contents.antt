@@ -1,7 +1,7 @@
 -- Files that are read one after the other.
 use Rattle.std.proofs.Common.{◌≡◌, ℕ, ◌+◌, ◌<◌, ◌≤◌, List, [], ◌∷◌, ◌++◌, length, map, get_or, take, drop, sym, ap, ◌∙◌, subst, suc, add-one, take-append-drop}
 use Rattle.std.proofs.Math.Seq.{take-suc, drop-cons}
-use Rattle.std.proofs.lemmas.List.{map-append, take_all}
+use Rattle.std.proofs.lemmas.List.{map-append}
 use Rattle.std.specs.Global.{Vec}
 use Rattle.drf_journal.specs.declared.fault.RunFault.{RunFault}
 use Rattle.drf_journal.specs.declared.fault.RunFault.TheVariants.{Read, Write, Memory}
@@ -47,11 +47,6 @@ contents-next text known xs i x inside is contents bytes are one =
     subst (λ (l : List (List ℕ)). AreContents known l (bytes_of (contents ++ bytes ∷ []))) (sym (map-take-next xs i x inside is text))
     (subst (AreContents known (map text (take i xs) ++ text x ∷ [])) (sym added)
     (contents-push known (map text (take i xs)) (bytes_of contents) (text x) bytes.items are one))
-
--- all files
-pub contents-all : {X : Type 0} (text : X → List ℕ) (known : Known) (xs : List X) (i : ℕ) (contents : List (List ℕ)) → length xs ≤ i
-    → AreContents known (map text (take i xs)) contents → AreContents known (map text xs) contents
-contents-all text known xs i contents past are = subst (λ (l : List _). AreContents known (map text l) contents) (take_all i xs past) are
 
 -- or one that gives none
 pub contents-fault : {X : Type 0} (text : X → List ℕ) (known : Known) (xs : List X) (i : ℕ) (x : X) → i < length xs → x ≡ get_or xs i x

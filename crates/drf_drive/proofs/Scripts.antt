@@ -1,19 +1,14 @@
 -- Scripts, file by file and line by line.
-use Rattle.std.proofs.Common.{◌≡◌, ℕ, suc, List, [], ◌∷◌, ◌++◌, length, map, refl, sym, ap, subst, ◌∙◌, append_assoc, append-nil, arith}
-use Rattle.std.proofs.lemmas.List.{map-append}
+use Rattle.std.proofs.Common.{◌≡◌, ℕ, suc, List, [], ◌∷◌, ◌++◌, length, map, refl, sym, ap, subst, ◌∙◌, append-nil, arith}
 use Rattle.std.specs.List.{AllZip}
-use Rattle.std.specs.Prelude.{Result, Ok}
 use Rattle.std.specs.Global.{Vec}
 use Rattle.drf_journal.specs.Lines.{lines_of}
 use Rattle.drf_journal.specs.declared.fault.RunFault.TheVariants.{Read, Write, Memory}
 use Rattle.drf_lines.specs.Meaning.{meaning_of}
-use Rattle.drf_lines.specs.declared.fault.LineError.{LineError}
-use Rattle.drf_lines.specs.declared.fault.LineError.TheVariants.{Fault}
 use Rattle.drf_lines.specs.declared.fault.LineError.TheVariants as errors
-use Rattle.drf_lines.specs.declared.fault.LineFault.{LineFault}
 use Rattle.drf_rows.specs.declared.event.Event.{Event}
 use Rattle.drf_drive.specs.Files.{bytes_of}
-use Rattle.drf_drive.specs.Scripts.{AreEventsOf, AreScripts, AreWhole, HaveBadLine, HaveStopped, IsNoEvent, IsScript, IsScriptOf, IsStoppedAfter, IsStoppedBy, IsWhole, Takes, as_meant, meanings_of}
+use Rattle.drf_drive.specs.Scripts.{AreEventsOf, AreScripts, AreWhole, HaveBadLine, HaveStopped, IsScript, IsScriptOf, IsStoppedBy, IsWhole, as_meant, meanings_of}
 use Rattle.drf_drive.specs.declared.script.Script.{Script}
 use Rattle.drf_drive.specs.declared.script.ScriptFault.{ScriptFault}
 use Rattle.drf_drive.specs.declared.script.ScriptFault.TheVariants.{Run, Line, Close}
@@ -24,31 +19,6 @@ use Rattle.drf_drive.proofs.Cuts.{lines-nil}
 -- some lines are these events, and the rest is left
 abbrev pub ReadFront : List ℕ → List ℕ → List Event → Type 0
 ReadFront bytes rest events = meanings_of bytes ≡ as_meant events ++ meanings_of rest
-
-pub read-begins : (bytes : List ℕ) (events : List Event) → events ≡ [] → ReadFront bytes bytes events
-read-begins bytes events none = ap (λ (es : List Event). as_meant es ++ meanings_of bytes) (sym none)
-
-module _ (bytes rest line after : List ℕ) (old : List Event) (read : ReadFront bytes rest old) (first : lines_of rest ≡ line ∷ lines_of after) where
-  next-is : meanings_of bytes ≡ as_meant old ++ meaning_of line ∷ meanings_of after
-  next-is = read ∙ ap (λ (ls : List (List ℕ)). as_meant old ++ map meaning_of ls) first
-
-  -- one line more
-  pub read-next : (new : List Event) → Takes line old new → ReadFront bytes after new
-  read-next new takes =
-      let one : List (Result Event LineFault) = Ok takes.event ∷ [] in
-      next-is
-      ∙ ap (λ (m : Result Event LineFault). as_meant old ++ m ∷ meanings_of after) takes.meant
-      ∙ sym (append_assoc (as_meant old) one (meanings_of after))
-      ∙ ap (λ (ms : List (Result Event LineFault)). ms ++ meanings_of after) (sym (map-append (λ (e : Event). Ok e) old (takes.event ∷ [])))
-      ∙ ap (λ (es : List Event). as_meant es ++ meanings_of after) (sym takes.added)
-
-  -- or one that is no event
-  pub read-stopped : (error : LineError) → IsNoEvent line error → IsStoppedAfter bytes old error
-  read-stopped errors.Memory bad = tt
-  read-stopped (Fault fault) bad = record {
-    after = meanings_of after;
-    lines = next-is ∙ ap (λ (m : Result Event LineFault). as_meant old ++ m ∷ meanings_of after) bad;
-  }
 
 pub read-all : (bytes rest : List ℕ) (events : List Event) → ReadFront bytes rest events → length rest ≡ 0 → IsScript bytes events
 read-all bytes [] events read none =

@@ -2,7 +2,6 @@
 use Rattle.std.proofs.Common.{◌≡◌, ℕ, ◌+◌, ◌<◌, ◌≤◌, List, [], ◌∷◌, ◌++◌, length, get_or, take, drop, Option, sym, ap, ◌∙◌, subst, append_assoc, append-nil, take-append-drop}
 use Rattle.std.proofs.Math.Seq.{take-append_seam}
 use Rattle.std.proofs.lemmas.Grind.{flat_map-append}
-use Rattle.std.proofs.lemmas.List.{take_all}
 use Rattle.std.specs.Io.KnownBytes.{Appends}
 use Rattle.std.proofs.KnownBytes.{Appends-nil, Appends-trans}
 use Rattle.drf_board.specs.declared.entry.Entry.{Entry}
@@ -67,6 +66,3 @@ module _ (entries : List Entry) (i : ℕ) (entry : Entry) (inside : i < length e
 
 pub text-parts : (entries : List Entry) (i : ℕ) → journal_text entries ≡ journal_text (take i entries) ++ journal_text (drop i entries)
 text-parts entries i = ap journal_text (sym (take-append-drop i entries)) ∙ flat_map-append entry_text (take i entries) (drop i entries)
-
-pub text-all : (entries : List Entry) (i : ℕ) → length entries ≤ i → journal_text entries ≡ journal_text (take i entries)
-text-all entries i past = ap journal_text (sym (take_all i entries past))

@@ -29,12 +29,6 @@ use Rattle.drf_explain.specs.declared.gates.Gates.{Gates}
 pub counted_is : (rows : Rows) (a : Allowance) → IsAllowanceOf rows a → used_at a.used ≡ consumption rows
 counted_is rows a counted = λ i role label. counted.used (is_within role) label i
 
--- where no role has a limit no limit is the tightest
-pub limiting_none : (rows : Rows) (role : Path) (part : List Resource) → IsQuotaOf rows None
-    → role ≡ limiting_role rows.limits (consumption rows) role part
-limiting_none rows role part none =
-    sym (ap (λ (ls : List LimitRow). limiting_role ls (consumption rows) role part) none)
-
 pub limiting_some : (rows : Rows) (a : Allowance) (limits : List LimitRow) (role : Path) (part : List Resource) (found : Option LimitRow) (limiting : Path)
     → IsAllowanceOf rows a → limits ≡ rows.limits → found ≡ tightest limits (used_at a.used) role (worthy_scalar part)
     → limiting ≡ option_map_or (λ l. l.role) found role → limiting ≡ limiting_role rows.limits (consumption rows) role part

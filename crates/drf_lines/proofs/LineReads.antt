@@ -29,9 +29,6 @@ whole_out_of_range o j rest e out = ap whole e ∙ at rest
     at [] = read_in_range j ∙ ap (λ b. cond b (Some (data_of j)) None) out
     at (t ∷ ts) = refl
 
-pub whole_and_more : (o : Option (Json × List Token)) (j : Json) (t : Token) (rest : List Token) → o ≡ Some (j, t ∷ rest) → whole o ≡ None
-whole_and_more o j t rest e = ap whole e
-
 pub refused_value : {A : Type 0} (view : A → Data) (error : LineError) (o : Option (Json × List Token)) → IsRefused error (o ≡ None)
     → IsReadAs view (Err error) (ok_or (whole o) NotJson)
 refused_value view (Fault fault) o h = ap (λ o. ok_or (whole o) NotJson) h.1 ∙ ap Err (sym h.0)

@@ -11,13 +11,6 @@ use Rattle.drf_lines.specs.Words.{role_in, roles_in}
 abbrev pub roles_after : List (List (List ℕ)) → List (List ℕ) → Result (List (List (List ℕ))) LineFault
 roles_after roles texts = roles_in texts >>= λ more. Ok (roles ++ more)
 
-pub roles_after-nil : (texts : List (List ℕ)) → roles_after [] texts ≡ roles_in texts
-roles_after-nil texts = at (roles_in texts)
-  where
-    at : (r : Result (List (List (List ℕ))) LineFault) → (r >>= λ more. Ok ([] ++ more)) ≡ r
-    at (Ok more) = refl
-    at (Err fault) = refl
-
 pub roles_after-end : (roles : List (List (List ℕ))) → roles_after roles [] ≡ Ok roles
 unfolding roles_in
 roles_after-end roles = ap Ok (append-nil roles)

@@ -27,9 +27,6 @@ name_read name is = rw ((name_decides name).1 is) refl
 abbrev pub IsRoleRead : List (List ℕ) → Type 0
 IsRoleRead role = role_in (text_of role) ≡ Ok role
 
-abbrev pub AreRolesRead : List (List (List ℕ)) → Type 0
-AreRolesRead = All IsRoleRead
-
 pub role_read : (role : List (List ℕ)) → IsRole role → parts_of (text_of role) ≡ role → IsRoleRead role
 unfolding role_in
 role_read role is parts = rw ((role_decides (text_of role)).1 (subst IsRole (sym parts) is)) (ap Ok parts)

@@ -1,7 +1,5 @@
 -- A core that takes entries of a journal.
 use Rattle.std.proofs.Common.{◌≡◌, ℕ, ◌+◌, ◌<◌, List, [], ◌∷◌, ◌++◌, length, take, sym, ap, subst, ◌∙◌, arith}
-use Rattle.std.proofs.Math.Seq.{take-append_seam}
-use Rattle.std.proofs.lemmas.List.{length-append}
 use Rattle.drf_board.specs.History.{IsLegal, entry, rows_of}
 use Rattle.drf_board.specs.HistoryLaws.{legal-push, rows_of-nil, rows_of-push}
 use Rattle.drf_board.specs.declared.entry.Entry.{Entry}
@@ -41,9 +39,6 @@ is_next given entries old new event reply legal run is after = record {
 
 -- ---- a second core that is behind
 
-pub taken-opened : (given : LimitNumbers) (entries : List Entry) (engine : Engine) → IsOpened given engine → HasTaken given entries engine 0
-taken-opened given entries engine opened = record { few = omega arith; run = run-opened given engine opened }
-
 pub taken-more : (given : LimitNumbers) (entries : List Entry) (e : Entry) (old new : Engine) (taken : ℕ) → HasTaken given entries old taken
     → taken < length entries → take (taken + 1) entries ≡ take taken entries ++ e ∷ [] → IsAfter old new e.event → HasTaken given entries new (taken + 1)
 taken-more given entries e old new taken has less more after = record {
@@ -54,14 +49,6 @@ taken-more given entries e old new taken has less more after = record {
 pub taken-same : (given : LimitNumbers) (entries : List Entry) (old new : Engine) (taken : ℕ) → HasTaken given entries old taken → IsSame old new
     → HasTaken given entries new taken
 taken-same given entries old new taken has same = record { few = has.few; run = run-same given (take taken entries) old new has.run same }
-
--- when an entry is added, the core from before is one entry behind
-pub taken-before : (given : LimitNumbers) (entries : List Entry) (e : Entry) (engine : Engine) → IsRunOf given entries engine
-    → HasTaken given (entries ++ e ∷ []) engine (length entries)
-taken-before given entries e engine run = record {
-  few = omega (arith, length-append entries (e ∷ []));
-  run = subst (λ (l : List Entry). IsRunOf given l engine) (sym (take-append_seam entries (e ∷ []))) run;
-}
 
 -- ---- what is shown
 

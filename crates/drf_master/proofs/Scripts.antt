@@ -284,15 +284,6 @@ run-fault asked stops key jobs results own scripts fault are_own same_scripts nu
     as-run-fault asked stops key own scripts fault are_own
     (subst (λ (ss : List (Vec Event)). job-fault asked stops 0 ss fault) same_scripts (first-job asked stops 0 jobs results fault numbers did first))
 
-pub drive-fault : (given : LimitNumbers) (asked stops : ℕ → ℕ → Type 0) (key : ℕ) (own : List Held) (scripts : List (Vec Event)) (fault : DriveFault)
-    → IsRunFault asked stops key own scripts fault → IsDriveFault given asked stops key own scripts fault
-drive-fault given asked stops key own scripts Stopped is = is
-drive-fault given asked stops key own scripts Memory is = is
-drive-fault given asked stops key own scripts (Close why.Stranger) is = is
-drive-fault given asked stops key own scripts (Close why.Missing) is = absurd is
-drive-fault given asked stops key own scripts (Close (why.Mismatch place)) is = absurd is
-drive-fault given asked stops key own scripts (Close why.Memory) is = absurd is
-
 pub closing-fault : (given : LimitNumbers) (asked : ℕ → ℕ → Type 0) (key : ℕ) (own : List Held) (scripts : List (Vec Event)) (done : List Held) (replies : List (Vec Reply))
     (journal : List Entry) (fault : CloseFault) → HaveAllRun asked key own scripts done replies → IsLegal given journal → IsCloseFault journal key done fault
     → IsClosingFault given asked key own scripts fault

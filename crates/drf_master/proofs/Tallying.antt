@@ -1,5 +1,5 @@
 -- A tally that takes one receipt more.
-use Rattle.std.proofs.Common.{◌≡◌, ℕ, zero, suc, ◌+◌, ◌<◌, ◌≤◌, ◌==◌, ◌⊎◌, ◌↔◌, IsTrue, inl, inr, Bool, true, false, cond, nat_le, List, [], ◌∷◌, ◌++◌, length, Option, Some, None, MatchBool, All, slice_get, slice_set, refl, ap, sym, ◌∙◌, subst, arith}
+use Rattle.std.proofs.Common.{◌≡◌, ℕ, zero, suc, ◌+◌, ◌<◌, ◌≤◌, ◌==◌, ◌⊎◌, ◌↔◌, IsTrue, inl, inr, Bool, true, false, cond, nat_le, List, [], ◌∷◌, ◌++◌, length, Option, Some, None, MatchBool, slice_get, slice_set, refl, ap, sym, ◌∙◌, subst, arith}
 use Rattle.std.proofs.lemmas.Bool.Decides.{nat_tests}
 use Rattle.std.proofs.lemmas.Option.{slice_get_within}
 use Rattle.drf_board.specs.declared.entry.Entry.{Entry}
@@ -248,15 +248,6 @@ tally-open journal lists named wrong tally = record {
   seen = λ place inside. subst (λ (n : ℕ). MatchBool (marked named place) (0 < n) (n ≡ 0)) (sym (times-open place lists)) (tally.seen place inside);
   least = kept-least (IsWrong journal lists) (IsWrong journal (lists ++ [] ∷ [])) wrong (wrong-open journal lists) (open-wrong journal lists) tally.least;
   entries = λ none. all-open journal lists (tally.entries none);
-}
-
--- nothing was looked at
-pub tally-start : (journal : List Entry) (named : List Bool) → length named ≡ length journal → All (λ mark. mark ≡ false) named → IsTally journal [] named None
-tally-start journal named size none = record {
-  places = size;
-  seen = λ place inside. subst (λ (m : Bool). MatchBool m (0 < 0) (◌≡◌ {A = ℕ} 0 0)) (sym (none place false (omega (arith, size, inside)))) refl;
-  least = λ place wrong. either_way wrong (λ broken. absurd broken) (λ twice. absurd (omega (arith, twice)));
-  entries = λ is. tt;
 }
 
 pub judged : (journal : List Entry) (least : ℕ) (r : Receipt) (b : Bool)

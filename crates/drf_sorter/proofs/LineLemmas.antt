@@ -193,10 +193,6 @@ module _ (path : Path) (lines : List NodeLine) (i : ℕ) (x : NodeLine) (some : 
       ∙ sym (append_assoc (take (i - 1) lines) (x ∷ []) (line ∷ drop i lines))
       ∙ ap (λ (ls : List NodeLine). ls ++ line ∷ drop i lines) (sym front)
 
-pub belongs_first : (path : Path) (lines : List NodeLine) (i : ℕ) → i ≡ 0 → IsAmong path lines i → BelongsBehind path lines 0
-belongs_first path lines i none among line same =
-    among line same ∙ ap (λ (n : ℕ). with_line (take n lines) line ++ drop n lines) none
-
 -- ---- the nodes of a client
 
 pub any_through : {X : Type 0} (p q : X → Bool) → ((x : X) → p x ≡ true → q x ≡ true) → (xs : List X)

@@ -65,10 +65,6 @@ CanCount-less : (n m : ℕ) (cs : List ClientRow) → n ≤ m → CanCount m cs 
 CanCount-less n m [] less all = tt
 CanCount-less n m (c ∷ cs) less all = (omega (arith, less, all.0), CanCount-less n m cs less all.1)
 
-pub CanCountAll-less : (n m : ℕ) (fs : List FrameworkRow) → n ≤ m → CanCountAll m fs → CanCountAll n fs
-CanCountAll-less n m [] less all = tt
-CanCountAll-less n m (f ∷ fs) less all = (CanCount-less n m f.clients less all.0, CanCountAll-less n m fs less all.1)
-
 counted_in : (n m : ℕ) (client : Client) (f : FrameworkRow)
     → m ≡ n + 1 → CanCount m f.clients → CanCount n (count_offer client f).clients
 counted_in n m client f next all = elim (cases_Bool (same_text f.name client.framework)) [

@@ -116,10 +116,6 @@ module _ (t : Inside) where
   unfolding rows_of
   agents_in = refl
 
-  pub frameworks_in : (rows_in t).frameworks ≡ framework_rows t.frameworks.entries
-  unfolding rows_of
-  frameworks_in = refl
-
   pub has_agent-rows_in : (name : Text) → has_agent (rows_in t) name ≡ is_some (lookup (same_text name) t.agents.entries)
   unfolding rows_of
   has_agent-rows_in name = known-lookup (λ a. a.name) agent_row name t.agents.entries (λ e. refl)

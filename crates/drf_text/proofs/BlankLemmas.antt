@@ -5,7 +5,7 @@ use Rattle.std.specs.List.{list_all}
 use Rattle.std.proofs.Common.{zero, suc, get_or, refl, sym, ap, ◌∙◌, inl, inr, cond, arith}
 use Rattle.std.proofs.lemmas.Bool.{ne_eqb}
 use Rattle.drf_role.specs.Text.{Text}
-use Rattle.drf_text.specs.Blanks.{is_blank, IsOneFirstLess, IsOneLastLess, without_first_blanks, without_last_blanks, trimmed}
+use Rattle.drf_text.specs.Blanks.{is_blank, IsOneLastLess, without_first_blanks, without_last_blanks, trimmed}
 
 no_blank : (b : ℕ) → b ≢ 32 → b ≢ 9 → is_blank b ≡ false
 no_blank b space tab = rw (ne_eqb b 32 space, ne_eqb b 9 tab) refl
@@ -16,16 +16,6 @@ pub stays_first : (text : Text) → ((rest : Text) → text ≢ 32 ∷ rest) →
     → without_first_blanks text ≡ text
 stays_first [] space tab = refl
 stays_first (b ∷ bs) space tab = rw (no_blank b (λ e. space bs (ap (λ (c : ℕ). c ∷ bs) e)) (λ e. tab bs (ap (λ (c : ℕ). c ∷ bs) e))) refl
-
-pub first_more : (text rest : Text) → length rest < length text → IsOneFirstLess text rest
-    → without_first_blanks rest ≡ without_first_blanks text
-first_more text rest shorter (inl less) = sym (ap without_first_blanks less.2 ∙ rw less.1 refl)
-first_more text rest shorter (inr all) = ap without_first_blanks all.0
-
-pub first_done : (text rest : Text) → length text ≤ length rest → IsOneFirstLess text rest
-    → text ≡ without_first_blanks text
-first_done text rest long (inl less) = absurd (omega (arith, ap length less.2))
-first_done text rest long (inr all) = sym all.1
 
 -- ---- at the end
 
@@ -67,11 +57,6 @@ pub last_more : (text rest : Text) → length rest < length text → IsOneLastLe
     → without_last_blanks rest ≡ without_last_blanks text
 last_more text rest shorter (inl less) = sym (ap without_last_blanks less.2 ∙ push_dropped rest less.0 less.1)
 last_more text rest shorter (inr all) = ap without_last_blanks all.0
-
-pub last_done : (text rest : Text) → length text ≤ length rest → IsOneLastLess text rest
-    → text ≡ without_last_blanks text
-last_done text rest long (inl less) = absurd (omega (arith, ap length less.2, length_push rest less.0))
-last_done text rest long (inr all) = sym all.1
 
 -- ---- a text that neither begins nor ends with one
 

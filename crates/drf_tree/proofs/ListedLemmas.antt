@@ -12,10 +12,6 @@ any_front p (x ∷ xs) ys some = elim (or_cases (p x) (list_any p xs) some) [
   | inr past ↦ or_right (p x) (list_any p (xs ++ ys)) (any_front p xs ys past)
 ]
 
-pub any_end : {X : Type 0} (p : X → Bool) (xs : List X) (x : X) → p x ≡ true → list_any p (xs ++ x ∷ []) ≡ true
-any_end p [] x here = or_left (p x) false here
-any_end p (y ∷ xs) x here = or_right (p y) (list_any p (xs ++ x ∷ [])) (any_end p xs x here)
-
 pub any_parts : {X : Type 0} (p : X → Bool) (xs : List X) (x : X) → list_any p (xs ++ x ∷ []) ≡ true
     → (list_any p xs ≡ true) ⊎ (p x ≡ true)
 any_parts p [] x some = elim (or_cases (p x) false some) [

@@ -231,10 +231,6 @@ returns-clause-work g c =
     (subst (λ (o : Option ℕ). Within o c.refusal.new.self.work c.apply.new.self.work) same c.in_ok-stepped.ensures.work)))
 
 -- a refused event makes no key
-if_any : {A P : Type 0} (o : Option A) → P → IfSome o (λ x. P)
-if_any None fact = tt
-if_any (Some x) fact = fact
-
 pub returns-in_err-stepped-clause-refused : goal.returns-in_err-stepped-clause-refused
 returns-in_err-stepped-clause-refused g c =
     let limits = c.self.inside.limits in

@@ -126,12 +126,12 @@ impl Role {
     }
 
     /// The role `*`.
-    pub fn default_role(alloc: Global) -> Result<Role, AllocError>
-        ensures { IfOk result (λ role. role ≡ default_role) }
+    pub fn default_role(alloc: Global) -> Role
+        ensures { result ≡ default_role }
     {
-        Ok(Role {
+        Role {
             joined: Joined::star(alloc),
-        })
+        }
     }
 
     /// The text of the role: `*`, or its components joined by `/`.

@@ -66,7 +66,7 @@ fn add_piece(
 pub fn read_bundle(alloc: Global, text: &str) -> Result<Bundle, TextFault>
     ensures { IsMeaning result (meaning_of text.now) }
 {
-    let unreserved = Role::default_role(alloc)?;
+    let unreserved = Role::default_role(alloc);
     let mut bundle = Parts::empty(alloc);
     for piece in text.split(';') {
         add_piece(alloc, &mut bundle, piece, &unreserved)?;

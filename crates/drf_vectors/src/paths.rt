@@ -12,13 +12,11 @@ pub fn parts(answer: &mut Answer, role: &Role) {
 
 pub fn is_default(answer: &mut Answer, role: &Role) {
     answer.show(&role.is_default());
-    if let Some(default_role) = answer.found(Role::default_role(answer.alloc())) {
-        answer.say(if *role == default_role {
-            " true"
-        } else {
-            " false"
-        });
-    }
+    answer.say(if *role == Role::default_role(answer.alloc()) {
+        " true"
+    } else {
+        " false"
+    });
 }
 
 pub fn is_within(answer: &mut Answer, roles: &(Role, Role)) {

@@ -33,7 +33,7 @@ loop-piece-preserved c =
 
 pub returns-in_err-add_piece : goal.returns-in_err-add_piece
 returns-in_err-add_piece c =
-    let p = err_from_is_err_and c.from_residual-in_err-add_piece.result c.from_residual-in_err-add_piece.ensures.1 in
+    let p = err_from_is_err_and c.from_residual.result c.from_residual.ensures.1 in
     let pieces = slice_split (λ b. eqb b 59) c.args.text.now in
     let behind : List Text = drop (length c.loop-piece.yielded + 1) pieces in
     rw (p.1, p.2) (λ known.

@@ -1,12 +1,13 @@
 -- What a search by label finds, and what an edit at that place does.
-use Rattle.std.proofs.Common.{◌≡◌, ℕ, zero, suc, ◌+◌, ◌-◌, ◌<◌, ◌≤◌, Bool, cond, nat_lt, true, false, List, [], ◌∷◌, length, get_or, set, slice_get, Option, Some, None, IfSome, IfNone, Result, Ok, Err, IfOk, IfErr, is_ok, Equal, inl, inr, refl, sym, ap, ◌∙◌, subst, arith}
+use Rattle.std.proofs.Common.{◌≡◌, ℕ, zero, suc, ◌+◌, ◌-◌, ◌<◌, ◌≤◌, Bool, cond, nat_lt, true, false, List, [], ◌∷◌, length, get_or, set, slice_get, Option, Some, None, IfSome, IfNone, Result, Ok, Err, IfOk, IfErr, OnOk, is_ok, Equal, inl, inr, refl, sym, ap, ◌∙◌, subst, arith}
 use Rattle.std.specs.Prelude.{IsTrue}
 use Rattle.std.specs.List.{insert, list_any, position, position_or_len}
 use Rattle.std.specs.Result.{result_ok}
 use Rattle.std.specs.List.Sorted.{IsSearchInRange, IsBinarySearchResult, IsNonDecreasingBy}
 use Rattle.std.specs.Ordering.{nat_cmp, is_lt, ordering_index}
 use Rattle.std.specs.Cmp.Lexicographic.{slice_cmp, nat_list_cmp_total}
-use Rattle.std.proofs.lemmas.Bool.{and_parts, cases_Bool, cases_lt, ltb-false}
+use Rattle.std.proofs.lemmas.Bool.{false≢true, and_parts, cases_Bool, cases_lt, ltb-false}
+use Rattle.std.proofs.lemmas.List.{get_or_default}
 use Rattle.std.proofs.lemmas.List.Folds.{list_any_none}
 use Rattle.std.proofs.lemmas.List.Quantifiers.{position-Some}
 use Rattle.std.proofs.lemmas.List.Sums.{fails_before_first}
@@ -98,6 +99,10 @@ module _ (es : List Entry) (label : List ℕ) where
   pub amount_in_gap : (i : ℕ) → IsGapFor es label i → amount_of es label ≡ 0
   amount_in_gap i gap = found_nowhere (λ l. amount_of l label) (λ e. same_text e.label label) (λ e. e.amount) 0 refl (λ _ _. refl) es nothing (λ k lt. other_around i gap k nothing lt)
 
+  -- so much is the sum, where there was nothing
+  pub sum_in_gap : (i n : ℕ) → IsGapFor es label i → n ≡ amount_of es label + n
+  sum_in_gap i n gap = omega (arith, amount_in_gap i gap)
+
   pub named_in_gap : (i : ℕ) → IsGapFor es label i → is_named es label ≡ false
   named_in_gap i gap = or_from_places (λ l. is_named l label) (λ e. same_text e.label label) refl (λ _ _. refl) es nothing (λ k lt. other_around i gap k nothing lt)
 
@@ -163,6 +168,12 @@ amount_here items es text label i had same ordered named at is =
     ap (λ (e : Entry). e.amount) (is ∙ ap (λ (l : List Entry). get_or l i had) same)
     ∙ sym (amount_at es text i had (subst (λ (l : List Entry). IsTrue (is_in_order l)) same ordered) at) ∙ ap (amount_of es) named
 
+-- what was lent stands there
+pub stands_here : (items es : List Entry) (i : ℕ) (had : Entry) → items ≡ es → i < length es → had ≡ get_or items i had → IsAt es had.label i
+stands_here items es i had same in_range read =
+    let there : had ≡ get_or es i had = read ∙ ap (λ (l : List Entry). get_or l i had) same in
+    record { in_range = in_range; has_label = λ d. ap (λ (x : Entry). x.label) (get_or_default es i d had in_range ∙ sym there) }
+
 pub set_here : (items es : List Entry) (text label : List ℕ) (x a i : ℕ) (had : Entry) → items ≡ es → IsTrue (is_in_order items) → text ≡ label → x ≡ a → IsAt es text i → had ≡ get_or items i had → set items i (record { label = had.label; amount = x }) ≡ with_amount es label a
 set_here items es text label x a i had view ordered same amount at read =
     let found : IsAt items text i = subst (λ (l : List Entry). IsAt l text i) (sym view) at in
@@ -174,6 +185,11 @@ pub added_here : (items es new : List Entry) (text label : List ℕ) (x a i : �
 added_here items es new text label x a i view same amount gap made =
     let written = with_in_gap es text x i gap in
     cc
+
+-- what holds if it was done, where it was done
+pub where_done : {T E P : Type 0} (r : Result T E) → OnOk r P → IsTrue (is_ok r) → P
+where_done (Ok x) is done = is
+where_done (Err x) is done = absurd (false≢true done)
 
 -- so much less of one label, and as much of each other
 pub reduced : (es new : List Entry) (label : List ℕ) (n : ℕ) → new ≡ with_amount es label (amount_of es label - n) → n ≤ amount_of es label
@@ -188,12 +204,3 @@ reduced es new label n is fits other =
         → amount_of new other + cond b n 0 ≡ amount_of es other
     by true same its = omega (arith, its, fits, ap (amount_of es) (same refl))
     by false same its = omega (arith, its)
-
--- nothing less of a label that is not there
-pub reduced_none : (es : List Entry) (label : List ℕ) (n : ℕ) → amount_of es label ≡ 0 → n ≤ amount_of es label
-    → (other : List ℕ) → amount_of es other + cond (same_text label other) n 0 ≡ amount_of es other
-reduced_none es label n none fits other = by (same_text label other)
-  where
-    by : (b : Bool) → amount_of es other + cond b n 0 ≡ amount_of es other
-    by true = omega (arith, none, fits)
-    by false = omega arith

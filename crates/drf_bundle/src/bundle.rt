@@ -1,5 +1,5 @@
 //! Bundles of resources.
-ghost use Rattle.std.specs.Prelude.{◌≡◌, IsTrue, [], ◌∷◌, ◌++◌, None, Some, OnOk, IfOk, IfErr, IsOk};
+ghost use Rattle.std.specs.Prelude.{◌≡◌, IsTrue, [], ◌∷◌, ◌++◌, None, Some, OnOk, IfOk, IfErr, IsOk, map};
 ghost use Rattle.std.specs.List.{list_all};
 ghost use Rattle.std.specs.Option.{option_copied};
 ghost use Rattle.drf_bundle.specs.Bundle.{IsBundle, amount, join, refusal, is_too_large, is_in_order, exceeds, rest, filled_of, left_of, covers_one, reservation, value_at, quantities_of, one_of, is_unreserved, is_for, part_for, clip, clipped, relabel};
@@ -143,6 +143,34 @@ fn left_of(part: &[Resource], resource: &Resource, hint: usize) -> Result<Resour
         role: resource.role.copy()?,
         value,
     })
+}
+
+/// Whether the limits leave all of the resource. No clause says so where they do: a wrong answer costs a copy.
+fn stays_whole(limits: &Quantities, resource: &Resource) -> bool
+    ensures { IsTrue result → clipped limits.now resource.now ≡ resource.now }
+{
+    let Value::Scalar(scalar) = &resource.value else {
+        return true;
+    };
+    if !resource.is_unreserved() {
+        return true;
+    }
+    match limits.known_amount_of(&resource.label) {
+        Some(limit) => scalar.thousandths() <= limit,
+        None => true,
+    }
+}
+
+/// Whether the limits leave all of each resource. Here too a wrong answer costs a copy.
+fn stay_whole(limits: &Quantities, resources: &[Resource]) -> bool
+    ensures { IsTrue result → map (clipped limits.now) resources.now ≡ resources.now }
+{
+    for resource in resources {
+        if !stays_whole(limits, resource) {
+            return false;
+        }
+    }
+    true
 }
 
 /// The resource cut to what the limits say, if it is an unreserved scalar that they name.
@@ -302,8 +330,12 @@ impl Bundle {
     pub fn clip(&self, limits: &Quantities) -> Result<Bundle, AllocError>
         ensures { IfOk result (λ part. part ≡ clip limits.now self.now) }
     {
+        let resources = self.entries();
+        if stay_whole(limits, resources) {
+            return self.copy();
+        }
         let mut part = Vec::new(self.alloc());
-        for resource in self.entries() {
+        for resource in resources {
             push_filled(&mut part, clipped(limits, resource)?)?;
         }
         Bundle::new(self.alloc(), part)

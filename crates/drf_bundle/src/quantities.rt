@@ -1,4 +1,4 @@
-ghost use Rattle.std.specs.Prelude.{◌≡◌, ℕ, List, [], length, ◌^◌, ◌<◌, IsTrue, ◌+◌, ◌≤◌, if◌then◌else◌, IfOk, IfErr, OnOk, OnErr, IsOk, IfSome, IfNone, false};
+ghost use Rattle.std.specs.Prelude.{◌≡◌, ℕ, List, [], length, ◌^◌, ◌<◌, IsTrue, ◌+◌, ◌≤◌, ◌&&◌, nat_lt, nat_le, if◌then◌else◌, IfOk, IfErr, OnOk, OnErr, IsOk, IfSome, IfNone, false};
 ghost use Rattle.std.specs.List.{position};
 ghost use Rattle.drf_bundle.specs.Quantities.{HasNoZeros, amount_of, is_named, known_amount, names_all, is_in_order, with_amount, plus, minus, covers, without_zeros, names_of};
 ghost use Rattle.drf_bundle.specs.Places.{IsAt, IsGapFor};
@@ -200,12 +200,59 @@ impl Quantities {
                 entry.amount = Scalar::new(sum);
                 Ok(())
             }
-            Err(at) => {
-                let label = label.copy()?;
-                let amount = Scalar::new(thousandths);
-                Ok(self.entries.insert(at, Entry { label, amount })?)
-            }
+            Err(at) => self.name_at(at, label, thousandths),
         }
+    }
+
+    /// Adds to the amount of a label, and names it where it was not. Whether it was done: it is not where memory ends, or where the sum
+    /// would be 2^64 or more. That a label which was not named fails for want of memory alone is in no clause.
+    pub fn add_to(&mut self, label: &Label, thousandths: u64) -> bool
+        ensures ok { IsTrue result → self.new ≡ with_amount self.old label.now (amount_of self.old label.now + thousandths) }
+        ensures not { result ≡ false → self.new ≡ self.old }
+        ensures named { IsTrue (is_named self.old label.now) → result ≡ nat_lt (amount_of self.old label.now + thousandths) (2 ^ 64) }
+    {
+        match self.place_among(label) {
+            Ok(at) => self.add_at(at, thousandths),
+            Err(at) => self.name_at(at, label, thousandths).is_ok(),
+        }
+    }
+
+    /// Adds to the amount of a label, if it is named and the sum is below 2^64. Whether it was done. It needs no memory.
+    pub fn add_to_named(&mut self, label: &Label, thousandths: u64) -> bool
+        ensures ok { IsTrue result → self.new ≡ with_amount self.old label.now (amount_of self.old label.now + thousandths) }
+        ensures not { result ≡ false → self.new ≡ self.old }
+        ensures result { result ≡ (is_named self.old label.now && nat_lt (amount_of self.old label.now + thousandths) (2 ^ 64)) }
+    {
+        match self.place_elsewhere(label, 0) {
+            Some(at) => self.add_at(at, thousandths),
+            None => false,
+        }
+    }
+
+    // Adds to the amount at the place, if the sum is below 2^64. Whether it was done.
+    fn add_at(&mut self, at: usize, thousandths: u64) -> bool
+        requires { at < length self.old }
+        ensures ok { (label : List ℕ) → IsAt self.old label at → IsTrue result → self.new ≡ with_amount self.old label (amount_of self.old label + thousandths) }
+        ensures not { result ≡ false → self.new ≡ self.old }
+        ensures result { (label : List ℕ) → IsAt self.old label at → result ≡ nat_lt (amount_of self.old label + thousandths) (2 ^ 64) }
+    {
+        let entry = &mut self.entries[at];
+        let Some(sum) = entry.amount.thousandths().checked_add(thousandths) else {
+            return false;
+        };
+        entry.amount = Scalar::new(sum);
+        true
+    }
+
+    // Names a label that goes to that place.
+    fn name_at(&mut self, at: usize, label: &Label, thousandths: u64) -> Result<(), AllocError>
+        requires { IsGapFor self.old label.now at }
+        ensures ok { OnOk result (self.new ≡ with_amount self.old label.now thousandths) }
+        ensures err { OnErr result (self.new ≡ self.old) }
+    {
+        let label = label.copy()?;
+        let amount = Scalar::new(thousandths);
+        Ok(self.entries.insert(at, Entry { label, amount })?)
     }
 
     pub fn copy(&self) -> Result<Quantities, AllocError>
@@ -296,17 +343,31 @@ impl Quantities {
         }
     }
 
-    /// Takes so much of a label away, which stays named. It needs no memory.
+    /// Takes so much of a label away. It needs no memory.
     pub fn reduce(&mut self, label: &Label, thousandths: u64)
         requires { thousandths ≤ amount_of self.old label.now }
         ensures { (other : List ℕ) → amount_of self.new other + (if same_text label.now other then thousandths else 0) ≡ amount_of self.old other }
     {
+        let _ = self.take_from(label, thousandths);
+    }
+
+    /// Takes so much of a label away, if there is as much. Whether it was done. It needs no memory. That the label stays named is in
+    /// no clause.
+    pub fn take_from(&mut self, label: &Label, thousandths: u64) -> bool
+        ensures ok { IsTrue result
+            → (other : List ℕ) → amount_of self.new other + (if same_text label.now other then thousandths else 0) ≡ amount_of self.old other }
+        ensures not { result ≡ false → self.new ≡ self.old }
+        ensures result { result ≡ nat_le thousandths (amount_of self.old label.now) }
+    {
         let Some(at) = self.place_elsewhere(label, 0) else {
-            return;
+            return thousandths == 0;
         };
         let entry = &mut self.entries[at];
-        let left = entry.amount.thousandths() - thousandths;
+        let Some(left) = entry.amount.thousandths().checked_sub(thousandths) else {
+            return false;
+        };
         entry.amount = Scalar::new(left);
+        true
     }
 
     pub(crate) fn alloc(&self) -> Global {

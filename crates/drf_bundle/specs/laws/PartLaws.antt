@@ -1,17 +1,18 @@
 -- What is made of a bundle is a bundle: what a role may use, what limits leave of it, and what is moved to a role.
-use Rattle.std.specs.Prelude.{◌≡◌, ℕ, ◌≤◌, ◌&&◌, Bool, true, false, List, [], ◌∷◌, filter, IsTrue, All}
+use Rattle.std.specs.Prelude.{◌≡◌, ℕ, ◌≤◌, ◌&&◌, Bool, true, false, List, [], ◌∷◌, map, filter, IsTrue, All, nat_lt}
 use Rattle.std.proofs.Common.{Less, refl, sym, ap, ◌∙◌, inl, inr, arith}
 use Rattle.std.specs.List.{list_all}
 use Rattle.std.specs.Ordering.{nat_cmp}
 use Rattle.std.specs.Cmp.Lexicographic.{slice_cmp}
-use Rattle.std.proofs.lemmas.Bool.{false≢true, and_parts, and_from, cases_Bool}
-use Rattle.std.proofs.lemmas.List.Elements.{All-head, All-tail, All-nil, All-cons, All-filter}
+use Rattle.std.proofs.lemmas.Bool.{false≢true, and_parts, and_from, cases_Bool, lt-ltb}
+use Rattle.std.proofs.lemmas.List.Elements.{All-head, All-tail, All-nil, All-cons, All-filter, All-weaker}
+use Rattle.std.proofs.lemmas.List.Sums.{list_all-from_AllPass}
 use Rattle.drf_role.specs.Text.{Text, same_text, text_below}
 use Rattle.drf_role.specs.Parts.{parts_of, text_of}
 use Rattle.drf_role.specs.Path.{Path}
 use Rattle.drf_role.specs.Role.{IsRole}
-use Rattle.drf_bundle.specs.Value.{Point, Thousandths, Number, Member, units_in, IsGiven}
-use Rattle.drf_bundle.specs.Bundle.{Key, is_default, reservation, key_of, key_below, is_in_order, units_where, stock, IsResource, IsBundle, is_unreserved, is_for, part_for, cut, clipped, clip, moved_to, relabel}
+use Rattle.drf_bundle.specs.Value.{Point, Thousandths, Number, Member, units_in, amount_in, IsGiven}
+use Rattle.drf_bundle.specs.Bundle.{Key, is_default, reservation, key_of, key_below, is_in_order, units_where, stock, IsResource, IsBundle, is_unreserved, is_for, part_for, filled_of, cut, clipped, clip, moved_to, relabel}
 use Rattle.drf_bundle.specs.laws.KeyLaws.{stands_first, where-cons, below_from_name, cases_below}
 use Rattle.drf_bundle.specs.laws.FitLaws.{fits_less}
 use Rattle.drf_bundle.specs.laws.RestLaws.{KeepsKeys, bundle-changed}
@@ -89,6 +90,18 @@ cut-given limited limit (Items a) given = given
 pub bundle-clip : (limits : List Entry) (rs : List Resource) → IsBundle rs → IsBundle (clip limits rs)
 bundle-clip limits rs is = bundle-changed (clipped limits) (keeps-clipped limits) (λ r p. cut-falls (is_default r.role && is_named limits r.label) (amount_of limits r.label) r.value p)
     (λ r one filled. record { label = one.label; role = one.role; role_read = one.role_read; value = cut-given (is_default r.role && is_named limits r.label) (amount_of limits r.label) r.value one.value; filled = filled }) rs is
+
+-- nothing of a bundle is empty
+filled_all : (rs : List Resource) → All IsResource rs → filled_of rs ≡ rs
+filled_all rs each = all_kept filled rs (list_all-from_AllPass filled rs
+    (All-weaker IsResource (λ r. filled r ≡ true) (λ r is. lt-ltb 0 (amount_in r.value) is.filled) rs each))
+  where
+    filled : Resource → Bool
+    filled r = nat_lt 0 (amount_in r.value)
+
+-- a bundle of which nothing is cut stays
+pub clip-all : (limits : List Entry) (rs : List Resource) → IsBundle rs → map (clipped limits) rs ≡ rs → clip limits rs ≡ rs
+clip-all limits rs is same = ap (λ (left : List Resource). filled_of left) same ∙ filled_all rs is.each
 
 -- ---- moved resources
 

@@ -1,8 +1,8 @@
-use Rattle.std.proofs.Common.{◌≡◌, ◌+◌, ℕ, List, IsTrue, refl, sym, ap, ◌∙◌, subst, arith}
+use Rattle.std.proofs.Common.{◌≡◌, ◌+◌, ℕ, List, IsTrue, OnOk, refl, ap, ◌∙◌, subst, arith}
 use Rattle.drf_bundle.specs.declared.quantities.Entry.{Entry}
 use Rattle.drf_bundle.specs.Quantities.{amount_of, is_in_order, with_amount}
 use Rattle.drf_bundle.specs.laws.QuantitiesLaws.{in_order-with}
-use Rattle.drf_bundle.proofs.PlaceLemmas.{amount_in_gap, amount_here, set_here, added_here}
+use Rattle.drf_bundle.proofs.PlaceLemmas.{amount_here, set_here, sum_in_gap}
 use Rattle.drf_bundle.proofs.quantities.Quantities.add.Goals as goal
 
 pub overflow_add-sum : goal.overflow_add-sum
@@ -26,20 +26,8 @@ invariant_of-self c =
     let written = set_here _ _ _ _ _ total _ _ c.self.view_is c.self.invariant refl sum c.in-Ok.ensures.found c.index_mut-entry.ensures.value in
     rw written (in_order-with c.args.self.now c.args.label.now total ordered)
 
--- the entry is added in the gap
-pub returns-in_ok-insert-in-Err-clause-ok : goal.returns-in_ok-insert-in-Err-clause-ok
-returns-in_ok-insert-in-Err-clause-ok c =
-    let total = amount_of c.args.self.now c.args.label.now + c.args.thousandths in
-    let zero_there : amount_of c.args.self.now c.args.label.now ≡ 0 = amount_in_gap _ _ _ c.in-Err.ensures.absent in
-    let sum : c.new-amount.result ≡ total = omega (arith, zero_there, c.new-amount.ensures) in
-    let named = sym c.in_ok-label-in-Err.ensures in
-    added_here _ _ _ _ _ _ total _ c.self.view_is named sum c.in-Err.ensures.absent c.in_ok-insert-in-Err.ensures.items
-    ∙ ap (λ (l : List ℕ). with_amount c.args.self.now l total) c.in_ok-label-in-Err.ensures
-
-pub invariant_of-self-in-Err : goal.invariant_of-self-in-Err
-invariant_of-self-in-Err c =
-    let ordered = subst (λ (es : List Entry). IsTrue (is_in_order es)) c.self.view_is c.self.invariant in
-    let total = c.new-amount.result in
-    let named = sym c.in_ok-label-in-Err.ensures in
-    let written = added_here _ _ _ _ c.in_ok-label-in-Err.label _ total _ c.self.view_is named refl c.in-Err.ensures.absent c.in_ok-insert-in-Err.ensures.items in
-    rw written (in_order-with c.args.self.now c.in_ok-label-in-Err.label total ordered)
+-- the label was not there
+pub returns-in-Err-clause-ok : goal.returns-in-Err-clause-ok
+returns-in-Err-clause-ok c =
+    subst (λ (n : ℕ). OnOk c.name_at.result (c.name_at.new.self ≡ with_amount c.args.self.now c.args.label.now n))
+    (sum_in_gap _ _ _ c.args.thousandths c.in-Err.ensures.absent) c.name_at.ensures.ok

@@ -1,16 +1,9 @@
 -- Chains of places.
-use Rattle.std.proofs.Common.{Bool, true, false, map, ◌≡◌, ◌≢◌, ◌+◌, ◌<◌, ◌≤◌, ℕ, List, [], ◌∷◌, ◌++◌, length, get_or, set, refl, sym, subst, ap, ◌∙◌, inl, inr, arith, length-append}
+use Rattle.std.proofs.Common.{Bool, true, false, map, ◌≡◌, ◌≢◌, ◌+◌, ◌<◌, ◌≤◌, ℕ, List, [], ◌∷◌, ◌++◌, length, get_or, set, sym, subst, ap, ◌∙◌, inl, inr, arith, length-append}
 use Rattle.std.proofs.lemmas.List.{get_or_append_left, get_or-set_same, get_or-set_other, length-set, get_or-map, get_or_default}
 use Rattle.std.proofs.Math.Seq.{get_or-append_seam}
 use Rattle.std.proofs.lemmas.Bool.{cases_eq, cases_lt, false_from_ne_true}
 use Rattle.drf_gates.specs.Chains.{IsLast, IsChained}
-
-pub last-none : (buckets : List ℕ) (bucket : ℕ) → IsLast buckets bucket 0 0
-last-none buckets bucket = record {
-  within = omega arith;
-  own = λ place is. absurd (omega (arith, is));
-  none_after = λ place after before. absurd (omega (arith, before));
-}
 
 -- what stands behind the end does not matter
 pub last-more : (buckets : List ℕ) (x bucket end last : ℕ) → end ≤ length buckets → IsLast buckets bucket end last → IsLast (buckets ++ x ∷ []) bucket end last
@@ -47,13 +40,6 @@ last-other buckets x bucket last other is =
         | inr past ↦ more.none_after place after (omega (arith, past, before))
       ];
     }
-
-pub chained-none : (heads : List ℕ) → ((bucket : ℕ) → bucket < length heads → get_or heads bucket 0 ≡ 0) → IsChained [] heads []
-chained-none heads empty = record {
-  number = refl;
-  head = λ bucket below. subst (λ (last : ℕ). IsLast [] bucket 0 last) (sym (empty bucket below)) (last-none [] bucket);
-  link = λ place below. absurd (omega (arith, below));
-}
 
 -- one more place in a bucket: its chain begins there, and goes on where it began
 pub chained-more : (buckets heads links : List ℕ) (bucket next : ℕ) → bucket < length heads → next ≡ length buckets + 1 → IsChained buckets heads links

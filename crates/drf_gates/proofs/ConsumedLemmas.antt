@@ -18,7 +18,7 @@ use Rattle.drf_bundle.specs.declared.resource.Resource.{Resource}
 use Rattle.drf_rows.specs.laws.ConsistentLaws.{same_text-swap}
 use Rattle.drf_rows.specs.Quota.{reserves, unreserved_in, reserved_in}
 use Rattle.drf_rows.specs.laws.QuotaLaws.{no_text, parts_le}
-use Rattle.drf_gates.specs.Quota.{Allowance, AreRaised, IsRaised, IsRaisedBy, IsSame, amount_in_one, one_entry, unreserved_one, reserved_one, counted, used_where}
+use Rattle.drf_gates.specs.Quota.{Allowance, IsRaised, IsRaisedBy, IsSame, amount_in_one, unreserved_one, reserved_one, counted, used_where}
 
 -- the element that is read is the first of those that are left
 pub next_of : {A : Type 0} (xs : List A) (i : ℕ) (x : A) → i < length xs → x ≡ get_or xs i x → drop i xs ≡ x ∷ drop (i + 1) xs
@@ -51,11 +51,6 @@ module _ (r : Resource) (label : Text) where
   pub unreserved-here : is_default r.role ≡ true → unreserved_one label r ≡ amount_in_one label r
   unreserved-here default =
       ap (λ b. cond (same_text label r.label && same_text [] (cond b [] (text_of r.role))) amount 0) default ∙ swapped true
-
-  pub reserved-none : (test : Path → Bool) → is_default r.role ≡ true → reserved_one test label r ≡ 0
-  reserved-none test default =
-      ap (λ b. cond (same_text label r.label && (not (same_text (cond b [] (text_of r.role)) []) && test (parts_of (cond b [] (text_of r.role))))) amount 0) default
-      ∙ swapped false
 
   module _ (right : IsResource r) (other : is_default r.role ≡ false) where
     some : same_text (text_of r.role) [] ≡ false
@@ -181,9 +176,6 @@ pub record IsReleased (old mid : Allowance) (all left : (Path → Bool) → Text
   pub limits : mid.limits ≡ old.limits
   pub used : (test : Path → Bool) (label : Text) → used_where test mid.used label + all test label ≡ used_where test old.used label + left test label
 
-pub released_start : (a : Allowance) (all : (Path → Bool) → Text → ℕ) → IsReleased a a all all
-released_start a all = record { limits = refl; used = λ test label. refl }
-
 module _ (old mid : Allowance) (all left one rest : (Path → Bool) → Text → ℕ) (released : IsReleased old mid all left)
     (split : (test : Path → Bool) (label : Text) → left test label ≡ one test label + rest test label) where
   pub released_fits : (test : Path → Bool) (label : Text) → all test label ≤ used_where test old.used label → one test label ≤ used_where test mid.used label
@@ -238,20 +230,6 @@ reserved_parts test label bundle i =
     ap (sum_by of) (sym (take-append-drop i bundle)) ∙ sum_by-append of (take i bundle) (drop i bundle)
 
 -- ---- a role that consumes so much less of one scalar
-
-module _ (old new : Allowance) (role : Path) (name : Text) (amount : ℕ) (more : (Path → Bool) → Text → ℕ) where
-  pub lowered_by : new.limits ≡ old.limits → AreRaised new.used old.used role (one_entry name amount)
-      → ((test : Path → Bool) (label : Text) → counted test role (one_entry name amount) label ≡ more test label)
-      → IsRaisedBy new old more
-  lowered_by limits raised same = record {
-    limits = sym limits;
-    used = λ test label. raised test label ∙ ap (λ n. used_where test new.used label + n) (same test label);
-  }
-
--- or of none
-pub stays_by : (a : Allowance) (more : (Path → Bool) → Text → ℕ) → ((test : Path → Bool) (label : Text) → more test label ≡ 0)
-    → IsRaisedBy a a more
-stays_by a more none = record { limits = refl; used = λ test label. omega (arith, none test label) }
 
 pub nothing_by : (b : Bool) → ◌≡◌ {A = ℕ} (cond b 0 0) 0
 nothing_by true = refl

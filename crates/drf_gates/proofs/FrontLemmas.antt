@@ -118,7 +118,7 @@ none_more : (path : Path) (es : List Usage) → AllByRecursion (λ y. same_path 
 none_more path [] none = refl
 none_more path (e ∷ es) none = λ i. cond (none.0 i) (limit_row e ∷ limits_at path (limit_rows es)) (none_more path es none.1 i)
 
-none_at : (path : Path) (es : List Usage) → lookup (same_path path) es ≡ None → limits_at path (limit_rows es) ≡ []
+pub none_at : (path : Path) (es : List Usage) → lookup (same_path path) es ≡ None → limits_at path (limit_rows es) ≡ []
 none_at path [] none = refl
 none_at path (e ∷ es) none = by (same_path path e.0) none (none_at path es)
   where

@@ -163,11 +163,16 @@ module _ (consumed : Consumed) (role : Path) (label : Text) where
       ∙ (λ i. lesser_of (so_far i) (least_front n ls i))
       ∙ sym (least_both (is_until n) (is_at n) (is_until (n + 1)) (until_one n few) ls)
 
-  pub least_start : (ls : List LimitRow) → None ≡ least_until 0 ls
+  least_start : (ls : List LimitRow) → None ≡ least_until 0 ls
   least_start [] = refl
   least_start (l ∷ ls) =
       let none : nat_lt (length l.role) 0 ≡ false = grind (arith, nat_tests) in
       λ i. lesser_of (cond (sym none i && binds role label l) (Some (room_under consumed label l)) None) (least_start ls i)
+
+  -- where the empty path has no limit, the empty front leaves all
+  pub least_begun : (ls : List LimitRow) → limits_at [] ls ≡ [] → None ≡ least_until 1 ls
+  least_begun ls none =
+      least_next 0 ls None None (omega arith) (least_start ls) (sym (ap (λ (at : List LimitRow). least_at None consumed at label) none))
 
   -- no role has more parts than those that stand in it
   until_end : (n : ℕ) → length role < n → (l : LimitRow) → is_until n l ≡ binds role label l

@@ -111,6 +111,12 @@ module _ (test : LimitRow → Bool) (role : Path) (label : Text) where
           ap (λ (b : Bool). b && all_pass ls) (sym one.1) ∙ pass_both l ls one.0
       by false passes past is rest more = fails_more l ls (more rest)
 
+  -- where the empty path has no limit, the empty front passes it
+  pub none_passes : (ls : List LimitRow) → limits_at [] ls ≡ [] → (n : ℕ) → n < 1 → front_passes test role label n ls ≡ true
+  none_passes ls none n few =
+      let zero : n ≡ 0 = omega (arith, few) in
+      ap (λ (m : ℕ). front_passes test role label m ls) zero ∙ ap (λ (at : List LimitRow). list_all (passes_one test label) at) none
+
 -- ---- what limits leave at least
 
 module _ (consumed : Consumed) (role : Path) (label : Text) (least : ℕ) where

@@ -2,7 +2,7 @@
 use Rattle.std.specs.Prelude.{◌≡◌, ℕ, ◌+◌, ◌≤◌, not, Bool, true, false, ◌||◌, List, [], ◌∷◌, ◌++◌, filter, length, Option, Some, None, Result, Ok, Err, OnOk, OnErr}
 use Rattle.std.specs.List.{AllByRecursion, IsDistinct}
 use Rattle.std.specs.Map.{keys_of, lookup, remove_entry}
-use Rattle.std.proofs.Common.{refl, sym, ap, subst, ◌∙◌, cond, arith, append_assoc, length-append}
+use Rattle.std.proofs.Common.{refl, sym, ap, subst, ◌∙◌, ⊎_elim, cond, arith, append_assoc, length-append}
 use Rattle.std.proofs.Math.Bool.{or-false}
 use Rattle.std.proofs.lemmas.List.{nil_from_length}
 use Rattle.std.proofs.lemmas.List.Folds.{list_any-append}
@@ -11,11 +11,13 @@ use Rattle.std.proofs.lemmas.Map.Made.{IsDistinct-keys_filter}
 use Rattle.indexmap.specs.IndexMap.{insert_entry}
 use Rattle.drf_role.specs.Path.{Path, same_path}
 use Rattle.drf_role.specs.PathLaws.{same_path-true}
+use Rattle.drf_role.specs.Role.{IsRole, IsRolePath}
 use Rattle.drf_bundle.specs.declared.quantities.Entry.{Entry}
 use Rattle.drf_rows.specs.declared.rows.LimitRow.{LimitRow}
 use Rattle.drf_gates.specs.Front.{limits_at}
 use Rattle.drf_gates.specs.Limits.{Limit, IsTable, is_gone, not_gone}
 use Rattle.drf_gates.specs.Quota.{limit_row, limit_rows}
+use Rattle.drf_gates.proofs.FrontLemmas.{none_at}
 use Rattle.drf_gates.proofs.QuotaLemmas.{limit_to_come}
 
 pub none_gone : (es : List Limit) → not_gone [] es ≡ es
@@ -28,7 +30,7 @@ nobody_gone (r ∷ rs) role none = absurd (omega (arith, none))
 
 -- ---- what is found
 
-pub found_left : (gone : List Path) (role : Path) (es : List Limit)
+found_left : (gone : List Path) (role : Path) (es : List Limit)
     → lookup (same_path role) (not_gone gone es) ≡ cond (is_gone gone role) None (lookup (same_path role) es)
 found_left gone role [] = by (is_gone gone role)
   where
@@ -110,14 +112,6 @@ module _ (gone : List Path) (path : Path) (es : List Limit) where
 
 -- ---- what is copied
 
-pub row_more : (gone : List Path) (e : Limit) (es : List Limit)
-    → limit_rows (not_gone gone (e ∷ [])) ++ limit_rows (not_gone gone es) ≡ limit_rows (not_gone gone (e ∷ es))
-row_more gone e es = by (is_gone gone e.0)
-  where
-    by : (g : Bool) → limit_rows (cond (not g) (e ∷ []) []) ++ limit_rows (not_gone gone es) ≡ limit_rows (cond (not g) (e ∷ not_gone gone es) (not_gone gone es))
-    by true = refl
-    by false = refl
-
 pub copied_more : (gone : List Path) (role : Path) (limit : List Entry) (rest copy whole : List Limit) → IsDistinct same_path (keys_of whole)
     → copy ++ not_gone gone ((role, limit) ∷ rest) ≡ not_gone gone whole
     → cond (is_gone gone role) copy (insert_entry same_path copy role limit) ++ not_gone gone rest ≡ not_gone gone whole
@@ -153,7 +147,7 @@ absent_stay gone role (e ∷ es) none =
     λ i. cond (not (same i)) (e ∷ rest i) (rest i)
 
 -- of all roles that have a limit the one that goes is one
-pub one_gone : (gone : List Path) (role : Path) (es : List Limit) → IsDistinct same_path (keys_of es)
+one_gone : (gone : List Path) (role : Path) (es : List Limit) → IsDistinct same_path (keys_of es)
     → not_gone (gone ++ role ∷ []) es ≡ remove_entry (same_path role) (not_gone gone es)
 one_gone gone role [] apart = refl
 one_gone gone role (e ∷ es) apart =
@@ -177,7 +171,7 @@ one_gone gone role (e ∷ es) apart =
     by false false is more =
         ap (λ (l : List Limit). e ∷ l) more ∙ sym (λ i. cond (is i) before (e ∷ remove_entry (same_path role) before))
 
-pub one_less : (role : Path) (limit : List Entry) (es : List Limit) → lookup (same_path role) es ≡ Some limit
+one_less : (role : Path) (limit : List Entry) (es : List Limit) → lookup (same_path role) es ≡ Some limit
     → length (remove_entry (same_path role) es) + 1 ≡ length es
 one_less role limit [] found = cc
 one_less role limit (e ∷ es) found = by (same_path role e.0) found (one_less role limit es)
@@ -198,7 +192,7 @@ none_removed role (e ∷ es) none = by (same_path role e.0) none (none_removed r
     by true some more = cc
     by false rest more = ap (λ (l : List Limit). e ∷ l) (more rest)
 
-pub at_most_one_more : (es : List Limit) (role : Path) (limit : List Entry) → length (insert_entry same_path es role limit) ≤ length es + 1
+at_most_one_more : (es : List Limit) (role : Path) (limit : List Entry) → length (insert_entry same_path es role limit) ≤ length es + 1
 at_most_one_more [] role limit = omega arith
 at_most_one_more (e ∷ es) role limit = by (same_path role e.0) (at_most_one_more es role limit)
   where
@@ -216,6 +210,42 @@ fewer_left role (e ∷ es) = by (same_path role e.0) (fewer_left role es)
     by true rest = omega arith
     by false rest = omega (arith, rest)
 
+-- ---- the empty path, which is no role
+
+not_empty : (role : Path) → IsRole role → same_path [] role ≡ false
+not_empty [] right = absurd (⊎_elim (λ e. cc) (λ (p : IsRolePath []). omega (arith, p.some)) right)
+not_empty (p ∷ ps) right = refl
+
+nobody_put : (role : Path) (limit : List Entry) (es : List Limit) → IsRole role → lookup (same_path []) es ≡ None
+    → lookup (same_path []) (insert_entry same_path es role limit) ≡ None
+nobody_put role limit [] right none = λ i. cond (not_empty role right i) (Some limit) None
+nobody_put role limit (e ∷ es) right none = by (same_path [] e.0) refl (same_path role e.0) none (nobody_put role limit es right)
+  where
+    by : (b : Bool) → same_path [] e.0 ≡ b → (s : Bool)
+        → ◌≡◌ {A = Option (List Entry)} (cond b (Some e.1) (lookup (same_path []) es)) None
+        → (lookup (same_path []) es ≡ None → lookup (same_path []) (insert_entry same_path es role limit) ≡ None)
+        → lookup (same_path []) (cond s ((e.0, limit) ∷ es) (e ∷ insert_entry same_path es role limit)) ≡ None
+    by true is s some more = cc
+    by false is true rest more = (λ i. cond (is i) (Some limit) (lookup (same_path []) es)) ∙ rest
+    by false is false rest more = (λ i. cond (is i) (Some e.1) (lookup (same_path []) (insert_entry same_path es role limit))) ∙ more rest
+
+pub nobody_left : (role : Path) (es : List Limit) → lookup (same_path []) es ≡ None → lookup (same_path []) (remove_entry (same_path role) es) ≡ None
+nobody_left role [] none = refl
+nobody_left role (e ∷ es) none = by (same_path [] e.0) refl (same_path role e.0) none (nobody_left role es)
+  where
+    by : (b : Bool) → same_path [] e.0 ≡ b → (s : Bool)
+        → ◌≡◌ {A = Option (List Entry)} (cond b (Some e.1) (lookup (same_path []) es)) None
+        → (lookup (same_path []) es ≡ None → lookup (same_path []) (remove_entry (same_path role) es) ≡ None)
+        → lookup (same_path []) (cond s es (e ∷ remove_entry (same_path role) es)) ≡ None
+    by true is s some more = cc
+    by false is true rest more = rest
+    by false is false rest more = (λ i. cond (is i) (Some e.1) (lookup (same_path []) (remove_entry (same_path role) es))) ∙ more rest
+
+-- so none of those that are not gone is its limit
+pub nobody_now : (gone : List Path) (es now : List Limit) → not_gone gone es ≡ now → lookup (same_path []) es ≡ None
+    → limits_at [] (limit_rows now) ≡ []
+nobody_now gone es now its none = none_at [] now (sym (not_found gone [] es now its (sym none)))
+
 -- ---- what holds of a table
 
 none_left_out : (gone : List Path) (es : List Limit) → gone ≡ [] → not_gone gone es ≡ es
@@ -225,11 +255,12 @@ pub all_there : (gone : List Path) (es : List Limit) → length gone ≡ 0 → e
 all_there gone es none = sym (none_left_out gone es (nil_from_length gone none))
 
 pub table_of_all : (es nothing : List Limit) (gone : List Path) (most : ℕ) → nothing ≡ [] → gone ≡ [] → length es ≤ most
-    → IsTable es nothing gone most
-table_of_all es nothing gone most none all room = record {
+    → lookup (same_path []) es ≡ None → IsTable es nothing gone most
+table_of_all es nothing gone most none all room nobody = record {
   none = none;
   each = omega (arith, ap (λ (g : List Path). length g) all, ap (λ (l : List Limit). length l) (none_left_out gone es all));
   room = room;
+  nobody = nobody;
 }
 
 pub taken_out : (role : Path) (gone : List Path) (old now new : List Limit) → gone ≡ [] → not_gone gone old ≡ now
@@ -243,6 +274,11 @@ module _ {T E : Type 0} (role : Path) (limit : List Entry) (old new : List Limit
   pub put_size : (r : Result T E) → OnOk r (new ≡ insert_entry same_path old role limit) → OnErr r (new ≡ old) → length new ≤ length old + 1
   put_size (Ok x) put err = omega (arith, ap (λ (es : List Limit). length es) put, at_most_one_more old role limit)
   put_size (Err e) ok same = omega (arith, ap (λ (es : List Limit). length es) same)
+
+  pub put_nobody : (r : Result T E) → OnOk r (new ≡ insert_entry same_path old role limit) → OnErr r (new ≡ old) → IsRole role
+      → lookup (same_path []) old ≡ None → lookup (same_path []) new ≡ None
+  put_nobody (Ok x) put err right none = ap (λ (es : List Limit). lookup (same_path []) es) put ∙ nobody_put role limit old right none
+  put_nobody (Err e) ok same right none = ap (λ (es : List Limit). lookup (same_path []) es) same ∙ none
 
   module _ (gone : List Path) (now : List Limit) (none : gone ≡ []) (is : old ≡ now) where
     pub put_done : (r : Result T E) → OnOk r (new ≡ insert_entry same_path old role limit)
@@ -275,6 +311,7 @@ module _ (es nothing : List Limit) (gone : List Path) (most : ℕ) (is : IsTable
         ap (λ (l : List Limit). length l) same,
       );
       room = omega (arith, is.room, as_much, ap (λ (l : List Limit). length l) same);
+      nobody = ap (λ (l : List Limit). lookup (same_path []) l) same ∙ is.nobody;
     }
 
     pub gone_now : (now : List Limit) → not_gone gone es ≡ now → not_gone left after ≡ remove_entry (same_path role) now

@@ -12,7 +12,7 @@ use Rattle.drf_role.specs.Text.{Text}
 use Rattle.drf_role.specs.Path.{Path, same_path}
 use Rattle.drf_role.specs.PathLaws.{same_path-swap}
 use Rattle.drf_bundle.specs.declared.quantities.Entry.{Entry}
-use Rattle.drf_rows.specs.Quota.{Consumed, is_within, binds, room_under, headroom_under, headrooms, limit_of, limits_put, limits_without, limits_with, consumption, headroom_at, headroom, admits_under, admits}
+use Rattle.drf_rows.specs.Quota.{Consumed, is_within, binds, room_under, headroom_under, headrooms, limit_of, limits_put, limits_without, limits_with, headroom_at, headroom, admits_under, admits}
 use Rattle.drf_rows.specs.declared.rows.LimitRow.{LimitRow}
 use Rattle.drf_rows.specs.declared.rows.Rows.{Rows}
 use Rattle.drf_gates.specs.Quota.{Allowance, IsAllowanceOf, limit_row, limit_rows, used_at}
@@ -53,14 +53,6 @@ pub limits_with-none : (limits : List LimitRow) (role : Path) (limit : List Entr
     → limits_without limits role ≡ limits_with limits role limit
 limits_with-none limits role [] none = refl
 limits_with-none limits role (e ∷ es) none = absurd (omega (arith, none))
-
-pub some_rows : (es : List (Path × List Entry)) → limit_rows es ≢ [] → length es ≢ 0
-some_rows [] some = λ e. some refl
-some_rows (e ∷ es) some = λ zero. omega (arith, zero)
-
-pub no_rows : (es : List (Path × List Entry)) → length es ≡ 0 → limit_rows es ≡ []
-no_rows [] none = refl
-no_rows (e ∷ es) none = absurd (omega (arith, none))
 
 -- no role has two limits, so one that is still to come is new
 role_apart : (role : Path) (e : Path × List Entry) (es : List (Path × List Entry)) (limit : List Entry) (rest : List (Path × List Entry))
@@ -115,9 +107,6 @@ module _ (consumed : Consumed) (role : Path) (label : Text) (least : ℕ) where
 -- ---- the rows' words
 
 module _ (rows : Rows) (a : Allowance) (its : IsAllowanceOf rows a) (role : Path) where
-  pub consumption-its : (label : Text) → used_at a.used role label ≡ consumption rows role label
-  consumption-its label = its.used (is_within role) label
-
   pub headroom_at-its : (label : Text) → headroom_under a.limits (used_at a.used) role label ≡ headroom_at rows role label
   headroom_at-its label = λ i. headroom_under (its.limits i) (λ r l. its.used (is_within r) l i) role label
 

@@ -1,8 +1,8 @@
 -- What is kept of the roles that have a limit, through each change of what roles consume.
-use Rattle.std.specs.Prelude.{◌≡◌, ℕ, ◌+◌, ◌<◌, Bool, true, false, List, [], ◌∷◌, IsTrue, length, drop, Some, Result, Ok, Err, OnOk, is_ok}
+use Rattle.std.specs.Prelude.{◌≡◌, ℕ, ◌+◌, ◌<◌, Bool, true, false, List, [], ◌∷◌, IsTrue, length, drop, Some}
 use Rattle.std.specs.Map.{lookup}
 use Rattle.std.proofs.Common.{refl, sym, ap, subst, ◌∙◌, inl, inr, cond, arith, get_or, set}
-use Rattle.std.proofs.lemmas.Bool.{and_parts, cases_Bool, false≢true}
+use Rattle.std.proofs.lemmas.Bool.{and_parts, cases_Bool}
 use Rattle.std.proofs.lemmas.List.Elements.{All-head, All-tail, All-weaker}
 use Rattle.drf_role.specs.Text.{Text, same_text}
 use Rattle.drf_role.specs.TextLaws.{cases_same, same_from_test}
@@ -67,20 +67,19 @@ module _ (small large whole es : List Entry) (i : ℕ) (e : Entry) (in_range : i
   }
 
 -- the amount of an entry's label grows by the entry
-pub entry_added : {T E : Type 0} (result : Result T E) (done : Bool) (sum new : List Entry) (e : Entry) (name : Text) (amount : ℕ)
-    → OnOk result (new ≡ with_amount sum name amount) → done ≡ is_ok result → name ≡ e.label → amount ≡ amount_of sum e.label + e.amount
-    → IsTrue done → (label : Text) → amount_of new label ≡ amount_of sum label + amount_of (one_entry e.label e.amount) label
-entry_added (Ok x) done sum new e name amount set is same more holds = λ label.
+pub entry_added : (sum new : List Entry) (e : Entry) (amount : ℕ) → amount ≡ e.amount
+    → new ≡ with_amount sum e.label (amount_of sum e.label + amount)
+    → (label : Text) → amount_of new label ≡ amount_of sum label + amount_of (one_entry e.label e.amount) label
+entry_added sum new e amount more set label =
     ap (λ (es : List Entry). amount_of es label) set
-    ∙ (λ i. amount_of (with_amount sum (same i) (more i)) label)
+    ∙ ap (λ (n : ℕ). amount_of (with_amount sum e.label (amount_of sum e.label + n)) label) more
     ∙ amount-with sum e.label (amount_of sum e.label + e.amount) label
-    ∙ by label (same_text e.label label) refl
+    ∙ by (same_text e.label label) refl
   where
-    by : (label : Text) (b : Bool) → same_text e.label label ≡ b
+    by : (b : Bool) → same_text e.label label ≡ b
         → cond b (amount_of sum e.label + e.amount) (amount_of sum label) ≡ amount_of sum label + cond b e.amount 0
-    by label true here = ap (λ (n : Text). amount_of sum n + e.amount) (same_from_test e.label label here)
-    by label false past = omega arith
-entry_added (Err x) done sum new e name amount set is same more holds = absurd (false≢true (sym is ∙ holds))
+    by true here = ap (λ (n : Text). amount_of sum n + e.amount) (same_from_test e.label label here)
+    by false past = omega arith
 
 -- ---- totals of one usage, and of another
 

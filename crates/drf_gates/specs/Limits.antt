@@ -1,7 +1,8 @@
 -- The limits of a table: those that its copies share, but for those that are gone.
-use Rattle.std.specs.Prelude.{◌≡◌, ℕ, ◌+◌, ◌≤◌, Bool, not, List, [], filter, length, Option}
+use Rattle.std.specs.Prelude.{◌≡◌, ℕ, ◌+◌, ◌≤◌, Bool, not, List, [], filter, length, Option, None}
 use Rattle.std.specs.Arc.{arc_value}
 use Rattle.std.specs.List.{list_any}
+use Rattle.std.specs.Map.{lookup}
 use Rattle.std.specs.Option.{option_map_or}
 use Rattle.std.specs.declared.sync.Arc.{Arc}
 use Rattle.indexmap.specs.IndexMap.{IndexMap}
@@ -23,8 +24,10 @@ is_gone gone role = list_any (λ r. same_path r role) gone
 abbrev pub not_gone : List Path → List Limit → List Limit
 not_gone gone limits = filter (λ e. not (is_gone gone e.0)) limits
 
--- each role that is gone has a limit among those that are shared, and there is room for the others to go
+-- each role that is gone has a limit among those that are shared, there is room for the others to go, and the empty path, which is
+-- no role, has no limit
 pub record IsTable (shared nothing : List Limit) (gone : List Path) (most : ℕ) : Type 0 where
   pub none : nothing ≡ []
   pub each : length gone + length (not_gone gone shared) ≡ length shared
   pub room : length shared ≤ most
+  pub nobody : lookup (same_path []) shared ≡ None

@@ -272,6 +272,13 @@ impl LimitTable {
         })
     }
 
+    /// Tells a proof that the empty path, which is no role, has no limit. It does nothing.
+    pub(crate) fn recall(&self)
+        ensures { limits_at [] (limit_rows self.now) ≡ [] }
+    {
+        let _ = lent(&self.shared, &self.nothing);
+    }
+
     pub(crate) fn len(&self) -> usize
         ensures { result ≡ length self.now }
     {
@@ -335,6 +342,7 @@ impl LimitTable {
         ensures ok { OnOk result (self.new ≡ insert_entry same_path self.old role limit) }
         ensures err { OnErr result (self.new ≡ self.old) }
     {
+        role.recall();
         let room = lent(&self.shared, &self.nothing).len() + 1;
         self.gone.reserve(room)?;
         own(&mut self.shared, &self.nothing, &mut self.gone)?;

@@ -1,12 +1,12 @@
 //! Quota limits, and what roles consume (Mesos: quota limits).
-ghost use Rattle.std.specs.Prelude.{◌≡◌, ◌≢◌, ℕ, ◌+◌, ◌^◌, ◌<◌, ◌≤◌, [], ◌↔◌, true, nat_le, IsTrue, filter, length, take, None, false, OnOk, OnErr, IfOk, IfSome, IsOk};
+ghost use Rattle.std.specs.Prelude.{◌≡◌, ◌≢◌, ℕ, ◌+◌, ◌-◌, ◌^◌, ◌<◌, ◌≤◌, [], ◌↔◌, true, nat_le, IsTrue, filter, length, take, None, false, OnOk, OnErr, IfOk, IfSome, IsOk};
 ghost use Rattle.std.specs.List.{list_all};
 ghost use Rattle.std.specs.Option.{option_copied, option_map_or};
 ghost use Rattle.drf_role.specs.Text.{Text};
 ghost use Rattle.drf_role.specs.Path.{Path, same_path};
 ghost use Rattle.drf_role.specs.Role.{IsRole};
 ghost use Rattle.drf_bundle.specs.Quantities.{amount_of, known_amount};
-ghost use Rattle.drf_rows.specs.Quota.{is_within, binds, room_under, headroom_under, headrooms, stays_within, admits_under, limit_of, limits_with, consumption, headroom_at, headroom, admits};
+ghost use Rattle.drf_rows.specs.Quota.{is_within, binds, headroom_under, headrooms, stays_within, admits_under, limit_of, limits_with, consumption, headroom_at, headroom, admits};
 ghost use Rattle.drf_rows.specs.declared.rows.Rows.{Rows};
 ghost use Rattle.indexmap.specs.IndexMap.{insert_entry};
 ghost use Rattle.drf_gates.specs.Front.{IsFirstShort, front_leaves, front_passes, least_at, limits_at};
@@ -127,6 +127,13 @@ impl Quota {
         Ok(())
     }
 
+    /// Tells a proof that the empty path, which is no role, has no limit. It does nothing.
+    fn recall(&self)
+        ensures { limits_at [] self.now.limits ≡ [] }
+    {
+        self.limits.recall();
+    }
+
     /// What a role consumes of a scalar together with the roles below it, in thousandths.
     pub fn consumption(&self, role: &Role, label: &str) -> u64
         ensures value { result ≡ used_at self.now.used role.now label.now }
@@ -154,10 +161,10 @@ impl Quota {
         ensures value { result ≡ headroom_under self.now.limits (used_at self.now.used) role.now label.now }
         ensures of_rows { (rows : Rows) → IsAllowanceOf rows self.now → result ≡ headroom_at rows role.now label.now }
     {
+        self.recall();
         let mut least = None;
-        // The empty front is looked up too: that no limit has it, only the look-up tells.
         let fronts = role.len() + 1;
-        for len in 0..fronts {
+        for len in 1..fronts {
             least = self.front_room(role, len, label, least);
         }
         least
@@ -171,18 +178,17 @@ impl Quota {
         let Some((place, limited, limit)) = self.limits.above(role, len) else {
             return known;
         };
-        if !limit.is_named(label) {
+        let Some(most) = limit.known_amount(label) else {
             return known;
-        }
-        Some(lesser(known, self.room(place, limited, limit, label)))
+        };
+        Some(lesser(known, self.room(place, limited, label, most)))
     }
 
-    /// What a limit leaves of a scalar, in thousandths.
-    fn room(&self, place: usize, limited: &Role, limit: &Quantities, label: &str) -> u64
-        ensures { result ≡ room_under (used_at self.now.used) label.now (limit_row (limited.now, limit.now)) }
+    /// What a limit of so much of a scalar leaves of it, in thousandths.
+    fn room(&self, place: usize, limited: &Role, label: &str, most: u64) -> u64
+        ensures { result ≡ most - used_at self.now.used limited.now label.now }
     {
-        let used = self.consumption_at(place, limited, label);
-        limit.get(label).saturating_sub(used)
+        most.saturating_sub(self.consumption_at(place, limited, label))
     }
 
     /// The number of parts of the first role, from the top down to this one, whose limit leaves less of a scalar than so much, if there
@@ -197,9 +203,9 @@ impl Quota {
         ensures enough { result ≡ None → (rows : Rows) → IsAllowanceOf rows self.now
             → option_map_or (nat_le least) (headroom_at rows role.now label.now) true ≡ true }
     {
-        // The empty front is looked up too: that no limit has it, only the look-up tells.
+        self.recall();
         let fronts = role.len() + 1;
-        for len in 0..fronts {
+        for len in 1..fronts {
             if !self.front_leaves(role, len, label, least) {
                 return Some(len);
             }
@@ -215,7 +221,10 @@ impl Quota {
         let Some((place, limited, limit)) = self.limits.above(role, len) else {
             return true;
         };
-        !limit.is_named(label) || least <= self.room(place, limited, limit, label)
+        match limit.known_amount(label) {
+            Some(most) => least <= self.room(place, limited, label, most),
+            None => true,
+        }
     }
 
     /// What the limit of a role leaves of each scalar that it names, put among what others leave. The lesser is kept.
@@ -256,23 +265,21 @@ impl Quota {
         ensures value { IfOk result (λ room. room ≡ headrooms self.now.limits (used_at self.now.used) role.now) }
         ensures of_rows { IfOk result (λ room. (rows : Rows) → IsAllowanceOf rows self.now → room ≡ headroom rows role.now) }
     {
+        self.recall();
         let mut room = Quantities::empty(*self.used.allocator());
-        // The empty front is looked up too: that no limit has it, only the look-up tells.
         let fronts = role.len() + 1;
-        for len in 0..fronts {
+        for len in 1..fronts {
             self.add_front(role, len, &mut room)?;
         }
         room.recall();
         Ok(room)
     }
 
-    /// Whether the limit of a role, at that place, leaves room for so much more.
-    fn stays_within(&self, place: usize, limited: &Role, limit: &Quantities, more: &Entry) -> bool
-        ensures { result ≡ stays_within (used_at self.now.used) more.now (limit_row (limited.now, limit.now)) }
+    /// Whether a limit of so much of a scalar, which stands at that place, leaves room for so much more of it.
+    fn stays_within(&self, place: usize, limited: &Role, more: &Entry, most: u64) -> bool
+        ensures { result ≡ nat_le (used_at self.now.used limited.now more.now.label + more.now.amount) most }
     {
-        let label = more.label.text();
-        let used = self.consumption_at(place, limited, label);
-        let most = limit.get(label);
+        let used = self.consumption_at(place, limited, more.label.text());
         used <= most && more.amount.thousandths() <= most - used
     }
 
@@ -284,7 +291,10 @@ impl Quota {
         let Some((place, limited, limit)) = self.limits.above(role, len) else {
             return true;
         };
-        !limit.is_named(more.label.text()) || self.stays_within(place, limited, limit, more)
+        match limit.known_amount(more.label.text()) {
+            Some(most) => self.stays_within(place, limited, more, most),
+            None => true,
+        }
     }
 
     /// Whether a role may consume so much more of a scalar.
@@ -292,9 +302,9 @@ impl Quota {
         ensures { result
             ≡ list_all (stays_within (used_at self.now.used) more.now) (filter (binds role.now more.now.label) self.now.limits) }
     {
-        // The empty front is looked up too: that no limit has it, only the look-up tells.
+        self.recall();
         let fronts = role.len() + 1;
-        for len in 0..fronts {
+        for len in 1..fronts {
             if !self.front_admits(role, len, more) {
                 return false;
             }

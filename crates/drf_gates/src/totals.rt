@@ -36,15 +36,12 @@ fn add_entry(sum: &mut Quantities, more: &Entry) -> bool
     ensures { IsTrue result → (label : Text)
         → amount_of sum.new label ≡ amount_of sum.old label + amount_of (one_entry more.now.label more.now.amount) label }
 {
-    let had = sum.amount_of(&more.label);
-    let Some(amount) = had.checked_add(more.amount.thousandths()) else {
-        return false;
-    };
-    let Ok(label) = more.label.copy() else {
-        return false;
-    };
-    make_room(sum, label.text());
-    sum.set(label, amount).is_ok()
+    let thousandths = more.amount.thousandths();
+    if sum.add_to_named(&more.label, thousandths) {
+        return true;
+    }
+    make_room(sum, more.label.text());
+    sum.add_to(&more.label, thousandths)
 }
 
 /// Adds amounts, label by label. Whether it could be done.
@@ -72,11 +69,7 @@ fn take_entry(sum: &mut Quantities, label: &Label, thousandths: u64) -> bool
     ensures { IsTrue result → (other : Text)
         → amount_of sum.new other + amount_of (one_entry label.now thousandths) other ≡ amount_of sum.old other }
 {
-    if sum.amount_of(label) < thousandths {
-        return false;
-    }
-    sum.reduce(label, thousandths);
-    true
+    sum.take_from(label, thousandths)
 }
 
 /// Takes amounts away, label by label. Whether it could be done. It needs no memory.
@@ -170,6 +163,7 @@ fn reduce_front(
 pub(crate) fn raise_totals(totals: &mut IndexMap<Role, Total>, role: &Role, amounts: &Quantities)
     ensures { (old new : List Usage) → AreRaised old new role.now amounts.now → AreExact old totals.old.entries → AreExact new totals.new.entries }
 {
+    // The empty front, whose total nobody keeps, is looked up too: so no clause needs to say that nobody does.
     let fronts = role.len() + 1;
     for len in 0..fronts {
         raise_front(totals, role, len, amounts);

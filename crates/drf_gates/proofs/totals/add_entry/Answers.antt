@@ -1,19 +1,19 @@
-use Rattle.std.proofs.Common.{◌+◌, ap, ◌∙◌, arith}
+use Rattle.std.proofs.Common.{◌+◌, ap, ◌∙◌, List}
 use Rattle.drf_bundle.specs.Quantities.{amount_of}
+use Rattle.drf_bundle.specs.declared.quantities.Entry.{Entry}
 use Rattle.drf_gates.specs.Quota.{one_entry}
 use Rattle.drf_gates.proofs.TotalLemmas.{entry_added}
 use Rattle.drf_gates.proofs.totals.add_entry.Goals as goal
 
+-- the label was named
+pub returns-then-add_to_named : goal.returns-then-add_to_named
+returns-then-add_to_named c done label =
+    entry_added c.args.sum.now c.add_to_named.new.self c.args.more.now c.thousandths-thousandths.result c.thousandths-thousandths.ensures
+    (c.add_to_named.ensures.ok c.if-add_to_named.true) label
+
+-- nothing changed before there was room for it
 pub returns : goal.returns
-returns c = λ holds label.
-    entry_added c.set.result c.is_ok.result c.make_room.new.sum c.set.new.self c.args.more.now c.in-Ok.label c.in-Some.amount
-    c.set.ensures.ok c.is_ok.ensures.value c.in-Ok.ensures
-    (omega (
-      arith,
-      c.in-Some.ensures,
-      c.amount_of-had.ensures,
-      c.thousandths.ensures,
-      c.make_room.ensures c.args.more.now.label,
-    ))
-    holds label
-    ∙ ap (λ n. n + amount_of (one_entry c.args.more.now.label c.args.more.now.amount) label) (c.make_room.ensures label)
+returns c done label =
+    entry_added c.make_room.new.sum c.add_to.new.self c.args.more.now c.thousandths-thousandths.result c.thousandths-thousandths.ensures (c.add_to.ensures.ok done) label
+    ∙ ap (λ n. n + amount_of (one_entry c.args.more.now.label c.args.more.now.amount) label)
+    (c.make_room.ensures label ∙ ap (λ (es : List Entry). amount_of es label) (c.add_to_named.ensures.not c.if-add_to_named.false))

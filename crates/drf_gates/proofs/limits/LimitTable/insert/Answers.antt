@@ -1,7 +1,7 @@
-use Rattle.std.proofs.Common.{List, length, ap, ◌∙◌, arith}
+use Rattle.std.proofs.Common.{List, [], length, sym, ap, ◌∙◌, arith}
 use Rattle.drf_role.specs.Path.{Path}
 use Rattle.drf_gates.specs.Limits.{Limit, not_gone, shared_limits}
-use Rattle.drf_gates.proofs.LimitLemmas.{put_done, put_not, put_size, table_of_all}
+use Rattle.drf_gates.proofs.LimitLemmas.{not_found, put_done, put_nobody, put_not, put_size, table_of_all}
 use Rattle.drf_gates.proofs.limits.LimitTable.insert.Goals as goal
 
 pub invariant_of-self-2 : goal.invariant_of-self-2
@@ -21,6 +21,9 @@ invariant_of-self-2 c =
       c.in_ok-reserve.ensures.ok,
       c.in_ok-own.ensures.room,
     ))
+    (put_nobody c.args.role c.args.limit own new c.put_alone.result c.put_alone.ensures.ok c.put_alone.ensures.err c.recall.ensures.right
+    (sym (not_found c.self.inside.gone.items [] old own
+    (sym (c.in_ok-own.ensures.ok ∙ ap (λ (g : List Path). not_gone g old) c.in_ok-reserve.ensures.items)) (sym c.self.invariant.nobody))))
 
 pub returns-clause-ok : goal.returns-clause-ok
 returns-clause-ok c =

@@ -1,10 +1,10 @@
-use Rattle.std.proofs.Common.{◌≡◌, List, Some, length, subst, sym, ap, ◌∙◌, arith}
+use Rattle.std.proofs.Common.{◌≡◌, List, [], Some, length, subst, sym, ap, ◌∙◌, arith}
 use Rattle.std.specs.List.{IsDistinct}
 use Rattle.std.specs.Map.{keys_of, lookup}
 use Rattle.drf_role.specs.Path.{Path, same_path}
 use Rattle.drf_bundle.specs.declared.quantities.Entry.{Entry}
 use Rattle.drf_gates.specs.Limits.{Limit, not_gone, shared_limits}
-use Rattle.drf_gates.proofs.LimitLemmas.{fewer_left, gone_now, none_removed, table_less, table_of_all, taken_out}
+use Rattle.drf_gates.proofs.LimitLemmas.{fewer_left, gone_now, nobody_left, none_removed, table_less, table_of_all, taken_out}
 use Rattle.drf_gates.proofs.limits.LimitTable.remove.Goals as goal
 
 pub returns-in_default : goal.returns-in_default
@@ -20,6 +20,8 @@ invariant_of-self c =
       fewer_left c.args.role es,
       c.self.invariant.room,
     ))
+    (ap (λ (l : List Limit). lookup (same_path []) l) (c.take_alone.ensures.alone c.if-take_alone.true)
+    ∙ nobody_left c.args.role es c.self.invariant.nobody)
 
 pub returns-then-take_alone : goal.returns-then-take_alone
 returns-then-take_alone c =

@@ -5,13 +5,14 @@ use Rattle.drf_bundle.specs.Quantities.{known_amount}
 use Rattle.drf_gates.specs.Quota.{Allowance, used_at}
 use Rattle.drf_gates.proofs.QuotaLemmas.{headroom-its}
 use Rattle.drf_gates.proofs.RoomLemmas.{headrooms_are}
-use Rattle.drf_gates.proofs.LeastLemmas.{least_start, least_next, least_end}
+use Rattle.drf_gates.proofs.LeastLemmas.{least_begun, least_next, least_end}
 use Rattle.drf_gates.proofs.quota.Quota.headroom.Goals as goal
 
 pub loop-len-init : goal.loop-len-init
 loop-len-init c = λ label.
     ap (λ (es : List Entry). known_amount es label) c.empty-room.ensures
-    ∙ least_start (used_at c.args.self.now.used) c.args.role.now label c.args.self.now.limits
+    ∙ least_begun (used_at c.args.self.now.used) c.args.role.now label c.args.self.now.limits
+    c.recall.ensures
 
 pub loop-len-preserved : goal.loop-len-preserved
 loop-len-preserved c =
@@ -24,7 +25,7 @@ loop-len-preserved c =
 pub returns-clause-value : goal.returns-clause-value
 returns-clause-value c =
     let a : Allowance = c.args.self.now in
-    headrooms_are (used_at a.used) c.args.role.now a.limits c.loop-len.room c.recall.ensures (λ label.
+    headrooms_are (used_at a.used) c.args.role.now a.limits c.loop-len.room c.recall-2.ensures (λ label.
     c.loop-len.invariant label
     ∙ least_end (used_at a.used) c.args.role.now label c.loop-len.len a.limits (omega (arith, c.len-fronts.ensures.len)))
 
@@ -32,7 +33,7 @@ pub returns-clause-of_rows : goal.returns-clause-of_rows
 returns-clause-of_rows c =
     let a : Allowance = c.args.self.now in
     let value : c.loop-len.room ≡ headrooms a.limits (used_at a.used) c.args.role.now =
-    headrooms_are (used_at a.used) c.args.role.now a.limits c.loop-len.room c.recall.ensures (λ label.
+    headrooms_are (used_at a.used) c.args.role.now a.limits c.loop-len.room c.recall-2.ensures (λ label.
     c.loop-len.invariant label
     ∙ least_end (used_at a.used) c.args.role.now label c.loop-len.len a.limits (omega (arith, c.len-fronts.ensures.len))) in
     λ rows its. value ∙ headroom-its rows a its c.args.role.now

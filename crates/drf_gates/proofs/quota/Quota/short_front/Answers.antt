@@ -6,7 +6,7 @@ use Rattle.drf_rows.specs.Quota.{room_under}
 use Rattle.drf_gates.specs.Front.{limits_at, passes_one}
 use Rattle.drf_gates.specs.Quota.{Allowance, used_at}
 use Rattle.drf_gates.proofs.QuotaLemmas.{leaves-its}
-use Rattle.drf_gates.proofs.LeaveLemmas.{front_little, fronts_leave}
+use Rattle.drf_gates.proofs.LeaveLemmas.{front_little, fronts_leave, none_passes}
 use Rattle.drf_gates.proofs.quota.Quota.short_front.Goals as goal
 
 -- a role that begins with the same parts has as many
@@ -14,6 +14,12 @@ as_many : (role other : Path) (len : ℕ) → len ≤ length role → take len o
 as_many role other len within same =
     let size = ap (λ (p : Path). length p) same in
     omega (arith, size, length-take len other, length-take-le len role within)
+
+pub loop-len-init : goal.loop-len-init
+loop-len-init c =
+    let a : Allowance = c.args.self.now in
+    none_passes (λ l. nat_le c.args.least (room_under (used_at a.used) c.args.label.now l)) c.args.role.now c.args.label.now a.limits
+    c.recall.ensures
 
 pub returns-then-not-front_leaves-clause-first : goal.returns-then-not-front_leaves-clause-first
 returns-then-not-front_leaves-clause-first c = record {

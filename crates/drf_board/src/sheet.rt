@@ -3,7 +3,7 @@ ghost use Rattle.drf_rows.specs.LimitNumbers.{LimitNumbers};
 ghost use Rattle.drf_board.specs.Sheets.{IsSheet};
 
 use drf_bundle::Quantities;
-use drf_rows::{Report, Table};
+use drf_rows::{Report, SharedTable};
 use std::alloc::{AllocError, Global};
 
 /// What viewers are shown: how many events were published, refused ones among them, and the report of shares after the last.
@@ -20,7 +20,7 @@ impl Sheet {
     {
         let report = Report {
             total: Quantities::empty(alloc),
-            nodes: Table::from_vec(Vec::new(alloc)),
+            nodes: SharedTable::empty(),
         };
         Sheet { events: 0, report }
     }

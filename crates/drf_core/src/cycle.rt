@@ -25,7 +25,7 @@ use drf_amount::Algebra;
 use drf_bundle::Bundle;
 use drf_gates::Quota;
 use drf_role::{ClientPath, Name};
-use drf_rows::{Limits, OfferLine, OfferRow, Reply, Table};
+use drf_rows::{Limits, OfferLine, OfferRow, Reply, SharedTable};
 use drf_sorter::Sorter;
 use drf_tables::{Left, Tables};
 use std::alloc::{AllocError, Global};
@@ -320,14 +320,14 @@ fn offer_all<S: Sorter>(
     let idle = is_idle(tables, sorter)?;
     if idle {
         // No limit is copied for a cycle in which nobody is tried.
-        let stepped = Stepped::of(Reply::Offers(Table::from_vec(Vec::new(alloc))), copied)?;
+        let stepped = Stepped::of(Reply::Offers(SharedTable::empty()), copied)?;
         tables.count_consumption()?;
         return Ok(stepped);
     }
     drafts.quota = quota_of(tables)?;
     turns(tables, sorter, drafts)?;
     let lines = offer_lines(alloc, &drafts.offers)?;
-    let stepped = Stepped::of(Reply::Offers(Table::from_vec(lines)), copied)?;
+    let stepped = Stepped::of(Reply::Offers(SharedTable::from_vec(lines)?), copied)?;
     let lefts = mem::replace(&mut drafts.lefts, Vec::new(alloc));
     let quota = drafts.quota.take();
     tables.commit(&mut drafts.offers, lefts, quota)?;

@@ -4,7 +4,7 @@ ghost use Rattle.drf_rows.specs.Consistent.{IsConsistent};
 ghost use Rattle.drf_rows.specs.Report.{report_of};
 
 use crate::cluster::Cluster;
-use drf_rows::{Report, Table};
+use drf_rows::{Report, SharedTable};
 use drf_sorter::Sorter;
 use std::alloc::AllocError;
 
@@ -20,7 +20,7 @@ impl<S: Sorter> Cluster<S> {
         total.remove_zeros();
         Ok(Report {
             total,
-            nodes: Table::from_vec(self.sorter.lines()?),
+            nodes: SharedTable::from_vec(self.sorter.lines()?)?,
         })
     }
 }

@@ -5,7 +5,9 @@ use drf_amount::Algebra;
 use drf_board::Entry;
 use drf_bundle::{Bundle, Quantities};
 use drf_role::{Name, NodePath, Role};
-use drf_rows::{Accept, Decline, Event, NodeLine, OfferLine, Reply, Report, Table, TaskList};
+use drf_rows::{
+    Accept, Decline, Event, NodeLine, OfferLine, Reply, Report, SharedTable, Table, TaskList,
+};
 
 /// What can be told apart.
 pub trait Same {
@@ -83,6 +85,12 @@ impl Same for Quantities {
 
 impl<T: Same> Same for Table<T> {
     fn same(&self, other: &Table<T>) -> bool {
+        are_rows(self.as_slice(), other.as_slice())
+    }
+}
+
+impl<T: Same> Same for SharedTable<T> {
+    fn same(&self, other: &SharedTable<T>) -> bool {
         are_rows(self.as_slice(), other.as_slice())
     }
 }

@@ -2,7 +2,6 @@
 #![tactic(auto)]
 
 mod copied;
-mod copies;
 mod ending;
 mod event;
 mod laws;
@@ -11,6 +10,7 @@ mod quota_laws;
 mod reply;
 mod report;
 mod rows;
+mod shared;
 mod table;
 mod tasks;
 mod worth;
@@ -35,6 +35,7 @@ pub use report::{NodeLine, Report};
 pub use rows::{
     AgentRow, ClientRow, FilterRow, FrameworkRow, LimitRow, OfferRow, Rows, TaskRow, WeightRow,
 };
+pub use shared::SharedTable;
 pub use table::Table;
 pub use tasks::{MOST_TASKS, TaskList};
 pub use worth::is_worth_an_offer;

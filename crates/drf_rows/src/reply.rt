@@ -1,9 +1,10 @@
-ghost use Rattle.std.specs.Prelude.{◌≡◌};
+ghost use Rattle.std.specs.Prelude.{◌≡◌, IfOk};
 
 use crate::report::Report;
-use crate::table::Table;
+use crate::shared::SharedTable;
 use drf_bundle::Bundle;
 use drf_role::{Name, Role};
+use std::alloc::AllocError;
 
 /// Why an event was turned away. The rows are then as they were.
 #[derive(Clone, Copy, Debug, PartialEq, Eq)]
@@ -123,9 +124,22 @@ pub enum Reply {
     /// The event was accepted.
     Done,
     /// A cycle was accepted, and made these offers.
-    Offers(Table<OfferLine>),
+    Offers(SharedTable<OfferLine>),
     /// A report was accepted, and tells this.
     Report(Report),
     /// The event was refused, and changed nothing.
     Refused(Refusal),
+}
+
+impl Reply {
+    pub fn copy(&self) -> Result<Reply, AllocError>
+        ensures { IfOk result (λ copy. copy ≡ self.now) }
+    {
+        match self {
+            Reply::Done => Ok(Reply::Done),
+            Reply::Offers(offers) => Ok(Reply::Offers(offers.copy()?)),
+            Reply::Report(report) => Ok(Reply::Report(report.copy()?)),
+            Reply::Refused(refusal) => Ok(Reply::Refused(*refusal)),
+        }
+    }
 }

@@ -1,8 +1,7 @@
 //! The report of shares.
 ghost use Rattle.std.specs.Prelude.{◌≡◌, IfOk};
 
-use crate::copied::Copied;
-use crate::table::Table;
+use crate::shared::SharedTable;
 use drf_bundle::Quantities;
 use drf_role::NodePath;
 use std::alloc::AllocError;
@@ -24,22 +23,11 @@ pub struct NodeLine {
 #[derive(Debug, Drop)]
 pub struct Report {
     pub total: Quantities,
-    pub nodes: Table<NodeLine>,
-}
-
-impl Copied for NodeLine {
-    fn copy(&self) -> Result<NodeLine, AllocError> {
-        Ok(NodeLine {
-            path: self.path.copy()?,
-            held: self.held.copy()?,
-            share: self.share,
-            weighted: self.weighted,
-            count: self.count,
-        })
-    }
+    pub nodes: SharedTable<NodeLine>,
 }
 
 impl Report {
+    /// The same report, whose nodes the two share.
     pub fn copy(&self) -> Result<Report, AllocError>
         ensures { IfOk result (λ copy. copy ≡ self.now) }
     {

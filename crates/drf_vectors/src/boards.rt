@@ -12,7 +12,7 @@ use drf_amount::Scalar;
 use drf_board::{Board, Brand, Naming, Pane, Sheet, Shows, Slate, Told, Viewer};
 use drf_bundle::{Bundle, Value};
 use drf_role::{Label, Name, Role};
-use drf_rows::{Event, Limits, Refusal, Reply, Report, Table};
+use drf_rows::{Event, Limits, Refusal, Reply, Report, SharedTable};
 use drf_text::TextFault;
 use std::alloc::Global;
 use std::sync::Wait;
@@ -21,7 +21,7 @@ fn one_cpu(alloc: Global) -> Result<Bundle, TextFault>
     ensures { IfOk result (λ bundle. bundle ≡ one_cpu) }
 {
     let label = Label::read(alloc, "cpus")?;
-    let everyone = Role::default_role(alloc)?;
+    let everyone = Role::default_role(alloc);
     let amount = Value::Scalar(Scalar::new(1000));
     Ok(Bundle::one(alloc, &label, &everyone, amount)?)
 }
@@ -66,7 +66,7 @@ fn sheet_after(alloc: Global, events: u64) -> Result<Sheet, TextFault>
 {
     let bundle = one_cpu(alloc)?;
     let total = bundle.quantities().copy()?;
-    let nodes = Table::from_vec(Vec::new(alloc));
+    let nodes = SharedTable::empty();
     Ok(Sheet {
         events,
         report: Report { total, nodes },

@@ -45,7 +45,7 @@ pub returns-clause-reply : goal.returns-clause-reply
 returns-clause-reply g c =
     let same = c.quota_of.ensures.same ∙ c.settle.ensures.same in
     c.in_ok-stepped-2.ensures.reply
-    ∙ ap Offers (c.from_vec-2.ensures ∙ c.in_ok-lines.ensures
+    ∙ ap Offers (c.in_ok-from_vec.ensures.rows ∙ c.in_ok-lines.ensures
     ∙ ap (map line_told) (c.deref.ensures.value
     ∙ sym (new_offers-drafts c.quota_of.new.tables.rows c.turns.new.drafts.offers.items c.in_ok-turns.ensures.turns)
     ∙ (λ i. new_offers (same i) (turns_of (same i)))))
@@ -77,7 +77,7 @@ pub returns-then-idle-clause-reply : goal.returns-then-idle-clause-reply
 returns-then-idle-clause-reply g c =
     let same = c.settle.ensures.same in
     c.in_ok-stepped.ensures.reply
-    ∙ ap Offers (c.from_vec.ensures ∙ c.new.ensures.items
+    ∙ ap Offers (c.empty.ensures
     ∙ ap (map line_told)
     (sym (no_offers c.settle.new.self.rows (c.in_ok-idle.ensures.idle c.if-idle.true)) ∙ (λ i. new_offers (same i) (turns_of (same i)))))
 

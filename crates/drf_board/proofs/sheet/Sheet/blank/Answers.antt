@@ -1,6 +1,6 @@
-use Rattle.std.proofs.Common.{refl, ◌∙◌}
+use Rattle.std.proofs.Common.{refl}
 use Rattle.drf_board.proofs.Blank.{blank_report}
 use Rattle.drf_board.proofs.sheet.Sheet.blank.Goals as goal
 
 pub returns : goal.returns
-returns c limits = record { events = refl; report = blank_report limits c.empty.result c.from_vec.result c.empty.ensures (c.from_vec.ensures ∙ c.new.ensures.items) }
+returns c limits = record { events = refl; report = blank_report limits c.empty.result c.empty-2.result c.empty.ensures c.empty-2.ensures }

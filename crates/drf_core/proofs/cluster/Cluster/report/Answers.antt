@@ -19,7 +19,7 @@ returns g c =
     let rows : Rows = c.self.inside.tables.rows in
     let lines = c.in_ok-lines.field-0.items in
     rw (← c.self.view_is) (
-    ap (λ nodes. record { total = c.remove_zeros.new.self; nodes = nodes }) c.from_vec.ensures
+    ap (λ nodes. record { total = c.remove_zeros.new.self; nodes = nodes }) c.in_ok-from_vec.ensures.rows
     ∙ report_of-lines rows c.remove_zeros.new.self lines (rw (← c.self.view_is) at c.requires.consistent)
     (c.remove_zeros.ensures.value ∙ ap without_zeros (c.in_ok-total.ensures ∙ c.total.ensures))
     (subst (λ (content : Content). AreLinesOf content lines) c.self.invariant c.in_ok-lines.ensures)

@@ -3,11 +3,15 @@ ghost use Rattle.std.specs.Prelude.{◌≡◌, IfOk, OnOk};
 ghost use Rattle.indexmap.specs.IndexMap.{insert_entry};
 ghost use Rattle.drf_role.specs.Path.{same_path};
 ghost use Rattle.drf_role.specs.Text.{same_text};
+ghost use Rattle.drf_gates.specs.Quota.{IsSame};
 ghost use Rattle.drf_tables.specs.Inside.{framework_rows};
 
 use crate::free_part::FreePart;
 use crate::tables::{Agent, Tables};
 use drf_amount::Algebra;
+use drf_bundle::Quantities;
+use drf_gates::{FilterTable, Quota};
+use drf_holdings::Holdings;
 use drf_role::{Name, Role};
 use drf_rows::{ClientRow, copy_all};
 use indexmap::IndexMap;
@@ -95,23 +99,73 @@ fn copy_weights(weights: &IndexMap<Role, u64>) -> Result<IndexMap<Role, u64>, Al
     Ok(copy)
 }
 
+// The parts of a copy are made in twos and threes: a proof goes through the drop of all that stands at each `?`.
+
+/// Agents and frameworks, copied.
+fn copy_members(
+    agents: &IndexMap<Name, Agent>,
+    frameworks: &IndexMap<Name, Vec<ClientRow>>,
+) -> Result<(IndexMap<Name, Agent>, IndexMap<Name, Vec<ClientRow>>), AllocError>
+    ensures agents { IfOk result (λ copy. copy.0.entries ≡ agents.now.entries) }
+    ensures frameworks { IfOk result (λ copy. framework_rows copy.1.entries ≡ framework_rows frameworks.now.entries) }
+{
+    let agents = copy_agents(agents)?;
+    let frameworks = copy_frameworks(frameworks)?;
+    Ok((agents, frameworks))
+}
+
+/// What is held and what is held back, copied.
+fn copy_held(
+    holdings: &Holdings,
+    filters: &FilterTable,
+) -> Result<(Holdings, FilterTable), AllocError>
+    ensures holdings { IfOk result (λ copy. copy.0 ≡ holdings.now) }
+    ensures filters { IfOk result (λ copy. copy.1 ≡ filters.now) }
+{
+    let holdings = holdings.copy()?;
+    let filters = filters.copy()?;
+    Ok((holdings, filters))
+}
+
+/// Weights, the total and the quota, copied.
+fn copy_amounts(
+    weights: &IndexMap<Role, u64>,
+    total: &Quantities,
+    quota: &Quota,
+) -> Result<(IndexMap<Role, u64>, Quantities, Quota), AllocError>
+    ensures weights { IfOk result (λ copy. copy.0.entries ≡ weights.now.entries) }
+    ensures total { IfOk result (λ copy. copy.1 ≡ total.now) }
+    ensures quota { IfOk result (λ copy. IsSame quota.now copy.2) }
+{
+    let weights = copy_weights(weights)?;
+    let total = total.copy()?;
+    let quota = quota.copy()?;
+    Ok((weights, total, quota))
+}
+
 impl Tables {
     /// Tables of their own with the same rows.
     pub fn copy(&self) -> Result<Tables, AllocError>
         ensures { IfOk result (λ copy. copy.rows ≡ self.now.rows) }
     {
+        let members = copy_members(&self.agents, &self.frameworks)?;
+        let held = copy_held(&self.holdings, &self.filters)?;
+        let amounts = copy_amounts(&self.weights, &self.total, &self.quota)?;
+        let (agents, frameworks) = members;
+        let (holdings, filters) = held;
+        let (weights, total, quota) = amounts;
         Ok(Tables {
-            agents: copy_agents(&self.agents)?,
-            frameworks: copy_frameworks(&self.frameworks)?,
-            holdings: self.holdings.copy()?,
-            filters: self.filters.copy()?,
-            weights: copy_weights(&self.weights)?,
+            agents,
+            frameworks,
+            holdings,
+            filters,
+            weights,
             clock: self.clock,
             next_offer: self.next_offer,
             events: self.events,
-            total: self.total.copy()?,
+            total,
             clients: self.clients,
-            quota: self.quota.copy()?,
+            quota,
             is_counted: self.is_counted,
             sweep_at: self.sweep_at,
         })

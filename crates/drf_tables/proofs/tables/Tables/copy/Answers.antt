@@ -12,19 +12,19 @@ pub invariant_of-result : goal.invariant_of-result
 invariant_of-result c =
     let t = c.self.inside in
     let rows =
-    rows-copied t c.in_ok-copy_agents.field-0.entries c.in_ok-copy_frameworks.field-0.entries c.in_ok-copy.field-0 c.in_ok-copy-2.field-0
-    c.in_ok-copy_weights.field-0.entries c.in_ok-copy-4.field-0.limits c.in_ok-copy_agents.ensures c.in_ok-copy_frameworks.ensures
-    c.in_ok-copy.ensures c.in_ok-copy-2.ensures c.in_ok-copy_weights.ensures c.in_ok-copy-4.ensures.limits in
+    rows-copied t c.in_ok-members.members.0.entries c.in_ok-members.members.1.entries c.in_ok-held.held.0 c.in_ok-held.held.1
+    c.in_ok-amounts.amounts.0.entries c.in_ok-amounts.amounts.2.limits c.in_ok-members.ensures.agents c.in_ok-members.ensures.frameworks
+    c.in_ok-held.ensures.holdings c.in_ok-held.ensures.filters c.in_ok-amounts.ensures.weights c.in_ok-amounts.ensures.quota.limits in
     record {
-      kept = subst (λ (r : Rows). IsKept r c.in_ok-copy_agents.field-0.entries c.in_ok-copy-3.field-0 t.clients) (sym rows)
-          (subst (λ (es : List (Text × Agent)). IsKept (rows_in t) es c.in_ok-copy-3.field-0 t.clients) (sym c.in_ok-copy_agents.ensures)
-          (subst (λ (sum : List Entry). IsKept (rows_in t) t.agents.entries sum t.clients) (sym c.in_ok-copy-3.ensures) c.self.invariant.kept));
-      consumed = counts-copied t.is_counted _ _ t.quota c.in_ok-copy-4.field-0 rows c.in_ok-copy-4.ensures c.self.invariant.consumed;
+      kept = subst (λ (r : Rows). IsKept r c.in_ok-members.members.0.entries c.in_ok-amounts.amounts.1 t.clients) (sym rows)
+          (subst (λ (es : List (Text × Agent)). IsKept (rows_in t) es c.in_ok-amounts.amounts.1 t.clients) (sym c.in_ok-members.ensures.agents)
+          (subst (λ (sum : List Entry). IsKept (rows_in t) t.agents.entries sum t.clients) (sym c.in_ok-amounts.ensures.total) c.self.invariant.kept));
+      consumed = counts-copied t.is_counted _ _ t.quota c.in_ok-amounts.amounts.2 rows c.in_ok-amounts.ensures.quota c.self.invariant.consumed;
     }
 
 pub returns : goal.returns
 returns c =
-    rows-copied c.self.inside c.in_ok-copy_agents.field-0.entries c.in_ok-copy_frameworks.field-0.entries c.in_ok-copy.field-0
-    c.in_ok-copy-2.field-0 c.in_ok-copy_weights.field-0.entries c.in_ok-copy-4.field-0.limits c.in_ok-copy_agents.ensures
-    c.in_ok-copy_frameworks.ensures c.in_ok-copy.ensures c.in_ok-copy-2.ensures c.in_ok-copy_weights.ensures c.in_ok-copy-4.ensures.limits
+    rows-copied c.self.inside c.in_ok-members.members.0.entries c.in_ok-members.members.1.entries c.in_ok-held.held.0
+    c.in_ok-held.held.1 c.in_ok-amounts.amounts.0.entries c.in_ok-amounts.amounts.2.limits c.in_ok-members.ensures.agents
+    c.in_ok-members.ensures.frameworks c.in_ok-held.ensures.holdings c.in_ok-held.ensures.filters c.in_ok-amounts.ensures.weights c.in_ok-amounts.ensures.quota.limits
     ∙ ap (λ (s : Stored). s.rows) c.self.view_is

@@ -3,4 +3,3 @@ pub mod drafting
 pub mod effects
 pub mod refusing
 pub mod stepping
-pub mod running

@@ -1,4 +1,3 @@
 -- Tests of refusal.
-pub mod Welcome
 pub mod Late
 pub mod Tests

@@ -1,5 +1,5 @@
 -- Whole steps and runs.
-pub mod Kept
+pub mod Safe
 pub mod Work
 pub mod Step
 pub mod Allowance

@@ -1,25 +1,17 @@
 -- An offer that is accepted.
-use Rattle.std.specs.Prelude.{◌≡◌, ℕ, Bool, true, false, not, List, [], ◌∷◌, Option, Some, None, nat_lt, if◌then◌else◌}
+use Rattle.std.specs.Prelude.{Bool, not, List, [], ◌∷◌, Option, Some, None, nat_lt, if◌then◌else◌}
 use Rattle.std.specs.List.{list_any}
 use Rattle.drf_rows.specs.LimitNumbers.{LimitNumbers}
 use Rattle.drf_rows.specs.Members.{has_framework}
-use Rattle.drf_rows.specs.Offers.{offer_at, has_offer, is_anothers, is_beyond, is_task_known, is_empty}
+use Rattle.drf_rows.specs.Offers.{has_offer, is_anothers, is_beyond, is_task_known, is_empty}
 use Rattle.drf_rows.specs.Step.{is_full}
-use Rattle.drf_rows.specs.Tasks.{Start, uses, covers_all}
+use Rattle.drf_rows.specs.Tasks.{uses}
 use Rattle.drf_rows.specs.declared.event.Accept as accepting
 use Rattle.drf_rows.specs.declared.limits.TheConstants.{LATEST_MOMENT}
 use Rattle.drf_rows.specs.declared.reply.Refusal.{Refusal}
 use Rattle.drf_rows.specs.declared.reply.Refusal.TheVariants.{HistoryFull, BadMoment, UnknownFramework, UnknownOffer, NotYours, KnownTask, Empty, NotCovered}
 use Rattle.drf_rows.specs.declared.rows.FilterRow.{FilterRow}
-use Rattle.drf_rows.specs.declared.rows.OfferRow.{OfferRow}
 use Rattle.drf_rows.specs.declared.rows.Rows.{Rows}
-
--- the offer of a number covers what the tasks use together, and their names are new
-pub record IsEnough (rows : Rows) (number : ℕ) (starts : List Start) : Type 0 where
-  pub offer : OfferRow
-  pub at : offer_at rows number ≡ Some offer
-  pub covered : covers_all offer.bundle (uses starts) ≡ true
-  pub new : is_task_known rows offer.framework starts ≡ false
 
 -- a filter, if there is to be one
 abbrev pub filter_if : Bool → FilterRow → Option FilterRow

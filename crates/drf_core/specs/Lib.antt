@@ -3,7 +3,6 @@ pub mod MachineLaws
 pub mod Content
 pub mod Copies
 pub mod Cluster
-pub mod Kept
 pub mod Working
 pub mod Drafting
 pub mod Entitling
@@ -12,4 +11,3 @@ pub mod Registering
 pub mod Accepting
 pub mod Refusing
 pub mod Applying
-pub mod laws

@@ -39,7 +39,7 @@ impl<S: Sorter> Model for Core<S> {
 
     ghost coded = { engine_code };
 
-    ghost use Rattle.drf_core.specs.Kept.{IsKept};
+    ghost use Rattle.drf_laws.specs.Kept.{IsKept};
 
     ghost view = { λ c. record { limits = c.limits; rows = c.cluster.value.rows; work = c.cluster.value.work } };
 

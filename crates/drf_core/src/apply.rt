@@ -2,7 +2,7 @@
 ghost use Rattle.std.specs.Prelude.{◌≡◌, ◌≤◌, false, None, IfOk, OnOk, OnErr, MatchOption};
 ghost use Rattle.drf_rows.specs.Step.{refusal_of, effect, answer};
 ghost use Rattle.drf_rows.specs.declared.event.Event.TheVariants.{SetWeight, SetLimit};
-ghost use Rattle.drf_core.specs.Kept.{IsKept};
+ghost use Rattle.drf_laws.specs.Kept.{IsKept};
 ghost use Rattle.drf_sorter.specs.Work.{Adds};
 ghost use Rattle.drf_core.specs.Working.{allowed, may_make_keys};
 ghost use Rattle.drf_core.specs.Applying.{has_answer};

@@ -3,7 +3,7 @@ ghost use Rattle.std.specs.Prelude.{◌≡◌, ◌+◌, ◌<◌, ◌^◌, None, 
 ghost use Rattle.drf_rows.specs.Consistent.{IsConsistent};
 ghost use Rattle.drf_rows.specs.Step.{opening, live_rows, refusal_of};
 ghost use Rattle.drf_core.specs.Content.{content_of};
-ghost use Rattle.drf_core.specs.Kept.{AreFew};
+ghost use Rattle.drf_laws.specs.Kept.{AreFew};
 ghost use Rattle.drf_core.specs.Refusing.{early_refusal_of};
 
 use crate::refusal::refusal;

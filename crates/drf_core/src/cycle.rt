@@ -11,7 +11,7 @@ ghost use Rattle.drf_rows.specs.declared.reply.Reply.TheVariants.{Offers};
 ghost use Rattle.drf_tables.specs.Drafts.{with_offers};
 ghost use Rattle.drf_core.specs.Content.{content_of};
 ghost use Rattle.drf_core.specs.Copies.{copies_if};
-ghost use Rattle.drf_core.specs.Kept.{IsKept};
+ghost use Rattle.drf_laws.specs.Kept.{IsKept};
 ghost use Rattle.drf_core.specs.Entitling.{IsKnown, IsPassedOver, IsQuotaOf};
 ghost use Rattle.drf_rows.specs.declared.rows.Rows.{Rows};
 ghost use Rattle.drf_core.specs.Drafting.{IsDrafting, CanCount, IsRegisteredPath, IsFreeAt, IsTried, HasLeft, is_open_at, turn_at, turns_of};

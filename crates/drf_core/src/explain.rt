@@ -15,7 +15,7 @@ ghost use Rattle.drf_core.specs.Content.{content_of};
 ghost use Rattle.drf_core.specs.Drafting.{IsDrafting, HasLeft, turn_at};
 ghost use Rattle.drf_core.specs.Entitling.{IsQuotaOf};
 ghost use Rattle.drf_core.specs.Explaining.{AreToldAt, AreTried, IsOutcomeOf, left_told, told_at};
-ghost use Rattle.drf_core.specs.Kept.{IsKept};
+ghost use Rattle.drf_laws.specs.Kept.{IsKept};
 
 use crate::cluster::Cluster;
 use crate::cycle::{Drafts, goes_on, quota_of, try_first};

@@ -3,7 +3,7 @@ ghost use Rattle.std.specs.Prelude.{◌≡◌, ◌≤◌, None, true, map, sum_b
 ghost use Rattle.drf_rows.specs.Members.{distinct, has_framework, new_client};
 ghost use Rattle.drf_rows.specs.Step.{refusal_of, effect, is_in_role};
 ghost use Rattle.drf_rows.specs.declared.event.Event.TheVariants.{AddFramework, RemoveFramework, Suppress, Revive};
-ghost use Rattle.drf_core.specs.Kept.{IsKept};
+ghost use Rattle.drf_laws.specs.Kept.{IsKept};
 ghost use Rattle.drf_sorter.specs.Work.{Adds};
 ghost use Rattle.drf_core.specs.Working.{nodes_of, touched};
 ghost use Rattle.drf_core.specs.Registering.{AreKnown, AreNew, client_paths, with_all, without_all};

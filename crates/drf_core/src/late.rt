@@ -9,7 +9,7 @@ ghost use Rattle.drf_rows.specs.Quota.{admits};
 ghost use Rattle.drf_rows.specs.Step.{first_case};
 ghost use Rattle.drf_rows.specs.Totals.{agent_at, is_not_free};
 ghost use Rattle.drf_rows.specs.declared.rows.AgentRow.{AgentRow};
-ghost use Rattle.drf_core.specs.Kept.{AreFew};
+ghost use Rattle.drf_laws.specs.Kept.{AreFew};
 ghost use Rattle.drf_core.specs.Refusing.{cases_of_names, cases_of_reserved, cases_of_total, cases_of_unreserved, early_refusal_of, late_cases_of};
 
 use crate::refusal::{first_case, is_too_large};

@@ -11,7 +11,6 @@ mod explain;
 mod frameworks;
 mod free;
 mod late;
-mod laws;
 mod life;
 mod moving;
 mod refusal;
@@ -19,5 +18,4 @@ mod report;
 mod stepped;
 
 pub use allocator::Core;
-pub use laws::{bounded_runs_law, consistent_runs_law, given_law, kept_limits_law, refused_law};
 pub use stepped::Stepped;

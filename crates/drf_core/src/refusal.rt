@@ -12,7 +12,7 @@ ghost use Rattle.drf_rows.specs.Weights.{is_weight, too_many_weights};
 ghost use Rattle.drf_rows.specs.declared.event.Event.TheVariants.{AddAgent, AddFramework, Rescind, Finish, SetWeight, SetLimit, Cycle};
 ghost use Rattle.drf_rows.specs.declared.reply.Refusal.TheVariants.{HistoryFull, UnknownFramework, NotInRole, TooMany};
 ghost use Rattle.drf_core.specs.Accepting.{cases_of_tasks};
-ghost use Rattle.drf_core.specs.Kept.{AreFew};
+ghost use Rattle.drf_laws.specs.Kept.{AreFew};
 ghost use Rattle.drf_core.specs.Refusing.{cases_of_agent, cases_of_move, early_refusal_of};
 
 use crate::late::refuse_late;

@@ -1,22 +1,19 @@
 -- Clients that are suppressed or revive, agents and frameworks that leave: what that changes in what a sorter holds of the rows.
-use Rattle.std.specs.Prelude.{◌≡◌, Bool, true, false, not, List, [], ◌∷◌, map, filter, fold, flat_map, if◌then◌else◌}
-use Rattle.std.proofs.Common.{refl, ap, ◌∙◌}
+use Rattle.std.specs.Prelude.{◌≡◌, Bool, not, List, filter, flat_map}
+use Rattle.std.proofs.Common.{refl}
 use Rattle.drf_role.specs.Text.{Text, same_text}
-use Rattle.drf_bundle.specs.Quantities.{plus}
-use Rattle.drf_bundle.specs.Bundle.{quantities_of}
-use Rattle.drf_bundle.specs.declared.quantities.Entry.{Entry}
 use Rattle.drf_rows.specs.Client.{Client, path_of}
 use Rattle.drf_rows.specs.Holdings.{Holding, holdings_of}
 use Rattle.drf_rows.specs.Held.{cluster_total}
-use Rattle.drf_rows.specs.Members.{active_at, with_activity, with_suppression, agent_removed}
+use Rattle.drf_rows.specs.Members.{with_activity, with_suppression, agent_removed}
 use Rattle.drf_rows.specs.Endings.{without_ended, all_on}
-use Rattle.drf_rows.specs.declared.rows.AgentRow.{AgentRow}
 use Rattle.drf_rows.specs.declared.rows.FilterRow.{FilterRow}
 use Rattle.drf_rows.specs.declared.rows.Rows.{Rows}
 use Rattle.drf_sorter.specs.Content.{with_change}
 use Rattle.drf_sorter.specs.Content as sorter
 use Rattle.drf_core.specs.Content.{ranked, content_of}
 use Rattle.drf_core.proofs.content.Client.{ranked_all, ranked-changed}
+use Rattle.drf_rows.specs.laws.MemberLaws.{cluster_total-with_activity}
 
 -- ---- what a sorter does not know
 
@@ -25,26 +22,13 @@ unfolding content_of
 content_of-filters rows filters = refl
 
 -- whether agents are active
-added-activity : (name : Text) (active : Bool) (start : List Entry) (agents : List AgentRow)
-    → fold (λ sum a. plus sum (quantities_of a.total)) start (map (active_at name active) agents)
-    ≡ fold (λ sum a. plus sum (quantities_of a.total)) start agents
-added-activity name active start [] = refl
-added-activity name active start (a ∷ agents) =
-    ap (λ (t : List Entry). fold (λ sum (a : AgentRow). plus sum (quantities_of a.total)) t (map (active_at name active) agents)) (same (same_text a.name name))
-    ∙ added-activity name active (plus start (quantities_of a.total)) agents
-  where
-    same : (b : Bool)
-        → plus start (quantities_of (if b then record a { active = active } else a).total) ≡ plus start (quantities_of a.total)
-    same true = refl
-    same false = refl
-
 pub content_of-activity : (rows : Rows) (name : Text) (active : Bool)
     → content_of (record rows { agents = with_activity rows name active }) ≡ content_of rows
 unfolding content_of
 content_of-activity rows name active =
     λ i. record {
       clients = flat_map (ranked_all (holdings_of rows)) rows.frameworks;
-      total = added-activity name active [] rows.agents i;
+      total = cluster_total-with_activity rows name active i;
       weights = rows.weights;
     }
 

@@ -1,24 +1,21 @@
 -- Who is known to a sorter of the rows, and what registrations change in it.
-use Rattle.std.specs.Prelude.{◌≡◌, ◌+◌, ◌&&◌, ◌||◌, Bool, true, false, List, [], ◌∷◌, ◌++◌, map, flat_map}
-use Rattle.std.specs.List.{list_any, AllByRecursion}
-use Rattle.std.proofs.Common.{refl, sym, ap, subst, ◌∙◌, inl, inr, cond, append_assoc}
-use Rattle.std.proofs.lemmas.Bool.{cases_Bool, false≢true}
+use Rattle.std.specs.Prelude.{◌≡◌, ◌&&◌, ◌||◌, Bool, true, false, List, [], ◌∷◌, ◌++◌, map, flat_map}
+use Rattle.std.specs.List.{list_any}
+use Rattle.std.proofs.Common.{refl, sym, ap, ◌∙◌, append_assoc}
 use Rattle.std.proofs.lemmas.List.{map-append, append-nil}
 use Rattle.std.proofs.lemmas.List.Folds.{list_any-append}
 use Rattle.std.proofs.lemmas.Grind.{fold-append}
 use Rattle.drf_role.specs.Text.{Text, same_text}
-use Rattle.drf_role.specs.TextLaws.{same_from_test}
 use Rattle.drf_role.specs.Path.{Path, same_path, client_path}
 use Rattle.drf_role.specs.PathLaws.{same_path-client_path}
 use Rattle.drf_bundle.specs.Quantities.{plus}
 use Rattle.drf_bundle.specs.Bundle.{quantities_of}
 use Rattle.drf_bundle.specs.declared.resource.Resource.{Resource}
 use Rattle.drf_rows.specs.Client.{Client, path_of}
-use Rattle.drf_rows.specs.Holdings.{Holding, holdings_of, held_where, amount_in, is_of}
-use Rattle.drf_rows.specs.laws.HoldingsLaws.{held_where-cons}
+use Rattle.drf_rows.specs.Holdings.{Holding, holdings_of}
 use Rattle.drf_rows.specs.Held.{cluster_total, is_registered}
 use Rattle.drf_rows.specs.Members.{has_framework, with_agent, new_client}
-use Rattle.drf_rows.specs.Consistent.{IsHeld, IsConsistent}
+use Rattle.drf_rows.specs.Consistent.{IsConsistent}
 use Rattle.drf_rows.specs.laws.ConsistentLaws.{has_its_role, is_row_of}
 use Rattle.drf_rows.specs.laws.ListLaws.{list_any-both}
 use Rattle.drf_rows.specs.declared.rows.AgentRow.{AgentRow}
@@ -28,6 +25,7 @@ use Rattle.drf_rows.specs.declared.rows.Rows.{Rows}
 use Rattle.drf_sorter.specs.Content.{Ranked, has_client, with_client}
 use Rattle.drf_core.specs.Content.{ranked, content_of}
 use Rattle.drf_core.proofs.content.Client.{ranked_all, ranked-path}
+use Rattle.drf_laws.specs.laws.Clients.{is_framework, unregistered, nothing_held}
 
 -- ---- who is known
 
@@ -64,23 +62,6 @@ has_client-content_of rows client = known_all (holdings_of rows) client rows.fra
 pub has_client-registered : (rows : Rows) (client : Client)
     → is_registered rows.frameworks client ≡ true → has_client (content_of rows) (path_of client) ≡ true
 has_client-registered rows client known = has_client-content_of rows client ∙ known
-
--- the framework is registered, in some role
-abbrev pub is_framework : Client → FrameworkRow → Bool
-is_framework client f = same_text f.name client.framework
-
--- no client of a framework that is not registered
-pub unregistered : (frameworks : List FrameworkRow) (client : Client)
-    → list_any (is_framework client) frameworks ≡ false → is_registered frameworks client ≡ false
-unregistered [] client new = refl
-unregistered (f ∷ fs) client new =
-    by (is_framework client f) (list_any (is_framework client) fs) (is_registered fs client) new
-    (unregistered fs client)
-  where
-    by : (here later known : Bool) → (here || later) ≡ false → (later ≡ false → known ≡ false)
-        → ((here && list_any (has_its_role client) f.clients) || known) ≡ false
-    by true later known none next = cc
-    by false later known none next = next none
 
 -- ---- registrations
 
@@ -144,28 +125,6 @@ content_of-no_clients rows name =
     let before : List Ranked = flat_map (ranked_all hs) rows.frameworks in
     let same = clients_and hs rows.frameworks (record { name = name; clients = [] }) ∙ append-nil before in
     λ i. record { clients = same i; total = cluster_total rows.agents; weights = rows.weights }
-
--- a client whose framework is not registered holds nothing, as what is held is held by registered clients
-module _ (agents : List AgentRow) (frameworks : List FrameworkRow) (client : Client)
-    (new : list_any (is_framework client) frameworks ≡ false) where
-  held_by_another : (h : Holding) → IsHeld agents frameworks h → is_of (path_of client) h ≡ false
-  held_by_another h held =
-      let test = same_path-client_path h.client.role client.role h.client.framework client.framework in
-      elim (cases_Bool (same_text h.client.framework client.framework)) [
-        | inl same ↦
-            let one : h.client.framework ≡ client.framework = same_from_test h.client.framework client.framework same in
-            let none = subst (λ (t : Text). list_any (λ f. same_text f.name t) frameworks ≡ false) (sym one) new in
-            let unknown = unregistered frameworks h.client none in
-            absurd (false≢true (sym unknown ∙ held.client))
-        | inr other ↦ test ∙ ap (λ (b : Bool). b && same_path h.client.role client.role) other
-      ]
-
-  nothing_held : (hs : List Holding) (label : Text)
-      → AllByRecursion (IsHeld agents frameworks) hs → held_where (is_of (path_of client)) hs label ≡ 0
-  nothing_held [] label held = refl
-  nothing_held (h ∷ hs) label held =
-      held_where-cons (is_of (path_of client)) h hs label
-      ∙ (λ i. cond (held_by_another h held.0 i) (amount_in label h) 0 + nothing_held hs label held.1 i)
 
 -- each client of a new framework is added, and holds nothing
 pub content_of-one_more_client : (rows : Rows) (name : Text) (roles : List Path) (role : Path)

@@ -1,26 +1,21 @@
--- The order that a sorter of the rows answers is that of a turn, and serves registered clients.
-use Rattle.std.specs.Prelude.{◌≡◌, ℕ, zero, suc, ◌≤◌, ◌&&◌, Bool, true, not, IsTrue, List, [], ◌∷◌, ◌++◌, length, map, filter, flat_map, sum_by, Option, Some, None}
-use Rattle.std.specs.List.{list_any, AllByRecursion}
+-- The order that a sorter of the rows answers is that of a turn.
+use Rattle.std.specs.Prelude.{◌≡◌, ℕ, Bool, not, IsTrue, List, [], ◌∷◌, ◌++◌, map, filter, flat_map, sum_by}
 use Rattle.std.specs.List.Sorted.{IsPermutation}
-use Rattle.std.specs.Option.{option_map_or}
-use Rattle.std.proofs.Common.{refl, sym, ap, subst, ◌∙◌, inl, inr, cond, arith, length-append}
-use Rattle.std.proofs.lemmas.Bool.{cases_Bool, and_from, or_left, or_right}
-use Rattle.std.proofs.lemmas.List.{map-append, length-map}
+use Rattle.std.proofs.Common.{refl, sym, ap, subst, ◌∙◌, inl, inr, cond}
+use Rattle.std.proofs.lemmas.Bool.{cases_Bool}
+use Rattle.std.proofs.lemmas.List.{map-append}
 use Rattle.std.proofs.lemmas.List.Elements.{filter-append}
-use Rattle.std.proofs.lemmas.List.Sums.{length-filter, count_by-le-length}
-use Rattle.drf_role.specs.Text.{Text, same_text}
-use Rattle.drf_role.specs.TextLaws.{same_itself}
-use Rattle.drf_role.specs.Path.{Path, same_path, begins_with}
-use Rattle.drf_role.specs.PathLaws.{same_path-true, same_path_itself}
-use Rattle.drf_rows.specs.Client.{Client, path_of}
+use Rattle.drf_role.specs.Text.{Text}
+use Rattle.drf_role.specs.Path.{Path, begins_with}
+use Rattle.drf_role.specs.PathLaws.{same_path-true}
+use Rattle.drf_rows.specs.Client.{path_of}
 use Rattle.drf_rows.specs.Holdings.{Holding, holdings_of, held_where, amount_in, is_of, is_under}
-use Rattle.drf_rows.specs.Held.{client_of, clients_of, active_clients, held_by, count_of, cluster_total, weight_of, is_registered}
+use Rattle.drf_rows.specs.Held.{client_of, active_clients, held_by, count_of, cluster_total, weight_of}
 use Rattle.drf_rows.specs.Share.{Standing, is_serving_order}
-use Rattle.drf_rows.specs.Cycle.{first_of, without, serving_order, turn_order}
+use Rattle.drf_rows.specs.Cycle.{turn_order}
 use Rattle.drf_rows.specs.laws.ServingOrder.{serving_order-unique}
 use Rattle.drf_rows.specs.Consistent.{IsConsistent}
-use Rattle.drf_rows.specs.laws.ConsistentLaws.{has_its_role}
-use Rattle.drf_rows.specs.laws.ListLaws.{sum_by-filter, sum_by-as_one, each_append, each_from, each_map, each_filter, each_find, each_found}
+use Rattle.drf_rows.specs.laws.ListLaws.{sum_by-filter, sum_by-as_one}
 use Rattle.drf_rows.specs.declared.rows.ClientRow.{ClientRow}
 use Rattle.drf_rows.specs.declared.rows.FrameworkRow.{FrameworkRow}
 use Rattle.drf_rows.specs.declared.rows.Rows.{Rows}
@@ -30,6 +25,7 @@ use Rattle.drf_core.proofs.content.Client.{ranked_all}
 use Rattle.drf_core.proofs.content.Held.{sum_ranked, sum_held}
 use Rattle.drf_rows.specs.Held as rows_word
 use Rattle.drf_sorter.specs.Content as sorter_word
+use Rattle.drf_laws.specs.laws.Turns.{active_in}
 
 -- ---- what the clients of a node hold, and how many offers were made to them
 
@@ -87,10 +83,6 @@ standing-content_of rows consistent = λ i. record {
 abbrev served : List Ranked → List Path
 served rs = map (λ c. c.path) (filter (λ c. c.active) rs)
 
--- a framework's clients that are not suppressed
-abbrev active_in : FrameworkRow → List Client
-active_in f = map (client_of f) (filter (λ c. not c.suppressed) f.clients)
-
 served_each : (hs : List Holding) (f : FrameworkRow) (cs : List ClientRow)
     → served (map (ranked hs f) cs) ≡ map path_of (map (client_of f) (filter (λ c. not c.suppressed) cs))
 unfolding ranked
@@ -125,80 +117,3 @@ IsOrderOf-turn_order rows paths consistent order =
     let ordered : IsTrue (is_serving_order standing paths)
     = subst (λ s. IsTrue (is_serving_order s paths)) (standing-content_of rows consistent) order.in_order in
     sym (serving_order-unique standing (active_clients rows) paths moved ordered)
-
--- ---- those that are served are registered
-
-active_registered : (fs : List FrameworkRow) → AllByRecursion (λ c. is_registered fs c ≡ true) (flat_map active_in fs)
-active_registered [] = tt
-active_registered (f ∷ fs) =
-    let Known : Client → Type 0 = λ c. is_registered (f ∷ fs) c ≡ true in
-    let has_role : Client → Bool = λ c. list_any (has_its_role c) f.clients in
-    let is_here : Client → Bool = λ c. same_text f.name c.framework && has_role c in
-    let In : ClientRow → Type 0 = λ c. has_role (client_of f c) ≡ true in
-    let active : ClientRow → Bool = λ c. not c.suppressed in
-    let here : (c : ClientRow) → In c → Known (client_of f c) = λ c found.
-    or_left (is_here (client_of f c)) (is_registered fs (client_of f c))
-    (and_from (same_text f.name f.name) (has_role (client_of f c)) (same_itself f.name) found) in
-    let later : (c : Client) → is_registered fs c ≡ true → Known c
-    = λ c found. or_right (is_here c) (is_registered fs c) found in
-    let all : AllByRecursion In f.clients
-    = each_found (λ d c. same_path d.role c.role) f.clients (λ c. same_path_itself c.role) in
-    each_append Known (active_in f) (flat_map active_in fs)
-    (each_map Known (client_of f) (filter active f.clients)
-    (each_filter (λ c. Known (client_of f c)) active f.clients
-    (each_from In (λ c. Known (client_of f c)) f.clients here all)))
-    (each_from (λ c. is_registered fs c ≡ true) Known (flat_map active_in fs) later (active_registered fs))
-
-each_served : (P : Client → Type 0) (s : Standing) (n : ℕ) (cs : List Client)
-    → AllByRecursion P cs → AllByRecursion P (serving_order s n cs)
-each_served P s zero cs all = tt
-each_served P s (suc n) cs all =
-    by (λ c. each_served P s n (without c cs) (each_filter P (λ d. not (same_path (path_of c) (path_of d))) cs all))
-    (first_of s cs) (λ c first. each_find P _ cs c all first)
-  where
-    by : ((c : Client) → AllByRecursion P (serving_order s n (without c cs)))
-        → (o : Option Client) → ((c : Client) → o ≡ Some c → P c)
-        → AllByRecursion P (option_map_or (λ c. c ∷ serving_order s n (without c cs)) o [])
-    by later None first = tt
-    by later (Some c) first = (first c refl, later c)
-
-pub turn_order-registered : (rows : Rows)
-    → AllByRecursion (λ c. is_registered rows.frameworks c ≡ true) (turn_order rows)
-turn_order-registered rows =
-    each_served (λ c. is_registered rows.frameworks c ≡ true) (rows_word.standing_of rows)
-    (length (active_clients rows)) (active_clients rows) (active_registered rows.frameworks)
-
--- ---- each is served at most once
-
-length-serving_order : (s : Standing) (n : ℕ) (cs : List Client) → length (serving_order s n cs) ≤ n
-length-serving_order s zero cs = omega arith
-length-serving_order s (suc n) cs = by (λ c. length-serving_order s n (without c cs)) (first_of s cs)
-  where
-    by : ((c : Client) → length (serving_order s n (without c cs)) ≤ n)
-        → (o : Option Client) → length (option_map_or (λ c. c ∷ serving_order s n (without c cs)) o []) ≤ suc n
-    by later None = omega arith
-    by later (Some c) = omega (arith, later c)
-
-length-active : (fs : List FrameworkRow)
-    → length (flat_map active_in fs) ≤ length (flat_map (λ f. map (client_of f) f.clients) fs)
-length-active [] = omega arith
-length-active (f ∷ fs) =
-    let active : ClientRow → Bool = λ c. not c.suppressed in
-    omega (
-      arith,
-      length-append (active_in f) (flat_map active_in fs),
-      length-append (map (client_of f) f.clients) (flat_map (λ f. map (client_of f) f.clients) fs),
-      length-map (filter active f.clients) (client_of f),
-      length-map f.clients (client_of f),
-      length-filter active f.clients,
-      count_by-le-length active f.clients,
-      length-active fs,
-    )
-
-pub length-turn_order : (rows : Rows) → length (turn_order rows) ≤ length (clients_of rows)
-length-turn_order rows =
-    omega (
-      arith,
-      length-serving_order (rows_word.standing_of rows) (length (active_clients rows)) (active_clients rows),
-      length-active rows.frameworks,
-    )

@@ -2,21 +2,20 @@
 use Rattle.std.specs.Prelude.{◌≡◌, ◌&&◌, ◌||◌, Bool, true, false, not, List, [], ◌∷◌, ◌++◌, map, filter, find, flat_map, Some}
 use Rattle.std.specs.List.{list_any, list_all, AllByRecursion}
 use Rattle.std.proofs.Common.{refl, sym, ap, ◌∙◌, inl, inr, cond}
-use Rattle.std.proofs.lemmas.Bool.{cases_Bool, and_parts, not-true, false≢true}
+use Rattle.std.proofs.lemmas.Bool.{cases_Bool, and_parts, not-true}
 use Rattle.std.proofs.lemmas.List.Elements.{filter-append}
 use Rattle.std.proofs.lemmas.Map.Views.{any-filter_same}
-use Rattle.drf_role.specs.Text.{Text, same_text}
-use Rattle.drf_role.specs.TextLaws.{same_from_test, same_itself}
+use Rattle.drf_role.specs.Text.{Text}
+use Rattle.drf_role.specs.TextLaws.{same_itself}
 use Rattle.drf_role.specs.Path.{Path, same_path, client_path}
 use Rattle.drf_role.specs.PathLaws.{same_path-true, same_path-swap, same_path_itself, same_path-client_path}
 use Rattle.drf_rows.specs.Client.{path_of}
 use Rattle.drf_rows.specs.Holdings.{Holding, holdings_of}
-use Rattle.drf_rows.specs.Held.{client_of, cluster_total, is_registered}
+use Rattle.drf_rows.specs.Held.{client_of, cluster_total}
 use Rattle.drf_rows.specs.Members.{framework_removed}
 use Rattle.drf_rows.specs.Endings.{without_ended, all_of}
-use Rattle.drf_rows.specs.Consistent.{AreFrameworks, are_distinct, are_distinct_roles}
-use Rattle.drf_rows.specs.laws.ConsistentLaws.{same_text-swap}
-use Rattle.drf_rows.specs.laws.ListLaws.{list_any-both, none_has, only_none, each_from, each_find, each_found}
+use Rattle.drf_rows.specs.Consistent.{AreFrameworks, are_distinct_roles}
+use Rattle.drf_rows.specs.laws.ListLaws.{list_any-both, each_from, each_find, each_found}
 use Rattle.drf_rows.specs.declared.rows.ClientRow.{ClientRow}
 use Rattle.drf_rows.specs.declared.rows.FrameworkRow.{FrameworkRow}
 use Rattle.drf_rows.specs.declared.rows.Rows.{Rows}
@@ -25,6 +24,7 @@ use Rattle.drf_core.specs.Content.{ranked, content_of}
 use Rattle.drf_core.specs.Registering.{client_paths, without_all, AreKnown}
 use Rattle.drf_core.proofs.content.Client.{ranked_all, ranked-path}
 use Rattle.drf_core.proofs.content.Members.{has_client-registered}
+use Rattle.drf_laws.specs.laws.Clients.{named, role_registered, one_named}
 
 -- ---- each is known when it is removed
 
@@ -68,54 +68,6 @@ module _ (name : Text) where
   all_known content (c ∷ cs) apart known =
       let parts = and_parts (list_all (λ r. not (same_path c.role r)) (map (λ c. c.role) cs)) (are_distinct_roles (map (λ c. c.role) cs)) apart in
       (known.0, all_known (without_client content (client_path c.role name)) cs parts.1 (known_past content c.role cs parts.0 known.1))
-
--- ---- the framework of that name
-
-abbrev named : Text → FrameworkRow → Bool
-named name f = same_text f.name name
-
--- it is the only one
-one_named : (name : Text) (fs : List FrameworkRow) (f : FrameworkRow)
-    → are_distinct (map (λ g. g.name) fs) ≡ true → find (named name) fs ≡ Some f
-    → AllByRecursion (λ g. named name g ≡ true → g ≡ f) fs
-one_named name [] f apart found = tt
-one_named name (g ∷ gs) f apart found = by (named name g) refl (λ this. one_named name gs f parts.1 this) found
-  where
-    parts : (none_has same_text (λ (h : FrameworkRow). h.name) g.name gs ≡ true) × (are_distinct (map (λ h. h.name) gs) ≡ true)
-    parts = and_parts (none_has same_text (λ (h : FrameworkRow). h.name) g.name gs) (are_distinct (map (λ h. h.name) gs)) apart
-
-    Others : (h : FrameworkRow) → Type 0
-    Others h = same_text g.name h.name ≡ true → h ≡ g
-
-    by : (b : Bool) → named name g ≡ b
-        → (find (named name) gs ≡ Some f → AllByRecursion (λ h. named name h ≡ true → h ≡ f) gs)
-        → cond b (Some g) (find (named name) gs) ≡ Some f
-        → AllByRecursion (λ h. named name h ≡ true → h ≡ f) (g ∷ gs)
-    by true here later this =
-        let same : g ≡ f = cc in
-        let is : g.name ≡ name = same_from_test g.name name here in
-        let others = only_none same_text (λ (h : FrameworkRow). h.name) g gs parts.0 in (
-          λ _. same,
-          each_from Others (λ h. named name h ≡ true → h ≡ f) gs
-              (λ h only there. only (ap (λ (t : Text). same_text t h.name) is ∙ same_text-swap name h.name ∙ there) ∙ same) others,
-        )
-    by false past later this = (λ there. absurd (false≢true (sym past ∙ there)), later this)
-
--- each of its clients is registered
-role_registered : (name : Text) (fs : List FrameworkRow) (f : FrameworkRow) (role : Path)
-    → find (named name) fs ≡ Some f → list_any (λ c. same_path c.role role) f.clients ≡ true
-    → is_registered fs (record { role = role; framework = name }) ≡ true
-role_registered name [] f role found has = cc
-role_registered name (g ∷ gs) f role found has = by (named name g) (λ this. role_registered name gs f role this has) found
-  where
-    by : (b : Bool) → (find (named name) gs ≡ Some f → is_registered gs (record { role = role; framework = name }) ≡ true)
-        → cond b (Some g) (find (named name) gs) ≡ Some f
-        → ((b && list_any (λ c. same_path c.role role) g.clients) || is_registered gs (record { role = role; framework = name })) ≡ true
-    by true later this =
-        let same : g ≡ f = cc in
-        ap (λ (h : FrameworkRow). list_any (λ c. same_path c.role role) h.clients || is_registered gs (record { role = role; framework = name })) same
-        ∙ ap (λ (b : Bool). b || is_registered gs (record { role = role; framework = name })) has
-    by false later this = later this
 
 module _ (rows : Rows) (name : Text) (f : FrameworkRow) (right : AreFrameworks rows.frameworks) (found : find (named name) rows.frameworks ≡ Some f) where
   clients_known : AllByRecursion (IsKnown (content_of rows) name) f.clients

@@ -1,17 +1,11 @@
 -- The turns of all agents, and the cycle that they are.
-use Rattle.std.proofs.Common.{◌≡◌, ℕ, zero, suc, ◌+◌, ◌*◌, ◌<◌, ◌≤◌, List, [], ◌∷◌, Option, Some, None, true, false, Bool, refl, sym, ap, ◌∙◌, length, cond, arith, drop, add-one, subst}
+use Rattle.std.proofs.Common.{◌≡◌, ℕ, zero, suc, ◌+◌, ◌*◌, ◌<◌, ◌≤◌, List, [], ◌∷◌, Option, Some, None, true, false, Bool, refl, sym, ap, ◌∙◌, length, cond, arith, drop, add-one}
 use Rattle.std.specs.Prelude.{◌^◌, ◌≢◌, is_some, max, slice_get, filter}
 use Rattle.std.specs.Option.{option_map_or}
 use Rattle.std.proofs.Math.Seq.{drop-append_seam}
-use Rattle.std.proofs.lemmas.List.{length-map}
-use Rattle.drf_bundle.specs.declared.resource.Resource.{Resource}
-use Rattle.drf_rows.specs.Client.{Client}
-use Rattle.drf_rows.specs.Held.{clients_of}
-use Rattle.drf_rows.specs.Cycle.{grant, count_offer, new_offer, with_offer, tried, all_tried, turn_order, turn, turns, cycle}
-use Rattle.drf_rows.specs.laws.CycleLaws.{clients_of-with_offer}
+use Rattle.drf_rows.specs.Cycle.{turn, turns, cycle}
 use Rattle.drf_rows.specs.LimitNumbers.{LimitNumbers}
-use Rattle.drf_rows.specs.Consistent.{IsConsistent}
-use Rattle.drf_rows.specs.Step.{new_offers, refusal_of, effect}
+use Rattle.drf_rows.specs.Step.{new_offers, effect}
 use Rattle.drf_rows.specs.declared.limits.TheConstants.{LATEST_MOMENT}
 use Rattle.drf_rows.specs.declared.event.Event.TheVariants.{Cycle}
 use Rattle.drf_rows.specs.declared.rows.AgentRow.{AgentRow}
@@ -20,14 +14,13 @@ use Rattle.drf_rows.specs.declared.rows.Rows.{Rows}
 use Rattle.drf_tables.specs.Drafts.{with_offers}
 use Rattle.drf_sorter.specs.Content.{Content}
 use Rattle.drf_core.specs.Content.{content_of}
-use Rattle.drf_core.specs.Kept.{IsKept}
+use Rattle.drf_laws.specs.Kept.{IsKept}
 use Rattle.drf_core.specs.Drafting.{IsDrafting, turn_at, turns_of}
-use Rattle.drf_core.proofs.refusing.Welcome.{early_cycle}
-use Rattle.drf_core.proofs.content.Order.{length-turn_order}
 use Rattle.drf_gates.specs.Quota.{Allowance}
 use Rattle.drf_core.specs.Entitling.{IsQuotaOf}
 use Rattle.drf_tables.specs.DraftLaws.{offers-with_offers}
 use Rattle.drf_tables.specs.Recounting.{CountsAll}
+use Rattle.drf_laws.specs.laws.Kept.{consistent-clock}
 
 -- what is left of a list from a place on begins with the element there
 pub record BeginsAt {A : Type 0} (xs : List A) (i : ℕ) : Type 0 where
@@ -76,95 +69,7 @@ new_offers-drafts rows offers turned =
     ∙ ap (drop (length rows.offers)) (offers-with_offers rows offers)
     ∙ drop-append_seam rows.offers offers
 
--- ---- how many offers a cycle makes at most
-
-tried-next : (rows : Rows) (agent : AgentRow) (client : Client) (granted : Option (List Resource))
-    → (option_map_or (λ b. with_offer rows (new_offer rows agent client b)) granted rows).next_offer ≤ rows.next_offer + 1
-unfolding with_offer
-tried-next rows agent client None = omega arith
-tried-next rows agent client (Some bundle) = omega arith
-
-all_tried-next : (rows : Rows) (agent : AgentRow) (clients : List Client) → (all_tried rows agent clients).next_offer ≤ rows.next_offer + length clients
-all_tried-next rows agent [] = omega arith
-all_tried-next rows agent (client ∷ clients) =
-    omega (arith, all_tried-next (tried rows agent client) agent clients, tried-next rows agent client (grant rows agent client))
-
-tried-clients : (rows : Rows) (agent : AgentRow) (client : Client) (granted : Option (List Resource))
-    → clients_of (option_map_or (λ b. with_offer rows (new_offer rows agent client b)) granted rows) ≡ clients_of rows
-tried-clients rows agent client None = refl
-tried-clients rows agent client (Some bundle) = clients_of-with_offer rows (new_offer rows agent client bundle)
-
-all_tried-clients : (rows : Rows) (agent : AgentRow) (clients : List Client) → clients_of (all_tried rows agent clients) ≡ clients_of rows
-all_tried-clients rows agent [] = refl
-all_tried-clients rows agent (client ∷ clients) =
-    all_tried-clients (tried rows agent client) agent clients ∙ tried-clients rows agent client (grant rows agent client)
-
-pub turns-clients : (rows : Rows) (agents : List AgentRow) → clients_of (turns rows agents) ≡ clients_of rows
-unfolding turn
-turns-clients rows [] = refl
-turns-clients rows (agent ∷ agents) = turns-clients (turn rows agent) agents ∙ all_tried-clients rows agent (turn_order rows)
-
--- the agents stay, and as many frameworks
-tried-tables : (rows : Rows) (agent : AgentRow) (client : Client) (granted : Option (List Resource))
-    → let after : Rows = option_map_or (λ b. with_offer rows (new_offer rows agent client b)) granted rows in
-    (after.agents ≡ rows.agents) × (length after.frameworks ≡ length rows.frameworks) × (after.events ≡ rows.events)
-unfolding with_offer
-tried-tables rows agent client None = (refl, refl, refl)
-tried-tables rows agent client (Some bundle) = (refl, length-map rows.frameworks (count_offer client), refl)
-
-all_tried-tables : (rows : Rows) (agent : AgentRow) (clients : List Client)
-    → ((all_tried rows agent clients).agents ≡ rows.agents) × (length (all_tried rows agent clients).frameworks ≡ length rows.frameworks) × ((all_tried rows agent clients).events ≡ rows.events)
-all_tried-tables rows agent [] = (refl, refl, refl)
-all_tried-tables rows agent (client ∷ clients) =
-    let later = all_tried-tables (tried rows agent client) agent clients in
-    let first = tried-tables rows agent client (grant rows agent client) in
-    (later.0 ∙ first.0, later.1 ∙ first.1, later.2 ∙ first.2)
-
-pub turns-tables : (rows : Rows) (agents : List AgentRow)
-    → ((turns rows agents).agents ≡ rows.agents) × (length (turns rows agents).frameworks ≡ length rows.frameworks) × ((turns rows agents).events ≡ rows.events)
-unfolding turn
-turns-tables rows [] = (refl, refl, refl)
-turns-tables rows (agent ∷ agents) =
-    let later = turns-tables (turn rows agent) agents in
-    let first = all_tried-tables rows agent (turn_order rows) in
-    (later.0 ∙ first.0, later.1 ∙ first.1, later.2 ∙ first.2)
-
-pub turns-next_offer : (rows : Rows) (agents : List AgentRow) → (turns rows agents).next_offer ≤ rows.next_offer + length agents * length (clients_of rows)
-unfolding turn
-turns-next_offer rows [] = omega arith
-turns-next_offer rows (agent ∷ agents) =
-    let later = turns-next_offer (turn rows agent) agents in
-    let first = all_tried-next rows agent (turn_order rows) in
-    let order = length-turn_order rows in
-    let same : length (clients_of (turn rows agent)) ≡ length (clients_of rows) = ap length (all_tried-clients rows agent (turn_order rows)) in
-    let rest : (turns (turn rows agent) agents).next_offer ≤ (turn rows agent).next_offer + length agents * length (clients_of rows) =
-    subst (λ n. (turns (turn rows agent) agents).next_offer ≤ (turn rows agent).next_offer + length agents * n) same later in
-    omega (arith, rest, first, order)
-
 -- ---- a cycle begins, and is ended
-
--- the clock stays within its range
-pub early_moment : (limits : LimitNumbers) (rows : Rows) (at moment : ℕ) → rows.clock ≤ LATEST_MOMENT → refusal_of limits rows (Cycle at) ≡ None
-    → moment ≡ max rows.clock at → moment ≤ LATEST_MOMENT
-early_moment limits rows at moment early none same =
-    let late : at ≤ LATEST_MOMENT = early_cycle limits rows at none in
-    omega (arith, early, late, same)
-
--- consistent rows stay so when the clock moves
-pub consistent-clock : (rows : Rows) (clock : ℕ) → IsConsistent rows → clock ≤ LATEST_MOMENT → IsConsistent (record rows { clock = clock })
-consistent-clock rows clock right early = record {
-  agents = right.agents;
-  frameworks = right.frameworks;
-  holdings = right.holdings;
-  covered = right.covered;
-  tasks = right.tasks;
-  weights = right.weights;
-  limits = right.limits;
-  filters = right.filters;
-  early = early;
-  counted = right.counted;
-  numbered = right.numbered;
-}
 
 pub content_of-clock : (rows : Rows) (clock : ℕ) → content_of (record rows { clock = clock }) ≡ content_of rows
 unfolding content_of

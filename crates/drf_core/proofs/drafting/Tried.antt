@@ -1,5 +1,5 @@
 -- A client is tried: one more draft, or none.
-use Rattle.std.proofs.Common.{refl, ◌≡◌, ℕ, ◌+◌, ◌<◌, ◌≤◌, ◌^◌, Bool, true, false, List, [], ◌∷◌, ◌++◌, Option, Some, None, length, sym, ap, subst, ◌∙◌, cond, arith}
+use Rattle.std.proofs.Common.{refl, ◌≡◌, ℕ, ◌+◌, ◌<◌, ◌≤◌, ◌^◌, true, List, [], ◌∷◌, ◌++◌, Option, Some, None, length, sym, ap, subst, ◌∙◌, arith}
 use Rattle.std.specs.Prelude.{slice_get}
 use Rattle.std.specs.List.{AllByRecursion}
 use Rattle.std.specs.Option.{option_map_or}
@@ -7,18 +7,16 @@ use Rattle.drf_role.specs.Text.{Text}
 use Rattle.drf_role.specs.TextLaws.{same_itself}
 use Rattle.drf_role.specs.Path.{Path, role_part, framework_part}
 use Rattle.drf_role.specs.PathLaws.{role_part-client_path, framework_part-client_path}
-use Rattle.drf_bundle.specs.Value.{Point}
-use Rattle.drf_bundle.specs.Bundle.{Key, IsBundle, units, rest, quantities_of}
+use Rattle.drf_bundle.specs.Bundle.{rest, quantities_of}
 use Rattle.drf_bundle.specs.declared.resource.Resource.{Resource}
 use Rattle.drf_gates.specs.Quota.{Allowance}
 use Rattle.drf_rows.specs.laws.ListLaws.{each_at}
 use Rattle.drf_rows.specs.Client.{Client, path_of}
 use Rattle.drf_rows.specs.Holdings.{of_offer}
-use Rattle.drf_rows.specs.Cycle.{free_of, grant, is_grantable, new_offer, with_offer, tried}
-use Rattle.drf_rows.specs.laws.CycleLaws.{bundle-free_of, free_of-with_offer, bundle-entitlement, units-entitlement}
+use Rattle.drf_rows.specs.Cycle.{free_of, grant, new_offer, with_offer, tried}
+use Rattle.drf_rows.specs.laws.CycleLaws.{free_of-with_offer}
 use Rattle.drf_rows.specs.Consistent.{IsAgent, IsConsistent}
 use Rattle.drf_rows.specs.Held.{is_registered}
-use Rattle.drf_rows.specs.Quota.{entitlement}
 use Rattle.drf_rows.specs.declared.rows.AgentRow.{AgentRow}
 use Rattle.drf_rows.specs.declared.rows.OfferRow.{OfferRow}
 use Rattle.drf_rows.specs.declared.rows.Rows.{Rows}
@@ -34,37 +32,9 @@ use Rattle.drf_core.proofs.content.Offer.{content_of-with_offer}
 use Rattle.drf_core.proofs.content.Members.{has_client-registered}
 use Rattle.drf_core.proofs.content.Sound.{IsSound-content_of}
 use Rattle.drf_rows.specs.laws.ConsistentLaws.{bundles-consistent, IsConsistent-with_offer}
-
--- clients with one path are one
-pub path_of-injective : (c d : Client) → path_of c ≡ path_of d → c ≡ d
-path_of-injective c d same =
-    let roles : c.role ≡ d.role = sym (role_part-client_path c.role c.framework) ∙ (ap role_part same ∙ role_part-client_path d.role d.framework) in
-    let names : c.framework ≡ d.framework = sym (framework_part-client_path c.role c.framework) ∙ (ap framework_part same ∙ framework_part-client_path d.role d.framework) in
-    λ i. record { role = roles i; framework = names i }
-
--- a grant is a part of what is free
-pub record IsPart (bundle free : List Resource) : Type 0 where
-  pub bundle_is : IsBundle bundle
-  pub small : (key : Key) (p : Point) → units bundle key p ≤ units free key p
-
-pub grant-part : (rows : Rows) (agent : AgentRow) (client : Client) (bundle : List Resource) → IsBundle agent.total
-    → grant rows agent client ≡ Some bundle → IsPart bundle (free_of rows agent)
-grant-part rows agent client bundle total granted = by (is_grantable rows agent client part) granted
-  where
-    free : List Resource
-    free = free_of rows agent
-
-    part : List Resource
-    part = entitlement rows free client
-
-    by : (b : Bool) → cond b (Some part) None ≡ Some bundle → IsPart bundle free
-    by true e =
-        let same : part ≡ bundle = cc in
-        subst (λ (b : List Resource). IsPart b free) same (record {
-          bundle_is = bundle-entitlement rows free client (bundle-free_of rows agent total);
-          small = λ key p. units-entitlement rows free client key p;
-        })
-    by false e = cc
+use Rattle.drf_laws.specs.TurnLaws.{IsPart}
+use Rattle.drf_laws.specs.laws.Turns.{grant-part}
+use Rattle.drf_laws.specs.laws.Clients.{path_of-injective}
 
 -- the next draft
 abbrev pub next_draft : Rows → List OfferRow → AgentRow → Client → List Resource → OfferRow

@@ -10,8 +10,8 @@ use Rattle.drf_role.specs.Text.{Text, same_text}
 use Rattle.drf_role.specs.Path.{Path}
 use Rattle.drf_bundle.specs.declared.resource.Resource.{Resource}
 use Rattle.drf_rows.specs.Client.{Client, path_of}
-use Rattle.drf_rows.specs.Cycle.{free_of, grant, is_allocatable, new_offer, with_offer, tried, all_tried, turn, turn_order}
-use Rattle.drf_rows.specs.laws.CycleLaws.{free_of-with_offer_other, all_tried_none}
+use Rattle.drf_rows.specs.Cycle.{free_of, is_allocatable, tried, all_tried, turn, turn_order}
+use Rattle.drf_rows.specs.laws.CycleLaws.{all_tried_none}
 use Rattle.drf_rows.specs.laws.ListLaws.{each_from}
 use Rattle.drf_rows.specs.Consistent.{are_distinct}
 use Rattle.drf_rows.specs.Held.{is_registered}
@@ -26,7 +26,8 @@ use Rattle.drf_sorter.specs.Content.{Content, IsSound, IsOrderOf}
 use Rattle.drf_tables.specs.DraftLaws.{agents-with_offers, next-with_offers}
 use Rattle.drf_core.proofs.drafting.Drafts.{is_registered-with_offers}
 use Rattle.drf_core.proofs.content.Sound.{IsSound-content_of}
-use Rattle.drf_core.proofs.content.Order.{IsOrderOf-turn_order, turn_order-registered}
+use Rattle.drf_core.proofs.content.Order.{IsOrderOf-turn_order}
+use Rattle.drf_laws.specs.laws.Turns.{turn_order-registered, free_of-all_tried_other}
 
 -- ---- lists
 
@@ -106,19 +107,6 @@ past-push (l ∷ lefts) place left past here = (omega (arith, past.0), past-push
 
 pub HasLeft-closed : (rows : Rows) (offers : List OfferRow) (lefts : List Left) (place : ℕ) → HasLeft rows offers lefts place → HasLeft rows offers lefts (place + 1)
 HasLeft-closed rows offers lefts place left = record { frees = left.frees; past = past-more lefts place left.past }
-
--- trying clients on one agent leaves what is free on another
-free_of-tried_other : (rows : Rows) (agent : AgentRow) (client : Client) (other : AgentRow) → same_text agent.name other.name ≡ false
-    → (granted : Option (List Resource))
-    → free_of (option_map_or (λ b. with_offer rows (new_offer rows agent client b)) granted rows) other ≡ free_of rows other
-free_of-tried_other rows agent client other apart None = refl
-free_of-tried_other rows agent client other apart (Some bundle) = free_of-with_offer_other rows (new_offer rows agent client bundle) other apart
-
-pub free_of-all_tried_other : (rows : Rows) (agent : AgentRow) (clients : List Client) (other : AgentRow) → same_text agent.name other.name ≡ false
-    → free_of (all_tried rows agent clients) other ≡ free_of rows other
-free_of-all_tried_other rows agent [] other apart = refl
-free_of-all_tried_other rows agent (client ∷ clients) other apart =
-    free_of-all_tried_other (tried rows agent client) agent clients other apart ∙ free_of-tried_other rows agent client other apart (grant rows agent client)
 
 pub HasLeft-turn : (rows : Rows) (offers drafts : List OfferRow) (lefts : List Left) (place : ℕ) (agent : AgentRow) (clients : List Client) (free : List Resource)
     → are_distinct (map (λ a. a.name) rows.agents) ≡ true

@@ -1,25 +1,21 @@
 -- What the tables and the sorter hold once an offer is accepted or declined.
-use Rattle.std.proofs.Common.{◌≡◌, ℕ, ◌≤◌, Bool, true, false, List, [], ◌∷◌, ◌++◌, Option, Some, None, map, refl, sym, ap, subst, ◌∙◌, arith}
-use Rattle.std.specs.Prelude.{is_some, max, not, if◌then◌else◌}
+use Rattle.std.proofs.Common.{◌≡◌, ℕ, ◌≤◌, Bool, true, false, List, [], ◌∷◌, ◌++◌, Option, Some, map, refl, sym, ap, subst, ◌∙◌}
+use Rattle.std.specs.Prelude.{max, if◌then◌else◌}
 use Rattle.std.specs.Option.{option_map_or}
-use Rattle.std.proofs.lemmas.Bool.{not-false}
 use Rattle.std.proofs.lemmas.List.{append-nil}
-use Rattle.drf_role.specs.Text.{Text, same_text}
-use Rattle.drf_role.specs.TextLaws.{same_from_test}
 use Rattle.drf_role.specs.Path.{Path, client_path}
-use Rattle.drf_bundle.specs.Bundle.{IsBundle, quantities_of}
+use Rattle.drf_bundle.specs.Bundle.{quantities_of}
 use Rattle.drf_bundle.specs.Taken.{bundle-rest_of_all}
 use Rattle.drf_bundle.specs.declared.quantities.Entry.{Entry}
-use Rattle.drf_bundle.specs.declared.resource.Resource.{Resource}
 use Rattle.drf_rows.specs.Consistent.{IsFilter, IsConsistent}
 use Rattle.drf_rows.specs.Cycle.{at_moment}
 use Rattle.drf_rows.specs.laws.EndingLaws.{offer_at-place, held-offer_at, held_where-accepted}
 use Rattle.drf_rows.specs.Endings.{without_ended, one_offer}
 use Rattle.drf_rows.specs.Holdings.{is_of}
-use Rattle.drf_rows.specs.Offers.{CanStart, offer_accepted, offer_declined, filter_of, filters_with, has_offer, is_task_known, left_of_offer, offer_at, refused_until, refuses_all, refuses_rest, task_of}
+use Rattle.drf_rows.specs.Offers.{CanStart, offer_accepted, offer_declined, filter_of, filters_with, left_of_offer, offer_at, refused_until, refuses_all, refuses_rest, task_of}
 use Rattle.drf_rows.specs.Step.{effect}
 use Rattle.drf_rows.specs.laws.TaskLaws.{HasAll, units-covers_all}
-use Rattle.drf_rows.specs.Tasks.{Start, uses, covers_all, IsTaskList}
+use Rattle.drf_rows.specs.Tasks.{Start, uses, IsTaskList}
 use Rattle.drf_rows.specs.declared.event.Accept as accepting
 use Rattle.drf_rows.specs.declared.event.Decline as declining
 use Rattle.drf_rows.specs.declared.event.Event.TheVariants.{Accept, Decline}
@@ -29,62 +25,14 @@ use Rattle.drf_rows.specs.declared.rows.OfferRow.{OfferRow}
 use Rattle.drf_rows.specs.declared.rows.Rows.{Rows}
 use Rattle.drf_sorter.specs.Content.{Content, has_client, with_change, refunded, HoldsAt}
 use Rattle.drf_tables.specs.Ended.{CanAccept, with_accepted}
-use Rattle.drf_core.specs.Accepting.{IsEnough, filter_if}
+use Rattle.drf_laws.specs.EventLaws.{IsEnough}
+use Rattle.drf_core.specs.Accepting.{filter_if}
 use Rattle.drf_core.specs.Content.{content_of}
 use Rattle.drf_core.proofs.content.Ended.{GaveBack, content_of-gave_back, HoldsAt-gave_back}
 use Rattle.drf_core.proofs.effects.Ended.{known-client}
-use Rattle.drf_core.proofs.refusing.Welcome.{IsWelcomeAccept}
-
--- ---- an offer that stands
-
--- it may have a filter
-pub offer_filter : (rows : Rows) (number : ℕ) (o : OfferRow) (bundle : List Resource) (moment refuse_ms : ℕ)
-    → IsConsistent rows → offer_at rows number ≡ Some o → IsBundle bundle → moment ≤ LATEST_MOMENT
-    → IsFilter rows.agents rows.frameworks (filter_of o bundle (refused_until moment refuse_ms))
-offer_filter rows number o bundle moment refuse_ms right found is early =
-    let held = held-offer_at rows number o right found in
-    record { agent = held.agent; client = held.client; bundle = is; until = omega (arith, early) }
-
--- some offer stands
-pub record IsOffer (rows : Rows) (number : ℕ) : Type 0 where
-  pub offer : OfferRow
-  pub at : offer_at rows number ≡ Some offer
-
-pub some_offer : (rows : Rows) (number : ℕ) → has_offer rows number ≡ true → IsOffer rows number
-some_offer rows number known = by (offer_at rows number) refl known
-  where
-    by : (found : Option OfferRow) → offer_at rows number ≡ found → is_some found ≡ true → IsOffer rows number
-    by None none some = cc
-    by (Some o) at some = record { offer = o; at = at }
-
--- the offer of a number is one
-pub same_offer : (rows : Rows) (number : ℕ) (o p : OfferRow) → offer_at rows number ≡ Some o → offer_at rows number ≡ Some p → o ≡ p
-same_offer rows number o p one other =
-    let e : Some o ≡ Some p = sym one ∙ other in
-    cc
-
--- the clock stays within its range
-pub moment_early : (rows : Rows) (at moment : ℕ) → IsConsistent rows → at ≤ LATEST_MOMENT → moment ≡ max rows.clock at → moment ≤ LATEST_MOMENT
-moment_early rows at moment right late same =
-    let early : rows.clock ≤ LATEST_MOMENT = right.early in
-    omega (arith, early, late, same)
+use Rattle.drf_laws.specs.laws.Offers.{same_offer, offer_filter}
 
 -- ---- it is accepted
-
--- an offer that may be accepted is enough
-pub enough_of : (rows : Rows) (a : accepting.Accept) → IsWelcomeAccept rows a → IsEnough rows a.offer a.tasks
-enough_of rows a welcome =
-    let one = some_offer rows a.offer welcome.stands in
-    let its_own : not (same_text one.offer.framework a.framework) ≡ false
-    = sym (ap (λ (o : Option OfferRow). option_map_or (λ o. not (same_text o.framework a.framework)) o false) one.at) ∙ welcome.its_own in
-    let framework_is = same_from_test one.offer.framework a.framework (not-false (same_text one.offer.framework a.framework) its_own) in
-    record {
-      offer = one.offer;
-      at = one.at;
-      covered = not-false (covers_all one.offer.bundle (uses a.tasks))
-          (sym (ap (λ (o : Option OfferRow). option_map_or (λ o. not (covers_all o.bundle (uses a.tasks))) o false) one.at) ∙ welcome.covered);
-      new = ap (λ (f : Text). is_task_known rows f a.tasks) framework_is ∙ welcome.new;
-    }
 
 pub can_start : (rows : Rows) (number : ℕ) (starts : List Start) (o : OfferRow) → IsEnough rows number starts → IsTaskList starts
     → offer_at rows number ≡ Some o → CanStart rows o starts

@@ -10,8 +10,7 @@ use Rattle.drf_bundle.specs.declared.quantities.Entry.{Entry}
 use Rattle.drf_rows.specs.Client.{Client}
 use Rattle.drf_rows.specs.Held.{cluster_total, is_registered}
 use Rattle.drf_rows.specs.Holdings.{is_of}
-use Rattle.drf_rows.specs.Endings.{Ending, ends_offer, ends_task, without_ended, offers_on, all_on, all_of}
-use Rattle.drf_rows.specs.laws.ListLaws.{filter-again}
+use Rattle.drf_rows.specs.Endings.{Ending, without_ended, offers_on, all_on, all_of}
 use Rattle.drf_rows.specs.Members.{with_activity, with_suppression, revived, agent_removed, framework_removed}
 use Rattle.drf_rows.specs.Filters.{filters_without_agent, filters_without_client, filters_without_framework}
 use Rattle.drf_rows.specs.Consistent.{AreFrameworks}
@@ -29,6 +28,7 @@ use Rattle.drf_core.proofs.content.Ended.{GaveBack, content_of-gave_back, HoldsA
 use Rattle.drf_core.proofs.content.Changed.{content_of-filters, content_of-activity, content_of-suppression, content_of-agent_removed}
 use Rattle.drf_core.proofs.content.Members.{has_client-registered}
 use Rattle.drf_core.proofs.content.Removed.{AreKnown-removing, content_of-framework_removed}
+use Rattle.drf_laws.specs.laws.Endings.{ended_twice}
 
 -- ---- one holding ended
 
@@ -56,12 +56,6 @@ module _ (old new : Rows) (ending : Ending) (held : Held) (ended : HasEnded old 
       ∙ content_of-gave_back old new held.client (quantities_of held.bundle) gave
 
 -- ---- all that ends has ended
-
-ended_twice : (rows : Rows) (ending : Ending) → without_ended (without_ended rows ending) ending ≡ without_ended rows ending
-ended_twice rows ending = λ i. record rows {
-  offers = filter-again (λ o. not (ends_offer ending o)) rows.offers i;
-  tasks = filter-again (λ t. not (ends_task ending t)) rows.tasks i;
-}
 
 -- nothing is left that ends
 pub nothing_left : (rows middle : Rows) (ending : Ending) → middle ≡ without_ended rows ending → without_ended middle ending ≡ middle

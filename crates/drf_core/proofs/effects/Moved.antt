@@ -1,6 +1,6 @@
 -- What the sorter holds once a part of an agent moves, a limit is set, or a total is another; and that cases of refusal come in two parts.
-use Rattle.std.proofs.Common.{◌≡◌, ◌<◌, ◌≤◌, ◌^◌, true, false, List, ◌++◌, length, Some, None, refl, sym, ap, ◌∙◌, arith}
-use Rattle.std.specs.Prelude.{Bool, not, filter}
+use Rattle.std.proofs.Common.{◌≡◌, ◌≤◌, true, false, List, ◌++◌, Some, None, refl, sym, ap, ◌∙◌}
+use Rattle.std.specs.Prelude.{not, filter}
 use Rattle.std.proofs.lemmas.Bool.{not-false}
 use Rattle.drf_role.specs.Text.{Text, same_text}
 use Rattle.drf_role.specs.Path.{Path}
@@ -12,10 +12,8 @@ use Rattle.drf_rows.specs.LimitNumbers.{LimitNumbers}
 use Rattle.drf_rows.specs.Consistent.{IsConsistent, IsAgent}
 use Rattle.drf_rows.specs.Cycle.{free_of}
 use Rattle.drf_rows.specs.Held.{cluster_total}
-use Rattle.drf_rows.specs.laws.ListLaws.{each_filter, length-filter_le}
 use Rattle.drf_rows.specs.Members.{has_agent}
 use Rattle.drf_rows.specs.Quota.{limits_with}
-use Rattle.drf_rows.specs.laws.ReportedShares.{small_total}
 use Rattle.drf_rows.specs.laws.ReservationLaws.{IsAsked, can_move-reserve, can_move-unreserve, can_exchange-reserve, can_exchange-unreserve, found_known}
 use Rattle.drf_rows.specs.Step.{cases_of, refusal_of, effect}
 use Rattle.drf_rows.specs.Totals.{CanExchange, agent_at, exchanged, with_total, with_other_total}
@@ -30,7 +28,7 @@ use Rattle.drf_sorter.specs.Content.{Content}
 use Rattle.drf_tables.specs.Changing.{CanExchangeOn, CanHaveTotal}
 use Rattle.drf_core.specs.Content.{content_of}
 use Rattle.drf_core.specs.Refusing.{early_cases_of, late_cases_of}
-use Rattle.drf_core.proofs.refusing.Welcome.{no_case_of, small_amounts}
+use Rattle.drf_laws.specs.laws.Welcome.{no_case_of, small_amounts}
 
 -- the cases that are told whatever the memory come first
 pub early_and_late : (limits : LimitNumbers) (rows : Rows) (event : Event) → cases_of limits rows event ≡ early_cases_of limits rows event ++ late_cases_of limits rows event
@@ -124,14 +122,6 @@ module _ (limits : LimitNumbers) (rows : Rows) (agent : Text) (total : List Reso
       let no = no_case_of limits rows (SetAgent agent total) none in
       let at = found_known rows agent (not-false (has_agent rows agent) no.1.0) in
       record { row = at.0; found = at.1; bundle = bundle; small = small-set_agent; covered = no.1.1.0 }
-
--- what the other agents have is small
-pub small_others : (rows : Rows) (agent label : Text) → IsConsistent rows → length rows.agents ≤ 4096
-    → amount_of (cluster_total (filter (λ a. not (same_text a.name agent)) rows.agents)) label < 2 ^ 52
-small_others rows agent label consistent few =
-    let other : AgentRow → Bool = λ a. not (same_text a.name agent) in
-    small_total (filter other rows.agents) label (each_filter IsAgent other rows.agents consistent.agents.each)
-    (omega (arith, few, length-filter_le other rows.agents))
 
 pub content_of-other_total : (rows : Rows) (name : Text) (a : AgentRow) (total : List Resource) → IsConsistent rows → agent_at rows name ≡ Some a
     → IsAgent (record a { total = total })

@@ -1,10 +1,8 @@
 -- What an event may add to what a sorter owes, from rows that have the same live rows.
-use Rattle.std.proofs.Common.{◌≡◌, ℕ, Bool, List, [], ◌∷◌, ◌++◌, Option, Some, None, length, refl, sym, ap, ◌∙◌, arith}
-use Rattle.std.specs.Prelude.{drop}
+use Rattle.std.proofs.Common.{◌≡◌, ℕ, Bool, List, [], ◌∷◌, ◌++◌, Option, Some, None, refl, sym, ap, ◌∙◌, arith}
 use Rattle.std.specs.Option.{option_map_or, MatchOption}
 use Rattle.drf_rows.specs.LimitNumbers.{LimitNumbers}
 use Rattle.drf_rows.specs.Step.{live_rows, refusal_of, effect, rows_after, rows_after_all, new_offers}
-use Rattle.drf_rows.specs.laws.StepLaws.{rows_after-accepted}
 use Rattle.drf_rows.specs.declared.event.Event.{Event}
 use Rattle.drf_rows.specs.declared.event.Event.TheVariants.{AddAgent, RemoveAgent, ActivateAgent, DeactivateAgent, SetAgent, AddFramework, RemoveFramework, Accept, Decline, Rescind, Finish, Suppress, Revive, Reserve, Unreserve, SetWeight, SetLimit, Cycle, Report}
 use Rattle.drf_rows.specs.declared.reply.Refusal.{Refusal}
@@ -12,11 +10,7 @@ use Rattle.drf_rows.specs.declared.rows.OfferRow.{OfferRow}
 use Rattle.drf_rows.specs.declared.rows.Rows.{Rows}
 use Rattle.drf_sorter.specs.Work.{Work, Adds}
 use Rattle.drf_core.specs.Working.{allowance, allowed, allowance_of_all, bounded_sum, nodes_of, offered_to, touched}
-use Rattle.drf_core.proofs.stepping.Step.{welcome_from, accepted_from}
-
--- live rows have all offers
-offers-live : (a b : Rows) → live_rows a ≡ live_rows b → a.offers ≡ b.offers
-offers-live a b same = ap (λ (r : Rows). r.offers) same
+use Rattle.drf_laws.specs.laws.SameLive.{welcome_from, new_offers-live}
 
 module _ (limits : LimitNumbers) (rows old : Rows) (event : Event) (live : live_rows rows ≡ live_rows old) where
   pub allowance-refused : (refusal : Refusal) → refusal_of limits rows event ≡ Some refusal → allowance limits old event ≡ Some 0
@@ -27,18 +21,6 @@ module _ (limits : LimitNumbers) (rows old : Rows) (event : Event) (live : live_
           let nothing : Some refusal ≡ None = sym case ∙ welcome_from limits old rows event (sym live) none in
           absurd cc
       by (Some other) some = ap (λ (o : Option Refusal). option_map_or (λ refusal. Some 0) o (allowed old event)) some
-
-  -- the new offers are the same
-  new_offers-live : refusal_of limits rows event ≡ None → new_offers rows (effect rows event) ≡ new_offers old (effect old event)
-  new_offers-live none =
-      let later : live_rows (rows_after limits rows event) ≡ live_rows (rows_after limits old event) = (accepted_from limits rows old event live none).1 in
-      let none_old : refusal_of limits old event ≡ None = welcome_from limits rows old event live none in
-      let before : rows.offers ≡ old.offers = offers-live rows old live in
-      let after : (effect rows event).offers ≡ (effect old event).offers =
-      sym (ap (λ (r : Rows). r.offers) (rows_after-accepted limits rows event none))
-      ∙ offers-live (rows_after limits rows event) (rows_after limits old event) later
-      ∙ ap (λ (r : Rows). r.offers) (rows_after-accepted limits old event none_old) in
-      λ i. drop (length (before i)) (after i)
 
 module _ (rows old : Rows) (live : live_rows rows ≡ live_rows old) where
   touched-same : (event : Event) → Some (nodes_of (touched (live_rows rows) event)) ≡ Some (nodes_of (touched (live_rows old) event))

@@ -1,24 +1,23 @@
 -- Steps and runs of a core.
-use Rattle.std.proofs.Common.{◌≡◌, ℕ, zero, suc, ◌+◌, Option, List, [], ◌∷◌, ◌++◌, Some, None, take, refl, sym, ap, subst, ◌∙◌, arith, add-one}
+use Rattle.std.proofs.Common.{◌≡◌, ℕ, zero, suc, ◌+◌, Option, List, [], ◌∷◌, ◌++◌, Some, None, take, refl, sym, ap, subst, ◌∙◌, add-one}
 use Rattle.std.specs.Prelude.{slice_get}
-use Rattle.drf_rows.specs.LimitNumbers.{LimitNumbers, IsWithinCeilings}
-use Rattle.drf_rows.specs.Step.{opening, live_rows, first_case, refusal_of, effect, answer, rows_after, rows_after_all, reply_to, replies_to}
+use Rattle.drf_rows.specs.LimitNumbers.{LimitNumbers}
+use Rattle.drf_rows.specs.Step.{live_rows, first_case, refusal_of, effect, rows_after, rows_after_all, reply_to, replies_to}
 use Rattle.drf_rows.specs.Consistent.{IsConsistent, IsNumberedByEvents}
-use Rattle.drf_rows.specs.laws.StepLaws.{reply_to-refused, reply_to-accepted, rows_after-refused, rows_after-accepted}
+use Rattle.drf_rows.specs.laws.StepLaws.{rows_after-accepted}
 use Rattle.drf_rows.specs.laws.RunLaws.{rows_after_all-append, replies_to-append}
 use Rattle.drf_rows.specs.laws.LiveLaws.{reply_to-same_live, rows_after-same_live}
-use Rattle.drf_rows.specs.laws.RegistrationLaws.{IsConsistent-opening}
 use Rattle.drf_rows.specs.declared.event.Event.{Event}
 use Rattle.drf_rows.specs.declared.event.Event.TheVariants.{AddAgent, RemoveAgent, ActivateAgent, DeactivateAgent, SetAgent, AddFramework, RemoveFramework, Accept, Decline, Rescind, Finish, Suppress, Revive, Reserve, Unreserve, SetWeight, SetLimit, Cycle, Report}
 use Rattle.drf_rows.specs.declared.reply.Refusal.{Refusal}
 use Rattle.drf_rows.specs.declared.reply.Reply.{Reply}
-use Rattle.drf_rows.specs.declared.reply.Reply.TheVariants.{Refused}
 use Rattle.drf_rows.specs.declared.rows.Rows.{Rows}
 use Rattle.drf_core.specs.Machine.{Engine, IsAfter, IsAfterAll}
-use Rattle.drf_core.specs.Kept.{AreFew, IsKept}
+use Rattle.drf_laws.specs.Kept.{AreFew, IsKept, IsCountable}
 use Rattle.drf_core.specs.Refusing.{cases_of_agent, cases_of_move, early_refusal_of}
-use Rattle.drf_core.proofs.stepping.Kept.{IsCountable, countable_after}
+use Rattle.drf_laws.specs.laws.Kept.{countable_after, IsKept-forgot}
 use Rattle.drf_core.proofs.refusing.Tests.{told_early}
+use Rattle.drf_laws.specs.laws.SameLive.{welcome_from}
 
 -- the elements up to one, and that one
 pub take_one_more : {X : Type 0} (xs : List X) (i : ℕ) (x : X) → slice_get xs i ≡ Some x → take (i + 1) xs ≡ take i xs ++ x ∷ []
@@ -26,30 +25,7 @@ take_one_more [] i x at = cc
 take_one_more (y ∷ xs) zero x at = let same : y ≡ x = cc in ap (λ z. z ∷ []) same
 take_one_more (y ∷ xs) (suc i) x at = rw (add-one (suc i)) (ap (λ zs. y ∷ zs) (rw (add-one i) at (take_one_more xs i x at)))
 
-pub IsKept-opening : (limits : LimitNumbers) (rows : Rows) → rows ≡ opening → IsWithinCeilings limits → IsKept limits rows
-IsKept-opening limits rows opens within = rw opens (record {
-  consistent = IsConsistent-opening;
-  few = record { ceilings = within; agents = omega arith; frameworks = omega arith; clients = omega arith; weights = omega arith; events = omega arith };
-  numbered = omega arith;
-})
-
 -- ---- a step
-
--- filters are forgotten
-pub IsKept-forgot : (limits : LimitNumbers) (rows new : Rows) → IsKept limits rows
-    → new ≡ record rows { filters = new.filters } → IsConsistent new → IsKept limits new
-IsKept-forgot limits rows new kept same right = record {
-  consistent = right;
-  few = rw same (record {
-    ceilings = kept.few.ceilings;
-    agents = kept.few.agents;
-    frameworks = kept.few.frameworks;
-    clients = kept.few.clients;
-    weights = kept.few.weights;
-    events = kept.few.events;
-  });
-  numbered = rw same kept.numbered;
-}
 
 -- rows that stand for old ones: kept, and with the same live rows
 pub record IsReady (limits : LimitNumbers) (old rows : Rows) : Type 0 where
@@ -62,56 +38,6 @@ pub IsReady-tested : (limits : LimitNumbers) (old forgot tested : Rows) → IsKe
     → IsReady limits old tested
 IsReady-tested limits old forgot tested kept live others right same =
     subst (IsReady limits old) (sym same) (record { kept = IsKept-forgot limits old forgot kept others right; live = live })
-
--- what is answered to an event that is not refused is no refusal
-answer_told : (before after : Rows) (event : Event) (refusal : Refusal) → answer before after event ≡ Refused refusal → Some refusal ≡ None
-answer_told before after (AddAgent agent total) refusal told = cc
-answer_told before after (RemoveAgent agent) refusal told = cc
-answer_told before after (ActivateAgent agent) refusal told = cc
-answer_told before after (DeactivateAgent agent) refusal told = cc
-answer_told before after (SetAgent agent total) refusal told = cc
-answer_told before after (AddFramework framework roles) refusal told = cc
-answer_told before after (RemoveFramework framework) refusal told = cc
-answer_told before after (Accept a) refusal told = cc
-answer_told before after (Decline d) refusal told = cc
-answer_told before after (Rescind offer) refusal told = cc
-answer_told before after (Finish framework task) refusal told = cc
-answer_told before after (Suppress framework role) refusal told = cc
-answer_told before after (Revive framework role) refusal told = cc
-answer_told before after (Reserve agent role resources) refusal told = cc
-answer_told before after (Unreserve agent role resources) refusal told = cc
-answer_told before after (SetWeight role weight) refusal told = cc
-answer_told before after (SetLimit role limit) refusal told = cc
-answer_told before after (Cycle at) refusal told = cc
-answer_told before after Report refusal told = cc
-
--- from rows that have the same live rows
-module _ (limits : LimitNumbers) (rows old : Rows) (event : Event) (live : live_rows rows ≡ live_rows old) where
-  pub refused_from : (refusal : Refusal) → refusal_of limits rows event ≡ Some refusal
-      → (Refused refusal ≡ reply_to limits old event) × (live_rows rows ≡ live_rows (rows_after limits old event))
-  refused_from refusal case = (
-    sym (reply_to-refused limits rows event refusal case) ∙ reply_to-same_live limits rows old live event,
-    ap live_rows (sym (rows_after-refused limits rows event refusal case)) ∙ rows_after-same_live limits rows old live event,
-  )
-
-  pub welcome_from : refusal_of limits rows event ≡ None → refusal_of limits old event ≡ None
-  welcome_from none = by (refusal_of limits old event) refl
-    where
-      by : (found : Option Refusal) → refusal_of limits old event ≡ found → refusal_of limits old event ≡ None
-      by None case = case
-      by (Some refusal) case =
-          let told : answer rows (effect rows event) event ≡ Refused refusal
-          = sym (reply_to-accepted limits rows event none) ∙ reply_to-same_live limits rows old live event
-          ∙ reply_to-refused limits old event refusal case in
-          case ∙ answer_told rows (effect rows event) event refusal told
-
-  pub accepted_from : refusal_of limits rows event ≡ None
-      → (answer rows (effect rows event) event ≡ reply_to limits old event)
-      × (live_rows (rows_after limits rows event) ≡ live_rows (rows_after limits old event))
-  accepted_from none = (
-    sym (reply_to-accepted limits rows event none) ∙ reply_to-same_live limits rows old live event,
-    rows_after-same_live limits rows old live event,
-  )
 
 -- no early case holds of rows with the same live rows
 pub early_from : (limits : LimitNumbers) (rows old : Rows) (event : Event) → live_rows rows ≡ live_rows old

@@ -1,5 +1,5 @@
 use Rattle.drf_core.proofs.drafting.Granted.{no_limits}
-use Rattle.drf_core.proofs.refusing.Late.{admits-unlimited}
+use Rattle.drf_laws.specs.laws.Tests.{admits-unlimited}
 use Rattle.drf_core.proofs.late.admits.Goals as goal
 
 pub returns-then-not-has_limits : goal.returns-then-not-has_limits

@@ -3,7 +3,7 @@ use Rattle.std.proofs.Common.{subst, sym}
 use Rattle.std.proofs.lemmas.Result.{IfOk-weaker}
 use Rattle.drf_rows.specs.Step.{live_rows}
 use Rattle.drf_core.specs.Machine.{IsSafe}
-use Rattle.drf_core.proofs.stepping.Kept.{safe_kept}
+use Rattle.drf_core.proofs.stepping.Safe.{safe_kept}
 use Rattle.drf_core.proofs.allocator.Core.rows.Goals as goal
 
 pub returns-clause-safe : goal.returns-clause-safe

@@ -3,12 +3,13 @@ use Rattle.std.specs.Result.{OnErr}
 use Rattle.std.specs.Option.{IfSome, MatchOption}
 use Rattle.drf_rows.specs.Step.{live_rows, refusal_of, reply_to, rows_after}
 use Rattle.drf_rows.specs.declared.rows.Rows.{Rows}
-use Rattle.drf_core.specs.Kept.{IsKept}
+use Rattle.drf_laws.specs.Kept.{IsKept}
 use Rattle.drf_core.specs.Machine.{Engine, IsSafe}
 use Rattle.drf_core.specs.Refusing.{early_refusal_of}
-use Rattle.drf_core.proofs.stepping.Kept.{safe_kept}
-use Rattle.drf_core.proofs.refusing.Welcome.{room_for}
-use Rattle.drf_core.proofs.stepping.Step.{IsReady-tested, refused_from, welcome_from, accepted_from, early_from, early_none, rows_after-counted, events-applied, IsKept-counted}
+use Rattle.drf_core.proofs.stepping.Safe.{safe_kept}
+use Rattle.drf_laws.specs.laws.Welcome.{room_for}
+use Rattle.drf_core.proofs.stepping.Step.{IsReady-tested, early_from, early_none, rows_after-counted, events-applied, IsKept-counted}
+use Rattle.drf_laws.specs.laws.SameLive.{refused_from, welcome_from, accepted_from}
 use Rattle.drf_core.specs.Working.{allowance, allowed}
 use Rattle.drf_core.proofs.stepping.Allowance.{allowance-refused, allowance-accepted}
 use Rattle.drf_sorter.specs.Work.{Work, Adds, debt}

@@ -1,7 +1,7 @@
 use Rattle.std.proofs.Common.{subst}
 use Rattle.drf_rows.specs.Step.{live_rows}
 use Rattle.drf_core.specs.Machine.{Engine, IsSafe}
-use Rattle.drf_core.proofs.stepping.Kept.{safe_kept}
+use Rattle.drf_core.proofs.stepping.Safe.{safe_kept}
 use Rattle.drf_core.proofs.allocator.Core.tell_safe.Goals as goal
 
 pub returns : goal.returns

@@ -6,7 +6,8 @@ use Rattle.drf_rows.specs.Offers.{offer_accepted, filter_of, is_empty, left_of_o
 use Rattle.drf_rows.specs.declared.rows.OfferRow.{OfferRow}
 use Rattle.drf_rows.specs.declared.rows.Rows.{Rows}
 use Rattle.drf_core.specs.Accepting.{filter_if}
-use Rattle.drf_core.proofs.effects.Accepted.{moment_early, can_start, same_offer, can_accept, rows_accepted, known-accepted, held-accepted, sorted-accepted, effect-accept}
+use Rattle.drf_laws.specs.laws.Offers.{moment_early, same_offer}
+use Rattle.drf_core.proofs.effects.Accepted.{can_start, can_accept, rows_accepted, known-accepted, held-accepted, sorted-accepted, effect-accept}
 use Rattle.drf_core.proofs.stepping.Work.{nodes_of-offer}
 use Rattle.drf_core.proofs.cluster.Cluster.accept.Goals.{After-set_clock}
 use Rattle.drf_core.proofs.cluster.Cluster.accept.Given as given

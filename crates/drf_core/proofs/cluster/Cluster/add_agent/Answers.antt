@@ -3,8 +3,9 @@ use Rattle.drf_bundle.specs.Quantities.{plus}
 use Rattle.drf_bundle.specs.Bundle.{quantities_of}
 use Rattle.drf_rows.specs.Held.{cluster_total}
 use Rattle.drf_rows.specs.declared.rows.Rows.{Rows}
-use Rattle.drf_core.proofs.refusing.Welcome.{welcome_agent, small_amounts}
-use Rattle.drf_core.proofs.effects.Registered.{sound_total, few_agents, sorted-agent, effect-agent}
+use Rattle.drf_laws.specs.laws.Welcome.{welcome_agent, small_amounts}
+use Rattle.drf_laws.specs.laws.Kept.{sound_total, few_agents}
+use Rattle.drf_core.proofs.effects.Registered.{sorted-agent, effect-agent}
 use Rattle.drf_core.proofs.cluster.Cluster.add_agent.Goals as goal
 
 pub plus-requires : goal.plus-requires

@@ -10,8 +10,9 @@ use Rattle.drf_rows.specs.declared.rows.ClientRow.{ClientRow}
 use Rattle.drf_rows.specs.declared.rows.Rows.{Rows}
 use Rattle.drf_sorter.specs.Content.{Content}
 use Rattle.drf_core.specs.Registering.{AreNew, client_paths, with_all}
-use Rattle.drf_core.proofs.content.Registered.{distinct_apart, roles_of_new, uncounted_new, AreNew-registering}
-use Rattle.drf_core.proofs.refusing.Welcome.{welcome_framework}
+use Rattle.drf_laws.specs.laws.Roles.{distinct_apart, roles_of_new, uncounted_new}
+use Rattle.drf_core.proofs.content.Registered.{AreNew-registering}
+use Rattle.drf_laws.specs.laws.Welcome.{welcome_framework}
 use Rattle.drf_core.proofs.effects.Registered.{sorted-framework, effect-framework}
 use Rattle.drf_core.proofs.stepping.Work.{nodes_of-new}
 use Rattle.drf_core.proofs.cluster.Cluster.add_framework.Goals as goal

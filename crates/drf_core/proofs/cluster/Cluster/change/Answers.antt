@@ -2,8 +2,8 @@ use Rattle.std.proofs.Common.{◌≡◌, true≢false, None, subst, sym, ap, ◌
 use Rattle.drf_rows.specs.Step.{refusal_of}
 use Rattle.drf_rows.specs.declared.event.Event.{Event}
 use Rattle.drf_core.specs.Applying.{has_answer}
-use Rattle.drf_core.proofs.effects.Accepted.{enough_of}
-use Rattle.drf_core.proofs.refusing.Welcome.{known_framework, known_suppressed, known_reviving, welcome_accept, welcome_decline}
+use Rattle.drf_laws.specs.laws.Offers.{enough_of}
+use Rattle.drf_laws.specs.laws.Welcome.{known_framework, known_suppressed, known_reviving, welcome_accept, welcome_decline}
 use Rattle.drf_core.proofs.cluster.Cluster.change.Goals as goal
 
 pub remove_framework-requires-clause-known : goal.remove_framework-requires-clause-known

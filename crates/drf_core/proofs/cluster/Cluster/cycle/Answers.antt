@@ -8,7 +8,9 @@ use Rattle.drf_core.specs.Content.{content_of}
 use Rattle.drf_rows.specs.declared.rows.OfferRow.{OfferRow}
 use Rattle.drf_core.specs.Drafting.{turns_of}
 use Rattle.drf_core.specs.Working.{nodes_of, offered_to}
-use Rattle.drf_core.proofs.drafting.Cycle.{early_moment, drafting-begins, turns_of-cycle, new_offers-cycle, content_of-clock}
+use Rattle.drf_laws.specs.laws.Offers.{moment_early}
+use Rattle.drf_laws.specs.laws.Welcome.{early_cycle}
+use Rattle.drf_core.proofs.drafting.Cycle.{drafting-begins, turns_of-cycle, new_offers-cycle, content_of-clock}
 use Rattle.drf_core.proofs.cluster.Cluster.cycle.Goals.{After-offer_all}
 use Rattle.drf_core.proofs.cluster.Cluster.cycle.Given as given
 use Rattle.drf_core.proofs.cluster.Cluster.cycle.Goals as goal
@@ -16,14 +18,16 @@ use Rattle.drf_core.proofs.cluster.Cluster.cycle.Goals as goal
 pub set_clock-requires : goal.set_clock-requires
 set_clock-requires g c =
     let kept = rw (← c.self.view_is) at c.requires.kept in
-    early_moment c.args.limits.now c.self.inside.tables.rows c.args.at c.max.result kept.consistent.early (rw (← c.self.view_is) at c.requires.welcome)
+    moment_early c.self.inside.tables.rows c.args.at c.max.result kept.consistent
+    (early_cycle c.args.limits.now c.self.inside.tables.rows c.args.at (rw (← c.self.view_is) at c.requires.welcome))
     (c.max.ensures ∙ ap (λ n. max n c.args.at) c.clock-before.ensures)
 
 pub offer_all-requires-clause-drafting : goal.offer_all-requires-clause-drafting
 offer_all-requires-clause-drafting g c =
     let kept = rw (← c.self.view_is) at c.requires.kept in
     drafting-begins (g.S.Sorter.content c.self.inside.sorter) c.args.limits.now c.self.inside.tables.rows c.set_clock.new.self.rows c.max.result c.new.result.items
-    c.self.invariant kept (early_moment c.args.limits.now c.self.inside.tables.rows c.args.at c.max.result kept.consistent.early (rw (← c.self.view_is) at c.requires.welcome) (c.max.ensures ∙ ap (λ n. max n c.args.at) c.clock-before.ensures)) c.set_clock.ensures c.new.ensures.items
+    c.self.invariant kept (moment_early c.self.inside.tables.rows c.args.at c.max.result kept.consistent
+    (early_cycle c.args.limits.now c.self.inside.tables.rows c.args.at (rw (← c.self.view_is) at c.requires.welcome)) (c.max.ensures ∙ ap (λ n. max n c.args.at) c.clock-before.ensures)) c.set_clock.ensures c.new.ensures.items
 
 pub invariant_of-self : goal.invariant_of-self
 invariant_of-self g c = c.in-Ok.ensures.sorted

@@ -4,7 +4,8 @@ use Rattle.drf_rows.specs.Endings.{one_offer}
 use Rattle.drf_rows.specs.Offers.{filters_with, refuses_all}
 use Rattle.drf_rows.specs.declared.rows.Rows.{Rows}
 use Rattle.drf_core.specs.Working.{losers, nodes_of}
-use Rattle.drf_core.proofs.effects.Accepted.{some_offer, sorted-declined, rows_declined, effect-decline}
+use Rattle.drf_laws.specs.laws.Offers.{some_offer}
+use Rattle.drf_core.proofs.effects.Accepted.{sorted-declined, rows_declined, effect-decline}
 use Rattle.drf_core.proofs.cluster.Cluster.decline.Goals as goal
 
 pub invariant_of-self-2 : goal.invariant_of-self-2

@@ -5,8 +5,9 @@ use Rattle.drf_bundle.specs.Quantities.{plus}
 use Rattle.drf_bundle.specs.Bundle.{quantities_of}
 use Rattle.drf_rows.specs.Held.{cluster_total}
 use Rattle.drf_rows.specs.declared.rows.Rows.{Rows}
-use Rattle.drf_core.proofs.stepping.Kept.{few_agents_kept}
-use Rattle.drf_core.proofs.effects.Moved.{small-set_agent, total-set_agent, small_others, sorted-total, effect-total}
+use Rattle.drf_laws.specs.laws.Kept.{few_agents_kept}
+use Rattle.drf_core.proofs.effects.Moved.{small-set_agent, total-set_agent, sorted-total, effect-total}
+use Rattle.drf_laws.specs.laws.Kept.{small_others}
 use Rattle.drf_core.proofs.cluster.Cluster.set_agent.Goals as goal
 
 pub plus-requires : goal.plus-requires

@@ -1,0 +1,5 @@
+use Rattle.drf_laws.specs.laws.Within.{runs_stay_within_limits}
+use Rattle.drf_laws.proofs.laws.bounded_runs_law.Goals as goal
+
+pub returns : goal.returns
+returns c = runs_stay_within_limits

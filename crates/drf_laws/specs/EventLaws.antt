@@ -1,0 +1,62 @@
+-- What holds of each event that is not refused.
+use Rattle.std.specs.Prelude.{◌≡◌, ℕ, true, false, List, Some, None}
+use Rattle.std.specs.List.{AllByRecursion}
+use Rattle.drf_rows.specs.LimitNumbers.{LimitNumbers}
+use Rattle.drf_rows.specs.Consistent.{IsConsistent, IsNumberedByEvents}
+use Rattle.drf_rows.specs.Offers.{offer_at, is_task_known}
+use Rattle.drf_rows.specs.Step.{live_rows, cases_of, refusal_of, effect, new_offers}
+use Rattle.drf_rows.specs.Tasks.{Start, uses, covers_all}
+use Rattle.drf_rows.specs.declared.event.Accept as accepting
+use Rattle.drf_rows.specs.declared.event.Event.{Event}
+use Rattle.drf_rows.specs.declared.event.Event.TheVariants.{Accept}
+use Rattle.drf_rows.specs.declared.rows.OfferRow.{OfferRow}
+use Rattle.drf_rows.specs.declared.rows.Rows.{Rows}
+use Rattle.drf_laws.specs.Kept.{AreFew, IsCountable}
+use Rattle.drf_laws.specs.RunLaws.{IsGiven}
+
+-- no case of refusal holds of it
+abbrev pub NoCaseHolds : Type 0
+NoCaseHolds =
+    (limits : LimitNumbers) (rows : Rows) (event : Event)
+    → refusal_of limits rows event ≡ None
+    → AllByRecursion (λ c. c.0 ≡ false) (cases_of limits rows event)
+
+-- nor is it refused of other rows with the same live rows, and there it adds the same offers
+abbrev pub LiveRowsDecide : Type 0
+LiveRowsDecide =
+    (limits : LimitNumbers) (rows other : Rows) (event : Event)
+    → live_rows rows ≡ live_rows other
+    → refusal_of limits rows event ≡ None
+    → (refusal_of limits other event ≡ None) × (new_offers rows (effect rows event) ≡ new_offers other (effect other event))
+
+-- the offer of a number covers what the tasks use together, and their names are new
+pub record IsEnough (rows : Rows) (number : ℕ) (starts : List Start) : Type 0 where
+  pub offer : OfferRow
+  pub at : offer_at rows number ≡ Some offer
+  pub covered : covers_all offer.bundle (uses starts) ≡ true
+  pub new : is_task_known rows offer.framework starts ≡ false
+
+-- so it is of an accept
+abbrev pub AcceptsHaveEnough : Type 0
+AcceptsHaveEnough =
+    (limits : LimitNumbers) (rows : Rows) (a : accepting.Accept)
+    → refusal_of limits rows (Accept a) ≡ None
+    → IsEnough rows a.offer a.tasks
+
+-- rows that are consistent are so after it
+abbrev pub EventsKeepConsistent : Type 0
+EventsKeepConsistent =
+    (limits : LimitNumbers) (rows : Rows) (event : Event)
+    → IsConsistent rows
+    → IsGiven event
+    → refusal_of limits rows event ≡ None
+    → IsConsistent (effect rows event)
+
+-- rows within the limits, and numbered by their events, are so once it is counted
+abbrev pub EventsKeepCounts : Type 0
+EventsKeepCounts =
+    (limits : LimitNumbers) (rows : Rows) (event : Event)
+    → AreFew limits rows
+    → IsNumberedByEvents rows
+    → refusal_of limits rows event ≡ None
+    → IsCountable limits rows (effect rows event)

@@ -1,0 +1,42 @@
+-- What holds of rows at all times, by what is kept.
+use Rattle.std.specs.Prelude.{ℕ, ◌<◌, ◌≤◌, ◌^◌, length}
+use Rattle.std.specs.List.{AllByRecursion}
+use Rattle.drf_role.specs.Text.{Text}
+use Rattle.drf_bundle.specs.Quantities.{amount_of}
+use Rattle.drf_rows.specs.Held.{cluster_total}
+use Rattle.drf_rows.specs.LimitNumbers.{LimitNumbers}
+use Rattle.drf_rows.specs.Consistent.{IsConsistent}
+use Rattle.drf_rows.specs.Step.{live_rows}
+use Rattle.drf_rows.specs.declared.limits.TheConstants.{LATEST_MOMENT}
+use Rattle.drf_rows.specs.declared.rows.Rows.{Rows}
+use Rattle.drf_laws.specs.Kept.{IsKept}
+
+-- there are few agents, and no number of an offer, not the next one either, is above 2^56
+abbrev pub KeptNumbersAreSmall : Type 0
+KeptNumbersAreSmall =
+    (limits : LimitNumbers) (rows : Rows)
+    → IsKept limits rows
+    → (length rows.agents ≤ 4096) × (rows.next_offer ≤ 2 ^ 56) × AllByRecursion (λ o. o.number ≤ 2 ^ 56) rows.offers
+
+-- of no scalar is there as much as 2^52 thousandths over all agents
+abbrev pub KeptTotalsAreSmall : Type 0
+KeptTotalsAreSmall =
+    (limits : LimitNumbers) (rows : Rows) (label : Text)
+    → IsKept limits rows
+    → amount_of (cluster_total rows.agents) label < 2 ^ 52
+
+-- no filter that is in force ends at 2^63 or later
+abbrev pub FiltersEndEarly : Type 0
+FiltersEndEarly = (rows : Rows) → IsConsistent rows → AllByRecursion (λ f. f.until < 2 ^ 63) (live_rows rows).filters
+
+-- the live rows are consistent
+abbrev pub LiveRowsAreConsistent : Type 0
+LiveRowsAreConsistent = (rows : Rows) → IsConsistent rows → IsConsistent (live_rows rows)
+
+-- and so are the rows at another moment
+abbrev pub ClockMayMove : Type 0
+ClockMayMove =
+    (rows : Rows) (clock : ℕ)
+    → IsConsistent rows
+    → clock ≤ LATEST_MOMENT
+    → IsConsistent (record rows { clock = clock })

@@ -1,0 +1,9 @@
+pub mod Kept
+pub mod KeptLaws
+pub mod EventLaws
+pub mod TurnLaws
+pub mod KnownLaws
+pub mod FilterLaws
+pub mod RunLaws
+pub mod BoundLaws
+pub mod laws

@@ -1,0 +1,235 @@
+-- Turns: whom they serve, what they grant, what they leave alone, and how many offers they make.
+use Rattle.std.specs.Prelude.{◌≡◌, ℕ, zero, suc, ◌≤◌, ◌&&◌, Bool, true, not, List, [], ◌∷◌, length, map, filter, flat_map, Option, Some, None}
+use Rattle.std.specs.List.{list_any, AllByRecursion}
+use Rattle.std.specs.Option.{option_map_or}
+use Rattle.std.proofs.Common.{refl, ap, subst, ◌∙◌, cond, arith, length-append, ◌+◌, false, ◌*◌}
+use Rattle.std.proofs.lemmas.Bool.{and_from, or_left, or_right}
+use Rattle.std.proofs.lemmas.List.{length-map}
+use Rattle.std.proofs.lemmas.List.Sums.{length-filter, count_by-le-length}
+use Rattle.drf_role.specs.Text.{same_text}
+use Rattle.drf_role.specs.TextLaws.{same_itself}
+use Rattle.drf_role.specs.Path.{same_path}
+use Rattle.drf_role.specs.PathLaws.{same_path_itself}
+use Rattle.drf_rows.specs.Client.{Client, path_of}
+use Rattle.drf_rows.specs.Held.{client_of, clients_of, active_clients, is_registered}
+use Rattle.drf_rows.specs.Share.{Standing}
+use Rattle.drf_rows.specs.Cycle.{first_of, without, serving_order, turn_order, free_of, grant, is_grantable, new_offer, with_offer, tried, count_offer, all_tried, turn, turns, cycle, at_moment}
+use Rattle.drf_rows.specs.laws.ConsistentLaws.{has_its_role}
+use Rattle.drf_rows.specs.laws.ListLaws.{each_append, each_from, each_map, each_filter, each_find, each_found}
+use Rattle.drf_rows.specs.declared.rows.ClientRow.{ClientRow}
+use Rattle.drf_rows.specs.declared.rows.FrameworkRow.{FrameworkRow}
+use Rattle.drf_rows.specs.declared.rows.Rows.{Rows}
+use Rattle.drf_rows.specs.Held as rows_word
+use Rattle.drf_bundle.specs.Bundle.{IsBundle}
+use Rattle.drf_bundle.specs.declared.resource.Resource.{Resource}
+use Rattle.drf_rows.specs.laws.CycleLaws.{bundle-free_of, bundle-entitlement, units-entitlement, clients_of-with_offer, free_of-with_offer_other}
+use Rattle.drf_rows.specs.Quota.{entitlement}
+use Rattle.drf_rows.specs.declared.rows.AgentRow.{AgentRow}
+use Rattle.drf_laws.specs.TurnLaws.{IsPart, CyclesMakeFewOffers}
+
+-- a framework's clients that are not suppressed
+abbrev pub active_in : FrameworkRow → List Client
+active_in f = map (client_of f) (filter (λ c. not c.suppressed) f.clients)
+
+-- ---- those that are served are registered
+
+active_registered : (fs : List FrameworkRow) → AllByRecursion (λ c. is_registered fs c ≡ true) (flat_map active_in fs)
+active_registered [] = tt
+active_registered (f ∷ fs) =
+    let Known : Client → Type 0 = λ c. is_registered (f ∷ fs) c ≡ true in
+    let has_role : Client → Bool = λ c. list_any (has_its_role c) f.clients in
+    let is_here : Client → Bool = λ c. same_text f.name c.framework && has_role c in
+    let In : ClientRow → Type 0 = λ c. has_role (client_of f c) ≡ true in
+    let active : ClientRow → Bool = λ c. not c.suppressed in
+    let here : (c : ClientRow) → In c → Known (client_of f c) = λ c found.
+    or_left (is_here (client_of f c)) (is_registered fs (client_of f c))
+    (and_from (same_text f.name f.name) (has_role (client_of f c)) (same_itself f.name) found) in
+    let later : (c : Client) → is_registered fs c ≡ true → Known c
+    = λ c found. or_right (is_here c) (is_registered fs c) found in
+    let all : AllByRecursion In f.clients
+    = each_found (λ d c. same_path d.role c.role) f.clients (λ c. same_path_itself c.role) in
+    each_append Known (active_in f) (flat_map active_in fs)
+    (each_map Known (client_of f) (filter active f.clients)
+    (each_filter (λ c. Known (client_of f c)) active f.clients
+    (each_from In (λ c. Known (client_of f c)) f.clients here all)))
+    (each_from (λ c. is_registered fs c ≡ true) Known (flat_map active_in fs) later (active_registered fs))
+
+each_served : (P : Client → Type 0) (s : Standing) (n : ℕ) (cs : List Client)
+    → AllByRecursion P cs → AllByRecursion P (serving_order s n cs)
+each_served P s zero cs all = tt
+each_served P s (suc n) cs all =
+    by (λ c. each_served P s n (without c cs) (each_filter P (λ d. not (same_path (path_of c) (path_of d))) cs all))
+    (first_of s cs) (λ c first. each_find P _ cs c all first)
+  where
+    by : ((c : Client) → AllByRecursion P (serving_order s n (without c cs)))
+        → (o : Option Client) → ((c : Client) → o ≡ Some c → P c)
+        → AllByRecursion P (option_map_or (λ c. c ∷ serving_order s n (without c cs)) o [])
+    by later None first = tt
+    by later (Some c) first = (first c refl, later c)
+
+pub turn_order-registered : (rows : Rows)
+    → AllByRecursion (λ c. is_registered rows.frameworks c ≡ true) (turn_order rows)
+turn_order-registered rows =
+    each_served (λ c. is_registered rows.frameworks c ≡ true) (rows_word.standing_of rows)
+    (length (active_clients rows)) (active_clients rows) (active_registered rows.frameworks)
+
+-- ---- each is served at most once
+
+length-serving_order : (s : Standing) (n : ℕ) (cs : List Client) → length (serving_order s n cs) ≤ n
+length-serving_order s zero cs = omega arith
+length-serving_order s (suc n) cs = by (λ c. length-serving_order s n (without c cs)) (first_of s cs)
+  where
+    by : ((c : Client) → length (serving_order s n (without c cs)) ≤ n)
+        → (o : Option Client) → length (option_map_or (λ c. c ∷ serving_order s n (without c cs)) o []) ≤ suc n
+    by later None = omega arith
+    by later (Some c) = omega (arith, later c)
+
+length-active : (fs : List FrameworkRow)
+    → length (flat_map active_in fs) ≤ length (flat_map (λ f. map (client_of f) f.clients) fs)
+length-active [] = omega arith
+length-active (f ∷ fs) =
+    let active : ClientRow → Bool = λ c. not c.suppressed in
+    omega (
+      arith,
+      length-append (active_in f) (flat_map active_in fs),
+      length-append (map (client_of f) f.clients) (flat_map (λ f. map (client_of f) f.clients) fs),
+      length-map (filter active f.clients) (client_of f),
+      length-map f.clients (client_of f),
+      length-filter active f.clients,
+      count_by-le-length active f.clients,
+      length-active fs,
+    )
+
+pub length-turn_order : (rows : Rows) → length (turn_order rows) ≤ length (clients_of rows)
+length-turn_order rows =
+    omega (
+      arith,
+      length-serving_order (rows_word.standing_of rows) (length (active_clients rows)) (active_clients rows),
+      length-active rows.frameworks,
+    )
+
+-- ---- what is granted
+
+pub grant-part : (rows : Rows) (agent : AgentRow) (client : Client) (bundle : List Resource) → IsBundle agent.total
+    → grant rows agent client ≡ Some bundle → IsPart bundle (free_of rows agent)
+grant-part rows agent client bundle total granted = by (is_grantable rows agent client part) granted
+  where
+    free : List Resource
+    free = free_of rows agent
+
+    part : List Resource
+    part = entitlement rows free client
+
+    by : (b : Bool) → cond b (Some part) None ≡ Some bundle → IsPart bundle free
+    by true e =
+        let same : part ≡ bundle = cc in
+        subst (λ (b : List Resource). IsPart b free) same (record {
+          bundle_is = bundle-entitlement rows free client (bundle-free_of rows agent total);
+          small = λ key p. units-entitlement rows free client key p;
+        })
+    by false e = cc
+
+-- ---- how many offers a cycle makes at most
+
+tried-next : (rows : Rows) (agent : AgentRow) (client : Client) (granted : Option (List Resource))
+    → (option_map_or (λ b. with_offer rows (new_offer rows agent client b)) granted rows).next_offer ≤ rows.next_offer + 1
+unfolding with_offer
+tried-next rows agent client None = omega arith
+tried-next rows agent client (Some bundle) = omega arith
+
+all_tried-next : (rows : Rows) (agent : AgentRow) (clients : List Client) → (all_tried rows agent clients).next_offer ≤ rows.next_offer + length clients
+all_tried-next rows agent [] = omega arith
+all_tried-next rows agent (client ∷ clients) =
+    omega (arith, all_tried-next (tried rows agent client) agent clients, tried-next rows agent client (grant rows agent client))
+
+tried-clients : (rows : Rows) (agent : AgentRow) (client : Client) (granted : Option (List Resource))
+    → clients_of (option_map_or (λ b. with_offer rows (new_offer rows agent client b)) granted rows) ≡ clients_of rows
+tried-clients rows agent client None = refl
+tried-clients rows agent client (Some bundle) = clients_of-with_offer rows (new_offer rows agent client bundle)
+
+all_tried-clients : (rows : Rows) (agent : AgentRow) (clients : List Client) → clients_of (all_tried rows agent clients) ≡ clients_of rows
+all_tried-clients rows agent [] = refl
+all_tried-clients rows agent (client ∷ clients) =
+    all_tried-clients (tried rows agent client) agent clients ∙ tried-clients rows agent client (grant rows agent client)
+
+pub turns-clients : (rows : Rows) (agents : List AgentRow) → clients_of (turns rows agents) ≡ clients_of rows
+unfolding turn
+turns-clients rows [] = refl
+turns-clients rows (agent ∷ agents) = turns-clients (turn rows agent) agents ∙ all_tried-clients rows agent (turn_order rows)
+
+-- the agents stay, and as many frameworks
+tried-tables : (rows : Rows) (agent : AgentRow) (client : Client) (granted : Option (List Resource))
+    → let after : Rows = option_map_or (λ b. with_offer rows (new_offer rows agent client b)) granted rows in
+    (after.agents ≡ rows.agents) × (length after.frameworks ≡ length rows.frameworks) × (after.events ≡ rows.events)
+unfolding with_offer
+tried-tables rows agent client None = (refl, refl, refl)
+tried-tables rows agent client (Some bundle) = (refl, length-map rows.frameworks (count_offer client), refl)
+
+all_tried-tables : (rows : Rows) (agent : AgentRow) (clients : List Client)
+    → ((all_tried rows agent clients).agents ≡ rows.agents) × (length (all_tried rows agent clients).frameworks ≡ length rows.frameworks) × ((all_tried rows agent clients).events ≡ rows.events)
+all_tried-tables rows agent [] = (refl, refl, refl)
+all_tried-tables rows agent (client ∷ clients) =
+    let later = all_tried-tables (tried rows agent client) agent clients in
+    let first = tried-tables rows agent client (grant rows agent client) in
+    (later.0 ∙ first.0, later.1 ∙ first.1, later.2 ∙ first.2)
+
+pub turns-tables : (rows : Rows) (agents : List AgentRow)
+    → ((turns rows agents).agents ≡ rows.agents) × (length (turns rows agents).frameworks ≡ length rows.frameworks) × ((turns rows agents).events ≡ rows.events)
+unfolding turn
+turns-tables rows [] = (refl, refl, refl)
+turns-tables rows (agent ∷ agents) =
+    let later = turns-tables (turn rows agent) agents in
+    let first = all_tried-tables rows agent (turn_order rows) in
+    (later.0 ∙ first.0, later.1 ∙ first.1, later.2 ∙ first.2)
+
+pub turns-next_offer : (rows : Rows) (agents : List AgentRow) → (turns rows agents).next_offer ≤ rows.next_offer + length agents * length (clients_of rows)
+unfolding turn
+turns-next_offer rows [] = omega arith
+turns-next_offer rows (agent ∷ agents) =
+    let later = turns-next_offer (turn rows agent) agents in
+    let first = all_tried-next rows agent (turn_order rows) in
+    let order = length-turn_order rows in
+    let same : length (clients_of (turn rows agent)) ≡ length (clients_of rows) = ap length (all_tried-clients rows agent (turn_order rows)) in
+    let rest : (turns (turn rows agent) agents).next_offer ≤ (turn rows agent).next_offer + length agents * length (clients_of rows) =
+    subst (λ n. (turns (turn rows agent) agents).next_offer ≤ (turn rows agent).next_offer + length agents * n) same later in
+    omega (arith, rest, first, order)
+
+-- so a cycle makes one of each active agent to each client at most
+pub cycles_make_few_offers : CyclesMakeFewOffers
+unfolding cycle
+cycles_make_few_offers rows at = turns-next_offer (at_moment rows at) (filter (λ a. a.active) rows.agents)
+
+-- ---- weights stay
+
+weights-tried : (rows : Rows) (agent : AgentRow) (client : Client) (granted : Option (List Resource))
+    → (option_map_or (λ b. with_offer rows (new_offer rows agent client b)) granted rows).weights ≡ rows.weights
+unfolding with_offer
+weights-tried rows agent client None = refl
+weights-tried rows agent client (Some bundle) = refl
+
+weights-all_tried : (rows : Rows) (agent : AgentRow) (clients : List Client)
+    → (all_tried rows agent clients).weights ≡ rows.weights
+weights-all_tried rows agent [] = refl
+weights-all_tried rows agent (client ∷ clients) =
+    weights-all_tried (tried rows agent client) agent clients ∙ weights-tried rows agent client (grant rows agent client)
+
+pub weights-turns : (rows : Rows) (agents : List AgentRow) → (turns rows agents).weights ≡ rows.weights
+unfolding turn
+weights-turns rows [] = refl
+weights-turns rows (agent ∷ agents) =
+    weights-turns (turn rows agent) agents ∙ weights-all_tried rows agent (turn_order rows)
+
+-- ---- other agents
+
+-- trying clients on one agent leaves what is free on another
+free_of-tried_other : (rows : Rows) (agent : AgentRow) (client : Client) (other : AgentRow) → same_text agent.name other.name ≡ false
+    → (granted : Option (List Resource))
+    → free_of (option_map_or (λ b. with_offer rows (new_offer rows agent client b)) granted rows) other ≡ free_of rows other
+free_of-tried_other rows agent client other apart None = refl
+free_of-tried_other rows agent client other apart (Some bundle) = free_of-with_offer_other rows (new_offer rows agent client bundle) other apart
+
+pub free_of-all_tried_other : (rows : Rows) (agent : AgentRow) (clients : List Client) (other : AgentRow) → same_text agent.name other.name ≡ false
+    → free_of (all_tried rows agent clients) other ≡ free_of rows other
+free_of-all_tried_other rows agent [] other apart = refl
+free_of-all_tried_other rows agent (client ∷ clients) other apart =
+    free_of-all_tried_other (tried rows agent client) agent clients other apart ∙ free_of-tried_other rows agent client other apart (grant rows agent client)

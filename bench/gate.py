@@ -11,6 +11,7 @@ part at a time."""
 import collections
 import importlib.machinery
 import importlib.util
+import inspect
 import os
 import resource
 import shutil
@@ -71,7 +72,8 @@ def main(names):
             keep_crates(names)
         start, table = time.time(), os.dup(1)
         os.dup2(2, 1)
-        status = rt.ci(anew=False)
+        # Some kits keep what passed: of these it is asked for, and the table has the rest.
+        status = rt.ci(**{it: False for it in inspect.signature(rt.ci).parameters if it == "anew"})
         sys.stdout.flush()
         os.dup2(table, 1)
         os.chdir("/")

@@ -4,13 +4,12 @@ use Rattle.std.specs.Option.{option_map_or, MatchOption}
 use Rattle.drf_role.specs.Text.{Text, same_text}
 use Rattle.drf_role.specs.Path.{Path, begins_with, client_path, same_path}
 use Rattle.drf_role.specs.Role.{IsRole}
-use Rattle.drf_bundle.specs.Bundle.{is_default, is_for, quantities_of}
-use Rattle.drf_bundle.specs.Quantities.{amount_of}
+use Rattle.drf_bundle.specs.Bundle.{is_default}
 use Rattle.drf_bundle.specs.declared.resource.Resource.{Resource}
 use Rattle.drf_gates.specs.Quota.{Allowance, IsAllowanceOf}
 use Rattle.drf_rows.specs.Client.{Client, path_of}
 use Rattle.drf_rows.specs.Cycle.{is_allocatable}
-use Rattle.drf_rows.specs.Quota.{entitlement, headroom_at}
+use Rattle.drf_rows.specs.Quota.{entitlement, headroom_at, unreserved_in}
 use Rattle.drf_rows.specs.declared.rows.Rows.{Rows}
 use Rattle.drf_sorter.specs.Passed.{IsPassedFront}
 use Rattle.drf_core.specs.declared.free.Free.{Free}
@@ -28,10 +27,6 @@ IsEntitlement quota free role bundle =
 abbrev pub is_of_worth : Resource → Bool
 is_of_worth r = same_text r.label (codes "cpus") || same_text r.label (codes "mem")
 
--- the resource is of such a scalar, and the role may use it
-abbrev pub is_usable_by : Path → Resource → Bool
-is_usable_by role r = is_of_worth r && is_for role r
-
 -- the resource is of such a scalar, and reserved
 abbrev pub is_reserved : Resource → Bool
 is_reserved r = is_of_worth r && not (is_default r.role)
@@ -44,10 +39,10 @@ is_reserved_for role r = is_reserved r && begins_with role r.role
 abbrev pub is_reserved_near : Path → ℕ → Resource → Bool
 is_reserved_near role len r = is_reserved r && same_path (take len r.role) (take len role)
 
--- so much of a scalar is free, and the headroom of a role, if there is one, leaves so much of it
+-- so much of a scalar is free for everyone, and the headroom of a role, if there is one, leaves so much of it
 abbrev pub has_at_least : Rows → List Resource → Path → Text → ℕ → Bool
 has_at_least rows free role label least =
-    nat_le least (amount_of (quantities_of free) label) && option_map_or (nat_le least) (headroom_at rows role label) true
+    nat_le least (unreserved_in label free) && option_map_or (nat_le least) (headroom_at rows role label) true
 
 -- a bundle, if it is worth an offer
 abbrev pub if_allocatable : List Resource → Option (List Resource)

@@ -2,17 +2,18 @@
 ghost use Rattle.std.specs.Prelude.{◌≡◌, ◌+◌, ◌≤◌, Option, Some, None, false, true, length, take, IfOk, IfSome, IsSome, OnOk, IsTrue, MatchOption};
 ghost use Rattle.std.specs.List.{list_any};
 ghost use Rattle.std.specs.Option.{option_copied};
-ghost use Rattle.drf_bundle.specs.Bundle.{rest};
-ghost use Rattle.drf_gates.specs.Quota.{Allowance, IsAllowanceOf};
+ghost use Rattle.drf_bundle.specs.Bundle.{IsResource, rest};
+ghost use Rattle.drf_gates.specs.Quota.{Allowance, unreserved_one};
 ghost use Rattle.drf_rows.specs.Client.{Client, path_of};
 ghost use Rattle.drf_rows.specs.Cycle.{free_of, grant, is_allocatable};
+ghost use Rattle.drf_rows.specs.Quota.{unreserved_in};
 ghost use Rattle.drf_rows.specs.declared.rows.AgentRow.{AgentRow};
 ghost use Rattle.drf_rows.specs.declared.rows.Rows.{Rows};
 ghost use Rattle.drf_role.specs.Path.{Path, begins_with, role_part, same_path};
-ghost use Rattle.drf_core.specs.Entitling.{IsBarred, IsEntitlement, IsKnown, IsOffered, IsQuotaOf, barred_front, has_at_least, if_allocatable, is_of_worth, is_reserved_for, is_reserved_near, is_usable_by};
+ghost use Rattle.drf_core.specs.Entitling.{IsBarred, IsEntitlement, IsKnown, IsOffered, IsQuotaOf, barred_front, has_at_least, if_allocatable, is_of_worth, is_reserved_for, is_reserved_near};
 
 use drf_amount::Algebra;
-use drf_bundle::{Bundle, Resource};
+use drf_bundle::{Bundle, Resource, Value};
 use drf_gates::Quota;
 use drf_role::{ClientPath, Name, Role};
 use drf_rows::is_worth_an_offer;
@@ -98,22 +99,6 @@ fn is_of_worth(resource: &Resource) -> bool
     label == "cpus" || label == "mem"
 }
 
-/// Whether it is, and a role may use it.
-fn is_usable(resource: &Resource, role: &Role) -> bool
-    ensures { result ≡ is_usable_by role.now resource.now }
-{
-    is_of_worth(resource) && resource.is_for(role)
-}
-
-/// Whether a role may use anything of what is free that makes an offer worth it.
-fn has_usable(free: &Bundle, role: &Role) -> bool
-    ensures { result ≡ list_any (is_usable_by role.now) free.now }
-{
-    free.entries()
-        .iter()
-        .any(|resource| is_usable(resource, role))
-}
-
 /// A number of first parts in which two roles differ, if the first is neither the second nor a role above it.
 fn parted_front(outer: &Role, role: &Role) -> Option<usize>
     ensures within { IfSome result (λ len. len ≤ length role.now + 1) }
@@ -170,32 +155,60 @@ fn reserved_front(free: &Bundle, role: &Role) -> Option<usize>
     Some(front)
 }
 
-/// If less than `least` of a scalar is free, or limits leave a role less: how many of its first parts decide that, 0 where so much is not
-/// free.
-fn short_front(quota: &Quota, free: &Bundle, role: &Role, label: &str, least: u64) -> Option<usize>
-    ensures within { IfSome result (λ len. len ≤ length role.now) }
-    ensures short { IfSome result (λ len. (rows : Rows) (other : Path) → IsAllowanceOf rows quota.now → take len other ≡ take len role.now
-        → has_at_least rows free.now other label.now least ≡ false) }
-    ensures enough { result ≡ None → (rows : Rows) → IsAllowanceOf rows quota.now → has_at_least rows free.now role.now label.now least ≡ true }
+/// How much of a scalar a resource has for everyone, in thousandths.
+fn unreserved_one(resource: &Resource, label: &str) -> u64
+    requires { IsResource resource.now }
+    ensures { result ≡ unreserved_one label.now resource.now }
 {
-    if free.quantities().get(label) < least {
-        return Some(0);
+    if !resource.is_unreserved() || resource.label.text() != label {
+        return 0;
     }
-    quota.short_front(role, label, least)
+    match &resource.value {
+        Value::Scalar(scalar) => scalar.thousandths(),
+        _ => 0,
+    }
 }
 
-/// If amounts alone tell that a role may have nothing that is worth an offer, as nothing is free for it or limits leave too little: a
-/// number of first parts, so that all clients that share as many with those of the role may have as little. It needs no memory.
+/// How much of a scalar is free for everyone, in thousandths.
+fn unreserved(free: &Bundle, label: &str) -> u64
+    ensures { result ≡ unreserved_in label.now free.now }
+{
+    let mut sum = 0;
+    for resource in free.entries() {
+        sum += unreserved_one(resource, label);
+    }
+    sum
+}
+
+/// If less than `least` of a scalar is free for everyone, or limits leave a role less: how many of its first parts decide that, 0 where so
+/// much is not free.
+fn short_front(
+    quota: Option<&Quota>,
+    free: &Bundle,
+    role: &Role,
+    label: &str,
+    least: u64,
+) -> Option<usize>
+    ensures within { IfSome result (λ len. len ≤ length role.now) }
+    ensures short { IfSome result (λ len. (rows : Rows) (other : Path) → IsQuotaOf rows (option_copied quota.entry) → take len other ≡ take len role.now
+        → has_at_least rows free.now other label.now least ≡ false) }
+    ensures enough { result ≡ None → (rows : Rows) → IsQuotaOf rows (option_copied quota.entry) → has_at_least rows free.now role.now label.now least ≡ true }
+{
+    if unreserved(free, label) < least {
+        return Some(0);
+    }
+    quota?.short_front(role, label, least)
+}
+
+/// If amounts alone tell that a role may have nothing that is worth an offer, as too little is free for everyone or limits leave too little,
+/// and nothing is reserved for it: a number of first parts, so that all clients that share as many with those of the role may have as little.
+/// It needs no memory.
 fn spent_front(quota: Option<&Quota>, free: &Bundle, role: &Role) -> Option<usize>
     ensures offered { IsSome result → IsOffered (option_copied quota.entry) free.now role.now None }
     ensures barred { IfSome result (IsBarred (option_copied quota.entry) free.now role.now) }
 {
     free.recall();
     role.recall();
-    if !has_usable(free, role) {
-        return Some(role.len() + 1);
-    }
-    let quota = quota?;
     let cpus = short_front(quota, free, role, "cpus", 10)?;
     let mem = short_front(quota, free, role, "mem", 32000)?;
     let reserved = reserved_front(free, role)?;

@@ -11,7 +11,7 @@ use Rattle.drf_role.specs.PathLaws.{NoDots, no_dots-role, role_part-client_path}
 use Rattle.drf_role.specs.Role.{IsRole}
 use Rattle.drf_bundle.specs.Bundle.{IsBundle}
 use Rattle.drf_bundle.specs.declared.resource.Resource.{Resource}
-use Rattle.drf_gates.specs.Quota.{Allowance, IsAllowanceOf}
+use Rattle.drf_gates.specs.Quota.{Allowance}
 use Rattle.drf_rows.specs.Cycle.{free_of, new_offer, with_offer}
 use Rattle.drf_rows.specs.declared.rows.AgentRow.{AgentRow}
 use Rattle.drf_rows.specs.declared.rows.Rows.{Rows}
@@ -57,26 +57,26 @@ barred-role quota free role front right is offered rows client framework counted
     (subst (λ (n : ℕ). take n (client_path client.role client.framework) ≡ take n (client_path role framework)) size alike))
 
 -- less of a scalar is free, or left by limits, to roles with these first parts, so many
-abbrev pub IsShort : Allowance → List Resource → Path → ℕ → Text → ℕ → Type 0
-IsShort a free role len label least =
-    (rows : Rows) (other : Path) → IsAllowanceOf rows a → take len other ≡ take len role → has_at_least rows free other label least ≡ false
+abbrev pub IsShort : Option Allowance → List Resource → Path → ℕ → Text → ℕ → Type 0
+IsShort quota free role len label least =
+    (rows : Rows) (other : Path) → IsQuotaOf rows quota → take len other ≡ take len role → has_at_least rows free other label least ≡ false
 
-pub short-offered : (a : Allowance) (free : List Resource) (role : Path) (cpus mem : ℕ) → IsBundle free → list_any (is_reserved_for role) free ≡ false
-    → IsShort a free role cpus (codes "cpus") 10 → IsShort a free role mem (codes "mem") 32000 → IsOffered (Some a) free role None
-short-offered a free role cpus mem bundle none short little =
-    spent a free role bundle none (λ now its. short now role its refl) (λ now its. little now role its refl)
+pub short-offered : (quota : Option Allowance) (free : List Resource) (role : Path) (cpus mem : ℕ) → IsBundle free → list_any (is_reserved_for role) free ≡ false
+    → IsShort quota free role cpus (codes "cpus") 10 → IsShort quota free role mem (codes "mem") 32000 → IsOffered quota free role None
+short-offered quota free role cpus mem bundle none short little =
+    spent quota free role bundle none (λ now its. short now role its refl) (λ now its. little now role its refl)
 
 -- and all who begin with the first parts of such a role, so many that limits leave as little to them and nothing is reserved for them
-pub barred-front : (a : Allowance) (free : List Resource) (role : Path) (cpus mem front : ℕ) → IsBundle free → IsRole role
+pub barred-front : (quota : Option Allowance) (free : List Resource) (role : Path) (cpus mem front : ℕ) → IsBundle free → IsRole role
     → list_any (is_reserved_for role) free ≡ false → list_any (is_reserved_near role front) free ≡ false
     → cpus ≤ front → mem ≤ front → front ≤ length role + 1
-    → IsShort a free role cpus (codes "cpus") 10 → IsShort a free role mem (codes "mem") 32000 → IsBarred (Some a) free role front
-barred-front a free role cpus mem front bundle right above near few_cpus few_mem few short little = elim (cases_lt (length role) front) [
+    → IsShort quota free role cpus (codes "cpus") 10 → IsShort quota free role mem (codes "mem") 32000 → IsBarred quota free role front
+barred-front quota free role cpus mem front bundle right above near few_cpus few_mem few short little = elim (cases_lt (length role) front) [
   | inl whole ↦
-      barred-role (Some a) free role front right (omega arith) (short-offered a free role cpus mem bundle above short little)
+      barred-role quota free role front right (omega arith) (short-offered quota free role cpus mem bundle above short little)
   | inr below ↦ λ rows client framework counted its alike.
       let same = roles_alike front client.role role client.framework framework (no_dots-role client.role its) (no_dots-role role right) (omega arith) alike in
-      spent a free client.role bundle (none_near role client.role front same free above near)
+      spent quota free client.role bundle (none_near role client.role front same free above near)
       (λ now its'. short now client.role its' (shorter cpus front client.role role few_cpus same))
       (λ now its'. little now client.role its' (shorter mem front client.role role few_mem same))
       rows client counted refl

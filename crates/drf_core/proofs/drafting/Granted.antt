@@ -5,12 +5,11 @@ use Rattle.std.specs.List.{list_all, list_any}
 use Rattle.std.specs.Option.{option_map_or}
 use Rattle.std.proofs.lemmas.Bool.{and_parts, and_from, or_parts}
 use Rattle.std.proofs.lemmas.Bool.Decides.{nat_tests}
-use Rattle.std.proofs.lemmas.List.Sums.{sum_by-cons}
 use Rattle.drf_role.specs.Text.{Text, same_text}
 use Rattle.drf_role.specs.TextLaws.{same_from_test, same_itself}
 use Rattle.drf_role.specs.Path.{Path, begins_with, role_part, framework_part}
 use Rattle.drf_role.specs.PathLaws.{role_part-client_path, framework_part-client_path}
-use Rattle.drf_bundle.specs.Bundle.{IsBundle, is_default, is_for, quantities_of, part_for, clipped, clip, same_key, stock}
+use Rattle.drf_bundle.specs.Bundle.{IsBundle, is_default, quantities_of, part_for, clipped, clip, same_key, stock}
 use Rattle.drf_bundle.specs.Quantities.{amount_of}
 use Rattle.drf_bundle.specs.Value.{Thousandths, amount_in, units_in}
 use Rattle.drf_role.specs.Parts.{text_of}
@@ -25,7 +24,7 @@ use Rattle.drf_rows.specs.Cycle.{free_of, grant, is_allocatable, with_offer}
 use Rattle.drf_rows.specs.laws.CycleLaws.{entitlement-unlimited}
 use Rattle.drf_rows.specs.Filters.{is_held_back}
 use Rattle.drf_rows.specs.Quota.{consumption, entitlement, headroom, headroom_at, headrooms, unreserved_in}
-use Rattle.drf_rows.specs.laws.QuotaLaws.{parts_le, consumption-with_offer, consumption_is_part_of_total}
+use Rattle.drf_rows.specs.laws.QuotaLaws.{consumption-with_offer, consumption_is_part_of_total}
 use Rattle.drf_rows.specs.laws.EntitlementLaws.{entitled_by_units}
 use Rattle.drf_rows.specs.laws.ReportedShares.{small_total}
 use Rattle.drf_rows.specs.declared.rows.AgentRow.{AgentRow}
@@ -34,7 +33,7 @@ use Rattle.drf_rows.specs.declared.rows.LimitRow.{LimitRow}
 use Rattle.drf_rows.specs.declared.rows.OfferRow.{OfferRow}
 use Rattle.drf_rows.specs.declared.rows.Rows.{Rows}
 use Rattle.drf_core.specs.Drafting.{CanCount}
-use Rattle.drf_core.specs.Entitling.{IsEntitlement, IsOffered, IsQuotaOf, has_at_least, if_allocatable, is_of_worth, is_reserved, is_reserved_for, is_usable_by}
+use Rattle.drf_core.specs.Entitling.{IsEntitlement, IsOffered, IsQuotaOf, has_at_least, if_allocatable, is_of_worth, is_reserved, is_reserved_for}
 
 -- ---- what a role may have
 
@@ -140,26 +139,25 @@ shared-all label rs shared = all rs shared ∙ sym (amount-quantities_of rs labe
         at true true shared = refl
         at true false shared = absurd (true≢false (sym shared))
 
--- a client may have no more of a scalar than is free, and no more than the headroom
+-- a client for which none is reserved may have no more of a scalar than is free for everyone, and no more than the headroom
 below : (rows : Rows) (free : List Resource) (client : Client) (label : Text) (least : ℕ) → IsBundle free
     → is_for_all label (entitlement rows free client) ≡ true → has_at_least rows free client.role label least ≡ false
     → amount_of (quantities_of (entitlement rows free client)) label < least
 below rows free client label least right shared little =
     let whole : List Resource = entitlement rows free client in
-    by (headroom_at rows client.role label) (unreserved_in label free) (amount_of (quantities_of free) label) (amount_of (quantities_of whole) label)
-    (sym (shared-all label whole shared) ∙ entitled_by_units rows free client (label, []) Thousandths right)
-    (omega (arith, parts_le (λ p. true) label free, amount-quantities_of free label)) little
+    by (headroom_at rows client.role label) (unreserved_in label free) (amount_of (quantities_of whole) label)
+    (sym (shared-all label whole shared) ∙ entitled_by_units rows free client (label, []) Thousandths right) little
   where
-    by : (room : Option ℕ) (n m x : ℕ) → x ≡ option_map_or (min n) room n → n ≤ m
-        → (nat_le least m && option_map_or (nat_le least) room true) ≡ false → x < least
-    by None n m x is le little = grind (arith, nat_tests)
-    by (Some r) n m x is le little = let less : x ≤ r = omega (arith, is) in let few : x ≤ n = omega (arith, is) in grind (arith, nat_tests)
+    by : (room : Option ℕ) (n x : ℕ) → x ≡ option_map_or (min n) room n
+        → (nat_le least n && option_map_or (nat_le least) room true) ≡ false → x < least
+    by None n x is little = grind (arith, nat_tests)
+    by (Some r) n x is little = let less : x ≤ r = omega (arith, is) in let few : x ≤ n = omega (arith, is) in grind (arith, nat_tests)
 
-pub spent : (a : Allowance) (free : List Resource) (role : Path) → IsBundle free → list_any (is_reserved_for role) free ≡ false
-    → ((rows : Rows) → IsAllowanceOf rows a → has_at_least rows free role (codes "cpus") 10 ≡ false)
-    → ((rows : Rows) → IsAllowanceOf rows a → has_at_least rows free role (codes "mem") 32000 ≡ false)
-    → IsOffered (Some a) free role None
-spent a free role right none few little rows client counted same =
+pub spent : (quota : Option Allowance) (free : List Resource) (role : Path) → IsBundle free → list_any (is_reserved_for role) free ≡ false
+    → ((rows : Rows) → IsQuotaOf rows quota → has_at_least rows free role (codes "cpus") 10 ≡ false)
+    → ((rows : Rows) → IsQuotaOf rows quota → has_at_least rows free role (codes "mem") 32000 ≡ false)
+    → IsOffered quota free role None
+spent quota free role right none few little rows client counted same =
     let whole : List Resource = entitlement rows free client in
     let reserved : list_any (is_reserved_for client.role) free ≡ false = ap (λ (r : Path). list_any (is_reserved_for r) free) same ∙ none in
     let few_cpus = below rows free client (codes "cpus") 10 right
@@ -169,48 +167,6 @@ spent a free role right none few little rows client counted same =
     (shared-clipped (codes "mem") (headroom rows client.role) (part_for client.role free) (none_reserved client.role (codes "mem") mem_worth free reserved))
     (ap (λ (r : Path). has_at_least rows free r (codes "mem") 32000) same ∙ little rows counted) in
     let worthless : is_allocatable whole ≡ false = grind (arith, nat_tests) in
-    sym (ap (λ b. cond b (Some whole) None) worthless)
-
--- ---- nothing that a role may use
-
--- where a role may use nothing of a scalar, it has nothing of it, however what it has is cut
-none_usable : (limits : List Entry) (role : Path) (label : Text) (rs : List Resource)
-    → ((r : Resource) → same_text label r.label ≡ true → is_for role r ≡ true → is_usable_by role r ≡ true)
-    → list_any (is_usable_by role) rs ≡ false → stock (clip limits (part_for role rs)) label Thousandths ≡ 0
-none_usable limits role label [] its none = refl
-none_usable limits role label (r ∷ rs) its none =
-    let parts = or_parts (is_usable_by role r) (list_any (is_usable_by role) rs) none in
-    by (is_for role r) refl parts.0 (none_usable limits role label rs its parts.1)
-  where
-    part : List Resource
-    part = clip limits (part_for role rs)
-
-    by : (a : Bool) → is_for role r ≡ a → is_usable_by role r ≡ false → stock part label Thousandths ≡ 0
-        → stock (clip limits (cond a (r ∷ part_for role rs) (part_for role rs))) label Thousandths ≡ 0
-    by false past idle nothing = nothing
-    by true here idle nothing = kept (nat_lt 0 (amount_in (clipped limits r).value)) (same_text label r.label) refl nothing
-      where
-        kept : (b named : Bool) → same_text label r.label ≡ named → stock part label Thousandths ≡ 0
-            → stock (cond b (clipped limits r ∷ part) part) label Thousandths ≡ 0
-        kept false named is nothing = nothing
-        kept true true is nothing = absurd (true≢false (sym (its r is here) ∙ idle))
-        kept true false is nothing =
-            let named : Resource → ℕ = λ x. cond (same_text label x.label) (units_in x.value Thousandths) 0 in
-            let none : named (clipped limits r) ≡ 0 = ap (λ (t : Bool). cond t (units_in (clipped limits r).value Thousandths) 0) is in
-            omega (arith, sum_by-cons named (clipped limits r) part, none, nothing)
-
-pub unusable : (quota : Option Allowance) (free : List Resource) (role : Path)
-    → list_any (is_usable_by role) free ≡ false → IsOffered quota free role None
-unusable quota free role none rows client counted same =
-    let whole : List Resource = entitlement rows free client in
-    let idle : list_any (is_usable_by client.role) free ≡ false = ap (λ (r : Path). list_any (is_usable_by r) free) same ∙ none in
-    let cpus : amount_of (quantities_of whole) (codes "cpus") ≡ 0 = amount-quantities_of whole (codes "cpus")
-    ∙ none_usable (headroom rows client.role) client.role (codes "cpus") free
-    (λ r is mine. and_from _ _ (cpus_worth r is) mine) idle in
-    let mem : amount_of (quantities_of whole) (codes "mem") ≡ 0 = amount-quantities_of whole (codes "mem")
-    ∙ none_usable (headroom rows client.role) client.role (codes "mem") free
-    (λ r is mine. and_from _ _ (mem_worth r is) mine) idle in
-    let worthless : is_allocatable whole ≡ false = λ i. nat_le 10 (cpus i) || nat_le 32000 (mem i) in
     sym (ap (λ b. cond b (Some whole) None) worthless)
 
 -- ---- what is granted

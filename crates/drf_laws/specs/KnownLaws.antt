@@ -28,7 +28,7 @@ MembersTellNodes =
     → ((node : Path) → list_any (same_path node) ps ≡ list_any (same_path node) qs)
     → ps ≡ qs
 
--- a client whose framework is not registered holds nothing
+-- a client whose framework is not registered holds no scalar
 abbrev pub StrangersHoldNothing : Type 0
 StrangersHoldNothing =
     (rows : Rows) (client : Client) (label : Text)

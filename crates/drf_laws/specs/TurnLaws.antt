@@ -32,7 +32,7 @@ GrantsArePart =
     → grant rows agent client ≡ Some bundle
     → IsPart bundle (free_of rows agent)
 
--- a cycle makes one offer of each active agent to each client at most
+-- a cycle makes no more offers than there are active agents times clients
 abbrev pub CyclesMakeFewOffers : Type 0
 CyclesMakeFewOffers =
     (rows : Rows) (at : ℕ)

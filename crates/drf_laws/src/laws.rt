@@ -11,7 +11,8 @@ ghost use Rattle.drf_laws.specs.TurnLaws.{ServedAreRegistered, ServedAreFew, Gra
 use drf_rows::Event;
 
 /// An event that is not refused: no case of refusal holds of it, be it of the rows or of others with the same live rows, and an accept has an
-/// offer that covers its tasks. After it rows that were consistent are so, and rows within the limits stay within them.
+/// offer that covers its tasks. After it rows that were consistent are so, and agents, frameworks, clients, weights and accepted events that
+/// were within the limits, with offers numbered by the events, are so.
 pub fn event_law()
     ensures cases { NoCaseHolds }
     ensures live { LiveRowsDecide }
@@ -21,7 +22,7 @@ pub fn event_law()
 {}
 
 /// A turn serves registered clients, no more than there are, grants parts of what is free on its agent, and leaves what is free on others. So a
-/// cycle makes one offer of each active agent to each client at most.
+/// cycle makes no more offers than there are active agents times clients.
 pub fn turns_law()
     ensures registered { ServedAreRegistered }
     ensures few { ServedAreFew }
@@ -30,8 +31,8 @@ pub fn turns_law()
     ensures others { OtherAgentsStayFree }
 {}
 
-/// A client is known by its path, and a list of nodes in order by its members. A client of no registered framework holds nothing, and what is
-/// held on an agent is what is not free there.
+/// A client is known by its path, and a list of nodes in order by its members. A client of no registered framework holds no scalar, and a
+/// total covers what is held on an agent just where it covers what is not free there.
 pub fn known_law()
     ensures clients { PathsTellClients }
     ensures nodes { MembersTellNodes }

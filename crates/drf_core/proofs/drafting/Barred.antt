@@ -56,7 +56,7 @@ barred-role quota free role front right is offered rows client framework counted
     (same_role client.role role client.framework framework (no_dots-role client.role its) (no_dots-role role right)
     (subst (λ (n : ℕ). take n (client_path client.role client.framework) ≡ take n (client_path role framework)) size alike))
 
--- less of a scalar is free, or left by limits, to roles with these first parts, so many
+-- less of a scalar is free for everyone, or left by limits to roles with these first parts, so many
 abbrev pub IsShort : Option Allowance → List Resource → Path → ℕ → Text → ℕ → Type 0
 IsShort quota free role len label least =
     (rows : Rows) (other : Path) → IsQuotaOf rows quota → take len other ≡ take len role → has_at_least rows free other label least ≡ false

@@ -194,7 +194,7 @@ turns-next_offer rows (agent ∷ agents) =
     subst (λ n. (turns (turn rows agent) agents).next_offer ≤ (turn rows agent).next_offer + length agents * n) same later in
     omega (arith, rest, first, order)
 
--- so a cycle makes one of each active agent to each client at most
+-- so a cycle makes no more than active agents times clients
 pub cycles_make_few_offers : CyclesMakeFewOffers
 unfolding cycle
 cycles_make_few_offers rows at = turns-next_offer (at_moment rows at) (filter (λ a. a.active) rows.agents)

@@ -1,6 +1,6 @@
 #!/usr/bin/env python3
 """Runs parts of the gate over what passed before, for kits that keep nothing between two runs of `rt ci`: a proof stands for its crate's
-text and those below it, an edit for that and its own. Each part's seconds of a processor are told. For work only: the verdict is `rt ci`.
+text and those below it, an edit for that and its own. The file seconds in KEPT has what each check took of a processor. For work only: the verdict is `rt ci`.
 
     bench/parts.py KEPT               the last commit, whole; KEPT is a folder for what passed, and for a clone
     bench/parts.py KEPT CRATE..       these crates, and proofs of those below them
@@ -13,7 +13,6 @@ import os
 import shutil
 import subprocess
 import sys
-import tempfile
 import time
 
 from begin import ROOT
@@ -69,8 +68,11 @@ class Gate:
             os.makedirs(out)
             crate, start = copy.copy(crate), time.time()
             with open(f"{self.kept}/{crate.name}.log", "w") as crate.out:
-                is_laid_out = not self.rt.rtlib.fmt(crate.folder, "--check", crate.out)
-                status = 0 if is_laid_out and not crate.ci(["--jobs", str(jobs)], False) else 1
+                try:
+                    is_laid_out = not self.rt.rtlib.fmt(crate.folder, "--check", crate.out)
+                    status = 0 if is_laid_out and not crate.ci(["--jobs", str(jobs)], False) else 1
+                except SystemExit:
+                    status = 1
             print(f"{crate.name} {'NOT PROVED' if status else 'proved'}, {time.time() - start:.0f} s, {crate.out.name}", flush=True)
             if status:
                 return False

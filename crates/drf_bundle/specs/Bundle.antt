@@ -230,6 +230,6 @@ abbrev pub relabel : Path → List Resource → List Resource
 relabel role bundle = map (moved_to role) bundle
 
 -- what every bundle keeps beside its resources
-pub record IsKept (resources : List Resource) (quantities : List Entry) : Type 0 where
+pub record HasSums (resources : List Resource) (quantities : List Entry) : Type 0 where
   pub bundle : IsBundle resources
   pub sums : quantities ≡ quantities_of resources

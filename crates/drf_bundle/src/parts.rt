@@ -31,11 +31,11 @@ impl Model for Parts {
 
     ghost coded = { coded_list resource.the_row.coded };
 
-    ghost use Rattle.drf_bundle.specs.Bundle.{IsKept};
+    ghost use Rattle.drf_bundle.specs.Bundle.{HasSums};
 
     ghost view = { λ p. p.resources.items };
 
-    ghost invariant = { λ p. IsKept p.resources.items p.quantities };
+    ghost invariant = { λ p. HasSums p.resources.items p.quantities };
 }
 
 // Written out, so that the proof of whoever drops the parts sees one call.

@@ -17,7 +17,7 @@ use Rattle.drf_rows.specs.laws.ListLaws.{length-filter_le}
 use Rattle.drf_rows.specs.declared.rows.FilterRow.{FilterRow}
 use Rattle.drf_gates.specs.Laws.{LessIsHeldBack, HeldBackIsRefused}
 use Rattle.drf_gates.specs.Chains.{IsLast, IsChained}
-use Rattle.drf_gates.specs.Index.{key_hash, bucket_of, row_bucket, buckets_of, IsChainedBy, IsIndexed, IsLeft, HasRoom, IsKept, NoneEndsBefore}
+use Rattle.drf_gates.specs.Index.{key_hash, bucket_of, row_bucket, buckets_of, IsChainedBy, IsIndexed, IsLeft, HasRoom, IsFilterIndex, NoneEndsBefore}
 use Rattle.drf_gates.specs.declared.index.Index.{Index}
 use Rattle.drf_gates.proofs.ChainLemmas.{chained-more, passed-last, passed-more}
 
@@ -105,20 +105,20 @@ left-take n rows left index is indexed =
     }
 
 kept-left : (left shown : List FilterRow) (after : Index) (soonest : ℕ)
-    → shown ≡ left → NoneEndsBefore soonest left → IsIndexed shown after → IsKept left after soonest
+    → shown ≡ left → NoneEndsBefore soonest left → IsIndexed shown after → IsFilterIndex left after soonest
 kept-left left shown after soonest is_shown none indexed = record {
   indexed = subst (λ (fs : List FilterRow). IsIndexed fs after) is_shown indexed;
   none_before = none;
 }
 
 pub kept-filter : (p : FilterRow → Bool) (rows left shown : List FilterRow) (index after : Index) (soonest : ℕ)
-    → left ≡ filter p rows → shown ≡ left → IsKept rows index soonest → IsIndexed shown after → IsKept left after soonest
+    → left ≡ filter p rows → shown ≡ left → IsFilterIndex rows index soonest → IsIndexed shown after → IsFilterIndex left after soonest
 kept-filter p rows left shown index after soonest is is_shown kept =
     kept-left left shown after soonest is_shown
     (subst (λ (fs : List FilterRow). NoneEndsBefore soonest fs) (sym is) (All-filter p (λ f. soonest ≤ f.until) rows kept.none_before))
 
 pub kept-take : (n : ℕ) (rows left shown : List FilterRow) (index after : Index) (soonest : ℕ)
-    → left ≡ take n rows → shown ≡ left → IsKept rows index soonest → IsIndexed shown after → IsKept left after soonest
+    → left ≡ take n rows → shown ≡ left → IsFilterIndex rows index soonest → IsIndexed shown after → IsFilterIndex left after soonest
 kept-take n rows left shown index after soonest is is_shown kept =
     kept-left left shown after soonest is_shown
     (subst (λ (fs : List FilterRow). NoneEndsBefore soonest fs) (sym is) (All-take (λ f. soonest ≤ f.until) n rows kept.none_before))
@@ -186,7 +186,7 @@ pub kept-push : (rows shown more : List FilterRow) (row : FilterRow) (index afte
     → IsIndexed shown index → HasRoom shown index
     → ((fs : List FilterRow) → IsChainedBy fs index → IsChainedBy (fs ++ row ∷ []) after)
     → length after.heads.items ≡ length index.heads.items
-    → IsKept more after next
+    → IsFilterIndex more after next
 kept-push rows shown more row index after soonest next none is_next is_shown is_more indexed room pushed same =
     let longer : length (rows ++ row ∷ []) ≡ length rows + 1 = length-append rows (row ∷ []) in
     let all : IsIndexed (rows ++ row ∷ []) after = record {

@@ -55,6 +55,6 @@ abbrev pub NoneEndsBefore : ℕ → List FilterRow → Type 0
 NoneEndsBefore moment rows = All (λ f. moment ≤ f.until) rows
 
 -- what is kept beside the filters
-pub record IsKept (rows : List FilterRow) (index : Index) (soonest : ℕ) : Type 0 where
+pub record IsFilterIndex (rows : List FilterRow) (index : Index) (soonest : ℕ) : Type 0 where
   pub indexed : IsIndexed rows index
   pub none_before : NoneEndsBefore soonest rows

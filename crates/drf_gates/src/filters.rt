@@ -35,9 +35,9 @@ impl Model for FilterTable {
 
     ghost view = { λ t. t.rows.items };
 
-    ghost use Rattle.drf_gates.specs.Index.{IsKept};
+    ghost use Rattle.drf_gates.specs.Index.{IsFilterIndex};
 
-    ghost invariant = { λ t. IsKept t.rows.items t.index t.soonest };
+    ghost invariant = { λ t. IsFilterIndex t.rows.items t.index t.soonest };
 }
 
 impl FilterTable {

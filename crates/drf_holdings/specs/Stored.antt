@@ -13,17 +13,17 @@ use Rattle.drf_holdings.specs.Taking.{IsTaken, HasNone}
 use Rattle.drf_holdings.specs.declared.holdings.Taken.{Taken}
 
 -- the offers in order of number, and the tasks as they were started
-pub record Standing : Type 0 where
+pub record OffersAndTasks : Type 0 where
   pub offers : List OfferRow
   pub tasks : List TaskRow
 
 -- by it a proof tells two of them apart
-abbrev pub standing_code : Coded Standing
-standing_code = code_by (List OfferRow × List TaskRow) (coded× (coded_list offer_row.the_row.coded) (coded_list task_row.the_row.coded))
+abbrev pub offers_and_tasks_code : Coded OffersAndTasks
+offers_and_tasks_code = code_by (List OfferRow × List TaskRow) (coded× (coded_list offer_row.the_row.coded) (coded_list task_row.the_row.coded))
     (λ h. (h.offers, h.tasks)) (λ p. record { offers = p.0; tasks = p.1 }) (λ _. refl)
 
 -- all that is held
-abbrev pub holdings_in : Standing → List Holding
+abbrev pub holdings_in : OffersAndTasks → List Holding
 holdings_in h = map of_offer h.offers ++ map of_task h.tasks
 
 -- what was taken out, as a holding
@@ -31,31 +31,31 @@ abbrev pub holding_of : Taken → Holding
 holding_of t = record { agent = t.agent; client = record { role = t.role; framework = t.framework }; bundle = t.bundle }
 
 -- an offer that ends was taken out
-pub record HasLostOffer (ending : Ending) (old new : Standing) (t : Taken) : Type 0 where
+pub record HasLostOffer (ending : Ending) (old new : OffersAndTasks) (t : Taken) : Type 0 where
   pub offer : OfferRow
   pub taken : IsTaken (ends_offer ending) old.offers new.offers offer
   pub same : new.tasks ≡ old.tasks
   pub told : holding_of t ≡ of_offer offer
 
 -- a task that ends was taken out
-pub record HasLostTask (ending : Ending) (old new : Standing) (t : Taken) : Type 0 where
+pub record HasLostTask (ending : Ending) (old new : OffersAndTasks) (t : Taken) : Type 0 where
   pub task : TaskRow
   pub taken : IsTaken (ends_task ending) old.tasks new.tasks task
   pub same : new.offers ≡ old.offers
   pub told : holding_of t ≡ of_task task
 
 -- nothing ends
-pub record HasLostNone (ending : Ending) (old new : Standing) : Type 0 where
+pub record HasLostNone (ending : Ending) (old new : OffersAndTasks) : Type 0 where
   pub offers : HasNone (ends_offer ending) old.offers new.offers
   pub tasks : HasNone (ends_task ending) old.tasks new.tasks
 
 -- what is left when a holding that ends is taken out
-abbrev pub HasTaken : Ending → Standing → Standing → Option Taken → Type 0
+abbrev pub HasTaken : Ending → OffersAndTasks → OffersAndTasks → Option Taken → Type 0
 HasTaken ending old new None = HasLostNone ending old new
 HasTaken ending old new (Some taken) = HasLostOffer ending old new taken ⊎ HasLostTask ending old new taken
 
 -- the offer of a number was taken out, and tasks with parts of it stand last
-pub record HasStarted (number : ℕ) (starts : List Start) (old new : Standing) (offer : OfferRow) : Type 0 where
+pub record HasStarted (number : ℕ) (starts : List Start) (old new : OffersAndTasks) (offer : OfferRow) : Type 0 where
   pub found : find (λ o. o.number == number) old.offers ≡ Some offer
   pub taken : IsTaken (λ o. o.number == number) old.offers new.offers offer
   pub started : new.tasks ≡ old.tasks ++ map (task_of offer) starts

@@ -87,11 +87,11 @@ pub struct Holdings {
 }
 
 impl Model for Holdings {
-    ghost use Rattle.drf_holdings.specs.Stored.{Standing, standing_code};
+    ghost use Rattle.drf_holdings.specs.Stored.{OffersAndTasks, offers_and_tasks_code};
 
-    ghost Value = { Standing };
+    ghost Value = { OffersAndTasks };
 
-    ghost coded = { standing_code };
+    ghost coded = { offers_and_tasks_code };
 
     ghost view = { λ h. record { offers = h.offers; tasks = h.tasks } };
 }

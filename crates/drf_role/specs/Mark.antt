@@ -19,7 +19,7 @@ unfoldable pub mark_of : Path → Text → ℕ
 mark_of role framework = mixed (mixed START framework) (text_of role)
 
 -- what a client's path keeps
-pub record IsKept (role : Path) (framework : Text) (mark : ℕ) : Type 0 where
+pub record IsMarked (role : Path) (framework : Text) (mark : ℕ) : Type 0 where
   pub right_role : IsRole role
   pub right_name : IsName framework
   pub right_mark : mark ≡ mark_of role framework

@@ -6,7 +6,7 @@ ghost use Rattle.std.specs.Cmp.Lexicographic.{pointwise, lists_equiv, nat_list_e
 ghost use Rattle.std.specs.Hash as fed;
 ghost use Rattle.std.specs.Hash.{same_Alike};
 ghost use Rattle.drf_role.specs.Parts.{parts_of, text_of};
-ghost use Rattle.drf_role.specs.Mark.{IsKept, path_mark};
+ghost use Rattle.drf_role.specs.Mark.{IsMarked, path_mark};
 ghost use Rattle.drf_role.specs.Path.{client_path, role_part, framework_part, IsClientPath, IsNodePath};
 
 use crate::joined::Joined;
@@ -51,7 +51,7 @@ impl Model for ClientPath {
 
     ghost view = { λ p. client_path p.role p.framework };
 
-    ghost invariant = { λ p. IsKept p.role p.framework p.mark };
+    ghost invariant = { λ p. IsMarked p.role p.framework p.mark };
 }
 
 // Written out, so that the proof of whoever drops a path sees one call.

@@ -21,11 +21,11 @@ use Rattle.drf_rows.specs.declared.rows.FilterRow.{FilterRow}
 use Rattle.drf_rows.specs.declared.rows.Rows.{Rows}
 use Rattle.drf_tables.specs.Changing.{changed, with_active}
 use Rattle.drf_tables.specs.Counting.{count_clients}
-use Rattle.drf_tables.specs.Inside.{agent_row, framework_rows, rows_of, rows_in, IsKnown, IsKept}
+use Rattle.drf_tables.specs.Inside.{agent_row, framework_rows, rows_of, rows_in, IsKnown, AreDerived}
 use Rattle.drf_tables.specs.declared.tables.Agent.{Agent}
 use Rattle.drf_tables.specs.declared.tables.Tables.TheInside.{Inside}
 use Rattle.drf_tables.proofs.Entries.{names-keys, removed_entry, rows-filter, stays}
-use Rattle.drf_tables.proofs.Kept.{IsKept-same}
+use Rattle.drf_tables.proofs.Kept.{AreDerived-same}
 use Rattle.drf_tables.proofs.Known.{rows-with_active, known-with_active}
 
 -- the rows with other agents, frameworks and filters
@@ -33,7 +33,7 @@ abbrev pub rows_but : Inside → List (Text × Agent) → List (Text × Vec Clie
 rows_but t agents frameworks filters =
     rows_of agents frameworks t.holdings filters t.weights.entries t.quota.limits t.clock t.next_offer t.events
 
-module _ (t : Inside) (kept : IsKept (rows_in t) t.agents.entries t.total t.clients) where
+module _ (t : Inside) (kept : AreDerived (rows_in t) t.agents.entries t.total t.clients) where
   -- the names of agents are distinct, and those of frameworks
   pub agents_apart : are_distinct (map (λ a. a.name) (map agent_row t.agents.entries)) ≡ true
   unfolding rows_of
@@ -53,10 +53,10 @@ module _ (t : Inside) (kept : IsKept (rows_in t) t.agents.entries t.total t.clie
         let read = ap (map agent_row) told ∙ rows-with_active name active t.agents.entries in
         λ i. record (rows_in t) { agents = read i }
 
-    pub kept-active : IsKept (rows_but t entries t.frameworks.entries t.filters) entries t.total t.clients
+    pub kept-active : AreDerived (rows_but t entries t.frameworks.entries t.filters) entries t.total t.clients
     kept-active =
         let known = known-with_active (holdings_of (rows_in t)) name active t.agents.entries kept.free in
-        subst (λ (r : Rows). IsKept r entries t.total t.clients) (sym rows-active) (record {
+        subst (λ (r : Rows). AreDerived r entries t.total t.clients) (sym rows-active) (record {
           consistent = IsConsistent-with_activity (rows_in t) name active kept.consistent;
           free = subst (λ (es : List (Text × Agent)). AllByRecursion (IsKnown (holdings_of (rows_in t))) es) (sym told) known;
           total = kept.total ∙ sym (cluster_total-with_activity (rows_in t) name active);
@@ -73,11 +73,11 @@ module _ (t : Inside) (kept : IsKept (rows_in t) t.agents.entries t.total t.clie
     unfolding rows_of
     rows-suppressed = λ i. record (rows_in t) { frameworks = told i }
 
-    pub kept-suppressed : IsKept (rows_but t t.agents.entries entries t.filters) t.agents.entries t.total t.clients
+    pub kept-suppressed : AreDerived (rows_but t t.agents.entries entries t.filters) t.agents.entries t.total t.clients
     kept-suppressed =
         let new : Rows = record (rows_in t) { frameworks = with_suppression (rows_in t) client suppressed } in
-        subst (λ (r : Rows). IsKept r t.agents.entries t.total t.clients) (sym rows-suppressed)
-        (IsKept-same (rows_in t) new t.agents.entries t.total t.clients kept
+        subst (λ (r : Rows). AreDerived r t.agents.entries t.total t.clients) (sym rows-suppressed)
+        (AreDerived-same (rows_in t) new t.agents.entries t.total t.clients kept
         (IsConsistent-with_suppression (rows_in t) client suppressed kept.consistent)
         refl refl (sym (ap length (clients_of-with_suppression (rows_in t) client suppressed))))
 
@@ -88,10 +88,10 @@ module _ (t : Inside) (kept : IsKept (rows_in t) t.agents.entries t.total t.clie
     unfolding rows_of
     rows-revived = λ i. record (rows_in t) { frameworks = told i; filters = left i }
 
-    pub kept-revived : IsKept (rows_but t t.agents.entries entries filters) t.agents.entries t.total t.clients
+    pub kept-revived : AreDerived (rows_but t t.agents.entries entries filters) t.agents.entries t.total t.clients
     kept-revived =
-        subst (λ (r : Rows). IsKept r t.agents.entries t.total t.clients) (sym rows-revived)
-        (IsKept-same (rows_in t) (revived (rows_in t) client) t.agents.entries t.total t.clients kept
+        subst (λ (r : Rows). AreDerived r t.agents.entries t.total t.clients) (sym rows-revived)
+        (AreDerived-same (rows_in t) (revived (rows_in t) client) t.agents.entries t.total t.clients kept
         (IsConsistent-revived (rows_in t) client kept.consistent)
         refl refl (sym (ap length (clients_of-with_suppression (rows_in t) client false))))
 
@@ -117,13 +117,13 @@ module _ (t : Inside) (kept : IsKept (rows_in t) t.agents.entries t.total t.clie
           filters = filters_without_agent name (rows_in t).filters;
         })
 
-    pub kept-left : IsKept (rows_but t entries t.frameworks.entries filters) entries sum t.clients
+    pub kept-left : AreDerived (rows_but t entries t.frameworks.entries filters) entries sum t.clients
     kept-left =
         let new : Rows = agent_removed (rows_in t) name in
         let known : AllByRecursion (IsKnown (holdings_of new)) (filter (stays name) t.agents.entries) =
         each_filter (IsKnown (holdings_of new)) (stays name) t.agents.entries
         (subst (λ (r : Rows). AllByRecursion (IsKnown (holdings_of r)) t.agents.entries) (sym nothing) kept.free) in
-        subst (λ (r : Rows). IsKept r entries sum t.clients) (sym rows-left) (record {
+        subst (λ (r : Rows). AreDerived r entries sum t.clients) (sym rows-left) (record {
           consistent = IsConsistent-agent_removed (rows_in t) name nothing kept.consistent;
           free = subst (λ (es : List (Text × Agent)). AllByRecursion (IsKnown (holdings_of new)) es) (sym those) known;
           total = others;
@@ -158,10 +158,10 @@ module _ (t : Inside) (kept : IsKept (rows_in t) t.agents.entries t.total t.clie
         let many = ap count_clients rows in
         omega (arith, all_clients, clients, many)
 
-    pub kept-gone : IsKept (rows_but t t.agents.entries entries filters) t.agents.entries t.total (t.clients - gone)
+    pub kept-gone : AreDerived (rows_but t t.agents.entries entries filters) t.agents.entries t.total (t.clients - gone)
     kept-gone =
         let new : Rows = framework_removed (rows_in t) name in
-        subst (λ (r : Rows). IsKept r t.agents.entries t.total (t.clients - gone)) (sym rows-gone) (record {
+        subst (λ (r : Rows). AreDerived r t.agents.entries t.total (t.clients - gone)) (sym rows-gone) (record {
           consistent = IsConsistent-framework_removed (rows_in t) name nothing kept.consistent;
           free = subst (λ (r : Rows). AllByRecursion (IsKnown (holdings_of r)) t.agents.entries) (sym nothing) kept.free;
           total = kept.total;

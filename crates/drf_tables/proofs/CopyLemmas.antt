@@ -14,7 +14,7 @@ use Rattle.drf_role.specs.Path.{Path}
 use Rattle.drf_rows.specs.declared.rows.FilterRow.{FilterRow}
 use Rattle.drf_rows.specs.declared.rows.LimitRow.{LimitRow}
 use Rattle.drf_gates.specs.Quota.{Allowance, IsAllowanceOf, IsSame}
-use Rattle.drf_holdings.specs.Stored.{Standing}
+use Rattle.drf_holdings.specs.Stored.{OffersAndTasks}
 use Rattle.drf_tables.specs.Inside.{CountsIf, agent_row, framework_row, framework_rows, rows_in, rows_of, weight_rows}
 use Rattle.drf_rows.specs.declared.rows.Rows.{Rows}
 use Rattle.drf_tables.specs.declared.tables.Agent.{Agent}
@@ -84,7 +84,7 @@ framework_copied whole copied new rest name clients copy distinct split same put
 -- ---- the tables
 
 -- copies of what tables keep stand for the same rows
-pub rows-copied : (t : Inside) (agents : List (Text × Agent)) (frameworks : List (Text × Vec ClientRow)) (holdings : Standing)
+pub rows-copied : (t : Inside) (agents : List (Text × Agent)) (frameworks : List (Text × Vec ClientRow)) (holdings : OffersAndTasks)
     (filters : List FilterRow) (weights : List (Path × ℕ)) (limits : List LimitRow)
     → agents ≡ t.agents.entries → framework_rows frameworks ≡ framework_rows t.frameworks.entries → holdings ≡ t.holdings
     → filters ≡ t.filters → weights ≡ t.weights.entries → limits ≡ t.quota.limits

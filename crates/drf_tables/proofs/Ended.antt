@@ -24,11 +24,11 @@ use Rattle.drf_rows.specs.declared.rows.FilterRow.{FilterRow}
 use Rattle.drf_rows.specs.declared.rows.OfferRow.{OfferRow}
 use Rattle.drf_rows.specs.declared.rows.TaskRow.{TaskRow}
 use Rattle.drf_rows.specs.declared.rows.Rows.{Rows}
-use Rattle.drf_holdings.specs.Stored.{Standing, HasLostOffer, HasLostTask, HasLostNone, HasStarted, holding_of}
+use Rattle.drf_holdings.specs.Stored.{OffersAndTasks, HasLostOffer, HasLostTask, HasLostNone, HasStarted, holding_of}
 use Rattle.drf_holdings.specs.declared.holdings.Taken.{Taken}
 use Rattle.drf_tables.specs.Changing.{changed, freed, HasFreed}
 use Rattle.drf_tables.specs.Ended.{left_to_end, IsOfferOut, IsTaskOut, HasEnded, with_accepted}
-use Rattle.drf_tables.specs.Inside.{agent_row, rows_of, rows_in, IsKnown, IsKept}
+use Rattle.drf_tables.specs.Inside.{agent_row, rows_of, rows_in, IsKnown, AreDerived}
 use Rattle.drf_tables.specs.declared.ending.Held.{Held}
 use Rattle.drf_tables.specs.declared.tables.Agent.{Agent}
 use Rattle.drf_tables.specs.declared.tables.Tables.TheInside.{Inside}
@@ -45,10 +45,10 @@ pub record IsWithoutOne (old new : Rows) (ending : Ending) (h : Holding) : Type 
   pub fewer : left_to_end old ending ≡ left_to_end new ending + 1
 
 -- the rows with other holdings
-abbrev pub rows_with : Inside → Standing → Rows
+abbrev pub rows_with : Inside → OffersAndTasks → Rows
 rows_with t held = rows_of t.agents.entries t.frameworks.entries held t.filters t.weights.entries t.quota.limits t.clock t.next_offer t.events
 
-module _ (t : Inside) (held : Standing) (ending : Ending) (taken : Taken) (consistent : IsConsistent (rows_in t)) where
+module _ (t : Inside) (held : OffersAndTasks) (ending : Ending) (taken : Taken) (consistent : IsConsistent (rows_in t)) where
   lost_offer : HasLostOffer ending t.holdings held taken → IsWithoutOne (rows_in t) (rows_with t held) ending (holding_of taken)
   unfolding rows_of
   lost_offer lost =
@@ -100,10 +100,10 @@ less_there old new h less agent here key p =
     units-one_less old new h less agent key p
     ∙ ap (λ (b : Bool). units_of_all (parts_on agent new) key p + cond b (units h.bundle key p) 0) here
 
-pub IsKept-ended : (old new : Rows) (agents : List (Text × Agent)) (sum : List Entry) (number : ℕ) (ending : Ending) (h : Holding) (back : Bool)
-    → old.agents ≡ map agent_row agents → IsKept old agents sum number → IsWithoutOne old new ending h
-    → IsKept new (map (changed h.agent (freed back h.bundle)) agents) sum number
-IsKept-ended old new agents sum number ending h back stand kept one = record {
+pub AreDerived-ended : (old new : Rows) (agents : List (Text × Agent)) (sum : List Entry) (number : ℕ) (ending : Ending) (h : Holding) (back : Bool)
+    → old.agents ≡ map agent_row agents → AreDerived old agents sum number → IsWithoutOne old new ending h
+    → AreDerived new (map (changed h.agent (freed back h.bundle)) agents) sum number
+AreDerived-ended old new agents sum number ending h back stand kept one = record {
   consistent = one.consistent;
   free = known-freed (holdings_of old) (holdings_of new) h.agent h.bundle
       (one-one_less (holdings_of old) (holdings_of new) h one.less (IsHeld old.agents old.frameworks) kept.consistent.holdings).bundle
@@ -134,7 +134,7 @@ ended_from old new ending h held consistent one path bundle = record {
 
 -- ---- nothing ends
 
-module _ (t : Inside) (held : Standing) (ending : Ending) (lost : HasLostNone ending t.holdings held) where
+module _ (t : Inside) (held : OffersAndTasks) (ending : Ending) (lost : HasLostNone ending t.holdings held) where
   pub rows-none : rows_with t held ≡ rows_in t
   unfolding rows_of
   rows-none = λ i. record (rows_in t) { offers = lost.offers.same i; tasks = lost.tasks.same i }
@@ -159,9 +159,9 @@ each_filter : (P : FilterRow → Type 0) (refused : Option FilterRow) → ((f : 
 each_filter P None right = tt
 each_filter P (Some f) right = (right f refl, tt)
 
-module _ (t : Inside) (entries : List (Text × Agent)) (held : Standing) (filters : List FilterRow) (number : ℕ)
+module _ (t : Inside) (entries : List (Text × Agent)) (held : OffersAndTasks) (filters : List FilterRow) (number : ℕ)
     (starts : List Start) (refused : Option FilterRow) (o x : OfferRow)
-    (kept : IsKept (rows_in t) t.agents.entries t.total t.clients)
+    (kept : AreDerived (rows_in t) t.agents.entries t.total t.clients)
     (found : offer_at (rows_in t) number ≡ Some o)
     (started : HasStarted number starts t.holdings held x)
     (freed_there : HasFreed x.agent (left_of_offer o starts) t.agents.entries entries)
@@ -191,7 +191,7 @@ module _ (t : Inside) (entries : List (Text × Agent)) (held : Standing) (filter
 
   pub accepted-kept : CanStart (rows_in t) o starts
       → ((f : FilterRow) → refused ≡ Some f → IsFilter (rows_in t).agents (rows_in t).frameworks f)
-      → IsKept rows_accepted entries t.total t.clients
+      → AreDerived rows_accepted entries t.total t.clients
   unfolding rows_of
   accepted-kept can each =
       let rows : Rows = with_accepted (rows_in t) o starts refused in
@@ -209,7 +209,7 @@ module _ (t : Inside) (entries : List (Text × Agent)) (held : Standing) (filter
       (parts_on-accepted (rows_in t) number o starts more kept.consistent found)
       (units-left (rows_in t) number o starts more kept.consistent found has can.bundles)
       freed_there.kept t.agents.entries kept.free kept.consistent.agents.each kept.consistent.covered) in
-      subst (λ (r : Rows). IsKept r entries t.total t.clients) (sym accepted-rows) (record {
+      subst (λ (r : Rows). AreDerived r entries t.total t.clients) (sym accepted-rows) (record {
         consistent = IsConsistent-accepted (rows_in t) number o starts more kept.consistent found can
             (each_filter (IsFilter (rows_in t).agents (rows_in t).frameworks) refused each);
         free = known;
@@ -220,8 +220,8 @@ module _ (t : Inside) (entries : List (Text × Agent)) (held : Standing) (filter
 
 -- ---- as the fields stand
 
-module _ (t : Inside) (entries : List (Text × Agent)) (held : Standing) (ending : Ending) (taken : Taken)
-    (kept : IsKept (rows_in t) t.agents.entries t.total t.clients)
+module _ (t : Inside) (entries : List (Text × Agent)) (held : OffersAndTasks) (ending : Ending) (taken : Taken)
+    (kept : AreDerived (rows_in t) t.agents.entries t.total t.clients)
     (freed_there : HasFreed taken.agent taken.bundle t.agents.entries entries)
     (lost : HasLostOffer ending t.holdings held taken ⊎ HasLostTask ending t.holdings held taken) where
   -- the rows without it
@@ -240,11 +240,11 @@ module _ (t : Inside) (entries : List (Text × Agent)) (held : Standing) (ending
       subst (λ (r : Rows). IsWithoutOne (rows_in t) r ending (holding_of taken)) same_rows
       (without_taken t held ending taken kept.consistent lost)
 
-  pub ended-kept : IsKept rows_ended entries t.total t.clients
+  pub ended-kept : AreDerived rows_ended entries t.total t.clients
   unfolding rows_of
   ended-kept =
-      subst (λ (es : List (Text × Agent)). IsKept rows_ended es t.total t.clients) (sym freed_there.same)
-      (IsKept-ended (rows_in t) rows_ended t.agents.entries t.total t.clients ending (holding_of taken) freed_there.kept refl kept without_it)
+      subst (λ (es : List (Text × Agent)). AreDerived rows_ended es t.total t.clients) (sym freed_there.same)
+      (AreDerived-ended (rows_in t) rows_ended t.agents.entries t.total t.clients ending (holding_of taken) freed_there.kept refl kept without_it)
 
   pub ended-one : (told : Held) → told.client ≡ path_of (holding_of taken).client → told.bundle ≡ taken.bundle
       → HasEnded (rows_in t) rows_ended ending told

@@ -33,7 +33,7 @@ use Rattle.drf_tables.specs.Inside.{agent_row, framework_row, framework_rows, ro
 use Rattle.drf_rows.specs.Holdings.{holdings_of}
 use Rattle.drf_rows.specs.laws.ListLaws.{each_at}
 use Rattle.drf_bundle.specs.declared.resource.Resource.{Resource}
-use Rattle.drf_holdings.specs.Stored.{Standing}
+use Rattle.drf_holdings.specs.Stored.{OffersAndTasks}
 use Rattle.drf_tables.specs.declared.tables.Agent.{Agent}
 use Rattle.drf_tables.specs.declared.tables.Tables.TheInside.{Inside}
 use Rattle.drf_tables.proofs.Entries.{known-lookup, insert_entry-new}
@@ -156,7 +156,7 @@ module _ (t : Inside) where
       ap framework_rows last ∙ map-append framework_row fs ((name, v) ∷ []) in
       λ i. record (rows_in t) { frameworks = read i }
 
-  pub rows_of-offers : (entries : List (Text × Agent)) (counted : List (Text × Vec ClientRow)) (held : Standing) (made : List OfferRow)
+  pub rows_of-offers : (entries : List (Text × Agent)) (counted : List (Text × Vec ClientRow)) (held : OffersAndTasks) (made : List OfferRow)
       → map agent_row entries ≡ map agent_row t.agents.entries
       → framework_rows counted ≡ counting_all (framework_rows t.frameworks.entries) made
       → held.offers ≡ t.holdings.offers ++ made → held.tasks ≡ t.holdings.tasks

@@ -22,7 +22,7 @@ use Rattle.drf_rows.specs.declared.rows.OfferRow.{OfferRow}
 use Rattle.drf_rows.specs.declared.rows.Rows.{Rows}
 use Rattle.drf_tables.specs.Drafts.{with_offers, frees_of, frees_after}
 use Rattle.drf_tables.specs.DraftLaws.{with_offers-added, agents-with_offers}
-use Rattle.drf_tables.specs.Inside.{agent_row, frees_in, known_after, is_settled, IsKnown, IsKept}
+use Rattle.drf_tables.specs.Inside.{agent_row, frees_in, known_after, is_settled, IsKnown, AreDerived}
 use Rattle.drf_tables.specs.declared.tables.Agent.{Agent}
 use Rattle.drf_tables.specs.declared.tables.Left.{Left}
 use Rattle.drf_tables.proofs.Counted.{count_clients-counting_all}
@@ -30,11 +30,11 @@ use Rattle.drf_tables.proofs.Known.{frees-settled, settled-frees, known-frees, k
 
 -- ---- what is held stays, and so do agents and clients
 
-module _ (rows new : Rows) (agents : List (Text × Agent)) (sum : List Entry) (number : ℕ) (kept : IsKept rows agents sum number) where
-  pub IsKept-same : IsConsistent new → holdings_of rows ≡ holdings_of new
+module _ (rows new : Rows) (agents : List (Text × Agent)) (sum : List Entry) (number : ℕ) (kept : AreDerived rows agents sum number) where
+  pub AreDerived-same : IsConsistent new → holdings_of rows ≡ holdings_of new
       → rows.agents ≡ new.agents → length (clients_of rows) ≡ length (clients_of new)
-      → IsKept new agents sum number
-  IsKept-same consistent held same clients = record {
+      → AreDerived new agents sum number
+  AreDerived-same consistent held same clients = record {
     consistent = consistent;
     free = subst (λ (hs : List Holding). AllByRecursion (IsKnown hs) agents) held kept.free;
     total = kept.total ∙ ap cluster_total same;
@@ -44,11 +44,11 @@ module _ (rows new : Rows) (agents : List (Text × Agent)) (sum : List Entry) (n
 
 -- ---- another clock, and another number of events
 
-pub IsKept-clocked : (rows : Rows) (agents : List (Text × Agent)) (sum : List Entry) (number clock events : ℕ)
-    → clock ≤ LATEST_MOMENT → IsKept rows agents sum number
-    → IsKept (record rows { clock = clock; events = events }) agents sum number
-IsKept-clocked rows agents sum number clock events early kept =
-    IsKept-same rows (record rows { clock = clock; events = events }) agents sum number kept
+pub AreDerived-clocked : (rows : Rows) (agents : List (Text × Agent)) (sum : List Entry) (number clock events : ℕ)
+    → clock ≤ LATEST_MOMENT → AreDerived rows agents sum number
+    → AreDerived (record rows { clock = clock; events = events }) agents sum number
+AreDerived-clocked rows agents sum number clock events early kept =
+    AreDerived-same rows (record rows { clock = clock; events = events }) agents sum number kept
     (record {
       agents = kept.consistent.agents;
       frameworks = kept.consistent.frameworks;
@@ -66,12 +66,12 @@ IsKept-clocked rows agents sum number clock events early kept =
 
 -- ---- one more agent
 
-pub IsKept-agent_added :
+pub AreDerived-agent_added :
     (rows : Rows) (agents : List (Text × Agent)) (sum : List Entry) (number : ℕ) (name : Text) (a : Agent)
-    → IsKept rows agents sum number → length rows.agents < 4096
+    → AreDerived rows agents sum number → length rows.agents < 4096
     → has_agent rows name ≡ false → IsAgent (new_agent name a.total) → a.free ≡ Some a.total
-    → IsKept (agent_added rows name a.total) (agents ++ (name, a) ∷ []) (plus sum (quantities_of a.total)) number
-IsKept-agent_added rows agents sum number name a kept few new right all =
+    → AreDerived (agent_added rows name a.total) (agents ++ (name, a) ∷ []) (plus sum (quantities_of a.total)) number
+AreDerived-agent_added rows agents sum number name a kept few new right all =
     let nothing : parts_on name (holdings_of rows) ≡ [] = parts_on-nothing rows name kept.consistent new in
     let known : IsKnown (holdings_of rows) (name, a) = λ free is.
     by free (sym all ∙ is) ∙ sym (ap (rest_of_all a.total) nothing) in
@@ -88,11 +88,11 @@ IsKept-agent_added rows agents sum number name a kept few new right all =
 
 -- ---- one more framework
 
-pub IsKept-framework_added : (rows : Rows) (agents : List (Text × Agent)) (sum : List Entry) (number : ℕ) (f : FrameworkRow)
-    → IsKept rows agents sum number → has_framework rows f.name ≡ false
+pub AreDerived-framework_added : (rows : Rows) (agents : List (Text × Agent)) (sum : List Entry) (number : ℕ) (f : FrameworkRow)
+    → AreDerived rows agents sum number → has_framework rows f.name ≡ false
     → are_distinct_roles (map (λ c. c.role) f.clients) ≡ true
-    → AllByRecursion (λ c. c.count ≡ 0) f.clients → IsKept (framework_added rows f) agents sum (number + length f.clients)
-IsKept-framework_added rows agents sum number f kept new apart none = record {
+    → AllByRecursion (λ c. c.count ≡ 0) f.clients → AreDerived (framework_added rows f) agents sum (number + length f.clients)
+AreDerived-framework_added rows agents sum number f kept new apart none = record {
   consistent = IsConsistent-framework_added rows f kept.consistent new apart none;
   free = kept.free;
   total = kept.total;
@@ -126,12 +126,12 @@ module _ (rows : Rows) (old new : List (Text × Agent)) (offers : List OfferRow)
   pub settled-left : is_settled new ≡ true
   settled-left = settled-frees new (map (free_of (with_offers rows offers)) (map agent_row new)) frees-left
 
-pub IsKept-with_offers :
+pub AreDerived-with_offers :
     (rows : Rows) (old new : List (Text × Agent)) (sum : List Entry) (number : ℕ) (offers : List OfferRow)
-    → IsKept rows old sum number → IsConsistent (with_offers rows offers)
+    → AreDerived rows old sum number → IsConsistent (with_offers rows offers)
     → AllByRecursion (IsKnown (holdings_of (with_offers rows offers))) new
-    → IsKept (with_offers rows offers) new sum number
-IsKept-with_offers rows old new sum number offers kept consistent known =
+    → AreDerived (with_offers rows offers) new sum number
+AreDerived-with_offers rows old new sum number offers kept consistent known =
     let added = with_offers-added rows offers in
     record {
       consistent = consistent;

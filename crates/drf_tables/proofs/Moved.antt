@@ -32,12 +32,12 @@ use Rattle.drf_rows.specs.declared.rows.AgentRow.{AgentRow}
 use Rattle.drf_rows.specs.declared.rows.Rows.{Rows}
 use Rattle.drf_gates.specs.Quota.{Allowance, IsAllowanceOf, IsRaisedBy, used_where}
 use Rattle.drf_tables.specs.Changing.{CanExchangeOn, CanHaveTotal, CanExchangeAt, HasOther, changed, other_free, with_exchanged, with_other}
-use Rattle.drf_tables.specs.Inside.{agent_row, rows_of, rows_in, IsKnown, IsKept, IsWhole}
+use Rattle.drf_tables.specs.Inside.{agent_row, rows_of, rows_in, IsKnown, AreDerived, IsWhole}
 use Rattle.drf_tables.specs.declared.tables.Agent.{Agent}
 use Rattle.drf_tables.specs.declared.tables.Tables.TheInside.{Inside}
 use Rattle.drf_tables.proofs.Changes.{rows_but}
 use Rattle.drf_tables.proofs.Fields.{total_fits}
-use Rattle.drf_tables.proofs.Kept.{IsKept-same}
+use Rattle.drf_tables.proofs.Kept.{AreDerived-same}
 use Rattle.drf_tables.proofs.Known.{rows-each}
 
 -- what holds of the rows holds of the entries
@@ -57,7 +57,7 @@ module _ (t : Inside) (whole : IsWhole t) (role : Path) (limit : List Entry) (ot
   whole_set : IsWhole (record t { quota = quota_set })
   unfolding rows_of
   whole_set = record {
-    kept = IsKept-same (rows_in t) rows_set t.agents.entries t.total t.clients whole.kept
+    kept = AreDerived-same (rows_in t) rows_set t.agents.entries t.total t.clients whole.kept
         (IsConsistent-limit_set (rows_in t) role limit other whole.kept.consistent) refl refl refl;
     consumed = λ is. record { limits = refl; used = (whole.consumed is).used };
   }
@@ -109,7 +109,7 @@ known-exchanged hs name old new es moves known =
     by e was true is move = here e e.1.free was (move is)
     by e was false past move = was
 
-module _ (t : Inside) (kept : IsKept (rows_in t) t.agents.entries t.total t.clients) (name : Text) (old new : List Resource)
+module _ (t : Inside) (kept : AreDerived (rows_in t) t.agents.entries t.total t.clients) (name : Text) (old new : List Resource)
     (can : CanExchangeOn (rows_in t) name old new) where
   -- in the total, and in what is free
   pub can_each : AllByRecursion (λ e. same_text e.0 name ≡ true → CanExchangeAt old new e.1) t.agents.entries
@@ -146,9 +146,9 @@ module _ (t : Inside) (kept : IsKept (rows_in t) t.agents.entries t.total t.clie
         (if_named (rows_in t) name can.row kept.consistent can.found P
         (sym (free_of-exchanged (rows_in t) name can.row kept.consistent can.found old new can.can)))
 
-    pub kept-exchanged : IsKept (rows_but t entries t.frameworks.entries t.filters) entries t.total t.clients
+    pub kept-exchanged : AreDerived (rows_but t entries t.frameworks.entries t.filters) entries t.total t.clients
     kept-exchanged =
-        subst (λ (r : Rows). IsKept r entries t.total t.clients) (sym rows-exchanged) (record {
+        subst (λ (r : Rows). AreDerived r entries t.total t.clients) (sym rows-exchanged) (record {
           consistent = IsConsistent-exchanged (rows_in t) name can.row kept.consistent can.found old new can.can;
           free = subst (λ (es : List (Text × Agent)). AllByRecursion (IsKnown (holdings_of (rows_in t))) es) (sym told)
               (known-exchanged (holdings_of (rows_in t)) name old new t.agents.entries moves_each kept.free);
@@ -212,7 +212,7 @@ module _ (hs : List Holding) (bundles : AreBundles hs) (name : Text) (total : Li
   known-other kept (e ∷ es) known agents covered =
       (known_one e known.0 agents.0 covered.0 kept (same_text e.0 name), known-other kept es known.1 agents.1 covered.1)
 
-module _ (t : Inside) (kept : IsKept (rows_in t) t.agents.entries t.total t.clients) (name : Text) (total : List Resource) (sum : List Entry)
+module _ (t : Inside) (kept : AreDerived (rows_in t) t.agents.entries t.total t.clients) (name : Text) (total : List Resource) (sum : List Entry)
     (right : CanHaveTotal (rows_in t) name total)
     (summed : sum ≡ plus (cluster_total (filter (λ a. not (same_text a.name name)) (rows_in t).agents)) (quantities_of total))
     (entries : List (Text × Agent)) (told : HasOther name total t.agents.entries entries) where
@@ -222,11 +222,11 @@ module _ (t : Inside) (kept : IsKept (rows_in t) t.agents.entries t.total t.clie
       let read = ap (map agent_row) told.same ∙ rows-other_entries told.kept name total t.agents.entries in
       λ i. record (rows_in t) { agents = read i }
 
-  pub kept-other : IsKept (rows_but t entries t.frameworks.entries t.filters) entries sum t.clients
+  pub kept-other : AreDerived (rows_but t entries t.frameworks.entries t.filters) entries sum t.clients
   unfolding rows_of
   kept-other =
       let agent : IsAgent (record right.row { total = total }) = record { total = right.bundle; small = right.small } in
-      subst (λ (r : Rows). IsKept r entries sum t.clients) (sym rows-other) (record {
+      subst (λ (r : Rows). AreDerived r entries sum t.clients) (sym rows-other) (record {
         consistent = IsConsistent-other_total (rows_in t) name right.row total kept.consistent right.found right.bundle right.covered agent;
         free = subst (λ (es : List (Text × Agent)). AllByRecursion (IsKnown (holdings_of (rows_in t))) es) (sym told.same)
             (known-other (holdings_of (rows_in t)) (bundles-consistent (rows_in t) kept.consistent) name total right.bundle told.kept t.agents.entries
@@ -238,7 +238,7 @@ module _ (t : Inside) (kept : IsKept (rows_in t) t.agents.entries t.total t.clie
 
 -- ---- what is consumed is counted
 
-module _ (t : Inside) (kept : IsKept (rows_in t) t.agents.entries t.total t.clients) (test : Path → Bool) (label : Text) where
+module _ (t : Inside) (kept : AreDerived (rows_in t) t.agents.entries t.total t.clients) (test : Path → Bool) (label : Text) where
   abbrev by_offers : ℕ
   by_offers = held_unreserved test (map of_offer t.holdings.offers) label
 
@@ -263,7 +263,7 @@ module _ (t : Inside) (kept : IsKept (rows_in t) t.agents.entries t.total t.clie
   )
 
 -- counted from nothing, one part after another
-pub counted-all : (t : Inside) (kept : IsKept (rows_in t) t.agents.entries t.total t.clients)
+pub counted-all : (t : Inside) (kept : AreDerived (rows_in t) t.agents.entries t.total t.clients)
     (none one two three : Allowance)
     → none ≡ record t.quota { used = [] }
     → IsRaisedBy none one (λ test label. held_unreserved test (map of_offer t.holdings.offers) label)

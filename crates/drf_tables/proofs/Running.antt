@@ -22,7 +22,7 @@ use Rattle.drf_gates.specs.Quota.{Allowance, used_where}
 use Rattle.drf_tables.specs.Changing.{CanExchangeOn, CanHaveTotal, HasOther, changed, with_exchanged, with_other}
 use Rattle.drf_tables.specs.DraftLaws.{with_offers-added}
 use Rattle.drf_tables.specs.Drafts.{with_offers}
-use Rattle.drf_tables.specs.Inside.{agent_row, rows_of, rows_in, CountsIf, IsKept}
+use Rattle.drf_tables.specs.Inside.{agent_row, rows_of, rows_in, CountsIf, AreDerived}
 use Rattle.drf_tables.specs.Recounting.{IsRaisedIf, reserved_at}
 use Rattle.drf_tables.specs.declared.tables.Agent.{Agent}
 use Rattle.drf_tables.specs.declared.tables.Tables.TheInside.{Inside}
@@ -37,10 +37,10 @@ module _ (t : Inside) (entries : List (Text × Agent)) (after : Allowance) (same
   abbrev pub rows_still : Rows
   rows_still = rows_of entries t.frameworks.entries t.holdings t.filters t.weights.entries after.limits t.clock t.next_offer t.events
 
-  pub kept-limits : IsKept (rows_in t) t.agents.entries t.total t.clients → IsKept rows_still entries t.total t.clients
+  pub kept-limits : AreDerived (rows_in t) t.agents.entries t.total t.clients → AreDerived rows_still entries t.total t.clients
   kept-limits kept =
       subst (λ (q : List (Text × Agent) × List LimitRow).
-      IsKept (rows_of q.0 t.frameworks.entries t.holdings t.filters t.weights.entries q.1 t.clock t.next_offer t.events) q.0 t.total t.clients)
+      AreDerived (rows_of q.0 t.frameworks.entries t.holdings t.filters t.weights.entries q.1 t.clock t.next_offer t.events) q.0 t.total t.clients)
       (λ i. (sym same i, limits i)) kept
 
   pub counts-limits : CountsIf t.is_counted (rows_in t) after → CountsIf t.is_counted rows_still after
@@ -84,7 +84,7 @@ module _ (t : Inside) (counted : CountsIf t.is_counted (rows_in t) t.quota) (nam
 
 -- ---- a part is exchanged
 
-module _ (t : Inside) (kept : IsKept (rows_in t) t.agents.entries t.total t.clients) (counted : CountsIf t.is_counted (rows_in t) t.quota)
+module _ (t : Inside) (kept : AreDerived (rows_in t) t.agents.entries t.total t.clients) (counted : CountsIf t.is_counted (rows_in t) t.quota)
     (name : Text) (old new : List Resource) (can : CanExchangeOn (rows_in t) name old new) where
   can_whole : CanExchange can.row.total old new
   can_whole = can_in_total (rows_in t) name can.row kept.consistent can.found old new can.can
@@ -126,7 +126,7 @@ module _ (t : Inside) (kept : IsKept (rows_in t) t.agents.entries t.total t.clie
 
 -- ---- another total
 
-module _ (t : Inside) (kept : IsKept (rows_in t) t.agents.entries t.total t.clients) (counted : CountsIf t.is_counted (rows_in t) t.quota)
+module _ (t : Inside) (kept : AreDerived (rows_in t) t.agents.entries t.total t.clients) (counted : CountsIf t.is_counted (rows_in t) t.quota)
     (name : Text) (total : List Resource) (sum : List Entry) (right : CanHaveTotal (rows_in t) name total)
     (summed : sum ≡ plus (cluster_total (filter (λ a. not (same_text a.name name)) (rows_in t).agents)) (quantities_of total))
     (mid : Allowance) (released : IsRaisedIf t.is_counted mid t.quota (reserved_at (map agent_row t.agents.entries) name)) where
@@ -148,8 +148,8 @@ module _ (t : Inside) (kept : IsKept (rows_in t) t.agents.entries t.total t.clie
   fits test label =
       let made : List (Text × Agent) = map (changed name (with_other false total)) t.agents.entries in
       let told : HasOther name total t.agents.entries made = record { kept = false; same = refl } in
-      let still : IsKept after_rows made sum t.clients =
-      subst (λ (r : Rows). IsKept r made sum t.clients) (rows-other t kept name total sum right summed made told)
+      let still : AreDerived after_rows made sum t.clients =
+      subst (λ (r : Rows). AreDerived r made sum t.clients) (rows-other t kept name total sum right summed made told)
       (kept-other t kept name total sum right summed made told) in
       omega (
         arith,

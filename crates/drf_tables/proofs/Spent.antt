@@ -7,9 +7,9 @@ use Rattle.drf_rows.specs.laws.MemberLaws.{IsConsistent-filters_kept}
 use Rattle.drf_rows.specs.Step.{live_rows}
 use Rattle.drf_rows.specs.declared.rows.FilterRow.{FilterRow}
 use Rattle.drf_rows.specs.declared.rows.Rows.{Rows}
-use Rattle.drf_tables.specs.Inside.{rows_of, rows_in, IsKept}
+use Rattle.drf_tables.specs.Inside.{rows_of, rows_in, AreDerived}
 use Rattle.drf_tables.specs.declared.tables.Tables.TheInside.{Inside}
-use Rattle.drf_tables.proofs.Kept.{IsKept-same}
+use Rattle.drf_tables.proofs.Kept.{AreDerived-same}
 use Rattle.drf_tables.proofs.Changes.{rows_but}
 
 module _ (t : Inside) (filters : List FilterRow) (left : filters ≡ in_force t.clock t.filters) where
@@ -20,9 +20,9 @@ module _ (t : Inside) (filters : List FilterRow) (left : filters ≡ in_force t.
   pub live-swept : live_rows (rows_but t t.agents.entries t.frameworks.entries filters) ≡ live_rows (rows_in t)
   live-swept = ap live_rows swept ∙ live_rows-twice (rows_in t)
 
-  pub kept-swept : IsKept (rows_in t) t.agents.entries t.total t.clients
-      → IsKept (rows_but t t.agents.entries t.frameworks.entries filters) t.agents.entries t.total t.clients
+  pub kept-swept : AreDerived (rows_in t) t.agents.entries t.total t.clients
+      → AreDerived (rows_but t t.agents.entries t.frameworks.entries filters) t.agents.entries t.total t.clients
   kept-swept kept =
-      subst (λ (r : Rows). IsKept r t.agents.entries t.total t.clients) (sym swept)
-      (IsKept-same (rows_in t) (live_rows (rows_in t)) t.agents.entries t.total t.clients kept
+      subst (λ (r : Rows). AreDerived r t.agents.entries t.total t.clients) (sym swept)
+      (AreDerived-same (rows_in t) (live_rows (rows_in t)) t.agents.entries t.total t.clients kept
       (IsConsistent-filters_kept (rows_in t) (is_in_force (rows_in t).clock) kept.consistent) refl refl refl)

@@ -11,11 +11,11 @@ use Rattle.drf_bundle.specs.declared.quantities.Entry.{Entry}
 use Rattle.drf_rows.specs.Weights.{has_weight, is_weight, weights_with}
 use Rattle.drf_rows.specs.laws.WeightLaws.{IsConsistent-weight_set}
 use Rattle.drf_rows.specs.declared.rows.Rows.{Rows}
-use Rattle.drf_tables.specs.Inside.{weight_row, weight_rows, rows_of, rows_in, IsKept}
+use Rattle.drf_tables.specs.Inside.{weight_row, weight_rows, rows_of, rows_in, AreDerived}
 use Rattle.drf_tables.specs.declared.tables.Agent.{Agent}
 use Rattle.drf_tables.specs.declared.tables.Tables.TheInside.{Inside}
 use Rattle.drf_role.specs.Text.{Text}
-use Rattle.drf_tables.proofs.Kept.{IsKept-same}
+use Rattle.drf_tables.proofs.Kept.{AreDerived-same}
 
 -- a role is found among the keys exactly where a row has it
 known_weight : (role : Path) (es : List (Path × ℕ))
@@ -60,8 +60,8 @@ rows_of-weight t entries role weight inserted =
     λ i. record (rows_in t) { weights = read i }
 
 -- nothing else depends on weights
-pub IsKept-weight_set : (rows : Rows) (agents : List (Text × Agent)) (sum : List Entry) (number : ℕ) (role : Path) (weight : ℕ)
-    → is_weight weight ≡ true → IsKept rows agents sum number → IsKept (weight_set rows role weight) agents sum number
-IsKept-weight_set rows agents sum number role weight right kept =
-    IsKept-same rows (weight_set rows role weight) agents sum number kept
+pub AreDerived-weight_set : (rows : Rows) (agents : List (Text × Agent)) (sum : List Entry) (number : ℕ) (role : Path) (weight : ℕ)
+    → is_weight weight ≡ true → AreDerived rows agents sum number → AreDerived (weight_set rows role weight) agents sum number
+AreDerived-weight_set rows agents sum number role weight right kept =
+    AreDerived-same rows (weight_set rows role weight) agents sum number kept
     (IsConsistent-weight_set rows role weight right kept.consistent) refl refl refl

@@ -18,7 +18,7 @@ use Rattle.drf_rows.specs.declared.rows.Rows.{Rows}
 use Rattle.drf_bundle.specs.Taken.{rest_of_all}
 use Rattle.drf_rows.specs.Holdings.{Holding, holdings_of, parts_on}
 use Rattle.drf_rows.specs.declared.rows.FilterRow.{FilterRow}
-use Rattle.drf_holdings.specs.Stored.{Standing}
+use Rattle.drf_holdings.specs.Stored.{OffersAndTasks}
 use Rattle.drf_tables.specs.declared.tables.Left.{Left}
 use Rattle.drf_tables.specs.declared.tables.Agent.{Agent}
 use Rattle.drf_tables.specs.declared.tables.Tables.TheInside.{Inside}
@@ -53,7 +53,7 @@ is_settled entries = list_all (λ e. is_some e.1.free) entries
 unfoldable pub rows_of :
     List (Text × Agent)
     → List (Text × Vec ClientRow)
-    → Standing
+    → OffersAndTasks
     → List FilterRow
     → List (Path × ℕ)
     → List LimitRow
@@ -84,7 +84,7 @@ abbrev pub IsKnown : List Holding → Text × Agent → Type 0
 IsKnown holdings e = (free : List Resource) → e.1.free ≡ Some free → free ≡ rest_of_all e.1.total (parts_on e.0 holdings)
 
 -- what is kept beside the rows is what they say
-pub record IsKept (rows : Rows) (agents : List (Text × Agent)) (sum : List Entry) (number : ℕ) : Type 0 where
+pub record AreDerived (rows : Rows) (agents : List (Text × Agent)) (sum : List Entry) (number : ℕ) : Type 0 where
   pub consistent : IsConsistent rows
   pub free : AllByRecursion (IsKnown (holdings_of rows)) agents
   pub total : sum ≡ cluster_total rows.agents
@@ -98,5 +98,5 @@ CountsIf counted rows quota = counted ≡ true → IsAllowanceOf rows quota
 
 -- what is kept beside the rows, and what the quota counts
 pub record IsWhole (t : Inside) : Type 0 where
-  pub kept : IsKept (rows_in t) t.agents.entries t.total t.clients
+  pub kept : AreDerived (rows_in t) t.agents.entries t.total t.clients
   pub consumed : CountsIf t.is_counted (rows_in t) t.quota

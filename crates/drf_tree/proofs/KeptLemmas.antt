@@ -13,7 +13,7 @@ use Rattle.drf_tree.specs.declared.walk.Frame.{Frame}
 use Rattle.drf_tree.specs.declared.walk.Walk.{Walk}
 use Rattle.drf_tree.specs.Nodes.{family_at, path_at}
 use Rattle.drf_tree.specs.Queue.{AreFrames, IsSettled, frames_queue, most_parts, pending, queue_in}
-use Rattle.drf_tree.specs.Sorter.{IsKept}
+use Rattle.drf_tree.specs.Sorter.{AreInStep}
 use Rattle.drf_tree.specs.Tree.{IsTotalFree, IsTreeOf}
 use Rattle.drf_tree.specs.Walk.{own}
 use Rattle.drf_tree.proofs.ContentLemmas.{step}
@@ -25,7 +25,7 @@ total_counts content tree on = absurd (false≢true on)
 pub kept_by : (ledger : PlainSorter) (content : Content) → plain_content ledger ≡ content → (old new : Tree) (walk : Walk) (is_free : Bool)
     → IsTreeOf content new → (is_free ≡ true → IsTotalFree content new) → new.places ≡ old.places → new.families ≡ old.families
     → AreFrames old.places.items walk.frames.items → IsSettled content old.places.items old.families.items walk.frames.items
-    → IsKept ledger new walk is_free
+    → AreInStep ledger new walk is_free
 kept_by ledger content is old new walk is_free of free places families are settled = record {
   of_ledger = subst (λ (k : Content). IsTreeOf k new) (sym is) of;
   free = λ on. subst (λ (k : Content). IsTotalFree k new) (sym is) (free on);
@@ -102,14 +102,14 @@ pub kept_along : (ledger : PlainSorter) (old content : Content) → plain_conten
     → active_paths content ≡ active_paths old → (tree new : Tree) (walk : Walk) (is_free : Bool)
     → IsTreeOf content new → (is_free ≡ true → IsTotalFree content new) → new.places ≡ tree.places → new.families ≡ tree.families
     → AreFrames tree.places.items walk.frames.items → IsSettled old tree.places.items tree.families.items walk.frames.items
-    → IsKept ledger new walk is_free
+    → AreInStep ledger new walk is_free
 kept_along ledger old content is same tree new walk is_free of free places families are settled =
     kept_by ledger content is tree new walk is_free of free places families are
     (settled_along old content tree.places.items tree.families.items (sym same) walk.frames.items settled)
 
 -- a walk that was stopped is settled
 pub stopped : (ledger : PlainSorter) (content : Content) → plain_content ledger ≡ content → (tree : Tree) (walk : Walk) (is_free : Bool)
-    → walk.frames.items ≡ [] → IsTreeOf content tree → (is_free ≡ true → IsTotalFree content tree) → IsKept ledger tree walk is_free
+    → walk.frames.items ≡ [] → IsTreeOf content tree → (is_free ≡ true → IsTotalFree content tree) → AreInStep ledger tree walk is_free
 stopped ledger content is tree walk is_free none of free =
     kept_by ledger content is tree tree walk is_free of free refl refl
     (subst (AreFrames tree.places.items) (sym none) record { few = omega arith; nodes = tt; deep = λ k frame at. absurd cc; nested = tt })

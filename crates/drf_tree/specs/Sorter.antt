@@ -26,7 +26,7 @@ sorted_code =
     (λ p. record { ledger = p.0; queue = p.1.0; work = record { made = p.1.1.0; marked = p.1.1.1 } }) (λ _. refl)
 
 -- the tree is that of the clients in the ledger, and the walk stands at one that is to be served, if at any
-pub record IsKept (ledger : PlainSorter) (tree : Tree) (walk : Walk) (is_total_free : Bool) : Type 0 where
+pub record AreInStep (ledger : PlainSorter) (tree : Tree) (walk : Walk) (is_total_free : Bool) : Type 0 where
   pub of_ledger : IsTreeOf (plain_content ledger) tree
   pub free : is_total_free ≡ true → IsTotalFree (plain_content ledger) tree
   pub frames : AreFrames tree.places.items walk.frames.items

@@ -25,7 +25,7 @@ impl Model for TreeSorter {
     ghost use Rattle.drf_sorter.specs.Plain.{plain_content};
     ghost use Rattle.drf_tree.specs.Marks.{work_of};
     ghost use Rattle.drf_tree.specs.Queue.{frames_queue};
-    ghost use Rattle.drf_tree.specs.Sorter.{IsKept, Sorted, sorted_code};
+    ghost use Rattle.drf_tree.specs.Sorter.{AreInStep, Sorted, sorted_code};
 
     ghost Value = { Sorted };
 
@@ -37,7 +37,7 @@ impl Model for TreeSorter {
       work = work_of s.tree.marks;
     } };
 
-    ghost invariant = { λ s. IsKept s.ledger s.tree s.walk s.is_total_free };
+    ghost invariant = { λ s. AreInStep s.ledger s.tree s.walk s.is_total_free };
 }
 
 impl Sorter for TreeSorter {

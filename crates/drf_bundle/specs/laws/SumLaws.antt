@@ -4,7 +4,7 @@ use Rattle.std.proofs.Common.{refl, sym, ap, ◌∙◌, inl, inr, cond, arith}
 use Rattle.drf_role.specs.Text.{Text, same_text}
 use Rattle.drf_role.specs.TextLaws.{test_from_same, test_from_other, cases_same}
 use Rattle.drf_bundle.specs.Value.{Thousandths}
-use Rattle.drf_bundle.specs.Bundle.{Key, IsKept, stock, with_value, add_scalar, add_scalars, quantities_of}
+use Rattle.drf_bundle.specs.Bundle.{Key, HasSums, stock, with_value, add_scalar, add_scalars, quantities_of}
 use Rattle.drf_bundle.specs.laws.KeyLaws.{unit_of, where-cons, unit-here, unit-none}
 use Rattle.drf_bundle.specs.Quantities.{amount_of, with_amount}
 use Rattle.drf_bundle.specs.laws.QuantitiesLaws.{amount-with}
@@ -53,6 +53,6 @@ pub amount-quantities_of : (rs : List Resource) (name : Text)
 amount-quantities_of rs name = omega (arith, amount-add_scalars [] rs name)
 
 -- as every bundle keeps it
-pub amount-kept : (rs : List Resource) (quantities : List Entry) (name : Text) → IsKept rs quantities
+pub amount-kept : (rs : List Resource) (quantities : List Entry) (name : Text) → HasSums rs quantities
     → amount_of quantities name ≡ stock rs name Thousandths
 amount-kept rs quantities name kept = ap (λ (q : List Entry). amount_of q name) kept.sums ∙ amount-quantities_of rs name

@@ -10,7 +10,7 @@ use Rattle.drf_role.specs.TextLaws.{same_itself, same_from_test, test_from_same}
 use Rattle.drf_amount.specs.declared.algebra.AlgebraFault.TheVariants as fault
 use Rattle.drf_bundle.specs.Value.{Point, Thousandths, Number, Member, units_in, most, amount_in, is_same_kind, share_members, united}
 use Rattle.drf_bundle.specs.laws.ValueLaws.{united_within, thousandths-united, given-united, filled_point, point_filled, units_single, share_at}
-use Rattle.drf_bundle.specs.Bundle.{Key, key_of, key_below, same_key, is_in_order, units_where, units, stock, IsResource, IsBundle, IsKept, value_at, merged, have_clash, quantities_of, add_scalar, join_or}
+use Rattle.drf_bundle.specs.Bundle.{Key, key_of, key_below, same_key, is_in_order, units_where, units, stock, IsResource, IsBundle, HasSums, value_at, merged, have_clash, quantities_of, add_scalar, join_or}
 use Rattle.drf_bundle.specs.laws.KeyLaws.{cases_key, key_less, key_greater, key_equal, same_key_itself, same_key_true, below_other, above_other, cases_same, Has, stands_first, first_trans, unit_of, where-cons, unit-here, unit-none, units_found, units_at}
 use Rattle.drf_bundle.specs.laws.JoinLaws.{both_of, merged-empty, in_order-merged, each-merged}
 use Rattle.drf_bundle.specs.laws.FitLaws.{zero_or_some, stock_has, one_kind_of_both}
@@ -291,9 +291,9 @@ pub some_in : (r : Resource) → (amount_in r.value ≡ 0 → ⊥) → nat_lt 0 
 some_in r some = lt-ltb 0 (amount_in r.value) (elim (zero_or_some (amount_in r.value)) [ inl zero ↦ absurd (some zero) | inr above ↦ above ])
 
 -- what a bundle keeps stays right
-pub kept-merged : (bundle more : List Resource) (quantities sums : List Entry) (r : Resource) → IsKept bundle quantities
+pub kept-merged : (bundle more : List Resource) (quantities sums : List Entry) (r : Resource) → HasSums bundle quantities
     → IsPiece r → union_refusal bundle r ≡ None → nat_lt 0 (amount_in r.value) ≡ true → more ≡ merged bundle (r ∷ []) → sums ≡ add_scalar quantities r
-    → IsKept more sums
+    → HasSums more sums
 kept-merged bundle more quantities sums r kept piece none some is sum =
     let one = filled_piece r piece some in
     let room = room_from_refusal bundle r none in

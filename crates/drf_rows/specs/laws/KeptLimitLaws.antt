@@ -148,18 +148,18 @@ module _ (limits : LimitNumbers) (rows : Rows) (label : Text) (place : ℕ) (l :
   abbrev its : Path → Bool
   its = is_within l.role
 
-  abbrev IsKept : Rows → Type 0
-  IsKept after = consumption after l.role label ≤ max (amount_of l.limit label) (consumption rows l.role label)
+  abbrev StaysWithin : Rows → Type 0
+  StaysWithin after = consumption after l.role label ≤ max (amount_of l.limit label) (consumption rows l.role label)
 
-  falls : (after : Rows) → consumption_where (is_within l.role) after label ≤ consumption_where (is_within l.role) rows label → IsKept after
+  falls : (after : Rows) → consumption_where (is_within l.role) after label ≤ consumption_where (is_within l.role) rows label → StaysWithin after
   falls after le =
       at_most (consumption after l.role label) (consumption rows l.role label) (amount_of l.limit label) le
 
-  stays : IsKept rows
+  stays : StaysWithin rows
   stays = falls rows (no_less (consumption rows l.role label))
 
   effect_keeps : (event : Event) → IsGivenBundles event → changes_totals event ≡ false → refusal_of limits rows event ≡ None
-      → IsKept (effect rows event)
+      → StaysWithin (effect rows event)
   unfolding effect
   effect_keeps (AddAgent agent total) given kind accepted = cc
   effect_keeps (RemoveAgent agent) given kind accepted =
@@ -174,7 +174,7 @@ module _ (limits : LimitNumbers) (rows : Rows) (label : Text) (place : ℕ) (l :
   effect_keeps (Accept a) given kind accepted = by (offer_at rows a.offer) refl
     where
       by : (f : Option OfferRow) → offer_at rows a.offer ≡ f
-          → IsKept (option_map_or (λ o. offer_accepted (at_moment rows a.at) o a.tasks a.refuse_ms) f rows)
+          → StaysWithin (option_map_or (λ o. offer_accepted (at_moment rows a.at) o a.tasks a.refuse_ms) f rows)
       by None found = stays
       by (Some o) found =
           at_most _ _ _
@@ -185,7 +185,7 @@ module _ (limits : LimitNumbers) (rows : Rows) (label : Text) (place : ℕ) (l :
           ))
   effect_keeps (Decline d) given kind accepted = by (offer_at rows d.offer)
     where
-      by : (f : Option OfferRow) → IsKept (option_map_or (λ o. offer_declined (at_moment rows d.at) o d.refuse_ms) f rows)
+      by : (f : Option OfferRow) → StaysWithin (option_map_or (λ o. offer_declined (at_moment rows d.at) o d.refuse_ms) f rows)
       by None = stays
       by (Some o) = at_most _ _ _ (ended_le its label rows (one_offer o.number))
   effect_keeps (Rescind offer) given kind accepted = at_most _ _ _ (ended_le its label rows (one_offer offer))

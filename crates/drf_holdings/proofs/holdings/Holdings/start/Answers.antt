@@ -3,7 +3,7 @@ use Rattle.std.specs.Option.{option_copied}
 use Rattle.drf_rows.specs.Offers.{task_of, AreNew}
 use Rattle.drf_rows.specs.declared.rows.OfferRow.{OfferRow}
 use Rattle.drf_rows.specs.declared.rows.TaskRow.{TaskRow}
-use Rattle.drf_holdings.specs.Stored.{Standing, HasStarted}
+use Rattle.drf_holdings.specs.Stored.{OffersAndTasks, HasStarted}
 use Rattle.drf_holdings.specs.Taking.{IsTaken, HasNone}
 use Rattle.drf_holdings.proofs.Removed.{find_any, some_copied}
 use Rattle.drf_holdings.proofs.holdings.Holdings.start.Goals as goal
@@ -23,7 +23,7 @@ append-requires c =
     let got : option_copied c.get.result ≡ find (λ (o : OfferRow). o.number == c.args.number) offers =
     c.get.ensures ∙ (λ i. find (λ (o : OfferRow). o.number == c.args.number) (c.self.view_is i).offers) in
     let rows : c.in_ok-rows.rows.items ≡ map (task_of offer) c.args.tasks = c.in_ok-rows.ensures ∙ ap (map (task_of offer)) c.into_vec.ensures.value in
-    subst (λ (ts : List TaskRow). AreNew ts c.in_ok-rows.rows.items) (ap (λ (h : Standing). h.tasks) (sym c.self.view_is))
+    subst (λ (ts : List TaskRow). AreNew ts c.in_ok-rows.rows.items) (ap (λ (h : OffersAndTasks). h.tasks) (sym c.self.view_is))
     (subst (AreNew c.args.self.now.tasks) (sym rows)
     (c.requires.new offer (sym got ∙ ap option_copied c.unwrap-offer.ensures)))
 
@@ -35,8 +35,8 @@ unwrap-requires c =
 pub returns-clause-ok : goal.returns-clause-ok
 returns-clause-ok c =
     let test : OfferRow → Bool = λ o. o.number == c.args.number in
-    let old : Standing = record { offers = c.self.inside.offers; tasks = c.self.inside.tasks } in
-    let new : Standing = record { offers = c.take.new.self; tasks = c.append.new.self } in
+    let old : OffersAndTasks = record { offers = c.self.inside.offers; tasks = c.self.inside.tasks } in
+    let new : OffersAndTasks = record { offers = c.take.new.self; tasks = c.append.new.self } in
     let found : OfferRow = c.unwrap-offer.result.now in
     let offer : OfferRow = c.unwrap.result in
     let both : ◌≡◌ {A = Option OfferRow} (Some found) (Some offer) =
@@ -50,4 +50,4 @@ returns-clause-ok c =
           c.unwrap.ensures c.take.ensures.taken;
       started = c.in_ok-append.ensures.ok ∙ ap (λ (ts : List TaskRow). old.tasks ++ ts) rows;
     } in
-    subst (λ (h : Standing). HasStarted c.args.number c.args.tasks h new offer) c.self.view_is started
+    subst (λ (h : OffersAndTasks). HasStarted c.args.number c.args.tasks h new offer) c.self.view_is started

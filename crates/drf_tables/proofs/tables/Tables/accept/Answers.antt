@@ -10,7 +10,7 @@ use Rattle.drf_rows.specs.declared.rows.Rows.{Rows}
 use Rattle.drf_bundle.specs.declared.resource.Resource.{Resource}
 use Rattle.drf_tables.specs.Changing.{HasFreed}
 use Rattle.drf_tables.specs.Ended.{CanAccept, with_accepted}
-use Rattle.drf_tables.specs.Inside.{CountsIf, IsKept, rows_of, rows_in}
+use Rattle.drf_tables.specs.Inside.{CountsIf, AreDerived, rows_of, rows_in}
 use Rattle.drf_tables.specs.Stored.{Stored}
 use Rattle.drf_tables.proofs.Ended.{found_any, accepted-rows, accepted-kept}
 use Rattle.drf_tables.proofs.Recounted.{accept_fits, counts-accepted}
@@ -74,7 +74,7 @@ invariant_of-self-in-Ok c =
     counts-accepted t.is_counted (rows_in t) t.quota c.self.invariant.consumed number can.offer c.in-Ok.offer c.args.tasks c.args.rest
     c.self.invariant.kept.consistent can.at can.can same rest more after c.release_held.ensures in
     record {
-      kept = subst (λ (limits : List LimitRow). IsKept (rows limits) entries t.total t.clients) c.release_held.ensures.limits
+      kept = subst (λ (limits : List LimitRow). AreDerived (rows limits) entries t.total t.clients) c.release_held.ensures.limits
           (accepted-kept t entries held filters number c.args.tasks c.args.filter
           can.offer c.in-Ok.offer c.self.invariant.kept can.at c.in-Ok.ensures.ok back c.in_ok-add_if.ensures.ok
           can.can can.filter);

@@ -12,12 +12,12 @@ use Rattle.drf_rows.specs.Quota.{reserved_in}
 use Rattle.drf_rows.specs.declared.limits.TheConstants.{LARGEST_AMOUNT}
 use Rattle.drf_rows.specs.declared.rows.LimitRow.{LimitRow}
 use Rattle.drf_rows.specs.declared.rows.Rows.{Rows}
-use Rattle.drf_tables.specs.Inside.{CountsIf, IsKept, rows_in, rows_of}
+use Rattle.drf_tables.specs.Inside.{CountsIf, AreDerived, rows_in, rows_of}
 use Rattle.drf_tables.specs.Stored.{Stored}
 use Rattle.drf_tables.specs.declared.tables.Agent.{Agent}
 use Rattle.drf_tables.proofs.Entries.{from_ok}
 use Rattle.drf_tables.proofs.Fields.{rows_of-agent, last_agent, sums_fit}
-use Rattle.drf_tables.proofs.Kept.{IsKept-agent_added}
+use Rattle.drf_tables.proofs.Kept.{AreDerived-agent_added}
 use Rattle.drf_tables.proofs.Running.{counts-limits, kept-limits}
 use Rattle.drf_tables.proofs.Recounted.{adds_counted, consumption-agent_added, counts-consumed, counts-still, reserved_le}
 use Rattle.drf_tables.proofs.tables.Tables.add_agent.Goals as goal
@@ -78,14 +78,14 @@ invariant_of-self-2 c =
       small = c.requires.small;
     } in
     let sum : c.in_ok-sum.sum ≡ plus t.total (quantities_of total) = c.in_ok-sum.ensures ∙ ap (plus t.total) c.quantities.ensures.value in
-    let kept : IsKept (rows t.quota.limits) entries c.in_ok-sum.sum t.clients = rw (told, last, sum) (
-    IsKept-agent_added (rows_in t) t.agents.entries t.total t.clients name agent c.self.invariant.kept few new right all
+    let kept : AreDerived (rows t.quota.limits) entries c.in_ok-sum.sum t.clients = rw (told, last, sum) (
+    AreDerived-agent_added (rows_in t) t.agents.entries t.total t.clients name agent c.self.invariant.kept few new right all
     ) in
     let counts : CountsIf t.is_counted (agent_added (rows_in t) name total) after =
     counts-consumed t.is_counted (rows_in t) t.quota c.self.invariant.consumed (agent_added (rows_in t) name total) after
     (λ test label. reserved_in test label total) raised refl (consumption-agent_added (rows_in t) name total) in
     record {
-      kept = subst (λ (ls : List LimitRow). IsKept (rows ls) entries c.in_ok-sum.sum t.clients) limits kept;
+      kept = subst (λ (ls : List LimitRow). AreDerived (rows ls) entries c.in_ok-sum.sum t.clients) limits kept;
       consumed = subst (λ (ls : List LimitRow). CountsIf t.is_counted (rows ls) after) limits
           (subst (λ (r : Rows). CountsIf t.is_counted r after) (sym told) counts);
     }

@@ -9,7 +9,7 @@ use Rattle.drf_tables.specs.Inside.{rows_of, rows_in}
 use Rattle.drf_tables.specs.Stored.{Stored}
 use Rattle.drf_tables.proofs.Entries.{from_ok}
 use Rattle.drf_tables.proofs.Fields.{rows_of-framework}
-use Rattle.drf_tables.proofs.Kept.{IsKept-framework_added}
+use Rattle.drf_tables.proofs.Kept.{AreDerived-framework_added}
 use Rattle.drf_tables.proofs.Counts.{counts-same}
 use Rattle.drf_tables.proofs.tables.Tables.add_framework.Goals as goal
 
@@ -29,7 +29,7 @@ invariant_of-self c =
     c.into_vec.ensures in
     record {
       kept = rw (rows, c.len.ensures) (
-          IsKept-framework_added (rows_in t) t.agents.entries t.total t.clients f
+          AreDerived-framework_added (rows_in t) t.agents.entries t.total t.clients f
           c.self.invariant.kept new c.requires.roles c.requires.uncounted
           );
       consumed = counts-same _ (rows_in c.self.inside) _ _ c.self.invariant.consumed refl refl (λ test label. refl);

@@ -15,7 +15,7 @@ use Rattle.drf_tables.specs.Stored.{Stored}
 use Rattle.drf_tables.proofs.Counted.{CanCountAll-from}
 use Rattle.drf_tables.proofs.Appended.{made_from}
 use Rattle.drf_tables.proofs.Fields.{rows_of-offers, agents_in}
-use Rattle.drf_tables.proofs.Kept.{IsKept-with_offers, known-left, settled-left}
+use Rattle.drf_tables.proofs.Kept.{AreDerived-with_offers, known-left, settled-left}
 use Rattle.drf_tables.proofs.Running.{limits-with_offers}
 use Rattle.drf_tables.proofs.tables.Tables.commit.Goals as goal
 
@@ -103,7 +103,7 @@ invariant_of-self-2 c =
     λ i. stands (limits i) (long i) in
     record {
       kept = rw (long, limits, rows) (
-          IsKept-with_offers (rows_in t) t.agents.entries c.put_lefts.new.agents.entries t.total t.clients offers
+          AreDerived-with_offers (rows_in t) t.agents.entries c.put_lefts.new.agents.entries t.total t.clients offers
           c.self.invariant.kept consistent known
           );
       consumed = subst (λ (r : Rows). CountsIf c.take_over-self-inside.result r c.take_over-self-inside.new.quota) (sym (told ∙ rows)) counts;

@@ -2,7 +2,7 @@ use Rattle.std.proofs.Common.{List, sym, ap, ◌∙◌, subst}
 use Rattle.drf_bundle.specs.declared.quantities.Entry.{Entry}
 use Rattle.drf_role.specs.Text.{Text}
 use Rattle.drf_rows.specs.declared.rows.Rows.{Rows}
-use Rattle.drf_tables.specs.Inside.{IsKept, rows_in}
+use Rattle.drf_tables.specs.Inside.{AreDerived, rows_in}
 use Rattle.drf_tables.specs.Stored.{Stored}
 use Rattle.drf_tables.specs.declared.tables.Agent.{Agent}
 use Rattle.drf_tables.proofs.CopyLemmas.{counts-copied, rows-copied}
@@ -16,9 +16,9 @@ invariant_of-result c =
     c.in_ok-amounts.amounts.0.entries c.in_ok-amounts.amounts.2.limits c.in_ok-members.ensures.agents c.in_ok-members.ensures.frameworks
     c.in_ok-held.ensures.holdings c.in_ok-held.ensures.filters c.in_ok-amounts.ensures.weights c.in_ok-amounts.ensures.quota.limits in
     record {
-      kept = subst (λ (r : Rows). IsKept r c.in_ok-members.members.0.entries c.in_ok-amounts.amounts.1 t.clients) (sym rows)
-          (subst (λ (es : List (Text × Agent)). IsKept (rows_in t) es c.in_ok-amounts.amounts.1 t.clients) (sym c.in_ok-members.ensures.agents)
-          (subst (λ (sum : List Entry). IsKept (rows_in t) t.agents.entries sum t.clients) (sym c.in_ok-amounts.ensures.total) c.self.invariant.kept));
+      kept = subst (λ (r : Rows). AreDerived r c.in_ok-members.members.0.entries c.in_ok-amounts.amounts.1 t.clients) (sym rows)
+          (subst (λ (es : List (Text × Agent)). AreDerived (rows_in t) es c.in_ok-amounts.amounts.1 t.clients) (sym c.in_ok-members.ensures.agents)
+          (subst (λ (sum : List Entry). AreDerived (rows_in t) t.agents.entries sum t.clients) (sym c.in_ok-amounts.ensures.total) c.self.invariant.kept));
       consumed = counts-copied t.is_counted _ _ t.quota c.in_ok-amounts.amounts.2 rows c.in_ok-amounts.ensures.quota c.self.invariant.consumed;
     }
 

@@ -6,7 +6,7 @@ use Rattle.drf_rows.specs.declared.rows.OfferRow.{OfferRow}
 use Rattle.drf_rows.specs.declared.rows.Rows.{Rows}
 use Rattle.drf_rows.specs.declared.rows.TaskRow.{TaskRow}
 use Rattle.drf_gates.specs.Quota.{Allowance, IsAllowanceOf, IsRaisedBy, used_where}
-use Rattle.drf_tables.specs.Inside.{IsKept, agent_row, rows_of}
+use Rattle.drf_tables.specs.Inside.{AreDerived, agent_row, rows_of}
 use Rattle.drf_tables.proofs.Moved.{consumed_fits, counted-all}
 use Rattle.drf_tables.proofs.tables.Tables.count_consumption.Goals as goal
 
@@ -78,6 +78,6 @@ invariant_of-self-2 c =
     let counted : IsAllowanceOf (rows t.quota.limits) three =
     counted-all t c.self.invariant.kept none one two three c.forget.ensures first second third in
     record {
-      kept = subst (λ (ls : List LimitRow). IsKept (rows ls) t.agents.entries t.total t.clients) (sym limits) c.self.invariant.kept;
+      kept = subst (λ (ls : List LimitRow). AreDerived (rows ls) t.agents.entries t.total t.clients) (sym limits) c.self.invariant.kept;
       consumed = λ _. subst (λ (ls : List LimitRow). IsAllowanceOf (rows ls) three) (sym limits) counted;
     }

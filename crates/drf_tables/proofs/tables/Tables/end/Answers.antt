@@ -5,7 +5,7 @@ use Rattle.drf_rows.specs.declared.rows.LimitRow.{LimitRow}
 use Rattle.drf_rows.specs.declared.rows.Rows.{Rows}
 use Rattle.drf_rows.specs.Ended.{ending_of}
 use Rattle.drf_tables.specs.Ended.{HasEnded}
-use Rattle.drf_tables.specs.Inside.{CountsIf, IsKept, rows_in, rows_of}
+use Rattle.drf_tables.specs.Inside.{CountsIf, AreDerived, rows_in, rows_of}
 use Rattle.drf_tables.specs.Stored.{Stored}
 use Rattle.drf_holdings.specs.Stored.{HasTaken, holding_of}
 use Rattle.drf_tables.specs.declared.ending.Held.{Held}
@@ -52,7 +52,7 @@ invariant_of-self-2 c =
     counts-ended t.is_counted (rows_in t) new t.quota (holding_of taken) c.self.invariant.consumed one.less
     (sym (ap (λ (r : Rows). r.agents) one.others)) after c.release_held.ensures (sym (ap (λ (r : Rows). r.limits) one.others)) in
     record {
-      kept = subst (λ (limits : List LimitRow). IsKept (rows limits) entries t.total t.clients) c.release_held.ensures.limits
+      kept = subst (λ (limits : List LimitRow). AreDerived (rows limits) entries t.total t.clients) c.release_held.ensures.limits
           (ended-kept t entries held ending taken c.self.invariant.kept c.give_back.ensures lost);
       consumed = subst (λ (limits : List LimitRow). CountsIf t.is_counted (rows limits) after) c.release_held.ensures.limits counts;
     }

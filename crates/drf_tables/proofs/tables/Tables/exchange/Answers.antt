@@ -5,7 +5,7 @@ use Rattle.drf_rows.specs.Totals.{exchanged, with_total}
 use Rattle.drf_rows.specs.declared.rows.LimitRow.{LimitRow}
 use Rattle.drf_rows.specs.declared.rows.Rows.{Rows}
 use Rattle.drf_tables.specs.Changing.{CanExchangeOn}
-use Rattle.drf_tables.specs.Inside.{CountsIf, IsKept, rows_in, rows_of}
+use Rattle.drf_tables.specs.Inside.{CountsIf, AreDerived, rows_in, rows_of}
 use Rattle.drf_tables.specs.Stored.{Stored}
 use Rattle.drf_tables.proofs.Running.{counts-exchanged, counts-limits, exchange_adds, exchange_fits, kept-limits}
 use Rattle.drf_tables.proofs.Moved.{can_each, rows-exchanged, kept-exchanged}
@@ -68,7 +68,7 @@ invariant_of-self-in-Ok c =
     let rows : List LimitRow → Rows = λ limits.
     rows_of entries t.frameworks.entries t.holdings t.filters t.weights.entries limits t.clock t.next_offer t.events in
     record {
-      kept = subst (λ (ls : List LimitRow). IsKept (rows ls) entries t.total t.clients) limits
+      kept = subst (λ (ls : List LimitRow). AreDerived (rows ls) entries t.total t.clients) limits
           (kept-exchanged t c.self.invariant.kept name c.args.old.now c.args.new.now can entries c.in-Ok.ensures.ok);
       consumed = subst (λ (ls : List LimitRow). CountsIf t.is_counted (rows ls) after) limits
           (counts-exchanged t c.self.invariant.kept c.self.invariant.consumed name c.args.old.now c.args.new.now can

@@ -6,7 +6,7 @@ use Rattle.drf_rows.specs.Held.{cluster_total}
 use Rattle.drf_rows.specs.Members.{agent_removed}
 use Rattle.drf_rows.specs.declared.rows.LimitRow.{LimitRow}
 use Rattle.drf_rows.specs.declared.rows.Rows.{Rows}
-use Rattle.drf_tables.specs.Inside.{CountsIf, IsKept, rows_in, rows_of}
+use Rattle.drf_tables.specs.Inside.{CountsIf, AreDerived, rows_in, rows_of}
 use Rattle.drf_tables.specs.Stored.{Stored}
 use Rattle.drf_tables.proofs.Changes.{rows-left, kept-left}
 use Rattle.drf_tables.proofs.Running.{agent_fits, counts-left}
@@ -29,7 +29,7 @@ invariant_of-self c =
     let rows : List LimitRow → Rows = λ limits.
     rows_of entries t.frameworks.entries t.holdings filters t.weights.entries limits t.clock t.next_offer t.events in
     record {
-      kept = subst (λ (limits : List LimitRow). IsKept (rows limits) entries c.args.total t.clients) c.release_agent.ensures.limits
+      kept = subst (λ (limits : List LimitRow). AreDerived (rows limits) entries c.args.total t.clients) c.release_agent.ensures.limits
           (kept-left t c.self.invariant.kept name entries filters c.args.total nothing c.shift_remove.ensures.entries c.drop_agent.ensures others);
       consumed = subst (λ (limits : List LimitRow). CountsIf t.is_counted (rows limits) after) c.release_agent.ensures.limits
           (counts-left t c.self.invariant.consumed name entries filters after c.shift_remove.ensures.entries c.release_agent.ensures);

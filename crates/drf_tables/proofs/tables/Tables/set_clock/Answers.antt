@@ -1,6 +1,6 @@
 use Rattle.std.proofs.Common.{refl}
 use Rattle.drf_tables.specs.Inside.{rows_of, rows_in}
-use Rattle.drf_tables.proofs.Kept.{IsKept-clocked}
+use Rattle.drf_tables.proofs.Kept.{AreDerived-clocked}
 use Rattle.drf_tables.proofs.Counts.{counts-same}
 use Rattle.drf_tables.proofs.tables.Tables.set_clock.Goals as goal
 
@@ -9,6 +9,6 @@ unfolding rows_of
 invariant_of-self c =
     let t = c.self.inside in
     record {
-      kept = IsKept-clocked (rows_in t) _ _ _ c.args.clock t.events c.requires c.self.invariant.kept;
+      kept = AreDerived-clocked (rows_in t) _ _ _ c.args.clock t.events c.requires c.self.invariant.kept;
       consumed = counts-same _ (rows_in c.self.inside) _ _ c.self.invariant.consumed refl refl (λ test label. refl);
     }

@@ -8,7 +8,7 @@ use Rattle.drf_rows.specs.Totals.{with_other_total}
 use Rattle.drf_rows.specs.declared.rows.LimitRow.{LimitRow}
 use Rattle.drf_rows.specs.declared.rows.Rows.{Rows}
 use Rattle.drf_tables.specs.Changing.{CanHaveTotal}
-use Rattle.drf_tables.specs.Inside.{CountsIf, IsKept, rows_in, rows_of}
+use Rattle.drf_tables.specs.Inside.{CountsIf, AreDerived, rows_in, rows_of}
 use Rattle.drf_tables.specs.Stored.{Stored}
 use Rattle.drf_tables.proofs.Changes.{agents_apart}
 use Rattle.drf_tables.proofs.Moved.{rows-other, kept-other}
@@ -50,7 +50,7 @@ invariant_of-self c =
     let rows : List LimitRow → Rows = λ limits.
     rows_of entries t.frameworks.entries t.holdings t.filters t.weights.entries limits t.clock t.next_offer t.events in
     record {
-      kept = subst (λ (ls : List LimitRow). IsKept (rows ls) entries c.args.sum t.clients) limits
+      kept = subst (λ (ls : List LimitRow). AreDerived (rows ls) entries c.args.sum t.clients) limits
           (kept-other t c.self.invariant.kept name total c.args.sum right summed entries c.set_total.ensures);
       consumed = subst (λ (ls : List LimitRow). CountsIf c.recount_total-self-inside.result (rows ls) after) limits
           (counts-other t c.self.invariant.kept c.self.invariant.consumed name total c.args.sum right summed

@@ -4,7 +4,7 @@ use Rattle.drf_role.specs.Path.{same_path}
 use Rattle.drf_tables.specs.Inside.{rows_of, rows_in}
 use Rattle.drf_tables.specs.Stored.{Stored}
 use Rattle.drf_tables.proofs.Entries.{from_ok}
-use Rattle.drf_tables.proofs.Weighed.{weight_set, rows_of-weight, IsKept-weight_set}
+use Rattle.drf_tables.proofs.Weighed.{weight_set, rows_of-weight, AreDerived-weight_set}
 use Rattle.drf_tables.proofs.Counts.{counts-same}
 use Rattle.drf_tables.proofs.tables.Tables.set_weight.Goals as goal
 
@@ -17,7 +17,7 @@ invariant_of-self c =
     from_ok c.insert.result c.unwrap.result _ c.unwrap.ensures c.insert.ensures.entries in
     record {
       kept = rw (rows_of-weight t c.insert.new.self.entries role c.args.weight inserted) (
-          IsKept-weight_set (rows_in t) t.agents.entries t.total t.clients role c.args.weight c.requires.right c.self.invariant.kept
+          AreDerived-weight_set (rows_in t) t.agents.entries t.total t.clients role c.args.weight c.requires.right c.self.invariant.kept
           );
       consumed = counts-same _ (rows_in c.self.inside) _ _ c.self.invariant.consumed refl refl (λ test label. refl);
     }

@@ -1,13 +1,12 @@
 //! Offers and tasks: what becomes of an offer, and how a task ends.
 ghost use Rattle.std.specs.Prelude.{◌≡◌, ◌≤◌, ◌&&◌, true, not, nat_lt, IfOk, OnOk, OnErr, Some};
 ghost use Rattle.drf_rows.specs.Consistent.{IsConsistent};
-ghost use Rattle.drf_rows.specs.Offers.{filter_of, filters_with, has_offer, is_empty, offer_at, refused_until, refuses_all};
+ghost use Rattle.drf_rows.specs.Offers.{CanAccept, filter_of, filters_with, has_offer, is_empty, offer_at, refused_until, refuses_all};
 ghost use Rattle.drf_rows.specs.Step.{effect};
 ghost use Rattle.drf_rows.specs.declared.event.Event.TheVariants as event;
 ghost use Rattle.drf_rows.specs.declared.limits.TheConstants.{LATEST_MOMENT};
 ghost use Rattle.drf_rows.specs.declared.rows.OfferRow.{OfferRow};
 ghost use Rattle.drf_core.specs.Accepting.{filter_if};
-ghost use Rattle.drf_laws.specs.EventLaws.{IsEnough};
 ghost use Rattle.drf_rows.specs.Endings.{one_offer, one_task};
 ghost use Rattle.drf_sorter.specs.Work.{Adds};
 ghost use Rattle.drf_core.specs.Working.{losers, nodes_of};
@@ -86,7 +85,7 @@ impl<S: Sorter> Cluster<S> {
     /// A framework starts tasks with parts of an offer. The rest is free, and is refused for a time.
     pub(crate) fn accept(&mut self, accept: Accept) -> Result<(), AllocError>
         requires consistent { IsConsistent self.old.rows }
-        requires enough { IsEnough self.old.rows accept.offer accept.tasks }
+        requires can { CanAccept self.old.rows accept.offer accept.tasks }
         requires early { accept.at ≤ LATEST_MOMENT }
         ensures ok { OnOk result (self.new.rows ≡ effect self.old.rows (event.Accept accept)) }
         ensures err { OnErr result (self.new.rows ≡ self.old.rows) }

@@ -30,29 +30,29 @@ holdings_in h = map of_offer h.offers ++ map of_task h.tasks
 abbrev pub holding_of : Taken → Holding
 holding_of t = record { agent = t.agent; client = record { role = t.role; framework = t.framework }; bundle = t.bundle }
 
--- an offer that ends was taken out
-pub record HasLostOffer (ending : Ending) (old new : OffersAndTasks) (t : Taken) : Type 0 where
+-- the holding is an offer that ends, which was taken out
+pub record IsOfferOut (ending : Ending) (old new : OffersAndTasks) (h : Holding) : Type 0 where
   pub offer : OfferRow
   pub taken : IsTaken (ends_offer ending) old.offers new.offers offer
   pub same : new.tasks ≡ old.tasks
-  pub told : holding_of t ≡ of_offer offer
+  pub told : h ≡ of_offer offer
 
--- a task that ends was taken out
-pub record HasLostTask (ending : Ending) (old new : OffersAndTasks) (t : Taken) : Type 0 where
+-- the holding is a task that ends, which was taken out
+pub record IsTaskOut (ending : Ending) (old new : OffersAndTasks) (h : Holding) : Type 0 where
   pub task : TaskRow
   pub taken : IsTaken (ends_task ending) old.tasks new.tasks task
   pub same : new.offers ≡ old.offers
-  pub told : holding_of t ≡ of_task task
+  pub told : h ≡ of_task task
 
 -- nothing ends
-pub record HasLostNone (ending : Ending) (old new : OffersAndTasks) : Type 0 where
+pub record IsNothingOut (ending : Ending) (old new : OffersAndTasks) : Type 0 where
   pub offers : HasNone (ends_offer ending) old.offers new.offers
   pub tasks : HasNone (ends_task ending) old.tasks new.tasks
 
 -- what is left when a holding that ends is taken out
 abbrev pub HasTaken : Ending → OffersAndTasks → OffersAndTasks → Option Taken → Type 0
-HasTaken ending old new None = HasLostNone ending old new
-HasTaken ending old new (Some taken) = HasLostOffer ending old new taken ⊎ HasLostTask ending old new taken
+HasTaken ending old new None = IsNothingOut ending old new
+HasTaken ending old new (Some taken) = IsOfferOut ending old new (holding_of taken) ⊎ IsTaskOut ending old new (holding_of taken)
 
 -- the offer of a number was taken out, and tasks with parts of it stand last
 pub record HasStarted (number : ℕ) (starts : List Start) (old new : OffersAndTasks) (offer : OfferRow) : Type 0 where

@@ -3,13 +3,11 @@ use Rattle.std.specs.Prelude.{◌≡◌, ℕ, true, false, List, Some, None}
 use Rattle.std.specs.List.{AllByRecursion}
 use Rattle.drf_rows.specs.LimitNumbers.{LimitNumbers}
 use Rattle.drf_rows.specs.Consistent.{IsConsistent, IsNumberedByEvents}
-use Rattle.drf_rows.specs.Offers.{offer_at, is_task_known}
+use Rattle.drf_rows.specs.Offers.{CanAccept}
 use Rattle.drf_rows.specs.Step.{live_rows, cases_of, refusal_of, effect, new_offers}
-use Rattle.drf_rows.specs.Tasks.{Start, uses, covers_all}
 use Rattle.drf_rows.specs.declared.event.Accept as accepting
 use Rattle.drf_rows.specs.declared.event.Event.{Event}
 use Rattle.drf_rows.specs.declared.event.Event.TheVariants.{Accept}
-use Rattle.drf_rows.specs.declared.rows.OfferRow.{OfferRow}
 use Rattle.drf_rows.specs.declared.rows.Rows.{Rows}
 use Rattle.drf_laws.specs.Kept.{AreFew, IsCountable}
 use Rattle.drf_laws.specs.RunLaws.{IsGiven}
@@ -29,19 +27,12 @@ LiveRowsDecide =
     → refusal_of limits rows event ≡ None
     → (refusal_of limits other event ≡ None) × (new_offers rows (effect rows event) ≡ new_offers other (effect other event))
 
--- the offer of a number covers what the tasks use together, and their names are new
-pub record IsEnough (rows : Rows) (number : ℕ) (starts : List Start) : Type 0 where
-  pub offer : OfferRow
-  pub at : offer_at rows number ≡ Some offer
-  pub covered : covers_all offer.bundle (uses starts) ≡ true
-  pub new : is_task_known rows offer.framework starts ≡ false
-
--- so it is of an accept
-abbrev pub AcceptsHaveEnough : Type 0
-AcceptsHaveEnough =
+-- the tasks of an accept can be started with parts of its offer
+abbrev pub AcceptsCanStart : Type 0
+AcceptsCanStart =
     (limits : LimitNumbers) (rows : Rows) (a : accepting.Accept)
     → refusal_of limits rows (Accept a) ≡ None
-    → IsEnough rows a.offer a.tasks
+    → CanAccept rows a.offer a.tasks
 
 -- rows that are consistent are so after it
 abbrev pub EventsKeepConsistent : Type 0

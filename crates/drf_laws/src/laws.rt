@@ -1,7 +1,7 @@
 //! Laws of events, of turns and of runs. The functions do nothing: what they promise is proved of the definitions, and of the type of events.
 
 ghost use Rattle.drf_laws.specs.BoundLaws.{RunsStayWithinLimits};
-ghost use Rattle.drf_laws.specs.EventLaws.{NoCaseHolds, LiveRowsDecide, AcceptsHaveEnough, EventsKeepConsistent, EventsKeepCounts};
+ghost use Rattle.drf_laws.specs.EventLaws.{NoCaseHolds, LiveRowsDecide, AcceptsCanStart, EventsKeepConsistent, EventsKeepCounts};
 ghost use Rattle.drf_laws.specs.FilterLaws.{DeclinedSetsFilter, AcceptedSetsFilter, SomeRestIsLeft, DeclinedIsHeldBack, LeftIsHeldBack};
 ghost use Rattle.drf_laws.specs.KeptLaws.{KeptNumbersAreSmall, KeptTotalsAreSmall, FiltersEndEarly, LiveRowsAreConsistent, ClockMayMove};
 ghost use Rattle.drf_laws.specs.KnownLaws.{PathsTellClients, MembersTellNodes, StrangersHoldNothing, HeldIsNotFree};
@@ -16,7 +16,7 @@ use drf_rows::Event;
 pub fn event_law()
     ensures cases { NoCaseHolds }
     ensures live { LiveRowsDecide }
-    ensures enough { AcceptsHaveEnough }
+    ensures starts { AcceptsCanStart }
     ensures consistent { EventsKeepConsistent }
     ensures counts { EventsKeepCounts }
 {}

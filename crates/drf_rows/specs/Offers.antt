@@ -1,10 +1,9 @@
 -- What a framework makes of an offer: it starts tasks with parts of it, or declines it, and for a time is offered there
 -- nothing that the rest covers.
 use Rattle.std.specs.Prelude.{◌≡◌, ℕ, ◌+◌, ◌==◌, max, min, Bool, true, false, not, ◌&&◌, ◌||◌, ⊤, List, [], ◌∷◌, ◌++◌, map, find, Option, is_some, if◌then◌else◌, nat_le, nat_lt}
-use Rattle.std.specs.List.{list_any, AllByRecursion}
+use Rattle.std.specs.List.{list_any}
 use Rattle.std.specs.Option.{option_map_or}
 use Rattle.drf_role.specs.Text.{Text, same_text}
-use Rattle.drf_bundle.specs.Bundle.{IsBundle}
 use Rattle.drf_bundle.specs.Taken.{rest_of_all}
 use Rattle.drf_bundle.specs.declared.resource.Resource.{Resource}
 use Rattle.drf_rows.specs.LimitNumbers.{LimitNumbers}
@@ -52,9 +51,14 @@ task_of o start = record { name = start.0; agent = o.agent; framework = o.framew
 
 -- tasks can be started with parts of an offer: it covers all together, and their names are new
 pub record CanStart (rows : Rows) (o : OfferRow) (starts : List Start) : Type 0 where
-  pub bundles : AllByRecursion IsBundle (uses starts)
   pub covered : covers_all o.bundle (uses starts) ≡ true
   pub new : is_task_known rows o.framework starts ≡ false
+
+-- tasks can be started with parts of the offer of a number
+pub record CanAccept (rows : Rows) (number : ℕ) (starts : List Start) : Type 0 where
+  pub offer : OfferRow
+  pub at : offer_at rows number ≡ Some offer
+  pub can : CanStart rows offer starts
 
 -- each task is new behind those before it
 abbrev pub AreNew : List TaskRow → List TaskRow → Type 0

@@ -5,7 +5,7 @@ use Rattle.std.specs.Option.{option_map_or}
 use Rattle.std.proofs.Common.{refl, sym, ap, ◌∙◌, subst, inl, inr}
 use Rattle.drf_role.specs.Text.{Text, same_text}
 use Rattle.drf_bundle.specs.Value.{Point}
-use Rattle.drf_bundle.specs.Bundle.{Key, units}
+use Rattle.drf_bundle.specs.Bundle.{Key, IsBundle, units}
 use Rattle.drf_bundle.specs.Taken.{units_of_all, bundle-rest_of_all}
 use Rattle.drf_bundle.specs.declared.resource.Resource.{Resource}
 use Rattle.drf_bundle.specs.declared.quantities.Entry.{Entry}
@@ -24,10 +24,10 @@ use Rattle.drf_rows.specs.declared.rows.FilterRow.{FilterRow}
 use Rattle.drf_rows.specs.declared.rows.OfferRow.{OfferRow}
 use Rattle.drf_rows.specs.declared.rows.TaskRow.{TaskRow}
 use Rattle.drf_rows.specs.declared.rows.Rows.{Rows}
-use Rattle.drf_holdings.specs.Stored.{OffersAndTasks, HasLostOffer, HasLostTask, HasLostNone, HasStarted, holding_of}
+use Rattle.drf_holdings.specs.Stored.{OffersAndTasks, IsOfferOut, IsTaskOut, IsNothingOut, HasStarted, holding_of}
 use Rattle.drf_holdings.specs.declared.holdings.Taken.{Taken}
 use Rattle.drf_tables.specs.Changing.{changed, freed, HasFreed}
-use Rattle.drf_tables.specs.Ended.{left_to_end, IsOfferOut, IsTaskOut, HasEnded, with_accepted}
+use Rattle.drf_tables.specs.Ended.{left_to_end, held_in, HasEnded, with_accepted}
 use Rattle.drf_tables.specs.Inside.{agent_row, rows_of, rows_in, IsKnown, AreDerived}
 use Rattle.drf_tables.specs.declared.ending.Held.{Held}
 use Rattle.drf_tables.specs.declared.tables.Agent.{Agent}
@@ -37,7 +37,7 @@ use Rattle.drf_tables.proofs.Freed.{known-freed, rows-freed}
 -- ---- one holding ends
 
 pub record IsWithoutOne (old new : Rows) (ending : Ending) (h : Holding) : Type 0 where
-  pub taken : IsOfferOut ending old new h ⊎ IsTaskOut ending old new h
+  pub taken : IsOfferOut ending (held_in old) (held_in new) h ⊎ IsTaskOut ending (held_in old) (held_in new) h
   pub others : new ≡ record old { offers = new.offers; tasks = new.tasks }
   pub consistent : IsConsistent new
   pub less : IsOneLess (holdings_of old) (holdings_of new) h
@@ -49,7 +49,7 @@ abbrev pub rows_with : Inside → OffersAndTasks → Rows
 rows_with t held = rows_of t.agents.entries t.frameworks.entries held t.filters t.weights.entries t.quota.limits t.clock t.next_offer t.events
 
 module _ (t : Inside) (held : OffersAndTasks) (ending : Ending) (taken : Taken) (consistent : IsConsistent (rows_in t)) where
-  lost_offer : HasLostOffer ending t.holdings held taken → IsWithoutOne (rows_in t) (rows_with t held) ending (holding_of taken)
+  lost_offer : IsOfferOut ending t.holdings held (holding_of taken) → IsWithoutOne (rows_in t) (rows_with t held) ending (holding_of taken)
   unfolding rows_of
   lost_offer lost =
       let o : OfferRow = lost.offer in
@@ -67,7 +67,7 @@ module _ (t : Inside) (held : OffersAndTasks) (ending : Ending) (taken : Taken) 
       } in
       subst (λ (q : Rows × Holding). IsWithoutOne (rows_in t) q.0 ending q.1) (λ i. (rows i, sym lost.told i)) one
 
-  lost_task : HasLostTask ending t.holdings held taken → IsWithoutOne (rows_in t) (rows_with t held) ending (holding_of taken)
+  lost_task : IsTaskOut ending t.holdings held (holding_of taken) → IsWithoutOne (rows_in t) (rows_with t held) ending (holding_of taken)
   unfolding rows_of
   lost_task lost =
       let x : TaskRow = lost.task in
@@ -85,7 +85,7 @@ module _ (t : Inside) (held : OffersAndTasks) (ending : Ending) (taken : Taken) 
       } in
       subst (λ (q : Rows × Holding). IsWithoutOne (rows_in t) q.0 ending q.1) (λ i. (rows i, sym lost.told i)) one
 
-  pub without_taken : HasLostOffer ending t.holdings held taken ⊎ HasLostTask ending t.holdings held taken
+  pub without_taken : IsOfferOut ending t.holdings held (holding_of taken) ⊎ IsTaskOut ending t.holdings held (holding_of taken)
       → IsWithoutOne (rows_in t) (rows_with t held) ending (holding_of taken)
   without_taken lost = elim lost [
     | inl offer ↦ lost_offer offer
@@ -134,7 +134,7 @@ ended_from old new ending h held consistent one path bundle = record {
 
 -- ---- nothing ends
 
-module _ (t : Inside) (held : OffersAndTasks) (ending : Ending) (lost : HasLostNone ending t.holdings held) where
+module _ (t : Inside) (held : OffersAndTasks) (ending : Ending) (lost : IsNothingOut ending t.holdings held) where
   pub rows-none : rows_with t held ≡ rows_in t
   unfolding rows_of
   rows-none = λ i. record (rows_in t) { offers = lost.offers.same i; tasks = lost.tasks.same i }
@@ -189,28 +189,28 @@ module _ (t : Inside) (entries : List (Text × Agent)) (held : OffersAndTasks) (
       ap (map agent_row) freed_there.same ∙ rows-freed freed_there.kept x.agent (left_of_offer o starts) t.agents.entries in
       λ i. record (rows_in t) { agents = agents i; offers = left i; tasks = runs i; filters = added i }
 
-  pub accepted-kept : CanStart (rows_in t) o starts
+  pub accepted-kept : AllByRecursion IsBundle (uses starts) → CanStart (rows_in t) o starts
       → ((f : FilterRow) → refused ≡ Some f → IsFilter (rows_in t).agents (rows_in t).frameworks f)
       → AreDerived rows_accepted entries t.total t.clients
   unfolding rows_of
-  accepted-kept can each =
+  accepted-kept bundles can each =
       let rows : Rows = with_accepted (rows_in t) o starts refused in
       let more : List FilterRow = option_map_or (λ f. f ∷ []) refused [] in
       let left : List Resource = left_of_offer o starts in
       let held : IsHeld (rows_in t).agents (rows_in t).frameworks (of_offer o) = offer_held (rows_in t) number o starts more kept.consistent found in
-      let has = units-covers_all o.bundle (uses starts) held.bundle can.bundles can.covered in
+      let has = units-covers_all o.bundle (uses starts) held.bundle bundles can.covered in
       let known : AllByRecursion (IsKnown (holdings_of rows)) entries =
       subst (λ (es : List (Text × Agent)). AllByRecursion (IsKnown (holdings_of rows)) es)
       (sym (freed_there.same ∙ (λ i. map (changed (same_offer i).agent (freed freed_there.kept left)) t.agents.entries)))
       (known-freed (holdings_of (rows_in t)) (holdings_of rows) o.agent left (bundle-rest_of_all o.bundle (uses starts) held.bundle)
       (bundles-consistent (rows_in t) kept.consistent)
-      (bundles-consistent rows (IsConsistent-accepted (rows_in t) number o starts more kept.consistent found can
+      (bundles-consistent rows (IsConsistent-accepted (rows_in t) number o starts more kept.consistent found bundles can
       (each_filter (IsFilter (rows_in t).agents (rows_in t).frameworks) refused each)))
       (parts_on-accepted (rows_in t) number o starts more kept.consistent found)
-      (units-left (rows_in t) number o starts more kept.consistent found has can.bundles)
+      (units-left (rows_in t) number o starts more kept.consistent found has bundles)
       freed_there.kept t.agents.entries kept.free kept.consistent.agents.each kept.consistent.covered) in
       subst (λ (r : Rows). AreDerived r entries t.total t.clients) (sym accepted-rows) (record {
-        consistent = IsConsistent-accepted (rows_in t) number o starts more kept.consistent found can
+        consistent = IsConsistent-accepted (rows_in t) number o starts more kept.consistent found bundles can
             (each_filter (IsFilter (rows_in t).agents (rows_in t).frameworks) refused each);
         free = known;
         total = kept.total;
@@ -223,7 +223,7 @@ module _ (t : Inside) (entries : List (Text × Agent)) (held : OffersAndTasks) (
 module _ (t : Inside) (entries : List (Text × Agent)) (held : OffersAndTasks) (ending : Ending) (taken : Taken)
     (kept : AreDerived (rows_in t) t.agents.entries t.total t.clients)
     (freed_there : HasFreed taken.agent taken.bundle t.agents.entries entries)
-    (lost : HasLostOffer ending t.holdings held taken ⊎ HasLostTask ending t.holdings held taken) where
+    (lost : IsOfferOut ending t.holdings held (holding_of taken) ⊎ IsTaskOut ending t.holdings held (holding_of taken)) where
   -- the rows without it
   abbrev pub rows_ended : Rows
   rows_ended = rows_of entries t.frameworks.entries held t.filters t.weights.entries t.quota.limits t.clock t.next_offer t.events

@@ -1,5 +1,6 @@
 -- What roles consume, kept through each change of the rows.
 use Rattle.std.specs.Prelude.{◌≡◌, ℕ, ◌+◌, ◌<◌, ◌≤◌, ◌^◌, Bool, true, false, List, [], ◌∷◌, ◌++◌, map, Option, Some, Result, Ok, Err, OnOk, OnErr, length}
+use Rattle.std.specs.List.{AllByRecursion}
 use Rattle.std.specs.Map.{remove_entry}
 use Rattle.std.specs.Option.{option_map_or}
 use Rattle.std.specs.Result.{is_ok}
@@ -9,7 +10,7 @@ use Rattle.std.proofs.lemmas.List.Sums.{sum_by-append, sum_by-cons}
 use Rattle.drf_role.specs.Text.{Text, same_text}
 use Rattle.drf_role.specs.Path.{Path, same_path}
 use Rattle.drf_role.specs.PathLaws.{same_path_itself}
-use Rattle.drf_bundle.specs.Bundle.{Key, quantities_of, rest, units, units_where}
+use Rattle.drf_bundle.specs.Bundle.{Key, IsBundle, quantities_of, rest, units, units_where}
 use Rattle.drf_bundle.specs.laws.FitLaws.{join_some}
 use Rattle.drf_bundle.specs.laws.JoinLaws.{where-merged}
 use Rattle.drf_bundle.specs.Quantities.{amount_of}
@@ -182,7 +183,8 @@ module _ (counts : Bool) (old new : Rows) (before : Allowance) (h : Holding) (co
 -- ---- parts of an offer are tasks
 
 module _ (rows : Rows) (number : ℕ) (o : OfferRow) (starts : List Start) (filters : List FilterRow)
-    (consistent : IsConsistent rows) (found : offer_at rows number ≡ Some o) (can : CanStart rows o starts)
+    (consistent : IsConsistent rows) (found : offer_at rows number ≡ Some o)
+    (bundles : AllByRecursion IsBundle (uses starts)) (can : CanStart rows o starts)
     (test : Path → Bool) (label : Text) where
   held_started : (ss : List Start) → held_unreserved test (started_by o ss) label ≡ cond (test o.role) (units_of_all (uses ss) (label, []) Thousandths) 0
   held_started [] = sym (nothing (test o.role))
@@ -204,7 +206,7 @@ module _ (rows : Rows) (number : ℕ) (o : OfferRow) (starts : List Start) (filt
   split_offer : unreserved_in label o.bundle ≡ units_of_all (uses starts) (label, []) Thousandths + unreserved_in label (rest_of_all o.bundle (uses starts))
   split_offer =
       let held = offer_held rows number o starts filters consistent found in
-      let has = units-covers_all o.bundle (uses starts) held.bundle can.bundles can.covered in
+      let has = units-covers_all o.bundle (uses starts) held.bundle bundles can.covered in
       omega (arith, has (label, []) Thousandths, units-rest_of_all o.bundle (uses starts) (label, []) Thousandths held.bundle can.bundles)
 
   pub consumption-accepted : consumption_where test rows label
@@ -231,7 +233,8 @@ module _ (rows : Rows) (number : ℕ) (o : OfferRow) (starts : List Start) (filt
 -- what they leave of it is released
 module _ (counts : Bool) (rows : Rows) (before : Allowance) (counted : CountsIf counts rows before)
     (number : ℕ) (o x : OfferRow) (starts : List Start) (left : List Resource)
-    (consistent : IsConsistent rows) (found : offer_at rows number ≡ Some o) (can : CanStart rows o starts)
+    (consistent : IsConsistent rows) (found : offer_at rows number ≡ Some o)
+    (bundles : AllByRecursion IsBundle (uses starts)) (can : CanStart rows o starts)
     (same : x ≡ o) (rest_is : left ≡ rest_of_all o.bundle (uses starts)) where
   abbrev less_held : Amounts
   less_held test label = cond (test x.role) (unreserved_in label left) 0
@@ -246,7 +249,7 @@ module _ (counts : Bool) (rows : Rows) (before : Allowance) (counted : CountsIf 
       releases_fit counts rows before counted is test label (unreserved_in label left)
       (omega (
         arith,
-        consumption-accepted rows number o starts [] consistent found can test label,
+        consumption-accepted rows number o starts [] consistent found bundles can test label,
         told_as test label,
         ap (λ b. cond b (unreserved_in label left) 0) (same_path_itself x.role),
       ))
@@ -255,7 +258,7 @@ module _ (counts : Bool) (rows : Rows) (before : Allowance) (counted : CountsIf 
       → CountsIf counts (accepted_in rows o starts filters) after
   counts-accepted filters after raised =
       counts-released counts rows before counted (accepted_in rows o starts filters) after less_held raised refl
-      (λ test label. omega (arith, consumption-accepted rows number o starts filters consistent found can test label, told_as test label))
+      (λ test label. omega (arith, consumption-accepted rows number o starts filters consistent found bundles can test label, told_as test label))
 
 -- ---- agents come and go
 

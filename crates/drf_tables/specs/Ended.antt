@@ -5,34 +5,22 @@ use Rattle.drf_role.specs.Text.{Text}
 use Rattle.drf_rows.specs.Client.{path_of}
 use Rattle.drf_rows.specs.Endings.{Ending, one_offer, ends_offer, ends_task, without_ended}
 use Rattle.drf_rows.specs.Held.{is_registered}
-use Rattle.drf_rows.specs.Holdings.{Holding, of_offer, of_task, holdings_of, held_where, amount_in}
-use Rattle.drf_rows.specs.Offers.{CanStart, offer_at, task_of}
+use Rattle.drf_rows.specs.Holdings.{Holding, holdings_of, held_where, amount_in}
+use Rattle.drf_rows.specs.Offers.{task_of}
 use Rattle.drf_rows.specs.Tasks.{Start}
-use Rattle.drf_rows.specs.Consistent.{IsFilter}
 use Rattle.drf_rows.specs.declared.rows.FilterRow.{FilterRow}
 use Rattle.drf_rows.specs.declared.rows.OfferRow.{OfferRow}
-use Rattle.drf_rows.specs.declared.rows.TaskRow.{TaskRow}
 use Rattle.drf_rows.specs.declared.rows.Rows.{Rows}
-use Rattle.drf_holdings.specs.Taking.{IsTaken}
+use Rattle.drf_holdings.specs.Stored.{OffersAndTasks, IsOfferOut, IsTaskOut}
 use Rattle.drf_tables.specs.declared.ending.Held.{Held}
 
 -- how many holdings an ending would end
 abbrev pub left_to_end : Rows → Ending → ℕ
 left_to_end rows ending = count_by (ends_offer ending) rows.offers + count_by (ends_task ending) rows.tasks
 
--- the holding is an offer that ends, which was taken out; the others close up
-pub record IsOfferOut (ending : Ending) (old new : Rows) (h : Holding) : Type 0 where
-  pub offer : OfferRow
-  pub taken : IsTaken (ends_offer ending) old.offers new.offers offer
-  pub same : new.tasks ≡ old.tasks
-  pub told : h ≡ of_offer offer
-
--- the holding is a task that ends, which was taken out; the others close up
-pub record IsTaskOut (ending : Ending) (old new : Rows) (h : Holding) : Type 0 where
-  pub task : TaskRow
-  pub taken : IsTaken (ends_task ending) old.tasks new.tasks task
-  pub same : new.offers ≡ old.offers
-  pub told : h ≡ of_task task
+-- what is held, as holdings are seen
+abbrev pub held_in : Rows → OffersAndTasks
+held_in rows = record { offers = rows.offers; tasks = rows.tasks }
 
 -- one holding that ends was taken out
 pub record HasEnded (old new : Rows) (ending : Ending) (held : Held) : Type 0 where
@@ -40,7 +28,7 @@ pub record HasEnded (old new : Rows) (ending : Ending) (held : Held) : Type 0 wh
   pub path : held.client ≡ path_of holding.client
   pub bundle : held.bundle ≡ holding.bundle
   pub registered : is_registered old.frameworks holding.client ≡ true
-  pub taken : IsOfferOut ending old new holding ⊎ IsTaskOut ending old new holding
+  pub taken : IsOfferOut ending (held_in old) (held_in new) holding ⊎ IsTaskOut ending (held_in old) (held_in new) holding
   -- nothing else changed
   pub others : new ≡ record old { offers = new.offers; tasks = new.tasks }
   -- the others that end are still to end, and all that stays, stays
@@ -50,13 +38,6 @@ pub record HasEnded (old new : Rows) (ending : Ending) (held : Held) : Type 0 wh
   pub out : (test : Holding → Bool) (label : Text)
       → held_where test (holdings_of old) label
       ≡ held_where test (holdings_of new) label + cond (test holding) (amount_in label holding) 0
-
--- tasks can be started with parts of an offer
-pub record CanAccept (rows : Rows) (number : ℕ) (starts : List Start) (refused : Option FilterRow) : Type 0 where
-  pub offer : OfferRow
-  pub at : offer_at rows number ≡ Some offer
-  pub can : CanStart rows offer starts
-  pub filter : (f : FilterRow) → refused ≡ Some f → IsFilter rows.agents rows.frameworks f
 
 -- parts of the offer are tasks, and a filter stands last, if there is one
 abbrev pub with_accepted : Rows → OfferRow → List Start → Option FilterRow → Rows

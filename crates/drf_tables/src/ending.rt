@@ -2,14 +2,18 @@
 #![tactic(auto, unfolding(crate::specs::Inside::rows_of))]
 
 ghost use Rattle.std.specs.Prelude.{◌≡◌, ◌++◌, ◌∷◌, [], true, Some, IfOk, OnOk, OnErr, IfSome, IfNone, option_copied};
+ghost use Rattle.std.specs.List.{AllByRecursion};
 ghost use Rattle.std.specs.Option.{option_map_or};
 ghost use Rattle.drf_role.specs.Path.{client_path};
-ghost use Rattle.drf_rows.specs.Consistent.{IsConsistent};
+ghost use Rattle.drf_bundle.specs.Bundle.{IsBundle};
+ghost use Rattle.drf_rows.specs.Consistent.{IsConsistent, IsFilter};
 ghost use Rattle.drf_rows.specs.Endings.{without_ended};
-ghost use Rattle.drf_rows.specs.Offers.{left_of_offer, offer_at, has_task};
+ghost use Rattle.drf_rows.specs.Offers.{CanAccept, left_of_offer, offer_at, has_task};
+ghost use Rattle.drf_rows.specs.Tasks.{uses};
+ghost use Rattle.drf_rows.specs.declared.rows.FilterRow.{FilterRow};
 ghost use Rattle.drf_rows.specs.declared.rows.OfferRow.{OfferRow};
 ghost use Rattle.drf_rows.specs.Ended.{ending_of};
-ghost use Rattle.drf_tables.specs.Ended.{HasEnded, CanAccept, with_accepted};
+ghost use Rattle.drf_tables.specs.Ended.{HasEnded, with_accepted};
 
 use crate::members::give_back;
 use crate::recounting::release_held;
@@ -87,7 +91,9 @@ impl Tables {
         rest: Bundle,
         filter: Option<FilterRow>,
     ) -> Result<Held, AllocError>
-        requires can { CanAccept self.old.rows number tasks filter }
+        requires bundles { AllByRecursion IsBundle (uses tasks) }
+        requires can { CanAccept self.old.rows number tasks }
+        requires filter { (f : FilterRow) → filter ≡ Some f → IsFilter self.old.rows.agents self.old.rows.frameworks f }
         requires rest { (o : OfferRow) → offer_at self.old.rows number ≡ Some o → rest ≡ left_of_offer o tasks }
         ensures ok { OnOk result ((o : OfferRow) → offer_at self.old.rows number ≡ Some o
             → self.new.rows ≡ with_accepted self.old.rows o tasks filter) }

@@ -1,10 +1,11 @@
 -- What the tables and the sorter hold once an offer is accepted or declined.
 use Rattle.std.proofs.Common.{◌≡◌, ℕ, ◌≤◌, Bool, true, false, List, [], ◌∷◌, ◌++◌, Option, Some, map, refl, sym, ap, subst, ◌∙◌}
 use Rattle.std.specs.Prelude.{max, if◌then◌else◌}
+use Rattle.std.specs.List.{AllByRecursion}
 use Rattle.std.specs.Option.{option_map_or}
 use Rattle.std.proofs.lemmas.List.{append-nil}
 use Rattle.drf_role.specs.Path.{Path, client_path}
-use Rattle.drf_bundle.specs.Bundle.{quantities_of}
+use Rattle.drf_bundle.specs.Bundle.{IsBundle, quantities_of}
 use Rattle.drf_bundle.specs.Taken.{bundle-rest_of_all}
 use Rattle.drf_bundle.specs.declared.quantities.Entry.{Entry}
 use Rattle.drf_rows.specs.Consistent.{IsFilter, IsConsistent}
@@ -12,10 +13,10 @@ use Rattle.drf_rows.specs.Cycle.{at_moment}
 use Rattle.drf_rows.specs.laws.EndingLaws.{offer_at-place, held-offer_at, held_where-accepted}
 use Rattle.drf_rows.specs.Endings.{without_ended, one_offer}
 use Rattle.drf_rows.specs.Holdings.{is_of}
-use Rattle.drf_rows.specs.Offers.{CanStart, offer_accepted, offer_declined, filter_of, filters_with, left_of_offer, offer_at, refused_until, refuses_all, refuses_rest, task_of}
+use Rattle.drf_rows.specs.Offers.{CanAccept, CanStart, offer_accepted, offer_declined, filter_of, filters_with, left_of_offer, offer_at, refused_until, refuses_all, refuses_rest, task_of}
 use Rattle.drf_rows.specs.Step.{effect}
 use Rattle.drf_rows.specs.laws.TaskLaws.{HasAll, units-covers_all}
-use Rattle.drf_rows.specs.Tasks.{Start, uses, IsTaskList}
+use Rattle.drf_rows.specs.Tasks.{Start, uses}
 use Rattle.drf_rows.specs.declared.event.Accept as accepting
 use Rattle.drf_rows.specs.declared.event.Decline as declining
 use Rattle.drf_rows.specs.declared.event.Event.TheVariants.{Accept, Decline}
@@ -24,8 +25,7 @@ use Rattle.drf_rows.specs.declared.rows.FilterRow.{FilterRow}
 use Rattle.drf_rows.specs.declared.rows.OfferRow.{OfferRow}
 use Rattle.drf_rows.specs.declared.rows.Rows.{Rows}
 use Rattle.drf_sorter.specs.Content.{Content, has_client, with_change, refunded, HoldsAt}
-use Rattle.drf_tables.specs.Ended.{CanAccept, with_accepted}
-use Rattle.drf_laws.specs.EventLaws.{IsEnough}
+use Rattle.drf_tables.specs.Ended.{with_accepted}
 use Rattle.drf_core.specs.Accepting.{filter_if}
 use Rattle.drf_core.specs.Content.{content_of}
 use Rattle.drf_core.proofs.content.Ended.{GaveBack, content_of-gave_back, HoldsAt-gave_back}
@@ -34,31 +34,25 @@ use Rattle.drf_laws.specs.laws.Offers.{same_offer, offer_filter}
 
 -- ---- it is accepted
 
-pub can_start : (rows : Rows) (number : ℕ) (starts : List Start) (o : OfferRow) → IsEnough rows number starts → IsTaskList starts
+pub can_start : (rows : Rows) (number : ℕ) (starts : List Start) (o : OfferRow) → CanAccept rows number starts
     → offer_at rows number ≡ Some o → CanStart rows o starts
-can_start rows number starts o enough list found =
-    subst (λ (p : OfferRow). CanStart rows p starts) (same_offer rows number enough.offer o enough.at found)
-    (record { bundles = list.bundles; covered = enough.covered; new = enough.new })
+can_start rows number starts o may found =
+    subst (λ (p : OfferRow). CanStart rows p starts) (same_offer rows number may.offer o may.at found) may.can
 
 -- the filter, if there is to be one, is that
 the_filter : (b : Bool) (filter f : FilterRow) → filter_if b filter ≡ Some f → filter ≡ f
 the_filter true filter f same = cc
 the_filter false filter f same = cc
 
-pub can_accept : (rows : Rows) (number : ℕ) (starts : List Start) (o : OfferRow) (filter : Option FilterRow) (b : Bool) (moment refuse_ms : ℕ)
-    → IsConsistent rows → CanStart rows o starts → offer_at rows number ≡ Some o → moment ≤ LATEST_MOMENT
+pub accept_filter : (rows : Rows) (number : ℕ) (starts : List Start) (o : OfferRow) (filter : Option FilterRow) (b : Bool) (moment refuse_ms : ℕ)
+    → IsConsistent rows → offer_at rows number ≡ Some o → moment ≤ LATEST_MOMENT
     → filter ≡ filter_if b (filter_of o (left_of_offer o starts) (refused_until moment refuse_ms))
-    → CanAccept rows number starts filter
-can_accept rows number starts o filter b moment refuse_ms right can found early told = record {
-  offer = o;
-  at = found;
-  can = can;
-  filter = λ f some.
-      subst (IsFilter rows.agents rows.frameworks)
-      (the_filter b (filter_of o (left_of_offer o starts) (refused_until moment refuse_ms)) f (sym told ∙ some))
-      (offer_filter rows number o (left_of_offer o starts) moment refuse_ms right found
-      (bundle-rest_of_all o.bundle (uses starts) (held-offer_at rows number o right found).bundle) early);
-}
+    → (f : FilterRow) → filter ≡ Some f → IsFilter rows.agents rows.frameworks f
+accept_filter rows number starts o filter b moment refuse_ms right found early told f some =
+    subst (IsFilter rows.agents rows.frameworks)
+    (the_filter b (filter_of o (left_of_offer o starts) (refused_until moment refuse_ms)) f (sym told ∙ some))
+    (offer_filter rows number o (left_of_offer o starts) moment refuse_ms right found
+    (bundle-rest_of_all o.bundle (uses starts) (held-offer_at rows number o right found).bundle) early)
 
 push_if : (b : Bool) (filters : List FilterRow) (f : FilterRow)
     → filters ++ option_map_or (λ f. f ∷ []) (filter_if b f) [] ≡ (if b then filters ++ f ∷ [] else filters)
@@ -87,20 +81,20 @@ rows_accepted rows tables o starts filter at moment refuse_ms later told same =
 
 module _ (rows : Rows) (number : ℕ) (o : OfferRow) (starts : List Start) (at refuse_ms : ℕ) (content : Content) (path : Path) (quantities : List Entry)
     (right : IsConsistent rows) (sorted : content ≡ content_of rows) (found : offer_at rows number ≡ Some o)
-    (can : CanStart rows o starts)
+    (bundles : AllByRecursion IsBundle (uses starts)) (can : CanStart rows o starts)
     (joined : path ≡ client_path o.role o.framework) (told : quantities ≡ quantities_of (left_of_offer o starts)) where
   abbrev new : Rows
   new = offer_accepted (at_moment rows at) o starts refuse_ms
 
   has_all : HasAll o.bundle (uses starts)
-  has_all = units-covers_all o.bundle (uses starts) (held-offer_at rows number o right found).bundle can.bundles can.covered
+  has_all = units-covers_all o.bundle (uses starts) (held-offer_at rows number o right found).bundle bundles can.covered
 
   gave : GaveBack rows new path quantities
   gave = rw (joined, told) (record {
     agents = refl;
     frameworks = refl;
     weights = refl;
-    out = λ other label. held_where-accepted rows number o starts [] right found (is_of other) label can.bundles has_all (λ s. refl);
+    out = λ other label. held_where-accepted rows number o starts [] right found (is_of other) label bundles has_all (λ s. refl);
   })
 
   pub known-accepted : has_client content path ≡ true

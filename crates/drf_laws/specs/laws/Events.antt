@@ -36,8 +36,8 @@ use Rattle.drf_rows.specs.declared.rows.Rows.{Rows}
 use Rattle.drf_laws.specs.RunLaws.{IsGiven}
 use Rattle.drf_laws.specs.laws.Roles.{distinct_apart, roles_of_new, uncounted_new}
 use Rattle.drf_laws.specs.laws.Kept.{consistent-clock}
-use Rattle.drf_laws.specs.laws.Offers.{offer_filter, same_offer, enough_of, moment_early}
-use Rattle.drf_laws.specs.laws.Welcome.{no_case_of, welcome_agent, welcome_framework, welcome_weight, welcome_accept, welcome_decline, early_cycle, small_amounts}
+use Rattle.drf_laws.specs.laws.Offers.{offer_filter, same_offer, can_accept, moment_early}
+use Rattle.drf_laws.specs.laws.Welcome.{no_case_of, welcome_agent, welcome_framework, welcome_weight, welcome_decline, early_accept, early_cycle, small_amounts}
 use Rattle.drf_laws.specs.laws.Endings.{IsConsistent-ended, IsConsistent-agent_left, IsConsistent-framework_left}
 use Rattle.drf_laws.specs.laws.Cycles.{IsConsistent-cycle}
 
@@ -86,17 +86,15 @@ module _ (limits : LimitNumbers) (rows : Rows) (consistent : IsConsistent rows) 
   offer_taken : (a : accepting.Accept) → AllByRecursion IsBundle (uses a.tasks) → refusal_of limits rows (Accept a) ≡ None
       → (o : OfferRow) → offer_at rows a.offer ≡ Some o → IsConsistent (offer_accepted (at_moment rows a.at) o a.tasks a.refuse_ms)
   offer_taken a bundles accepted o found =
-      let welcome = welcome_accept limits rows a accepted in
-      let enough = enough_of rows a welcome in
-      let can : CanStart rows o a.tasks = subst (λ (p : OfferRow). CanStart rows p a.tasks) (same_offer rows a.offer enough.offer o enough.at found)
-      (record { bundles = bundles; covered = enough.covered; new = enough.new }) in
-      let early = moment_early rows a.at (max rows.clock a.at) consistent welcome.early refl in
+      let may = can_accept limits rows a accepted in
+      let can = subst (λ (p : OfferRow). CanStart rows p a.tasks) (same_offer rows a.offer may.offer o may.at found) may.can in
+      let early = moment_early rows a.at (max rows.clock a.at) consistent (early_accept limits rows a accepted) refl in
       let left = bundle-rest_of_all o.bundle (uses a.tasks) (held-offer_at rows a.offer o consistent found).bundle in
       let filters : List FilterRow = filters_with (at_moment rows a.at) (refuses_rest o a.tasks a.refuse_ms) o (left_of_offer o a.tasks) a.refuse_ms in
       let started : Rows = accepted_in rows o a.tasks [] in
       consistent-clock (record started { filters = filters }) (max rows.clock a.at)
       (IsConsistent-filters started filters
-      (IsConsistent-accepted rows a.offer o a.tasks [] consistent found can tt)
+      (IsConsistent-accepted rows a.offer o a.tasks [] consistent found bundles can tt)
       (are_filters a.offer o (left_of_offer o a.tasks) a.at a.refuse_ms found left early (refuses_rest o a.tasks a.refuse_ms)))
       early
 

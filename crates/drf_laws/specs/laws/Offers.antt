@@ -9,14 +9,16 @@ use Rattle.drf_bundle.specs.Bundle.{IsBundle}
 use Rattle.drf_bundle.specs.declared.resource.Resource.{Resource}
 use Rattle.drf_rows.specs.Consistent.{IsFilter, IsConsistent}
 use Rattle.drf_rows.specs.laws.EndingLaws.{held-offer_at}
-use Rattle.drf_rows.specs.Offers.{filter_of, has_offer, is_task_known, offer_at, refused_until}
+use Rattle.drf_rows.specs.Offers.{CanAccept, filter_of, has_offer, is_task_known, offer_at, refused_until}
 use Rattle.drf_rows.specs.Tasks.{uses, covers_all}
+use Rattle.drf_rows.specs.LimitNumbers.{LimitNumbers}
+use Rattle.drf_rows.specs.Step.{refusal_of}
 use Rattle.drf_rows.specs.declared.event.Accept as accepting
+use Rattle.drf_rows.specs.declared.event.Event.TheVariants.{Accept}
 use Rattle.drf_rows.specs.declared.limits.TheConstants.{LATEST_MOMENT}
 use Rattle.drf_rows.specs.declared.rows.OfferRow.{OfferRow}
 use Rattle.drf_rows.specs.declared.rows.Rows.{Rows}
-use Rattle.drf_laws.specs.EventLaws.{IsEnough}
-use Rattle.drf_laws.specs.laws.Welcome.{IsWelcomeAccept}
+use Rattle.drf_laws.specs.laws.Welcome.{no_case_of}
 
 -- it may have a filter
 pub offer_filter : (rows : Rows) (number : ℕ) (o : OfferRow) (bundle : List Resource) (moment refuse_ms : ℕ)
@@ -50,17 +52,21 @@ moment_early rows at moment right late same =
     let early : rows.clock ≤ LATEST_MOMENT = right.early in
     omega (arith, early, late, same)
 
--- an offer that may be accepted is enough
-pub enough_of : (rows : Rows) (a : accepting.Accept) → IsWelcomeAccept rows a → IsEnough rows a.offer a.tasks
-enough_of rows a welcome =
-    let one = some_offer rows a.offer welcome.stands in
+-- an offer that is accepted stands, is the framework's and covers what the tasks use, and the tasks are new
+pub can_accept : (limits : LimitNumbers) (rows : Rows) (a : accepting.Accept) → refusal_of limits rows (Accept a) ≡ None
+    → CanAccept rows a.offer a.tasks
+can_accept limits rows a none =
+    let no = no_case_of limits rows (Accept a) none in
+    let one = some_offer rows a.offer (not-false (has_offer rows a.offer) no.1.1.1.0) in
     let its_own : not (same_text one.offer.framework a.framework) ≡ false
-    = sym (ap (λ (o : Option OfferRow). option_map_or (λ o. not (same_text o.framework a.framework)) o false) one.at) ∙ welcome.its_own in
+    = sym (ap (λ (o : Option OfferRow). option_map_or (λ o. not (same_text o.framework a.framework)) o false) one.at) ∙ no.1.1.1.1.0 in
     let framework_is = same_from_test one.offer.framework a.framework (not-false (same_text one.offer.framework a.framework) its_own) in
     record {
       offer = one.offer;
       at = one.at;
-      covered = not-false (covers_all one.offer.bundle (uses a.tasks))
-          (sym (ap (λ (o : Option OfferRow). option_map_or (λ o. not (covers_all o.bundle (uses a.tasks))) o false) one.at) ∙ welcome.covered);
-      new = ap (λ (f : Text). is_task_known rows f a.tasks) framework_is ∙ welcome.new;
+      can = record {
+        covered = not-false (covers_all one.offer.bundle (uses a.tasks))
+            (sym (ap (λ (o : Option OfferRow). option_map_or (λ o. not (covers_all o.bundle (uses a.tasks))) o false) one.at) ∙ no.1.1.1.1.1.1.1.0);
+        new = ap (λ (f : Text). is_task_known rows f a.tasks) framework_is ∙ no.1.1.1.1.1.0;
+      };
     }

@@ -15,6 +15,7 @@ use Rattle.drf_rows.specs.Held.{client_of, clients_of, active_clients, is_regist
 use Rattle.drf_rows.specs.Share.{Standing}
 use Rattle.drf_rows.specs.Cycle.{first_of, without, serving_order, turn_order, free_of, grant, is_grantable, new_offer, with_offer, tried, count_offer, all_tried, turn, turns, cycle, at_moment}
 use Rattle.drf_rows.specs.laws.ConsistentLaws.{has_its_role}
+use Rattle.drf_rows.specs.laws.OfferedLaws.{each_served}
 use Rattle.drf_rows.specs.laws.ListLaws.{each_append, each_from, each_map, each_filter, each_find, each_found}
 use Rattle.drf_rows.specs.declared.rows.ClientRow.{ClientRow}
 use Rattle.drf_rows.specs.declared.rows.FrameworkRow.{FrameworkRow}
@@ -53,19 +54,6 @@ active_registered (f ∷ fs) =
     (each_filter (λ c. Known (client_of f c)) active f.clients
     (each_from In (λ c. Known (client_of f c)) f.clients here all)))
     (each_from (λ c. is_registered fs c ≡ true) Known (flat_map active_in fs) later (active_registered fs))
-
-each_served : (P : Client → Type 0) (s : Standing) (n : ℕ) (cs : List Client)
-    → AllByRecursion P cs → AllByRecursion P (serving_order s n cs)
-each_served P s zero cs all = tt
-each_served P s (suc n) cs all =
-    by (λ c. each_served P s n (without c cs) (each_filter P (λ d. not (same_path (path_of c) (path_of d))) cs all))
-    (first_of s cs) (λ c first. each_find P _ cs c all first)
-  where
-    by : ((c : Client) → AllByRecursion P (serving_order s n (without c cs)))
-        → (o : Option Client) → ((c : Client) → o ≡ Some c → P c)
-        → AllByRecursion P (option_map_or (λ c. c ∷ serving_order s n (without c cs)) o [])
-    by later None first = tt
-    by later (Some c) first = (first c refl, later c)
 
 pub turn_order-registered : (rows : Rows)
     → AllByRecursion (λ c. is_registered rows.frameworks c ≡ true) (turn_order rows)

@@ -113,25 +113,9 @@ pub known_reviving : (limits : LimitNumbers) (rows : Rows) (framework : Text) (r
 known_reviving limits rows framework role none =
     not-false (is_in_role rows framework role) (no_case_of limits rows (Revive framework role) none).1.1.0
 
--- an offer that is accepted stands, is the framework's and covers what the tasks use, and the tasks are new
-pub record IsWelcomeAccept (rows : Rows) (a : accepting.Accept) : Type 0 where
-  pub early : a.at ≤ LATEST_MOMENT
-  pub stands : has_offer rows a.offer ≡ true
-  pub its_own : is_anothers rows a.framework a.offer ≡ false
-  pub new : is_task_known rows a.framework a.tasks ≡ false
-  pub covered : is_beyond rows a.offer a.tasks ≡ false
-
-pub welcome_accept : (limits : LimitNumbers) (rows : Rows) (a : accepting.Accept)
-    → refusal_of limits rows (Accept a) ≡ None → IsWelcomeAccept rows a
-welcome_accept limits rows a none =
-    let no = no_case_of limits rows (Accept a) none in
-    record {
-      early = ltb-false LATEST_MOMENT a.at no.1.0;
-      stands = not-false (has_offer rows a.offer) no.1.1.1.0;
-      its_own = no.1.1.1.1.0;
-      new = no.1.1.1.1.1.0;
-      covered = no.1.1.1.1.1.1.1.0;
-    }
+-- an accept that is welcome
+pub early_accept : (limits : LimitNumbers) (rows : Rows) (a : accepting.Accept) → refusal_of limits rows (Accept a) ≡ None → a.at ≤ LATEST_MOMENT
+early_accept limits rows a none = ltb-false LATEST_MOMENT a.at (no_case_of limits rows (Accept a) none).1.0
 
 -- an offer that is declined stands
 pub welcome_decline : (limits : LimitNumbers) (rows : Rows) (d : declining.Decline)

@@ -663,11 +663,12 @@ module _ (rows : Rows) (number : ℕ) (o : OfferRow) (starts : List Start) (filt
   each_started [] each = tt
   each_started (s ∷ ss) each = (record { agent = offer_held.agent; client = offer_held.client; bundle = each.0 }, each_started ss each.1)
 
-  pub IsConsistent-accepted : CanStart rows o starts → AllByRecursion (IsFilter rows.agents rows.frameworks) filters
+  pub IsConsistent-accepted : AllByRecursion IsBundle (uses starts) → CanStart rows o starts
+      → AllByRecursion (IsFilter rows.agents rows.frameworks) filters
       → IsConsistent (accepted_in rows o starts filters)
-  IsConsistent-accepted can each =
+  IsConsistent-accepted bundles can each =
       let Held : Holding → Type 0 = IsHeld rows.agents rows.frameworks in
-      let has = units-covers_all o.bundle (uses starts) offer_held.bundle can.bundles can.covered in
+      let has = units-covers_all o.bundle (uses starts) offer_held.bundle bundles can.covered in
       let at = (offer_at-place rows number o found).0 in
       let fewer : IsConsistent (record rows { offers = at.before ++ at.after })
       = IsConsistent-offer_out rows at.before at.after o at.stands consistent in
@@ -676,7 +677,7 @@ module _ (rows : Rows) (number : ℕ) (o : OfferRow) (starts : List Start) (filt
       (without_offer-place rows at.before at.after o consistent at.stands) ∙ fewer.numbered in
       let more : AllByRecursion Held (holdings_of after) = subst (AllByRecursion Held) (sym tasks_last)
       (each_append Held between (started_by o starts)
-      (each-one_less (holdings_of rows) between (of_offer o) offer_out Held consistent.holdings) (each_started starts can.bundles)) in
+      (each-one_less (holdings_of rows) between (of_offer o) offer_out Held consistent.holdings) (each_started starts bundles)) in
       IsConsistent-filters (record rows { offers = left; tasks = rows.tasks ++ map (task_of o) starts }) (rows.filters ++ filters)
       (IsConsistent-held rows left (rows.tasks ++ map (task_of o) starts) consistent more
       (each_from (IsCovered (holdings_of rows)) (IsCovered (holdings_of after)) rows.agents

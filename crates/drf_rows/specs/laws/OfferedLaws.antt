@@ -46,7 +46,7 @@ count_up-append first (n ∷ ns) ms middle next here there = (here.0, count_up-a
 is_first : Standing → List Client → Client → Bool
 is_first s clients c = list_all (λ d. same_path (path_of c) (path_of d) || stands_before s (path_of c) (path_of d)) clients
 
-each_served : (P : Client → Type 0) (s : Standing) (n : ℕ) (clients : List Client) → AllByRecursion P clients → AllByRecursion P (serving_order s n clients)
+pub each_served : (P : Client → Type 0) (s : Standing) (n : ℕ) (clients : List Client) → AllByRecursion P clients → AllByRecursion P (serving_order s n clients)
 unfolding is_first
 each_served P s zero clients all = tt
 each_served P s (suc n) clients all = by (first_of s clients) refl (each_served P s n)

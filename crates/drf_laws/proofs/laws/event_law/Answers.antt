@@ -1,8 +1,8 @@
 use Rattle.drf_laws.specs.laws.Events.{IsConsistent-effect}
 use Rattle.drf_laws.specs.laws.Kept.{countable_after}
-use Rattle.drf_laws.specs.laws.Offers.{enough_of}
+use Rattle.drf_laws.specs.laws.Offers.{can_accept}
 use Rattle.drf_laws.specs.laws.SameLive.{welcome_from, new_offers-live}
-use Rattle.drf_laws.specs.laws.Welcome.{no_case_of, welcome_accept}
+use Rattle.drf_laws.specs.laws.Welcome.{no_case_of}
 use Rattle.drf_laws.proofs.laws.event_law.Goals as goal
 
 pub returns-clause-cases : goal.returns-clause-cases
@@ -13,7 +13,7 @@ returns-clause-live c = λ limits rows other event live accepted.
     (welcome_from limits rows other event live accepted, new_offers-live limits rows other event live accepted)
 
 pub returns-clause-enough : goal.returns-clause-enough
-returns-clause-enough c = λ limits rows a accepted. enough_of rows a (welcome_accept limits rows a accepted)
+returns-clause-starts c = can_accept
 
 pub returns-clause-consistent : goal.returns-clause-consistent
 returns-clause-consistent c = λ limits rows event consistent given accepted.

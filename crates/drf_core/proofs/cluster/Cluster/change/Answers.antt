@@ -2,8 +2,8 @@ use Rattle.std.proofs.Common.{◌≡◌, true≢false, None, subst, sym, ap, ◌
 use Rattle.drf_rows.specs.Step.{refusal_of}
 use Rattle.drf_rows.specs.declared.event.Event.{Event}
 use Rattle.drf_core.specs.Applying.{has_answer}
-use Rattle.drf_laws.specs.laws.Offers.{enough_of}
-use Rattle.drf_laws.specs.laws.Welcome.{known_framework, known_suppressed, known_reviving, welcome_accept, welcome_decline}
+use Rattle.drf_laws.specs.laws.Offers.{can_accept}
+use Rattle.drf_laws.specs.laws.Welcome.{known_framework, known_suppressed, known_reviving, early_accept, welcome_decline}
 use Rattle.drf_core.proofs.cluster.Cluster.change.Goals as goal
 
 pub remove_framework-requires-clause-known : goal.remove_framework-requires-clause-known
@@ -21,16 +21,15 @@ revive-requires g c =
     known_reviving c.args.limits.now c.args.self.now.rows c.in-Revive.framework c.in-Revive.role
     (subst (λ (e : Event). refusal_of c.args.limits.now c.args.self.now.rows e ≡ None) c.in-Revive.is c.requires.welcome)
 
-pub accept-requires-clause-enough : goal.accept-requires-clause-enough
-accept-requires-clause-enough g c =
-    enough_of c.args.self.now.rows c.in-Accept.event
-    (welcome_accept c.args.limits.now c.args.self.now.rows c.in-Accept.event
-    (subst (λ (e : Event). refusal_of c.args.limits.now c.args.self.now.rows e ≡ None) c.in-Accept.is c.requires.welcome))
+pub accept-requires-clause-can : goal.accept-requires-clause-can
+accept-requires-clause-can g c =
+    can_accept c.args.limits.now c.args.self.now.rows c.in-Accept.event
+    (subst (λ (e : Event). refusal_of c.args.limits.now c.args.self.now.rows e ≡ None) c.in-Accept.is c.requires.welcome)
 
 pub accept-requires-clause-early : goal.accept-requires-clause-early
 accept-requires-clause-early g c =
-    (welcome_accept c.args.limits.now c.args.self.now.rows c.in-Accept.event
-    (subst (λ (e : Event). refusal_of c.args.limits.now c.args.self.now.rows e ≡ None) c.in-Accept.is c.requires.welcome)).early
+    early_accept c.args.limits.now c.args.self.now.rows c.in-Accept.event
+    (subst (λ (e : Event). refusal_of c.args.limits.now c.args.self.now.rows e ≡ None) c.in-Accept.is c.requires.welcome)
 
 pub decline-requires-clause-offer : goal.decline-requires-clause-offer
 decline-requires-clause-offer g c =

@@ -2,14 +2,15 @@ use Rattle.std.proofs.Common.{◌≡◌, ◌==◌, Bool, List, [], ◌∷◌, So
 use Rattle.std.specs.Option.{option_map_or}
 use Rattle.drf_role.specs.Path.{client_path}
 use Rattle.drf_rows.specs.laws.EndingLaws.{new_starts}
-use Rattle.drf_rows.specs.Offers.{left_of_offer, offer_at, task_of, AreNew}
+use Rattle.drf_rows.specs.Consistent.{IsFilter}
+use Rattle.drf_rows.specs.Offers.{CanAccept, left_of_offer, offer_at, task_of, AreNew}
 use Rattle.drf_rows.specs.declared.rows.FilterRow.{FilterRow}
 use Rattle.drf_rows.specs.declared.rows.LimitRow.{LimitRow}
 use Rattle.drf_rows.specs.declared.rows.OfferRow.{OfferRow}
 use Rattle.drf_rows.specs.declared.rows.Rows.{Rows}
 use Rattle.drf_bundle.specs.declared.resource.Resource.{Resource}
 use Rattle.drf_tables.specs.Changing.{HasFreed}
-use Rattle.drf_tables.specs.Ended.{CanAccept, with_accepted}
+use Rattle.drf_tables.specs.Ended.{with_accepted}
 use Rattle.drf_tables.specs.Inside.{CountsIf, AreDerived, rows_of, rows_in}
 use Rattle.drf_tables.specs.Stored.{Stored}
 use Rattle.drf_tables.proofs.Ended.{found_any, accepted-rows, accepted-kept}
@@ -21,16 +22,16 @@ unfolding rows_of
 start-requires-clause-there c =
     let t = c.self.inside in
     let test : OfferRow → Bool = λ o. o.number == c.args.number in
-    let can : CanAccept (rows_in t) c.args.number c.args.tasks c.args.filter =
-    subst (λ (s : Stored). CanAccept s.rows c.args.number c.args.tasks c.args.filter) (sym c.self.view_is) c.requires.can in
+    let can : CanAccept (rows_in t) c.args.number c.args.tasks =
+    subst (λ (s : Stored). CanAccept s.rows c.args.number c.args.tasks) (sym c.self.view_is) c.requires.can in
     found_any test t.holdings.offers can.offer can.at
 
 pub start-requires-clause-new : goal.start-requires-clause-new
 unfolding rows_of
 start-requires-clause-new c = λ o found.
     let t = c.self.inside in
-    let can : CanAccept (rows_in t) c.args.number c.args.tasks c.args.filter =
-    subst (λ (s : Stored). CanAccept s.rows c.args.number c.args.tasks c.args.filter) (sym c.self.view_is) c.requires.can in
+    let can : CanAccept (rows_in t) c.args.number c.args.tasks =
+    subst (λ (s : Stored). CanAccept s.rows c.args.number c.args.tasks) (sym c.self.view_is) c.requires.can in
     let both : ◌≡◌ {A = Option OfferRow} (Some o) (Some can.offer) = sym found ∙ can.at in
     let same : o ≡ can.offer = cc in
     subst (λ (p : OfferRow). AreNew t.holdings.tasks (map (task_of p) c.args.tasks)) (sym same) (new_starts (rows_in t) can.offer c.args.tasks can.can)
@@ -40,26 +41,27 @@ unfolding rows_of
 release_held-requires c = λ is label.
     let t = c.self.inside in
     let number = c.args.number in
-    let can : CanAccept (rows_in t) number c.args.tasks c.args.filter =
-    subst (λ (s : Stored). CanAccept s.rows number c.args.tasks c.args.filter) (sym c.self.view_is) c.requires.can in
+    let can : CanAccept (rows_in t) number c.args.tasks =
+    subst (λ (s : Stored). CanAccept s.rows number c.args.tasks) (sym c.self.view_is) c.requires.can in
     let rest : c.args.rest ≡ left_of_offer can.offer c.args.tasks =
     c.requires.rest can.offer (sym (ap (λ (s : Stored). offer_at s.rows number) c.self.view_is) ∙ can.at) in
     let both : ◌≡◌ {A = Option OfferRow} (Some c.in-Ok.offer) (Some can.offer) = sym c.in-Ok.ensures.ok.found ∙ can.at in
     let same : c.in-Ok.offer ≡ can.offer = cc in
     accept_fits t.is_counted (rows_in t) t.quota c.self.invariant.consumed number can.offer c.in-Ok.offer c.args.tasks c.args.rest
-    c.self.invariant.kept.consistent can.at can.can same rest is label
+    c.self.invariant.kept.consistent can.at c.requires.bundles can.can same rest is label
 
 pub invariant_of-self-in-Ok : goal.invariant_of-self-in-Ok
 unfolding rows_of
 invariant_of-self-in-Ok c =
     let t = c.self.inside in
     let number = c.args.number in
-    let can : CanAccept (rows_in t) number c.args.tasks c.args.filter =
-    subst (λ (s : Stored). CanAccept s.rows number c.args.tasks c.args.filter) (sym c.self.view_is) c.requires.can in
+    let can : CanAccept (rows_in t) number c.args.tasks =
+    subst (λ (s : Stored). CanAccept s.rows number c.args.tasks) (sym c.self.view_is) c.requires.can in
     let rest : c.args.rest ≡ left_of_offer can.offer c.args.tasks =
     c.requires.rest can.offer (sym (ap (λ (s : Stored). offer_at s.rows number) c.self.view_is) ∙ can.at) in
     let both : ◌≡◌ {A = Option OfferRow} (Some c.in-Ok.offer) (Some can.offer) = sym c.in-Ok.ensures.ok.found ∙ can.at in
     let same : c.in-Ok.offer ≡ can.offer = cc in
+    let allowed = subst (λ (s : Stored). (f : FilterRow) → c.args.filter ≡ Some f → IsFilter s.rows.agents s.rows.frameworks f) (sym c.self.view_is) c.requires.filter in
     let entries = c.give_back.new.agents.entries in
     let held = c.start.new.self in
     let filters = c.add_if.new.filters in
@@ -72,12 +74,12 @@ invariant_of-self-in-Ok c =
     c.in-Ok.ensures.ok back c.in_ok-add_if.ensures.ok in
     let counts : CountsIf t.is_counted (with_accepted (rows_in t) can.offer c.args.tasks c.args.filter) after =
     counts-accepted t.is_counted (rows_in t) t.quota c.self.invariant.consumed number can.offer c.in-Ok.offer c.args.tasks c.args.rest
-    c.self.invariant.kept.consistent can.at can.can same rest more after c.release_held.ensures in
+    c.self.invariant.kept.consistent can.at c.requires.bundles can.can same rest more after c.release_held.ensures in
     record {
       kept = subst (λ (limits : List LimitRow). AreDerived (rows limits) entries t.total t.clients) c.release_held.ensures.limits
           (accepted-kept t entries held filters number c.args.tasks c.args.filter
           can.offer c.in-Ok.offer c.self.invariant.kept can.at c.in-Ok.ensures.ok back c.in_ok-add_if.ensures.ok
-          can.can can.filter);
+          c.requires.bundles can.can allowed);
       consumed = subst (λ (limits : List LimitRow). CountsIf t.is_counted (rows limits) after) c.release_held.ensures.limits
           (subst (λ (r : Rows). CountsIf t.is_counted r after) (sym told) counts);
     }

@@ -10,13 +10,13 @@ use Rattle.drf_role.specs.Text.{same_text}
 use Rattle.drf_role.specs.TextLaws.{same_itself}
 use Rattle.drf_role.specs.Path.{same_path}
 use Rattle.drf_role.specs.PathLaws.{same_path_itself}
-use Rattle.drf_rows.specs.Client.{Client, path_of}
+use Rattle.drf_rows.specs.Client.{Client}
 use Rattle.drf_rows.specs.Held.{client_of, clients_of, active_clients, is_registered}
 use Rattle.drf_rows.specs.Share.{Standing}
 use Rattle.drf_rows.specs.Cycle.{first_of, without, serving_order, turn_order, free_of, grant, is_grantable, new_offer, with_offer, tried, count_offer, all_tried, turn, turns, cycle, at_moment}
 use Rattle.drf_rows.specs.laws.ConsistentLaws.{has_its_role}
 use Rattle.drf_rows.specs.laws.OfferedLaws.{each_served}
-use Rattle.drf_rows.specs.laws.ListLaws.{each_append, each_from, each_map, each_filter, each_find, each_found}
+use Rattle.drf_rows.specs.laws.ListLaws.{each_append, each_from, each_map, each_filter, each_found}
 use Rattle.drf_rows.specs.declared.rows.ClientRow.{ClientRow}
 use Rattle.drf_rows.specs.declared.rows.FrameworkRow.{FrameworkRow}
 use Rattle.drf_rows.specs.declared.rows.Rows.{Rows}

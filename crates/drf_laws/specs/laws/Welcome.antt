@@ -11,7 +11,7 @@ use Rattle.drf_bundle.specs.declared.resource.Resource.{Resource}
 use Rattle.drf_rows.specs.LimitNumbers.{LimitNumbers}
 use Rattle.drf_rows.specs.Step.{is_full, is_in_role, too_many_agents, too_many_frameworks, first_case, cases_of, refusal_of}
 use Rattle.drf_rows.specs.Members.{has_agent, has_framework, with_agent}
-use Rattle.drf_rows.specs.Offers.{has_offer, is_anothers, is_beyond, is_task_known}
+use Rattle.drf_rows.specs.Offers.{has_offer}
 use Rattle.drf_rows.specs.Weights.{is_weight, too_many_weights}
 use Rattle.drf_rows.specs.declared.limits.TheConstants.{LARGEST_AMOUNT, LATEST_MOMENT}
 use Rattle.drf_rows.specs.declared.event.Accept as accepting

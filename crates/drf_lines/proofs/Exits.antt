@@ -7,7 +7,6 @@ use Rattle.drf_role.specs.declared.role.RoleFault.{RoleFault}
 use Rattle.drf_role.specs.declared.role.RoleFault.TheVariants as role_faults
 use Rattle.drf_lines.specs.declared.fault.LineFault.{LineFault}
 use Rattle.drf_lines.specs.declared.fault.LineFault.TheVariants.{BadText}
-use Rattle.drf_lines.specs.declared.fault.LineError.TheVariants.{Memory}
 use Rattle.drf_lines.specs.Fault.{IsReadOf, name_error, role_error}
 
 pub name_refused : {A : Type 0} (fault : NameFault) (b : Bool) (x : A) → (fault ≡ name_faults.BadName → b ≡ false)

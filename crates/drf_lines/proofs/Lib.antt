@@ -12,3 +12,5 @@ pub mod EachIn
 pub mod Spellings
 pub mod Events
 pub mod ReplyTexts
+pub mod Lanes
+pub mod LeftAmounts

@@ -1,8 +1,12 @@
 -- The texts of replies, one after another.
-use Rattle.std.proofs.Common.{◌≡◌, ℕ, ◌+◌, ◌<◌, ◌≤◌, Bool, true, List, [], ◌∷◌, ◌++◌, map, drop, get_or, length, refl, sym, ap, ◌∙◌, append_assoc, append-nil, cond, subst, IsUtf8, Result, Ok, Err, OnOk, arith}
-use Rattle.std.specs.Prelude.{nat_lt, filter}
+use Rattle.std.proofs.Common.{◌≡◌, ℕ, ◌+◌, ◌<◌, ◌≤◌, ◌^◌, true, List, [], ◌∷◌, ◌++◌, map, drop, get_or, length, decimal, refl, sym, ap, ◌∙◌, append_assoc, append-nil, cond, subst, IsUtf8, Result, Ok, Err, OnOk, arith}
+use Rattle.std.specs.Prelude.{nat_lt}
 use Rattle.std.specs.List.{list_all}
-use Rattle.std.proofs.lemmas.Bool.{and_parts, not-true, eqb-false, leb-true, lt-ltb}
+use Rattle.std.proofs.lemmas.Bool.{and_parts, not-true, eqb-false, leb-true, le-leb, lt-ltb, ne_eqb}
+use Rattle.std.proofs.lemmas.Fmt.{decimal_is_IsNumeral_wide}
+use Rattle.std.proofs.lemmas.List.Folds.{list_all-append}
+use Rattle.std.proofs.lemmas.Str.Parse.{digit_from_value}
+use Rattle.std.specs.Str.Parse.{AllDigits}
 use Rattle.std.proofs.lemmas.List.{at_drop_more, at_drop_all}
 use Rattle.std.proofs.lemmas.Str.{IsUtf8-append, IsUtf8-drop, IsCharBoundary-after_ascii}
 use Rattle.std.specs.Result.{is_ok}
@@ -26,7 +30,7 @@ pub quoted_alone : (s : List ℕ) → print (string s ∷ []) ≡ quoted s
 unfolding print_from
 quoted_alone s = append-nil (quoted s)
 
-plain_byte : (x : ℕ) → is_plain_byte x ≡ true → escape_byte x ≡ x ∷ []
+pub plain_byte : (x : ℕ) → is_plain_byte x ≡ true → escape_byte x ≡ x ∷ []
 plain_byte x e =
     let tests = and_parts _ _ e in
     let others = and_parts _ _ tests.1 in
@@ -37,6 +41,27 @@ plain_is_kept [] e = refl
 plain_is_kept (x ∷ xs) e =
     let tests = and_parts (is_plain_byte x) (list_all is_plain_byte xs) e in
     λ i. plain_byte x tests.0 i ++ plain_is_kept xs tests.1 i
+
+-- digits need no escape
+digits_are_plain : (digits : List ℕ) → AllDigits 10 digits → list_all is_plain_byte digits ≡ true
+digits_are_plain [] are = refl
+digits_are_plain (x ∷ xs) are =
+    let digit = digit_from_value x are.0 in
+    rw (digits_are_plain xs are.1, le-leb 32 x (omega (arith, digit.0)), ne_eqb x 34 (λ e. omega (arith, e, digit.0)), ne_eqb x 92 (λ e. omega (arith, e, digit.1))) refl
+
+decimal_is_plain : (n : ℕ) → n < 2 ^ 128 → list_all is_plain_byte (decimal n) ≡ true
+decimal_is_plain n small = digits_are_plain (decimal n) (decimal_is_IsNumeral_wide n (omega arith)).0.1
+
+pub fraction_is_kept : (part whole : ℕ) → part < 2 ^ 128 → whole < 2 ^ 128 → escape (decimal part ++ 47 ∷ decimal whole) ≡ decimal part ++ 47 ∷ decimal whole
+fraction_is_kept part whole small small_too =
+    plain_is_kept (decimal part ++ 47 ∷ decimal whole)
+    (list_all-append is_plain_byte (decimal part) (47 ∷ decimal whole) ∙ rw (decimal_is_plain part small, decimal_is_plain whole small_too) refl)
+
+-- what a vector was extended by stands there where memory sufficed
+pub extended : {T E : Type 0} (r : Result T E) (old added : List ℕ) {new more : List ℕ} → new ≡ cond (is_ok r) (old ++ more) old
+    → more ≡ added → OnOk r (new ≡ old ++ added)
+extended (Ok x) old added is same = is ∙ ap (λ (bytes : List ℕ). old ++ bytes) same
+extended (Err error) old added is same = tt
 
 -- ---- UTF-8
 
@@ -87,11 +112,3 @@ pub items_ended : {A : Type 0} (value : A → Data) (all : List A) (i : ℕ) (to
     → before ++ left_text value i (drop i all) ≡ total → now ≡ before ++ 93 ∷ [] → now ≡ total
 items_ended value all i total before now past so_far end =
     end ∙ sym (at_drop_all (λ left. before ++ left_text value i left) all i past) ∙ so_far
-
--- ---- quantities
-
-pub all_are_kept : {A : Type 0} (test : A → Bool) (xs : List A) → list_all test xs ≡ true → filter test xs ≡ xs
-all_are_kept test [] e = refl
-all_are_kept test (x ∷ xs) e =
-    let tests = and_parts (test x) (list_all test xs) e in
-    rw tests.0 (ap (λ ys. x ∷ ys) (all_are_kept test xs tests.1))

@@ -16,3 +16,4 @@ pub mod Spelled
 pub mod ReportLine
 pub mod ReplyLine
 pub mod Written
+pub mod Amounts

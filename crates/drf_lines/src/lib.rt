@@ -2,8 +2,10 @@
 #![tactic(auto)]
 
 mod agents;
+mod amounts;
 mod event_line;
 mod fault;
+mod fraction;
 mod frameworks;
 mod limits;
 mod line;
@@ -11,6 +13,7 @@ mod member;
 mod number;
 mod object;
 mod offers;
+mod plain;
 mod range;
 mod reply;
 mod report;

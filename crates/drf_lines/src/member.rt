@@ -1,33 +1,20 @@
 //! Members of an object that is being written. What stands before it stays, also where memory ends.
 ghost use Rattle.std.specs.Prelude.{◌≡◌, ◌<◌, ◌∷◌, ◌++◌, [], Ok, IfOk, OnOk, decimal, nat_lt};
-ghost use Rattle.std.specs.List.{list_all};
 ghost use Rattle.json.specs.Print.{escape, quoted};
 ghost use Rattle.serde_json.specs.Written.{comma_if};
 ghost use Rattle.drf_role.specs.Parts.{text_of};
 ghost use Rattle.drf_text.specs.Written.{bundle_text};
 ghost use Rattle.drf_lines.specs.Resources.{bundle_in};
 ghost use Rattle.drf_lines.specs.Words.{name_in, role_in};
-ghost use Rattle.drf_lines.specs.Written.{is_plain_byte, KeepsFront, KeepsUtf8};
+ghost use Rattle.drf_lines.specs.Written.{KeepsFront, KeepsUtf8};
 
+use crate::plain::is_plain;
 use drf_bundle::Bundle;
 use drf_role::{Name, Role};
 use drf_text::{bundle_round_trip_law, push_bundle};
 use itoa::Buffer;
 use json::Writer;
 use std::alloc::{AllocError, Global};
-
-fn is_plain_byte(byte: u8) -> bool
-    ensures { result ≡ is_plain_byte byte }
-{
-    (byte >= 32) & ((byte != b'"') & (byte != b'\\'))
-}
-
-/// Whether a JSON string holds the text as it is.
-fn is_plain(text: &str) -> bool
-    ensures { result ≡ list_all is_plain_byte text.now }
-{
-    text.as_bytes().iter().all(|b| is_plain_byte(*b))
-}
 
 /// The text as a JSON string.
 fn quoted(alloc: Global, text: &str) -> Result<Vec<u8>, AllocError>

@@ -1,0 +1,99 @@
+//! The writer of the quantities above 0. Labels and amounts need no escape.
+ghost use Rattle.std.specs.Prelude.{◌≡◌, ◌∷◌, ◌++◌, ◌+◌, ◌<◌, List, [], IfOk, OnOk};
+ghost use Rattle.json.specs.Print.{escape};
+ghost use Rattle.drf_bundle.specs.declared.quantities.Entry.{Entry};
+ghost use Rattle.drf_text.specs.Written.{amount_text, decimals_text, quantity_text};
+ghost use Rattle.drf_lines.specs.Amounts.{left_amounts};
+ghost use Rattle.drf_lines.specs.ReportLine.{amounts_text};
+ghost use Rattle.drf_lines.specs.Written.{KeepsFront};
+
+use crate::member::{put, put_byte};
+use drf_bundle::{Entry, Quantities};
+use itoa::Buffer;
+use std::alloc::AllocError;
+
+fn put_digit(line: &mut Vec<u8>, digit: u64) -> Result<(), AllocError>
+    requires { digit < 10 }
+    ensures ok { OnOk result (line.new.items ≡ line.old.items ++ (48 + digit) ∷ []) }
+    ensures front { KeepsFront line.old.items line.new.items }
+{
+    put_byte(line, b'0' + digit as u8)
+}
+
+/// Writes the decimals that are needed of a number of thousandths below 1.
+fn put_decimals(line: &mut Vec<u8>, thousandths: u64) -> Result<(), AllocError>
+    requires { thousandths < 1000 }
+    ensures ok { OnOk result (line.new.items ≡ line.old.items ++ decimals_text thousandths) }
+    ensures front { KeepsFront line.old.items line.new.items }
+{
+    if thousandths == 0 {
+        return Ok(());
+    }
+    put_byte(line, b'.')?;
+    put_digit(line, thousandths / 100)?;
+    if thousandths % 100 == 0 {
+        return Ok(());
+    }
+    put_digit(line, thousandths / 10 % 10)?;
+    if thousandths % 10 == 0 {
+        return Ok(());
+    }
+    put_digit(line, thousandths % 10)
+}
+
+fn put_amount(line: &mut Vec<u8>, amount: u64) -> Result<(), AllocError>
+    ensures ok { OnOk result (line.new.items ≡ line.old.items ++ amount_text amount) }
+    ensures front { KeepsFront line.old.items line.new.items }
+{
+    put(line, Buffer::new().format(amount / 1000))?;
+    put_decimals(line, amount % 1000)
+}
+
+fn put_entry(line: &mut Vec<u8>, entry: &Entry) -> Result<(), AllocError>
+    ensures ok { OnOk result (line.new.items ≡ line.old.items ++ escape (quantity_text entry.now)) }
+    ensures front { KeepsFront line.old.items line.new.items }
+{
+    put(line, entry.label.text())?;
+    put_byte(line, b':')?;
+    put_amount(line, entry.amount.thousandths())
+}
+
+/// Writes an entry above 0 behind those before it, if any, and tells whether one stands there now.
+fn put_next(line: &mut Vec<u8>, entry: &Entry, has_any: bool) -> Result<bool, AllocError>
+    ensures ok { IfOk result (λ has_now. (left : List Entry) → line.new.items ++ left_amounts has_now left ≡ line.old.items ++ left_amounts has_any (entry.now ∷ left)) }
+    ensures front { KeepsFront line.old.items line.new.items }
+{
+    if entry.amount.thousandths() == 0 {
+        return Ok(has_any);
+    }
+    if has_any {
+        put_byte(line, b';')?;
+    }
+    put_entry(line, entry)?;
+    Ok(true)
+}
+
+fn put_entries(line: &mut Vec<u8>, entries: &[Entry]) -> Result<(), AllocError>
+    ensures ok { OnOk result (line.new.items ≡ line.old.items ++ escape (amounts_text entries.now)) }
+    ensures front { KeepsFront line.old.items line.new.items }
+{
+    let mut has_any = false;
+    for entry in entries {
+        has_any = put_next(line, entry, has_any)?;
+    }
+    Ok(())
+}
+
+/// Writes what stands before the quantities above 0 with its first `"`, and them.
+pub fn put_amounts(
+    line: &mut Vec<u8>,
+    before: &str,
+    quantities: &Quantities,
+) -> Result<(), AllocError>
+    ensures ok { OnOk result (line.new.items ≡ line.old.items ++ (before.now ++ (escape (amounts_text quantities.now) ++ 34 ∷ []))) }
+    ensures front { KeepsFront line.old.items line.new.items }
+{
+    put(line, before)?;
+    put_entries(line, quantities.entries())?;
+    put_byte(line, b'"')
+}

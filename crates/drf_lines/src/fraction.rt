@@ -1,0 +1,52 @@
+//! The writer of a fraction. Its digits need no escape.
+ghost use Rattle.std.specs.Prelude.{◌≡◌, ◌∷◌, ◌++◌, [], OnOk};
+ghost use Rattle.json.specs.Print.{escape};
+ghost use Rattle.drf_lines.specs.ReportLine.{fraction_text};
+ghost use Rattle.drf_lines.specs.Written.{KeepsFront};
+
+use crate::member::{put, put_byte};
+use itoa::{Buffer, write_digits};
+use std::alloc::AllocError;
+
+/// The most bytes of two numbers below 2^64 with `/` between them.
+const SHORT_FRACTION: usize = 41;
+
+/// Writes a fraction of numbers below 2^64, and `"`.
+fn put_short_fraction(line: &mut Vec<u8>, part: u64, whole: u64) -> Result<(), AllocError>
+    ensures ok { OnOk result (line.new.items ≡ line.old.items ++ (fraction_text (part, whole) ++ 34 ∷ [])) }
+    ensures front { KeepsFront line.old.items line.new.items }
+{
+    let mut text = [b'"'; SHORT_FRACTION + 1];
+    let slash = write_digits(whole, &mut text, SHORT_FRACTION) - 1;
+    text[slash] = b'/';
+    let start = write_digits(part, &mut text, slash);
+    line.extend_from_slice(&text[start..])
+}
+
+/// Writes a fraction, and `"`.
+fn put_long_fraction(line: &mut Vec<u8>, part: u128, whole: u128) -> Result<(), AllocError>
+    ensures ok { OnOk result (line.new.items ≡ line.old.items ++ (fraction_text (part, whole) ++ 34 ∷ [])) }
+    ensures front { KeepsFront line.old.items line.new.items }
+{
+    put(line, Buffer::new().format(part))?;
+    put_byte(line, b'/')?;
+    put(line, Buffer::new().format(whole))?;
+    put_byte(line, b'"')
+}
+
+/// Writes what stands before a fraction with its first `"`, and the fraction.
+pub fn put_fraction(
+    line: &mut Vec<u8>,
+    before: &str,
+    fraction: (u128, u128),
+) -> Result<(), AllocError>
+    ensures ok { OnOk result (line.new.items ≡ line.old.items ++ (before.now ++ (escape (fraction_text fraction) ++ 34 ∷ []))) }
+    ensures front { KeepsFront line.old.items line.new.items }
+{
+    let (part, whole) = fraction;
+    put(line, before)?;
+    if part.max(whole) <= u128::from(u64::MAX) {
+        return put_short_fraction(line, part as u64, whole as u64);
+    }
+    put_long_fraction(line, part, whole)
+}

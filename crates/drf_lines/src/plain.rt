@@ -1,0 +1,79 @@
+//! Texts that a JSON string holds as they are.
+ghost use Rattle.std.specs.Prelude.{◌≡◌, ◌≤◌, length, drop, map};
+ghost use Rattle.std.specs.List.{list_all};
+ghost use Rattle.std.specs.Simd.Lanes.{mask_l};
+ghost use Rattle.json.specs.Run.{is_stop};
+ghost use Rattle.drf_lines.specs.Written.{is_plain_byte};
+
+use std::simd::prelude::*;
+
+/// A bit for each byte that needs an escape.
+#[inline(always)]
+fn stops_16(bytes: u8x16) -> u64
+    ensures { result ≡ mask_l (map is_stop bytes) }
+{
+    (bytes.simd_eq(u8x16::splat(b'"'))
+        | bytes.simd_eq(u8x16::splat(b'\\'))
+        | bytes.simd_lt(u8x16::splat(32))).to_bitmask()
+}
+
+/// The same of 8 bytes.
+#[inline(always)]
+fn stops_8(bytes: u8x8) -> u64
+    ensures { result ≡ mask_l (map is_stop bytes) }
+{
+    (bytes.simd_eq(u8x8::splat(b'"'))
+        | bytes.simd_eq(u8x8::splat(b'\\'))
+        | bytes.simd_lt(u8x8::splat(32))).to_bitmask()
+}
+
+#[inline(always)]
+fn is_plain_byte(byte: u8) -> bool
+    ensures { result ≡ is_plain_byte byte }
+{
+    (byte >= 32) & ((byte != b'"') & (byte != b'\\'))
+}
+
+/// Whether all bytes from a place on are plain, one after another.
+fn is_plain_slowly(bytes: &[u8], from: usize) -> bool
+    requires { from ≤ length bytes.now }
+    ensures { result ≡ list_all is_plain_byte (drop from bytes.now) }
+{
+    let mut i = from;
+    while i < bytes.len() {
+        if !is_plain_byte(bytes[i]) {
+            return false;
+        }
+        i += 1;
+    }
+    true
+}
+
+/// The same, where fewer than 16 are left.
+fn is_plain_end(bytes: &[u8], from: usize) -> bool
+    requires { from ≤ length bytes.now }
+    ensures { result ≡ list_all is_plain_byte (drop from bytes.now) }
+{
+    if bytes.len() - from < 8 {
+        return is_plain_slowly(bytes, from);
+    }
+    if stops_8(u8x8::from_slice(&bytes[from..])) != 0 {
+        return false;
+    }
+    is_plain_slowly(bytes, from + 8)
+}
+
+/// Whether a JSON string holds the text as it is.
+pub fn is_plain(text: &str) -> bool
+    ensures { result ≡ list_all is_plain_byte text.now }
+{
+    let bytes = text.as_bytes();
+    let mut i = 0;
+    while bytes.len() - i >= 16 {
+        if stops_16(u8x16::from_slice(&bytes[i..])) != 0 {
+            return false;
+        }
+        i += 16;
+    }
+    is_plain_end(bytes, i)
+}

@@ -12,7 +12,7 @@ pub returns-clause-live : goal.returns-clause-live
 returns-clause-live c = λ limits rows other event live accepted.
     (welcome_from limits rows other event live accepted, new_offers-live limits rows other event live accepted)
 
-pub returns-clause-enough : goal.returns-clause-enough
+pub returns-clause-starts : goal.returns-clause-starts
 returns-clause-starts c = can_accept
 
 pub returns-clause-consistent : goal.returns-clause-consistent

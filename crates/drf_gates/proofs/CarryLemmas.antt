@@ -18,6 +18,7 @@ use Rattle.drf_gates.specs.Quota.{Usage, AreRaised, counted, used_at}
 use Rattle.drf_gates.specs.Totals.{AreCarried, AreExact, IsExact, is_front_before}
 use Rattle.drf_gates.specs.declared.totals.Total.{Total}
 use Rattle.drf_gates.proofs.LeaveLemmas.{front_few, front_there, front_within}
+use Rattle.drf_gates.proofs.LimitLemmas.{no_role}
 
 -- ---- which roles are fronts
 
@@ -112,10 +113,15 @@ module _ (old new : List Usage) (role : Path) where
 
   -- ---- all fronts
 
-  pub carried_start : (totals : List (Path × Total)) → AreExact old totals → AreCarried old new role 0 totals
-  carried_start totals = All-weaker (λ (e : Path × Total). IsExact old e.0 e.1) (At 0) (λ e its.
-      let none : nat_lt (length e.0) 0 ≡ false = grind (arith, nat_tests) in
-      subst (λ (b : Bool). IsExact (cond b new old) e.0 e.1) (sym (ap (λ (b : Bool). b && is_within e.0 role) none)) its) totals
+  -- of the empty front, which is no role, nothing is said
+  start_one : (outer : Path) (t : Total) → IsExact old outer t → At 1 (outer, t)
+  start_one [] t its = record { known = λ is right label. absurd (no_role right) }
+  start_one (part ∷ parts) t its =
+      let none : nat_lt (length (part ∷ parts)) 1 ≡ false = grind (arith, nat_tests) in
+      subst (λ (b : Bool). IsExact (cond b new old) (part ∷ parts) t) (sym (ap (λ (b : Bool). b && is_within (part ∷ parts) role) none)) its
+
+  pub carried_start : (totals : List (Path × Total)) → AreExact old totals → AreCarried old new role 1 totals
+  carried_start totals = All-weaker (λ (e : Path × Total). IsExact old e.0 e.1) (At 1) (λ e its. start_one e.0 e.1 its) totals
 
   pub carried_end : (n : ℕ) → length role < n → (totals : List (Path × Total))
       → ((outer : Path) → is_within outer role ≡ false → (label : Text) → used_at new outer label ≡ used_at old outer label)
@@ -129,7 +135,7 @@ module _ (old new : List Usage) (role : Path) where
     | inr past ↦
         let is : is_front_before role n e.0 ≡ false = ap (λ (b : Bool). nat_lt (length e.0) n && b) past ∙ and_none (nat_lt (length e.0) n) in
         let was = subst (λ (b : Bool). IsExact (cond b new old) e.0 e.1) is its in
-        record { known = λ known label. was.known known label ∙ sym (same e.0 past label) }
+        record { known = λ known right label. was.known known right label ∙ sym (same e.0 past label) }
   ]) totals
 
 -- ---- a role that consumes more, or less
@@ -147,14 +153,14 @@ module _ (old new : List Usage) (role : Path) (amounts : List Entry) (raised : A
       → (IsTrue u.is_known → (label : Text) → amount_of u.amounts label ≡ amount_of t.amounts label + amount_of amounts label)
       → (outer : Path) → is_within outer role ≡ true → IsExact old outer t → IsExact new outer u
   raised_exact t u known sums outer within its = record {
-    known = λ is label. omega (arith, sums is label, its.known (known is) label, raised (is_within outer) label, whole_counted outer within label);
+    known = λ is right label. omega (arith, sums is label, its.known (known is) right label, raised (is_within outer) label, whole_counted outer within label);
   }
 
   pub lowered_exact : (t u : Total) → (IsTrue u.is_known → IsTrue t.is_known)
       → (IsTrue u.is_known → (label : Text) → amount_of u.amounts label + amount_of amounts label ≡ amount_of t.amounts label)
       → (outer : Path) → is_within outer role ≡ true → IsExact new outer t → IsExact old outer u
   lowered_exact t u known sums outer within its = record {
-    known = λ is label. omega (arith, sums is label, its.known (known is) label, raised (is_within outer) label, whole_counted outer within label);
+    known = λ is right label. omega (arith, sums is label, its.known (known is) right label, raised (is_within outer) label, whole_counted outer within label);
   }
 
 -- ---- totals that come and go

@@ -1,6 +1,7 @@
 -- What roles consume of a bundle, resource by resource.
-use Rattle.std.specs.Prelude.{◌≡◌, ℕ, ◌+◌, ◌<◌, ◌≤◌, ◌^◌, Bool, true, false, not, ◌&&◌, List, [], ◌∷◌, length, take, drop, sum_by, Result, Ok, Err, OnOk}
+use Rattle.std.specs.Prelude.{◌≡◌, ℕ, ◌+◌, ◌<◌, ◌≤◌, ◌^◌, Bool, true, false, not, ◌&&◌, List, [], ◌∷◌, length, take, drop, sum_by, IsTrue, Result, Ok, Err, OnOk}
 use Rattle.std.proofs.Common.{refl, sym, ap, subst, ◌∙◌, cond, arith, get_or, add-one, drop-cons}
+use Rattle.std.proofs.lemmas.Bool.{and_parts}
 use Rattle.std.proofs.lemmas.List.{take-append-drop}
 use Rattle.std.proofs.lemmas.List.Elements.{All-get_or}
 use Rattle.std.proofs.lemmas.List.Sums.{sum_by-append}
@@ -11,8 +12,9 @@ use Rattle.drf_role.specs.Parts.{parts_of, text_of}
 use Rattle.drf_bundle.specs.Value.{Thousandths, units_in}
 use Rattle.drf_bundle.specs.Quantities.{amount_of, with_amount}
 use Rattle.drf_bundle.specs.laws.QuantitiesLaws.{amount-with}
-use Rattle.drf_bundle.specs.Bundle.{IsResource, IsBundle, is_default, key_of, same_key}
+use Rattle.drf_bundle.specs.Bundle.{IsResource, IsBundle, is_default, is_unreserved, key_of, quantities_of, same_key, stock}
 use Rattle.drf_bundle.specs.laws.KeyLaws.{where-cons}
+use Rattle.drf_bundle.specs.laws.SumLaws.{amount-quantities_of, of_name}
 use Rattle.drf_bundle.specs.declared.quantities.Entry.{Entry}
 use Rattle.drf_bundle.specs.declared.resource.Resource.{Resource}
 use Rattle.drf_rows.specs.laws.ConsistentLaws.{same_text-swap}
@@ -52,6 +54,10 @@ module _ (r : Resource) (label : Text) where
   unreserved-here default =
       ap (λ b. cond (same_text label r.label && same_text [] (cond b [] (text_of r.role))) amount 0) default ∙ swapped true
 
+  pub unreserved-all : is_default r.role ≡ true → unreserved_one label r ≡ cond (same_text label r.label) amount 0
+  unreserved-all default =
+      unreserved-here default ∙ ap (λ (b : Bool). cond b amount 0) (same_text-swap r.label label)
+
   module _ (right : IsResource r) (other : is_default r.role ≡ false) where
     some : same_text (text_of r.role) [] ≡ false
     some = no_text r.role right.role other
@@ -68,6 +74,23 @@ module _ (r : Resource) (label : Text) where
         ap (λ b. cond (same_text label r.label && (not (same_text (cond b [] (text_of r.role)) []) && test (parts_of (cond b [] (text_of r.role))))) amount 0) other
         ∙ (λ i. cond (same_text label r.label && (not (some i) && test (right.role_read i))) amount 0)
         ∙ swapped (test r.role)
+
+-- of a bundle in which nothing is reserved, all of a name is for everyone
+for_everyone : (rs : List Resource) (label : Text) → IsTrue (is_unreserved rs) → stock rs label Thousandths ≡ unreserved_in label rs
+for_everyone [] label all = refl
+for_everyone (r ∷ rs) label all =
+    let parts = and_parts (is_default r.role) (is_unreserved rs) all in
+    omega (
+      arith,
+      where-cons (of_name label) Thousandths r rs,
+      where-cons (same_key (label, [])) Thousandths r rs,
+      unreserved-all r label parts.0,
+      for_everyone rs label parts.1,
+    )
+
+pub sums-unreserved : (bundle : List Resource) (label : Text) → IsTrue (is_unreserved bundle)
+    → amount_of (quantities_of bundle) label ≡ unreserved_in label bundle
+sums-unreserved bundle label all = amount-quantities_of bundle label ∙ for_everyone bundle label all
 
 -- all of it is of its own name
 pub one_here : (r : Resource) → amount_in_one r.label r ≡ units_in r.value Thousandths

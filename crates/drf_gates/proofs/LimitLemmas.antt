@@ -212,8 +212,11 @@ fewer_left role (e ∷ es) = by (same_path role e.0) (fewer_left role es)
 
 -- ---- the empty path, which is no role
 
+pub no_role : IsRole [] → ⊥
+no_role right = ⊎_elim (λ e. cc) (λ (p : IsRolePath []). omega (arith, p.some)) right
+
 not_empty : (role : Path) → IsRole role → same_path [] role ≡ false
-not_empty [] right = absurd (⊎_elim (λ e. cc) (λ (p : IsRolePath []). omega (arith, p.some)) right)
+not_empty [] right = absurd (no_role right)
 not_empty (p ∷ ps) right = refl
 
 nobody_put : (role : Path) (limit : List Entry) (es : List Limit) → IsRole role → lookup (same_path []) es ≡ None

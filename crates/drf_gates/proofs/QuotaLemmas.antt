@@ -1,5 +1,5 @@
 -- Limits as rows, and what they leave, limit by limit.
-use Rattle.std.specs.Prelude.{◌≡◌, ◌≢◌, ℕ, min, nat_le, Bool, true, false, ◌&&◌, List, [], ◌∷◌, ◌++◌, map, filter, fold, length, Some}
+use Rattle.std.specs.Prelude.{◌≡◌, ℕ, min, nat_le, Bool, true, false, ◌&&◌, List, [], ◌∷◌, ◌++◌, map, filter, fold, length, Some}
 use Rattle.std.specs.List.{reduce, AllByRecursion, IsDistinct}
 use Rattle.std.specs.Option.{option_map_or}
 use Rattle.std.specs.Map.{keys_of, lookup, remove_entry}

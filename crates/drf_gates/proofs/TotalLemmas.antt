@@ -8,6 +8,7 @@ use Rattle.drf_role.specs.Text.{Text, same_text}
 use Rattle.drf_role.specs.TextLaws.{cases_same, same_from_test}
 use Rattle.drf_role.specs.Path.{Path, same_path}
 use Rattle.drf_role.specs.PathLaws.{same_path-true}
+use Rattle.drf_role.specs.Role.{IsRole}
 use Rattle.drf_bundle.specs.Quantities.{amount_of, is_in_order, with_amount}
 use Rattle.drf_bundle.specs.laws.QuantitiesLaws.{stands_first, amount_first, amount-with}
 use Rattle.drf_bundle.specs.declared.quantities.Entry.{Entry}
@@ -89,22 +90,22 @@ pub exact_alike : (one other : List Usage) (totals : List (Path × Total))
     → AreExact one totals → AreExact other totals
 exact_alike one other totals alike exact =
     All-weaker (λ (e : Path × Total). IsExact one e.0 e.1) (λ (e : Path × Total). IsExact other e.0 e.1)
-    (λ e its. record { known = λ is label. its.known is label ∙ sym (alike (is_within e.0) label) }) totals exact
+    (λ e its. record { known = λ is right label. its.known is right label ∙ sym (alike (is_within e.0) label) }) totals exact
 
 -- what is kept for a role is what it consumes
 pub kept_is : (used : List Usage) (totals : List (Path × Total)) (role : Path) (t : Total) (label : Text)
-    → lookup (same_path role) totals ≡ Some t → IsTrue t.is_known → AreExact used totals
+    → IsRole role → lookup (same_path role) totals ≡ Some t → IsTrue t.is_known → AreExact used totals
     → amount_of t.amounts label ≡ used_at used role label
-kept_is used [] role t label found known exact = cc
-kept_is used (e ∷ es) role t label found known exact = elim (cases_Bool (same_path role e.0)) [
+kept_is used [] role t label right found known exact = cc
+kept_is used (e ∷ es) role t label right found known exact = elim (cases_Bool (same_path role e.0)) [
   | inl here ↦
       let its : e.1 ≡ t = let it = rw here at found in cc in
       let is : IsExact used role t =
       subst (λ (x : Path × Total). IsExact used x.0 x.1) (λ i. (sym (same_path-true role e.0 here) i, its i))
       (All-head (λ (x : Path × Total). IsExact used x.0 x.1) e es exact) in
-      is.known known label
+      is.known known right label
   | inr other ↦
-      kept_is used es role t label (rw other at found) known (All-tail (λ (x : Path × Total). IsExact used x.0 x.1) e es exact)
+      kept_is used es role t label right (rw other at found) known (All-tail (λ (x : Path × Total). IsExact used x.0 x.1) e es exact)
 ]
 
 -- ---- what is kept beside what roles consume

@@ -115,6 +115,27 @@ put_raises (u ∷ us) role sum amounts is =
     by false same is more = λ test label.
         omega (arith, used-cons test u (insert_entry same_path us role sum) label, used-cons test u us label, more is test label)
 
+-- where a role has a row, its amounts are put there
+pub put_is_set : (us : List Usage) (role : Path) (row sum : List Entry) → lookup (same_path role) us ≡ Some row
+    → insert_entry same_path us role sum ≡ set_value (same_path role) us sum
+put_is_set [] role row sum found = cc
+put_is_set (u ∷ us) role row sum found = elim (cases_Bool (same_path role u.0)) [
+  | inl here ↦ rw here refl
+  | inr past ↦
+      let later = ap (λ b. cond b (Some u.1) (lookup (same_path role) us)) (sym past) ∙ found in
+      rw past (ap (λ (rest : List Usage). u ∷ rest) (put_is_set us role row sum later))
+]
+
+-- so what is added to a row is added to its role
+pub set_raises : (us : List Usage) (role : Path) (row sum amounts : List Entry)
+    → lookup (same_path role) us ≡ Some row
+    → ((label : Text) → amount_of sum label ≡ amount_of row label + amount_of amounts label)
+    → AreRaised us (set_value (same_path role) us sum) role amounts
+set_raises us role row sum amounts found is = λ test label.
+    let own : row ≡ row_of us role = ap (λ (o : Option (List Entry)). option_map_or (λ q. q) o []) (sym found) in
+    ap (λ (vs : List Usage). used_where test vs label) (sym (put_is_set us role row sum found))
+    ∙ put_raises us role sum amounts (λ n. is n ∙ ap (λ (q : List Entry). amount_of q n + amount_of amounts n) own) test label
+
 -- what is taken from one row is taken from its role
 pub set_lowers : (us : List Usage) (role : Path) (row left amounts : List Entry)
     → lookup (same_path role) us ≡ Some row

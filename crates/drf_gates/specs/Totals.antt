@@ -2,14 +2,15 @@
 use Rattle.std.specs.Prelude.{◌≡◌, ℕ, Bool, ◌&&◌, nat_lt, List, All, IsTrue, length, if◌then◌else◌}
 use Rattle.drf_role.specs.Text.{Text}
 use Rattle.drf_role.specs.Path.{Path}
+use Rattle.drf_role.specs.Role.{IsRole}
 use Rattle.drf_bundle.specs.Quantities.{amount_of}
 use Rattle.drf_rows.specs.Quota.{is_within}
 use Rattle.drf_gates.specs.Quota.{Usage, IsBounded, used_at}
 use Rattle.drf_gates.specs.declared.totals.Total.{Total}
 
--- the total of a role, if it is known, is what the role consumes together with the roles below it
+-- the total of a role, if it is known, is what the role consumes together with the roles below it; of the empty path nothing is said
 pub record IsExact (used : List Usage) (role : Path) (t : Total) : Type 0 where
-  pub known : IsTrue t.is_known → (label : Text) → amount_of t.amounts label ≡ used_at used role label
+  pub known : IsTrue t.is_known → IsRole role → (label : Text) → amount_of t.amounts label ≡ used_at used role label
 
 abbrev pub AreExact : List Usage → List (Path × Total) → Type 0
 AreExact used totals = All (λ e. IsExact used e.0 e.1) totals

@@ -1,5 +1,5 @@
 //! What roles consume of bundles: what is unreserved of what clients hold, and what is reserved of what agents have.
-ghost use Rattle.std.specs.Prelude.{◌≡◌, ◌+◌, ◌^◌, ◌<◌, ◌≤◌, All, Bool, IfOk, OnOk, OnErr, if◌then◌else◌};
+ghost use Rattle.std.specs.Prelude.{◌≡◌, ◌+◌, ◌^◌, ◌<◌, ◌≤◌, All, Bool, IfOk, IfSome, OnOk, OnErr, if◌then◌else◌};
 ghost use Rattle.drf_role.specs.Text.{Text};
 ghost use Rattle.drf_role.specs.Path.{Path, same_path};
 ghost use Rattle.drf_bundle.specs.Bundle.{IsResource};
@@ -49,6 +49,16 @@ fn unreserved(alloc: Global, bundle: &Bundle) -> Result<Quantities, AllocError>
     Ok(sum)
 }
 
+/// The sums of a bundle in which nothing is reserved, which need not be made.
+fn sums_if_unreserved(bundle: &Bundle) -> Option<&Quantities>
+    ensures { IfSome result (λ sums. (label : Text) → amount_of sums.now label ≡ unreserved_in label bundle.now) }
+{
+    if !bundle.is_unreserved() {
+        return None;
+    }
+    Some(bundle.quantities())
+}
+
 /// The thousandths of one resource.
 fn one(alloc: Global, resource: &Resource) -> Result<Quantities, AllocError>
     ensures { IfOk result (λ amounts. (label : Text) → amount_of amounts label ≡ amount_in_one label resource.now) }
@@ -66,6 +76,9 @@ impl Quota {
         ensures ok { OnOk result (IsRaisedBy self.old self.new (λ test label. if test role.now then unreserved_in label bundle.now else 0)) }
         ensures err { OnErr result (self.new ≡ self.old) }
     {
+        if let Some(amounts) = sums_if_unreserved(bundle) {
+            return self.consume(role, amounts);
+        }
         let amounts = unreserved(*self.used.allocator(), bundle)?;
         self.consume(role, &amounts)
     }
@@ -84,13 +97,24 @@ impl Quota {
         }
     }
 
-    /// A client of the role holds the bundle no longer: what is unreserved of it is released. It needs no memory.
-    pub fn release_unreserved(&mut self, role: &Role, bundle: &Bundle)
+    /// What is unreserved of the bundle is released, one resource after another.
+    fn release_parts(&mut self, role: &Role, bundle: &Bundle)
         requires { (label : Text) → unreserved_in label bundle.now ≤ used_by self.old.used role.now label }
         ensures { IsRaisedBy self.new self.old (λ test label. if test role.now then unreserved_in label bundle.now else 0) }
     {
         for resource in bundle.entries() {
             self.release_one(role, resource);
+        }
+    }
+
+    /// A client of the role holds the bundle no longer: what is unreserved of it is released. It needs no memory.
+    pub fn release_unreserved(&mut self, role: &Role, bundle: &Bundle)
+        requires { (label : Text) → unreserved_in label bundle.now ≤ used_by self.old.used role.now label }
+        ensures { IsRaisedBy self.new self.old (λ test label. if test role.now then unreserved_in label bundle.now else 0) }
+    {
+        match sums_if_unreserved(bundle) {
+            Some(amounts) => self.release(role, amounts),
+            None => self.release_parts(role, bundle),
         }
     }
 

@@ -242,7 +242,7 @@ impl Quota {
             let label = entry.label.text();
             let used = self.consumption_at(place, limited, label);
             let left = entry.amount.thousandths().saturating_sub(used);
-            let least = lesser(room.known_amount(label), left);
+            let least = lesser(room.known_amount_of(&entry.label), left);
             room.set(entry.label.copy()?, least)?;
         }
         Ok(())

@@ -163,9 +163,8 @@ fn reduce_front(
 pub(crate) fn raise_totals(totals: &mut IndexMap<Role, Total>, role: &Role, amounts: &Quantities)
     ensures { (old new : List Usage) → AreRaised old new role.now amounts.now → AreExact old totals.old.entries → AreExact new totals.new.entries }
 {
-    // The empty front, whose total nobody keeps, is looked up too: so no clause needs to say that nobody does.
     let fronts = role.len() + 1;
-    for len in 0..fronts {
+    for len in 1..fronts {
         raise_front(totals, role, len, amounts);
     }
 }
@@ -175,7 +174,7 @@ pub(crate) fn lower_totals(totals: &mut IndexMap<Role, Total>, role: &Role, amou
     ensures { (old new : List Usage) → AreRaised new old role.now amounts.now → AreExact old totals.old.entries → AreExact new totals.new.entries }
 {
     let fronts = role.len() + 1;
-    for len in 0..fronts {
+    for len in 1..fronts {
         lower_front(totals, role, len, amounts);
     }
 }
@@ -191,7 +190,7 @@ pub(crate) fn reduce_totals(
         → AreExact old totals.old.entries → AreExact new totals.new.entries }
 {
     let fronts = role.len() + 1;
-    for len in 0..fronts {
+    for len in 1..fronts {
         reduce_front(totals, role, len, label, thousandths);
     }
 }
@@ -200,6 +199,7 @@ pub(crate) fn reduce_totals(
 pub(crate) fn kept(totals: &IndexMap<Role, Total>, role: &Role, label: &str) -> Option<u64>
     ensures { IfSome result (λ amount. (used : List Usage) → AreExact used totals.now.entries → amount ≡ used_at used role.now label.now) }
 {
+    role.recall();
     let total = totals.get(role)?;
     if !total.is_known {
         return None;
@@ -216,6 +216,7 @@ pub(crate) fn kept_at(
 ) -> Option<u64>
     ensures { IfSome result (λ amount. (used : List Usage) → AreExact used totals.now.entries → amount ≡ used_at used role.now label.now) }
 {
+    role.recall();
     let (outer, total) = totals.get_index(place)?;
     if !total.is_known || outer != role {
         return None;

@@ -1,5 +1,5 @@
 //! What roles consume, each by itself.
-ghost use Rattle.std.specs.Prelude.{◌≡◌, ◌+◌, ◌^◌, ◌<◌, ◌≤◌, ◌↔◌, Bool, [], IsTrue, IfOk, OnOk, OnErr};
+ghost use Rattle.std.specs.Prelude.{◌≡◌, ◌+◌, ◌^◌, ◌<◌, ◌≤◌, ◌↔◌, Bool, false, [], IsTrue, IfOk, OnOk, OnErr};
 ghost use Rattle.drf_role.specs.Text.{Text};
 ghost use Rattle.drf_role.specs.Path.{Path};
 ghost use Rattle.drf_bundle.specs.Quantities.{amount_of};
@@ -50,6 +50,32 @@ fn row_with(
     }
 }
 
+/// Adds to the row of a role, if that names all labels. Whether it could be done. It needs no memory.
+fn raise_row(row: &mut Quantities, amounts: &Quantities) -> bool
+    requires { (label : Text) → amount_of row.old label + amount_of amounts.now label < 2 ^ 64 }
+    ensures done { IsTrue result → (label : Text) → amount_of row.new label ≡ amount_of row.old label + amount_of amounts.now label }
+    ensures not { result ≡ false → row.new ≡ row.old }
+{
+    if !row.names_all(amounts) {
+        return false;
+    }
+    amounts.recall();
+    row.raise(amounts);
+    true
+}
+
+/// Adds to what a role consumes, if it consumes something of each label. Whether it could be done. It needs no memory.
+fn raise_there(used: &mut IndexMap<Role, Quantities>, role: &Role, amounts: &Quantities) -> bool
+    requires { (label : Text) → used_by used.old.entries role.now label + amount_of amounts.now label < 2 ^ 64 }
+    ensures done { IsTrue result → AreRaised used.old.entries used.new.entries role.now amounts.now }
+    ensures not { result ≡ false → used.new.entries ≡ used.old.entries }
+{
+    let Some(row) = used.get_mut(role) else {
+        return false;
+    };
+    raise_row(row, amounts)
+}
+
 /// Adds to what a role consumes. An `Err` changes nothing.
 pub(crate) fn raise(
     used: &mut IndexMap<Role, Quantities>,
@@ -60,6 +86,9 @@ pub(crate) fn raise(
     ensures ok { OnOk result (AreRaised used.old.entries used.new.entries role.now amounts.now) }
     ensures err { OnErr result (used.new.entries ≡ used.old.entries) }
 {
+    if raise_there(used, role, amounts) {
+        return Ok(());
+    }
     let sum = row_with(used, role, amounts)?;
     let role = role.copy()?;
     used.insert(role, sum)?;

@@ -1,7 +1,8 @@
-use Rattle.std.proofs.Common.{sym, ap, ◌∙◌}
+use Rattle.std.proofs.Common.{sym, ap, subst, ◌∙◌}
 use Rattle.std.proofs.lemmas.Bool.{not-false}
 use Rattle.drf_role.specs.Path.{Path, same_path}
 use Rattle.drf_role.specs.PathLaws.{same_path-true}
+use Rattle.drf_role.specs.Role.{IsRole}
 use Rattle.drf_gates.specs.Quota.{used_at}
 use Rattle.drf_gates.proofs.TotalLemmas.{kept_is}
 use Rattle.drf_gates.proofs.totals.kept_at.Goals as goal
@@ -11,5 +12,5 @@ returns c = λ used exact.
     let outer = c.in_ok-outer.outer.now in
     let same = same_path-true outer c.args.role.now (not-false (same_path outer c.args.role.now) (sym c.ne.ensures ∙ c.if-ne.false)) in
     c.get.ensures
-    ∙ kept_is used c.args.totals.now.entries outer c.in_ok-outer.total.now c.args.label.now c.in_ok-outer.ensures.value c.if-not-total.false exact
+    ∙ kept_is used c.args.totals.now.entries outer c.in_ok-outer.total.now c.args.label.now (subst IsRole (sym same) c.recall.ensures.right) c.in_ok-outer.ensures.value c.if-not-total.false exact
     ∙ ap (λ (r : Path). used_at used r c.args.label.now) same

@@ -22,8 +22,7 @@ loop-entry-preserved c =
     c.saturating_sub-left.ensures
     ∙ (λ i. c.thousandths.ensures i - c.consumption_at-used.ensures i)
     ∙ ap (λ (n : Text). e.amount - used n) c.text-label.ensures.text in
-    let known : c.known_amount.result ≡ known_amount room e.label =
-    c.known_amount.ensures ∙ ap (λ (n : Text). known_amount room n) c.text-label.ensures.text in
+    let known : c.known_amount_of.result ≡ known_amount room e.label = c.known_amount_of.ensures in
     let least : c.lesser-least.result ≡ lesser (known_amount room e.label) (e.amount - used e.label) =
     c.lesser-least.ensures ∙ (λ i. lesser (known i) (left i)) in
     let set : c.set.new.self ≡ with_amount room e.label (lesser (known_amount room e.label) (e.amount - used e.label)) =

@@ -8,5 +8,14 @@ consume-requires c = λ outer label right within.
       arith,
       c.requires (is_within outer) label,
       ap (λ (b : Bool). cond b (unreserved_in label c.args.bundle.now) 0) within,
+      c.in-Some.ensures label,
+    )
+
+pub consume-requires-2 : goal.consume-requires-2
+consume-requires-2 c = λ outer label right within.
+    omega (
+      arith,
+      c.requires (is_within outer) label,
+      ap (λ (b : Bool). cond b (unreserved_in label c.args.bundle.now) 0) within,
       c.in_ok-amounts.ensures label,
     )

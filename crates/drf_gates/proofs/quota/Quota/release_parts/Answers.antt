@@ -7,7 +7,7 @@ use Rattle.drf_bundle.specs.declared.resource.Resource.{Resource}
 use Rattle.drf_rows.specs.Quota.{unreserved_in}
 use Rattle.drf_gates.specs.Quota.{unreserved_one}
 use Rattle.drf_gates.proofs.ConsumedLemmas.{first_unreserved, nothing_by, released_done, released_fits, released_more, resource_at, unreserved_by}
-use Rattle.drf_gates.proofs.quota.Quota.release_unreserved.Goals as goal
+use Rattle.drf_gates.proofs.quota.Quota.release_parts.Goals as goal
 
 pub release_one-requires-clause-right : goal.release_one-requires-clause-right
 release_one-requires-clause-right c =

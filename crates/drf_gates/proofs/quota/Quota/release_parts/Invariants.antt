@@ -1,6 +1,6 @@
 use Rattle.std.proofs.Common.{drop}
 use Rattle.drf_gates.proofs.ConsumedLemmas.{IsReleased, unreserved_by}
-use Rattle.drf_gates.proofs.quota.Quota.release_unreserved.Given as goal
+use Rattle.drf_gates.proofs.quota.Quota.release_parts.Given as goal
 
 abbrev pub invariant-loop-resource : goal.invariant-loop-resource
 invariant-loop-resource l =

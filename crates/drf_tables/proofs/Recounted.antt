@@ -207,7 +207,7 @@ module _ (rows : Rows) (number : ℕ) (o : OfferRow) (starts : List Start) (filt
   split_offer =
       let held = offer_held rows number o starts filters consistent found in
       let has = units-covers_all o.bundle (uses starts) held.bundle bundles can.covered in
-      omega (arith, has (label, []) Thousandths, units-rest_of_all o.bundle (uses starts) (label, []) Thousandths held.bundle can.bundles)
+      omega (arith, has (label, []) Thousandths, units-rest_of_all o.bundle (uses starts) (label, []) Thousandths held.bundle bundles)
 
   pub consumption-accepted : consumption_where test rows label
       ≡ consumption_where test (accepted_in rows o starts filters) label

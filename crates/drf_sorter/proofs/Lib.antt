@@ -13,3 +13,4 @@ pub mod EffectLemmas
 pub mod ServedLemmas
 pub mod TurnLemmas
 pub mod LineLemmas
+pub mod BehindLemmas

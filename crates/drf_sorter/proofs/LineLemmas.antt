@@ -1,5 +1,5 @@
 -- The lines of nodes: their shares, and their order.
-use Rattle.std.specs.Prelude.{◌≡◌, ◌<◌, ◌≤◌, ◌+◌, ◌-◌, ◌^◌, ℕ, zero, suc, Bool, true, IsTrue, List, [], ◌∷◌, ◌++◌, drop, get_or, length, take}
+use Rattle.std.specs.Prelude.{◌≡◌, ◌<◌, ◌≤◌, ◌+◌, ◌-◌, ◌^◌, ℕ, zero, suc, Bool, true, IsTrue, List, [], ◌∷◌, ◌++◌, Some, drop, get_or, length, slice_get, take}
 use Rattle.std.specs.List.{AllByRecursion, list_all, list_any}
 use Rattle.std.specs.Cmp.{IsTotalOrder}
 use Rattle.std.specs.Cmp.Lexicographic.{lists_total, nat_list_cmp_total}
@@ -8,6 +8,7 @@ use Rattle.std.specs.declared.cmp.Ordering.{Ordering}
 use Rattle.std.specs.declared.cmp.Ordering.TheVariants.{Less, Equal, Greater}
 use Rattle.std.proofs.Common.{refl, sym, ap, subst, ◌∙◌, inl, inr, arith}
 use Rattle.std.proofs.lemmas.List.{append-nil, append_assoc, drop_all, drop_more, set_split, take_all, take_more}
+use Rattle.std.proofs.lemmas.Option.{get_or_from_slice_get, slice_get_within}
 use Rattle.std.proofs.lemmas.Bool.{and_from, cases_eq, cases_lt, false≢true, or_cases, or_left, or_right}
 use Rattle.drf_bundle.specs.Quantities.{amount_of, is_in_order}
 use Rattle.drf_bundle.specs.declared.quantities.Entry.{Entry}
@@ -192,6 +193,21 @@ module _ (path : Path) (lines : List NodeLine) (i : ℕ) (x : NodeLine) (some : 
       (ap (λ (o : Ordering). match_ordering o (line ∷ x ∷ []) (line ∷ []) (x ∷ line ∷ [])) own)
       ∙ sym (append_assoc (take (i - 1) lines) (x ∷ []) (line ∷ drop i lines))
       ∙ ap (λ (ls : List NodeLine). ls ++ line ∷ drop i lines) (sym front)
+
+-- where a path goes behind all lines
+pub goes_last : (path : Path) (lines : List NodeLine) (x : NodeLine) → slice_get lines (length lines - 1) ≡ Some x
+    → path_cmp path x.path ≡ Greater → AreRising lines → BelongsBehind path lines (length lines)
+goes_last path lines x last more rising =
+    let within = slice_get_within lines (length lines - 1) x last in
+    belongs_behind path lines (length lines) x (omega (arith, within)) within
+    (sym (get_or_from_slice_get lines (length lines - 1) x x last)) (among_all path lines (length lines) refl) more rising
+
+-- its line is put there
+pub put_last : (lines : List NodeLine) (line : NodeLine) → BelongsBehind line.path lines (length lines)
+    → with_line lines line ≡ lines ++ line ∷ []
+put_last lines line behind =
+    behind line refl
+    ∙ (λ j. take_all (length lines) lines (omega arith) j ++ line ∷ drop_all (length lines) lines (omega arith) j)
 
 -- ---- the nodes of a client
 

@@ -12,10 +12,12 @@ use Rattle.drf_role.specs.TextLaws.{below_other}
 use Rattle.drf_bundle.specs.Quantities.{amount_of, is_in_order}
 use Rattle.drf_bundle.specs.laws.QuantitiesLaws.{amount_head}
 use Rattle.drf_bundle.specs.declared.quantities.Entry.{Entry}
-use Rattle.drf_rows.specs.Share.{Fraction, is_less, greater}
+use Rattle.drf_rows.specs.Share.{Fraction, IsLowest, is_less, greater, lowest_terms}
+use Rattle.drf_rows.specs.laws.LowestLaws.{lowest_terms-is, lowest_terms-same}
 use Rattle.drf_sorter.specs.declared.share.Share.{Share}
 use Rattle.drf_sorter.specs.Fractions.{fraction_cmp, weigh, weighted, dominant_of}
-use Rattle.drf_sorter.specs.laws.FractionLaws.{nat_cmp-scale, product_above, is_lt-fraction_cmp}
+use Rattle.drf_sorter.specs.laws.FractionLaws.{nat_cmp-scale, product_above, is_lt-fraction_cmp, same_as_weighed}
+use Rattle.drf_sorter.specs.laws.ShareLaws.{above_zero, below_128}
 use Rattle.drf_sorter.specs.Share.{IsUnweighted, fraction_of, share_cmp}
 
 -- one weight on both sides does not matter
@@ -51,6 +53,21 @@ max-unweighted d e f g p q =
     (λ i. is_lt (fraction_cmp (fraction-unweighted f e q i) (fraction-unweighted g d p i)))
     ∙ ap is_lt (fraction_cmp-weigh f g 1000 (omega arith)) ∙ is_lt-fraction_cmp f g in
     subst (λ (b : Bool). IsUnweighted (cond (is_less f g) g f) (cond b d e)) (sym test) (chosen (is_less f g) d e f g p q)
+
+-- where the weight is 1, the share over it has the terms of the share
+pub lowest-of_weight_one : (share : Share) → share.weight ≡ 1000
+    → lowest_terms (record { part = share.part; whole = share.whole }) ≡ lowest_terms (fraction_of share)
+lowest-of_weight_one share one =
+    let plain : Fraction = record { part = share.part; whole = share.whole } in
+    sym (lowest_terms-same (fraction_of share) plain (above_zero share) (below_128 share) share.some
+    (omega (arith, share.fits))
+    (same_as_weighed (fraction_of share) plain (λ i. weighted share.part share.whole (one i))))
+
+-- what is the one form in lowest terms is in lowest terms
+pub lowest-terms_are : (share : Share) (result : Fraction) → result ≡ lowest_terms (fraction_of share)
+    → IsLowest (fraction_of share) result
+lowest-terms_are share result is =
+    subst (IsLowest (fraction_of share)) (sym is) (lowest_terms-is (fraction_of share) (above_zero share) (below_128 share))
 
 -- one more scalar, from the last one on
 module _ (held : List ℕ → ℕ) (total : List Entry) (i : ℕ) (e : Entry) (some : 0 < i) (inside : i - 1 < length total)

@@ -120,7 +120,7 @@ impl<'a> Holding for NodeClients<'a> {
 
     ghost held = { λ clients. held_by clients.clients.now clients.node.now };
 
-    fn amount(&self, label: &Label) -> u64 {
+    fn amount(&self, label: &Label, _place: &mut usize) -> u64 {
         let mut held = 0;
         for client in self.clients {
             if begins_with(&client.path, self.node) {

@@ -17,8 +17,8 @@ pub trait Holding {
     /// The thousandths that are held of each label.
     ghost held: { Self → Text → ℕ };
 
-    /// The thousandths of one label.
-    fn amount(&self, label: &Label) -> u64
+    /// The thousandths of one label, which is likely to stand at that place, or last; it becomes the place before.
+    fn amount(&self, label: &Label, place: &mut usize) -> u64
         requires { held self.now label.now < 2 ^ 64 }
         ensures { result ≡ held self.now label.now };
 }
@@ -26,7 +26,17 @@ pub trait Holding {
 impl Holding for Quantities {
     ghost held = { amount_of };
 
-    fn amount(&self, label: &Label) -> u64 {
+    fn amount(&self, label: &Label, place: &mut usize) -> u64 {
+        let entries = self.entries();
+        if entries.is_empty() {
+            return 0;
+        }
+        let at = (*place).min(entries.len() - 1);
+        let entry = &entries[at];
+        if entry.label == *label {
+            *place = at.saturating_sub(1);
+            return entry.amount.thousandths();
+        }
         self.amount_of(label)
     }
 }
@@ -39,11 +49,12 @@ pub(crate) fn dominant_share<H: Holding>(total: &Quantities, holding: &H) -> Sha
 {
     let entries = total.entries();
     let mut dominant = Share::unweighted(0, 1);
+    let mut place = usize::MAX;
     for i in (0..entries.len()).rev() {
         let entry = &entries[i];
         let whole = entry.amount.thousandths();
         if whole > 0 {
-            let part = holding.amount(&entry.label);
+            let part = holding.amount(&entry.label, &mut place);
             dominant = dominant.max(Share::unweighted(part, whole));
         }
     }

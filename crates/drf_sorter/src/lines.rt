@@ -1,11 +1,14 @@
 //! The lines of nodes in a report.
 ghost use Rattle.std.specs.Prelude.{◌≡◌, ◌≤◌, ◌<◌, ◌^◌, [], IfErr, IfOk, IsTrue, OnOk, OnErr, length};
+ghost use Rattle.std.specs.declared.cmp.Ordering.TheVariants.{Greater};
 ghost use Rattle.drf_bundle.specs.Quantities.{amount_of, is_in_order};
 ghost use Rattle.drf_role.specs.Text.{Text};
+ghost use Rattle.drf_rows.specs.Report.{path_cmp};
 ghost use Rattle.drf_rows.specs.laws.Laws.{are_in_order};
 ghost use Rattle.drf_sorter.specs.Lines.{AreRising, BelongsBehind, StandsAt, line_with, paths_of, with_line};
 
 use crate::key::dominant_share;
+use crate::plain::DEFAULT_WEIGHT;
 use drf_bundle::Quantities;
 use drf_role::NodePath;
 use drf_rows::NodeLine;
@@ -31,14 +34,19 @@ pub fn node_line(
     total.recall();
     held.recall();
     let share = dominant_share(total, &held);
-    let weighted = share.over(weight);
+    let lowest = share.lowest();
+    let weighted = if weight == DEFAULT_WEIGHT {
+        lowest
+    } else {
+        share.over(weight).lowest()
+    };
     let mut held = held;
     held.remove_zeros();
     NodeLine {
         path,
         held,
-        share: share.lowest(),
-        weighted: weighted.lowest(),
+        share: lowest,
+        weighted,
         count,
     }
 }
@@ -70,8 +78,28 @@ impl NodeLines {
         }
     }
 
+    /// No lines, and room for so many.
+    pub fn with_capacity(alloc: Global, capacity: usize) -> Result<NodeLines, AllocError>
+        ensures { IfOk result (λ lines. lines ≡ []) }
+    {
+        Ok(NodeLines {
+            lines: Vec::with_capacity(alloc, capacity)?,
+        })
+    }
+
     /// Puts a line into its place, for one of the same path if there is one. An `Err` changes nothing.
     pub fn put(&mut self, line: NodeLine) -> Result<(), AllocError>
+        ensures ok { OnOk result (self.new ≡ with_line self.old line) }
+        ensures err { OnErr result (self.new ≡ self.old) }
+    {
+        if goes_last(&self.lines, &line.path) {
+            return Ok(self.lines.push(line)?);
+        }
+        self.put_among(line)
+    }
+
+    /// The same of a line that need not be the last.
+    fn put_among(&mut self, line: NodeLine) -> Result<(), AllocError>
         ensures ok { OnOk result (self.new ≡ with_line self.old line) }
         ensures err { OnErr result (self.new ≡ self.old) }
     {
@@ -90,6 +118,44 @@ impl NodeLines {
         ensures in_order { IsTrue (are_in_order (paths_of self)) }
     {
         self.lines
+    }
+}
+
+/// Whether the path goes on below the other one.
+fn is_below(path: &NodePath, other: &NodePath) -> bool
+    ensures { IsTrue result → path_cmp path.now other.now ≡ Greater }
+{
+    let text = path.text().as_bytes();
+    let front = other.text().as_bytes();
+    if text.len() <= front.len() {
+        return false;
+    }
+    text[front.len()] == b'/' && text.starts_with(front)
+}
+
+/// Whether the path is the other's up to its last part, and that is behind the other's part at this place.
+fn is_beside(path: &NodePath, other: &NodePath) -> bool
+    ensures { IsTrue result → path_cmp path.now other.now ≡ Greater }
+{
+    let last = path.len() - 1;
+    if last >= other.len() {
+        return false;
+    }
+    let part = path.part(last);
+    let text = path.text().as_bytes();
+    let front = &text[..text.len() - part.len()];
+    other.part(last) < part && other.text().as_bytes().starts_with(front)
+}
+
+/// Whether the line of a path would go behind all others. Lines mostly come in order, each below the one before it, or below or beside
+/// one that this is below: then little of the two texts is looked at.
+fn goes_last(lines: &[NodeLine], path: &NodePath) -> bool
+    requires { AreRising lines.now }
+    ensures { IsTrue result → BelongsBehind path.now lines.now (length lines.now) }
+{
+    match lines.last() {
+        Some(line) => is_below(path, &line.path) || is_beside(path, &line.path),
+        None => true,
     }
 }
 

@@ -72,6 +72,17 @@ impl Share {
         ensures lowest { IsLowest (fraction_of self.now) (terms result) }
         ensures value { terms result ≡ lowest_terms (fraction_of self.now) }
     {
+        if self.part == 0 {
+            return (0, 1);
+        }
+        // Most nodes have weight 1, and the two numbers need not grow.
+        if self.weight == DEFAULT_WEIGHT {
+            let divisor = short_divisor(self.part, self.whole);
+            return (
+                u128::from(self.part / divisor),
+                u128::from(self.whole / divisor),
+            );
+        }
         let part = u128::from(self.part) * 1000;
         let whole = u128::from(self.whole) * u128::from(self.weight);
         let divisor = common_divisor(part, whole);
@@ -90,8 +101,25 @@ impl Share {
     }
 }
 
-/// The greatest number that divides both.
+/// The greatest number that divides both. It goes on in 64 bits as soon as the second number fits these.
 fn common_divisor(part: u128, whole: u128) -> u128
+    ensures { IsGcd part whole result }
+{
+    let mut divisor = part;
+    let mut next = whole;
+    while next > u128::from(u64::MAX) {
+        let rest = divisor % next;
+        divisor = next;
+        next = rest;
+    }
+    if next == 0 {
+        return divisor;
+    }
+    u128::from(short_divisor(next as u64, (divisor % next) as u64))
+}
+
+/// The same of short numbers.
+fn short_divisor(part: u64, whole: u64) -> u64
     ensures { IsGcd part whole result }
 {
     let mut divisor = part;

@@ -1,18 +1,12 @@
-use Rattle.std.proofs.Common.{◌≡◌, ◌∙◌, ◌++◌, ◌∷◌, drop, refl, slice_set, subst, sym, take}
-use Rattle.drf_sorter.specs.Lines.{AreRising, with_line}
-use Rattle.drf_sorter.proofs.LineLemmas.{rising_with}
+use Rattle.std.proofs.Common.{◌∙◌, length, subst, sym}
+use Rattle.drf_sorter.specs.Lines.{AreRising, BelongsBehind}
+use Rattle.drf_sorter.proofs.LineLemmas.{put_last, rising_with}
 use Rattle.drf_sorter.proofs.lines.NodeLines.put.Goals as goal
 
-pub invariant_of-self : goal.invariant_of-self
-invariant_of-self c =
+pub invariant_of-self-then-goes_last : goal.invariant_of-self-then-goes_last
+invariant_of-self-then-goes_last c =
     let lines = c.self.inside.lines.items in
-    let put : with_line lines c.args.line ≡ slice_set lines c.in-Ok.at c.args.line =
-    rw c.deref.ensures.value at (c.in-Ok.ensures.found c.args.line refl) in
-    subst AreRising put (rising_with lines c.args.line c.self.invariant)
-
-pub invariant_of-self-in-Err : goal.invariant_of-self-in-Err
-invariant_of-self-in-Err c =
-    let lines = c.self.inside.lines.items in
-    let put : with_line lines c.args.line ≡ take c.in-Err.at lines ++ c.args.line ∷ drop c.in-Err.at lines =
-    rw c.deref.ensures.value at (c.in-Err.ensures.absent c.args.line refl) in
-    subst AreRising (put ∙ sym c.in_ok-insert-in-Err.ensures.items) (rising_with lines c.args.line c.self.invariant)
+    let last : BelongsBehind c.args.line.path lines (length lines) =
+    rw c.deref.ensures.value at (c.goes_last.ensures c.if-goes_last.true) in
+    subst AreRising (put_last lines c.args.line last ∙ sym c.in_ok-push.ensures.items)
+    (rising_with lines c.args.line c.self.invariant)

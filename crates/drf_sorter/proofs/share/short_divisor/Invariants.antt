@@ -1,0 +1,10 @@
+use Rattle.std.proofs.Common.{ℕ}
+use Rattle.std.specs.Int.{IsGcd}
+use Rattle.drf_sorter.proofs.share.short_divisor.Given as goal
+
+-- what divides the two at hand as the greatest does so of the two that were passed
+abbrev pub invariant-loop-next : goal.invariant-loop-next
+invariant-loop-next l = (g : ℕ) → IsGcd l.divisor l.next g → IsGcd l.fn.part l.fn.whole g
+
+abbrev pub decreases-loop-next : goal.decreases-loop-next
+decreases-loop-next l = l.next

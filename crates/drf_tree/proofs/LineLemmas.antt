@@ -4,7 +4,8 @@ use Rattle.std.specs.List.{list_any, AllByRecursion}
 use Rattle.std.specs.Option.{is_some, option_map_or}
 use Rattle.std.proofs.Common.{refl, sym, ap, subst, ◌∙◌, inl, inr, arith}
 use Rattle.std.proofs.lemmas.Bool.{cases_Bool, false≢true, or_cases}
-use Rattle.drf_bundle.specs.Quantities.{is_in_order}
+use Rattle.drf_bundle.specs.Quantities.{amount_of, is_in_order}
+use Rattle.drf_bundle.specs.declared.quantities.Entry.{Entry}
 use Rattle.drf_role.specs.Path.{Path}
 use Rattle.drf_role.specs.Text.{Text, same_text}
 use Rattle.drf_role.specs.TextLaws.{same_from_test}
@@ -33,11 +34,11 @@ module _ (content : Content) (tree : Tree) (of : IsTreeOf content tree) (node : 
   pub path_place : path_at tree.places.items node ≡ place.path
   path_place = ap (λ (o : Option Place). option_map_or (λ p. p.path) o []) at
 
-  pub line_is : (sum : Sum) → slice_get tree.sums.items node ≡ Some sum → 0 < sum.clients
-      → is_in_order sum.held ≡ true
-      → IsLineOf content (line_with content.total sum.weight place.path sum.held sum.count)
+  pub line_is : (sum : Sum) (held : List Entry) → slice_get tree.sums.items node ≡ Some sum → 0 < sum.clients
+      → is_in_order held ≡ true → ((label : Text) → amount_of held label ≡ amount_of sum.held label)
+      → IsLineOf content (line_with content.total sum.weight place.path held sum.count)
   unfolding standing_in
-  line_is sum there some ordered =
+  line_is sum held there some ordered same =
       let parts : 1 ≤ length place.path =
       omega (
         arith,
@@ -45,8 +46,9 @@ module _ (content : Content) (tree : Tree) (of : IsTreeOf content tree) (node : 
         some_part tree.places.items tree.families.items tree.marks.stale tree.sums.items of.shape node node live_place,
       ) in
       let is = sum_is content tree of node place.path live_place path_place sum there in
-      IsLineOf-with content sum.weight place.path sum.held sum.count parts
-      (somebody content tree of node place.path live_place path_place sum there some) ordered is.held is.count is.weight
+      IsLineOf-with content sum.weight place.path held sum.count parts
+      (somebody content tree of node place.path live_place path_place sum there some) ordered
+      (λ label. same label ∙ is.held label) is.count is.weight
 
 -- ---- the nodes that have clients
 

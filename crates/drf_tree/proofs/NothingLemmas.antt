@@ -19,7 +19,7 @@ use Rattle.drf_tree.specs.Tree.{IsSumOf}
 use Rattle.drf_tree.proofs.SproutLemmas.{same_nothing, share_of_nothing}
 
 -- no amount is above 0
-nothing_of : (entries : List Entry) (label : Text) → list_any (λ e. nat_lt 0 e.amount) entries ≡ false → amount_of entries label ≡ 0
+pub nothing_of : (entries : List Entry) (label : Text) → list_any (λ e. nat_lt 0 e.amount) entries ≡ false → amount_of entries label ≡ 0
 nothing_of [] label none = refl
 nothing_of (e ∷ es) label none =
     let parts = or_parts (nat_lt 0 e.amount) (list_any (λ (x : Entry). nat_lt 0 x.amount) es) none in

@@ -28,7 +28,7 @@ impl Tree {
         requires tree { IsTreeOf (plain_content ledger.now) self.now }
         ensures { IfOk result (λ lines. AreLinesOf (plain_content ledger.now) lines.items) }
     {
-        let mut lines = NodeLines::new(self.alloc());
+        let mut lines = NodeLines::with_capacity(self.alloc(), self.places.len())?;
         let order = self.in_order_of_path()?;
         for node in &order {
             self.put_line(&mut lines, *node, ledger)?;
@@ -80,9 +80,13 @@ impl Tree {
         let first = waiting.len();
         for child in family.children() {
             let name = child.name();
-            let place = waiting[first..].partition_point(|other| other.name > name);
+            let place = first + waiting[first..].partition_point(|other| other.name > name);
             let node = child.node;
-            waiting.insert(first + place, Waiting { name, node })?;
+            if place == waiting.len() {
+                waiting.push(Waiting { name, node })?;
+            } else {
+                waiting.insert(place, Waiting { name, node })?;
+            }
         }
         Ok(())
     }
@@ -110,7 +114,7 @@ impl Tree {
             return Ok(());
         }
         let path = place.path.copy()?;
-        let held = sum.held.copy()?;
+        let held = sum.held(self.alloc())?;
         lines.put(node_line(ledger.total(), sum.weight, path, held, sum.count))
     }
 }

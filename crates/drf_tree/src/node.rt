@@ -1,5 +1,7 @@
 //! What the tree knows of a node: its place, and its sums.
 ghost use Rattle.std.specs.Prelude.{◌≡◌, [], IfOk};
+ghost use Rattle.drf_bundle.specs.Quantities.{amount_of};
+ghost use Rattle.drf_role.specs.Text.{Text};
 ghost use Rattle.drf_tree.specs.Nodes.{holds_any};
 
 use drf_bundle::Quantities;
@@ -52,6 +54,16 @@ pub(crate) struct Sum {
 }
 
 impl Sum {
+    /// A copy of what they hold. It names no label where all amounts are 0, as those of a client are whose tasks have ended.
+    pub(crate) fn held(&self, alloc: Global) -> Result<Quantities, AllocError>
+        ensures { IfOk result (λ held. (label : Text) → amount_of held label ≡ amount_of self.now.held label) }
+    {
+        if !self.holds_any() {
+            return Ok(Quantities::empty(alloc));
+        }
+        self.held.copy()
+    }
+
     /// The sum of no clients.
     pub(crate) fn of_none(alloc: Global, weight: u64) -> Sum
         ensures { result ≡ record { held = []; count = 0; clients = 0; active = 0; weight = weight } }

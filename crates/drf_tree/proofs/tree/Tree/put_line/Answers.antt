@@ -1,9 +1,7 @@
-use Rattle.std.proofs.Common.{◌≡◌, ◌∙◌, true, IsTrue, ap, arith, option_copied, refl, subst, sym, List}
+use Rattle.std.proofs.Common.{◌≡◌, ◌∙◌, true, ap, arith, option_copied, refl, subst, sym, List}
 use Rattle.std.specs.List.{AllByRecursion}
 use Rattle.std.proofs.lemmas.Bool.{false≢true}
 use Rattle.std.proofs.lemmas.Result.{on_ok_weaker}
-use Rattle.drf_bundle.specs.Quantities.{is_in_order}
-use Rattle.drf_bundle.specs.declared.quantities.Entry.{Entry}
 use Rattle.drf_role.specs.Path.{Path}
 use Rattle.drf_rows.specs.declared.report.NodeLine.{NodeLine}
 use Rattle.drf_sorter.specs.laws.LineLaws.{each-with, has_line-new, has_line-others}
@@ -30,7 +28,7 @@ node_line-requires-clause-within c label =
     (live_place content tree c.requires.tree c.args.node c.in-Some.place.now at)
     (path_place content tree c.requires.tree c.args.node c.in-Some.place.now at) c.sum-sum.result.now c.sum-sum.ensures
     c.requires.sound label in
-    rw (c.in_ok-held.ensures, c.total.ensures) within
+    rw (c.in_ok-held.ensures label, c.total.ensures) within
 
 pub node_line-requires-clause-weighs : goal.node_line-requires-clause-weighs
 node_line-requires-clause-weighs c =
@@ -59,13 +57,13 @@ returns-clause-each c =
     let at = sym c.place.ensures ∙ ap option_copied c.in-Some.is in
     let content = plain_content c.args.ledger.now in
     let sum = c.sum-sum.result.now in
-    let ordered = subst (λ (es : List Entry). IsTrue (is_in_order es)) c.in_ok-held.ensures c.node_line.ensures.in_order in
+    let held = c.in_ok-held.held in
     let same = c.node_line.ensures.line
-    ∙ (λ i. line_with (c.total.ensures i) sum.weight (c.in_ok-path.ensures i) (c.in_ok-held.ensures i) sum.count) in
+    ∙ (λ i. line_with (c.total.ensures i) sum.weight (c.in_ok-path.ensures i) held sum.count) in
     let told : IsLineOf content c.node_line.result =
     subst (IsLineOf content) (sym same)
-    (line_is content c.args.self.now c.requires.tree c.args.node c.in-Some.place.now at sum c.sum-sum.ensures
-    (omega (arith, c.if-sum-eq0.false)) ordered) in
+    (line_is content c.args.self.now c.requires.tree c.args.node c.in-Some.place.now at sum held c.sum-sum.ensures
+    (omega (arith, c.if-sum-eq0.false)) c.node_line.ensures.in_order c.in_ok-held.ensures) in
     on_ok_weaker c.put.result
     (λ new. subst (AllByRecursion (IsLineOf content)) (sym new)
     (each-with (IsLineOf content) c.args.lines.now c.node_line.result c.requires.each told))

@@ -2,7 +2,7 @@
 use crate::streams::tell;
 use drf_core::Core;
 use drf_lines::{LineError, read_event, write_reply};
-use drf_rows::{Event, Limits, Reply, Report};
+use drf_rows::{Event, Limits, Reply, Report, Rows};
 use drf_sorter::{PlainSorter, Sorter};
 use std::alloc::{AllocError, Global};
 use std::rt::{Files, Runtime};
@@ -26,120 +26,89 @@ fn add_reply(alloc: Global, text: &mut Vec<u8>, reply: &Reply) -> Result<(), All
     text.extend_from_slice(line.as_slice())
 }
 
-fn text_of(alloc: Global, replies: &[Reply]) -> Result<Vec<u8>, AllocError> {
-    let mut text = Vec::new(alloc);
+fn add_replies(alloc: Global, text: &mut Vec<u8>, replies: &[Reply]) -> Result<(), AllocError> {
     for reply in replies {
-        add_reply(alloc, &mut text, reply)?;
+        add_reply(alloc, text, reply)?;
     }
-    Ok(text)
+    Ok(())
 }
 
-/// The lines of the replies to events, of which the core takes all in one call.
-pub fn answered<S: Sorter>(
+/// Adds the lines of the replies to events, of which the core takes all in one call.
+fn add_answers<S: Sorter>(
     alloc: Global,
     core: &mut Core<S>,
     events: &[Event],
-) -> Result<Vec<u8>, AllocError> {
+    text: &mut Vec<u8>,
+) -> Result<(), AllocError> {
     let mut replies = Vec::new(alloc);
     core.run(events, &mut replies)?;
-    text_of(alloc, &replies)
+    add_replies(alloc, text, &replies)
 }
 
-fn is_answered(
+fn is_answered<S: Sorter>(
     alloc: Global,
-    core: &mut Core<PlainSorter>,
+    core: &mut Core<S>,
     events: &[Event],
     output: &[u8],
 ) -> bool {
-    match answered(alloc, core, events) {
-        Ok(told) => told.as_slice() == output,
-        Err(_) => false,
-    }
+    let mut told = Vec::new(alloc);
+    let is_done = add_answers(alloc, core, events, &mut told).is_ok();
+    is_done && told.as_slice() == output
 }
 
 /// Whether the core answers the lines, each of which is an event, by those bytes.
-fn answers(alloc: Global, core: &mut Core<PlainSorter>, lines: &str, output: &[u8]) -> bool {
+fn answers<S: Sorter>(alloc: Global, core: &mut Core<S>, lines: &str, output: &[u8]) -> bool {
     match events_of(alloc, lines) {
         Ok(events) => is_answered(alloc, core, &events, output),
         Err(_) => false,
     }
 }
 
-fn is_exact<R: Files + AllocGlobal>(rt: &R, core: &mut Core<PlainSorter>) -> io::Result<bool> {
+fn is_exact<S: Sorter, R: Files + AllocGlobal>(rt: &R, core: &mut Core<S>) -> io::Result<bool> {
     let (lines, output) = (fs::read_to_string(rt, "day.in")?, fs::read(rt, "day.out")?);
     Ok(answers(rt.alloc(), core, lines.as_str(), &output))
 }
 
 /// How many rows of each kind there are, the clock, and how many events were accepted.
-#[derive(Clone, Copy)]
-struct Counts {
-    agents: usize,
-    frameworks: usize,
-    offers: usize,
-    tasks: usize,
-    filters: usize,
-    clock: u64,
-    events: u64,
-}
-
-/// Told of a copy of the rows.
-fn counts_of(core: &Core<PlainSorter>) -> Result<Counts, AllocError> {
-    let rows = core.rows()?.copy()?;
-    Ok(Counts {
-        agents: rows.agents.len(),
-        frameworks: rows.frameworks.len(),
-        offers: rows.offers.len(),
-        tasks: rows.tasks.len(),
-        filters: rows.filters.len(),
-        clock: rows.clock,
-        events: rows.events,
-    })
-}
-
-fn tell_rows(rt: &impl Print, counts: Counts) -> io::Result<()> {
-    let Counts {
-        agents,
-        frameworks,
-        offers,
-        tasks,
-        filters,
-        clock,
-        events,
-    } = counts;
+fn tell_rows(rt: &impl Print, rows: &Rows) -> io::Result<()> {
+    let (agents, frameworks) = (rows.agents.len(), rows.frameworks.len());
+    let (offers, tasks, filters) = (rows.offers.len(), rows.tasks.len(), rows.filters.len());
+    let (clock, events) = (rows.clock, rows.events);
     println!(rt;
         "rows: {agents} agents, {frameworks} frameworks, {offers} offers, {tasks} tasks, {filters} filters, clock {clock}, {events} accepted"
     )
 }
 
-/// How many nodes a report has, and how many offers the first of them was made.
-fn nodes_of(report: &Report) -> (usize, u64) {
-    let offers = match report.nodes.as_slice() {
-        [first, ..] => first.count,
-        [] => 0,
-    };
-    (report.nodes.len(), offers)
+/// Told of a copy of the rows.
+fn tell_copied_rows<S: Sorter, R: Runtime + AllocGlobal>(rt: &R, core: &Core<S>) -> io::Result<()> {
+    let rows = core.rows()?.copy()?;
+    tell_rows(rt, &rows)
 }
 
-fn copied_nodes_of(report: &Report) -> Result<(usize, u64), AllocError> {
-    let copy = report.copy()?;
-    Ok(nodes_of(&copy))
-}
-
-fn reported_nodes(core: &Core<PlainSorter>) -> Result<(usize, (usize, u64)), AllocError> {
-    let report = core.report()?;
-    let copied = copied_nodes_of(&report)?;
-    Ok((report.nodes.len(), copied))
-}
-
-fn tell_all<R: Runtime + AllocGlobal>(rt: &R, core: &mut Core<PlainSorter>) -> io::Result<()> {
-    let is_exact = is_exact(rt, core)?;
-    tell(rt, "a day at once", is_exact)?;
-    tell_rows(rt, counts_of(core)?)?;
-    let (nodes, (copied, offers)) = reported_nodes(core)?;
+/// How many nodes a report and its copy have, and how many offers the first of them was made.
+fn tell_report(rt: &impl Print, report: &Report, copy: &Report) -> io::Result<()> {
+    let offers = copy.nodes.as_slice().first().map_or(0, |node| node.count);
+    let (nodes, copied) = (report.nodes.len(), copy.nodes.len());
     println!(rt; "report: {nodes} nodes, {copied} in a copy, {offers} offers to the first")
 }
 
+fn tell_copied_report<S: Sorter, R: Runtime + AllocGlobal>(
+    rt: &R,
+    core: &Core<S>,
+) -> io::Result<()> {
+    let report = core.report()?;
+    let copy = report.copy()?;
+    tell_report(rt, &report, &copy)
+}
+
+fn tell_all<S: Sorter, R: Runtime + AllocGlobal>(rt: &R, core: &mut Core<S>) -> io::Result<()> {
+    let is_exact = is_exact(rt, core)?;
+    tell(rt, "a day at once", is_exact)?;
+    tell_copied_rows(rt, core)?;
+    tell_copied_report(rt, core)
+}
+
 pub fn run_all<R: Runtime + AllocGlobal>(rt: &R) -> io::Result<()> {
-    let mut core = Core::open(rt.alloc(), Limits::full())?;
+    let mut core = Core::<PlainSorter>::open(rt.alloc(), Limits::full())?;
     tell_all(rt, &mut core)
 }

@@ -2,15 +2,20 @@
 //! and how many keys they make, as `2:7`. A client has a node for each beginning of its path, as `a`, `a/.` and `a/./f1`. A node that
 //! comes makes a key, and at an agent's turn so does each node that stands and is marked: after the total changed those whose
 //! clients hold something, else those on the way to clients that were offered something, gave it back or left.
-use crate::commands::text_of;
 use crate::events::events_of;
 use drf_core::Core;
 use drf_rows::{Event, Limits};
 use drf_sorter::Sorter;
 use drf_tree::TreeSorter;
 use std::alloc::{AllocError, Global};
-use std::rt::Runtime;
+use std::rt::{Files, Runtime};
 use std::{fs, io};
+
+/// The lines of an example.
+fn lines_of<R: Files + AllocGlobal>(rt: &R, name: &str) -> io::Result<String> {
+    let path = format!(in rt.alloc(); "{name}.in")?;
+    fs::read_to_string(rt, path.as_str())
+}
 
 /// How many keys are made while the core takes the events.
 fn keys_for<S: Sorter>(
@@ -71,7 +76,7 @@ fn tell_events<S: Sorter, R: Runtime + AllocGlobal>(
 
 fn tell_example<S: Sorter, R: Runtime + AllocGlobal>(rt: &R, row: &str) -> io::Result<()> {
     let (name, parts) = row.split_once(' ').unwrap_or((row, ""));
-    let lines = text_of(rt, name, "in")?;
+    let lines = lines_of(rt, name)?;
     match events_of(rt.alloc(), lines.as_str()) {
         Ok(events) => tell_events::<S, R>(rt, &events, parts),
         Err(_) => println!(rt; "{row}: OTHER"),

@@ -1,12 +1,10 @@
 //! Runs the worked examples of `data/`, and one of them over streams that are slow or fail, and tells of each whether
-//! what was written is, byte for byte, what it must be. So does it of events that are read and written again.
+//! what was written is, byte for byte, what it must be.
 #![tactic(auto)]
 
 mod commands;
-mod copies;
 mod events;
 mod keys;
-mod lines;
 mod rows;
 mod streams;
 
@@ -16,8 +14,6 @@ fn main(rt: HostRuntime) -> io::Result<()> {
     rows::run_all(&rt)?;
     streams::run_all(&rt)?;
     events::run_all(&rt)?;
-    lines::run_all(&rt)?;
     keys::run_all(&rt)?;
-    copies::run_all(&rt)?;
     commands::run_all(&rt)
 }

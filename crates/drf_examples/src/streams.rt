@@ -104,19 +104,19 @@ pub const NO_BOUNDS: Bounds = Bounds {
     writes: usize::MAX,
 };
 
-/// How a run ended, and what it wrote.
-#[derive(Drop)]
-struct Ended {
+/// Whether a run within those bounds ends so, and has written that.
+fn is_run(
+    alloc: Global,
+    input: &[u8],
+    bounds: Bounds,
     fault: Option<RunFault>,
-    taken: Vec<u8>,
-}
-
-fn run_within(alloc: Global, input: &[u8], bounds: Bounds) -> Ended {
+    output: &[u8],
+) -> bool {
     let mut reader = Device::new(Slow::new(input, bounds));
     let mut writer = Device::new(Full::new(alloc, bounds));
-    let fault = run(alloc, Limits::full(), &mut reader, &mut writer, false).err();
+    let ended = run(alloc, Limits::full(), &mut reader, &mut writer, false).err();
     let taken = writer.into_inner().into_taken();
-    Ended { fault, taken }
+    ended == fault && taken.as_slice() == output
 }
 
 /// The first lines of a text, `count` of them.
@@ -142,8 +142,7 @@ fn pieces_are_exact(alloc: Global, input: &[u8], output: &[u8]) -> bool {
             bytes: *bytes,
             ..NO_BOUNDS
         };
-        let ended = run_within(alloc, input, bounds);
-        ended.fault.is_none() && ended.taken.as_slice() == output
+        is_run(alloc, input, bounds, None, output)
     })
 }
 
@@ -152,8 +151,8 @@ fn failing_reads_are_exact(alloc: Global, input: &[u8], output: &[u8]) -> bool {
     let lines = input.iter().filter(|byte| **byte == b'\n').count();
     (0..=lines).all(|reads| {
         let bounds = Bounds { reads, ..NO_BOUNDS };
-        let ended = run_within(alloc, input, bounds);
-        ended.fault == Some(RunFault::Read) && ended.taken.as_slice() == first_lines(output, reads)
+        let answered = first_lines(output, reads);
+        is_run(alloc, input, bounds, Some(RunFault::Read), answered)
     })
 }
 
@@ -165,9 +164,8 @@ fn failing_writes_are_exact(alloc: Global, input: &[u8], output: &[u8]) -> bool 
             writes,
             ..NO_BOUNDS
         };
-        let ended = run_within(alloc, input, bounds);
-        ended.fault == Some(RunFault::Write)
-            && ended.taken.as_slice() == first_lines(output, writes.div_ceil(2))
+        let answered = first_lines(output, writes.div_ceil(2));
+        is_run(alloc, input, bounds, Some(RunFault::Write), answered)
     })
 }
 

@@ -97,8 +97,8 @@ fn use_book(
     append_match(told, "passes of others", book, others)
 }
 
-/// Tells what entries are left, if all went without a fault.
-pub fn append_left(
+// Tells what entries are left, if all went without a fault.
+fn append_left(
     alloc: Global,
     told: &mut String,
     used: Result<()>,

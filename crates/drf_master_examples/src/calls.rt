@@ -1,102 +1,59 @@
 //! How the rows use a master: two threads call, each by a pass of its own.
-use crate::lines::{call, call_all};
-use crate::visiting::append_visit;
+use crate::lines::{CYCLE, call_all};
 use anyhow::{Context, Result};
-use drf_board::{Naming, Viewer};
-use drf_master::{Answer, Master, Pass};
-use drf_text::write_quantities;
+use drf_board::Naming;
+use drf_lines::read_event;
+use drf_master::{Master, Pass};
 use std::alloc::Global;
 use std::fmt::Write;
 use std::mem::swap;
 use std::sync::Wait;
 use std::thread::{Threads, join};
 
-/// A master of the key with two passes, and a viewer if it is watched.
+/// A master of the key with two passes.
 #[derive(Clone, Copy)]
 pub struct Row {
     pub key: u64,
-    pub is_watched: bool,
-    /// Whether a pass of another master calls it.
+    /// Whether a pass of another key, which was kept, calls it too.
     pub is_visited: bool,
-    /// How many of its own passes close it, and whether these are its last.
+    /// How many of its own passes close it.
     pub own: usize,
-    pub is_turned: bool,
 }
 
-fn append_read<K: Naming>(
-    alloc: Global,
-    told: &mut String,
-    viewer: &mut Viewer<K>,
-    answer: &Answer<K>,
-) -> Result<()> {
-    viewer.learn(&answer.told);
-    let sheet = viewer.read().ok().context("no sheet")?;
-    let total = write_quantities(alloc, &sheet.report.total)?;
-    Ok(write!(told, " the viewer reads {total};")?)
-}
-
-/// The first viewer, if there is one, learns what the answer tells, and reads.
-pub fn append_first_read<K: Naming>(
-    alloc: Global,
-    told: &mut String,
-    viewers: &mut [Viewer<K>],
-    answer: &Answer<K>,
-) -> Result<()> {
-    match viewers.first_mut() {
-        Some(viewer) => append_read(alloc, told, viewer, answer),
-        None => Ok(()),
-    }
-}
-
-// Calls. The viewer learns what the answer tells, and reads.
-fn call_and_read<K: Naming, R: Wait + Drop, W: Wait>(
-    rt: &W,
-    alloc: Global,
-    told: &mut String,
-    master: &Master<K, R>,
-    passes: &mut [Pass],
-    viewers: &mut [Viewer<K>],
-    line: &str,
-) -> Result<()> {
-    let answer = call(rt, alloc, master, passes, line)?;
-    append_first_read(alloc, told, viewers, &answer)
-}
-
-fn call_and_read_all<K: Naming, R: Wait + Drop, W: Wait>(
-    rt: &W,
-    alloc: Global,
-    told: &mut String,
-    master: &Master<K, R>,
-    passes: &mut [Pass],
-    viewers: &mut [Viewer<K>],
-    lines: &[&str],
-) -> Result<()> {
-    for line in lines {
-        call_and_read(rt, alloc, told, master, passes, viewers, line)?;
-    }
-    Ok(())
-}
-
-// Each of two passes calls on a thread of its own. One thread has the viewer.
+// Each of two passes calls on a thread of its own.
 fn call_side_by_side<K: Naming + Send + Sync, W: Threads + Wait + Sync>(
     rt: &W,
     alloc: Global,
-    told: &mut String,
     front: &[&str],
     back: &[&str],
     master: &Master<K, &W>,
     passes: &mut [Pass],
-    viewers: &mut [Viewer<K>],
 ) -> Result<()> {
     let half = passes.len() / 2;
     let (first, second) = passes.split_at_mut(half);
-    let (read, called) = join(
+    let (one, other) = join(
         rt,
-        || call_and_read_all(rt, alloc, told, master, first, viewers, front),
+        || call_all(rt, alloc, master, first, front),
         || call_all(rt, alloc, master, second, back),
     );
-    called?;
-    read
+    one?;
+    other
+}
+
+fn append_stranger<K: Naming, R: Wait + Drop, W: Wait>(
+    rt: &W,
+    alloc: Global,
+    told: &mut String,
+    master: &Master<K, R>,
+    passes: &mut [Pass],
+) -> Result<()> {
+    let event = read_event(alloc, CYCLE.as_bytes())?;
+    let pass = passes.first_mut().context("no pass")?;
+    let fault = master
+        .call(rt, pass, event)
+        .err()
+        .context("a stranger called")?;
+    Ok(write!(told, " a pass of key 2 is told {fault:?};")?)
 }
 
 fn add_places(places: &mut Vec<u64>, pass: &Pass) -> Result<()> {
@@ -116,11 +73,8 @@ fn append_places(alloc: Global, told: &mut String, passes: &[Pass]) -> Result<()
 }
 
 // Leaves the passes that are to close, puts what was kept behind them, and keeps the rest.
-fn choose(row: Row, passes: &mut Vec<Pass>, kept: &mut Vec<Pass>) -> Result<()> {
-    if row.is_turned {
-        passes.reverse();
-    }
-    let mut rest = passes.split_off(passes.len().min(row.own))?;
+fn choose(own: usize, passes: &mut Vec<Pass>, kept: &mut Vec<Pass>) -> Result<()> {
+    let mut rest = passes.split_off(passes.len().min(own))?;
     swap(&mut rest, kept);
     Ok(passes.append(&mut rest)?)
 }
@@ -136,12 +90,12 @@ pub fn use_master<K: Naming + Send + Sync, W: Threads + Wait + Sync>(
     kept: &mut Vec<Pass>,
     master: &Master<K, &W>,
     passes: &mut Vec<Pass>,
-    viewers: &mut [Viewer<K>],
 ) -> Result<()> {
-    call_side_by_side(rt, alloc, told, front, back, master, passes, viewers)?;
+    call_side_by_side(rt, alloc, front, back, master, passes)?;
     if row.is_visited {
-        append_visit(rt, alloc, told, master)?;
+        append_stranger(rt, alloc, told, master, kept)?;
+        kept.truncate(0);
     }
     append_places(alloc, told, passes)?;
-    choose(row, passes, kept)
+    choose(row.own, passes, kept)
 }

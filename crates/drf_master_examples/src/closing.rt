@@ -8,104 +8,24 @@ use std::alloc::Global;
 use std::sync::Wait;
 use std::thread::Threads;
 
+/// Both of its passes close a master, which one of another key called too.
 const BOTH: Row = Row {
     key: 1,
-    is_watched: false,
     is_visited: true,
     own: 2,
-    is_turned: false,
 };
 
 const FIRST: Row = Row {
     key: 1,
-    is_watched: false,
     is_visited: false,
     own: 1,
-    is_turned: false,
 };
 
-// Both passes call. They close the master as the row says.
-fn append_row<W: Threads + Wait + Sync>(
-    rt: &W,
-    alloc: Global,
-    told: &mut String,
-    name: &str,
-    row: Row,
-) -> Result<()> {
-    let mut kept = Vec::new(alloc);
-    told.push_str(name)?;
-    let (front, back) = ([SMALL_AGENT], [FRAMEWORK]);
-    run(rt, alloc, told, row, &front, &back, &mut kept)
-}
-
-/// Both passes call, and both close, or either alone.
-pub fn append_own<W: Threads + Wait + Sync>(
-    rt: &W,
-    alloc: Global,
-    told: &mut String,
-) -> Result<()> {
-    append_row(rt, alloc, told, "both passes call and close:", BOTH)?;
-    append_row(
-        rt,
-        alloc,
-        told,
-        "both passes call, the first closes:",
-        FIRST,
-    )?;
-    let second = Row {
-        is_turned: true,
-        ..FIRST
-    };
-    append_row(
-        rt,
-        alloc,
-        told,
-        "both passes call, the second closes:",
-        second,
-    )
-}
-
-/// The same with a viewer.
-pub fn append_watched<W: Threads + Wait + Sync>(
-    rt: &W,
-    alloc: Global,
-    told: &mut String,
-) -> Result<()> {
-    let both = Row {
-        is_watched: true,
-        ..BOTH
-    };
-    let first = Row {
-        is_watched: true,
-        ..FIRST
-    };
-    append_row(
-        rt,
-        alloc,
-        told,
-        "both passes call, with a viewer, and close:",
-        both,
-    )?;
-    append_row(
-        rt,
-        alloc,
-        told,
-        "both passes call, with a viewer, the first closes:",
-        first,
-    )
-}
-
-/// Of two passes the first alone calls, and closes.
-pub fn append_alone<W: Threads + Wait + Sync>(
-    rt: &W,
-    alloc: Global,
-    told: &mut String,
-) -> Result<()> {
-    let mut kept = Vec::new(alloc);
-    told.push_str("the first pass calls twice and closes:")?;
-    let front = [AGENT, FRAMEWORK];
-    run(rt, alloc, told, FIRST, &front, &[], &mut kept)
-}
+const NONE: Row = Row {
+    key: 1,
+    is_visited: false,
+    own: 0,
+};
 
 /// Keeps the passes of a master of the key, the first of which made the calls. That master is gone.
 pub fn keep_passes<W: Threads + Wait + Sync>(
@@ -115,40 +35,58 @@ pub fn keep_passes<W: Threads + Wait + Sync>(
     lines: &[&str],
     kept: &mut Vec<Pass>,
 ) -> Result<()> {
-    let row = Row {
-        key,
-        own: 0,
-        ..FIRST
-    };
+    let row = Row { key, ..NONE };
     let mut told = String::new(alloc);
     run(rt, alloc, &mut told, row, lines, &[], kept)
 }
 
-/// The first pass of a master closes it together with one of another key.
-pub fn append_other_key<W: Threads + Wait + Sync>(
+// The first pass closes.
+fn append_first<W: Threads + Wait + Sync>(
     rt: &W,
     alloc: Global,
     told: &mut String,
+    name: &str,
+    front: &[&str],
+    back: &[&str],
 ) -> Result<()> {
     let mut kept = Vec::new(alloc);
-    keep_passes(rt, alloc, 2, &[], &mut kept)?;
-    kept.truncate(1);
-    told.push_str("both passes call, the first and one of key 2 close:")?;
-    let (front, back) = ([AGENT], [FRAMEWORK]);
-    run(rt, alloc, told, FIRST, &front, &back, &mut kept)
+    told.push_str(name)?;
+    run(rt, alloc, told, FIRST, front, back, &mut kept)
 }
 
-/// The passes of another master of the same key close, by which another agent was added.
-pub fn append_other_calls<W: Threads + Wait + Sync>(
+// A pass of another master of the key is kept, which made one call there.
+fn append_other<W: Threads + Wait + Sync>(
+    rt: &W,
+    alloc: Global,
+    told: &mut String,
+    name: &str,
+    row: Row,
+    key: u64,
+    front: &[&str],
+    back: &[&str],
+) -> Result<()> {
+    let mut kept = Vec::new(alloc);
+    keep_passes(rt, alloc, key, &[OTHER_AGENT], &mut kept)?;
+    kept.truncate(1);
+    told.push_str(name)?;
+    run(rt, alloc, told, row, front, back, &mut kept)
+}
+
+/// Both passes close, or the first alone, or a pass of another master with it or in its place.
+pub fn append_all<W: Threads + Wait + Sync>(
     rt: &W,
     alloc: Global,
     told: &mut String,
 ) -> Result<()> {
-    let mut kept = Vec::new(alloc);
-    let lines = [OTHER_AGENT];
-    keep_passes(rt, alloc, 1, &lines, &mut kept)?;
-    told.push_str("the first pass calls, those of another master of key 1 close:")?;
-    let row = Row { own: 0, ..FIRST };
-    let front = [AGENT];
-    run(rt, alloc, told, row, &front, &[], &mut kept)
+    let (agent, small, framework, both) = ([AGENT], [SMALL_AGENT], [FRAMEWORK], [AGENT, FRAMEWORK]);
+    let alone = "the first pass calls twice and closes:";
+    append_first(rt, alloc, told, alone, &both, &[])?;
+    let visited = "both passes call, one of key 2 too, and both close:";
+    append_other(rt, alloc, told, visited, BOTH, 2, &small, &framework)?;
+    let missing = "both passes call, the first closes:";
+    append_first(rt, alloc, told, missing, &small, &framework)?;
+    let stranger = "both passes call, the first and one of key 2 close:";
+    append_other(rt, alloc, told, stranger, FIRST, 2, &agent, &framework)?;
+    let mismatch = "the first pass calls, those of another master of key 1 close:";
+    append_other(rt, alloc, told, mismatch, NONE, 1, &agent, &[])
 }

@@ -1,9 +1,10 @@
-//! Calls by the lines of their events, and replies as text.
+//! Calls by the lines of their events, and journals as text.
+use crate::server::{append_reply, call_once};
 use anyhow::{Context, Result};
 use drf_board::{Entry, Naming};
-use drf_lines::{read_event, write_event, write_reply};
-use drf_master::{Answer, Master, Pass};
-use drf_rows::{Event, Reply};
+use drf_lines::write_event;
+use drf_master::{Master, Pass};
+use drf_rows::Reply;
 use std::alloc::Global;
 use std::fmt::Write;
 use std::str;
@@ -23,30 +24,6 @@ pub const LIMIT: &str = r#"{"event":"set_limit","role":"a","limit":"cpus:1"}"#;
 
 pub const NO_LIMIT: &str = r#"{"event":"set_limit","role":"a","limit":""}"#;
 
-/// Calls by the first of the passes.
-pub fn call<K: Naming, R: Wait + Drop, W: Wait>(
-    rt: &W,
-    alloc: Global,
-    master: &Master<K, R>,
-    passes: &mut [Pass],
-    line: &str,
-) -> Result<Answer<K>> {
-    let event = read_event(alloc, line.as_bytes())?;
-    let pass = passes.first_mut().context("no pass")?;
-    master.call(rt, pass, event).ok().context("not called")
-}
-
-fn call_once<K: Naming, R: Wait + Drop, W: Wait>(
-    rt: &W,
-    alloc: Global,
-    master: &Master<K, R>,
-    passes: &mut [Pass],
-    line: &str,
-) -> Result<()> {
-    call(rt, alloc, master, passes, line)?;
-    Ok(())
-}
-
 /// Makes calls in order.
 pub fn call_all<K: Naming, R: Wait + Drop, W: Wait>(
     rt: &W,
@@ -59,22 +36,6 @@ pub fn call_all<K: Naming, R: Wait + Drop, W: Wait>(
         call_once(rt, alloc, master, passes, line)?;
     }
     Ok(())
-}
-
-/// Adds a script: the events of lines.
-pub fn add_script(alloc: Global, scripts: &mut Vec<Vec<Event>>, lines: &[&str]) -> Result<()> {
-    let mut script = Vec::with_capacity(alloc, lines.len())?;
-    for line in lines {
-        script.push(read_event(alloc, line.as_bytes())?)?;
-    }
-    Ok(scripts.push(script)?)
-}
-
-/// Adds the line of a reply, without its line feed.
-pub fn append_reply(alloc: Global, told: &mut String, reply: &Reply) -> Result<()> {
-    let line = write_reply(alloc, reply)?;
-    let text = str::from_utf8(&line).ok().context("no text")?;
-    Ok(write!(told, " {}", text.trim_end())?)
 }
 
 /// Adds the place of a call and the line of its reply.

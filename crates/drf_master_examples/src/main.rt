@@ -1,15 +1,15 @@
-//! Worked examples of the master: threads that call one, each by a pass of its own; passes that do not fit; a book and a desk
-//! without a master; scripts that run side by side. Each line of the output tells how one went, whichever thread was first.
+//! Worked examples of the master: `server`, a server in short, and then threads that call one, each by a pass of its own; passes that
+//! do not fit; a book without a master; scripts that run side by side. Each line of the output tells how one went, whichever
+//! thread was first.
 #![tactic(auto)]
 
 mod books;
 mod calls;
 mod closing;
-mod desks;
 mod driving;
 mod lines;
 mod masters;
-mod visiting;
+mod server;
 
 use anyhow::Result;
 use std::alloc::Global;
@@ -18,18 +18,11 @@ use std::sync::Wait;
 use std::thread::Threads;
 
 fn run<W: Threads + Wait + Sync>(rt: &W, alloc: Global, told: &mut String) -> Result<()> {
-    closing::append_alone(rt, alloc, told)?;
-    closing::append_own(rt, alloc, told)?;
-    closing::append_watched(rt, alloc, told)?;
-    closing::append_other_key(rt, alloc, told)?;
-    closing::append_other_calls(rt, alloc, told)?;
+    told.push_str("two viewers, an agent twice:")?;
+    server::serve(rt, alloc, told)?;
+    closing::append_all(rt, alloc, told)?;
     books::append_alone(rt, alloc, told)?;
-    desks::append_alone(rt, alloc, told)?;
-    driving::append_stranger(rt, alloc, told)?;
-    driving::append_alone(rt, alloc, told)?;
-    driving::append_stopped(rt, alloc, told)?;
-    driving::append_meeting(rt, alloc, told, 2)?;
-    driving::append_meeting(rt, alloc, told, 64)
+    driving::append_all(rt, alloc, told)
 }
 
 fn main(rt: HostRuntime) -> io::Result<()> {

@@ -1,8 +1,8 @@
 //! A pool of one kind of amounts: its total, then calls, each after `; `.
 use crate::amounts::{Amount, tell, told};
 use crate::answer::Answer;
-use crate::subject::{Subject, halves, read_all};
-use drf_amount::Pool;
+use crate::subject::{Subject, read_all};
+use drf_amount::{Pool, PoolFault};
 
 /// What is free of the total.
 fn state<A: Amount>(answer: &mut Answer, pool: &Pool<A>) {
@@ -11,97 +11,90 @@ fn state<A: Amount>(answer: &mut Answer, pool: &Pool<A>) {
     tell(answer, pool.total());
 }
 
-fn take<A: Amount>(answer: &mut Answer, pool: &mut Pool<A>, text: &str) -> Option<()> {
-    let wanted = A::from_text(answer, text)?;
-    let number = answer.found(pool.take(&wanted))?;
-    answer.say("part ");
-    answer.show(&number);
-    Some(())
+fn done(answer: &mut Answer, called: Result<(), PoolFault>) {
+    if answer.found(called).is_some() {
+        answer.say("done");
+    }
 }
 
-fn shrink<A: Amount>(answer: &mut Answer, pool: &mut Pool<A>, text: &str) -> Option<()> {
-    let (number, smaller) = <(u64, A)>::from_text(answer, text)?;
-    answer.found(pool.shrink(number, &smaller))?;
-    answer.say("done");
-    Some(())
+fn taken(answer: &mut Answer, called: Result<u64, PoolFault>) {
+    if let Some(number) = answer.found(called) {
+        answer.say("part ");
+        answer.show(&number);
+    }
 }
 
-fn replace_free<A: Amount>(answer: &mut Answer, pool: &mut Pool<A>, text: &str) -> Option<()> {
-    let (old, new) = <(A, A)>::from_text(answer, text)?;
-    answer.found(pool.replace_free(&old, &new))?;
-    answer.say("done");
-    Some(())
-}
-
-fn split_into<A: Amount>(answer: &mut Answer, pool: &mut Pool<A>, number: u64, parts: &[A]) {
-    if let Some(numbers) = answer.found(pool.split(number, parts)) {
+fn split(answer: &mut Answer, called: Result<Vec<u64>, PoolFault>) {
+    if let Some(numbers) = answer.found(called) {
         answer.say("parts ");
         answer.show_parts(&numbers);
     }
 }
 
-/// The number of a part, and the amounts that it is to be split into.
-fn split<A: Amount>(answer: &mut Answer, pool: &mut Pool<A>, text: &str) -> Option<()> {
-    let (number, amounts) = text.split_once(' ').unwrap_or((text, ""));
-    let number = u64::from_text(answer, number)?;
-    let mut parts = Vec::new(answer.alloc());
-    if !amounts.is_empty() {
-        read_all(answer, &mut parts, amounts, ' ')?;
-    }
-    split_into(answer, pool, number, &parts);
-    Some(())
-}
-
-fn part<A: Amount>(answer: &mut Answer, pool: &Pool<A>, number: u64) -> bool {
-    let part = pool.part(number);
-    match part {
+fn part<A: Amount>(answer: &mut Answer, pool: &Pool<A>, number: u64) {
+    match pool.part(number) {
         Some(part) => tell(answer, part),
         None => answer.say("no part"),
     }
-    part.is_some()
 }
 
-/// A part of a pool, and what is free beside it.
-fn beside<A: Amount>(answer: &mut Answer, pool: &Pool<A>, number: u64) {
-    if part(answer, pool, number) {
-        answer.say(" beside ");
-        state(answer, pool);
-    }
-}
-
+/// A part of a copy, and what is free beside it there.
 fn copied<A: Amount>(answer: &mut Answer, pool: &Pool<A>, number: u64) {
     if let Some(copy) = answer.found(pool.copy()) {
-        beside(answer, &copy, number);
+        part(answer, &copy, number);
+        if copy.part(number).is_some() {
+            answer.say(" beside ");
+            state(answer, &copy);
+        }
     }
 }
 
-/// A call that speaks of a part alone.
-fn call_of_part<A: Amount>(
+fn call<A: Amount>(
     answer: &mut Answer,
     pool: &mut Pool<A>,
     call: &str,
-    number: &str,
-) -> Option<()> {
-    let number = u64::from_text(answer, number)?;
-    match call {
-        "give_back" => told(answer, pool.give_back(number)),
-        "copy" => copied(answer, pool, number),
-        "part" => {
-            part(answer, pool, number);
-        }
+    number: u64,
+    amounts: &[A],
+) {
+    match (call, amounts) {
+        ("take", [wanted]) => taken(answer, pool.take(wanted)),
+        ("shrink", [smaller]) => done(answer, pool.shrink(number, smaller)),
+        ("replace_free", [old, new]) => done(answer, pool.replace_free(old, new)),
+        ("split", parts) => split(answer, pool.split(number, parts)),
+        ("give_back", []) => told(answer, pool.give_back(number)),
+        ("part", []) => part(answer, pool, number),
+        ("copy", []) => copied(answer, pool, number),
         _ => answer.say("no call"),
     }
-    Some(())
 }
 
-fn call<A: Amount>(answer: &mut Answer, pool: &mut Pool<A>, text: &str) -> Option<()> {
-    let (call, text) = halves(answer, text, ' ')?;
+/// The number of a part, and amounts behind it.
+fn read_part<A: Amount>(answer: &mut Answer, amounts: &mut Vec<A>, text: &str) -> Option<u64> {
+    if let Some((number, text)) = text.split_once(' ') {
+        read_all(answer, amounts, text, ' ')?;
+        return u64::from_text(answer, number);
+    }
+    u64::from_text(answer, text)
+}
+
+/// What a call speaks of: amounts, and most calls of a part too.
+fn read_call<A: Amount>(
+    answer: &mut Answer,
+    amounts: &mut Vec<A>,
+    call: &str,
+    text: &str,
+) -> Option<u64> {
     match call {
-        "take" => take(answer, pool, text),
-        "shrink" => shrink(answer, pool, text),
-        "replace_free" => replace_free(answer, pool, text),
-        "split" => split(answer, pool, text),
-        _ => call_of_part(answer, pool, call, text),
+        "take" | "replace_free" => read_all(answer, amounts, text, ' ').map(|_| 0),
+        _ => read_part(answer, amounts, text),
+    }
+}
+
+fn read_and_call<A: Amount>(answer: &mut Answer, pool: &mut Pool<A>, text: &str) {
+    let mut amounts = Vec::new(answer.alloc());
+    let (name, text) = text.split_once(' ').unwrap_or((text, ""));
+    if let Some(number) = read_call(answer, &mut amounts, name, text) {
+        call(answer, pool, name, number, &amounts);
     }
 }
 
@@ -109,7 +102,7 @@ fn calls<A: Amount>(answer: &mut Answer, pool: &mut Pool<A>, texts: &str) {
     state(answer, pool);
     for text in texts.split("; ") {
         answer.say("; ");
-        let _ = call(answer, pool, text);
+        read_and_call(answer, pool, text);
         answer.say(": ");
         state(answer, pool);
     }

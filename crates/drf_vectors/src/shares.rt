@@ -1,12 +1,12 @@
 //! Shares, each written `part/whole/weight`.
 use crate::answer::Answer;
-use crate::subject::{Subject, halves, read_both};
+use crate::subject::{Subject, read_both};
 use drf_sorter::Share;
 use std::cmp::Ordering;
 
 impl Subject for Share {
     fn from_text(answer: &mut Answer, text: &str) -> Option<Share> {
-        let (part, text) = halves(answer, text, '/')?;
+        let (part, text) = text.split_once('/').unwrap_or((text, ""));
         let part = u64::from_text(answer, part)?;
         let (whole, weight) = read_both::<u64, u64>(answer, text, '/')?;
         if part > whole || whole < 1 || whole >= 1 << 52 {

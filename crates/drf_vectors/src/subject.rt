@@ -16,13 +16,11 @@ pub fn asked<S: Subject, F: FnOnce(&mut Answer, &S)>(answer: &mut Answer, text: 
     }
 }
 
-/// The two texts before and after the first `mark`.
-pub fn halves<'a>(answer: &mut Answer, text: &'a str, mark: char) -> Option<(&'a str, &'a str)> {
-    let found = text.split_once(mark);
-    if found.is_none() {
-        answer.say("half a question");
-    }
-    found
+/// What both texts say.
+fn both<A: Subject, B: Subject>(answer: &mut Answer, one: &str, other: &str) -> Option<(A, B)> {
+    let one = A::from_text(answer, one)?;
+    let other = B::from_text(answer, other)?;
+    Some((one, other))
 }
 
 /// What the texts before and after the first `mark` say.
@@ -31,10 +29,11 @@ pub fn read_both<A: Subject, B: Subject>(
     text: &str,
     mark: char,
 ) -> Option<(A, B)> {
-    let (one, other) = halves(answer, text, mark)?;
-    let one = A::from_text(answer, one)?;
-    let other = B::from_text(answer, other)?;
-    Some((one, other))
+    let Some((one, other)) = text.split_once(mark) else {
+        answer.say("half a question");
+        return None;
+    };
+    both(answer, one, other)
 }
 
 /// What each of the texts between marks says.
@@ -94,30 +93,17 @@ impl Subject for ClientPath {
     }
 }
 
-/// The node that the first parts of a client of the role name, as many as the role has.
-fn node_of(answer: &mut Answer, role: &Role, framework: &Name) -> Option<NodePath> {
-    let client = answer.found(ClientPath::new(answer.alloc(), role, framework))?;
-    let len = role.len().min(client.len());
-    answer.found(client.node(len))
-}
-
-fn role_node(answer: &mut Answer, text: &str) -> Option<NodePath> {
-    let role = Role::from_text(answer, text)?;
-    let framework = Name::from_text(answer, ".")?;
-    node_of(answer, &role, &framework)
-}
-
-fn client_node(answer: &mut Answer, text: &str) -> Option<NodePath> {
-    let client = ClientPath::from_text(answer, text)?;
-    answer.found(client.node(client.len()))
-}
-
-/// The node of a client, or of a role.
+/// The node of a client, or of a role, which any client of it has.
 impl Subject for NodePath {
     fn from_text(answer: &mut Answer, text: &str) -> Option<NodePath> {
-        if text.contains(':') {
-            return client_node(answer, text);
-        }
-        role_node(answer, text)
+        let (role, framework) = text.split_once(':').unwrap_or((text, "."));
+        let (role, framework) = both::<Role, Name>(answer, role, framework)?;
+        let client = ClientPath::from_parts(role, framework);
+        let len = if text.contains(':') {
+            client.len()
+        } else {
+            client.role().len().min(client.len())
+        };
+        answer.found(client.node(len))
     }
 }

@@ -1,11 +1,12 @@
 //! Bundles, quantities and weights as texts, and what is made of a bundle.
-use crate::amounts::{Amount, tell, told};
+use crate::amounts::{Amount, told};
 use crate::answer::Answer;
 use crate::subject::Subject;
 use drf_amount::Algebra;
-use drf_bundle::{Bundle, Quantities};
+use drf_bundle::{Bundle, Quantities, Value};
 use drf_role::{Label, Role};
 use drf_text::{read_bundle, read_quantities, read_weight, write_bundle, write_quantities};
+use std::alloc::{AllocError, Global};
 
 impl Subject for Bundle {
     fn from_text(answer: &mut Answer, text: &str) -> Option<Bundle> {
@@ -35,11 +36,6 @@ pub fn quantities(answer: &mut Answer, quantities: &Quantities) {
     if let Some(text) = answer.found(write_quantities(answer.alloc(), quantities)) {
         answer.say(text.as_str());
     }
-}
-
-/// The written form of a bundle.
-pub fn bundle(answer: &mut Answer, bundle: &Bundle) {
-    tell(answer, bundle);
 }
 
 /// A weight in thousandths.
@@ -75,21 +71,17 @@ pub fn moved(answer: &mut Answer, of: &(Role, Bundle)) {
 }
 
 /// What a bundle has under a name and a role, as a bundle of its own.
-fn value_at(answer: &mut Answer, label: &Label, role: &Role, bundle: &Bundle) -> Option<()> {
-    let Some(value) = bundle.get(label, role) else {
-        answer.say("nothing there");
-        return None;
-    };
-    let copy = answer.found(value.copy())?;
-    told(answer, Bundle::one(answer.alloc(), label, role, copy));
-    Some(())
+fn one_of(alloc: Global, label: &Label, role: &Role, value: &Value) -> Result<Bundle, AllocError> {
+    Bundle::one(alloc, label, role, value.copy()?)
 }
 
 /// What a bundle has under a name and a role, and the sums of its scalars.
 pub fn found(answer: &mut Answer, of: &(Label, (Role, Bundle))) {
     let (label, (role, bundle)) = of;
-    if value_at(answer, label, role, bundle).is_some() {
-        answer.say("; sums ");
-        quantities(answer, bundle.quantities());
+    match bundle.get(label, role) {
+        Some(value) => told(answer, one_of(answer.alloc(), label, role, value)),
+        None => return answer.say("nothing there"),
     }
+    answer.say("; sums ");
+    quantities(answer, bundle.quantities());
 }

@@ -1,7 +1,5 @@
 //! A server in short. `serve` opens a master, `call` and `append_sheets` are what its threads do, two of them side by side, and `close`
 //! compares its journal with the receipts. What owns a master or its book does nothing else: its drop is long, and each branch beside it would prove it again.
-#![tactic(auto)]
-
 ghost use Rattle.std.specs.Prelude.{◌≡◌};
 ghost use Rattle.drf_rows.specs.LimitNumbers.{ceilings};
 
@@ -13,9 +11,9 @@ use drf_rows::{Limits, Reply};
 use drf_text::write_quantities;
 use std::alloc::Global;
 use std::fmt::Write;
+use std::str;
 use std::sync::Wait;
 use std::thread::{Threads, join};
-use std::{io, str};
 
 const AGENT: &str = r#"{"event":"add_agent","agent":"n1","total":"cpus:1"}"#;
 
@@ -37,7 +35,8 @@ fn call<K: Naming, R: Wait + Drop, W: Wait>(
     master.call(rt, pass, event).ok().context("not called")
 }
 
-fn append_reply(alloc: Global, told: &mut String, reply: &Reply) -> Result<()> {
+/// Adds the line of a reply, without its line feed.
+pub fn append_reply(alloc: Global, told: &mut String, reply: &Reply) -> Result<()> {
     let line = write_reply(alloc, reply)?;
     let text = str::from_utf8(&line).ok().context("no text")?;
     Ok(write!(told, " {}", text.trim_end())?)
@@ -83,7 +82,8 @@ fn call_and_read<K: Naming, R: Wait + Drop, W: Wait>(
     append_sheets(alloc, told, viewers)
 }
 
-fn call_once<K: Naming, R: Wait + Drop, W: Wait>(
+/// Calls, and forgets the answer.
+pub fn call_once<K: Naming, R: Wait + Drop, W: Wait>(
     rt: &W,
     alloc: Global,
     master: &Master<K, R>,
@@ -190,18 +190,8 @@ fn serve_named<K: Naming + Send + Sync, W: Threads + Wait + Sync>(
     use_and_close(rt, alloc, told, master, passes, viewers)
 }
 
-// Makes the slate, for two viewers, and calls what opens its master with `Brand`.
-fn serve<W: Threads + Wait + Sync>(rt: &W, alloc: Global, told: &mut String) -> Result<()> {
+/// Makes the slate, for two viewers, and calls what opens its master with `Brand`. A line is told.
+pub fn serve<W: Threads + Wait + Sync>(rt: &W, alloc: Global, told: &mut String) -> Result<()> {
     let slate = Slate::open(2, Limits::full())?;
     serve_named::<Brand, W>(rt, alloc, told, slate)
-}
-
-fn main(rt: HostRuntime) -> io::Result<()> {
-    let mut told = String::new(rt.alloc());
-    let served = serve(&rt, rt.alloc(), &mut told);
-    print!(&rt; "two viewers, an agent twice:{told}")?;
-    match served {
-        Ok(()) => Ok(()),
-        Err(fault) => println!(&rt; "not served: {fault}"),
-    }
 }

@@ -1,4 +1,4 @@
-use Rattle.drf_server_example.proofs.serve.Given as goal
+use Rattle.drf_master_examples.proofs.server.serve.Given as goal
 
 -- its own slate
 abbrev pub ghosts-serve_named : goal.ghosts-serve_named

@@ -1,2 +1,0 @@
-pub mod OneAgent
-pub mod TwoClients

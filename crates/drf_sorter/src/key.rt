@@ -17,7 +17,7 @@ pub trait Holding {
     /// The thousandths that are held of each label.
     ghost held: { Self → Text → ℕ };
 
-    /// The thousandths of one label, which is likely to stand at that place, or last; it becomes the place before.
+    /// The thousandths of one label. The place is one to look at first; of a label that stands there it becomes the one before, for the next question.
     fn amount(&self, label: &Label, place: &mut usize) -> u64
         requires { held self.now label.now < 2 ^ 64 }
         ensures { result ≡ held self.now label.now };

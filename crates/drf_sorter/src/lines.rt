@@ -147,8 +147,8 @@ fn is_beside(path: &NodePath, other: &NodePath) -> bool
     other.part(last) < part && other.text().as_bytes().starts_with(front)
 }
 
-/// Whether the line of a path would go behind all others. Lines mostly come in order, each below the one before it, or below or beside
-/// one that this is below: then little of the two texts is looked at.
+/// Whether the line of a path would go behind all others. Lines mostly come in order, each below the one before it, or beside that or a node
+/// above that: then little of the two texts is looked at.
 fn goes_last(lines: &[NodeLine], path: &NodePath) -> bool
     requires { AreRising lines.now }
     ensures { IsTrue result → BelongsBehind path.now lines.now (length lines.now) }

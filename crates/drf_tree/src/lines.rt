@@ -28,12 +28,17 @@ impl Tree {
         requires tree { IsTreeOf (plain_content ledger.now) self.now }
         ensures { IfOk result (λ lines. AreLinesOf (plain_content ledger.now) lines.items) }
     {
-        let mut lines = NodeLines::with_capacity(self.alloc(), self.places.len())?;
+        let mut lines = NodeLines::with_capacity(self.alloc(), self.line_count())?;
         let order = self.in_order_of_path()?;
         for node in &order {
             self.put_line(&mut lines, *node, ledger)?;
         }
         Ok(lines.into_vec())
+    }
+
+    /// How many nodes have clients. A wrong number would cost memory alone.
+    fn line_count(&self) -> usize {
+        self.sums.iter().filter(|sum| sum.clients > 0).count()
     }
 
     /// All numbers, those of the nodes mostly in order of path.
@@ -114,7 +119,7 @@ impl Tree {
             return Ok(());
         }
         let path = place.path.copy()?;
-        let held = sum.held(self.alloc())?;
+        let held = sum.copy_held(self.alloc())?;
         lines.put(node_line(ledger.total(), sum.weight, path, held, sum.count))
     }
 }

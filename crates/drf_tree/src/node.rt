@@ -54,8 +54,8 @@ pub(crate) struct Sum {
 }
 
 impl Sum {
-    /// A copy of what they hold. It names no label where all amounts are 0, as those of a client are whose tasks have ended.
-    pub(crate) fn held(&self, alloc: Global) -> Result<Quantities, AllocError>
+    /// A copy of what they hold. Where all amounts are 0, as of a client whose tasks have ended, it names no label, though no clause says so.
+    pub(crate) fn copy_held(&self, alloc: Global) -> Result<Quantities, AllocError>
         ensures { IfOk result (λ held. (label : Text) → amount_of held label ≡ amount_of self.now.held label) }
     {
         if !self.holds_any() {

@@ -52,7 +52,7 @@ moment_early rows at moment right late same =
     let early : rows.clock ≤ LATEST_MOMENT = right.early in
     omega (arith, early, late, same)
 
--- an offer that is accepted stands, is the framework's and covers what the tasks use, and the tasks are new
+-- an offer that is accepted stands and covers what the tasks use, and the tasks are new
 pub can_accept : (limits : LimitNumbers) (rows : Rows) (a : accepting.Accept) → refusal_of limits rows (Accept a) ≡ None
     → CanAccept rows a.offer a.tasks
 can_accept limits rows a none =

@@ -113,7 +113,7 @@ pub known_reviving : (limits : LimitNumbers) (rows : Rows) (framework : Text) (r
 known_reviving limits rows framework role none =
     not-false (is_in_role rows framework role) (no_case_of limits rows (Revive framework role) none).1.1.0
 
--- an accept that is welcome
+-- an accept that is welcome is early
 pub early_accept : (limits : LimitNumbers) (rows : Rows) (a : accepting.Accept) → refusal_of limits rows (Accept a) ≡ None → a.at ≤ LATEST_MOMENT
 early_accept limits rows a none = ltb-false LATEST_MOMENT a.at (no_case_of limits rows (Accept a) none).1.0
 

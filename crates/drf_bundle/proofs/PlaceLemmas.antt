@@ -1,34 +1,24 @@
 -- What a search by label finds, and what an edit at that place does.
-use Rattle.std.proofs.Common.{◌≡◌, ℕ, zero, suc, ◌+◌, ◌-◌, ◌<◌, ◌≤◌, Bool, cond, nat_lt, true, false, List, [], ◌∷◌, length, get_or, set, slice_get, Option, Some, None, IfSome, IfNone, Result, Ok, Err, IfOk, IfErr, OnOk, is_ok, Equal, inl, inr, refl, sym, ap, ◌∙◌, subst, arith}
+use Rattle.std.proofs.Common.{◌≡◌, ℕ, zero, suc, ◌+◌, ◌-◌, ◌<◌, ◌≤◌, Bool, cond, true, false, List, [], ◌∷◌, length, get_or, set, slice_get, Option, Some, None, IfSome, IfNone, Result, Ok, Err, IfOk, IfErr, OnOk, is_ok, Equal, inl, inr, refl, sym, ap, ◌∙◌, subst, arith}
 use Rattle.std.specs.Prelude.{IsTrue}
-use Rattle.std.specs.List.{insert, list_any, position, position_or_len}
+use Rattle.std.specs.List.{insert, position}
 use Rattle.std.specs.Result.{result_ok}
 use Rattle.std.specs.List.Sorted.{IsSearchInRange, IsBinarySearchResult, IsNonDecreasingBy}
 use Rattle.std.specs.Ordering.{nat_cmp, is_lt, ordering_index}
 use Rattle.std.specs.Cmp.Lexicographic.{slice_cmp, nat_list_cmp_total}
-use Rattle.std.proofs.lemmas.Bool.{false≢true, and_parts, cases_Bool, cases_lt, ltb-false}
+use Rattle.std.proofs.lemmas.Bool.{false≢true, and_parts, cases_Bool, cases_lt}
 use Rattle.std.proofs.lemmas.List.{get_or_default}
-use Rattle.std.proofs.lemmas.List.Folds.{list_any_none}
 use Rattle.std.proofs.lemmas.List.Quantifiers.{position-Some}
-use Rattle.std.proofs.lemmas.List.Sums.{fails_before_first}
 use Rattle.std.proofs.lemmas.List.Recursion.{and_at, found_at, found_nowhere, or_at, or_from_places}
 use Rattle.std.proofs.lemmas.List.Sorted.{searchable_from_sorted}
 use Rattle.drf_role.specs.Text.{same_text, text_below}
 use Rattle.std.proofs.lemmas.Option.{get_or_from_slice_get}
 use Rattle.drf_role.specs.TextLaws.{below_trans, same_from_cmp, same_from_test, test_from_same, cmp_below, cmp_above, cmp_itself, above_from_cmp, below_other, above_other}
 use Rattle.drf_bundle.specs.Quantities.{amount_of, is_named, is_in_order, with_amount}
+use Rattle.drf_bundle.specs.laws.ListLaws.{position-none}
 use Rattle.drf_bundle.specs.laws.QuantitiesLaws.{stands_first, amount-with}
 use Rattle.drf_bundle.specs.Places.{IsAt, IsGapFor}
 use Rattle.drf_bundle.specs.declared.quantities.Entry.{Entry}
-
--- where no item passes a test, none has a place
-pub position-none : {X : Type 0} (p : X → Bool) (xs : List X) → None ≡ position p xs → list_any p xs ≡ false
-position-none p xs is = elim (cases_Bool (nat_lt (position_or_len p xs) (length xs))) [
-  | inl within ↦ absurd (let bad = rw within at is in cc)
-  | inr past ↦
-      let end : length xs ≤ position_or_len p xs = ltb-false _ _ past in
-      list_any_none p xs (λ k d inside. fails_before_first p xs k d (omega arith))
-]
 
 first_at : (n : List ℕ) (es : List Entry) (k : ℕ) (d : Entry) → IsTrue (stands_first n es) → k < length es → IsTrue (text_below n (get_or es k d).label)
 first_at n es k d first in_range = and_at (stands_first n) (λ f. text_below n f.label) refl (λ _ _. refl) es k d in_range first

@@ -1,5 +1,6 @@
 -- Theorems about the definitions beside this folder.
 pub mod Laws
+pub mod ListLaws
 pub mod QuantitiesLaws
 pub mod ValueLaws
 pub mod KeyLaws

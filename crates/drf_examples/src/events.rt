@@ -69,13 +69,13 @@ fn is_exact<S: Sorter, R: Files + AllocGlobal>(rt: &R, core: &mut Core<S>) -> io
     Ok(answers(rt.alloc(), core, lines.as_str(), &output))
 }
 
-/// How many rows of each kind there are, the clock, and how many events were accepted.
+/// How many rows of each kind there are, the clock, and how many events were taken.
 fn tell_rows(rt: &impl Print, rows: &Rows) -> io::Result<()> {
     let (agents, frameworks) = (rows.agents.len(), rows.frameworks.len());
     let (offers, tasks, filters) = (rows.offers.len(), rows.tasks.len(), rows.filters.len());
     let (clock, events) = (rows.clock, rows.events);
     println!(rt;
-        "rows: {agents} agents, {frameworks} frameworks, {offers} offers, {tasks} tasks, {filters} filters, clock {clock}, {events} accepted"
+        "rows: {agents} agents, {frameworks} frameworks, {offers} offers, {tasks} tasks, {filters} filters, clock {clock}, {events} events"
     )
 }
 

@@ -3,6 +3,7 @@
 #![tactic(auto)]
 
 mod commands;
+mod ends;
 mod events;
 mod keys;
 mod rows;
@@ -15,5 +16,6 @@ fn main(rt: HostRuntime) -> io::Result<()> {
     streams::run_all(&rt)?;
     events::run_all(&rt)?;
     keys::run_all(&rt)?;
+    ends::run_all(&rt)?;
     commands::run_all(&rt)
 }

@@ -3,12 +3,11 @@ ghost use Rattle.std.specs.Prelude.{◌≡◌, ◌≢◌, ℕ, ◌+◌, ◌-◌,
 ghost use Rattle.std.specs.List.{list_all};
 ghost use Rattle.std.specs.Option.{option_copied, option_map_or};
 ghost use Rattle.drf_role.specs.Text.{Text};
-ghost use Rattle.drf_role.specs.Path.{Path, same_path};
+ghost use Rattle.drf_role.specs.Path.{Path};
 ghost use Rattle.drf_role.specs.Role.{IsRole};
 ghost use Rattle.drf_bundle.specs.Quantities.{amount_of, known_amount};
 ghost use Rattle.drf_rows.specs.Quota.{is_within, binds, headroom_under, headrooms, stays_within, admits_under, limit_of, limits_with, consumption, headroom_at, headroom, admits};
 ghost use Rattle.drf_rows.specs.declared.rows.Rows.{Rows};
-ghost use Rattle.indexmap.specs.IndexMap.{insert_entry};
 ghost use Rattle.drf_gates.specs.Front.{IsFirstShort, front_leaves, front_passes, least_at, limits_at};
 ghost use Rattle.drf_gates.specs.Quota.{IsAllowanceOf, IsRaised, IsSame, lessened, limit_row, lesser, used_at, used_by};
 

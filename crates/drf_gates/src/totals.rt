@@ -1,6 +1,6 @@
 //! What roles with a limit consume together with the roles below them, kept so that a question of it need not go over all roles.
 //! Where memory for it ends, a total is lost, and the question goes over all.
-ghost use Rattle.std.specs.Prelude.{◌≡◌, ◌+◌, ◌≤◌, List, [], IsTrue, IfSome, length, take};
+ghost use Rattle.std.specs.Prelude.{◌≡◌, ◌+◌, ◌≤◌, List, IsTrue, IfSome, length, take};
 ghost use Rattle.drf_role.specs.Text.{Text};
 ghost use Rattle.drf_bundle.specs.Quantities.{amount_of};
 ghost use Rattle.drf_rows.specs.Quota.{is_within};

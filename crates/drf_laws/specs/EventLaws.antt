@@ -1,5 +1,5 @@
 -- What holds of each event that is not refused.
-use Rattle.std.specs.Prelude.{◌≡◌, ℕ, false, None}
+use Rattle.std.specs.Prelude.{◌≡◌, false, None}
 use Rattle.std.specs.List.{AllByRecursion}
 use Rattle.drf_rows.specs.LimitNumbers.{LimitNumbers}
 use Rattle.drf_rows.specs.Consistent.{IsConsistent, IsNumberedByEvents}

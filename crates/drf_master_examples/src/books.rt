@@ -50,6 +50,18 @@ fn give_up(
     Ok(write!(told, " one given up, {} entries;", book.len())?)
 }
 
+fn take_each(
+    alloc: Global,
+    told: &mut String,
+    book: &mut Book<MasterSorter>,
+    lines: &[&str],
+) -> Result<()> {
+    for line in lines {
+        take(alloc, told, book, line)?;
+    }
+    Ok(())
+}
+
 // Each way of taking an event after each other one.
 fn take_all(alloc: Global, told: &mut String, book: &mut Book<MasterSorter>) -> Result<()> {
     settle(alloc, told, book, AGENT)?;
@@ -71,6 +83,20 @@ fn limit_all(alloc: Global, told: &mut String, book: &mut Book<MasterSorter>) ->
     settle(alloc, told, book, CYCLE)
 }
 
+// Takes each of the events in one step. Where there are none, it takes ten in all ways.
+fn fill(
+    alloc: Global,
+    told: &mut String,
+    book: &mut Book<MasterSorter>,
+    taken: &[&str],
+) -> Result<()> {
+    if taken.is_empty() {
+        take_all(alloc, told, book)?;
+        return limit_all(alloc, told, book);
+    }
+    take_each(alloc, told, book, taken)
+}
+
 fn append_match(
     told: &mut String,
     name: &str,
@@ -86,19 +112,19 @@ fn use_book(
     alloc: Global,
     told: &mut String,
     book: &mut Book<MasterSorter>,
+    taken: &[&str],
     same: &[Pass],
     others: &[Pass],
 ) -> Result<()> {
     append_match(told, "no pass", book, &[])?;
-    take_all(alloc, told, book)?;
-    limit_all(alloc, told, book)?;
+    fill(alloc, told, book, taken)?;
     append_match(told, "no pass", book, &[])?;
     append_match(told, "passes of the same calls", book, same)?;
     append_match(told, "passes of others", book, others)
 }
 
-// Tells what entries are left, if all went without a fault.
-fn append_left(
+/// Tells what entries are left, if all went without a fault.
+pub fn append_left(
     alloc: Global,
     told: &mut String,
     used: Result<()>,
@@ -111,27 +137,69 @@ fn append_left(
 fn use_and_end(
     alloc: Global,
     told: &mut String,
+    taken: &[&str],
     same: &[Pass],
     others: &[Pass],
     mut book: Book<MasterSorter>,
 ) -> Result<()> {
-    let used = use_book(alloc, told, &mut book, same, others);
+    let used = use_book(alloc, told, &mut book, taken, same, others);
     let entries = book.into_entries();
     append_left(alloc, told, used, &entries)
 }
 
-fn open_and_use(alloc: Global, told: &mut String, same: &[Pass], others: &[Pass]) -> Result<()> {
+fn open_and_use(
+    alloc: Global,
+    told: &mut String,
+    taken: &[&str],
+    same: &[Pass],
+    others: &[Pass],
+) -> Result<()> {
     let book = Book::open(alloc, Limits::full())?;
-    use_and_end(alloc, told, same, others, book)
+    use_and_end(alloc, told, taken, same, others, book)
 }
 
+// A book is compared with the passes of a master that was called with the same events, and with those of one where two came in turned order.
 fn append_compared<W: Threads + Wait + Sync>(
     rt: &W,
     alloc: Global,
     told: &mut String,
+    taken: &[&str],
+    lines: &[&str],
+    turned: &[&str],
     same: &mut Vec<Pass>,
     others: &mut Vec<Pass>,
 ) -> Result<()> {
+    keep_passes(rt, alloc, 1, lines, same)?;
+    keep_passes(rt, alloc, 1, turned, others)?;
+    open_and_use(alloc, told, taken, same, others)?;
+    Ok(told.push('\n')?)
+}
+
+fn append_book<W: Threads + Wait + Sync>(
+    rt: &W,
+    alloc: Global,
+    told: &mut String,
+    taken: &[&str],
+    lines: &[&str],
+    turned: &[&str],
+) -> Result<()> {
+    let mut same = Vec::new(alloc);
+    let mut others = Vec::new(alloc);
+    append_compared(
+        rt,
+        alloc,
+        told,
+        taken,
+        lines,
+        turned,
+        &mut same,
+        &mut others,
+    )
+}
+
+// Some are taken in one step and some are prepared and settled, and three more are prepared and given up.
+fn append_ten<W: Threads + Wait + Sync>(rt: &W, alloc: Global, told: &mut String) -> Result<()> {
+    told.push_str("a book alone:")?;
     let lines = [
         AGENT,
         FRAMEWORK,
@@ -144,7 +212,6 @@ fn append_compared<W: Threads + Wait + Sync>(
         NO_LIMIT,
         CYCLE,
     ];
-    keep_passes(rt, alloc, 1, &lines, same)?;
     let turned = [
         AGENT,
         CYCLE,
@@ -157,20 +224,17 @@ fn append_compared<W: Threads + Wait + Sync>(
         NO_LIMIT,
         CYCLE,
     ];
-    keep_passes(rt, alloc, 1, &turned, others)?;
-    told.push_str("a book alone:")?;
-    open_and_use(alloc, told, same, others)?;
-    Ok(told.push('\n')?)
+    append_book(rt, alloc, told, &[], &lines, &turned)
 }
 
-/// A book takes ten events, some in one step and some prepared and settled, and three are prepared and given up. Then it is compared with the
-/// passes of a master that was called with the same events, and with those of one where two came in turned order.
+/// A book takes ten events in all ways, and one takes three in one step each.
 pub fn append_alone<W: Threads + Wait + Sync>(
     rt: &W,
     alloc: Global,
     told: &mut String,
 ) -> Result<()> {
-    let mut same = Vec::new(alloc);
-    let mut others = Vec::new(alloc);
-    append_compared(rt, alloc, told, &mut same, &mut others)
+    append_ten(rt, alloc, told)?;
+    told.push_str("a book that takes each event in one step:")?;
+    let (lines, turned) = ([AGENT, FRAMEWORK, CYCLE], [AGENT, CYCLE, FRAMEWORK]);
+    append_book(rt, alloc, told, &lines, &lines, &turned)
 }

@@ -1,59 +1,91 @@
 //! How the rows use a master: two threads call, each by a pass of its own.
-use crate::lines::{CYCLE, call_all};
+use crate::lines::call_all;
+use crate::server::call;
+use crate::visiting::append_visit;
 use anyhow::{Context, Result};
-use drf_board::Naming;
-use drf_lines::read_event;
-use drf_master::{Master, Pass};
+use drf_board::{Naming, Viewer};
+use drf_master::{Answer, Master, Pass};
+use drf_text::write_quantities;
 use std::alloc::Global;
 use std::fmt::Write;
 use std::mem::swap;
 use std::sync::Wait;
 use std::thread::{Threads, join};
 
-/// A master of the key with two passes.
+/// A master of the key with two passes and a viewer.
 #[derive(Clone, Copy)]
 pub struct Row {
     pub key: u64,
-    /// Whether a pass of another key, which was kept, calls it too.
+    /// Whether a pass of a master of another key, which is there beside it, calls it too.
     pub is_visited: bool,
     /// How many of its own passes close it.
     pub own: usize,
+    /// Whether these are its last.
+    pub is_turned: bool,
 }
 
-// Each of two passes calls on a thread of its own.
-fn call_side_by_side<K: Naming + Send + Sync, W: Threads + Wait + Sync>(
-    rt: &W,
+// The viewer learns what the answer tells, and reads. How many events its sheet is of depends on the other thread.
+fn append_read<K: Naming>(
     alloc: Global,
-    front: &[&str],
-    back: &[&str],
-    master: &Master<K, &W>,
-    passes: &mut [Pass],
+    told: &mut String,
+    viewers: &mut [Viewer<K>],
+    answer: &Answer<K>,
 ) -> Result<()> {
-    let half = passes.len() / 2;
-    let (first, second) = passes.split_at_mut(half);
-    let (one, other) = join(
-        rt,
-        || call_all(rt, alloc, master, first, front),
-        || call_all(rt, alloc, master, second, back),
-    );
-    one?;
-    other
+    let viewer = viewers.first_mut().context("no viewer")?;
+    viewer.learn(&answer.told);
+    let sheet = viewer.read().ok().context("no sheet")?;
+    let total = write_quantities(alloc, &sheet.report.total)?;
+    Ok(write!(told, " the viewer reads ({total});")?)
 }
 
-fn append_stranger<K: Naming, R: Wait + Drop, W: Wait>(
+fn call_and_read<K: Naming, R: Wait + Drop, W: Wait>(
     rt: &W,
     alloc: Global,
     told: &mut String,
     master: &Master<K, R>,
     passes: &mut [Pass],
+    viewers: &mut [Viewer<K>],
+    line: &str,
 ) -> Result<()> {
-    let event = read_event(alloc, CYCLE.as_bytes())?;
-    let pass = passes.first_mut().context("no pass")?;
-    let fault = master
-        .call(rt, pass, event)
-        .err()
-        .context("a stranger called")?;
-    Ok(write!(told, " a pass of key 2 is told {fault:?};")?)
+    let answer = call(rt, alloc, master, passes, line)?;
+    append_read(alloc, told, viewers, &answer)
+}
+
+fn call_and_read_all<K: Naming, R: Wait + Drop, W: Wait>(
+    rt: &W,
+    alloc: Global,
+    told: &mut String,
+    master: &Master<K, R>,
+    passes: &mut [Pass],
+    viewers: &mut [Viewer<K>],
+    lines: &[&str],
+) -> Result<()> {
+    for line in lines {
+        call_and_read(rt, alloc, told, master, passes, viewers, line)?;
+    }
+    Ok(())
+}
+
+// Each of two passes calls on a thread of its own. The first thread has the viewer.
+fn call_side_by_side<K: Naming + Send + Sync, W: Threads + Wait + Sync>(
+    rt: &W,
+    alloc: Global,
+    told: &mut String,
+    front: &[&str],
+    back: &[&str],
+    master: &Master<K, &W>,
+    passes: &mut [Pass],
+    viewers: &mut [Viewer<K>],
+) -> Result<()> {
+    let half = passes.len() / 2;
+    let (first, second) = passes.split_at_mut(half);
+    let (read, called) = join(
+        rt,
+        || call_and_read_all(rt, alloc, told, master, first, viewers, front),
+        || call_all(rt, alloc, master, second, back),
+    );
+    called?;
+    read
 }
 
 fn add_places(places: &mut Vec<u64>, pass: &Pass) -> Result<()> {
@@ -73,13 +105,17 @@ fn append_places(alloc: Global, told: &mut String, passes: &[Pass]) -> Result<()
 }
 
 // Leaves the passes that are to close, puts what was kept behind them, and keeps the rest.
-fn choose(own: usize, passes: &mut Vec<Pass>, kept: &mut Vec<Pass>) -> Result<()> {
-    let mut rest = passes.split_off(passes.len().min(own))?;
+fn choose(row: Row, passes: &mut Vec<Pass>, kept: &mut Vec<Pass>) -> Result<()> {
+    if row.is_turned {
+        passes.reverse();
+    }
+    let mut rest = passes.split_off(passes.len().min(row.own))?;
     swap(&mut rest, kept);
     Ok(passes.append(&mut rest)?)
 }
 
-/// The first pass calls the lines in front, the second those behind. Leaves the passes that are to close the master.
+/// The first pass calls the lines in front, and the viewer reads after each; the second calls those behind. Leaves the passes that are to
+/// close the master.
 pub fn use_master<K: Naming + Send + Sync, W: Threads + Wait + Sync>(
     rt: &W,
     alloc: Global,
@@ -90,12 +126,12 @@ pub fn use_master<K: Naming + Send + Sync, W: Threads + Wait + Sync>(
     kept: &mut Vec<Pass>,
     master: &Master<K, &W>,
     passes: &mut Vec<Pass>,
+    viewers: &mut [Viewer<K>],
 ) -> Result<()> {
-    call_side_by_side(rt, alloc, front, back, master, passes)?;
+    call_side_by_side(rt, alloc, told, front, back, master, passes, viewers)?;
     if row.is_visited {
-        append_stranger(rt, alloc, told, master, kept)?;
-        kept.truncate(0);
+        append_visit(rt, alloc, told, master)?;
     }
     append_places(alloc, told, passes)?;
-    choose(row.own, passes, kept)
+    choose(row, passes, kept)
 }

@@ -13,18 +13,28 @@ const BOTH: Row = Row {
     key: 1,
     is_visited: true,
     own: 2,
+    is_turned: false,
 };
 
 const FIRST: Row = Row {
     key: 1,
     is_visited: false,
     own: 1,
+    is_turned: false,
+};
+
+const SECOND: Row = Row {
+    key: 1,
+    is_visited: false,
+    own: 1,
+    is_turned: true,
 };
 
 const NONE: Row = Row {
     key: 1,
     is_visited: false,
     own: 0,
+    is_turned: false,
 };
 
 /// Keeps the passes of a master of the key, the first of which made the calls. That master is gone.
@@ -40,18 +50,19 @@ pub fn keep_passes<W: Threads + Wait + Sync>(
     run(rt, alloc, &mut told, row, lines, &[], kept)
 }
 
-// The first pass closes.
-fn append_first<W: Threads + Wait + Sync>(
+// Of its own passes alone some close.
+fn append_own<W: Threads + Wait + Sync>(
     rt: &W,
     alloc: Global,
     told: &mut String,
     name: &str,
+    row: Row,
     front: &[&str],
     back: &[&str],
 ) -> Result<()> {
     let mut kept = Vec::new(alloc);
     told.push_str(name)?;
-    run(rt, alloc, told, FIRST, front, back, &mut kept)
+    run(rt, alloc, told, row, front, back, &mut kept)
 }
 
 // A pass of another master of the key is kept, which made one call there.
@@ -72,7 +83,7 @@ fn append_other<W: Threads + Wait + Sync>(
     run(rt, alloc, told, row, front, back, &mut kept)
 }
 
-/// Both passes close, or the first alone, or a pass of another master with it or in its place.
+/// Both passes close, or either alone, or a pass of another master with the first or in its place.
 pub fn append_all<W: Threads + Wait + Sync>(
     rt: &W,
     alloc: Global,
@@ -80,11 +91,13 @@ pub fn append_all<W: Threads + Wait + Sync>(
 ) -> Result<()> {
     let (agent, small, framework, both) = ([AGENT], [SMALL_AGENT], [FRAMEWORK], [AGENT, FRAMEWORK]);
     let alone = "the first pass calls twice and closes:";
-    append_first(rt, alloc, told, alone, &both, &[])?;
+    append_own(rt, alloc, told, alone, FIRST, &both, &[])?;
     let visited = "both passes call, one of key 2 too, and both close:";
-    append_other(rt, alloc, told, visited, BOTH, 2, &small, &framework)?;
-    let missing = "both passes call, the first closes:";
-    append_first(rt, alloc, told, missing, &small, &framework)?;
+    append_own(rt, alloc, told, visited, BOTH, &small, &framework)?;
+    let first = "both passes call, the first closes:";
+    append_own(rt, alloc, told, first, FIRST, &small, &framework)?;
+    let second = "both passes call, the second closes:";
+    append_own(rt, alloc, told, second, SECOND, &small, &framework)?;
     let stranger = "both passes call, the first and one of key 2 close:";
     append_other(rt, alloc, told, stranger, FIRST, 2, &agent, &framework)?;
     let mismatch = "the first pass calls, those of another master of key 1 close:";

@@ -2,13 +2,17 @@
 ghost use Rattle.std.specs.Prelude.{◌≡◌, ◌≤◌, length};
 ghost use Rattle.drf_rows.specs.LimitNumbers.{ceilings};
 
+use crate::closing::keep_passes;
+use crate::lines::{AGENT, CYCLE, FRAMEWORK};
+use crate::server::append_reply;
 use anyhow::{Context, Result, bail};
 use drf_board::{Brand, Entry, Naming, Slate};
 use drf_lines::read_event;
 use drf_master::{DriveFault, Driven, Gate, Master, Pass, drive};
-use drf_rows::{Event, Limits};
+use drf_rows::{Event, Limits, Reply};
 use std::alloc::Global;
 use std::fmt::Write;
+use std::mem::swap;
 use std::sync::Wait;
 use std::sync::atomic::{AtomicU64, Ordering};
 use std::thread;
@@ -57,6 +61,20 @@ impl Gate for Meeting {
     fn after(&self, _worker: u64, _call: u64) {}
 }
 
+/// What is kept of a drive.
+#[derive(Drop)]
+struct Outcome {
+    entries: Vec<Entry>,
+    replies: Vec<Vec<Reply>>,
+}
+
+/// What is told of a drive: the replies, or where the workers' frameworks stand in the journal.
+#[derive(Clone, Copy)]
+enum Telling {
+    Replies,
+    Places,
+}
+
 // Whether an entry adds the framework of a worker.
 fn is_of(entry: &Entry, framework: &str) -> bool {
     match &entry.event {
@@ -86,23 +104,51 @@ fn append_places(alloc: Global, told: &mut String, entries: &[Entry], count: usi
     Ok(write!(told, " {all} entries, at {places:?}")?)
 }
 
+fn append_replies(alloc: Global, told: &mut String, replies: &[Reply]) -> Result<()> {
+    for reply in replies {
+        append_reply(alloc, told, reply)?;
+    }
+    Ok(())
+}
+
+fn append_all_replies(alloc: Global, told: &mut String, replies: &[Vec<Reply>]) -> Result<()> {
+    for one in replies {
+        append_replies(alloc, told, one)?;
+    }
+    Ok(())
+}
+
 fn append_driven(
     alloc: Global,
     told: &mut String,
-    count: usize,
-    driven: &Result<Vec<Entry>, DriveFault>,
+    telling: Telling,
+    driven: &Result<Outcome, DriveFault>,
 ) -> Result<()> {
     match driven {
-        Ok(entries) => append_places(alloc, told, entries, count),
+        Ok(Outcome { entries, replies }) => match telling {
+            Telling::Replies => append_all_replies(alloc, told, replies),
+            Telling::Places => append_places(alloc, told, entries, replies.len()),
+        },
         Err(fault) => Ok(write!(told, " {fault:?}")?),
     }
 }
 
-// The journal. The core goes at once, and so do the replies.
-fn entries_of(driven: Driven) -> Vec<Entry> {
+// Puts the passes of others in the place of these, if they are as many.
+fn exchange(passes: &mut Vec<Pass>, others: &mut Vec<Pass>)
+    ensures { length passes.new.items ≡ length passes.old.items }
+{
+    if others.len() == passes.len() {
+        swap(passes, others);
+    }
+}
+
+// The journal and the replies. The core goes at once.
+fn outcome_of(driven: Driven) -> Outcome {
     let Driven { book, replies } = driven;
-    drop(replies);
-    book.into_entries()
+    Outcome {
+        entries: book.into_entries(),
+        replies,
+    }
 }
 
 fn drive_and_close<K: Naming + Send + Sync, W: Threads + Wait + Sync>(
@@ -112,11 +158,11 @@ fn drive_and_close<K: Naming + Send + Sync, W: Threads + Wait + Sync>(
     master: Master<K, &W>,
     passes: Vec<Pass>,
     scripts: Vec<Vec<Event>>,
-) -> Result<Vec<Entry>, DriveFault>
+) -> Result<Outcome, DriveFault>
     requires { length scripts.items ≡ length passes.items }
 {
     match drive(rt, alloc, master, passes, meeting, scripts) {
-        Ok(driven) => Ok(entries_of(driven)),
+        Ok(driven) => Ok(outcome_of(driven)),
         Err(fault) => Err(fault),
     }
 }
@@ -126,15 +172,15 @@ fn drive_and_append<K: Naming + Send + Sync, W: Threads + Wait + Sync>(
     alloc: Global,
     told: &mut String,
     meeting: &Meeting,
+    telling: Telling,
     master: Master<K, &W>,
     passes: Vec<Pass>,
     scripts: Vec<Vec<Event>>,
 ) -> Result<()>
     requires { length scripts.items ≡ length passes.items }
 {
-    let count = scripts.len();
     let driven = drive_and_close(rt, alloc, meeting, master, passes, scripts);
-    append_driven(alloc, told, count, &driven)
+    append_driven(alloc, told, telling, &driven)
 }
 
 fn drive_named<K: Naming + Send + Sync, W: Threads + Wait + Sync>(
@@ -142,6 +188,8 @@ fn drive_named<K: Naming + Send + Sync, W: Threads + Wait + Sync>(
     alloc: Global,
     told: &mut String,
     meeting: &Meeting,
+    telling: Telling,
+    others: &mut Vec<Pass>,
     scripts: Vec<Vec<Event>>,
     slate: Slate,
 ) -> Result<()>
@@ -150,7 +198,7 @@ fn drive_named<K: Naming + Send + Sync, W: Threads + Wait + Sync>(
     requires count { (1 ≤ length scripts.items) × (length scripts.items ≤ 64) }
 {
     let count = scripts.len() as u64;
-    let (master, passes, _viewers) = Master::<K, &W>::open(
+    let (master, mut passes, _viewers) = Master::<K, &W>::open(
         rt,
         alloc,
         1,
@@ -158,22 +206,25 @@ fn drive_named<K: Naming + Send + Sync, W: Threads + Wait + Sync>(
         count,
         slate,
     )?;
-    drive_and_append(rt, alloc, told, meeting, master, passes, scripts)
+    exchange(&mut passes, others);
+    drive_and_append(rt, alloc, told, meeting, telling, master, passes, scripts)
 }
 
-// Runs scripts on a master of key 1. Their first calls meet.
+// Runs scripts on a master of key 1, by the passes of others where these are as many. Their first calls meet.
 fn drive_scripts<W: Threads + Wait + Sync>(
     rt: &W,
     alloc: Global,
     told: &mut String,
     meeting: &Meeting,
+    telling: Telling,
+    others: &mut Vec<Pass>,
     scripts: Vec<Vec<Event>>,
 ) -> Result<()> {
     if scripts.is_empty() || scripts.len() > 64 {
         bail!("1 to 64 scripts can be driven");
     }
     let slate = Slate::open(0, Limits::full())?;
-    drive_named::<Brand, W>(rt, alloc, told, meeting, scripts, slate)
+    drive_named::<Brand, W>(rt, alloc, told, meeting, telling, others, scripts, slate)
 }
 
 fn meeting_of(all: u64, turns: u64) -> Meeting {
@@ -184,10 +235,12 @@ fn meeting_of(all: u64, turns: u64) -> Meeting {
     }
 }
 
-// Adds a script of one event.
-fn add_script(alloc: Global, scripts: &mut Vec<Vec<Event>>, line: &str) -> Result<()> {
-    let mut script = Vec::with_capacity(alloc, 1)?;
-    script.push(read_event(alloc, line.as_bytes())?)?;
+// Adds a script: the events of lines.
+fn add_script(alloc: Global, scripts: &mut Vec<Vec<Event>>, lines: &[&str]) -> Result<()> {
+    let mut script = Vec::with_capacity(alloc, lines.len())?;
+    for line in lines {
+        script.push(read_event(alloc, line.as_bytes())?)?;
+    }
     Ok(scripts.push(script)?)
 }
 
@@ -195,7 +248,7 @@ fn add_framework(alloc: Global, scripts: &mut Vec<Vec<Event>>, worker: usize) ->
     let line = format!(in alloc;
         r#"{{"event":"add_framework","framework":"f{worker}","roles":["a"]}}"#
     )?;
-    add_script(alloc, scripts, line.as_str())
+    add_script(alloc, scripts, &[line.as_str()])
 }
 
 fn add_frameworks(alloc: Global, scripts: &mut Vec<Vec<Event>>, count: usize) -> Result<()> {
@@ -205,32 +258,75 @@ fn add_frameworks(alloc: Global, scripts: &mut Vec<Vec<Event>>, count: usize) ->
     Ok(())
 }
 
-// Scripts that meet so many, each of which adds a framework, and where their calls stand in the journal.
+// So many scripts that meet, each of which adds a framework, and where their calls stand in the journal.
 fn append_meeting<W: Threads + Wait + Sync>(
     rt: &W,
     alloc: Global,
     told: &mut String,
     count: usize,
-    all: u64,
-    turns: u64,
+    others: &mut Vec<Pass>,
 ) -> Result<()> {
+    write!(told, "{count} scripts that meet:")?;
     let mut scripts = Vec::new(alloc);
     add_frameworks(alloc, &mut scripts, count)?;
-    let meeting = meeting_of(all, turns);
-    drive_scripts(rt, alloc, told, &meeting, scripts)?;
+    let meeting = meeting_of(count as u64, TURNS);
+    drive_scripts(rt, alloc, told, &meeting, Telling::Places, others, scripts)?;
     Ok(told.push('\n')?)
 }
 
-/// One script that waits for another in vain, and scripts that meet.
+// One script that is to meet so many, and its replies.
+fn append_script<W: Threads + Wait + Sync>(
+    rt: &W,
+    alloc: Global,
+    told: &mut String,
+    name: &str,
+    all: u64,
+    lines: &[&str],
+    others: &mut Vec<Pass>,
+) -> Result<()> {
+    told.push_str(name)?;
+    let mut scripts = Vec::new(alloc);
+    add_script(alloc, &mut scripts, lines)?;
+    let meeting = meeting_of(all, 10);
+    drive_scripts(rt, alloc, told, &meeting, Telling::Replies, others, scripts)?;
+    Ok(told.push('\n')?)
+}
+
+// One script that waits for another in vain, and the same on a pass of another key, which is told before. Then one of three events, and
+// scripts that meet.
+fn append_each<W: Threads + Wait + Sync>(
+    rt: &W,
+    alloc: Global,
+    told: &mut String,
+    others: &mut Vec<Pass>,
+) -> Result<()> {
+    let (one, all) = ([AGENT], [AGENT, FRAMEWORK, CYCLE]);
+    let stopped = "one script that is to meet another:";
+    append_script(rt, alloc, told, stopped, 2, &one, others)?;
+    keep_passes(rt, alloc, 2, &[], others)?;
+    others.truncate(1);
+    let stranger = "one script that is to meet another, on a pass of key 2:";
+    append_script(rt, alloc, told, stranger, 2, &one, others)?;
+    others.truncate(0);
+    append_script(
+        rt,
+        alloc,
+        told,
+        "one script of three events:",
+        1,
+        &all,
+        others,
+    )?;
+    append_meeting(rt, alloc, told, 2, others)?;
+    append_meeting(rt, alloc, told, 64, others)
+}
+
+/// Scripts that run alone, and scripts that meet.
 pub fn append_all<W: Threads + Wait + Sync>(
     rt: &W,
     alloc: Global,
     told: &mut String,
 ) -> Result<()> {
-    told.push_str("one script that is to meet another:")?;
-    append_meeting(rt, alloc, told, 1, 2, 10)?;
-    told.push_str("2 scripts that meet:")?;
-    append_meeting(rt, alloc, told, 2, 2, TURNS)?;
-    told.push_str("64 scripts that meet:")?;
-    append_meeting(rt, alloc, told, 64, 64, TURNS)
+    let mut others = Vec::new(alloc);
+    append_each(rt, alloc, told, &mut others)
 }

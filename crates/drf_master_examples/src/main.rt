@@ -1,15 +1,17 @@
 //! Worked examples of the master: `server`, a server in short, and then threads that call one, each by a pass of its own; passes that
-//! do not fit; a book without a master; scripts that run side by side. Each line of the output tells how one went, whichever
+//! do not fit; a book and a desk without a master; scripts that run side by side. Each line of the output tells how one went, whichever
 //! thread was first.
 #![tactic(auto)]
 
 mod books;
 mod calls;
 mod closing;
+mod desks;
 mod driving;
 mod lines;
 mod masters;
 mod server;
+mod visiting;
 
 use anyhow::Result;
 use std::alloc::Global;
@@ -22,6 +24,7 @@ fn run<W: Threads + Wait + Sync>(rt: &W, alloc: Global, told: &mut String) -> Re
     server::serve(rt, alloc, told)?;
     closing::append_all(rt, alloc, told)?;
     books::append_alone(rt, alloc, told)?;
+    desks::append_alone(rt, alloc, told)?;
     driving::append_all(rt, alloc, told)
 }
 

@@ -4,7 +4,7 @@ ghost use Rattle.drf_rows.specs.LimitNumbers.{ceilings};
 
 use crate::calls::{Row, use_master};
 use anyhow::Result;
-use drf_board::{Brand, Entry, Naming, Slate};
+use drf_board::{Brand, Entry, Naming, Slate, Viewer};
 use drf_master::{CloseFault, CloseRefused, Master, Pass};
 use drf_rows::Limits;
 use std::alloc::Global;
@@ -12,9 +12,9 @@ use std::fmt::Write;
 use std::sync::Wait;
 use std::thread::Threads;
 
-// Why a master was not closed, and whether all of its own passes match the book that is handed back: those that closed and those that were kept.
+/// Why a master was not closed, and whether all of its own passes match the book that is handed back: those that closed and those that were kept.
 #[derive(Clone, Copy)]
-struct Misfit {
+pub struct Misfit {
     fault: CloseFault,
     is_own: bool,
 }
@@ -32,8 +32,8 @@ fn misfit_of(mut refused: CloseRefused, own: usize, kept: &mut Vec<Pass>) -> Mis
     Misfit { fault, is_own }
 }
 
-// Closes a master with passes of which so many are its own; those that were kept are too.
-fn close<K: Naming, R: Wait + Drop>(
+/// Closes a master with passes of which so many are its own; those that were kept are too.
+pub fn close<K: Naming, R: Wait + Drop>(
     master: Master<K, R>,
     passes: Vec<Pass>,
     own: usize,
@@ -55,8 +55,8 @@ fn append_closed(told: &mut String, closed: &Result<Vec<Entry>, Misfit>) -> Resu
     }
 }
 
-// Tells how a master was closed, if it was used without a fault.
-fn append_used(
+/// Tells how a master was closed, if it was used without a fault.
+pub fn append_used(
     told: &mut String,
     used: Result<()>,
     closed: Result<Vec<Entry>, Misfit>,
@@ -75,6 +75,7 @@ fn use_and_close<K: Naming + Send + Sync, W: Threads + Wait + Sync>(
     kept: &mut Vec<Pass>,
     master: Master<K, &W>,
     mut passes: Vec<Pass>,
+    mut viewers: Vec<Viewer<K>>,
 ) -> Result<()> {
     let used = use_master(
         rt,
@@ -86,8 +87,10 @@ fn use_and_close<K: Naming + Send + Sync, W: Threads + Wait + Sync>(
         kept,
         &master,
         &mut passes,
+        &mut viewers,
     );
     let closed = close(master, passes, row.own, kept);
+    drop(viewers);
     append_used(told, used, closed)
 }
 
@@ -104,7 +107,7 @@ fn run_named<K: Naming + Send + Sync, W: Threads + Wait + Sync>(
     requires named { slate.name ≡ K.slate }
     requires limits { slate.name.limits ≡ ceilings }
 {
-    let (master, passes, _viewers) = Master::<K, &W>::open(
+    let (master, passes, viewers) = Master::<K, &W>::open(
         rt,
         alloc,
         row.key,
@@ -112,10 +115,12 @@ fn run_named<K: Naming + Send + Sync, W: Threads + Wait + Sync>(
         2,
         slate,
     )?;
-    use_and_close(rt, alloc, told, row, front, back, kept, master, passes)
+    use_and_close(
+        rt, alloc, told, row, front, back, kept, master, passes, viewers,
+    )
 }
 
-/// Opens a master with two passes, uses and closes it, and ends a line that tells how that went. What was kept before closes it too. What
+/// Opens a master with two passes and a viewer, uses and closes it, and ends a line that tells how that went. What was kept before closes it too. What
 /// is kept afterwards are its own passes that did not close it, or all of its own where none did.
 pub fn run<W: Threads + Wait + Sync>(
     rt: &W,
@@ -126,7 +131,7 @@ pub fn run<W: Threads + Wait + Sync>(
     back: &[&str],
     kept: &mut Vec<Pass>,
 ) -> Result<()> {
-    let slate = Slate::open(0, Limits::full())?;
+    let slate = Slate::open(1, Limits::full())?;
     run_named::<Brand, W>(rt, alloc, told, row, front, back, kept, slate)?;
     Ok(told.push('\n')?)
 }

@@ -4,7 +4,7 @@ ghost use Rattle.std.specs.Prelude.{◌≡◌};
 ghost use Rattle.drf_rows.specs.LimitNumbers.{ceilings};
 
 use anyhow::{Context, Result, bail};
-use drf_board::{Brand, Entry, Naming, Sheet, Slate, Viewer};
+use drf_board::{Brand, Entry, Naming, Sheet, Slate, Told, Viewer};
 use drf_lines::{read_event, write_reply};
 use drf_master::{Answer, CloseFault, CloseRefused, Master, Pass};
 use drf_rows::{Limits, Reply};
@@ -21,9 +21,9 @@ const OTHER_AGENT: &str = r#"{"event":"add_agent","agent":"n2","total":"cpus:2"}
 
 const FRAMEWORK: &str = r#"{"event":"add_framework","framework":"f1","roles":["eng"]}"#;
 
-// Calls by a pass: the event of the line is taken as one step, and the pass keeps a receipt for it. Threads share the master; each has a
-// pass of its own.
-fn call<K: Naming, R: Wait + Drop, W: Wait>(
+/// Calls by a pass: the event of the line is taken as one step, and the pass keeps a receipt for it. Threads share the master; each has a
+/// pass of its own.
+pub fn call<K: Naming, R: Wait + Drop, W: Wait>(
     rt: &W,
     alloc: Global,
     master: &Master<K, R>,
@@ -48,8 +48,8 @@ fn append_sheet(alloc: Global, told: &mut String, sheet: &Sheet) -> Result<()> {
     Ok(write!(told, " {} events ({total}), {nodes} nodes;", sheet.events)?)
 }
 
-// Adds what each viewer is shown. A viewer waits for nobody.
-fn append_sheets<K: Naming>(
+/// Adds what each viewer is shown. A viewer waits for nobody.
+pub fn append_sheets<K: Naming>(
     alloc: Global,
     told: &mut String,
     viewers: &mut [Viewer<K>],
@@ -59,6 +59,25 @@ fn append_sheets<K: Naming>(
         append_sheet(alloc, told, &sheet)?;
     }
     Ok(())
+}
+
+/// What a viewer has learnt is on each sheet that it reads from then on.
+pub fn learn<K: Naming>(viewers: &mut [Viewer<K>], told: &Told<K>) {
+    if let Some(first) = viewers.first_mut() {
+        first.learn(told);
+    }
+}
+
+// Adds the reply, and what each viewer is shown after the first has learnt what the answer tells.
+fn append_answer<K: Naming>(
+    alloc: Global,
+    told: &mut String,
+    viewers: &mut [Viewer<K>],
+    answer: &Answer<K>,
+) -> Result<()> {
+    append_reply(alloc, told, &answer.reply)?;
+    learn(viewers, &answer.told);
+    append_sheets(alloc, told, viewers)
 }
 
 // Calls twice, and reads before and after.
@@ -71,15 +90,10 @@ fn call_and_read<K: Naming, R: Wait + Drop, W: Wait>(
     viewers: &mut [Viewer<K>],
 ) -> Result<()> {
     append_sheets(alloc, told, viewers)?;
-    call(rt, alloc, master, passes, AGENT)?;
+    call_once(rt, alloc, master, passes, AGENT)?;
     // Now the agent is there. That it comes again is refused, which is an answer like any other.
     let answer = call(rt, alloc, master, passes, AGENT)?;
-    append_reply(alloc, told, &answer.reply)?;
-    // What a viewer has learnt is on each sheet that it reads from then on.
-    if let Some(first) = viewers.first_mut() {
-        first.learn(&answer.told);
-    }
-    append_sheets(alloc, told, viewers)
+    append_answer(alloc, told, viewers, &answer)
 }
 
 /// Calls, and forgets the answer.

@@ -2,9 +2,11 @@ pub mod Text
 pub mod TextLaws
 pub mod Name
 pub mod Parts
+pub mod PartLaws
 pub mod Path
 pub mod PathLaws
 pub mod Role
+pub mod RoleLaws
 pub mod Spans
 pub mod Tests
 pub mod TestLaws

@@ -1,17 +1,17 @@
 -- What adding and changing one client does to the content.
-use Rattle.std.proofs.Common.{◌≡◌, ◌<◌, ◌≤◌, ◌+◌, ◌-◌, ℕ, zero, suc, Bool, true, false, cond, List, [], ◌∷◌, ◌++◌, ◌||◌, Some, None, map, length, get_or, set, take, filter, remove, not, nat_lt, refl, sym, ap, subst, ◌∙◌, inl, inr, arith}
+use Rattle.std.proofs.Common.{◌≡◌, ◌<◌, ◌≤◌, ◌+◌, ◌-◌, ℕ, zero, suc, Bool, true, false, cond, List, [], ◌∷◌, ◌++◌, ◌||◌, Some, None, map, length, get_or, set, take, filter, remove, not, nat_lt, refl, sym, ap, subst, ◌∙◌, arith}
 use Rattle.std.specs.List.{AllByRecursion, IsDistinct, list_any, position, position_or_len, sum_by}
 use Rattle.std.specs.Cmp.Lexicographic.{lists_equiv, nat_list_eq_equiv, pointwise_decides, bytes_decides}
 use Rattle.std.specs.Cmp.{IsEquivalence}
-use Rattle.std.proofs.lemmas.Bool.{false≢true, cases_Bool, ltb-false}
-use Rattle.std.proofs.lemmas.List.Sums.{fails_before_first, get_or-le-sum_by}
-use Rattle.std.proofs.lemmas.List.Folds.{list_any_none}
+use Rattle.std.proofs.lemmas.Bool.{false≢true}
+use Rattle.std.proofs.lemmas.List.Sums.{get_or-le-sum_by}
 use Rattle.std.proofs.Math.Seq.{map-set_same}
 use Rattle.std.proofs.lemmas.List.Quantifiers.{position-Some}
 use Rattle.std.proofs.lemmas.List.{map_push, length-map, get_or-map, take_more}
 use Rattle.std.proofs.lemmas.Map.Keys.{IsDistinct-head, IsDistinct-tail, IsDistinct-push}
 use Rattle.indexmap.proofs.SetLemmas.{map-remove}
 use Rattle.drf_bundle.specs.Quantities.{amount_of, minus}
+use Rattle.drf_bundle.specs.laws.ListLaws.{position-none}
 use Rattle.drf_bundle.specs.laws.QuantitiesLaws.{amount-minus}
 use Rattle.drf_bundle.specs.declared.quantities.Entry.{Entry}
 use Rattle.drf_role.specs.Path.{same_path}
@@ -27,14 +27,6 @@ pub same_from_paths : (a b : List (List ℕ)) → same_path a b ≡ true → a �
 same_from_paths a b = (pointwise_decides bytes_decides a b).0
 
 -- ---- where a client is
-
-pub position-none : {X : Type 0} (p : X → Bool) (xs : List X) → None ≡ position p xs → list_any p xs ≡ false
-position-none p xs is = elim (cases_Bool (nat_lt (position_or_len p xs) (length xs))) [
-  | inl within ↦ absurd (let bad = rw within at is in cc)
-  | inr past ↦
-      let end : length xs ≤ position_or_len p xs = ltb-false _ _ past in
-      list_any_none p xs (λ k d inside. fails_before_first p xs k d (omega arith))
-]
 
 -- the client that was found
 pub record IsFound (clients : List Client) (path : List (List ℕ)) (i : ℕ) (x : Client) : Type 0 where

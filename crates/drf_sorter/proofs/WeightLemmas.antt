@@ -1,28 +1,14 @@
 -- The weights of roles: each in its range, and one put in its place.
-use Rattle.std.proofs.Common.{◌≡◌, ◌<◌, ◌≤◌, ℕ, zero, suc, Bool, false, IsTrue, List, [], ◌∷◌, ◌++◌, Some, length, get_or, set, refl, sym, ap, subst, inl, inr, arith, nat_le, nat_lt}
-use Rattle.std.specs.List.{find, list_any, position, position_or_len}
+use Rattle.std.proofs.Common.{◌≡◌, ◌<◌, ◌≤◌, ℕ, zero, suc, false, IsTrue, List, [], ◌∷◌, ◌++◌, Some, length, get_or, set, refl, sym, ap, inl, inr, arith, nat_le, nat_lt}
+use Rattle.std.specs.List.{list_any, position, position_or_len}
 use Rattle.std.proofs.lemmas.Bool.{true≢false, cases_Bool, and_parts, and_from, le-leb}
 use Rattle.std.proofs.lemmas.List.Quantifiers.{position-Some}
 use Rattle.drf_role.specs.Path.{same_path}
 use Rattle.drf_rows.specs.declared.rows.WeightRow.{WeightRow}
 use Rattle.drf_rows.specs.Weights.{is_weight, are_weights, weights_with}
-use Rattle.drf_rows.specs.laws.WeightLaws.{in_range}
 use Rattle.drf_sorter.specs.Content.{Content}
 use Rattle.drf_sorter.specs.Plain.{plain_content}
 use Rattle.drf_sorter.specs.declared.plain.PlainSorter.{PlainSorter}
-
-pub weight-found : (p : WeightRow → Bool) (ws : List WeightRow) (w : WeightRow) → IsTrue (are_weights ws)
-    → Some w ≡ find p ws → (1 ≤ w.weight) × (w.weight ≤ 1000000)
-weight-found p [] w all is = absurd cc
-weight-found p (x ∷ xs) w all is =
-    let parts = and_parts (is_weight x.weight) (are_weights xs) all in
-    elim (cases_Bool (p x)) [
-      | inl passes ↦
-          let here : Some w ≡ Some x = rw passes at is in
-          let same : w ≡ x = cc in
-          in_range w.weight (subst (λ (y : WeightRow). IsTrue (is_weight y.weight)) (sym same) parts.0)
-      | inr fails ↦ weight-found p xs w parts.1 (rw fails at is)
-    ]
 
 -- a weight that is in its range is put in place of one
 pub weights-stay : (ws : List WeightRow) (i : ℕ) (w : WeightRow) → 1 ≤ w.weight → w.weight ≤ 1000000

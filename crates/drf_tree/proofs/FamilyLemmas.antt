@@ -20,7 +20,7 @@ use Rattle.std.proofs.lemmas.List.Quantifiers.{position-Some}
 use Rattle.std.proofs.lemmas.Option.{slice_get_read}
 use Rattle.drf_sorter.specs.declared.key.Key as made
 use Rattle.drf_sorter.specs.Keys.{key_by, key_cmp}
-use Rattle.drf_sorter.proofs.ChangeLemmas.{position-none}
+use Rattle.drf_bundle.specs.laws.ListLaws.{position-none}
 use Rattle.drf_sorter.specs.laws.ShareLaws.{share_total}
 use Rattle.drf_tree.specs.declared.family.Child.{Child}
 use Rattle.drf_tree.specs.Family.{IsWith, are_sorted, has_child, is_before, is_not_behind, seen}

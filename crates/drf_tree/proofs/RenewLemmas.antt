@@ -23,7 +23,7 @@ use Rattle.drf_sorter.specs.laws.OrderLaws.{weighted_share-above}
 use Rattle.drf_sorter.specs.Plain.{plain_content}
 use Rattle.drf_sorter.specs.Served.{Weighs}
 use Rattle.drf_sorter.specs.declared.plain.PlainSorter.{PlainSorter}
-use Rattle.drf_sorter.proofs.WeightLemmas.{weight-found}
+use Rattle.drf_rows.specs.laws.WeightLaws.{weight-found}
 use Rattle.drf_tree.specs.declared.family.Child.{Child}
 use Rattle.drf_tree.specs.declared.family.Family.{Family}
 use Rattle.drf_tree.specs.declared.node.Place.{Place}

@@ -1,7 +1,8 @@
 -- What an event that sets a weight changes: the weight of its role, and no other. Weights stay in their range.
-use Rattle.std.specs.Prelude.{◌≡◌, ℕ, ◌+◌, ◌≤◌, true, false, not, nat_le, IsTrue, List, [], ◌∷◌, map, Option, Some, None}
+use Rattle.std.specs.Prelude.{◌≡◌, ℕ, ◌+◌, ◌≤◌, Bool, true, false, not, nat_le, IsTrue, List, [], ◌∷◌, map, Option, Some, None}
+use Rattle.std.specs.List.{find}
 use Rattle.std.specs.Option.{option_map_or}
-use Rattle.std.proofs.Common.{refl, ap, ◌∙◌, inl, inr, arith}
+use Rattle.std.proofs.Common.{refl, sym, ap, subst, ◌∙◌, inl, inr, arith}
 use Rattle.std.proofs.lemmas.Bool.{cases_Bool, and_parts, and_from, leb-true}
 use Rattle.drf_role.specs.Path.{Path, same_path}
 use Rattle.drf_role.specs.PathLaws.{same_path_itself, same_path-true}
@@ -58,6 +59,20 @@ pub in_range : (n : ℕ) → IsTrue (is_weight n) → (1 ≤ n) × (n ≤ 100000
 in_range n is =
     let parts = and_parts (nat_le 1 n) (nat_le n 1000000) is in
     (leb-true 1 n parts.0, leb-true n 1000000 parts.1)
+
+-- a row that is found has a weight in its range
+pub weight-found : (p : WeightRow → Bool) (ws : List WeightRow) (w : WeightRow) → IsTrue (are_weights ws)
+    → Some w ≡ find p ws → (1 ≤ w.weight) × (w.weight ≤ 1000000)
+weight-found p [] w all is = absurd cc
+weight-found p (x ∷ xs) w all is =
+    let parts = and_parts (is_weight x.weight) (are_weights xs) all in
+    elim (cases_Bool (p x)) [
+      | inl passes ↦
+          let here : Some w ≡ Some x = rw passes at is in
+          let same : w ≡ x = cc in
+          in_range w.weight (subst (λ (y : WeightRow). IsTrue (is_weight y.weight)) (sym same) parts.0)
+      | inr fails ↦ weight-found p xs w parts.1 (rw fails at is)
+    ]
 
 -- a node's weight is a row's or 1, and so in the range of weights
 pub weight_of-in_range : (ws : List WeightRow) (node : Path) → IsTrue (are_weights ws)

@@ -1,9 +1,8 @@
-use Rattle.std.proofs.Common.{◌≡◌, ◌++◌, ◌∷◌, [], ℕ, List, length, ap, sym, ◌∙◌, subst, arith}
+use Rattle.std.proofs.Common.{◌≡◌, ◌++◌, ◌∷◌, [], ℕ, List, length, ap, sym, ◌∙◌, subst, append_assoc, length-append, arith}
 use Rattle.std.proofs.lemmas.Result.{err_from_is_err_and}
 use Rattle.std.specs.Vec.Iter.{into_iter_items}
 use Rattle.drf_drive.specs.Scripts.{AreWhole, IsStoppedBy}
 use Rattle.drf_drive.specs.declared.script.Script.{Script}
-use Rattle.drf_master.proofs.Scripts.{less-of_split, whole-next}
 use Rattle.drf_drive.proofs.Scripts.{stopped-next, whole-count, whole-push}
 use Rattle.drf_drive.proofs.script.all_whole.Goals as goal
 
@@ -22,15 +21,17 @@ pub push_reserved-requires : goal.push_reserved-requires
 push_reserved-requires c =
     let at = c.loop-script in
     let rest : List Script = into_iter_items c.next.new.self in
-    let few = less-of_split c.args.scripts.items at.yielded (into_iter_items at.script-iterator) rest c.in-Some.script at.invariant.0 c.in-Some.ensures.steps.0 in
-    omega (arith, few, whole-count at.yielded at.events.items at.invariant.1.0, at.events.ok.0, at.invariant.1.1)
+    let split = at.invariant.0 ∙ ap (λ (l : List Script). at.yielded ++ l) c.in-Some.ensures.steps.0 in
+    let counts = ap length split ∙ length-append at.yielded (c.in-Some.script ∷ rest) in
+    omega (arith, counts, whole-count at.yielded at.events.items at.invariant.1.0, at.events.ok.0, at.invariant.1.1)
 
 pub loop-script-preserved : goal.loop-script-preserved
 loop-script-preserved c =
     let at = c.loop-script in
     let rest : List Script = into_iter_items c.next.new.self in
     let pushed = subst (AreWhole (at.yielded ++ c.in-Some.script ∷ [])) (sym c.push_reserved.ensures.items)
-    (whole-push at.yielded at.events.items c.in-Some.script c.in_ok-read.read at.invariant.1.0 c.in_ok-read.ensures.ok) in (
-      whole-next c.args.scripts.items at.yielded (into_iter_items at.script-iterator) rest c.in-Some.script at.invariant.0 c.in-Some.ensures.steps.0,
+    (whole-push at.yielded at.events.items c.in-Some.script c.in_ok-read.read at.invariant.1.0 c.in_ok-read.ensures.ok) in
+    let split = at.invariant.0 ∙ ap (λ (l : List Script). at.yielded ++ l) c.in-Some.ensures.steps.0 in (
+      split ∙ sym (append_assoc at.yielded (c.in-Some.script ∷ []) rest),
       (pushed, omega (arith, at.invariant.1.1, c.push_reserved.ensures.capacity)),
     )

@@ -4,7 +4,7 @@ use Rattle.std.specs.Str.{IsAscii}
 use Rattle.std.proofs.lemmas.Str.{IsCharBoundary-from_ascii}
 use Rattle.drf_role.specs.Text.{Text}
 use Rattle.drf_role.specs.Parts.{text_of}
-use Rattle.drf_role.proofs.RoleLemmas.{role_ascii}
+use Rattle.drf_role.specs.RoleLaws.{role_ascii}
 use Rattle.drf_gates.specs.Front.{path_in, end_of}
 use Rattle.drf_gates.proofs.FrontLemmas.{end_within, front_is}
 use Rattle.drf_gates.proofs.fronts.first_parts.Goals as goal

@@ -7,7 +7,7 @@ use Rattle.std.proofs.lemmas.Str.{IsAscii-append}
 use Rattle.std.proofs.lemmas.Str.Ascii.{IsAscii-nil, IsAscii-cons, IsAscii-from_all}
 use Rattle.drf_role.specs.Parts.{parts_of, text_of}
 use Rattle.drf_role.specs.Role.{IsComponentByte, IsComponent, IsRolePath, IsRole, IsRoleText, default_role}
-use Rattle.drf_role.proofs.PartLemmas.{HasNoSlash, parts_of-text_of, text_of-parts_of}
+use Rattle.drf_role.specs.PartLaws.{HasNoSlash, parts_of-text_of, text_of-parts_of}
 
 byte_no_slash : (b : ℕ) → IsComponentByte b → eqb b 47 ≡ false
 byte_no_slash b h = let ne = h.no_slash in grind (arith, nat_tests)

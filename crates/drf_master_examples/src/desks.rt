@@ -1,0 +1,75 @@
+//! A desk with no lock round it. It answers, shows what comes of each call, and is a book again in the end.
+ghost use Rattle.std.specs.Prelude.{◌≡◌};
+ghost use Rattle.drf_rows.specs.LimitNumbers.{ceilings};
+
+use crate::books::append_left;
+use crate::lines::{AGENT, CYCLE, FRAMEWORK, append_placed};
+use crate::server::{append_sheets, learn};
+use anyhow::Result;
+use drf_board::{Board, Brand, Naming, Slate, Viewer};
+use drf_lines::read_event;
+use drf_master::{Book, Desk};
+use drf_rows::Limits;
+use std::alloc::Global;
+use std::sync::Wait;
+
+// Answers. The viewer learns what the answer tells.
+fn answer<K: Naming, R: Wait + Drop>(
+    alloc: Global,
+    told: &mut String,
+    desk: &mut Desk<K, R>,
+    viewers: &mut [Viewer<K>],
+    line: &str,
+) -> Result<()> {
+    let event = read_event(alloc, line.as_bytes())?;
+    let answer = desk.answer(event)?;
+    learn(viewers, &answer.told);
+    append_placed(alloc, told, answer.place, &answer.reply)
+}
+
+// Answers three events. Then the viewer, which has learnt what the last answer told, reads.
+fn answer_all<K: Naming, R: Wait + Drop>(
+    alloc: Global,
+    told: &mut String,
+    desk: &mut Desk<K, R>,
+    viewers: &mut [Viewer<K>],
+) -> Result<()> {
+    answer(alloc, told, desk, viewers, AGENT)?;
+    answer(alloc, told, desk, viewers, FRAMEWORK)?;
+    answer(alloc, told, desk, viewers, CYCLE)?;
+    append_sheets(alloc, told, viewers)
+}
+
+fn use_and_end<K: Naming, R: Wait + Drop>(
+    alloc: Global,
+    told: &mut String,
+    mut desk: Desk<K, R>,
+    mut viewers: Vec<Viewer<K>>,
+) -> Result<()> {
+    let used = answer_all(alloc, told, &mut desk, &mut viewers);
+    let entries = desk.into_book().into_entries();
+    drop(viewers);
+    append_left(alloc, told, used, &entries)
+}
+
+fn open_and_use<K: Naming, W: Wait>(
+    rt: &W,
+    alloc: Global,
+    told: &mut String,
+    slate: Slate,
+) -> Result<()>
+    requires named { slate.name ≡ K.slate }
+    requires limits { slate.name.limits ≡ ceilings }
+{
+    let (board, viewers) = Board::<K, &W>::open(rt, alloc, slate)?;
+    let book = Book::open(alloc, Limits::full())?;
+    use_and_end(alloc, told, Desk::new(book, board), viewers)
+}
+
+/// A desk with one viewer answers three events.
+pub fn append_alone<W: Wait>(rt: &W, alloc: Global, told: &mut String) -> Result<()> {
+    told.push_str("a desk alone:")?;
+    let slate = Slate::open(1, Limits::full())?;
+    open_and_use::<Brand, W>(rt, alloc, told, slate)?;
+    Ok(told.push('\n')?)
+}

@@ -2,10 +2,11 @@
 ghost use Rattle.std.specs.Prelude.{◌≡◌, ◌≤◌, [], All, length, map, vec_capacity, IfOk, IfErr, OnOk};
 ghost use Rattle.drf_board.specs.History.{IsLegal};
 ghost use Rattle.drf_master.specs.Closing.{AreOf, IsClosed};
+ghost use Rattle.drf_master.specs.declared.driving.DriveFault.TheVariants.{Memory};
 ghost use Rattle.drf_master.specs.Scripts.{AreAsked, AreDone, AreNumbered, DidJob, DidJobs, HasCalled, HasDriven, HaveAllRun, IsAsked, IsCallStop, IsDriveFault, IsFirstFault, IsMisfitOf, IsRunFault};
 
 use crate::book::Book;
-use crate::desk::MasterSorter;
+use crate::desk::{Desk, MasterSorter};
 use crate::gate::Gate;
 use crate::master::{Master, are_of};
 use crate::matching::CloseFault;
@@ -13,7 +14,7 @@ use crate::pass::Pass;
 use drf_board::{Entry, Naming};
 use drf_rows::{Event, Reply};
 use std::alloc::{AllocError, Global};
-use std::sync::Wait;
+use std::sync::{MutexGuard, Wait};
 use std::thread;
 use std::thread::Threads;
 
@@ -75,18 +76,50 @@ pub struct Done {
     pub replies: Vec<Reply>,
 }
 
-// Makes one call by a pass of this master, and asks the gate round it.
-fn run_call<K: Naming, R: Wait + Drop, W: Wait, G: Gate>(
-    rt: &W,
-    master: &Master<K, R>,
-    gate: &G,
-    worker: u64,
+// Gives the lock up after the last of the calls that are made together.
+fn keep<'a, K: Naming, R: Wait + Drop>(
+    desk: MutexGuard<'a, Desk<K, R>>,
+    together: u64,
     call: u64,
+) -> Option<MutexGuard<'a, Desk<K, R>>> {
+    if call.wrapping_add(1) % together.max(1) == 0 {
+        drop(desk);
+        return None;
+    }
+    Some(desk)
+}
+
+// Answers an event at a desk, and gives the pass its receipt.
+fn answer_to<K: Naming, R: Wait + Drop>(
+    desk: &mut Desk<K, R>,
     pass: &mut Pass,
     event: Event,
 ) -> Result<Reply, DriveFault>
-    requires own { pass.old.key ≡ master.now.key }
     ensures called { IfOk result (HasCalled pass.old pass.new event) }
+    ensures fault { IfErr result (λ fault. fault ≡ Memory) }
+{
+    if pass.reserve(1).is_err() {
+        drop(event);
+        return Err(DriveFault::Memory);
+    }
+    match desk.answer_to(pass, event) {
+        Ok(answer) => Ok(answer.reply),
+        Err(_) => Err(DriveFault::Memory),
+    }
+}
+
+// Makes one call by a pass of this master, and asks the gate round it. Hands back the desk, if the next call is made with it.
+fn run_call<'a, K: Naming, R: Wait + Drop, W: Wait, G: Gate>(
+    rt: &W,
+    master: &'a Master<K, R>,
+    gate: &G,
+    worker: u64,
+    call: u64,
+    held: Option<MutexGuard<'a, Desk<K, R>>>,
+    pass: &mut Pass,
+    event: Event,
+) -> Result<(Reply, Option<MutexGuard<'a, Desk<K, R>>>), DriveFault>
+    ensures called { IfOk result (λ r. HasCalled pass.old pass.new event r.0) }
     ensures asked { OnOk result (IsAsked (G.lets gate.now) (G.sees gate.now) worker call) }
     ensures fault { IfErr result (IsCallStop (G.stops gate.now worker call)) }
 {
@@ -94,12 +127,14 @@ fn run_call<K: Naming, R: Wait + Drop, W: Wait, G: Gate>(
         drop(event);
         return Err(DriveFault::Stopped);
     }
-    // A pass of this master is refused for want of memory alone.
-    let Ok(answer) = master.call(rt, pass, event) else {
-        return Err(DriveFault::Memory);
+    let mut desk = match held {
+        Some(desk) => desk,
+        None => master.hold(rt),
     };
+    let reply = answer_to(&mut *desk, pass, event)?;
+    let held = keep(desk, gate.together(), call);
     gate.after(worker, call);
-    Ok(answer.reply)
+    Ok((reply, held))
 }
 
 // Makes the calls of a script in order.
@@ -120,9 +155,11 @@ fn run_script<K: Naming, R: Wait + Drop, W: Wait, G: Gate>(
     } = job;
     pass.reserve(script.len())?;
     let mut replies = Vec::with_capacity(alloc, script.len())?;
+    let mut held = None;
     for event in script {
         let call = replies.len() as u64;
-        let reply = run_call(rt, master, gate, worker, call, &mut pass, event)?;
+        let (reply, next) = run_call(rt, master, gate, worker, call, held, &mut pass, event)?;
+        held = next;
         replies.push_reserved(reply);
     }
     Ok(Done { pass, replies })

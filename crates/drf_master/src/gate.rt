@@ -1,8 +1,8 @@
 //! When the workers of a drive go on.
 ghost use Rattle.std.specs.Prelude.{MatchBool};
 
-/// Is asked by each worker round each of its calls; that it is outside the lock, before and after the call, no clause says. Workers and calls
-/// are counted from 0. A gate of which nothing is to be known says `Unit {0}` of each call.
+/// Is asked by each worker round each of its calls; that it is before and after the call, and outside the lock where `together` is 1, no
+/// clause says. Workers and calls are counted from 0. A gate of which nothing is to be known says `Unit {0}` of each call.
 pub trait Gate {
     ghost use Rattle.std.specs.Prelude.{ℕ};
 
@@ -22,6 +22,9 @@ pub trait Gate {
     /// After a call that was answered.
     fn after(&self, worker: u64, call: u64)
         ensures { sees self.now worker call };
+
+    /// After so many calls a worker gives the lock up to others: 1 for a gate that waits for them. No clause speaks of it.
+    fn together(&self) -> u64;
 }
 
 /// Lets all workers go on.
@@ -39,4 +42,9 @@ impl Gate for OpenGate {
     }
 
     fn after(&self, _worker: u64, _call: u64) {}
+
+    /// Two threads that take turns at the lock wait longer for one another than a call takes.
+    fn together(&self) -> u64 {
+        32
+    }
 }

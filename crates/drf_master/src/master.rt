@@ -14,7 +14,7 @@ use crate::pass::Pass;
 use drf_board::{Board, Naming, Slate, Viewer};
 use drf_rows::{Event, Limits};
 use std::alloc::{AllocError, Global};
-use std::sync::{Mutex, Wait};
+use std::sync::{Mutex, MutexGuard, Wait};
 
 /// Why a call was not made. The pass is as it was; that journal and board are, the clause of `Desk::answer` says, and none of a call.
 #[derive(Clone, Copy, Debug, PartialEq, Eq)]
@@ -145,6 +145,11 @@ impl<K: Naming, R: Wait + Drop> Master<K, R> {
                 Err(fault)
             }
         }
+    }
+
+    /// The desk, locked.
+    pub(crate) fn hold<W: Wait>(&self, rt: &W) -> MutexGuard<'_, Desk<K, R>> {
+        self.desk.lock(rt)
     }
 
     // Makes room for one receipt more in a pass of this master.

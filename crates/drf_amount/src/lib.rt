@@ -5,8 +5,10 @@
 mod algebra;
 mod parts;
 mod pool;
+mod same;
 mod scalar;
 
 pub use algebra::{Algebra, AlgebraFault};
 pub use pool::{Pool, PoolFault};
+pub use same::is_same;
 pub use scalar::Scalar;

@@ -18,7 +18,7 @@ use Rattle.drf_bundle.specs.laws.ValueLaws.{units-most}
 use Rattle.drf_bundle.specs.Bundle.{Key, key_of, same_key, is_in_order, stock}
 use Rattle.drf_bundle.specs.laws.KeyLaws.{cases_below, below_from_name, Has, where-cons, unit-none}
 use Rattle.drf_bundle.specs.laws.SumLaws.{of_name}
-use Rattle.drf_bundle.specs.Places.{IsKeyGap, IsNameGap}
+use Rattle.drf_bundle.specs.KeyPlaces.{IsKeyGap, IsNameGap}
 use Rattle.drf_bundle.specs.Union.{has_other_kind, is_reserved_elsewhere, is_too_much, union_refusal}
 use Rattle.drf_bundle.specs.declared.resource.Resource.{Resource}
 use Rattle.drf_bundle.proofs.SearchLemmas.{in_order_at, has_index}

@@ -1,5 +1,5 @@
 -- The steps of the walks through two lists of resources.
-use Rattle.std.specs.Prelude.{◌≡◌, ℕ, ◌+◌, ◌-◌, ◌<◌, ◌&&◌, ◌||◌, Bool, true, false, not, List, [], ◌∷◌, ◌++◌, length, take, drop, Some, None, IsTrue}
+use Rattle.std.specs.Prelude.{◌≡◌, ℕ, ◌+◌, ◌-◌, ◌<◌, ◌≤◌, ◌^◌, ◌&&◌, ◌||◌, Bool, true, false, not, List, [], ◌∷◌, ◌++◌, length, take, drop, Some, None, IsTrue}
 use Rattle.std.specs.List.{list_all}
 use Rattle.std.proofs.Common.{Ordering, Less, Equal, Greater, refl, sym, ap, ◌∙◌, subst, inl, inr, arith, get_or, append_assoc, take_all, add-one}
 use Rattle.std.proofs.lemmas.List.{append-nil}
@@ -7,11 +7,13 @@ use Rattle.std.proofs.Math.Seq.{drop-cons}
 use Rattle.std.proofs.lemmas.Bool.{false≢true, true≢false, not-true, and_parts, and_from, cases_Bool}
 use Rattle.drf_role.specs.Text.{Text, same_text, text_below}
 use Rattle.drf_role.specs.TextLaws.{cases_cmp, same_from_test, same_from_cmp, below_from_cmp, above_from_cmp, below_other, above_other, below_trans, cmp_itself, test_from_same}
-use Rattle.drf_bundle.specs.Value.{clash_in}
-use Rattle.drf_bundle.specs.Bundle.{key_of, key_cmp, key_below, is_in_order, merged, clashes_with_some, have_clash}
-use Rattle.drf_bundle.specs.laws.KeyLaws.{stands_first, cases_below}
-use Rattle.drf_bundle.specs.laws.JoinLaws.{both_of, merged-empty}
-use Rattle.drf_bundle.specs.Sides.{side_of, next_side, names_cmp, none_before}
+use Rattle.drf_bundle.specs.Value.{Point, Thousandths, units_in, clash_in}
+use Rattle.drf_bundle.specs.Bundle.{key_of, key_cmp, key_below, is_in_order, stock, both_of, merged, clashes_with_some, have_clash}
+use Rattle.drf_bundle.specs.laws.KeyLaws.{stands_first, cases_below, key_equal, where-cons}
+use Rattle.drf_bundle.specs.laws.SumLaws.{of_name}
+use Rattle.drf_bundle.specs.laws.FitLaws.{fits_less, stock_of_both, stock_has}
+use Rattle.drf_bundle.specs.laws.JoinLaws.{merged-empty}
+use Rattle.drf_bundle.specs.Sides.{FitTogether, side_of, next_side, names_cmp, none_before}
 use Rattle.drf_bundle.specs.declared.merge.Side.TheVariants.{Left, Right, Both}
 use Rattle.drf_bundle.specs.declared.resource.Resource.{Resource}
 use Rattle.drf_bundle.specs.declared.value.Clash.{Clash}
@@ -22,6 +24,10 @@ tail rs = take (length rs - 1) (drop 1 rs)
 
 pub tail_is : (r : Resource) (rs : List Resource) → tail (r ∷ rs) ≡ rs
 tail_is r rs = take_all _ _ (omega arith)
+
+stock_tail : (rs : List Resource) (name : Text) (p : Point) → stock (tail rs) name p ≤ stock rs name p
+stock_tail [] name p = omega arith
+stock_tail (r ∷ rs) name p = rw (tail_is r rs) (omega (arith, where-cons (of_name name) p r rs))
 
 -- ---- the steps of a merge
 
@@ -64,6 +70,32 @@ step_both (r ∷ rs) [] y z side is other = cc
 step_both (r ∷ rs) (s ∷ ss) y z side is other =
     let first : merged (r ∷ rs) (s ∷ ss) ≡ both_of r s ∷ merged rs ss = rw (side_equal (key_cmp (key_of r) (key_of s)) side) refl in
     first ∙ (λ i. both_of (sym is i) (sym other i) ∷ merged (sym (tail_is r rs) i) (sym (tail_is s ss) i))
+
+-- what fits together with all fits with what is left
+pub fits_left : (a b : List Resource) → FitTogether a b → FitTogether (tail a) b
+fits_left a b fits = fits_less (stock_of_both a b) (stock_of_both (tail a) b) fits (λ name p. omega (arith, stock_tail a name p))
+
+pub fits_right : (a b : List Resource) → FitTogether a b → FitTogether a (tail b)
+fits_right a b fits = fits_less (stock_of_both a b) (stock_of_both a (tail b)) fits (λ name p. omega (arith, stock_tail b name p))
+
+-- so the scalars of two that are united are not too large together
+pub small_together : (a b : List Resource) (y z : Resource) → next_side a b ≡ Some Both → y ≡ get_or a 0 y → z ≡ get_or b 0 z
+    → FitTogether a b → units_in y.value Thousandths + units_in z.value Thousandths < 2 ^ 64
+small_together [] [] y z side is other fits = cc
+small_together [] (s ∷ ss) y z side is other fits = cc
+small_together (r ∷ rs) [] y z side is other fits = cc
+small_together (r ∷ rs) (s ∷ ss) y z side is other fits =
+    let keys = key_equal (key_of r) (key_of s) (side_equal (key_cmp (key_of r) (key_of s)) side) in
+    let there : units_in s.value Thousandths ≤ stock (s ∷ ss) r.label Thousandths =
+    subst (λ (t : Text). units_in s.value Thousandths ≤ stock (s ∷ ss) t Thousandths) (λ i. (sym keys i).0) (stock_has (s ∷ ss) s Thousandths (inl refl)) in
+    omega (
+      arith,
+      ap (λ (t : Resource). units_in t.value Thousandths) is,
+      ap (λ (t : Resource). units_in t.value Thousandths) other,
+      stock_has (r ∷ rs) r Thousandths (inl refl),
+      there,
+      fits.at_most r.label Thousandths,
+    )
 
 -- what is found and what is left make the whole
 pub pushed : (found left more whole : List Resource) (x y : Resource) → found ++ left ≡ whole → left ≡ y ∷ more → x ≡ y

@@ -17,7 +17,7 @@ use Rattle.drf_role.specs.TextLaws.{below_trans, same_from_cmp, same_from_test, 
 use Rattle.drf_bundle.specs.Quantities.{amount_of, is_named, is_in_order, with_amount}
 use Rattle.drf_bundle.specs.laws.ListLaws.{position-none}
 use Rattle.drf_bundle.specs.laws.QuantitiesLaws.{stands_first, amount-with}
-use Rattle.drf_bundle.specs.Places.{IsAt, IsGapFor}
+use Rattle.drf_bundle.specs.KeyPlaces.{IsAt, IsGapFor}
 use Rattle.drf_bundle.specs.declared.quantities.Entry.{Entry}
 
 first_at : (n : List ℕ) (es : List Entry) (k : ℕ) (d : Entry) → IsTrue (stands_first n es) → k < length es → IsTrue (text_below n (get_or es k d).label)

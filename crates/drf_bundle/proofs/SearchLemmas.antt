@@ -1,5 +1,5 @@
 -- What a search by key finds, and what an edit at that place does.
-use Rattle.std.specs.Prelude.{◌≡◌, ℕ, ◌+◌, ◌<◌, true, false, not, List, [], ◌∷◌, length, Some, None, IsTrue}
+use Rattle.std.specs.Prelude.{◌≡◌, ℕ, ◌+◌, ◌<◌, ◌≤◌, ◌^◌, true, false, not, List, [], ◌∷◌, length, Some, None, IsTrue}
 use Rattle.std.proofs.Common.{zero, suc, Less, Equal, Greater, Result, Ok, Err, IfOk, IfErr, get_or, set, refl, sym, ap, ◌∙◌, subst, inl, inr, arith}
 use Rattle.std.specs.Cmp.{IsTotalOrder, then_flip}
 use Rattle.std.specs.Cmp.Lexicographic.{slice_cmp, nat_list_cmp_total}
@@ -13,10 +13,15 @@ use Rattle.drf_role.specs.Text.{Text, same_text}
 use Rattle.drf_role.specs.Path.{Path, same_path}
 use Rattle.drf_role.specs.PathLaws.{same_path-true}
 use Rattle.drf_role.specs.TextLaws.{less_from_test, cmp_itself, same_from_test}
-use Rattle.drf_bundle.specs.Bundle.{Key, key_of, key_cmp, key_below, reservation, same_key, is_in_order, value_at, merged}
+use Rattle.drf_bundle.specs.Bundle.{Key, key_of, key_cmp, key_below, reservation, same_key, is_in_order, stock, HasSums, value_at, both_of, merged}
 use Rattle.drf_bundle.specs.laws.KeyLaws.{cases_key, key_trans, key_less, key_greater, key_equal, same_key_itself, below_other, above_other, Has, stands_first}
-use Rattle.drf_bundle.specs.laws.JoinLaws.{both_of, merged-empty}
-use Rattle.drf_bundle.specs.Places.{IsKeyAt, IsKeyGap}
+use Rattle.drf_bundle.specs.laws.JoinLaws.{merged-empty}
+use Rattle.drf_bundle.specs.laws.SumLaws.{amount-kept}
+use Rattle.drf_bundle.specs.laws.FitLaws.{stock_has}
+use Rattle.drf_bundle.specs.Quantities.{amount_of}
+use Rattle.drf_bundle.specs.Value.{Thousandths, units_in}
+use Rattle.drf_bundle.specs.declared.quantities.Entry.{Entry}
+use Rattle.drf_bundle.specs.KeyPlaces.{IsKeyAt, IsKeyGap}
 use Rattle.drf_bundle.specs.declared.resource.Resource.{Resource}
 
 less_from_below : (k l : Key) → IsTrue (key_below k l) → key_cmp k l ≡ Less
@@ -130,6 +135,16 @@ ne_is k l = elim (cases_key k l) [
   | inr (inr greater) ↦ ap is_ne greater ∙ ap not (sym (above_other l k (key_greater k l greater)))
 ]
 
+-- where the resource adds to the sum of its name, it adds to the scalar under its key
+pub small_at : (rs : List Resource) (sums : List Entry) (r had : Resource) (i : ℕ) → HasSums rs sums → IsKeyAt rs (key_of r) i
+    → had ≡ get_or rs i had → amount_of sums r.label + units_in r.value Thousandths < 2 ^ 64
+    → units_in had.value Thousandths + units_in r.value Thousandths < 2 ^ 64
+small_at rs sums r had i kept at read small =
+    let keys : key_of had ≡ key_of r = ap key_of read ∙ at.has_key had in
+    let there : units_in had.value Thousandths ≤ stock rs r.label Thousandths =
+    subst (λ (t : Text). units_in had.value Thousandths ≤ stock rs t Thousandths) (λ j. (keys j).0) (stock_has rs had Thousandths (has_at rs i had at.in_range read)) in
+    omega (arith, small, amount-kept rs sums r.label kept, there)
+
 -- where the key stands, the two are united
 pub merged_at : (rs : List Resource) (r had : Resource) (i : ℕ) → IsTrue (is_in_order rs) → IsKeyAt rs (key_of r) i
     → had ≡ get_or rs i had → merged rs (r ∷ []) ≡ set rs i (both_of had r)
@@ -149,7 +164,8 @@ pub merged_in_gap : (rs : List Resource) (r : Resource) (i : ℕ) → IsKeyGap r
     → merged rs (r ∷ []) ≡ insert rs i r
 merged_in_gap [] r zero gap = refl
 merged_in_gap [] r (suc i) gap = absurd (omega (arith, gap.in_range))
-merged_in_gap (s ∷ ss) r zero gap = rw (key_above (key_of r) (key_of s) (gap.above_after 0 s (omega arith) (omega arith))) refl
+merged_in_gap (s ∷ ss) r zero gap =
+    rw (key_above (key_of r) (key_of s) (gap.above_after 0 s (omega arith) (omega arith))) (ap (λ (l : List Resource). r ∷ s ∷ l) (merged-empty ss))
 merged_in_gap (s ∷ ss) r (suc i) gap =
     let tail : IsKeyGap ss (key_of r) i = record {
       in_range = omega (arith, gap.in_range);

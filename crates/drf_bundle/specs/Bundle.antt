@@ -102,18 +102,22 @@ amount bundle = sum_by (λ r. amount_in r.value) bundle
 abbrev pub with_value : Resource → Value → Resource
 with_value r v = record { label = r.label; role = r.role; value = v }
 
--- a resource and the rest of its list, put among those of the other list
-abbrev pub merge_step : Resource → List Resource → (List Resource → List Resource) → List Resource → List Resource
-merge_step r rs on [] = r ∷ rs
-merge_step r rs on (s ∷ ss) = match_ordering (key_cmp (key_of r) (key_of s))
-    (r ∷ on (s ∷ ss))
-    (with_value r (united r.value s.value) ∷ on ss)
-    (s ∷ merge_step r rs on ss)
+-- two resources of one key as one
+abbrev pub both_of : Resource → Resource → Resource
+both_of r s = with_value r (united r.value s.value)
 
--- the resources of both in order, those of one key united
+-- a resource in its place among others: those before it stay, one of its key is united with it, and with those behind it the rest is merged
+abbrev pub put_among : Resource → (List Resource → List Resource) → List Resource → List Resource
+put_among r merge_rest [] = r ∷ merge_rest []
+put_among r merge_rest (s ∷ ss) = match_ordering (key_cmp (key_of r) (key_of s))
+    (r ∷ merge_rest (s ∷ ss))
+    (both_of r s ∷ merge_rest ss)
+    (s ∷ put_among r merge_rest ss)
+
+-- the resources of both in order, those of one key united: each of the one list is put among those of the other
 abbrev pub merged : List Resource → List Resource → List Resource
 merged [] others = others
-merged (r ∷ rs) others = merge_step r rs (merged rs) others
+merged (r ∷ rs) others = put_among r (merged rs) others
 
 -- one of the resources has that name and a value that clashes in that way
 abbrev pub clashes_with_some : Clash → Resource → List Resource → Bool

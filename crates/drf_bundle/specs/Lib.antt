@@ -1,5 +1,5 @@
 pub mod Bundle
-pub mod Places
+pub mod KeyPlaces
 pub mod Quantities
 pub mod Value
 pub mod Sides

@@ -1,12 +1,12 @@
 -- Two lists of resources side by side.
-use Rattle.std.specs.Prelude.{Bool, not, List, [], ◌∷◌, Option, Some, None}
+use Rattle.std.specs.Prelude.{◌+◌, Bool, not, List, [], ◌∷◌, Option, Some, None}
 use Rattle.std.specs.List.{list_all}
 use Rattle.std.specs.declared.cmp.Ordering.{Ordering}
 use Rattle.std.specs.declared.cmp.Ordering.TheVariants.{Less, Equal, Greater}
 use Rattle.std.specs.Ordering.{nat_cmp}
 use Rattle.std.specs.Cmp.Lexicographic.{slice_cmp}
 use Rattle.drf_role.specs.Text.{Text, text_below}
-use Rattle.drf_bundle.specs.Bundle.{key_of, key_cmp}
+use Rattle.drf_bundle.specs.Bundle.{key_of, key_cmp, stock, Fits}
 use Rattle.drf_bundle.specs.declared.merge.Side.{Side}
 use Rattle.drf_bundle.specs.declared.merge.Side.TheVariants.{Left, Right, Both}
 use Rattle.drf_bundle.specs.declared.resource.Resource.{Resource}
@@ -23,6 +23,10 @@ next_side [] [] = None
 next_side [] (s ∷ ss) = Some Right
 next_side (r ∷ rs) [] = Some Left
 next_side (r ∷ rs) (s ∷ ss) = Some (side_of (key_cmp (key_of r) (key_of s)))
+
+-- what both have of each name together is what there may be of it
+abbrev pub FitTogether : List Resource → List Resource → Type 0
+FitTogether left right = Fits (λ name p. stock left name p + stock right name p)
 
 -- no name of the resources stands before this one
 abbrev pub none_before : Text → List Resource → Bool

@@ -14,3 +14,4 @@ pub mod UnionLaws
 pub mod OneLaws
 pub mod UnitLaws
 pub mod UnitProofs
+pub mod TakenLaws

@@ -4,7 +4,7 @@ ghost use Rattle.std.specs.List.{list_all};
 ghost use Rattle.std.specs.Option.{option_copied};
 ghost use Rattle.drf_bundle.specs.Bundle.{IsBundle, amount, join, refusal, is_too_large, is_in_order, exceeds, rest, filled_of, left_of, covers_one, reservation, value_at, quantities_of, one_of, is_unreserved, is_for, part_for, clip, clipped, relabel};
 ghost use Rattle.drf_bundle.specs.Value.{IsGiven};
-ghost use Rattle.drf_bundle.specs.Places.{IsKeyAt, IsKeyGap};
+ghost use Rattle.drf_bundle.specs.KeyPlaces.{IsKeyAt, IsKeyGap};
 ghost use Rattle.drf_bundle.specs.laws.BundleLaws.{bundle_laws};
 
 use crate::merge::{have_clash, merged};

@@ -1,7 +1,7 @@
 //! Two lists of resources in order, gone through side by side.
 ghost use Rattle.std.specs.Prelude.{◌≡◌, IsTrue, IfOk};
 ghost use Rattle.drf_bundle.specs.Bundle.{is_in_order, merged, have_clash, clashes_with_some};
-ghost use Rattle.drf_bundle.specs.Sides.{next_side, names_cmp, none_before};
+ghost use Rattle.drf_bundle.specs.Sides.{FitTogether, next_side, names_cmp, none_before};
 
 use crate::resource::{Resource, compare_labels};
 use crate::value::Clash;
@@ -35,12 +35,13 @@ fn next_side(left: &[Resource], right: &[Resource]) -> Option<Side>
     })
 }
 
-/// The resources of both in order, those of one key united, of two that do not clash.
+/// The resources of both in order, those of one key united.
 pub fn merged(
     alloc: Global,
     left: &[Resource],
     right: &[Resource],
 ) -> Result<Vec<Resource>, AllocError>
+    requires { FitTogether left.now right.now }
     ensures { IfOk result (λ found. found.items ≡ merged left.now right.now) }
 {
     let most = left.len().saturating_add(right.len());

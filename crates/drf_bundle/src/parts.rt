@@ -3,7 +3,7 @@ ghost use Rattle.std.specs.Prelude.{◌≡◌, ◌+◌, ◌<◌, ◌^◌, IsTrue
 ghost use Rattle.drf_bundle.specs.Bundle.{IsBundle, is_in_order, reservation, add_scalar, quantities_of};
 ghost use Rattle.drf_bundle.specs.Value.{Thousandths, units_in};
 ghost use Rattle.drf_bundle.specs.Quantities.{amount_of};
-ghost use Rattle.drf_bundle.specs.Places.{IsKeyAt, IsKeyGap};
+ghost use Rattle.drf_bundle.specs.KeyPlaces.{IsKeyAt, IsKeyGap};
 
 use crate::quantities::Quantities;
 use crate::resource::Resource;

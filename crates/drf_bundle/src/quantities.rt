@@ -1,7 +1,7 @@
 ghost use Rattle.std.specs.Prelude.{◌≡◌, ℕ, List, [], length, ◌^◌, ◌<◌, IsTrue, ◌+◌, ◌≤◌, ◌&&◌, nat_lt, nat_le, if◌then◌else◌, IfOk, IfErr, OnOk, OnErr, IsOk, IfSome, IfNone, false};
-ghost use Rattle.std.specs.List.{position};
+ghost use Rattle.std.specs.List.{insert, position};
 ghost use Rattle.drf_bundle.specs.Quantities.{HasNoZeros, amount_of, is_named, known_amount, names_all, is_in_order, with_amount, plus, minus, covers, without_zeros, names_of};
-ghost use Rattle.drf_bundle.specs.Places.{IsAt, IsGapFor};
+ghost use Rattle.drf_bundle.specs.KeyPlaces.{IsAt, IsGapFor};
 ghost use Rattle.drf_role.specs.Text.{same_text};
 
 use crate::names::Names;
@@ -29,6 +29,18 @@ impl Entry {
             amount: self.amount,
         })
     }
+}
+
+// Puts an entry at a place. Amounts are mostly put together in order, and behind all others none is moved.
+fn put_at(entries: &mut Vec<Entry>, at: usize, entry: Entry) -> Result<(), AllocError>
+    requires { at ≤ length entries.old.items }
+    ensures ok { OnOk result (entries.new.items ≡ insert entries.old.items at entry) }
+    ensures err { OnErr result (entries.new.items ≡ entries.old.items) }
+{
+    if at == entries.len() {
+        return Ok(entries.push(entry)?);
+    }
+    Ok(entries.insert(at, entry)?)
 }
 
 /// Amounts of scalar resources by label, in thousandths. A label may be named with the amount 0.
@@ -252,7 +264,7 @@ impl Quantities {
     {
         let label = label.copy()?;
         let amount = Scalar::new(thousandths);
-        Ok(self.entries.insert(at, Entry { label, amount })?)
+        Ok(put_at(&mut self.entries, at, Entry { label, amount })?)
     }
 
     pub fn copy(&self) -> Result<Quantities, AllocError>

@@ -1,7 +1,7 @@
 //! A value with its name and its reservation.
-ghost use Rattle.std.specs.Prelude.{◌≡◌, IfOk};
+ghost use Rattle.std.specs.Prelude.{◌≡◌, ◌+◌, ◌<◌, ◌^◌, IfOk};
 ghost use Rattle.drf_bundle.specs.Bundle.{is_default, is_for, moved_to, key_of, key_cmp, reservation, with_value};
-ghost use Rattle.drf_bundle.specs.Value.{united};
+ghost use Rattle.drf_bundle.specs.Value.{Thousandths, units_in, united};
 ghost use Rattle.std.specs.Ordering.{nat_cmp};
 ghost use Rattle.std.specs.Cmp.Lexicographic.{slice_cmp};
 
@@ -104,6 +104,7 @@ impl Resource {
 
     /// Both together, of two of one key.
     pub(crate) fn united(&self, other: &Resource) -> Result<Resource, AllocError>
+        requires { units_in self.now.value Thousandths + units_in other.now.value Thousandths < 2 ^ 64 }
         ensures { IfOk result (λ both. both ≡ with_value self.now (united self.now.value other.now.value)) }
     {
         Ok(Resource {

@@ -3,9 +3,9 @@ ghost use Rattle.std.specs.Prelude.{◌≡◌, ◌+◌, ◌<◌, ◌^◌, ◌&&�
 ghost use Rattle.drf_amount.specs.Algebra.{IsJoinFault};
 ghost use Rattle.drf_role.specs.Text.{same_text};
 ghost use Rattle.drf_bundle.specs.Value.{Thousandths, units_in, share_members};
-ghost use Rattle.drf_bundle.specs.Bundle.{is_in_order, key_of, same_key, merged, add_scalar};
+ghost use Rattle.drf_bundle.specs.Bundle.{HasSums, is_in_order, key_of, same_key, merged, add_scalar};
 ghost use Rattle.drf_bundle.specs.Quantities.{amount_of};
-ghost use Rattle.drf_bundle.specs.Places.{IsKeyGap, IsNameGap};
+ghost use Rattle.drf_bundle.specs.KeyPlaces.{IsKeyGap, IsNameGap};
 ghost use Rattle.drf_bundle.specs.Union.{has_other_kind, is_reserved_elsewhere, union_refusal, union};
 
 use crate::parts::{Parts, add_scalar, place};
@@ -114,7 +114,7 @@ fn put(
     sums: &mut Quantities,
     resource: Resource,
 ) -> Result<(), AllocError>
-    requires in_order { IsTrue (is_in_order resources.old.items) }
+    requires kept { HasSums resources.old.items sums.old }
     requires fits { amount_of sums.old resource.label + units_in resource.value Thousandths < 2 ^ 64 }
     ensures ok { OnOk result ((resources.new.items ≡ merged resources.old.items (resource ∷ [])) × (sums.new ≡ add_scalar sums.old resource)) }
     ensures err { OnErr result ((resources.new.items ≡ resources.old.items) × (sums.new ≡ sums.old)) }

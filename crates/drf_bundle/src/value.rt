@@ -1,5 +1,5 @@
 //! One resource's value: thousandths, a set of numbers or a set of labels.
-ghost use Rattle.std.specs.Prelude.{◌≡◌, ◌<◌, ◌^◌, IsTrue, ◌↔◌, IfOk};
+ghost use Rattle.std.specs.Prelude.{◌≡◌, ◌+◌, ◌<◌, ◌^◌, IsTrue, ◌↔◌, IfOk};
 ghost use Rattle.drf_bundle.specs.Value.{Thousandths, units_in, IsGiven, amount_in, clash_in, united, less, has_all_of};
 
 use drf_amount::{Algebra, Scalar};
@@ -105,15 +105,16 @@ impl Value {
         }
     }
 
-    /// Both together, shared members or not, of two scalars whose sum is not too large.
+    /// Both together, shared members or not.
     pub(crate) fn unite(&self, other: &Value) -> Result<Value, AllocError>
+        requires { units_in self.now Thousandths + units_in other.now Thousandths < 2 ^ 64 }
         ensures { IfOk result (λ value. value ≡ united self.now other.now) }
     {
         match (self, other) {
-            (Value::Scalar(scalar), Value::Scalar(other)) => match scalar.try_join(other) {
-                Ok(sum) => Ok(Value::Scalar(sum)),
-                Err(_) => Err(AllocError),
-            },
+            (Value::Scalar(scalar), Value::Scalar(other)) => {
+                let sum = scalar.thousandths() + other.thousandths();
+                Ok(Value::Scalar(Scalar::new(sum)))
+            }
             (Value::Ranges(ranges), Value::Ranges(others)) => ranges
                 .unite(others)
                 .map(Value::Ranges),

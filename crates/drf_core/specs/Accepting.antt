@@ -1,5 +1,5 @@
 -- An offer that is accepted.
-use Rattle.std.specs.Prelude.{Bool, not, List, [], ◌∷◌, Option, Some, None, nat_lt, if◌then◌else◌}
+use Rattle.std.specs.Prelude.{Bool, not, List, [], ◌∷◌, nat_lt}
 use Rattle.std.specs.List.{list_any}
 use Rattle.drf_rows.specs.LimitNumbers.{LimitNumbers}
 use Rattle.drf_rows.specs.Members.{has_framework}
@@ -10,12 +10,7 @@ use Rattle.drf_rows.specs.declared.event.Accept as accepting
 use Rattle.drf_rows.specs.declared.limits.TheConstants.{LATEST_MOMENT}
 use Rattle.drf_rows.specs.declared.reply.Refusal.{Refusal}
 use Rattle.drf_rows.specs.declared.reply.Refusal.TheVariants.{HistoryFull, BadMoment, UnknownFramework, UnknownOffer, NotYours, KnownTask, Empty, NotCovered}
-use Rattle.drf_rows.specs.declared.rows.FilterRow.{FilterRow}
 use Rattle.drf_rows.specs.declared.rows.Rows.{Rows}
-
--- a filter, if there is to be one
-abbrev pub filter_if : Bool → FilterRow → Option FilterRow
-filter_if refused filter = if refused then Some filter else None
 
 -- the cases in which an accept is refused, but for the number of filters
 abbrev pub cases_of_tasks : LimitNumbers → Rows → accepting.Accept → List (Bool × Refusal)

@@ -6,6 +6,7 @@ ghost use Rattle.drf_sorter.specs.Work.{Adds};
 ghost use Rattle.drf_core.specs.Working.{losers, nodes_of};
 
 use crate::cluster::Cluster;
+use drf_role::ClientPath;
 use drf_sorter::Sorter;
 use drf_tables::Ending;
 
@@ -16,8 +17,9 @@ impl<S: Sorter> Cluster<S> {
         ensures work { Adds S.COUNTED self.old.work self.new.work (nodes_of (losers self.old.rows (ending_of ending.entry))) }
         ensures made { self.new.work.made ≡ self.old.work.made }
     {
-        while let Some(held) = self.tables.end(ending) {
-            self.sorter.refund(&held.client, held.bundle.quantities());
+        while let Some(taken) = self.tables.end(ending) {
+            let client = ClientPath::from_parts(taken.role, taken.framework);
+            self.sorter.refund(&client, taken.bundle.quantities());
         }
     }
 }

@@ -16,6 +16,7 @@ use drf_rows::{Event, Limits};
 use std::alloc::Global;
 use std::convert::AsStr;
 use std::io::Write;
+use std::mem;
 use std::sync::Wait;
 use std::thread::Threads;
 
@@ -92,12 +93,16 @@ fn drive_scripts<W: Threads + Wait + Sync, O: Write>(
     ensures flushed { writer.old.flushed ≡ true → writer.new.failed ≡ false → writer.new.flushed ≡ true }
 {
     let journal = run_scripts(rt, alloc, limits, scripts)?;
-    write_journal(alloc, journal.as_slice(), writer)
+    let written = write_journal(alloc, journal.as_slice(), writer);
+    // Its memory is left to the system: the command ends behind it, and entry by entry that takes a while.
+    mem::forget(journal);
+    written
 }
 
 /// Reads files of event lines, at most 64, runs each on a thread of its own, on one master, and writes the journal: for each call the line of
 /// the event and that of the reply. A file that cannot be read is told before any line that is no event, and of such lines the first one of
-/// the first file that has one. Nothing is written then.
+/// the first file that has one. Nothing is written then. It is for a program that ends behind it: the memory of a journal that was written is
+/// not given back.
 pub fn run_drive<W: Threads + Wait + Sync, F: FileBytes, S: AsStr, O: Write>(
     rt: &W,
     alloc: Global,

@@ -15,7 +15,7 @@ use Rattle.std.proofs.lemmas.List.{map-append}
 use Rattle.drf_holdings.specs.ByNumber.{IsByNumber}
 use Rattle.drf_holdings.specs.Rising.{IsRising}
 use Rattle.drf_holdings.specs.Taking.{IsTaken, HasNone}
-use Rattle.drf_holdings.proofs.Places.{above_last, rising_front}
+use Rattle.drf_holdings.proofs.RisingLists.{above_last, rising_front}
 
 same_test : (n k : ℕ) → is_at (nat_cmp n) k ≡ (k == n)
 same_test n k =

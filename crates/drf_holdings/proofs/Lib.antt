@@ -1,5 +1,5 @@
 mod Lists
-mod Places
+mod RisingLists
 mod Entries
 mod Moved
 mod Numbered

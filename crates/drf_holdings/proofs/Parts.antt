@@ -9,7 +9,7 @@ use Rattle.drf_bundle.specs.declared.resource.Resource.{Resource}
 use Rattle.drf_rows.specs.Holdings.{Holding, is_on, parts_on}
 use Rattle.drf_holdings.specs.Listed.{bundles_at}
 use Rattle.drf_holdings.specs.Rising.{IsRising}
-use Rattle.drf_holdings.proofs.Places.{less_other}
+use Rattle.drf_holdings.proofs.RisingLists.{less_other}
 
 module _ {X : Type 0} (number : X → ℕ) (bundle : X → List Resource) where
   abbrev IsFound : List X → X → Type 0

@@ -9,7 +9,7 @@ use Rattle.std.proofs.lemmas.List.{map-append}
 use Rattle.drf_rows.specs.laws.ListLaws.{list_any_at}
 use Rattle.drf_holdings.specs.Rising.{IsRising}
 use Rattle.drf_holdings.specs.Taking.{IsTaken, HasNone}
-use Rattle.drf_holdings.proofs.Places.{others_split, others_from}
+use Rattle.drf_holdings.proofs.RisingLists.{others_split, others_from}
 use Rattle.drf_holdings.proofs.Numbered.{listed_none, listed_passes}
 
 missing_within : {X : Type 0} (xs : List X) (i : ℕ) → i < length xs → slice_get xs i ≡ None → false ≡ true

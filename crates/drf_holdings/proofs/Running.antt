@@ -17,7 +17,7 @@ use Rattle.drf_holdings.specs.declared.tasks.TaskIndex.{TaskIndex}
 use Rattle.drf_holdings.specs.Rising.{IsRising}
 use Rattle.drf_holdings.specs.Taking.{IsTaken, HasNone}
 use Rattle.drf_holdings.proofs.Named.{few_at}
-use Rattle.drf_holdings.proofs.Places.{rising_out, rising_in, below_in}
+use Rattle.drf_holdings.proofs.RisingLists.{rising_out, rising_in, below_in}
 use Rattle.drf_holdings.proofs.Removed.{taken_by, rows_none, rows_taken, any_rows}
 
 pub row_holdings : (tasks : List Task) → map (λ t. of_task t.row) tasks ≡ map of_task (map task_row tasks)

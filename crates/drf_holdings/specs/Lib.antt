@@ -1,4 +1,5 @@
 pub mod Rising
+pub mod RisingLaws
 pub mod ByNumber
 pub mod Listed
 pub mod Taking

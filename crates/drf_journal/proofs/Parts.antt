@@ -108,19 +108,19 @@ module _ (old now : State) (piece rest : List ℕ) (written_first written writte
   unfolding HasStopped
   stopped-far Read next stopped = stopped
   stopped-far Write next stopped =
-      let text = stopped.0 in
-      let sent = stopped.2 in
-      let all = front_of so_far.told text sent.0 _ refl in (
-        so_far.told ++ text,
-        answers_far next text stopped.1,
-        (all.0, subst (Appends written_first written_next) all.1 (Appends-trans _ _ _ _ _ so_far.appended sent.1)),
-      )
-  stopped-far Memory next stopped = (
-    so_far.told ++ stopped.0,
-    answers_far next stopped.0 stopped.1,
-    stopped.2,
-    Appends-trans _ _ _ _ _ so_far.appended stopped.3,
-  )
+      let sent = stopped.front_sent in
+      let all = front_of so_far.told stopped.text sent.0 _ refl in
+      record {
+        text = so_far.told ++ stopped.text;
+        answers = answers_far next stopped.text stopped.answers;
+        front_sent = (all.0, subst (Appends written_first written_next) all.1 (Appends-trans _ _ _ _ _ so_far.appended sent.1));
+      }
+  stopped-far Memory next stopped = record {
+    text = so_far.told ++ stopped.text;
+    answers = answers_far next stopped.text stopped.answers;
+    nothing_unsent = stopped.nothing_unsent;
+    sent = Appends-trans _ _ _ _ _ so_far.appended stopped.sent;
+  }
 
 nothing : (xs : List ℕ) → length xs ≡ 0 → xs ≡ []
 nothing [] none = refl
@@ -145,19 +145,19 @@ sent-whole old now piece rest written_first written so_far none =
 pub stopped_write : (old now new : State) (piece : List ℕ) (written written_next : Option (List ℕ)) → AnswersFrontOf old piece now
     → new ≡ now → AppendsFrontOf written written_next now.unsent → HasStopped Write old piece new written written_next
 unfolding HasStopped
-stopped_write old now new piece written written_next answers same sent = (
-  now.unsent,
-  subst (λ (s : State). AnswersFrontOf old piece (record s { unsent = now.unsent })) (sym same) answers,
-  sent,
-)
+stopped_write old now new piece written written_next answers same sent = record {
+  text = now.unsent;
+  answers = subst (λ (s : State). AnswersFrontOf old piece (record s { unsent = now.unsent })) (sym same) answers;
+  front_sent = sent;
+}
 
 pub stopped_memory : (old now new : State) (piece : List ℕ) (written written_next : Option (List ℕ)) → AnswersFrontOf old piece now
     → new ≡ record now { unsent = [] } → Appends written written_next now.unsent
     → HasStopped Memory old piece new written written_next
 unfolding HasStopped
-stopped_memory old now new piece written written_next answers is sent = (
-  now.unsent,
-  subst (λ (s : State). AnswersFrontOf old piece (record s { unsent = now.unsent })) (sym is) answers,
-  ap (λ (s : State). s.unsent) is,
-  sent,
-)
+stopped_memory old now new piece written written_next answers is sent = record {
+  text = now.unsent;
+  answers = subst (λ (s : State). AnswersFrontOf old piece (record s { unsent = now.unsent })) (sym is) answers;
+  nothing_unsent = ap (λ (s : State). s.unsent) is;
+  sent = sent;
+}

@@ -262,7 +262,7 @@ module _ (old : State) (begins : IsBegun old) where
         consumed = Consumes-kept _ _ _ _ serving.consumed kept;
         appended = serving.appended;
         lines = length (ended_lines_of serving.read);
-        answered = (told_so_far, refl);
+        answered = record { output = told_so_far; all_ended = refl };
         ended = all_ended unread_next;
         prompt = prompt_untold _;
       };
@@ -320,10 +320,10 @@ module _ (old : State) (begins : IsBegun old) where
           consumed = consumed_all;
           appended = serving.appended;
           lines = length (ended_lines_of serving.read);
-          answered = (
-            told_so_far ∙ ap text (sym (ended_first serving.read [] serving.read whole_so_far)),
-            omega arith,
-          );
+          answered = record {
+            output = told_so_far ∙ ap text (sym (ended_first serving.read [] serving.read whole_so_far));
+            had_ended = omega arith;
+          };
           ended = all_ended unread_next;
           prompt = prompt_untold _;
         };
@@ -337,6 +337,7 @@ module _ (old : State) (begins : IsBegun old) where
       run-unwritten next end is sent =
           let all : take (length (lines_of serving.read)) (lines_of serving.read) ≡ lines_of serving.read =
           take_all _ _ (omega arith) in
+          let start = front_of serving.told (at_end session).unsent sent.0 _ (told_at_end ∙ ap text (sym all)) in
           record {
             run = record {
               read = serving.read;
@@ -344,7 +345,7 @@ module _ (old : State) (begins : IsBegun old) where
               consumed = consumed_all;
               appended = Appends-trans _ _ _ _ _ serving.appended sent.1;
               lines = length (lines_of serving.read);
-              answered = front_of serving.told (at_end session).unsent sent.0 _ (told_at_end ∙ ap text (sym all));
+              answered = record { count = start.0; output = start.1 };
               ended = inr end;
               prompt = prompt_so_far _ _;
             };
@@ -364,7 +365,7 @@ module _ (old : State) (begins : IsBegun old) where
               consumed = consumed_all;
               appended = Appends-trans _ _ _ _ _ serving.appended sent;
               lines = length (lines_of serving.read);
-              answered = (told_at_end, refl, told ∙ counted);
+              answered = record { output = told_at_end; all_lines = refl; told = told ∙ counted };
               ended = inr end;
               prompt = prompt_so_far _ _;
             };
@@ -430,12 +431,12 @@ module _ (old : State) (begins : IsBegun old) where
           consumed = Consumes-trans _ _ _ _ _ serving.consumed consumed;
           appended = Appends-trans _ _ _ _ _ serving.appended sent;
           lines = length (ended_lines_of (front answers.answered_bytes));
-          answered = (
-            told_now
+          answered = record {
+            output = told_now
                 ∙ ap text (sym (ended_first (front answers.answered_bytes) (drop answers.answered_bytes piece) read_now
-                (whole answers.answered_bytes))),
-            few answers.answered_bytes,
-          );
+                (whole answers.answered_bytes)));
+            had_ended = few answers.answered_bytes;
+          };
           ended = inl (few answers.answered_bytes);
           prompt = prompt_now _;
         };
@@ -445,22 +446,24 @@ module _ (old : State) (begins : IsBegun old) where
 
       run-fails : AppendsFrontOf written written_next text_now
           → HasServed old unread_first unread_next written_first written_next next (Err Write)
-      run-fails sent = record {
-        run = record {
-          read = read_now;
-          written = serving.told ++ take sent.0 text_now;
-          consumed = Consumes-trans _ _ _ _ _ serving.consumed consumed;
-          appended = Appends-trans _ _ _ _ _ serving.appended sent.1;
-          lines = length (ended_lines_of (front answers.answered_bytes));
-          answered = front_of serving.told text_now sent.0 _
-              (told_now ∙ ap text (sym (lines_first (front answers.answered_bytes) (drop answers.answered_bytes piece) read_now
-              (whole answers.answered_bytes))));
-          ended = inl (few answers.answered_bytes);
-          prompt = prompt_now _;
-        };
-        counted = answers.lines ∙ number_at answers.answered_bytes;
-        taken = taken_now;
-      }
+      run-fails sent =
+          let start = front_of serving.told text_now sent.0 _
+          (told_now ∙ ap text (sym (lines_first (front answers.answered_bytes) (drop answers.answered_bytes piece) read_now
+          (whole answers.answered_bytes)))) in
+          record {
+            run = record {
+              read = read_now;
+              written = serving.told ++ take sent.0 text_now;
+              consumed = Consumes-trans _ _ _ _ _ serving.consumed consumed;
+              appended = Appends-trans _ _ _ _ _ serving.appended sent.1;
+              lines = length (ended_lines_of (front answers.answered_bytes));
+              answered = record { count = start.0; output = start.1 };
+              ended = inl (few answers.answered_bytes);
+              prompt = prompt_now _;
+            };
+            counted = answers.lines ∙ number_at answers.answered_bytes;
+            taken = taken_now;
+          }
 
   -- ---- before the first read
 
@@ -475,7 +478,7 @@ module _ (old : State) (begins : IsBegun old) where
           consumed = Consumes-nil unread;
           appended = Appends-nil written;
           lines = 0;
-          answered = (sym (text-lines old.machine.limits old.echo []), omega arith);
+          answered = record { output = sym (text-lines old.machine.limits old.echo []); had_ended = omega arith };
           ended = inl (omega arith);
           prompt = ap (λ (t : List ℕ). take (length t) []) none ∙ sym none;
         };
@@ -499,9 +502,9 @@ pub run-stops : (old : State) (begins : IsBegun old)
 unfolding HasStopped
 run-stops old begins _ _ _ _ _ _ session serving Read piece next short consumed stopped = absurd stopped
 run-stops old begins _ _ _ _ _ _ session serving Write piece next short consumed stopped =
-    run-fails old begins _ _ _ _ _ _ session serving piece next stopped.0 short consumed stopped.1 stopped.2
+    run-fails old begins _ _ _ _ _ _ session serving piece next stopped.text short consumed stopped.answers stopped.front_sent
 run-stops old begins _ _ _ _ _ _ session serving Memory piece next short consumed stopped =
-    run-forgets old begins _ _ _ _ _ _ session serving piece next stopped.0 short consumed stopped.1 stopped.3
+    run-forgets old begins _ _ _ _ _ _ session serving piece next stopped.text short consumed stopped.answers stopped.sent
 
 -- a fault within a piece is none of the reader
 pub cause-stopped : (fault : RunFault) (reader_failed : Bool) (reads : ℕ) (writer_failed : Bool) → reader_failed ≡ false

@@ -11,18 +11,33 @@ use Rattle.drf_journal.specs.Lines.{lines_of, ended_lines_of}
 use Rattle.drf_journal.specs.Output.{output_of}
 use Rattle.drf_journal.specs.State.{State, machine_after_lines, AnswersFrontOf}
 
--- What was written for what was read, where the first `answered` lines were answered. At `Ok` these are all lines, and
--- their number is told; after a failed read all that had ended; where memory ran out those before the one at hand, all of
--- which had ended. Their text was written, and after a failed write a front of it.
+-- at `Ok`: all lines were answered, and their number is told
+pub record AnsweredAll (limits : LimitNumbers) (echo : Bool) (lines answered : ℕ) (read written : List ℕ) : Type 0 where
+  pub output : written ≡ output_of limits echo (lines_of read)
+  pub all_lines : answered ≡ length (lines_of read)
+  pub told : lines ≡ answered
+
+-- after a failed read: all lines that had ended were answered
+pub record AnsweredEnded (limits : LimitNumbers) (echo : Bool) (answered : ℕ) (read written : List ℕ) : Type 0 where
+  pub output : written ≡ output_of limits echo (ended_lines_of read)
+  pub all_ended : answered ≡ length (ended_lines_of read)
+
+-- after a failed write: of the text for the lines that were answered a front was written
+pub record WroteFront (limits : LimitNumbers) (echo : Bool) (answered : ℕ) (read written : List ℕ) : Type 0 where
+  pub count : ℕ
+  pub output : written ≡ take count (output_of limits echo (take answered (lines_of read)))
+
+-- where memory ran out: the lines before the one at hand were answered, all of which had ended
+pub record AnsweredFirst (limits : LimitNumbers) (echo : Bool) (answered : ℕ) (read written : List ℕ) : Type 0 where
+  pub output : written ≡ output_of limits echo (take answered (ended_lines_of read))
+  pub had_ended : answered ≤ length (ended_lines_of read)
+
+-- what was written for what was read, where the first `answered` lines were answered
 abbrev pub IsAnswered : LimitNumbers → Bool → Result ℕ RunFault → ℕ → List ℕ → List ℕ → Type 0
-IsAnswered limits echo (Ok lines) answered read written =
-    (written ≡ output_of limits echo (lines_of read)) × (answered ≡ length (lines_of read)) × (lines ≡ answered)
-IsAnswered limits echo (Err Read) answered read written =
-    (written ≡ output_of limits echo (ended_lines_of read)) × (answered ≡ length (ended_lines_of read))
-IsAnswered limits echo (Err Write) answered read written =
-    (count : ℕ) × (written ≡ take count (output_of limits echo (take answered (lines_of read))))
-IsAnswered limits echo (Err Memory) answered read written =
-    (written ≡ output_of limits echo (take answered (ended_lines_of read))) × (answered ≤ length (ended_lines_of read))
+IsAnswered limits echo (Ok lines) answered read written = AnsweredAll limits echo lines answered read written
+IsAnswered limits echo (Err Read) answered read written = AnsweredEnded limits echo answered read written
+IsAnswered limits echo (Err Write) answered read written = WroteFront limits echo answered read written
+IsAnswered limits echo (Err Memory) answered read written = AnsweredFirst limits echo answered read written
 
 -- a number of lines had ended, each by a line feed or the last by the end of the input
 abbrev pub HaveEnded : ℕ → List ℕ → Option (List ℕ) → Type 0
@@ -42,15 +57,24 @@ pub record HasAnswered (limits : LimitNumbers) (echo : Bool)
   pub ended : HaveEnded lines read unread_after
   pub prompt : StartsWith written (output_of limits echo (ended_lines_of (take (length read - 65536) read)))
 
--- Within a piece of the input a session has stopped, and `text` is what all that it had answered of the piece came to.
--- Where memory ran out all of it was written; after a failed write a front of it.
+-- after a failed write: `text` is what all that was answered of the piece came to, and a front of it was written
+pub record StoppedWriting (old : State) (piece : List ℕ) (new : State) (written_before written_after : Option (List ℕ)) : Type 0 where
+  pub text : List ℕ
+  pub answers : AnswersFrontOf old piece (record new { unsent = text })
+  pub front_sent : AppendsFrontOf written_before written_after text
+
+-- where memory ran out: all of that text was written
+pub record RanOutOfMemory (old : State) (piece : List ℕ) (new : State) (written_before written_after : Option (List ℕ)) : Type 0 where
+  pub text : List ℕ
+  pub answers : AnswersFrontOf old piece (record new { unsent = text })
+  pub nothing_unsent : new.unsent ≡ []
+  pub sent : Appends written_before written_after text
+
+-- within a piece of the input a session has stopped
 unfoldable pub HasStopped : RunFault → State → List ℕ → State → Option (List ℕ) → Option (List ℕ) → Type 0
 HasStopped Read old piece new written_before written_after = ⊥
-HasStopped Write old piece new written_before written_after =
-    (text : List ℕ) × AnswersFrontOf old piece (record new { unsent = text }) × AppendsFrontOf written_before written_after text
-HasStopped Memory old piece new written_before written_after =
-    (text : List ℕ) × AnswersFrontOf old piece (record new { unsent = text }) × (new.unsent ≡ [])
-    × Appends written_before written_after text
+HasStopped Write old piece new written_before written_after = StoppedWriting old piece new written_before written_after
+HasStopped Memory old piece new written_before written_after = RanOutOfMemory old piece new written_before written_after
 
 -- the allocator has taken the lines that were answered, or one more
 pub record HasTaken (old new : Machine) (answered : ℕ) (read : List ℕ) (unread_after : Option (List ℕ)) : Type 0 where

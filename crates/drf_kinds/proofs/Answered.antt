@@ -6,8 +6,7 @@ use Rattle.std.specs.Cmp.{IsTotalOrder}
 use Rattle.std.specs.FinSet as set
 use Rattle.std.proofs.lemmas.Bool.{true≢false, both_ways}
 use Rattle.drf_amount.specs.Algebra.{Covers, IsRest}
-use Rattle.drf_kinds.specs.Places.{is_met, is_kept}
-use Rattle.drf_kinds.specs.Sets.{IsSetOf, are_disjoint, set_join}
+use Rattle.drf_kinds.specs.Sets.{IsSetOf, are_disjoint, set_join, is_met, is_kept}
 use Rattle.drf_kinds.specs.SetLaws.{out_of_both, disjoint_from, join_of, is_rest_difference, subset_of_rest, covers_subset}
 
 met_inside : (x y : Bool) → (x && beq y true) ≡ (x && y)

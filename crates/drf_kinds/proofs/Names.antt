@@ -20,7 +20,7 @@ use Rattle.std.proofs.lemmas.List.Sorted.{searchable_from_sorted, list_any-IsPer
 use Rattle.std.proofs.lemmas.Map.Keys.{sorted_head, sorted_tail, Less-from_sorted}
 use Rattle.drf_role.specs.Name.{IsLabel}
 use Rattle.drf_kinds.specs.Names.{text_cmp, AreAscending, AreNamesOfSet, IsLabelSet, is_named, next_side, side_of}
-use Rattle.drf_kinds.specs.Places.{is_met, is_kept}
+use Rattle.drf_kinds.specs.Sets.{is_met, is_kept}
 use Rattle.drf_kinds.specs.declared.merge.Side.TheVariants.{Left, Right, Both}
 
 pub texts_same : set.IsAntisymmetric text_cmp

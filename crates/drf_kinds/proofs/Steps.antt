@@ -3,7 +3,8 @@ use Rattle.std.proofs.Common.{◌≡◌, ◌≢◌, ℕ, ◌+◌, ◌<◌, ◌�
 use Rattle.std.proofs.lemmas.Bool.{lt-ltb, le-ltb, eq-eqb, ne_eqb, le-leb, lt-leb, cases_eq, cases_lt}
 use Rattle.drf_kinds.specs.declared.interval.Interval.{Interval}
 use Rattle.drf_kinds.specs.Intervals.{AreMaximal, AreMaximalFrom, is_in}
-use Rattle.drf_kinds.specs.Places.{Steps, AreFrom, is_member, is_met, next_place, passed, places_of, steps_of, rest}
+use Rattle.drf_kinds.specs.Sweep.{Steps, AreFrom, is_member, next_place, passed, places_of, steps_of, rest}
+use Rattle.drf_kinds.specs.Sets.{is_met}
 
 -- steps t are the steps s past a place that none of s's is below
 pub record Passes (place : ℕ) (s t : Steps) : Type 0 where

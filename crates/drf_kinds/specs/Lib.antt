@@ -1,9 +1,10 @@
 pub mod Intervals
 pub mod IntervalLaws
 pub mod Listed
+pub mod ListedLaws
 pub mod Names
 pub mod NumberSetLaws
-pub mod Places
 pub mod SetLaws
 pub mod Sets
+pub mod Sweep
 pub mod TextSetLaws

@@ -1,5 +1,6 @@
 -- Finite sets as amounts: their join is the union, where no member stands in both.
-use Rattle.std.specs.Prelude.{Bool, Option, Some, None, IsTrue, ◌==◌, if◌then◌else◌}
+use Rattle.std.specs.Prelude.{Bool, not, ◌&&◌, ◌||◌, Option, Some, None, IsTrue, ◌==◌, if◌then◌else◌}
+use Rattle.std.specs.Bool.{beq}
 use Rattle.std.specs.declared.cmp.Ordering.{Ordering}
 use Rattle.std.specs.FinSet as set
 use Rattle.drf_amount.specs.declared.algebra.AlgebraFault.{AlgebraFault}
@@ -21,3 +22,11 @@ module _ {K : Type 0} {R : K → K → Ordering} where
   -- sets that share a member overlap
   abbrev pub set_refusal : set.FinSet R → set.FinSet R → Option AlgebraFault
   set_refusal a b = if are_disjoint a b then None else Some Overlap
+
+-- whether a member is kept, by whether it is in the left set and in the right: each in either if they are united, else each in the left one alone
+abbrev pub is_kept : Bool → Bool → Bool → Bool
+is_kept united left right = if united then left || right else left && not right
+
+-- in the left set, and in the right one or out of it
+abbrev pub is_met : Bool → Bool → Bool → Bool
+is_met inside left right = left && beq right inside

@@ -1,8 +1,7 @@
 ghost use Rattle.std.specs.Prelude.{◌≡◌, ◌<◌, ◌^◌, ℕ, List, All, IfOk};
 ghost use Rattle.std.specs.FinSet as set;
-ghost use Rattle.drf_kinds.specs.Sets.{set_join, set_refusal};
+ghost use Rattle.drf_kinds.specs.Sets.{set_join, set_refusal, is_kept};
 ghost use Rattle.drf_kinds.specs.Names.{IsLabelSet, AreAscending, is_named};
-ghost use Rattle.drf_kinds.specs.Places.{is_kept};
 ghost use Rattle.drf_kinds.specs.TextSetLaws.{text_set_laws};
 ghost use Rattle.drf_role.specs.Name.{IsLabel};
 

@@ -1,7 +1,7 @@
 //! Two lists of labels in order of bytes, gone through side by side.
 ghost use Rattle.std.specs.Prelude.{◌≡◌, List, ℕ, false, IsTrue, IfOk};
 ghost use Rattle.std.specs.Bool.{OnTrue, OnFalse};
-ghost use Rattle.drf_kinds.specs.Places.{is_met, is_kept};
+ghost use Rattle.drf_kinds.specs.Sets.{is_met, is_kept};
 ghost use Rattle.drf_kinds.specs.Names.{AreAscending, is_named, next_side};
 
 use drf_role::Label;

@@ -1,9 +1,8 @@
 ghost use Rattle.std.specs.Prelude.{◌≡◌, ◌↔◌, ◌<◌, ◌≤◌, ◌^◌, ℕ, All, Any, IsTrue, IsErrOf, IfOk, map};
 ghost use Rattle.std.specs.List.Sorted.{IsNonDecreasingBy, IsPermutation};
 ghost use Rattle.std.specs.FinSet as set;
-ghost use Rattle.drf_kinds.specs.Sets.{set_join, set_refusal};
+ghost use Rattle.drf_kinds.specs.Sets.{set_join, set_refusal, is_kept};
 ghost use Rattle.drf_kinds.specs.Intervals.{IsNumberSet, AreMaximal, members, is_in, interval_of};
-ghost use Rattle.drf_kinds.specs.Places.{is_kept};
 ghost use Rattle.drf_kinds.specs.NumberSetLaws.{number_set_laws};
 ghost use Rattle.drf_kinds.specs.declared.ranges.RangesFault.TheVariants.{Memory};
 

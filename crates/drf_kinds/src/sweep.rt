@@ -3,7 +3,8 @@
 ghost use Rattle.std.specs.Prelude.{◌≡◌, ◌≢◌, ℕ, false, min, IsTrue, IfOk, IfSome, IfNone};
 ghost use Rattle.std.specs.Bool.{OnTrue, OnFalse};
 ghost use Rattle.drf_kinds.specs.Intervals.{AreMaximal, is_in};
-ghost use Rattle.drf_kinds.specs.Places.{next_place, passed, steps_of, is_met, is_kept};
+ghost use Rattle.drf_kinds.specs.Sweep.{next_place, passed, steps_of};
+ghost use Rattle.drf_kinds.specs.Sets.{is_met, is_kept};
 
 use crate::interval::{Interval, Intervals};
 use std::alloc::{AllocError, Global};
@@ -20,7 +21,7 @@ struct Edges<'a> {
 }
 
 impl<'a> Model for Edges<'a> {
-    ghost use Rattle.drf_kinds.specs.Places.{Steps, steps_of};
+    ghost use Rattle.drf_kinds.specs.Sweep.{Steps, steps_of};
 
     ghost Value = { Steps };
 

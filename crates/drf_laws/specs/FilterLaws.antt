@@ -71,8 +71,8 @@ AcceptedSetsFilter =
 -- ---- what is held back then
 
 -- until a moment the offer's client is held back, on the offer's agent, what a bundle covers
-abbrev pub is_refused : OfferRow → List Resource → ℕ → ℕ → Client → Text → List Resource → Bool
-is_refused o refused until moment client agent bundle =
+abbrev pub is_filtered : OfferRow → List Resource → ℕ → ℕ → Client → Text → List Resource → Bool
+is_filtered o refused until moment client agent bundle =
     nat_lt moment until
     && ((same_path o.role client.role && same_text o.framework client.framework) && (same_text o.agent agent && covers refused bundle))
 
@@ -84,7 +84,7 @@ DeclinedIsHeldBack =
     → max rows.clock d.at ≤ moment
     → is_held_back (effect rows (Decline d)).filters moment client agent bundle
     ≡ (is_held_back rows.filters moment client agent bundle
-    || is_refused o o.bundle (end_of rows d.at d.refuse_ms) moment client agent bundle)
+    || is_filtered o o.bundle (end_of rows d.at d.refuse_ms) moment client agent bundle)
 
 -- and from an accept on what is left of the offer
 abbrev pub LeftIsHeldBack : Type 0
@@ -96,4 +96,4 @@ LeftIsHeldBack =
     → max rows.clock a.at ≤ moment
     → is_held_back (effect rows (Accept a)).filters moment client agent bundle
     ≡ (is_held_back rows.filters moment client agent bundle
-    || (not (is_empty left) && is_refused o left (end_of rows a.at a.refuse_ms) moment client agent bundle))
+    || (not (is_empty left) && is_filtered o left (end_of rows a.at a.refuse_ms) moment client agent bundle))

@@ -1,6 +1,8 @@
 -- What holds in runs of events, from the start on.
 use Rattle.std.specs.Prelude.{◌≡◌, ℕ, ◌≤◌, max, true, not, List, slice_get, Some, IsTrue}
 use Rattle.std.specs.List.{list_all, AllByRecursion}
+use Rattle.drf_role.specs.Name.{IsName}
+use Rattle.drf_role.specs.Role.{IsRole}
 use Rattle.drf_role.specs.Text.{Text}
 use Rattle.drf_bundle.specs.Bundle.{IsBundle}
 use Rattle.drf_bundle.specs.Quantities.{amount_of, is_named}
@@ -10,16 +12,20 @@ use Rattle.drf_rows.specs.Quota.{consumption}
 use Rattle.drf_rows.specs.Step.{opening, live_rows, rows_after, rows_after_all}
 use Rattle.drf_rows.specs.laws.KeptLimitLaws.{IsGivenBundles, changes_totals}
 use Rattle.drf_rows.specs.declared.event.Event.{Event}
-use Rattle.drf_rows.specs.declared.event.Event.TheVariants.{AddAgent, SetAgent}
+use Rattle.drf_rows.specs.declared.event.Event.TheVariants.{AddAgent, SetAgent, AddFramework, SetWeight, SetLimit}
 use Rattle.drf_rows.specs.declared.rows.LimitRow.{LimitRow}
 use Rattle.drf_rows.specs.declared.rows.Rows.{Rows}
 
 -- ---- rows stay consistent
 
--- the resources of an event are bundles, and what it moves it moves to a role or from one: so it is of each event, by its type
+-- the resources of an event are bundles, what it moves it moves to a role or from one, and what it registers or sets has a valid name or
+-- valid roles: so it is of each event, by its type
 abbrev pub IsGiven : Event → Type 0
 IsGiven (AddAgent agent total) = IsBundle total
 IsGiven (SetAgent agent total) = IsBundle total
+IsGiven (AddFramework framework roles) = IsName framework × AllByRecursion IsRole roles
+IsGiven (SetWeight role weight) = IsRole role
+IsGiven (SetLimit role limit) = IsRole role
 IsGiven other = IsGivenBundles other
 
 abbrev pub AreGiven : List Event → Type 0

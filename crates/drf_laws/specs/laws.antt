@@ -12,6 +12,6 @@ pub mod Bounds
 pub mod Kept
 pub mod Cycles
 pub mod Events
-pub mod Refused
+pub mod SetFilters
 pub mod Runs
 pub mod Within

@@ -1,5 +1,7 @@
 //! Laws of events, of turns and of runs. The functions do nothing: what they promise is proved of the definitions, and of the type of events.
 
+ghost use Rattle.std.specs.List.{AllByRecursion};
+ghost use Rattle.drf_role.specs.Role.{IsRole};
 ghost use Rattle.drf_laws.specs.BoundLaws.{RunsStayWithinLimits};
 ghost use Rattle.drf_laws.specs.EventLaws.{NoCaseHolds, LiveRowsDecide, AcceptsCanStart, EventsKeepConsistent, EventsKeepCounts};
 ghost use Rattle.drf_laws.specs.FilterLaws.{DeclinedSetsFilter, AcceptedSetsFilter, SomeRestIsLeft, DeclinedIsHeldBack, LeftIsHeldBack};
@@ -8,6 +10,7 @@ ghost use Rattle.drf_laws.specs.KnownLaws.{PathsTellClients, MembersTellNodes, S
 ghost use Rattle.drf_laws.specs.RunLaws.{IsGiven, StepsStayConsistent, RunsStayConsistent, AllRowsStayConsistent, RunsFromOpeningAreConsistent, NothingIsGrantedTwice, RunsFromOpeningKeepLimits, ConsistentRunsKeepLimits};
 ghost use Rattle.drf_laws.specs.TurnLaws.{ServedAreRegistered, ServedAreFew, GrantsArePart, CyclesMakeFewOffers, OtherAgentsStayFree};
 
+use drf_role::Role;
 use drf_rows::Event;
 
 /// An event that is not refused: no case of refusal holds of it, be it of the rows or of others with the same live rows, and an accept has an
@@ -53,7 +56,7 @@ pub fn kept_law()
 /// it leaves, if that is anything; for no time they set none. It is that of the offer's framework in the offer's role, on the offer's agent,
 /// until so long after the event as it says, and after 365 days at most. From the event on, while no other event changes a filter, that
 /// client is held back there just what the bundle covers, until then, and nobody anything else that was not held back before.
-pub fn refused_law()
+pub fn set_filters_law()
     ensures declined { DeclinedSetsFilter }
     ensures accepted { AcceptedSetsFilter }
     ensures rest { SomeRestIsLeft }
@@ -61,12 +64,27 @@ pub fn refused_law()
     ensures left { LeftIsHeldBack }
 {}
 
-/// By its type, the resources of every event are bundles, and what it moves it moves to a role or from one.
+/// Tells the proof that roles are valid.
+fn recall_roles(roles: &[Role])
+    ensures { AllByRecursion IsRole roles.now }
+{
+    for role in roles {
+        role.recall();
+    }
+}
+
+/// By its type, the resources of every event are bundles, what it moves it moves to a role or from one, and what it registers or sets has a
+/// valid name or valid roles.
 pub fn given_law(event: &Event)
     ensures { IsGiven event.now }
 {
     match event {
         Event::AddAgent { agent: _, total } | Event::SetAgent { agent: _, total } => total.recall(),
+        Event::AddFramework { framework, roles } => {
+            framework.recall();
+            recall_roles(roles.as_slice());
+        }
+        Event::SetWeight { role, weight: _ } | Event::SetLimit { role, limit: _ } => role.recall(),
         Event::Accept(accept) => {
             let _ = accept.tasks.as_slice();
         }

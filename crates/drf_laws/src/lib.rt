@@ -5,5 +5,5 @@ mod laws;
 
 pub use laws::{
     bounded_runs_law, consistent_runs_law, event_law, given_law, kept_law, kept_limits_law,
-    known_law, refused_law, turns_law,
+    known_law, set_filters_law, turns_law,
 };

@@ -1,5 +1,5 @@
 -- When the JSON value of a line is read.
-use Rattle.std.proofs.Common.{◌≡◌, Bool, true, false, cond, List, [], ◌∷◌, Option, Some, None, option_and_then, Err, ℕ, refl, sym, ap, ◌∙◌}
+use Rattle.std.proofs.Common.{◌≡◌, Bool, true, false, cond, List, [], ◌∷◌, Option, Some, None, option_and_then, Ok, Err, ℕ, refl, sym, ap, ◌∙◌}
 use Rattle.std.specs.Option.{ok_or}
 use Rattle.std.specs.Str.{IsUtf8, is_utf8}
 use Rattle.std.proofs.lemmas.Str.{IsUtf8-from_is_utf8, is_utf8-from_IsUtf8}
@@ -45,3 +45,11 @@ none_at line false e not = refl
 pub value_of_other : (line : List ℕ) → (IsUtf8 line → ⊥) → value_in line ≡ Err NotJson
 unfolding value_in
 value_of_other line not = none_at line (is_utf8 line) refl not
+
+utf8_at : (line : List ℕ) (b : Bool) (v : Data) → is_utf8 line ≡ b → cond b (ok_or (read line) NotJson) (Err NotJson) ≡ Ok v → IsUtf8 line
+utf8_at line true v e is = IsUtf8-from_is_utf8 line e
+utf8_at line false v e is = absurd (cc)
+
+pub utf8_of_value : (line : List ℕ) (v : Data) → value_in line ≡ Ok v → IsUtf8 line
+unfolding value_in
+utf8_of_value line v is = utf8_at line (is_utf8 line) v refl is

@@ -1,6 +1,7 @@
 //! The reader of a line.
 ghost use Rattle.std.specs.Prelude.{◌≡◌, ◌≤◌, length, Some, None, IsErrOf, IfOk, IfErr};
 ghost use Rattle.std.specs.Option.{ok_or};
+ghost use Rattle.std.specs.Str.{IsUtf8};
 ghost use Rattle.json.specs.Json.{value};
 ghost use Rattle.json.specs.Value.{value_view};
 ghost use Rattle.serde_json.specs.Read.{read};
@@ -62,7 +63,8 @@ fn line_value<'a>(
     scratch: &'a mut Scratch,
     line: &'a [u8],
 ) -> Result<LineValue<'a>, LineError>
-    ensures { IsReadAs line_view result (value_in line.now) }
+    ensures read { IsReadAs line_view result (value_in line.now) }
+    ensures memory { IsErrOf result LineError.Memory → IsUtf8 line.now }
 {
     match std::str::from_utf8(line) {
         Ok(text) => text_value(alloc, scratch, text),
@@ -172,6 +174,7 @@ impl LineReader {
     pub fn read(&mut self, line: &[u8]) -> Result<Event, LineError>
         ensures read { IsReadOf result (meaning_of line.now) }
         ensures memory { IsErrOf result LineError.Memory → length line.now ≤ longest_line }
+        ensures utf8 { IsErrOf result LineError.Memory → IsUtf8 line.now }
     {
         if line.len() > LONGEST_LINE {
             return Err(LineError::Fault(LineFault::LineTooLong));
@@ -185,6 +188,7 @@ impl LineReader {
 pub fn read_event(alloc: Global, line: &[u8]) -> Result<Event, LineError>
     ensures read { IsReadOf result (meaning_of line.now) }
     ensures memory { IsErrOf result LineError.Memory → length line.now ≤ longest_line }
+    ensures utf8 { IsErrOf result LineError.Memory → IsUtf8 line.now }
 {
     LineReader::new(alloc).read(line)
 }

@@ -1,6 +1,6 @@
 //! The events of offers, and of the tasks that come of them.
-ghost use Rattle.std.specs.Prelude.{◌≡◌, ◌<◌, ◌^◌, ◌++◌, map, true, Ok, OnOk};
-ghost use Rattle.serde_json.specs.Data.{object, Members};
+ghost use Rattle.std.specs.Prelude.{◌≡◌, ◌<◌, ◌^◌, ◌++◌, map, true, Ok, OnOk, codes, decimal};
+ghost use Rattle.serde_json.specs.Data.{Members};
 ghost use Rattle.serde_json.specs.Written.{compact_text, members_text};
 ghost use Rattle.drf_rows.specs.declared.event.Event.TheVariants.{Rescind, Finish};
 ghost use Rattle.drf_lines.specs.Fault.{IsReadOf};
@@ -9,10 +9,10 @@ ghost use Rattle.drf_lines.specs.TaskTexts.{each_in, start_in, start_text, sever
 ghost use Rattle.drf_lines.specs.Spelled.{IsSpelled};
 ghost use Rattle.drf_lines.specs.Words.{name_in};
 ghost use Rattle.drf_lines.specs.Written.{KeepsFront, KeepsUtf8};
-ghost use Rattle.drf_lines.specs.OfferEvents.{refusal_member, answer_members, accept_event, accept_value, decline_event, decline_value, rescind_event, rescind_value, finish_event, finish_value};
+ghost use Rattle.drf_lines.specs.OfferEvents.{refusal_member, answered_members, accept_event, accept_value, decline_event, decline_value, rescind_event, rescind_value, finish_event, finish_value};
 
 use crate::fault::LineError;
-use crate::member::{put, put_byte, put_name, put_number, put_text};
+use crate::member::{put, put_byte, put_name, put_number};
 use crate::object::{LineValue, keys, keys_besides, number_at, number_or, text_at};
 use crate::tasks::{put_start, put_task_list, read_tasks, task_texts};
 use crate::words::read_name;
@@ -93,24 +93,23 @@ fn put_refusal(line: &mut Vec<u8>, refuse_ms: u64) -> Result<(), AllocError>
     put_number(line, ",\"refuse_ms\":", refuse_ms)
 }
 
-/// What accept and decline have in common, before the members that come after it.
-fn put_answer(
-    line: &mut Vec<u8>,
-    event: &str,
-    framework: &Name,
-    offer: u64,
-    at: u64,
-    refuse_ms: u64,
-) -> Result<(), AllocError>
-    ensures ok { OnOk result ((more : Members) → line.new.items ++ members_text true more ≡ line.old.items ++ compact_text (object (answer_members event.now framework.now offer at refuse_ms more))) }
+/// Writes the opening bracket and the moment.
+fn put_moment(line: &mut Vec<u8>, at: u64) -> Result<(), AllocError>
+    ensures ok { OnOk result (line.new.items ≡ line.old.items ++ (codes "{\"at\":" ++ decimal at)) }
     ensures front { KeepsFront line.old.items line.new.items }
     ensures utf8 { OnOk result (KeepsUtf8 line.old.items line.new.items) }
-    ensures read { OnOk result (name_in framework.now ≡ Ok framework.now) }
-    ensures small { (offer < 2 ^ 64) × (at < 2 ^ 64) × (refuse_ms < 2 ^ 64) }
+    ensures small { at < 2 ^ 64 }
 {
-    put_number(line, "{\"at\":", at)?;
-    put_text(line, ",\"event\":\"", event)?;
-    put_name(line, ",\"framework\":\"", framework)?;
+    put_number(line, "{\"at\":", at)
+}
+
+/// Writes which offer is answered, and for how long it is refused.
+fn put_answered(line: &mut Vec<u8>, offer: u64, refuse_ms: u64) -> Result<(), AllocError>
+    ensures ok { OnOk result ((more : Members) → line.new.items ++ members_text true more ≡ line.old.items ++ members_text true (answered_members offer refuse_ms more)) }
+    ensures front { KeepsFront line.old.items line.new.items }
+    ensures utf8 { OnOk result (KeepsUtf8 line.old.items line.new.items) }
+    ensures small { (offer < 2 ^ 64) × (refuse_ms < 2 ^ 64) }
+{
     put_number(line, ",\"offer\":", offer)?;
     put_refusal(line, refuse_ms)
 }
@@ -162,7 +161,9 @@ pub fn put_accept(line: &mut Vec<u8>, accept: &Accept) -> Result<(), AllocError>
         tasks,
     } = accept;
     let mut text = String::new(*line.allocator());
-    put_answer(line, "accept", framework, *offer, *at, *refuse_ms)?;
+    put_moment(line, *at)?;
+    put_name(line, ",\"event\":\"accept\",\"framework\":\"", framework)?;
+    put_answered(line, *offer, *refuse_ms)?;
     put_tasks(line, &mut text, tasks.as_slice())
 }
 
@@ -178,7 +179,9 @@ pub fn put_decline(line: &mut Vec<u8>, decline: &Decline) -> Result<(), AllocErr
         at,
         refuse_ms,
     } = decline;
-    put_answer(line, "decline", framework, *offer, *at, *refuse_ms)?;
+    put_moment(line, *at)?;
+    put_name(line, ",\"event\":\"decline\",\"framework\":\"", framework)?;
+    put_answered(line, *offer, *refuse_ms)?;
     put_byte(line, b'}')
 }
 

@@ -98,13 +98,16 @@ through-goes_on asked old mid new es ys e y so_far called last = record {
 pub through-count : (asked : ℕ → Type 0) (old new : Held) (es : List Event) (ys : List Reply) → IsThrough asked old es ys new → length ys ≡ length es
 through-count asked old new es ys so_far = as-many so_far.run.added es ys so_far.run.are
 
-pub stopped-at : (asked stops : ℕ → Type 0) (old mid : Held) (script es : List Event) (ys : List Reply) (fault : DriveFault) → IsThrough asked old es ys mid
-    → length es < length script → IsCallStop (stops (length ys)) fault → IsJobFault asked stops (length script) fault
-stopped-at asked stops old mid script es ys Stopped so_far few stop =
+pub stopped-at : (asked stops : ℕ → Type 0) (key : ℕ) (old mid : Held) (script es : List Event) (ys : List Reply) (fault : DriveFault) → old.key ≡ key
+    → IsThrough asked old es ys mid → length es < length script → IsCallStop (stops (length ys)) key mid fault → IsJobFault asked stops (length script) fault
+stopped-at asked stops key old mid script es ys Stopped own so_far few stop =
     let same = as-many so_far.run.added es ys so_far.run.are in
     record { call = length es; few = few; stopped = subst stops same stop; before = so_far.calls }
-stopped-at asked stops old mid script es ys Memory so_far few stop = tt
-stopped-at asked stops old mid script es ys (Close fault) so_far few stop = absurd stop
+stopped-at asked stops key old mid script es ys Memory own so_far few stop = tt
+stopped-at asked stops key old mid script es ys (Close why.Stranger) own so_far few stop = absurd (stop (so_far.key ∙ own))
+stopped-at asked stops key old mid script es ys (Close why.Missing) own so_far few stop = absurd stop
+stopped-at asked stops key old mid script es ys (Close (why.Mismatch place)) own so_far few stop = absurd stop
+stopped-at asked stops key old mid script es ys (Close why.Memory) own so_far few stop = absurd stop
 
 -- ---- jobs
 

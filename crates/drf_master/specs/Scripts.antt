@@ -6,6 +6,7 @@ use Rattle.drf_board.specs.declared.entry.Entry.{Entry}
 use Rattle.drf_rows.specs.LimitNumbers.{LimitNumbers}
 use Rattle.drf_rows.specs.declared.event.Event.{Event}
 use Rattle.drf_rows.specs.declared.reply.Reply.{Reply}
+use Rattle.drf_master.specs.Calling.{IsCallFault}
 use Rattle.drf_master.specs.Closing.{AreOf, IsCloseFault}
 use Rattle.drf_master.specs.Matching.{IsFault, IsShuffle, receipts_of}
 use Rattle.drf_master.specs.Receipts.{Held}
@@ -13,6 +14,8 @@ use Rattle.drf_master.specs.declared.driving.Done.{Done}
 use Rattle.drf_master.specs.declared.driving.DriveFault.{DriveFault}
 use Rattle.drf_master.specs.declared.driving.DriveFault.TheVariants.{Stopped, Memory, Close}
 use Rattle.drf_master.specs.declared.driving.Job.{Job}
+use Rattle.drf_master.specs.declared.master.CallFault.{CallFault}
+use Rattle.drf_master.specs.declared.master.CallFault.TheVariants as refused
 use Rattle.drf_master.specs.declared.matching.CloseFault.{CloseFault}
 use Rattle.drf_master.specs.declared.matching.CloseFault.TheVariants as why
 use Rattle.drf_master.specs.declared.pass.Receipt.{Receipt}
@@ -116,11 +119,19 @@ IsDriveFault given asked stops key passes scripts (Close fault) = IsClosingFault
 
 -- ---- jobs
 
--- why a call of a worker was not made
-abbrev pub IsCallStop : Type 0 → DriveFault → Type 0
-IsCallStop stopped Stopped = stopped
-IsCallStop stopped Memory = Unit {0}
-IsCallStop stopped (Close fault) = ⊥
+-- the fault of a call, as a drive tells it
+abbrev pub drive_fault : CallFault → DriveFault
+drive_fault refused.Stranger = Close why.Stranger
+drive_fault refused.Memory = Memory
+
+-- why a worker's call by a pass was not made: the gate stopped it, or the master with the key refused it
+abbrev pub IsCallStop : Type 0 → ℕ → Held → DriveFault → Type 0
+IsCallStop stopped key pass Stopped = stopped
+IsCallStop stopped key pass Memory = IsCallFault key pass refused.Memory
+IsCallStop stopped key pass (Close why.Stranger) = IsCallFault key pass refused.Stranger
+IsCallStop stopped key pass (Close why.Missing) = ⊥
+IsCallStop stopped key pass (Close (why.Mismatch place)) = ⊥
+IsCallStop stopped key pass (Close why.Memory) = ⊥
 
 -- why a worker did not make so many calls
 abbrev pub IsJobFault : (ℕ → Type 0) → (ℕ → Type 0) → ℕ → DriveFault → Type 0

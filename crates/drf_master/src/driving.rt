@@ -2,19 +2,18 @@
 ghost use Rattle.std.specs.Prelude.{◌≡◌, ◌≤◌, [], All, length, map, vec_capacity, IfOk, IfErr, OnOk};
 ghost use Rattle.drf_board.specs.History.{IsLegal};
 ghost use Rattle.drf_master.specs.Closing.{AreOf, IsClosed};
-ghost use Rattle.drf_master.specs.declared.driving.DriveFault.TheVariants.{Memory};
 ghost use Rattle.drf_master.specs.Scripts.{AreAsked, AreDone, AreNumbered, DidJob, DidJobs, HasCalled, HasDriven, HaveAllRun, IsAsked, IsCallStop, IsDriveFault, IsFirstFault, IsMisfitOf, IsRunFault};
 
 use crate::book::Book;
-use crate::desk::{Desk, MasterSorter};
+use crate::desk::MasterSorter;
 use crate::gate::Gate;
-use crate::master::{Master, are_of};
+use crate::master::{CallFault, Locked, Master, are_of};
 use crate::matching::CloseFault;
 use crate::pass::Pass;
 use drf_board::{Entry, Naming};
 use drf_rows::{Event, Reply};
 use std::alloc::{AllocError, Global};
-use std::sync::{MutexGuard, Wait};
+use std::sync::Wait;
 use std::thread;
 use std::thread::Threads;
 
@@ -38,6 +37,20 @@ impl From<AllocError> for DriveFault {
 
     fn from(_error: AllocError) -> DriveFault {
         DriveFault::Memory
+    }
+}
+
+impl From<CallFault> for DriveFault {
+    ghost use Rattle.std.specs.Prelude.{◌≡◌};
+    ghost use Rattle.drf_master.specs.Scripts.{drive_fault};
+
+    ghost from_gives = { λ fault gives. gives ≡ drive_fault fault };
+
+    fn from(fault: CallFault) -> DriveFault {
+        match fault {
+            CallFault::Stranger => DriveFault::Close(CloseFault::Stranger),
+            CallFault::Memory => DriveFault::Memory,
+        }
     }
 }
 
@@ -78,10 +91,10 @@ pub struct Done {
 
 // Gives the lock up after the last of the calls that are made together.
 fn keep<'a, K: Naming, R: Wait + Drop>(
-    desk: MutexGuard<'a, Desk<K, R>>,
+    desk: Locked<'a, K, R>,
     together: u64,
     call: u64,
-) -> Option<MutexGuard<'a, Desk<K, R>>> {
+) -> Option<Locked<'a, K, R>> {
     if call.wrapping_add(1) % together.max(1) == 0 {
         drop(desk);
         return None;
@@ -89,52 +102,29 @@ fn keep<'a, K: Naming, R: Wait + Drop>(
     Some(desk)
 }
 
-// Answers an event at a desk, and gives the pass its receipt.
-fn answer_to<K: Naming, R: Wait + Drop>(
-    desk: &mut Desk<K, R>,
-    pass: &mut Pass,
-    event: Event,
-) -> Result<Reply, DriveFault>
-    ensures called { IfOk result (HasCalled pass.old pass.new event) }
-    ensures fault { IfErr result (λ fault. fault ≡ Memory) }
-{
-    if pass.reserve(1).is_err() {
-        drop(event);
-        return Err(DriveFault::Memory);
-    }
-    match desk.answer_to(pass, event) {
-        Ok(answer) => Ok(answer.reply),
-        Err(_) => Err(DriveFault::Memory),
-    }
-}
-
-// Makes one call by a pass of this master, and asks the gate round it. Hands back the desk, if the next call is made with it.
+// Makes one call, and asks the gate round it. Hands back the desk, if the next call is made with it.
 fn run_call<'a, K: Naming, R: Wait + Drop, W: Wait, G: Gate>(
     rt: &W,
     master: &'a Master<K, R>,
     gate: &G,
     worker: u64,
     call: u64,
-    held: Option<MutexGuard<'a, Desk<K, R>>>,
+    held: Option<Locked<'a, K, R>>,
     pass: &mut Pass,
     event: Event,
-) -> Result<(Reply, Option<MutexGuard<'a, Desk<K, R>>>), DriveFault>
+) -> Result<(Reply, Option<Locked<'a, K, R>>), DriveFault>
     ensures called { IfOk result (λ r. HasCalled pass.old pass.new event r.0) }
     ensures asked { OnOk result (IsAsked (G.lets gate.now) (G.sees gate.now) worker call) }
-    ensures fault { IfErr result (IsCallStop (G.stops gate.now worker call)) }
+    ensures fault { IfErr result (IsCallStop (G.stops gate.now worker call) master.now.key pass.old) }
 {
     if !gate.before(worker, call) {
         drop(event);
         return Err(DriveFault::Stopped);
     }
-    let mut desk = match held {
-        Some(desk) => desk,
-        None => master.hold(rt),
-    };
-    let reply = answer_to(&mut *desk, pass, event)?;
+    let (answer, desk) = master.call_held(rt, held, pass, event)?;
     let held = keep(desk, gate.together(), call);
     gate.after(worker, call);
-    Ok((reply, held))
+    Ok((answer.reply, held))
 }
 
 // Makes the calls of a script in order.

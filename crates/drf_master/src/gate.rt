@@ -23,8 +23,11 @@ pub trait Gate {
     fn after(&self, worker: u64, call: u64)
         ensures { sees self.now worker call };
 
-    /// After so many calls a worker gives the lock up to others: 1 for a gate that waits for them. No clause speaks of it.
-    fn together(&self) -> u64;
+    /// After so many calls a worker gives the lock up to others. More than 1 is for gates that wait for nobody, as they are asked with the
+    /// lock held then. No clause speaks of it.
+    fn together(&self) -> u64 {
+        1
+    }
 }
 
 /// Lets all workers go on.
@@ -45,6 +48,6 @@ impl Gate for OpenGate {
 
     /// Two threads that take turns at the lock wait longer for one another than a call takes.
     fn together(&self) -> u64 {
-        32
+        256
     }
 }

@@ -54,6 +54,9 @@ impl CloseRefused {
     }
 }
 
+/// The desk of a master, under its lock.
+pub(crate) type Locked<'a, K, R> = MutexGuard<'a, Desk<K, R>>;
+
 /// One allocator that many threads call, one call at a time.
 #[derive(Drop)]
 pub struct Master<K: Naming, R: Wait + Drop> {
@@ -138,18 +141,34 @@ impl<K: Naming, R: Wait + Drop> Master<K, R> {
         ensures err { OnErr result (IsSamePass pass.old pass.new) }
         ensures fault { IfErr result (IsCallFault self.now.key pass.old) }
     {
+        let (answer, desk) = self.call_held(rt, None, pass, event)?;
+        drop(desk);
+        Ok(answer)
+    }
+
+    /// The same by a caller that may hold this master's lock from the call before, and gets it back held. That it is this master's no clause
+    /// says.
+    pub(crate) fn call_held<'a, W: Wait>(
+        &'a self,
+        rt: &W,
+        held: Option<Locked<'a, K, R>>,
+        pass: &mut Pass,
+        event: Event,
+    ) -> Result<(Answer<K>, Locked<'a, K, R>), CallFault>
+        ensures own { OnOk result (pass.old.key ≡ self.now.key) }
+        ensures kept { IfOk result (λ r. Keeps pass.old pass.new r.0.place (entry event r.0.reply)) }
+        ensures told { IfOk result (λ r. IsTold K.slate.limits r.0.told r.0.place (entry event r.0.reply)) }
+        ensures err { OnErr result (IsSamePass pass.old pass.new) }
+        ensures fault { IfErr result (IsCallFault self.now.key pass.old) }
+    {
         match self.make_ready(pass) {
-            Ok(()) => self.call_ready(rt, pass, event),
+            Ok(()) => self.call_ready(rt, held, pass, event),
             Err(fault) => {
+                drop(held);
                 drop(event);
                 Err(fault)
             }
         }
-    }
-
-    /// The desk, locked.
-    pub(crate) fn hold<W: Wait>(&self, rt: &W) -> MutexGuard<'_, Desk<K, R>> {
-        self.desk.lock(rt)
     }
 
     // Makes room for one receipt more in a pass of this master.
@@ -167,20 +186,26 @@ impl<K: Naming, R: Wait + Drop> Master<K, R> {
     }
 
     // Makes a call by a pass that has room for its receipt.
-    fn call_ready<W: Wait>(
-        &self,
+    fn call_ready<'a, W: Wait>(
+        &'a self,
         rt: &W,
+        held: Option<Locked<'a, K, R>>,
         pass: &mut Pass,
         event: Event,
-    ) -> Result<Answer<K>, CallFault>
+    ) -> Result<(Answer<K>, Locked<'a, K, R>), CallFault>
         requires own { pass.old.key ≡ self.now.key }
         requires room { 0 < pass.old.room }
-        ensures kept { IfOk result (λ answer. Keeps pass.old pass.new answer.place (entry event answer.reply)) }
-        ensures told { IfOk result (λ answer. IsTold K.slate.limits answer.told answer.place (entry event answer.reply)) }
+        ensures kept { IfOk result (λ r. Keeps pass.old pass.new r.0.place (entry event r.0.reply)) }
+        ensures told { IfOk result (λ r. IsTold K.slate.limits r.0.told r.0.place (entry event r.0.reply)) }
         ensures err { OnErr result (IsSamePass pass.old pass.new) }
         ensures fault { IfErr result (IsCallFault self.now.key pass.old) }
     {
-        Ok(self.desk.lock(rt).answer_to(pass, event)?)
+        let mut desk = match held {
+            Some(desk) => desk,
+            None => self.desk.lock(rt),
+        };
+        let answer = desk.answer_to(pass, event)?;
+        Ok((answer, desk))
     }
 
     /// Takes the book out of the lock. `Ok` is told only where the passes have the master's key and the journal is a shuffle of their receipts:

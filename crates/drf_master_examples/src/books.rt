@@ -13,6 +13,13 @@ use std::fmt::Write;
 use std::sync::Wait;
 use std::thread::Threads;
 
+/// How a book takes events: ten in all ways, or the events of lines, each in one step.
+#[derive(Clone, Copy)]
+enum Taking<'a> {
+    AllWays,
+    OneStep(&'a [&'a str]),
+}
+
 fn take(alloc: Global, told: &mut String, book: &mut Book<MasterSorter>, line: &str) -> Result<()> {
     let event = read_event(alloc, line.as_bytes())?;
     let (reply, place) = book.take(event)?;
@@ -83,18 +90,19 @@ fn limit_all(alloc: Global, told: &mut String, book: &mut Book<MasterSorter>) ->
     settle(alloc, told, book, CYCLE)
 }
 
-// Takes each of the events in one step. Where there are none, it takes ten in all ways.
 fn fill(
     alloc: Global,
     told: &mut String,
     book: &mut Book<MasterSorter>,
-    taken: &[&str],
+    taking: Taking<'_>,
 ) -> Result<()> {
-    if taken.is_empty() {
-        take_all(alloc, told, book)?;
-        return limit_all(alloc, told, book);
+    match taking {
+        Taking::AllWays => {
+            take_all(alloc, told, book)?;
+            limit_all(alloc, told, book)
+        }
+        Taking::OneStep(lines) => take_each(alloc, told, book, lines),
     }
-    take_each(alloc, told, book, taken)
 }
 
 fn append_match(
@@ -112,12 +120,12 @@ fn use_book(
     alloc: Global,
     told: &mut String,
     book: &mut Book<MasterSorter>,
-    taken: &[&str],
+    taking: Taking<'_>,
     same: &[Pass],
     others: &[Pass],
 ) -> Result<()> {
     append_match(told, "no pass", book, &[])?;
-    fill(alloc, told, book, taken)?;
+    fill(alloc, told, book, taking)?;
     append_match(told, "no pass", book, &[])?;
     append_match(told, "passes of the same calls", book, same)?;
     append_match(told, "passes of others", book, others)
@@ -137,12 +145,12 @@ pub fn append_left(
 fn use_and_end(
     alloc: Global,
     told: &mut String,
-    taken: &[&str],
+    taking: Taking<'_>,
     same: &[Pass],
     others: &[Pass],
     mut book: Book<MasterSorter>,
 ) -> Result<()> {
-    let used = use_book(alloc, told, &mut book, taken, same, others);
+    let used = use_book(alloc, told, &mut book, taking, same, others);
     let entries = book.into_entries();
     append_left(alloc, told, used, &entries)
 }
@@ -150,12 +158,12 @@ fn use_and_end(
 fn open_and_use(
     alloc: Global,
     told: &mut String,
-    taken: &[&str],
+    taking: Taking<'_>,
     same: &[Pass],
     others: &[Pass],
 ) -> Result<()> {
     let book = Book::open(alloc, Limits::full())?;
-    use_and_end(alloc, told, taken, same, others, book)
+    use_and_end(alloc, told, taking, same, others, book)
 }
 
 // A book is compared with the passes of a master that was called with the same events, and with those of one where two came in turned order.
@@ -163,7 +171,7 @@ fn append_compared<W: Threads + Wait + Sync>(
     rt: &W,
     alloc: Global,
     told: &mut String,
-    taken: &[&str],
+    taking: Taking<'_>,
     lines: &[&str],
     turned: &[&str],
     same: &mut Vec<Pass>,
@@ -171,7 +179,7 @@ fn append_compared<W: Threads + Wait + Sync>(
 ) -> Result<()> {
     keep_passes(rt, alloc, 1, lines, same)?;
     keep_passes(rt, alloc, 1, turned, others)?;
-    open_and_use(alloc, told, taken, same, others)?;
+    open_and_use(alloc, told, taking, same, others)?;
     Ok(told.push('\n')?)
 }
 
@@ -179,7 +187,7 @@ fn append_book<W: Threads + Wait + Sync>(
     rt: &W,
     alloc: Global,
     told: &mut String,
-    taken: &[&str],
+    taking: Taking<'_>,
     lines: &[&str],
     turned: &[&str],
 ) -> Result<()> {
@@ -189,7 +197,7 @@ fn append_book<W: Threads + Wait + Sync>(
         rt,
         alloc,
         told,
-        taken,
+        taking,
         lines,
         turned,
         &mut same,
@@ -224,7 +232,7 @@ fn append_ten<W: Threads + Wait + Sync>(rt: &W, alloc: Global, told: &mut String
         NO_LIMIT,
         CYCLE,
     ];
-    append_book(rt, alloc, told, &[], &lines, &turned)
+    append_book(rt, alloc, told, Taking::AllWays, &lines, &turned)
 }
 
 /// A book takes ten events in all ways, and one takes three in one step each.
@@ -236,5 +244,5 @@ pub fn append_alone<W: Threads + Wait + Sync>(
     append_ten(rt, alloc, told)?;
     told.push_str("a book that takes each event in one step:")?;
     let (lines, turned) = ([AGENT, FRAMEWORK, CYCLE], [AGENT, CYCLE, FRAMEWORK]);
-    append_book(rt, alloc, told, &lines, &lines, &turned)
+    append_book(rt, alloc, told, Taking::OneStep(&lines), &lines, &turned)
 }

@@ -59,10 +59,6 @@ impl Gate for Meeting {
     }
 
     fn after(&self, _worker: u64, _call: u64) {}
-
-    fn together(&self) -> u64 {
-        1
-    }
 }
 
 /// What is kept of a drive.

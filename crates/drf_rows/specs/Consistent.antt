@@ -2,7 +2,9 @@
 use Rattle.std.specs.Prelude.{◌≡◌, ℕ, ◌+◌, ◌*◌, ◌^◌, ◌<◌, ◌≤◌, Bool, true, not, ◌&&◌, List, [], ◌∷◌, length, map, sum_by, nat_lt, Some}
 use Rattle.std.specs.List.{list_all, list_any, AllByRecursion}
 use Rattle.drf_role.specs.Text.{Text, same_text}
+use Rattle.drf_role.specs.Name.{IsName}
 use Rattle.drf_role.specs.Path.{Path, same_path}
+use Rattle.drf_role.specs.Role.{IsRole}
 use Rattle.drf_bundle.specs.Quantities.{amount_of}
 use Rattle.drf_bundle.specs.Value.{Point}
 use Rattle.drf_bundle.specs.Bundle.{Key, IsBundle, is_default, units, quantities_of}
@@ -16,6 +18,7 @@ use Rattle.drf_rows.specs.declared.limits.TheConstants.{LARGEST_AMOUNT, LATEST_M
 use Rattle.drf_rows.specs.declared.rows.FilterRow.{FilterRow}
 use Rattle.drf_rows.specs.declared.rows.LimitRow.{LimitRow}
 use Rattle.drf_rows.specs.declared.rows.TaskRow.{TaskRow}
+use Rattle.drf_rows.specs.declared.rows.WeightRow.{WeightRow}
 use Rattle.drf_rows.specs.declared.rows.AgentRow.{AgentRow}
 use Rattle.drf_rows.specs.declared.rows.FrameworkRow.{FrameworkRow}
 use Rattle.drf_rows.specs.declared.rows.Rows.{Rows}
@@ -39,10 +42,16 @@ pub record AreAgents (agents : List AgentRow) : Type 0 where
   pub names : are_distinct (map (λ a. a.name) agents) ≡ true
   pub each : AllByRecursion IsAgent agents
 
+-- a framework has a valid name, and its clients have valid roles
+pub record IsFramework (framework : FrameworkRow) : Type 0 where
+  pub name : IsName framework.name
+  pub roles : AllByRecursion IsRole (map (λ c. c.role) framework.clients)
+
 -- a framework has one client for each of its roles
 pub record AreFrameworks (frameworks : List FrameworkRow) : Type 0 where
   pub names : are_distinct (map (λ f. f.name) frameworks) ≡ true
   pub roles : AllByRecursion (λ f. are_distinct_roles (map (λ c. c.role) f.clients) ≡ true) frameworks
+  pub each : AllByRecursion IsFramework frameworks
 
 -- a registered client holds a bundle on a registered agent
 pub record IsHeld (agents : List AgentRow) (frameworks : List FrameworkRow) (h : Holding) : Type 0 where
@@ -55,10 +64,17 @@ abbrev pub are_distinct_tasks : List TaskRow → Bool
 are_distinct_tasks [] = true
 are_distinct_tasks (task ∷ tasks) = list_all (λ t. not (is_task task.framework task.name t)) tasks && are_distinct_tasks tasks
 
--- each role has one limit, `*` has none, and each names a scalar
+-- each role is valid and has one weight, in its range
+pub record AreWeights (weights : List WeightRow) : Type 0 where
+  pub roles : are_distinct_roles (map (λ w. w.role) weights) ≡ true
+  pub each : are_weights weights ≡ true
+  pub valid : AllByRecursion (λ w. IsRole w.role) weights
+
+-- each role is valid and has one limit, `*` has none, and each names a scalar
 pub record AreLimits (limits : List LimitRow) : Type 0 where
   pub roles : are_distinct_roles (map (λ l. l.role) limits) ≡ true
   pub each : list_all (λ l. not (is_default l.role) && nat_lt 0 (length l.limit)) limits ≡ true
+  pub valid : AllByRecursion (λ l. IsRole l.role) limits
 
 -- a filter is that of a registered client on a registered agent, has a bundle, and ends before 2^63
 pub record IsFilter (agents : List AgentRow) (frameworks : List FrameworkRow) (f : FilterRow) : Type 0 where
@@ -87,7 +103,7 @@ pub record IsConsistent (rows : Rows) : Type 0 where
   pub holdings : AllByRecursion (IsHeld rows.agents rows.frameworks) (holdings_of rows)
   pub covered : AllByRecursion (IsCovered (holdings_of rows)) rows.agents
   pub tasks : are_distinct_tasks rows.tasks ≡ true
-  pub weights : are_weights rows.weights ≡ true
+  pub weights : AreWeights rows.weights
   pub limits : AreLimits rows.limits
   pub filters : AllByRecursion (IsFilter rows.agents rows.frameworks) rows.filters
   pub early : rows.clock ≤ LATEST_MOMENT

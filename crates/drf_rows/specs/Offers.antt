@@ -72,8 +72,8 @@ left_of_offer o starts = rest_of_all o.bundle (uses starts)
 -- ---- filters that a framework sets
 
 -- a filter that is set for so long ends so long after the clock; more than 365 days are 365 days
-abbrev pub refused_until : ℕ → ℕ → ℕ
-refused_until clock refuse_ms = clock + min refuse_ms LONGEST_FILTER
+abbrev pub filtered_until : ℕ → ℕ → ℕ
+filtered_until clock refuse_ms = clock + min refuse_ms LONGEST_FILTER
 
 -- the filter of an offer's client, where the offer was made
 abbrev pub filter_of : OfferRow → List Resource → ℕ → FilterRow
@@ -83,18 +83,18 @@ abbrev pub is_empty : {A : Type 0} → List A → Bool
 is_empty [] = true
 is_empty (x ∷ xs) = false
 
--- what is declined is refused, if for any time
-abbrev pub refuses_all : ℕ → Bool
-refuses_all refuse_ms = nat_lt 0 refuse_ms
+-- what is declined is filtered, if for any time
+abbrev pub filters_all : ℕ → Bool
+filters_all refuse_ms = nat_lt 0 refuse_ms
 
--- of what is accepted the rest is refused, if there is any, and for any time
-abbrev pub refuses_rest : OfferRow → List Start → ℕ → Bool
-refuses_rest o starts refuse_ms = nat_lt 0 refuse_ms && not (is_empty (left_of_offer o starts))
+-- of what is accepted the rest is filtered, if there is any, and for any time
+abbrev pub filters_rest : OfferRow → List Start → ℕ → Bool
+filters_rest o starts refuse_ms = nat_lt 0 refuse_ms && not (is_empty (left_of_offer o starts))
 
--- the filters, with that of a bundle if it is refused
+-- the filters, with that of a bundle if it is filtered
 abbrev pub filters_with : Rows → Bool → OfferRow → List Resource → ℕ → List FilterRow
-filters_with rows refused o bundle refuse_ms =
-    if refused then rows.filters ++ filter_of o bundle (refused_until rows.clock refuse_ms) ∷ [] else rows.filters
+filters_with rows filtered o bundle refuse_ms =
+    if filtered then rows.filters ++ filter_of o bundle (filtered_until rows.clock refuse_ms) ∷ [] else rows.filters
 
 -- as many filters as the limit are in force at a moment
 abbrev pub are_many_filters : LimitNumbers → Rows → ℕ → Bool
@@ -106,11 +106,11 @@ are_many_filters limits rows at = nat_le limits.filters (number_in_force (max ro
 abbrev pub offer_accepted : Rows → OfferRow → List Start → ℕ → Rows
 offer_accepted rows o starts refuse_ms = record (without_ended rows (one_offer o.number)) {
   tasks = rows.tasks ++ map (task_of o) starts;
-  filters = filters_with rows (refuses_rest o starts refuse_ms) o (left_of_offer o starts) refuse_ms;
+  filters = filters_with rows (filters_rest o starts refuse_ms) o (left_of_offer o starts) refuse_ms;
 }
 
 -- its framework declines it, and all is free
 abbrev pub offer_declined : Rows → OfferRow → ℕ → Rows
 offer_declined rows o refuse_ms = record (without_ended rows (one_offer o.number)) {
-  filters = filters_with rows (refuses_all refuse_ms) o o.bundle refuse_ms;
+  filters = filters_with rows (filters_all refuse_ms) o o.bundle refuse_ms;
 }

@@ -10,7 +10,7 @@ use Rattle.drf_bundle.specs.declared.resource.Resource.{Resource}
 use Rattle.drf_rows.specs.LimitNumbers.{LimitNumbers}
 use Rattle.drf_rows.specs.Held.{cluster_total, clients_of, is_registered}
 use Rattle.drf_rows.specs.Members.{has_agent, has_framework, distinct, with_agent, with_framework, with_activity, with_suppression, agent_deactivated, revived, agent_removed, framework_removed}
-use Rattle.drf_rows.specs.Offers.{offer_at, has_offer, is_anothers, is_beyond, has_task, is_task_known, is_empty, refuses_all, refuses_rest, are_many_filters, offer_accepted, offer_declined}
+use Rattle.drf_rows.specs.Offers.{offer_at, has_offer, is_anothers, is_beyond, has_task, is_task_known, is_empty, filters_all, filters_rest, are_many_filters, offer_accepted, offer_declined}
 use Rattle.drf_rows.specs.Endings.{without_ended, one_offer, one_task}
 use Rattle.drf_rows.specs.Cycle.{at_moment, cycle}
 use Rattle.drf_rows.specs.Filters.{in_force}
@@ -74,11 +74,11 @@ too_many_frameworks limits rows roles =
 -- an accept would set one filter too many
 abbrev pub accept_is_too_much : LimitNumbers → Rows → accepting.Accept → Bool
 accept_is_too_much limits rows a =
-    option_map_or (λ o. refuses_rest o a.tasks a.refuse_ms) (offer_at rows a.offer) false && are_many_filters limits rows a.at
+    option_map_or (λ o. filters_rest o a.tasks a.refuse_ms) (offer_at rows a.offer) false && are_many_filters limits rows a.at
 
 -- a decline would
 abbrev pub decline_is_too_much : LimitNumbers → Rows → declining.Decline → Bool
-decline_is_too_much limits rows d = refuses_all d.refuse_ms && are_many_filters limits rows d.at
+decline_is_too_much limits rows d = filters_all d.refuse_ms && are_many_filters limits rows d.at
 
 -- the framework is in the role
 abbrev pub is_in_role : Rows → Text → Path → Bool

@@ -6,12 +6,14 @@ use Rattle.std.proofs.Common.{refl, ap, ◌∙◌, inl, inr}
 use Rattle.std.proofs.lemmas.Bool.{cases_Bool, and_parts, not-true}
 use Rattle.std.proofs.lemmas.Map.Keys.{IsDistinct-cons}
 use Rattle.drf_role.specs.Text.{Text, same_text}
+use Rattle.drf_role.specs.Name.{IsName}
 use Rattle.drf_role.specs.Path.{Path, IsClientPath, same_path}
 use Rattle.drf_role.specs.PathLaws.{same_path-client_path}
+use Rattle.drf_role.specs.Role.{IsRole}
 use Rattle.drf_rows.specs.Client.{Client, path_of}
 use Rattle.drf_rows.specs.Held.{client_of, active_clients}
 use Rattle.drf_rows.specs.Cycle.{turn_order}
-use Rattle.drf_rows.specs.Consistent.{are_distinct, are_distinct_roles, IsConsistent}
+use Rattle.drf_rows.specs.Consistent.{are_distinct, are_distinct_roles, IsFramework, IsConsistent}
 use Rattle.drf_rows.specs.laws.ListLaws.{each_append, each_filter, each_from, each_map, none_has}
 use Rattle.drf_rows.specs.declared.rows.ClientRow.{ClientRow}
 use Rattle.drf_rows.specs.declared.rows.FrameworkRow.{FrameworkRow}
@@ -128,17 +130,33 @@ all_frameworks (f ∷ fs) names roles =
     (each (λ c. DiffersFromAll (flat_map active_in fs) (client_of f c)) f.clients
     (λ c. two_frameworks f c fs others)))
 
+-- ---- the paths of clients
+
+paths_of : (f : FrameworkRow) (cs : List ClientRow) → IsName f.name → AllByRecursion IsRole (map (λ c. c.role) cs)
+    → AllByRecursion (λ c. IsClientPath (path_of (client_of f c))) cs
+paths_of f [] name roles = tt
+paths_of f (c ∷ cs) name roles = (
+  record { role = c.role; framework = f.name; right_role = roles.0; right_name = name; joined = refl },
+  paths_of f cs name roles.1,
+)
+
+all_paths : (fs : List FrameworkRow) → AllByRecursion IsFramework fs
+    → AllByRecursion (λ c. IsClientPath (path_of c)) (flat_map active_in fs)
+all_paths [] each = tt
+all_paths (f ∷ fs) each =
+    let IsPath : Client → Type 0 = λ c. IsClientPath (path_of c) in
+    each_append IsPath (active_in f) (flat_map active_in fs)
+    (each_active IsPath f f.clients (paths_of f f.clients each.0.name each.0.roles)) (all_paths fs each.1)
+
 -- ---- the turn
 
-pub each_has_its_turn : (rows : Rows) → IsConsistent rows
-    → AllByRecursion (λ c. IsClientPath (path_of c)) (active_clients rows)
-    → IsPermutation (active_clients rows) (turn_order rows)
+pub each_has_its_turn : (rows : Rows) → IsConsistent rows → IsPermutation (active_clients rows) (turn_order rows)
 unfolding rows_word.standing_of
-each_has_its_turn rows consistent right =
+each_has_its_turn rows consistent =
     each_is_served_once (rows_word.standing_of rows) (active_clients rows)
-    (λ node. (weight_of-in_range rows.weights node consistent.weights).0)
+    (λ node. (weight_of-in_range rows.weights node consistent.weights.each).0)
     (record {
-      each = right;
+      each = all_paths rows.frameworks consistent.frameworks.each;
       distinct = distinct_paths (active_clients rows)
           (all_frameworks rows.frameworks consistent.frameworks.names consistent.frameworks.roles);
     })

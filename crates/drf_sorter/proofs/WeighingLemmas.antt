@@ -8,7 +8,7 @@ use Rattle.std.proofs.lemmas.List.{length-append}
 use Rattle.std.proofs.lemmas.List.Elements.{All-head, All-tail}
 use Rattle.drf_bundle.specs.Quantities.{amount_of}
 use Rattle.drf_bundle.specs.declared.quantities.Entry.{Entry}
-use Rattle.drf_role.specs.Path.{same_path, client_path}
+use Rattle.drf_role.specs.Path.{same_path}
 use Rattle.drf_role.specs.PathLaws.{same_path-true}
 use Rattle.drf_role.specs.Role.{IsComponent, IsRole, default_role}
 use Rattle.drf_role.specs.TextLaws.{cases_same}
@@ -18,6 +18,7 @@ use Rattle.drf_rows.specs.declared.rows.WeightRow.{WeightRow}
 use Rattle.drf_rows.specs.laws.WeightLaws.{weight_of-set}
 use Rattle.drf_sorter.specs.Content.{Content, standing_in, with_weight}
 use Rattle.drf_sorter.specs.Fractions.{dominant_of, weigh}
+use Rattle.drf_sorter.specs.laws.Laws.{ClientsHaveDefaultWeight}
 use Rattle.drf_sorter.specs.laws.OrderLaws.{greatest_above}
 
 -- ---- what is held makes a share above 0
@@ -117,8 +118,7 @@ default_weight (x ∷ xs) role rest roles =
     (λ same. no_dot role rest x.role roles.0 (sym (same_path-true x.role (role ++ codes "." ∷ rest) same))) in
     rw other (default_weight xs role rest roles.1)
 
-pub clients_have_default_weight : (weights : List WeightRow) (role : List (List ℕ)) (framework : List ℕ)
-    → AllByRecursion (λ w. IsRole w.role) weights
-    → (weight_of weights (role ++ codes "." ∷ []) ≡ 1000) × (weight_of weights (client_path role framework) ≡ 1000)
-clients_have_default_weight weights role framework roles =
-    (default_weight weights role [] roles, default_weight weights role (framework ∷ []) roles)
+pub clients_have_default_weight : ClientsHaveDefaultWeight
+clients_have_default_weight rows role framework consistent =
+    let roles = consistent.weights.valid in
+    (default_weight rows.weights role [] roles, default_weight rows.weights role (framework ∷ []) roles)

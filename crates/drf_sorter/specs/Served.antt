@@ -38,7 +38,4 @@ EachBeforeAllLater =
 -- the turn of an agent serves each active client, and each once
 abbrev pub EachHasItsTurn : Type 0
 EachHasItsTurn =
-    (rows : Rows)
-    → IsConsistent rows
-    → AllByRecursion (λ c. IsClientPath (path_of c)) (active_clients rows)
-    → IsPermutation (active_clients rows) (turn_order rows)
+    (rows : Rows) → IsConsistent rows → IsPermutation (active_clients rows) (turn_order rows)

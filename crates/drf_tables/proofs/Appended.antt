@@ -6,7 +6,8 @@ use Rattle.std.proofs.lemmas.Bool.{and_parts, ltb-true, lt-ltb, le-ltb}
 use Rattle.drf_rows.specs.Consistent.{are_rising}
 use Rattle.drf_rows.specs.declared.rows.OfferRow.{OfferRow}
 use Rattle.drf_holdings.specs.Listed.{offer_number}
-use Rattle.drf_holdings.specs.Rising.{IsRising, rising_from}
+use Rattle.drf_holdings.specs.Rising.{IsRising}
+use Rattle.drf_holdings.specs.RisingLaws.{rising_from}
 use Rattle.drf_tables.specs.Counting.{first_number}
 
 abbrev is_from : ℕ → OfferRow → Bool

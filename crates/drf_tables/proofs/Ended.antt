@@ -6,10 +6,10 @@ use Rattle.std.proofs.Common.{refl, sym, ap, ◌∙◌, subst, inl, inr}
 use Rattle.drf_role.specs.Text.{Text, same_text}
 use Rattle.drf_bundle.specs.Value.{Point}
 use Rattle.drf_bundle.specs.Bundle.{Key, IsBundle, units}
-use Rattle.drf_bundle.specs.Taken.{units_of_all, bundle-rest_of_all}
+use Rattle.drf_bundle.specs.Taken.{units_of_all}
+use Rattle.drf_bundle.specs.laws.TakenLaws.{bundle-rest_of_all}
 use Rattle.drf_bundle.specs.declared.resource.Resource.{Resource}
 use Rattle.drf_bundle.specs.declared.quantities.Entry.{Entry}
-use Rattle.drf_rows.specs.Client.{path_of}
 use Rattle.drf_rows.specs.Consistent.{IsAgent, IsConsistent, IsCovered, IsHeld, IsFilter}
 use Rattle.drf_rows.specs.laws.ConsistentLaws.{bundles-consistent}
 use Rattle.drf_rows.specs.Endings.{Ending, without_ended}
@@ -29,7 +29,6 @@ use Rattle.drf_holdings.specs.declared.holdings.Taken.{Taken}
 use Rattle.drf_tables.specs.Changing.{changed, freed, HasFreed}
 use Rattle.drf_tables.specs.Ended.{left_to_end, held_in, HasEnded, with_accepted}
 use Rattle.drf_tables.specs.Inside.{agent_row, rows_of, rows_in, IsKnown, AreDerived}
-use Rattle.drf_tables.specs.declared.ending.Held.{Held}
 use Rattle.drf_tables.specs.declared.tables.Agent.{Agent}
 use Rattle.drf_tables.specs.declared.tables.Tables.TheInside.{Inside}
 use Rattle.drf_tables.proofs.Freed.{known-freed, rows-freed}
@@ -117,19 +116,15 @@ AreDerived-ended old new agents sum number ending h back stand kept one = record
   few = subst (λ (agents : List AgentRow). length agents ≤ 4096) (sym (ap (λ (r : Rows). r.agents) one.others)) kept.few;
 }
 
-pub ended_from : (old new : Rows) (ending : Ending) (h : Holding) (held : Held)
-    → IsConsistent old → IsWithoutOne old new ending h → held.client ≡ path_of h.client → held.bundle ≡ h.bundle
-    → HasEnded old new ending held
-ended_from old new ending h held consistent one path bundle = record {
-  holding = h;
-  path = path;
-  bundle = bundle;
-  registered = (one-one_less (holdings_of old) (holdings_of new) h one.less (IsHeld old.agents old.frameworks) consistent.holdings).client;
+pub ended_from : (old new : Rows) (ending : Ending) (taken : Taken)
+    → IsConsistent old → IsWithoutOne old new ending (holding_of taken) → HasEnded old new ending taken
+ended_from old new ending taken consistent one = record {
+  registered = (one-one_less (holdings_of old) (holdings_of new) (holding_of taken) one.less (IsHeld old.agents old.frameworks) consistent.holdings).client;
   taken = one.taken;
   others = one.others;
   later = one.later;
   fewer = one.fewer;
-  out = held_where-one_less (holdings_of old) (holdings_of new) h one.less;
+  out = held_where-one_less (holdings_of old) (holdings_of new) (holding_of taken) one.less;
 }
 
 -- ---- nothing ends
@@ -246,6 +241,5 @@ module _ (t : Inside) (entries : List (Text × Agent)) (held : OffersAndTasks) (
       subst (λ (es : List (Text × Agent)). AreDerived rows_ended es t.total t.clients) (sym freed_there.same)
       (AreDerived-ended (rows_in t) rows_ended t.agents.entries t.total t.clients ending (holding_of taken) freed_there.kept refl kept without_it)
 
-  pub ended-one : (told : Held) → told.client ≡ path_of (holding_of taken).client → told.bundle ≡ taken.bundle
-      → HasEnded (rows_in t) rows_ended ending told
-  ended-one told path bundle = ended_from (rows_in t) rows_ended ending (holding_of taken) told kept.consistent without_it path bundle
+  pub ended-one : HasEnded (rows_in t) rows_ended ending taken
+  ended-one = ended_from (rows_in t) rows_ended ending taken kept.consistent without_it

@@ -7,7 +7,8 @@ use Rattle.drf_bundle.specs.Value.{Point}
 use Rattle.drf_bundle.specs.Bundle.{Key, IsBundle, join, units}
 use Rattle.drf_bundle.specs.laws.BundleLaws.{known_by_units}
 use Rattle.drf_bundle.specs.laws.FitLaws.{join_some}
-use Rattle.drf_bundle.specs.Taken.{units_of_all, rest_of_all, bundle-rest_of_all, units-rest_of_all}
+use Rattle.drf_bundle.specs.Taken.{units_of_all, rest_of_all}
+use Rattle.drf_bundle.specs.laws.TakenLaws.{bundle-rest_of_all, units-rest_of_all}
 use Rattle.drf_bundle.specs.declared.resource.Resource.{Resource}
 use Rattle.drf_rows.specs.Consistent.{IsAgent, IsCovered}
 use Rattle.drf_rows.specs.laws.ConsistentLaws.{same_text-swap}

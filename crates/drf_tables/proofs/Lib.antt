@@ -4,6 +4,7 @@ pub mod Known
 pub mod Freed
 pub mod Suppressed
 pub mod Ended
+pub mod Accepted
 pub mod Changes
 pub mod Spent
 pub mod Totals

@@ -7,12 +7,14 @@ use Rattle.std.proofs.lemmas.List.{length-map}
 use Rattle.std.proofs.lemmas.List.Sums.{sum_by-append}
 use Rattle.drf_role.specs.Text.{Text, same_text}
 use Rattle.drf_role.specs.Path.{Path}
+use Rattle.drf_role.specs.Role.{IsRole}
 use Rattle.drf_bundle.specs.Value.{Point}
 use Rattle.drf_bundle.specs.Bundle.{Key, IsBundle, is_default, quantities_of, rest, units}
-use Rattle.drf_bundle.specs.laws.BundleLaws.{known_by_units}
+use Rattle.drf_bundle.specs.laws.BundleLaws.{bundle-empty, known_by_units}
 use Rattle.drf_bundle.specs.laws.RestLaws.{bundle-rest, units-rest}
 use Rattle.drf_bundle.specs.Quantities.{plus}
-use Rattle.drf_bundle.specs.Taken.{units_of_all, rest_of_all, bundle-rest_of_all, units-rest_of_all}
+use Rattle.drf_bundle.specs.Taken.{units_of_all, rest_of_all}
+use Rattle.drf_bundle.specs.laws.TakenLaws.{bundle-rest_of_all, rest-itself, units-rest_of_all}
 use Rattle.drf_bundle.specs.declared.quantities.Entry.{Entry}
 use Rattle.drf_bundle.specs.declared.resource.Resource.{Resource}
 use Rattle.drf_rows.specs.Consistent.{IsAgent, IsCovered}
@@ -47,7 +49,7 @@ each_entry P (e ∷ es) all = (all.0, each_entry P es all.1)
 
 -- ---- a limit is set
 
-module _ (t : Inside) (whole : IsWhole t) (role : Path) (limit : List Entry) (other : is_default role ≡ false) where
+module _ (t : Inside) (whole : IsWhole t) (role : Path) (limit : List Entry) (other : is_default role ≡ false) (valid : IsRole role) where
   abbrev quota_set : Allowance
   quota_set = record t.quota { limits = limits_with t.quota.limits role limit }
 
@@ -58,7 +60,7 @@ module _ (t : Inside) (whole : IsWhole t) (role : Path) (limit : List Entry) (ot
   unfolding rows_of
   whole_set = record {
     kept = AreDerived-same (rows_in t) rows_set t.agents.entries t.total t.clients whole.kept
-        (IsConsistent-limit_set (rows_in t) role limit other whole.kept.consistent) refl refl refl;
+        (IsConsistent-limit_set (rows_in t) role limit other valid whole.kept.consistent) refl refl refl;
     consumed = λ is. record { limits = refl; used = (whole.consumed is).used };
   }
 
@@ -188,6 +190,15 @@ other_left old new parts is_old is_new each covered =
       units-rest_of_all new parts key p is_new each,
       covered key p,
     ))
+
+rest-nothing : (total : List Resource) → IsBundle total → rest total [] ≡ total
+rest-nothing total is =
+    known_by_units (rest total []) total (bundle-rest total [] is) is
+    (λ key p. omega (arith, units-rest total [] key p is.in_order bundle-empty.in_order))
+
+-- all of it, where all of the old one is free
+pub other_left-nothing : (total old : List Resource) → IsBundle total → IsBundle old → rest total (rest old old) ≡ total
+other_left-nothing total old is is_old = ap (rest total) (rest-itself old is_old) ∙ rest-nothing total is
 
 -- so that what is free of the new one is known
 module _ (hs : List Holding) (bundles : AreBundles hs) (name : Text) (total : List Resource) (is_total : IsBundle total) where

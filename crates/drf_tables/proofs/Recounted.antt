@@ -16,7 +16,8 @@ use Rattle.drf_bundle.specs.laws.JoinLaws.{where-merged}
 use Rattle.drf_bundle.specs.Quantities.{amount_of}
 use Rattle.drf_bundle.specs.laws.RestLaws.{bundle-rest}
 use Rattle.drf_bundle.specs.laws.SumLaws.{amount-quantities_of}
-use Rattle.drf_bundle.specs.Taken.{rest_of_all, units-rest_of_all, units_of_all}
+use Rattle.drf_bundle.specs.Taken.{rest_of_all, units_of_all}
+use Rattle.drf_bundle.specs.laws.TakenLaws.{units-rest_of_all}
 use Rattle.drf_bundle.specs.laws.UnitProofs.{covers_by_units, rest_and_part}
 use Rattle.drf_bundle.specs.Value.{Point, Thousandths}
 use Rattle.drf_bundle.specs.declared.resource.Resource.{Resource}

@@ -7,6 +7,7 @@ use Rattle.std.proofs.lemmas.Bool.{cases_Bool}
 use Rattle.indexmap.specs.IndexMap.{insert_entry}
 use Rattle.drf_role.specs.Path.{Path, same_path}
 use Rattle.drf_role.specs.PathLaws.{same_path-swap}
+use Rattle.drf_role.specs.Role.{IsRole}
 use Rattle.drf_bundle.specs.declared.quantities.Entry.{Entry}
 use Rattle.drf_rows.specs.Weights.{has_weight, is_weight, weights_with}
 use Rattle.drf_rows.specs.laws.WeightLaws.{IsConsistent-weight_set}
@@ -61,7 +62,7 @@ rows_of-weight t entries role weight inserted =
 
 -- nothing else depends on weights
 pub AreDerived-weight_set : (rows : Rows) (agents : List (Text × Agent)) (sum : List Entry) (number : ℕ) (role : Path) (weight : ℕ)
-    → is_weight weight ≡ true → AreDerived rows agents sum number → AreDerived (weight_set rows role weight) agents sum number
-AreDerived-weight_set rows agents sum number role weight right kept =
+    → is_weight weight ≡ true → IsRole role → AreDerived rows agents sum number → AreDerived (weight_set rows role weight) agents sum number
+AreDerived-weight_set rows agents sum number role weight right valid kept =
     AreDerived-same rows (weight_set rows role weight) agents sum number kept
-    (IsConsistent-weight_set rows role weight right kept.consistent) refl refl refl
+    (IsConsistent-weight_set rows role weight right valid kept.consistent) refl refl refl

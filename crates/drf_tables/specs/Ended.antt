@@ -1,18 +1,17 @@
 -- What it means that something that is held has ended.
-use Rattle.std.specs.Prelude.{◌≡◌, ℕ, ◌+◌, Bool, true, ◌⊎◌, List, [], ◌∷◌, ◌++◌, map, count_by, cond, Option}
+use Rattle.std.specs.Prelude.{◌≡◌, ℕ, ◌+◌, Bool, true, ◌⊎◌, List, [], ◌∷◌, ◌++◌, map, count_by, cond, Option, Some, None, if◌then◌else◌}
 use Rattle.std.specs.Option.{option_map_or}
 use Rattle.drf_role.specs.Text.{Text}
-use Rattle.drf_rows.specs.Client.{path_of}
 use Rattle.drf_rows.specs.Endings.{Ending, one_offer, ends_offer, ends_task, without_ended}
 use Rattle.drf_rows.specs.Held.{is_registered}
 use Rattle.drf_rows.specs.Holdings.{Holding, holdings_of, held_where, amount_in}
-use Rattle.drf_rows.specs.Offers.{task_of}
+use Rattle.drf_rows.specs.Offers.{left_of_offer, task_of}
 use Rattle.drf_rows.specs.Tasks.{Start}
 use Rattle.drf_rows.specs.declared.rows.FilterRow.{FilterRow}
 use Rattle.drf_rows.specs.declared.rows.OfferRow.{OfferRow}
 use Rattle.drf_rows.specs.declared.rows.Rows.{Rows}
-use Rattle.drf_holdings.specs.Stored.{OffersAndTasks, IsOfferOut, IsTaskOut}
-use Rattle.drf_tables.specs.declared.ending.Held.{Held}
+use Rattle.drf_holdings.specs.Stored.{OffersAndTasks, IsOfferOut, IsTaskOut, holding_of}
+use Rattle.drf_holdings.specs.declared.holdings.Taken.{Taken}
 
 -- how many holdings an ending would end
 abbrev pub left_to_end : Rows → Ending → ℕ
@@ -23,12 +22,9 @@ abbrev pub held_in : Rows → OffersAndTasks
 held_in rows = record { offers = rows.offers; tasks = rows.tasks }
 
 -- one holding that ends was taken out
-pub record HasEnded (old new : Rows) (ending : Ending) (held : Held) : Type 0 where
-  pub holding : Holding
-  pub path : held.client ≡ path_of holding.client
-  pub bundle : held.bundle ≡ holding.bundle
-  pub registered : is_registered old.frameworks holding.client ≡ true
-  pub taken : IsOfferOut ending (held_in old) (held_in new) holding ⊎ IsTaskOut ending (held_in old) (held_in new) holding
+pub record HasEnded (old new : Rows) (ending : Ending) (one : Taken) : Type 0 where
+  pub registered : is_registered old.frameworks (holding_of one).client ≡ true
+  pub taken : IsOfferOut ending (held_in old) (held_in new) (holding_of one) ⊎ IsTaskOut ending (held_in old) (held_in new) (holding_of one)
   -- nothing else changed
   pub others : new ≡ record old { offers = new.offers; tasks = new.tasks }
   -- the others that end are still to end, and all that stays, stays
@@ -37,7 +33,15 @@ pub record HasEnded (old new : Rows) (ending : Ending) (held : Held) : Type 0 wh
   -- whatever passes a test holds so much less
   pub out : (test : Holding → Bool) (label : Text)
       → held_where test (holdings_of old) label
-      ≡ held_where test (holdings_of new) label + cond (test holding) (amount_in label holding) 0
+      ≡ held_where test (holdings_of new) label + cond (test (holding_of one)) (amount_in label (holding_of one)) 0
+
+-- what an accept gives back of its offer
+abbrev pub rest_taken : OfferRow → List Start → Taken
+rest_taken o starts = record { agent = o.agent; role = o.role; framework = o.framework; bundle = left_of_offer o starts }
+
+-- a filter, if there is to be one
+abbrev pub filter_if : Bool → FilterRow → Option FilterRow
+filter_if refused filter = if refused then Some filter else None
 
 -- parts of the offer are tasks, and a filter stands last, if there is one
 abbrev pub with_accepted : Rows → OfferRow → List Start → Option FilterRow → Rows

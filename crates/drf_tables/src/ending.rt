@@ -1,36 +1,32 @@
 //! What is held ends, and an offer that is accepted becomes tasks.
 #![tactic(auto, unfolding(crate::specs::Inside::rows_of))]
 
-ghost use Rattle.std.specs.Prelude.{◌≡◌, ◌++◌, ◌∷◌, [], true, Some, IfOk, OnOk, OnErr, IfSome, IfNone, option_copied};
+ghost use Rattle.std.specs.Prelude.{◌≡◌, ◌≤◌, ◌++◌, ◌∷◌, [], true, Some, IfOk, OnOk, OnErr, IfSome, IfNone, option_copied};
 ghost use Rattle.std.specs.List.{AllByRecursion};
 ghost use Rattle.std.specs.Option.{option_map_or};
-ghost use Rattle.drf_role.specs.Path.{client_path};
 ghost use Rattle.drf_bundle.specs.Bundle.{IsBundle};
 ghost use Rattle.drf_rows.specs.Consistent.{IsConsistent, IsFilter};
+ghost use Rattle.drf_rows.specs.Cycle.{at_moment};
 ghost use Rattle.drf_rows.specs.Endings.{without_ended};
-ghost use Rattle.drf_rows.specs.Offers.{CanAccept, left_of_offer, offer_at, has_task};
+ghost use Rattle.drf_rows.specs.Offers.{CanAccept, left_of_offer, offer_accepted, offer_at, has_task};
 ghost use Rattle.drf_rows.specs.Tasks.{uses};
+ghost use Rattle.drf_rows.specs.declared.limits.TheConstants.{LATEST_MOMENT};
 ghost use Rattle.drf_rows.specs.declared.rows.FilterRow.{FilterRow};
 ghost use Rattle.drf_rows.specs.declared.rows.OfferRow.{OfferRow};
 ghost use Rattle.drf_rows.specs.Ended.{ending_of};
-ghost use Rattle.drf_tables.specs.Ended.{HasEnded, with_accepted};
+ghost use Rattle.drf_tables.specs.Ended.{HasEnded, rest_taken, with_accepted};
 
+use crate::filtering::filter_rest;
 use crate::members::give_back;
 use crate::recounting::release_held;
 use crate::settling::settle_all;
 use crate::tables::Tables;
 use drf_bundle::Bundle;
 use drf_gates::FilterTable;
-use drf_role::{ClientPath, Name};
-use drf_rows::{Ending, FilterRow, OfferRow, TaskList};
+use drf_holdings::Taken;
+use drf_role::Name;
+use drf_rows::{Accept, Ending, FilterRow, OfferRow, TaskList};
 use std::alloc::AllocError;
-
-/// What a client held, and holds no longer.
-#[derive(Drop)]
-pub struct Held {
-    pub client: ClientPath,
-    pub bundle: Bundle,
-}
 
 /// Adds a filter, if there is one. An `Err` changes nothing.
 fn add_if(filters: &mut FilterTable, filter: Option<FilterRow>) -> Result<(), AllocError>
@@ -67,7 +63,7 @@ impl Tables {
     }
 
     /// Takes one holding out that ends, if there is one. It needs no memory.
-    pub fn end(&mut self, ending: Ending) -> Option<Held>
+    pub fn end(&mut self, ending: Ending) -> Option<Taken>
         ensures some { IfSome result (HasEnded self.old.rows self.new.rows (ending_of ending.entry)) }
         ensures none { IfNone result ((self.new.rows ≡ self.old.rows) × (without_ended self.old.rows (ending_of ending.entry) ≡ self.old.rows)) }
         ensures consistent { IsConsistent self.new.rows }
@@ -76,29 +72,27 @@ impl Tables {
         let taken = self.holdings.take(ending)?;
         give_back(&mut self.agents, &taken.agent, &taken.bundle);
         release_held(&mut self.quota, self.is_counted, &taken.role, &taken.bundle);
-        Some(Held {
-            client: ClientPath::from_parts(taken.role, taken.framework),
-            bundle: taken.bundle,
-        })
+        Some(taken)
     }
 
-    /// A framework starts tasks with parts of an offer. The rest is free, and held no longer, as is told, and a filter stands
+    /// Tasks are started with parts of an offer at a moment. The rest is free, and held no longer, as is told, and a filter stands
     /// last, if one is given. An `Err` changes no row.
-    pub fn accept(
+    fn start(
         &mut self,
         number: u64,
         tasks: TaskList,
         rest: Bundle,
         filter: Option<FilterRow>,
-    ) -> Result<Held, AllocError>
+        moment: u64,
+    ) -> Result<Taken, AllocError>
         requires bundles { AllByRecursion IsBundle (uses tasks) }
         requires can { CanAccept self.old.rows number tasks }
         requires filter { (f : FilterRow) → filter ≡ Some f → IsFilter self.old.rows.agents self.old.rows.frameworks f }
         requires rest { (o : OfferRow) → offer_at self.old.rows number ≡ Some o → rest ≡ left_of_offer o tasks }
+        requires early { moment ≤ LATEST_MOMENT }
         ensures ok { OnOk result ((o : OfferRow) → offer_at self.old.rows number ≡ Some o
-            → self.new.rows ≡ with_accepted self.old.rows o tasks filter) }
-        ensures held { IfOk result (λ held. (o : OfferRow) → offer_at self.old.rows number ≡ Some o
-            → (held.client ≡ client_path o.role o.framework) × (held.bundle ≡ left_of_offer o tasks)) }
+            → self.new.rows ≡ record (with_accepted self.old.rows o tasks filter) { clock = moment }) }
+        ensures taken { IfOk result (λ taken. (o : OfferRow) → offer_at self.old.rows number ≡ Some o → taken ≡ rest_taken o tasks) }
         ensures err { OnErr result (self.new.rows ≡ self.old.rows) }
         ensures counted { self.new.counted ≡ self.old.counted }
     {
@@ -108,8 +102,11 @@ impl Tables {
             Ok(offer) => {
                 give_back(&mut self.agents, &offer.agent, &rest);
                 release_held(&mut self.quota, self.is_counted, &offer.role, &rest);
-                Ok(Held {
-                    client: ClientPath::from_parts(offer.role, offer.framework),
+                self.clock = moment;
+                Ok(Taken {
+                    agent: offer.agent,
+                    role: offer.role,
+                    framework: offer.framework,
                     bundle: rest,
                 })
             }
@@ -118,5 +115,27 @@ impl Tables {
                 Err(error)
             }
         }
+    }
+
+    /// A framework starts tasks with parts of an offer, at a moment to which the clock goes on. The rest is free, and held no longer,
+    /// as is told, and is refused for a time. An `Err` changes no row.
+    pub fn accept(&mut self, accept: Accept) -> Result<Taken, AllocError>
+        requires can { CanAccept self.old.rows accept.offer accept.tasks }
+        requires early { accept.at ≤ LATEST_MOMENT }
+        ensures bundles { OnOk result (AllByRecursion IsBundle (uses accept.tasks)) }
+        ensures ok { OnOk result ((o : OfferRow) → offer_at self.old.rows accept.offer ≡ Some o
+            → self.new.rows ≡ offer_accepted (at_moment self.old.rows accept.at) o accept.tasks accept.refuse_ms) }
+        ensures taken { IfOk result (λ taken. (o : OfferRow) → offer_at self.old.rows accept.offer ≡ Some o → taken ≡ rest_taken o accept.tasks) }
+        ensures err { OnErr result (self.new.rows ≡ self.old.rows) }
+        ensures counted { self.new.counted ≡ self.old.counted }
+    {
+        // The proof learns that the tasks use bundles by this call alone.
+        let _ = accept.tasks.as_slice();
+        let moment = self.clock.max(accept.at);
+        let offer = self.offer(accept.offer).unwrap();
+        let rest = accept.tasks.rest_of(&offer.bundle)?;
+        let filter = filter_rest(offer, &rest, moment, accept.refuse_ms)?;
+        let taken = self.start(accept.offer, accept.tasks, rest, filter, moment)?;
+        Ok(taken)
     }
 }

@@ -1,20 +1,87 @@
 //! The filters of declined offers, and of what is left of accepted ones.
 #![tactic(auto, unfolding(crate::specs::Inside::rows_of))]
 
-ghost use Rattle.std.specs.Prelude.{◌≡◌, ◌++◌, ◌∷◌, [], nat_le, OnOk, OnErr};
+ghost use Rattle.std.specs.Prelude.{◌≡◌, ◌≤◌, ◌&&◌, ◌++◌, ◌∷◌, [], true, not, nat_le, nat_lt, Some, IfOk, OnOk, OnErr};
 ghost use Rattle.drf_rows.specs.Consistent.{IsConsistent, IsFilter};
+ghost use Rattle.drf_rows.specs.Cycle.{at_moment};
 ghost use Rattle.drf_rows.specs.Filters.{is_held_back, number_in_force};
+ghost use Rattle.drf_rows.specs.Offers.{filter_of, filters_with, has_offer, is_empty, offer_at, filtered_until, filters_all};
 ghost use Rattle.drf_rows.specs.Step.{live_rows};
+ghost use Rattle.drf_rows.specs.declared.limits.TheConstants.{LATEST_MOMENT};
+ghost use Rattle.drf_rows.specs.declared.rows.OfferRow.{OfferRow};
+ghost use Rattle.drf_tables.specs.Ended.{filter_if};
 
 use crate::tables::Tables;
+use drf_amount::Algebra;
 use drf_bundle::Bundle;
 use drf_role::{Name, Role};
-use drf_rows::FilterRow;
+use drf_rows::{Decline, FilterRow, LONGEST_FILTER, OfferRow};
 use std::alloc::AllocError;
 
 // As many filters as may ever be in force. Where more stand, some have run out, and each event that asks how many are in force would
 // go over those.
 const MOST_IN_FORCE: usize = 65536;
+
+/// The filter that keeps a bundle on an offer's agent from its client. It ends so long after the moment, both in
+/// milliseconds, but not later than after 365 days.
+fn filter_row(
+    offer: &OfferRow,
+    bundle: &Bundle,
+    moment: u64,
+    refuse_ms: u64,
+) -> Result<FilterRow, AllocError>
+    requires { moment ≤ LATEST_MOMENT }
+    ensures { IfOk result (λ row. row ≡ filter_of offer.now bundle.now (filtered_until moment refuse_ms)) }
+{
+    Ok(FilterRow {
+        framework: offer.framework.copy()?,
+        role: offer.role.copy()?,
+        agent: offer.agent.copy()?,
+        bundle: bundle.copy()?,
+        until: moment + refuse_ms.min(LONGEST_FILTER),
+    })
+}
+
+/// The filter of what is left of an offer, if anything is, and if it is refused for any time.
+pub(crate) fn filter_rest(
+    offer: &OfferRow,
+    rest: &Bundle,
+    moment: u64,
+    refuse_ms: u64,
+) -> Result<Option<FilterRow>, AllocError>
+    requires { moment ≤ LATEST_MOMENT }
+    ensures { IfOk result (λ filter. filter ≡ filter_if (nat_lt 0 refuse_ms && not (is_empty rest.now)) (filter_of offer.now rest.now (filtered_until moment refuse_ms))) }
+{
+    if refuse_ms == 0 {
+        return Ok(None);
+    }
+    if rest.is_empty() {
+        return Ok(None);
+    }
+    Ok(Some(filter_row(offer, rest, moment, refuse_ms)?))
+}
+
+/// An offer is filtered whole, if for any time.
+fn filter_offer(
+    tables: &mut Tables,
+    number: u64,
+    moment: u64,
+    refuse_ms: u64,
+) -> Result<(), AllocError>
+    requires consistent { IsConsistent tables.old.rows }
+    requires offer { has_offer tables.old.rows number ≡ true }
+    requires early { moment ≤ LATEST_MOMENT }
+    ensures ok { OnOk result ((o : OfferRow) → offer_at tables.old.rows number ≡ Some o
+        → tables.new.rows ≡ record tables.old.rows { filters = filters_with (record tables.old.rows { clock = moment }) (filters_all refuse_ms) o o.bundle refuse_ms }) }
+    ensures err { OnErr result (tables.new.rows ≡ tables.old.rows) }
+{
+    if refuse_ms == 0 {
+        return Ok(());
+    }
+    let offer = tables.offer(number).unwrap();
+    let filter = filter_row(offer, &offer.bundle, moment, refuse_ms)?;
+    tables.add_filter(filter)
+}
 
 impl Tables {
     /// Whether at least so many filters are in force at a moment, in milliseconds. They are looked at only where so many stand.
@@ -33,12 +100,26 @@ impl Tables {
     }
 
     /// Puts a filter behind the others. An `Err` changes no row.
-    pub fn add_filter(&mut self, filter: FilterRow) -> Result<(), AllocError>
+    fn add_filter(&mut self, filter: FilterRow) -> Result<(), AllocError>
         requires { IsFilter self.old.rows.agents self.old.rows.frameworks filter }
         ensures ok { OnOk result (self.new.rows ≡ record self.old.rows { filters = self.old.rows.filters ++ filter ∷ [] }) }
         ensures err { OnErr result (self.new.rows ≡ self.old.rows) }
     {
         self.filters.add(filter)
+    }
+
+    /// An offer is refused whole, if for any time, at a moment to which the clock goes on. An `Err` changes no row.
+    pub fn refuse(&mut self, decline: &Decline) -> Result<(), AllocError>
+        requires offer { has_offer self.old.rows decline.now.offer ≡ true }
+        requires early { decline.now.at ≤ LATEST_MOMENT }
+        ensures ok { OnOk result ((o : OfferRow) → offer_at self.old.rows decline.now.offer ≡ Some o
+            → self.new.rows ≡ record (at_moment self.old.rows decline.now.at) { filters = filters_with (at_moment self.old.rows decline.now.at) (filters_all decline.now.refuse_ms) o o.bundle decline.now.refuse_ms }) }
+        ensures err { OnErr result (self.new.rows ≡ self.old.rows) }
+    {
+        let moment = self.clock.max(decline.at);
+        filter_offer(self, decline.offer, moment, decline.refuse_ms)?;
+        self.set_clock(moment);
+        Ok(())
     }
 
     /// Drops filters that have run out, when the filters have become many.

@@ -17,6 +17,6 @@ mod recounting;
 mod settling;
 mod tables;
 
+pub use drf_holdings::Taken;
 pub use drf_rows::Ending;
-pub use ending::Held;
 pub use tables::{Left, Tables};

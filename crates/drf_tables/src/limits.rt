@@ -58,6 +58,7 @@ impl Tables {
         ensures ok { OnOk result (self.new.rows ≡ record self.old.rows { limits = limits_with self.old.rows.limits role limit }) }
         ensures err { OnErr result (self.new.rows ≡ self.old.rows) }
     {
+        role.recall();
         self.quota.set_limit(role, limit)
     }
 

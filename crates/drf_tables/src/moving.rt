@@ -12,6 +12,7 @@ ghost use Rattle.drf_tables.specs.Inside.{agent_row};
 
 use crate::free_part::FreePart;
 use crate::tables::Agent;
+use drf_amount::{Algebra, is_same};
 use drf_bundle::Bundle;
 use drf_role::Name;
 use indexmap::IndexMap;
@@ -26,17 +27,41 @@ fn exchanged(whole: &Bundle, old: &Bundle, new: &Bundle) -> Result<Bundle, Alloc
     Ok(both)
 }
 
-/// The free part with another part in the place of one that it has, where it is known.
+/// The same of a part of a whole whose exchange is known. Where the part is the whole, both share what they hold.
+fn exchanged_part(
+    part: &Bundle,
+    whole: &Bundle,
+    exchanged_whole: &Bundle,
+    old: &Bundle,
+    new: &Bundle,
+) -> Result<Bundle, AllocError>
+    requires can { CanExchange part.now old.now new.now }
+    requires whole { exchanged_whole.now ≡ exchanged old.now new.now whole.now }
+    ensures { IfOk result (λ both. both ≡ exchanged old.now new.now part.now) }
+{
+    if is_same(part, whole) {
+        return Ok(exchanged_whole.copy()?);
+    }
+    exchanged(part, old, new)
+}
+
+/// The free part of a total whose exchange is known, with another part in the place of one that it has, where it is known.
 fn exchanged_free(
     free: &Option<FreePart>,
+    total: &Bundle,
+    exchanged_total: &Bundle,
     old: &Bundle,
     new: &Bundle,
 ) -> Result<Option<FreePart>, AllocError>
-    requires { (known : List Resource) → free.now ≡ Some known → CanExchange known old.now new.now }
+    requires can { (known : List Resource) → free.now ≡ Some known → CanExchange known old.now new.now }
+    requires total { exchanged_total.now ≡ exchanged old.now new.now total.now }
     ensures { IfOk result (λ both. both ≡ option_map (exchanged old.now new.now) free.now) }
 {
     match free {
-        Some(known) => Ok(Some(FreePart::new(exchanged(known.bundle(), old, new)?))),
+        Some(known) => {
+            let both = exchanged_part(known.bundle(), total, exchanged_total, old, new)?;
+            Ok(Some(FreePart::new(both)))
+        }
         None => Ok(None),
     }
 }
@@ -58,7 +83,7 @@ pub(crate) fn exchange(
     };
     let agent = &agents[place];
     let total = exchanged(&agent.total, old, new)?;
-    let free = exchanged_free(&agent.free, old, new)?;
+    let free = exchanged_free(&agent.free, &agent.total, &total, old, new)?;
     let active = agent.active;
     agents[place] = Agent {
         total,
@@ -68,10 +93,14 @@ pub(crate) fn exchange(
     Ok(())
 }
 
-/// What is left of another total, where as much is held of it as of the old one.
+/// What is left of another total, where as much is held of it as of the old one. Where nothing is, it shares what the total holds.
 fn left_of_other(total: &Bundle, old: &Bundle, free: &Bundle) -> Result<Bundle, AllocError>
     ensures { IfOk result (λ left. left ≡ rest total.now (rest old.now free.now)) }
 {
+    old.recall();
+    if is_same(old, free) {
+        return Ok(total.copy()?);
+    }
     let held = old.rest(free)?;
     total.rest(&held)
 }

@@ -2,6 +2,7 @@
 
 ghost use Rattle.std.specs.Prelude.{◌≡◌, ◌+◌, ◌<◌, ◌≤◌, ◌^◌, [], ◌∷◌, ◌++◌, true, false, length, map, slice_get, Some, is_some, All, IfOk, IfSome, OnOk, OnErr};
 ghost use Rattle.std.specs.List.{AllByRecursion};
+ghost use Rattle.drf_role.specs.Role.{IsRole};
 ghost use Rattle.drf_role.specs.Text.{Text};
 ghost use Rattle.drf_bundle.specs.Quantities.{amount_of};
 ghost use Rattle.drf_bundle.specs.Bundle.{quantities_of};
@@ -102,6 +103,15 @@ impl Model for Tables {
     ghost view = { λ t. record { rows = rows_in t; room = spare t.frameworks; weight_room = spare t.weights; settled = is_settled t.agents.entries; counted = t.is_counted } };
 
     ghost invariant = { IsWhole };
+}
+
+/// Tells the proof that clients have valid roles.
+fn recall_roles(clients: &[ClientRow])
+    ensures { AllByRecursion IsRole (map (λ c. c.role) clients.now) }
+{
+    for client in clients {
+        client.role.recall();
+    }
 }
 
 impl Tables {
@@ -307,6 +317,8 @@ impl Tables {
         requires few { length (clients_of self.old.rows) + length clients < 2 ^ 64 }
         ensures { self.new.rows ≡ record self.old.rows { frameworks = self.old.rows.frameworks ++ record { name = name; clients = clients } ∷ [] } }
     {
+        name.recall();
+        recall_roles(clients.as_slice());
         self.clients += clients.len();
         let _ = self.frameworks.insert(name, clients.into_vec()).unwrap();
     }
@@ -325,6 +337,7 @@ impl Tables {
         requires right { is_weight weight ≡ true }
         ensures { self.new.rows ≡ record self.old.rows { weights = weights_with self.old.rows.weights role weight } }
     {
+        role.recall();
         let _ = self.weights.insert(role, weight).unwrap();
     }
 

@@ -1,66 +1,26 @@
 -- What is written of an amount is read as that amount.
-use Rattle.std.proofs.Common.{◌≡◌, ◌≢◌, ℕ, ◌+◌, ◌*◌, ◌/◌, ◌%◌, ◌^◌, ◌<◌, zero, suc, Bool, true, false, cond, [], ◌∷◌, ◌++◌, ◌&&◌, length, decimal, refl, sym, ap, subst, ◌∙◌, append-nil, arith}
-use Rattle.std.proofs.lemmas.Bool.{and_from, and_parts, le-leb, lt-ltb}
-use Rattle.std.proofs.lemmas.Fmt.{digits_decimal, digits_value-decimal, decimal_nonempty}
-use Rattle.std.proofs.lemmas.List.Elements.{All-append, All-cons, All-nil}
+use Rattle.std.proofs.Common.{◌≡◌, ℕ, ◌+◌, ◌*◌, ◌/◌, ◌%◌, ◌^◌, ◌<◌, zero, suc, true, cond, ◌∷◌, ◌++◌, ◌&&◌, length, decimal, refl, sym, ap, subst, ◌∙◌, append-nil, arith}
+use Rattle.std.proofs.lemmas.Bool.{and_from, lt-ltb}
+use Rattle.std.proofs.lemmas.Fmt.{digits_value-decimal, decimal_nonempty}
 use Rattle.std.specs.Char.{is_ascii_digit}
-use Rattle.std.specs.Prelude.{◌||◌, IsTrue, nat_lt}
-use Rattle.std.specs.List.{list_all}
 use Rattle.std.specs.Str.Parse.{digits_value}
 use Rattle.drf_role.specs.Text.{Text}
 use Rattle.drf_text.specs.Blanks.{is_blank}
+use Rattle.drf_text.specs.ByteLaws.{HasNone, none_of, not_that, is_amount_byte, amount_has_none}
+use Rattle.drf_text.specs.DecimalLaws.{numerals, digits_of, decimals_none, decimals_said}
 use Rattle.drf_text.specs.Number.{is_point, are_digits, is_number, rounded, thousandths_of, decimals_of, number_of}
 use Rattle.drf_text.specs.RoundTrip.{WeightIsRead}
-use Rattle.drf_text.specs.Written.{decimals_text, amount_text}
-use Rattle.drf_text.proofs.CutLemmas.{HasNone, none_of, not_that, not_blank, trimmed_stays, before_at, after_at, any_at_mark, position_none}
-use Rattle.drf_text.proofs.Decimals.{decimals_none, decimals_one, decimals_two, decimals_three}
-use Rattle.drf_text.proofs.Numbers.{numerals, all_before}
+use Rattle.drf_text.specs.Written.{amount_text}
+use Rattle.drf_text.proofs.CutLemmas.{not_blank, trimmed_stays, before_at, after_at, any_at_mark, position_none}
+use Rattle.drf_text.proofs.Numbers.{all_before}
 
 -- ---- digits
-
-digit_is : (d : ℕ) → d < 10 → is_ascii_digit (48 + d) ≡ true
-digit_is d small = and_from _ _ (le-leb 48 (48 + d) (omega arith)) (le-leb (48 + d) 57 (omega arith))
-
-pub digits_of : (n : ℕ) → n < 2 ^ 64 → IsTrue (list_all is_ascii_digit (decimal n))
-digits_of n small = digits_decimal numerals n small
 
 pub are_digits_of : (n : ℕ) → n < 2 ^ 64 → are_digits (decimal n) ≡ true
 are_digits_of n small = and_from _ _ (lt-ltb 0 (length (decimal n)) (decimal_nonempty n small)) (digits_of n small)
 
 pub value_of_digits : (n : ℕ) → n < 2 ^ 64 → digits_value 10 (decimal n) ≡ n
 value_of_digits n small = digits_value-decimal numerals n small
-
--- ---- decimals
-
--- digits that say so many thousandths stand behind the point
-record AreDecimals (n : ℕ) (text : Text) : Type 0 where
-  pub digits : Text
-  pub written : text ≡ 46 ∷ digits
-  pub are_digits : are_digits digits ≡ true
-  pub say : rounded digits ≡ n
-
-decimals_said : (n : ℕ) → n ≢ 0 → n < 1000 → AreDecimals n (decimals_text n)
-decimals_said n some small = by (n % 100) (n % 10) refl refl
-  where
-    by : (p q : ℕ) → n % 100 ≡ p → n % 10 ≡ q → AreDecimals n (decimals_text n)
-    by zero q is_p is_q = record {
-      digits = (48 + n / 100) ∷ [];
-      written = decimals_one n some is_p;
-      are_digits = and_from _ _ (digit_is (n / 100) (omega arith)) refl;
-      say = omega arith;
-    }
-    by (suc p) zero is_p is_q = record {
-      digits = (48 + n / 100) ∷ (48 + n / 10 % 10) ∷ [];
-      written = decimals_two n (λ e. omega (arith, e)) is_q;
-      are_digits = and_from _ _ (digit_is (n / 100) (omega arith)) (and_from _ _ (digit_is (n / 10 % 10) (omega arith)) refl);
-      say = omega arith;
-    }
-    by (suc p) (suc q) is_p is_q = record {
-      digits = (48 + n / 100) ∷ (48 + n / 10 % 10) ∷ (48 + n % 10) ∷ [];
-      written = decimals_three n (λ e. omega (arith, e));
-      are_digits = and_from _ _ (digit_is (n / 100) (omega arith)) (and_from _ _ (digit_is (n / 10 % 10) (omega arith)) (and_from _ _ (digit_is (n % 10) (omega arith)) refl));
-      say = omega arith;
-    }
 
 -- ---- amounts
 
@@ -108,28 +68,6 @@ amount_read amount small = by (amount % 1000) refl
         let whole : amount / 1000 * 1000 + rounded behind.digits ≡ amount = omega (arith, behind.say) in
         subst (λ n. SaysAmount n (amount_text amount)) whole
         (subst (SaysAmount (amount / 1000 * 1000 + rounded behind.digits)) (sym text) (with_decimals (amount / 1000) behind.digits (omega arith) behind.are_digits))
-
--- ---- the bytes of an amount
-
--- a digit or a point
-abbrev pub is_amount_byte : ℕ → Bool
-is_amount_byte b = is_ascii_digit b || is_point b
-
-pub amount_has_none : (p : ℕ → Bool) (amount : ℕ) → amount < 2 ^ 64 → ((b : ℕ) → is_amount_byte b ≡ true → p b ≡ false) → HasNone p (amount_text amount)
-amount_has_none p amount small apart = by (amount % 1000) refl
-  where
-    digits : (text : Text) → IsTrue (list_all is_ascii_digit text) → HasNone p text
-    digits text all = none_of p is_ascii_digit text (λ b is. apart b (rw is refl)) all
-
-    by : (rest : ℕ) → amount % 1000 ≡ rest → HasNone p (amount_text amount)
-    by zero none =
-        All-append (λ b. p b ≡ false) (decimal (amount / 1000)) (decimals_text (amount % 1000)) (digits _ (digits_of (amount / 1000) (omega arith)))
-        (subst (HasNone p) (sym (decimals_none (amount % 1000) none)) (All-nil (λ b. p b ≡ false)))
-    by (suc rest) some =
-        let behind = decimals_said (amount % 1000) (λ none. omega (arith, none, some)) (omega arith) in
-        let more = digits behind.digits (and_parts (nat_lt 0 (length behind.digits)) (list_all is_ascii_digit behind.digits) behind.are_digits).1 in
-        All-append (λ b. p b ≡ false) (decimal (amount / 1000)) (decimals_text (amount % 1000)) (digits _ (digits_of (amount / 1000) (omega arith)))
-        (subst (HasNone p) (sym behind.written) (All-cons (λ b. p b ≡ false) 46 behind.digits (apart 46 refl) more))
 
 pub weight_read : WeightIsRead
 unfolding number_of

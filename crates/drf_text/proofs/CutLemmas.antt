@@ -1,35 +1,20 @@
--- Texts of bytes of one class, and texts cut where they were joined.
-use Rattle.std.proofs.Common.{◌≡◌, ℕ, ◌+◌, ◌-◌, ◌<◌, Bool, true, false, cond, eqb, List, [], ◌∷◌, ◌++◌, length, map, take, drop, All, refl, sym, ap, ◌∙◌, arith, length-append}
+-- Texts without blanks, and texts cut where they were joined.
+use Rattle.std.proofs.Common.{◌≡◌, ℕ, ◌+◌, ◌-◌, ◌<◌, Bool, true, false, cond, eqb, List, [], ◌∷◌, ◌++◌, length, map, take, drop, All, refl, ap, ◌∙◌, arith, length-append}
 use Rattle.std.proofs.Math.Seq.{take-append_seam, drop-append-add}
-use Rattle.std.proofs.lemmas.Bool.{true≢false, and_from, or_parts, eq-eqb, ne_eqb, lt-ltb}
+use Rattle.std.proofs.lemmas.Bool.{and_from, or_parts, eq-eqb, lt-ltb}
 use Rattle.std.proofs.lemmas.List.{get_or_push}
 use Rattle.std.proofs.lemmas.List.Elements.{All-head, All-tail, All-weaker, All-nil, All-cons, All-append}
 use Rattle.std.proofs.lemmas.List.Folds.{list_any_none, list_any-append}
 use Rattle.std.proofs.lemmas.List.Splits.{slice_split_none, slice_split_at}
-use Rattle.std.proofs.lemmas.List.Sums.{AllPass-from_list_all}
-use Rattle.std.specs.Prelude.{◌||◌, IsTrue, filter, nat_lt}
+use Rattle.std.specs.Prelude.{◌||◌, filter, nat_lt}
 use Rattle.std.specs.List.{list_all, list_any, slice_split, join_with_byte, position_or_len, before_first, after_first}
 use Rattle.drf_role.specs.Text.{Text}
 use Rattle.drf_text.specs.Blanks.{is_blank, without_first_blanks, without_last_blanks, trimmed}
+use Rattle.drf_text.specs.ByteLaws.{HasNone, not_that}
 use Rattle.drf_text.specs.Pieces.{ends, inside, parts_inside, pieces_of}
-
--- no byte of the text passes the test
-abbrev pub HasNone : (ℕ → Bool) → Text → Type 0
-HasNone p text = All (λ b. p b ≡ false) text
-
--- ---- bytes of one class
-
--- what is of a class is no byte that is not
-pub not_that : (class : ℕ → Bool) (c : ℕ) → class c ≡ false → (b : ℕ) → class b ≡ true → eqb b c ≡ false
-not_that class c out b inside = ne_eqb b c (λ e. true≢false (sym inside ∙ ap class e ∙ out))
 
 pub not_blank : (class : ℕ → Bool) → class 32 ≡ false → class 9 ≡ false → (b : ℕ) → class b ≡ true → is_blank b ≡ false
 not_blank class space tab b inside = rw (not_that class 32 space b inside, not_that class 9 tab b inside) refl
-
-pub none_of : (p class : ℕ → Bool) (text : Text) → ((b : ℕ) → class b ≡ true → p b ≡ false) → IsTrue (list_all class text) → HasNone p text
-none_of p class text apart all = All-weaker (λ b. class b ≡ true) (λ b. p b ≡ false) apart text (AllPass-from_list_all class text all)
-
--- ---- what is trimmed has no blanks
 
 first_stays : (text : Text) → HasNone is_blank text → without_first_blanks text ≡ text
 first_stays [] none = refl

@@ -2,6 +2,7 @@
 use Rattle.std.proofs.Common.{◌≡◌, ◌≢◌, ℕ, ◌^◌, ◌<◌, Bool, true, false, cond, ltb, [], length, Option, Some, None, Result, Ok, Err, refl, ap, ◌∙◌, inl, inr}
 use Rattle.std.proofs.lemmas.Bool.{cases_Bool, lt-ltb, ltb-true, and_right}
 use Rattle.std.specs.Option.{ok_or}
+use Rattle.std.specs.Prelude.{IsOk}
 use Rattle.std.specs.Result.{OkIff, result_ok}
 use Rattle.std.specs.Str.Parse.{digits_value}
 use Rattle.drf_role.specs.Text.{Text}
@@ -17,12 +18,17 @@ use Rattle.drf_text.specs.Number.{are_digits, is_number, thousandths_of, number_
 use Rattle.drf_text.specs.Pieces.{is_end, low_of, high_of}
 use Rattle.drf_text.specs.Steps.{end_in, ends_in, pair_in, scalar_in}
 use Rattle.drf_text.specs.declared.fault.TextFault.{TextFault}
-use Rattle.drf_text.specs.declared.fault.TextFault.TheVariants.{BadName, BadRole, BadNumber, TooLarge}
+use Rattle.drf_text.specs.declared.fault.TextFault.TheVariants.{BadName, BadRole, BadNumber, TooLarge, Memory}
 
 pub name_refused : {A : Type 0} (refused : NameFault) (b : Bool) (x : A) → (refused ≡ name.BadName → b ≡ false)
     → IsMeaning (Err (fault_of_name refused)) (cond b (Ok x) (Err BadName))
 name_refused name.BadName b x bad = λ _. rw (bad refl)
 name_refused name.Memory b x bad = λ known. absurd (known refl)
+
+pub name_short : {A : Type 0} (refused : NameFault) (b : Bool) (x : A) → (refused ≡ name.Memory → b ≡ true)
+    → fault_of_name refused ≡ Memory → IsOk (cond b (Ok x) (Err BadName))
+name_short name.BadName b x good is = absurd (cc)
+name_short name.Memory b x good is = rw (good refl) refl
 
 pub role_refused : {A : Type 0} (refused : RoleFault) (b : Bool) (x : A) → (refused ≡ role.BadRole → b ≡ false)
     → IsMeaning (Err (fault_of_role refused)) (cond b (Ok x) (Err BadRole))

@@ -3,14 +3,15 @@ pub mod BlankLemmas
 pub mod BundleText
 pub mod CutLemmas
 pub mod Cuts
-pub mod Decimals
 pub mod Exits
 pub mod Joined
+pub mod Named
 pub mod Numbers
 pub mod Parts
 pub mod PieceLemmas
 pub mod QuantityText
 pub mod RangeLemmas
+pub mod Reading
 pub mod Readings
 pub mod ResourceText
 pub mod RoleText

@@ -1,18 +1,17 @@
 -- A head and a body with `:` between them, and when they have no fault.
-use Rattle.std.proofs.Common.{◌≡◌, ℕ, Bool, true, false, cond, eqb, [], ◌∷◌, ◌++◌, ◌&&◌, length, Some, None, refl, sym, ap, subst, ◌∙◌}
-use Rattle.std.proofs.lemmas.Bool.{and_parts}
+use Rattle.std.proofs.Common.{◌≡◌, ℕ, Bool, true, false, cond, eqb, [], ◌∷◌, ◌++◌, ◌&&◌, Some, None, refl, sym, ap, subst, ◌∙◌}
 use Rattle.std.proofs.lemmas.List.Elements.{All-head}
 use Rattle.std.proofs.lemmas.List.Folds.{list_any_none}
-use Rattle.std.specs.Prelude.{IsTrue, not, nat_le, nat_lt}
-use Rattle.std.specs.List.{list_all, list_any}
+use Rattle.std.specs.Prelude.{not}
+use Rattle.std.specs.List.{list_any}
 use Rattle.drf_role.specs.Text.{Text}
 use Rattle.drf_role.specs.Name.{IsLabel}
 use Rattle.drf_text.specs.Blanks.{is_blank, trimmed}
 use Rattle.drf_role.specs.Tests.{is_label_byte, is_label}
-use Rattle.drf_text.specs.Number.{is_number}
-use Rattle.drf_text.specs.Pieces.{begins, parts_inside, head_of, body_of, name_of, is_reserved, is_head, is_body, is_range, fault_by}
+use Rattle.drf_text.specs.ByteLaws.{HasNone, not_that, label_has_none}
+use Rattle.drf_text.specs.Pieces.{begins, head_of, body_of, name_of, is_reserved, is_head, is_body, members_are_labels, has_numbers, first_fault}
 use Rattle.drf_text.specs.declared.fault.TextFault.TheVariants.{Syntax, BadName, BadRole, BadNumber}
-use Rattle.drf_text.proofs.CutLemmas.{HasNone, none_of, not_that, not_blank, trimmed_stays, before_at, after_at, any_at_mark, position_none}
+use Rattle.drf_text.proofs.CutLemmas.{not_blank, trimmed_stays, before_at, after_at, any_at_mark, position_none}
 use Rattle.drf_role.specs.TestLaws.{label_decides}
 use Rattle.drf_text.proofs.Numbers.{all_before}
 
@@ -20,14 +19,6 @@ use Rattle.drf_text.proofs.Numbers.{all_before}
 
 pub label_test : (label : Text) → IsLabel label → is_label label ≡ true
 label_test label is = (label_decides label).1 is
-
-label_bytes : (label : Text) → IsLabel label → IsTrue (list_all is_label_byte label)
-label_bytes label is =
-    let more = (and_parts (nat_lt 0 (length label)) (nat_le (length label) 64 && list_all is_label_byte label) (label_test label is)).1 in
-    (and_parts (nat_le (length label) 64) (list_all is_label_byte label) more).1
-
-pub label_has_none : (p : ℕ → Bool) (label : Text) → IsLabel label → ((b : ℕ) → is_label_byte b ≡ true → p b ≡ false) → HasNone p label
-label_has_none p label is apart = none_of p is_label_byte label apart (label_bytes label is)
 
 pub label_without : (c : ℕ) (label : Text) → IsLabel label → is_label_byte c ≡ false → HasNone (λ b. eqb b c) label
 label_without c label is out = label_has_none (λ b. eqb b c) label is (not_that is_label_byte c out)
@@ -67,17 +58,17 @@ label_head is_bad_role label is role = record {
 -- a body without a fault
 pub record IsRightBody (body : Text) : Type 0 where
   pub shape : is_body body ≡ true
-  pub members : cond (begins 123 body) (list_all is_label (parts_inside body)) true ≡ true
-  pub numbers : cond (begins 91 body) (list_all is_range (parts_inside body)) (cond (begins 123 body) true (is_number body)) ≡ true
+  pub members : members_are_labels body ≡ true
+  pub numbers : has_numbers body ≡ true
 
 fault_none : (is_bad_role : Text → Bool) (piece : Text) → list_any (λ b. eqb b 58) piece ≡ true → IsRightHead is_bad_role (head_of piece)
-    → IsRightBody (body_of piece) → fault_by is_bad_role piece ≡ None
+    → IsRightBody (body_of piece) → first_fault piece (is_bad_role (head_of piece)) ≡ None
 fault_none is_bad_role piece colon head body =
     λ i. cond (not (colon i && head.shape i && body.shape i)) (Some Syntax)
     (cond (not (head.name i && body.members i)) (Some BadName) (cond (head.role i) (Some BadRole) (cond (not (body.numbers i)) (Some BadNumber) None)))
 
 pub right_piece : (is_bad_role : Text → Bool) (head body : Text) → HasNone (λ b. eqb b 58) head → HasNone is_blank head → HasNone is_blank body
-    → IsRightHead is_bad_role head → IsRightBody body → fault_by is_bad_role (head ++ 58 ∷ body) ≡ None
+    → IsRightHead is_bad_role head → IsRightBody body → first_fault (head ++ 58 ∷ body) (is_bad_role (head_of (head ++ 58 ∷ body))) ≡ None
 right_piece is_bad_role head body no_colon no_blank no_blank_too right_head right_body =
     fault_none is_bad_role (head ++ 58 ∷ body) (any_at_mark (λ b. eqb b 58) head 58 body no_colon refl)
     (subst (IsRightHead is_bad_role) (sym (head_found head body no_colon no_blank)) right_head)

@@ -11,14 +11,15 @@ use Rattle.drf_bundle.specs.laws.QuantitiesLaws.{stands_first}
 use Rattle.drf_bundle.specs.declared.quantities.Entry.{Entry}
 use Rattle.drf_bundle.specs.declared.value.Value.TheVariants.{Scalar}
 use Rattle.drf_text.specs.Blanks.{is_blank}
+use Rattle.drf_text.specs.ByteLaws.{HasNone, label_has_none}
 use Rattle.drf_text.specs.Meaning.{after, counted, quantities_from}
 use Rattle.drf_role.specs.Tests.{is_label_byte}
 use Rattle.drf_text.specs.Pieces.{is_reserved, head_of, body_of, name_of, value_of, quantity_fault_of}
 use Rattle.drf_text.specs.RoundTrip.{IsEntry, QuantitiesAreRead}
 use Rattle.drf_text.specs.Written.{amount_text, quantity_text}
 use Rattle.drf_text.specs.declared.fault.TextFault.TheVariants.{TooLarge}
-use Rattle.drf_text.proofs.CutLemmas.{HasNone, not_blank, not_between, is_between, IsPart, no_blanks, pieces_found}
-use Rattle.drf_text.proofs.PieceLemmas.{label_has_none, label_without, head_found, body_found, name_alone, not_reserved, label_head, right_piece}
+use Rattle.drf_text.proofs.CutLemmas.{not_blank, not_between, is_between, IsPart, no_blanks, pieces_found}
+use Rattle.drf_text.proofs.PieceLemmas.{label_without, head_found, body_found, name_alone, not_reserved, label_head, right_piece}
 use Rattle.drf_text.proofs.ValueText.{IsTextOf, scalar_text}
 
 -- ---- one entry

@@ -11,8 +11,7 @@ use Rattle.drf_role.specs.Parts.{parts_of}
 use Rattle.drf_bundle.specs.declared.value.Value.{Value}
 use Rattle.drf_bundle.specs.declared.value.Value.TheVariants as value
 use Rattle.drf_role.specs.Tests.{is_label, is_role}
-use Rattle.drf_text.specs.Number.{is_number}
-use Rattle.drf_text.specs.Pieces.{begins, inside, parts_between, parts_inside, head_of, body_of, is_reserved, name_of, role_text_of, is_head, is_body, is_range, has_bad_role, fault_of, quantity_fault_of, numbers_of, value_of, role_of}
+use Rattle.drf_text.specs.Pieces.{begins, inside, parts_between, parts_inside, head_of, body_of, is_reserved, name_of, role_text_of, is_head, is_body, is_range, has_form, members_are_labels, has_labels, has_bad_role, has_numbers, fault_of, quantity_fault_of, numbers_of, value_of, role_of}
 use Rattle.drf_text.specs.Steps.{◌>>=◌, each_of, cut_in, head_in, kind_of, content_of, body_in, label_in, members_in, role_in, no_role, fitting, scalar_in, ranges_in, numbers_between, value_in, DraftOf, draft_in, said_in, counted_in}
 use Rattle.drf_text.specs.declared.fault.TextFault.{TextFault}
 use Rattle.drf_text.specs.declared.fault.TextFault.TheVariants.{Syntax, BadName, BadRole, BadNumber}
@@ -50,21 +49,15 @@ labels_tested parts =
 abbrev members_of : Text → List Text
 members_of body = cond (begins 91 body) [] (cond (begins 123 body) (parts_inside body) [])
 
-abbrev are_members : Text → Bool
-are_members body = cond (begins 123 body) (list_all is_label (parts_inside body)) true
-
-members_tested : (body : Text) → members_in (kind_of body, content_of (kind_of body) body) ≡ cond (are_members body) (Ok (members_of body)) (Err BadName)
+members_tested : (body : Text) → members_in (kind_of body, content_of (kind_of body) body) ≡ cond (members_are_labels body) (Ok (members_of body)) (Err BadName)
 unfolding members_in
 members_tested body = by (begins 91 body) (begins 123 body) refl refl
   where
     by : (range items : Bool) → begins 91 body ≡ range → begins 123 body ≡ items
-        → members_in (kind_of body, content_of (kind_of body) body) ≡ cond (are_members body) (Ok (members_of body)) (Err BadName)
+        → members_in (kind_of body, content_of (kind_of body) body) ≡ cond (members_are_labels body) (Ok (members_of body)) (Err BadName)
     by true items first second = rw (first, not_both body first) refl
     by false true first second = rw (first, second) (labels_tested (parts_inside body))
     by false false first second = rw (first, second) refl
-
-abbrev are_numbers : Text → Bool
-are_numbers body = cond (begins 91 body) (list_all is_range (parts_inside body)) (cond (begins 123 body) true (is_number body))
 
 -- the set of the numbers of a list
 abbrev numbers_set : List ℕ → set.FinSet nat_cmp
@@ -88,12 +81,12 @@ ranges_as_value : (all : Bool) (numbers : set.FinSet nat_cmp)
 ranges_as_value true numbers = refl
 ranges_as_value false numbers = refl
 
-value_tested : (body : Text) → value_in (kind_of body, content_of (kind_of body) body) (members_of body) ≡ cond (are_numbers body) (Ok (fitting (value_of body))) (Err BadNumber)
+value_tested : (body : Text) → value_in (kind_of body, content_of (kind_of body) body) (members_of body) ≡ cond (has_numbers body) (Ok (fitting (value_of body))) (Err BadNumber)
 unfolding value_in scalar_in
 value_tested body = by (begins 91 body) (begins 123 body) refl refl
   where
     by : (range items : Bool) → begins 91 body ≡ range → begins 123 body ≡ items
-        → value_in (kind_of body, content_of (kind_of body) body) (members_of body) ≡ cond (are_numbers body) (Ok (fitting (value_of body))) (Err BadNumber)
+        → value_in (kind_of body, content_of (kind_of body) body) (members_of body) ≡ cond (has_numbers body) (Ok (fitting (value_of body))) (Err BadNumber)
     by true items first second =
         rw first (ap (λ (r : Result (set.FinSet nat_cmp) TextFault). r >>= λ found. Ok (Some (value.Ranges found))) (ranges_tested (inside body))
         ∙ ranges_as_value (list_all is_range (parts_inside body)) (numbers_set (flat_map numbers_of (parts_inside body))))
@@ -103,9 +96,7 @@ value_tested body = by (begins 91 body) (begins 123 body) refl refl
 -- ---- pieces
 
 abbrev draft_fault : Text → Option TextFault
-draft_fault piece =
-    cond (not (list_any (λ b. eqb b 58) piece && is_head (head_of piece) && is_body (body_of piece))) (Some Syntax)
-    (cond (not (is_label (name_of (head_of piece)) && are_members (body_of piece))) (Some BadName) None)
+draft_fault piece = cond (not (has_form piece)) (Some Syntax) (cond (not (has_labels piece)) (Some BadName) None)
 
 abbrev role_text_in : Text → Option Text
 role_text_in head = cond (is_reserved head) (Some (role_text_of head)) None
@@ -158,8 +149,8 @@ draft_tested piece =
     ∙ ap (λ (r : Result DraftOf TextFault). cond (is_body body) r (Err Syntax))
     (bind_at (is_label (name_of head)) (name_of head) BadName labelled
     ∙ ap (λ (r : Result DraftOf TextFault). cond (is_label (name_of head)) r (Err BadName))
-    (ap (λ (r : Result (List Text) TextFault). r >>= last) (members_tested body) ∙ bind_at (are_members body) (members_of body) BadName last))))
-    ∙ nested (list_any (λ b. eqb b 58) piece) (is_head head) (is_body body) (is_label (name_of head)) (are_members body) (draft_of piece)
+    (ap (λ (r : Result (List Text) TextFault). r >>= last) (members_tested body) ∙ bind_at (members_are_labels body) (members_of body) BadName last))))
+    ∙ nested (list_any (λ b. eqb b 58) piece) (is_head head) (is_body body) (is_label (name_of head)) (members_are_labels body) (draft_of piece)
 
 role_tested : (head : Text) → role_in (role_text_in head) ≡ cond (has_bad_role head) (Err BadRole) (Ok (role_of head))
 unfolding role_in
@@ -207,8 +198,7 @@ said_tested piece =
     ∙ told_next (draft_fault piece) draft (λ d. role_in d.role >>= λ role. value_in d.body d.members >>= λ value.
     Ok (record { label = d.label; role = role; value = value }))
     ∙ (λ i. told (draft_fault piece) draft >>= λ _. role_tested head i >>= λ role. value_tested body i >>= λ value. Ok (make role value))
-    ∙ behind (not (list_any (λ b. eqb b 58) piece && is_head head && is_body body)) (not (is_label (name_of head) && are_members body))
-    (has_bad_role head) (are_numbers body) draft (role_of head) (fitting (value_of body)) make
+    ∙ behind (not (has_form piece)) (not (has_labels piece)) (has_bad_role head) (has_numbers body) draft (role_of head) (fitting (value_of body)) make
 
 abbrev pub counted_of : Text → Counted
 counted_of piece = record { label = name_of (head_of piece); value = fitting (value_of (body_of piece)) }
@@ -225,5 +215,4 @@ counted_tested piece =
     ∙ told_next (draft_fault piece) draft (λ d. no_role d.role >>= λ _. value_in d.body d.members >>= λ value.
     Ok (record { label = d.label; value = value }))
     ∙ (λ i. told (draft_fault piece) draft >>= λ _. no_role_tested head i >>= λ none. value_tested body i >>= λ value. Ok (make none value))
-    ∙ behind (not (list_any (λ b. eqb b 58) piece && is_head head && is_body body)) (not (is_label (name_of head) && are_members body))
-    (is_reserved head) (are_numbers body) draft tt (fitting (value_of body)) make
+    ∙ behind (not (has_form piece)) (not (has_labels piece)) (is_reserved head) (has_numbers body) draft tt (fitting (value_of body)) make

@@ -8,8 +8,9 @@ use Rattle.drf_role.specs.PathLaws.{same_path_itself}
 use Rattle.drf_role.specs.Role.{IsComponentByte, IsComponent, IsRolePath, IsRole, default_role}
 use Rattle.drf_bundle.specs.Bundle.{is_default}
 use Rattle.drf_text.specs.Blanks.{is_blank}
+use Rattle.drf_text.specs.ByteLaws.{HasNone}
 use Rattle.drf_role.specs.Tests.{is_role}
-use Rattle.drf_text.proofs.CutLemmas.{HasNone, is_between, joined_has_none}
+use Rattle.drf_text.proofs.CutLemmas.{is_between, joined_has_none}
 use Rattle.drf_role.specs.TestLaws.{role_decides}
 
 pub component_no_colon : (b : ℕ) → IsComponentByte b → eqb b 58 ≡ false

@@ -22,12 +22,15 @@ use Rattle.drf_bundle.specs.declared.value.Value.{Value}
 use Rattle.drf_bundle.specs.declared.value.Value.TheVariants.{Scalar, Ranges, Items}
 use Rattle.drf_text.specs.Blanks.{is_blank, trimmed}
 use Rattle.drf_role.specs.Tests.{is_label_byte, is_label}
+use Rattle.drf_text.specs.ByteLaws.{is_amount_byte, amount_has_none, HasNone, none_of, not_that, label_has_none}
+use Rattle.drf_text.specs.DecimalLaws.{digits_of}
 use Rattle.drf_text.specs.Pieces.{parts_inside, low_of, high_of, has_one_dash, is_end, is_range, numbers_of, value_of}
 use Rattle.drf_text.specs.Written.{amount_text, interval_text, intervals_text, ranges_text, items_text, value_text}
-use Rattle.drf_kinds.specs.Listed.{listed, intervals_of, maximal-intervals_of, members-intervals_of, ascending-listed, from_list-listed}
-use Rattle.drf_text.proofs.AmountText.{digits_of, are_digits_of, value_of_digits, amount_read, is_amount_byte, amount_has_none}
-use Rattle.drf_text.proofs.CutLemmas.{HasNone, none_of, not_that, not_blank, is_between, not_between, IsPart, trimmed_stays, before_at, after_at, ends_closed, parts_found, joined_has_none}
-use Rattle.drf_text.proofs.PieceLemmas.{label_test, label_has_none, IsRightBody, begins_not}
+use Rattle.drf_kinds.specs.Listed.{listed, intervals_of}
+use Rattle.drf_kinds.specs.ListedLaws.{maximal-intervals_of, members-intervals_of, ascending-listed, from_list-listed}
+use Rattle.drf_text.proofs.AmountText.{are_digits_of, value_of_digits, amount_read}
+use Rattle.drf_text.proofs.CutLemmas.{not_blank, is_between, not_between, IsPart, trimmed_stays, before_at, after_at, ends_closed, parts_found, joined_has_none}
+use Rattle.drf_text.proofs.PieceLemmas.{label_test, IsRightBody, begins_not}
 
 -- the text is a body without a fault, and says the value
 pub record IsTextOf (value : Value) (text : Text) : Type 0 where

@@ -7,7 +7,7 @@ use Rattle.drf_role.specs.declared.role.RoleFault.TheVariants as role
 use Rattle.drf_kinds.specs.declared.ranges.RangesFault.{RangesFault}
 use Rattle.drf_kinds.specs.declared.ranges.RangesFault.TheVariants as ranges
 use Rattle.drf_text.specs.declared.fault.TextFault.{TextFault}
-use Rattle.drf_text.specs.declared.fault.TextFault.TheVariants.{BadName, BadRole, BadNumber, Memory}
+use Rattle.drf_text.specs.declared.fault.TextFault.TheVariants.{Syntax, BadName, BadRole, BadNumber, Memory}
 
 -- a reader tells the fault for which nothing is meant; where memory ends it says nothing
 abbrev pub IsTold : {A : Type 0} → Result A TextFault → TextFault → Type 0
@@ -20,6 +20,11 @@ IsReadAs view (Err fault) meaning = IsTold meaning fault
 
 abbrev pub IsMeaning : {A : Type 0} → Result A TextFault → Result A TextFault → Type 0
 IsMeaning = IsReadAs (λ x. x)
+
+-- a text was cut as is meant, seen by `view`, or cannot be; cutting asks for no memory
+abbrev pub IsCutAs : {A B : Type 0} → (A → B) → Result A TextFault → Result B TextFault → Type 0
+IsCutAs view (Ok x) meaning = meaning ≡ Ok (view x)
+IsCutAs view (Err fault) meaning = (fault ≡ Syntax) × (meaning ≡ Err Syntax)
 
 abbrev pub fault_of_name : NameFault → TextFault
 fault_of_name name.BadName = BadName

@@ -1,4 +1,6 @@
 pub mod Blanks
+pub mod ByteLaws
+pub mod DecimalLaws
 pub mod Faults
 pub mod Meaning
 pub mod Number

@@ -87,29 +87,44 @@ is_end text = are_digits text && nat_lt (digits_value 10 text) (2 ^ 32)
 abbrev pub is_range : Text → Bool
 is_range part = is_end (low_of part) && is_end (high_of part) && nat_le (digits_value 10 (low_of part)) (digits_value 10 (high_of part))
 
+-- there is a `:`, and brackets and dashes stand where they belong
+abbrev pub has_form : Text → Bool
+has_form piece = list_any (λ b. b == 58) piece && is_head (head_of piece) && is_body (body_of piece)
+
+-- the members of a set are names; another value has none
+abbrev pub members_are_labels : Text → Bool
+members_are_labels body = if begins 123 body then list_all is_label (parts_inside body) else true
+
+abbrev pub has_labels : Text → Bool
+has_labels piece = is_label (name_of (head_of piece)) && members_are_labels (body_of piece)
+
 -- what stands in parentheses is no role
 abbrev pub has_bad_role : Text → Bool
 has_bad_role head = is_reserved head && not (is_role (role_text_of head))
 
--- the first fault of a piece, if it has one; the test says which heads are a BadRole
-abbrev pub fault_by : (Text → Bool) → Text → Option TextFault
-fault_by is_bad_role piece =
-    if not (list_any (λ b. b == 58) piece && is_head (head_of piece) && is_body (body_of piece)) then Some Syntax
-    else if not (is_label (name_of (head_of piece)) && (if begins 123 (body_of piece) then list_all is_label (parts_inside (body_of piece)) else true)) then Some BadName
-    else if is_bad_role (head_of piece) then Some BadRole
-    else if not (
-    if begins 91 (body_of piece) then list_all is_range (parts_inside (body_of piece))
-    else if begins 123 (body_of piece) then true
-    else is_number (body_of piece)) then Some BadNumber
+-- ranges have two ends, and a scalar is a number; a set has no numbers
+abbrev pub has_numbers : Text → Bool
+has_numbers body =
+    if begins 91 body then list_all is_range (parts_inside body)
+    else if begins 123 body then true
+    else is_number body
+
+-- the first fault of a piece, if it has one
+abbrev pub first_fault : Text → Bool → Option TextFault
+first_fault piece bad_role =
+    if not (has_form piece) then Some Syntax
+    else if not (has_labels piece) then Some BadName
+    else if bad_role then Some BadRole
+    else if not (has_numbers (body_of piece)) then Some BadNumber
     else None
 
--- of a piece of a bundle
+-- that of a piece of a bundle
 abbrev pub fault_of : Text → Option TextFault
-fault_of piece = fault_by has_bad_role piece
+fault_of piece = first_fault piece (has_bad_role (head_of piece))
 
--- of a piece of quantities, where nothing may stand in parentheses
+-- that of a piece of quantities, where nothing may stand in parentheses
 abbrev pub quantity_fault_of : Text → Option TextFault
-quantity_fault_of piece = fault_by is_reserved piece
+quantity_fault_of piece = first_fault piece (is_reserved (head_of piece))
 
 -- ---- what a piece without a fault says
 

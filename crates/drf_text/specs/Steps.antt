@@ -1,6 +1,6 @@
 -- A piece read step by step, in the order of its faults: what the functions of the reader answer. That the steps together
 -- are the meaning of a piece is proved.
-use Rattle.std.specs.Prelude.{ℕ, ◌+◌, ◌-◌, ◌^◌, ◌&&◌, ◌==◌, List, [], ◌∷◌, length, Option, Some, None, Result, Ok, Err, if◌then◌else◌, nat_lt, nat_le}
+use Rattle.std.specs.Prelude.{ℕ, ◌+◌, ◌-◌, ◌^◌, ◌&&◌, ◌==◌, List, [], ◌∷◌, length, Option, Some, None, Result, Ok, Err, if◌then◌else◌, nat_lt, nat_le, IsOk}
 use Rattle.std.specs.List.{list_any, flat_map, range_with_len}
 use Rattle.std.specs.Option.{option_copied, ok_or}
 use Rattle.std.specs.Ordering.{nat_cmp}
@@ -95,6 +95,15 @@ members_in body = members body.0 body.1
 unfoldable pub role_in : Option Text → Result Path TextFault
 role_in None = Ok default_role
 role_in (Some text) = if is_role text then Ok (parts_of text) else Err BadRole
+
+-- the name of a piece whose form is right; memory is first asked for when it is read
+unfoldable pub named_in : Text → Result Text TextFault
+named_in piece = cut_in piece >>= λ parts. head_in parts.0 >>= λ head. body_in parts.1 >>= λ body. label_in head.0
+
+-- the first of some pieces, if there is one, has the right form and a name
+abbrev pub IsFirstNamed : List Text → Type 0
+IsFirstNamed [] = Unit {0}
+IsFirstNamed (piece ∷ pieces) = IsOk (named_in piece)
 
 -- ---- values
 

@@ -8,7 +8,7 @@ use std::alloc::{AllocError, AllocFailed};
 use thiserror::Error;
 
 /// Why a text says no resources. Where a piece has several faults, the one listed first here is told; want of memory may
-/// come before any of them.
+/// be told in place of any but the first piece's form and name.
 #[derive(Clone, Copy, Debug, PartialEq, Eq, Error)]
 pub enum TextFault {
     /// A `:`, a bracket or a `-` is missing, or stands where none may.

@@ -2,7 +2,7 @@
 ghost use Rattle.std.specs.Prelude.{◌≡◌, ◌∷◌, ◌==◌};
 ghost use Rattle.std.specs.List.{list_all, list_any, slice_split};
 ghost use Rattle.drf_text.specs.Blanks.{is_blank, trimmed};
-ghost use Rattle.drf_text.specs.Faults.{IsReadAs};
+ghost use Rattle.drf_text.specs.Faults.{IsCutAs};
 ghost use Rattle.drf_text.specs.Pieces.{has_one_dash, parts_between};
 ghost use Rattle.drf_text.specs.Steps.{cut_in, plain_head_in, head_in, view_head, body_in, view_body};
 
@@ -41,7 +41,7 @@ pub fn is_blank(text: &str) -> bool
 /// What stands before the first `:`, and after it.
 #[tactic(auto, unfolding(crate::specs::Steps::cut_in))]
 pub fn cut_piece(piece: &str) -> Result<(&str, &str), TextFault>
-    ensures { IsReadAs (λ parts. (parts.0.now, parts.1.now)) result (cut_in piece.now) }
+    ensures { IsCutAs (λ parts. (parts.0.now, parts.1.now)) result (cut_in piece.now) }
 {
     match piece.split_once(':') {
         Some((head, body)) => Ok((trim(head), trim(body))),
@@ -58,7 +58,7 @@ fn has_byte(text: &str, byte: u8) -> bool
 /// A head without `(`.
 #[tactic(auto, unfolding(crate::specs::Steps::plain_head_in))]
 fn cut_plain_head(head: &str) -> Result<Head<'_>, TextFault>
-    ensures { IsReadAs view_head result (plain_head_in head.now) }
+    ensures { IsCutAs view_head result (plain_head_in head.now) }
 {
     if has_byte(head, b')') {
         return Err(TextFault::Syntax);
@@ -71,7 +71,7 @@ fn cut_plain_head(head: &str) -> Result<Head<'_>, TextFault>
 
 /// What stands before the first `(`, and between it and the last byte, which has to be `)`.
 pub fn cut_head(head: &str) -> Result<Head<'_>, TextFault>
-    ensures { IsReadAs view_head result (head_in head.now) }
+    ensures { IsCutAs view_head result (head_in head.now) }
 {
     match head.split_once('(') {
         None => cut_plain_head(head),
@@ -106,7 +106,7 @@ fn are_ranges(text: &str) -> bool
 
 /// Ranges behind their `[`.
 fn cut_ranges(rest: &str) -> Result<Body<'_>, TextFault>
-    ensures { IsReadAs view_body result (body_in (91 ∷ rest.now)) }
+    ensures { IsCutAs view_body result (body_in (91 ∷ rest.now)) }
 {
     match rest.strip_suffix(']') {
         Some(text) => {
@@ -124,7 +124,7 @@ fn cut_ranges(rest: &str) -> Result<Body<'_>, TextFault>
 
 /// A set behind its `{`.
 fn cut_items(rest: &str) -> Result<Body<'_>, TextFault>
-    ensures { IsReadAs view_body result (body_in (123 ∷ rest.now)) }
+    ensures { IsCutAs view_body result (body_in (123 ∷ rest.now)) }
 {
     match rest.strip_suffix('}') {
         Some(text) => Ok(Body {
@@ -137,7 +137,7 @@ fn cut_items(rest: &str) -> Result<Body<'_>, TextFault>
 
 /// The kind of a value by its first byte, and what its brackets hold.
 pub fn cut_body(body: &str) -> Result<Body<'_>, TextFault>
-    ensures { IsReadAs view_body result (body_in body.now) }
+    ensures { IsCutAs view_body result (body_in body.now) }
 {
     match body.strip_prefix('[') {
         Some(rest) => cut_ranges(rest),

@@ -2,9 +2,11 @@
 ghost use Rattle.std.specs.Prelude.{◌≡◌, if◌then◌else◌, OnOk, IfErr, IsErrOf, IsOk};
 ghost use Rattle.drf_role.specs.Role.{default_role};
 ghost use Rattle.drf_bundle.specs.Union.{has_other_kind};
+ghost use Rattle.drf_text.specs.Blanks.{trimmed};
 ghost use Rattle.drf_text.specs.Faults.{IsTold, IsMeaning};
 ghost use Rattle.drf_text.specs.Meaning.{counted, meaning_of, quantities_meant};
-ghost use Rattle.drf_text.specs.Steps.{put_said, put_counted, bundle_step, quantities_step};
+ghost use Rattle.drf_text.specs.Pieces.{pieces_of};
+ghost use Rattle.drf_text.specs.Steps.{IsFirstNamed, named_in, put_said, put_counted, bundle_step, quantities_step};
 
 use crate::fault::TextFault;
 use crate::said::{Counted, Said, read_count, read_piece};
@@ -52,6 +54,7 @@ fn add_piece(
     requires { unreserved.now ≡ default_role }
     ensures ok { OnOk result (bundle_step text.now bundle.old ≡ Ok bundle.new) }
     ensures fault { IfErr result (IsTold (bundle_step text.now bundle.old)) }
+    ensures memory { IsErrOf result TextFault.Memory → IsOk (named_in (trimmed text.now)) }
 {
     let piece = trim(text);
     if piece.is_empty() {
@@ -64,7 +67,8 @@ fn add_piece(
 /// Reads a bundle: pieces `name:value` or `name(role):value`, which `;` separates. The first fault of the first piece that
 /// has one is told, and `Memory` where memory ends.
 pub fn read_bundle(alloc: Global, text: &str) -> Result<Bundle, TextFault>
-    ensures { IsMeaning result (meaning_of text.now) }
+    ensures read { IsMeaning result (meaning_of text.now) }
+    ensures memory { IsErrOf result TextFault.Memory → IsFirstNamed (pieces_of text.now) }
 {
     let unreserved = Role::default_role(alloc);
     let mut bundle = Parts::empty(alloc);
@@ -106,6 +110,7 @@ fn put_counted(quantities: &mut Quantities, said: Counted) -> Result<(), TextFau
 fn count_piece(alloc: Global, quantities: &mut Quantities, text: &str) -> Result<(), TextFault>
     ensures ok { OnOk result (quantities_step text.now quantities.old ≡ Ok quantities.new) }
     ensures fault { IfErr result (IsTold (quantities_step text.now quantities.old)) }
+    ensures memory { IsErrOf result TextFault.Memory → IsOk (named_in (trimmed text.now)) }
 {
     let piece = trim(text);
     if piece.is_empty() {
@@ -118,7 +123,8 @@ fn count_piece(alloc: Global, quantities: &mut Quantities, text: &str) -> Result
 /// Reads quantities: pieces `name:amount`, which `;` separates. A name stays named, be its amount 0 or not. The first
 /// fault of the first piece that has one is told, and `Memory` where memory ends.
 pub fn read_quantities(alloc: Global, text: &str) -> Result<Quantities, TextFault>
-    ensures { IsMeaning result (quantities_meant text.now) }
+    ensures read { IsMeaning result (quantities_meant text.now) }
+    ensures memory { IsErrOf result TextFault.Memory → IsFirstNamed (pieces_of text.now) }
 {
     let mut quantities = Quantities::empty(alloc);
     for entry in text.split(';') {

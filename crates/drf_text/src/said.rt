@@ -1,8 +1,8 @@
 //! What pieces say by themselves.
-ghost use Rattle.std.specs.Prelude.{◌≡◌};
+ghost use Rattle.std.specs.Prelude.{◌≡◌, IsErrOf, IsOk};
 ghost use Rattle.drf_role.specs.Role.{default_role};
 ghost use Rattle.drf_text.specs.Faults.{IsReadAs, IsMeaning};
-ghost use Rattle.drf_text.specs.Steps.{view_draft, draft_in, said_in, counted_in};
+ghost use Rattle.drf_text.specs.Steps.{named_in, view_draft, draft_in, said_in, counted_in};
 
 use crate::fault::TextFault;
 use crate::piece::{Body, cut_body, cut_head, cut_piece};
@@ -35,9 +35,10 @@ pub struct Counted {
     pub value: Option<Value>,
 }
 
-#[tactic(auto, unfolding(crate::specs::Steps::draft_in))]
+#[tactic(auto, unfolding(crate::specs::Steps::draft_in, crate::specs::Steps::named_in))]
 fn read_draft(alloc: Global, piece: &str) -> Result<Draft<'_>, TextFault>
-    ensures { IsReadAs view_draft result (draft_in piece.now) }
+    ensures read { IsReadAs view_draft result (draft_in piece.now) }
+    ensures memory { IsErrOf result TextFault.Memory → IsOk (named_in piece.now) }
 {
     let (head, body) = cut_piece(piece)?;
     let head = cut_head(head)?;
@@ -53,10 +54,11 @@ fn read_draft(alloc: Global, piece: &str) -> Result<Draft<'_>, TextFault>
 }
 
 /// Reads a piece of a bundle. The role `*` is lent, since most pieces name none.
-#[tactic(auto, unfolding(crate::specs::Steps::said_in))]
+#[tactic(auto, using(crate::proofs::Named::draft_named), unfolding(crate::specs::Steps::said_in))]
 pub fn read_piece(alloc: Global, piece: &str, unreserved: &Role) -> Result<Said, TextFault>
     requires { unreserved.now ≡ default_role }
-    ensures { IsMeaning result (said_in piece.now) }
+    ensures read { IsMeaning result (said_in piece.now) }
+    ensures memory { IsErrOf result TextFault.Memory → IsOk (named_in piece.now) }
 {
     let Draft {
         label,
@@ -70,9 +72,10 @@ pub fn read_piece(alloc: Global, piece: &str, unreserved: &Role) -> Result<Said,
 }
 
 /// Reads a piece of quantities, where nothing may stand in parentheses.
-#[tactic(auto, unfolding(crate::specs::Steps::counted_in))]
+#[tactic(auto, using(crate::proofs::Named::draft_named), unfolding(crate::specs::Steps::counted_in))]
 pub fn read_count(alloc: Global, piece: &str) -> Result<Counted, TextFault>
-    ensures { IsMeaning result (counted_in piece.now) }
+    ensures read { IsMeaning result (counted_in piece.now) }
+    ensures memory { IsErrOf result TextFault.Memory → IsOk (named_in piece.now) }
 {
     let Draft {
         label,

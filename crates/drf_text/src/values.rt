@@ -1,5 +1,5 @@
 //! Names, roles and values as texts of a piece.
-ghost use Rattle.std.specs.Prelude.{◌≡◌};
+ghost use Rattle.std.specs.Prelude.{◌≡◌, IsErrOf, IsOk};
 ghost use Rattle.std.specs.Option.{option_copied};
 ghost use Rattle.drf_role.specs.Role.{default_role};
 ghost use Rattle.drf_text.specs.Faults.{IsReadAs, IsMeaning};
@@ -18,7 +18,8 @@ use std::alloc::Global;
 
 #[tactic(auto, unfolding(crate::specs::Steps::label_in))]
 pub fn read_label(alloc: Global, text: &str) -> Result<Label, TextFault>
-    ensures { IsMeaning result (label_in text.now) }
+    ensures read { IsMeaning result (label_in text.now) }
+    ensures memory { IsErrOf result TextFault.Memory → IsOk (label_in text.now) }
 {
     Ok(Label::read(alloc, text)?)
 }

@@ -10,9 +10,9 @@ use Rattle.drf_amount.specs.declared.algebra.AlgebraFault.{AlgebraFault}
 use Rattle.drf_amount.specs.declared.algebra.AlgebraFault.TheVariants as fault
 use Rattle.drf_bundle.specs.Value.{Point, Thousandths, Number, Member, units_in, most, is_one_kind, is_same_kind, clash_in}
 use Rattle.drf_bundle.specs.laws.ValueLaws.{amount-united, given-united, filled_point, kind_at, shared_point, share_at}
-use Rattle.drf_bundle.specs.Bundle.{Key, key_of, same_key, units, stock, IsResource, Fits, IsBundle, merged, have_clash, is_too_large, refusal, join_or, join}
+use Rattle.drf_bundle.specs.Bundle.{Key, key_of, same_key, units, stock, IsResource, Fits, IsBundle, both_of, merged, have_clash, is_too_large, refusal, join_or, join}
 use Rattle.drf_bundle.specs.laws.KeyLaws.{Has, at_each, unit_of, where-cons, unit-here, unit-none}
-use Rattle.drf_bundle.specs.laws.JoinLaws.{KeysJoin, both_of, where-merged, in_order-merged, each-merged}
+use Rattle.drf_bundle.specs.laws.JoinLaws.{KeysJoin, where-merged, in_order-merged, each-merged}
 use Rattle.drf_bundle.specs.laws.SumLaws.{of_name}
 use Rattle.drf_bundle.specs.declared.resource.Resource.{Resource}
 use Rattle.drf_bundle.specs.declared.value.Clash.{Clash}

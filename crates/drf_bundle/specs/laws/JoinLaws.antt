@@ -11,7 +11,7 @@ use Rattle.drf_role.specs.PathLaws.{same_path-true, same_path_itself}
 use Rattle.drf_role.specs.Role.{IsComponent, IsRole, default_role}
 use Rattle.drf_bundle.specs.Value.{Point, units_in, amount_in, united}
 use Rattle.drf_bundle.specs.laws.ValueLaws.{AreJoinable, units-united, amount-united, filled_point, same_value}
-use Rattle.drf_bundle.specs.Bundle.{Key, is_default, reservation, key_of, key_below, same_key, is_in_order, units_where, units, IsResource, amount, with_value, merge_step, merged}
+use Rattle.drf_bundle.specs.Bundle.{Key, is_default, reservation, key_of, key_below, same_key, is_in_order, units_where, units, IsResource, amount, both_of, put_among, merged}
 use Rattle.drf_bundle.specs.laws.KeyLaws.{cases_key, key_less, key_greater, key_equal, cases_same, Has, stands_first, first_trans, unit_of, unit-here, unit-none, units_first, units_head, units_other}
 use Rattle.drf_bundle.specs.declared.resource.Resource.{Resource}
 
@@ -19,13 +19,9 @@ use Rattle.drf_bundle.specs.declared.resource.Resource.{Resource}
 abbrev pub KeysJoin : List Resource → List Resource → Type 0
 KeysJoin a b = (r s : Resource) → Has a r → Has b s → key_of r ≡ key_of s → AreJoinable r.value s.value
 
--- two resources of one key as one
-abbrev pub both_of : Resource → Resource → Resource
-both_of r s = with_value r (united r.value s.value)
-
 pub merged-empty : (a : List Resource) → merged a [] ≡ a
 merged-empty [] = refl
-merged-empty (r ∷ rs) = refl
+merged-empty (r ∷ rs) = ap (λ (l : List Resource). r ∷ l) (merged-empty rs)
 
 -- ---- sums over a merged list
 
@@ -34,11 +30,11 @@ abbrev Adds : (Resource → ℕ) → Type 0
 Adds g = (r s : Resource) → key_of r ≡ key_of s → AreJoinable r.value s.value → g (both_of r s) ≡ g r + g s
 
 module _ (g : Resource → ℕ) (adds : Adds g) where
-  sum-merge_step : (r : Resource) (rs b : List Resource) → KeysJoin (r ∷ rs) b
+  sum-put_among : (r : Resource) (rs b : List Resource) → KeysJoin (r ∷ rs) b
       → ((b : List Resource) → KeysJoin rs b → sum_by g (merged rs b) ≡ sum_by g rs + sum_by g b)
-      → sum_by g (merge_step r rs (merged rs) b) ≡ sum_by g (r ∷ rs) + sum_by g b
-  sum-merge_step r rs [] joins more = omega arith
-  sum-merge_step r rs (s ∷ ss) joins more = elim (cases_key (key_of r) (key_of s)) [
+      → sum_by g (put_among r (merged rs) b) ≡ sum_by g (r ∷ rs) + sum_by g b
+  sum-put_among r rs [] joins more = omega (arith, sum_by-cons g r (merged rs []), sum_by-cons g r rs, more [] (λ x y in_a in_b. joins x y (inr in_a) in_b))
+  sum-put_among r rs (s ∷ ss) joins more = elim (cases_key (key_of r) (key_of s)) [
     | inl less ↦ rw less (
         let rest = more (s ∷ ss) (λ x y in_a in_b. joins x y (inr in_a) in_b) in
         omega (arith, sum_by-cons g r (merged rs (s ∷ ss)), sum_by-cons g r rs, rest))
@@ -47,13 +43,13 @@ module _ (g : Resource → ℕ) (adds : Adds g) where
         let here = adds r s (key_equal (key_of r) (key_of s) equal) (joins r s (inl refl) (inl refl) (key_equal (key_of r) (key_of s) equal)) in
         omega (arith, sum_by-cons g (both_of r s) (merged rs ss), sum_by-cons g r rs, sum_by-cons g s ss, rest, here))
     | inr (inr greater) ↦ rw greater (
-        let rest = sum-merge_step r rs ss (λ x y in_a in_b. joins x y in_a (inr in_b)) more in
-        omega (arith, sum_by-cons g s (merge_step r rs (merged rs) ss), sum_by-cons g s ss, rest))
+        let rest = sum-put_among r rs ss (λ x y in_a in_b. joins x y in_a (inr in_b)) more in
+        omega (arith, sum_by-cons g s (put_among r (merged rs) ss), sum_by-cons g s ss, rest))
   ]
 
   pub sum-merged : (a b : List Resource) → KeysJoin a b → sum_by g (merged a b) ≡ sum_by g a + sum_by g b
   sum-merged [] b joins = omega arith
-  sum-merged (r ∷ rs) b joins = sum-merge_step r rs b joins (λ b rest. sum-merged rs b rest)
+  sum-merged (r ∷ rs) b joins = sum-put_among r rs b joins (λ b rest. sum-merged rs b rest)
 
 unit_adds : (test : Key → Bool) (p : Point) → Adds (unit_of test p)
 unit_adds test p r s same joinable = elim (cases_Bool (test (key_of r))) [
@@ -77,31 +73,35 @@ amount-merged a b joins = sum-merged (λ r. amount_in r.value) (λ r s same join
 
 -- ---- the order of a merged list
 
-first-merge_step : (key : Key) (r : Resource) (rs b : List Resource) → IsTrue (stands_first key (r ∷ rs))
+first-put_among : (key : Key) (r : Resource) (rs b : List Resource) → IsTrue (stands_first key (r ∷ rs))
     → IsTrue (stands_first key b)
     → ((b : List Resource) → IsTrue (stands_first key b) → IsTrue (stands_first key (merged rs b)))
-    → IsTrue (stands_first key (merge_step r rs (merged rs) b))
-first-merge_step key r rs [] first second more = first
-first-merge_step key r rs (s ∷ ss) first second more =
+    → IsTrue (stands_first key (put_among r (merged rs) b))
+first-put_among key r rs [] first second more =
+    let here = and_parts (key_below key (key_of r)) (stands_first key rs) first in
+    and_from _ _ here.0 (more [] second)
+first-put_among key r rs (s ∷ ss) first second more =
     let here = and_parts (key_below key (key_of r)) (stands_first key rs) first in
     let there = and_parts (key_below key (key_of s)) (stands_first key ss) second in
     elim (cases_key (key_of r) (key_of s)) [
       | inl less ↦ rw less (and_from _ _ here.0 (more (s ∷ ss) second))
       | inr (inl equal) ↦ rw equal (and_from _ _ here.0 (more ss there.1))
-      | inr (inr greater) ↦ rw greater (and_from _ _ there.0 (first-merge_step key r rs ss first there.1 more))
+      | inr (inr greater) ↦ rw greater (and_from _ _ there.0 (first-put_among key r rs ss first there.1 more))
     ]
 
 first-merged : (key : Key) (a b : List Resource) → IsTrue (stands_first key a) → IsTrue (stands_first key b)
     → IsTrue (stands_first key (merged a b))
 first-merged key [] b first second = second
 first-merged key (r ∷ rs) b first second =
-    first-merge_step key r rs b first second (λ b second. first-merged key rs b (and_parts (key_below key (key_of r)) (stands_first key rs) first).1 second)
+    first-put_among key r rs b first second (λ b second. first-merged key rs b (and_parts (key_below key (key_of r)) (stands_first key rs) first).1 second)
 
-in_order-merge_step : (r : Resource) (rs b : List Resource) → IsTrue (is_in_order (r ∷ rs)) → IsTrue (is_in_order b)
+in_order-put_among : (r : Resource) (rs b : List Resource) → IsTrue (is_in_order (r ∷ rs)) → IsTrue (is_in_order b)
     → ((b : List Resource) → IsTrue (is_in_order b) → IsTrue (is_in_order (merged rs b)))
-    → IsTrue (is_in_order (merge_step r rs (merged rs) b))
-in_order-merge_step r rs [] first second more = first
-in_order-merge_step r rs (s ∷ ss) first second more =
+    → IsTrue (is_in_order (put_among r (merged rs) b))
+in_order-put_among r rs [] first second more =
+    let here = and_parts (stands_first (key_of r) rs) (is_in_order rs) first in
+    and_from _ _ (first-merged (key_of r) rs [] here.0 second) (more [] second)
+in_order-put_among r rs (s ∷ ss) first second more =
     let here = and_parts (stands_first (key_of r) rs) (is_in_order rs) first in
     let there = and_parts (stands_first (key_of s) ss) (is_in_order ss) second in
     elim (cases_key (key_of r) (key_of s)) [
@@ -116,15 +116,15 @@ in_order-merge_step r rs (s ∷ ss) first second more =
           let below = key_greater (key_of r) (key_of s) greater in
           let others : IsTrue (stands_first (key_of s) (r ∷ rs)) = and_from _ _ below (first_trans (key_of s) (key_of r) rs below here.0) in
           rw greater (and_from _ _
-          (first-merge_step (key_of s) r rs ss others there.0 (λ b second. first-merged (key_of s) rs b (and_parts (key_below (key_of s) (key_of r)) (stands_first (key_of s) rs) others).1 second))
-          (in_order-merge_step r rs ss first there.1 more))
+          (first-put_among (key_of s) r rs ss others there.0 (λ b second. first-merged (key_of s) rs b (and_parts (key_below (key_of s) (key_of r)) (stands_first (key_of s) rs) others).1 second))
+          (in_order-put_among r rs ss first there.1 more))
     ]
 
 pub in_order-merged : (a b : List Resource) → IsTrue (is_in_order a) → IsTrue (is_in_order b)
     → IsTrue (is_in_order (merged a b))
 in_order-merged [] b first second = second
 in_order-merged (r ∷ rs) b first second =
-    in_order-merge_step r rs b first second (λ b second. in_order-merged rs b (and_parts (stands_first (key_of r) rs) (is_in_order rs) first).1 second)
+    in_order-put_among r rs b first second (λ b second. in_order-merged rs b (and_parts (stands_first (key_of r) rs) (is_in_order rs) first).1 second)
 
 -- ---- what holds of each resource of a merged list
 
@@ -133,11 +133,12 @@ abbrev Passes : (Resource → Type 0) → List Resource → List Resource → Ty
 Passes P a b = (r s : Resource) → Has a r → Has b s → key_of r ≡ key_of s → P r → P s → P (both_of r s)
 
 module _ (P : Resource → Type 0) where
-  each-merge_step : (r : Resource) (rs b : List Resource) → Passes P (r ∷ rs) b → All P (r ∷ rs) → All P b
+  each-put_among : (r : Resource) (rs b : List Resource) → Passes P (r ∷ rs) b → All P (r ∷ rs) → All P b
       → ((b : List Resource) → Passes P rs b → All P b → All P (merged rs b))
-      → All P (merge_step r rs (merged rs) b)
-  each-merge_step r rs [] passes first second more = first
-  each-merge_step r rs (s ∷ ss) passes first second more =
+      → All P (put_among r (merged rs) b)
+  each-put_among r rs [] passes first second more =
+      All-cons P r (merged rs []) (All-head P r rs first) (more [] (λ x y in_a in_b. passes x y (inr in_a) in_b) second)
+  each-put_among r rs (s ∷ ss) passes first second more =
       let here = All-head P r rs first in
       let there = All-head P s ss second in
       let others = All-tail P s ss second in
@@ -147,14 +148,14 @@ module _ (P : Resource → Type 0) where
             All-cons P (both_of r s) (merged rs ss) (passes r s (inl refl) (inl refl) (key_equal (key_of r) (key_of s) equal) here there)
             (more ss (λ x y in_a in_b. passes x y (inr in_a) (inr in_b)) others))
         | inr (inr greater) ↦ rw greater (
-            All-cons P s (merge_step r rs (merged rs) ss) there
-            (each-merge_step r rs ss (λ x y in_a in_b. passes x y in_a (inr in_b)) first others more))
+            All-cons P s (put_among r (merged rs) ss) there
+            (each-put_among r rs ss (λ x y in_a in_b. passes x y in_a (inr in_b)) first others more))
       ]
 
   pub each-merged : (a b : List Resource) → Passes P a b → All P a → All P b → All P (merged a b)
   each-merged [] b passes first second = second
   each-merged (r ∷ rs) b passes first second =
-      each-merge_step r rs b passes first second (λ b rest others. each-merged rs b rest (All-tail P r rs first) others)
+      each-put_among r rs b passes first second (λ b rest others. each-merged rs b rest (All-tail P r rs first) others)
 
 -- ---- lists in order with the same units are one
 

@@ -10,9 +10,9 @@ use Rattle.drf_role.specs.TextLaws.{same_itself, same_from_test, test_from_same}
 use Rattle.drf_amount.specs.declared.algebra.AlgebraFault.TheVariants as fault
 use Rattle.drf_bundle.specs.Value.{Point, Thousandths, Number, Member, units_in, most, amount_in, is_same_kind, share_members, united}
 use Rattle.drf_bundle.specs.laws.ValueLaws.{united_within, thousandths-united, given-united, filled_point, point_filled, units_single, share_at}
-use Rattle.drf_bundle.specs.Bundle.{Key, key_of, key_below, same_key, is_in_order, units_where, units, stock, IsResource, IsBundle, HasSums, value_at, merged, have_clash, quantities_of, add_scalar, join_or}
+use Rattle.drf_bundle.specs.Bundle.{Key, key_of, key_below, same_key, is_in_order, units_where, units, stock, IsResource, IsBundle, HasSums, value_at, both_of, merged, have_clash, quantities_of, add_scalar, join_or}
 use Rattle.drf_bundle.specs.laws.KeyLaws.{cases_key, key_less, key_greater, key_equal, same_key_itself, same_key_true, below_other, above_other, cases_same, Has, stands_first, first_trans, unit_of, where-cons, unit-here, unit-none, units_found, units_at}
-use Rattle.drf_bundle.specs.laws.JoinLaws.{both_of, merged-empty, in_order-merged, each-merged}
+use Rattle.drf_bundle.specs.laws.JoinLaws.{merged-empty, in_order-merged, each-merged}
 use Rattle.drf_bundle.specs.laws.FitLaws.{zero_or_some, stock_has, one_kind_of_both}
 use Rattle.drf_bundle.specs.laws.OneLaws.{bundle-one}
 use Rattle.drf_bundle.specs.laws.QuantitiesLaws.{or_none, same_quantities}
@@ -64,7 +64,7 @@ module _ (test : Key → Bool) (p : Point) (r : Resource) where
         | inr (inr greater) ↦
             let below = key_greater (key_of s) (key_of r) greater in
             let none : value_at (s ∷ ss) (key_of r) ≡ None = value_first (key_of r) (s ∷ ss) (and_from _ _ below (first_trans (key_of r) (key_of s) ss below parts.0)) in
-            let step : merged (s ∷ ss) (r ∷ []) ≡ r ∷ s ∷ ss = rw greater refl in
+            let step : merged (s ∷ ss) (r ∷ []) ≡ r ∷ s ∷ ss = rw greater (ap (λ (rs : List Resource). r ∷ s ∷ rs) (merged-empty ss)) in
             rw (none, step) (omega (arith, where-cons test p r (s ∷ ss), nothing (test (key_of r)) 0 refl))
       ]
 

@@ -21,7 +21,9 @@ use Rattle.drf_rows.specs.declared.rows.Rows.{Rows}
 use Rattle.drf_sorter.specs.Content.{Content, has_client, with_change, refunded, HoldsAt}
 use Rattle.drf_sorter.specs.Content as sorter
 use Rattle.drf_tables.specs.Ended.{HasEnded}
-use Rattle.drf_tables.specs.declared.ending.Held.{Held}
+use Rattle.drf_rows.specs.Client.{path_of}
+use Rattle.drf_holdings.specs.Stored.{holding_of}
+use Rattle.drf_holdings.specs.declared.holdings.Taken.{Taken}
 use Rattle.drf_core.specs.Content.{content_of}
 use Rattle.drf_core.specs.Registering.{AreKnown, client_paths, without_all}
 use Rattle.drf_core.proofs.content.Ended.{GaveBack, content_of-gave_back, HoldsAt-gave_back}
@@ -32,28 +34,30 @@ use Rattle.drf_laws.specs.laws.Endings.{ended_twice}
 
 -- ---- one holding ended
 
-module _ (old new : Rows) (ending : Ending) (held : Held) (ended : HasEnded old new ending held) (content : Content) (sorted : content ≡ content_of old) where
-  gave : GaveBack old new held.client (quantities_of held.bundle)
-  gave = rw (ended.path, ended.bundle) (record {
+module _ (old new : Rows) (ending : Ending) (taken : Taken) (ended : HasEnded old new ending taken) (content : Content) (sorted : content ≡ content_of old) where
+  abbrev its_path : Path
+  its_path = path_of (holding_of taken).client
+
+  gave : GaveBack old new its_path (quantities_of taken.bundle)
+  gave = record {
     agents = ap (λ (r : Rows). r.agents) ended.others;
     frameworks = ap (λ (r : Rows). r.frameworks) ended.others;
     weights = ap (λ (r : Rows). r.weights) ended.others;
     out = λ other label. ended.out (is_of other) label;
-  })
+  }
 
-  pub known-ended : has_client content held.client ≡ true
-  known-ended =
-      (λ i. has_client (sorted i) (ended.path i)) ∙ has_client-registered old ended.holding.client ended.registered
+  pub known-ended : has_client content its_path ≡ true
+  known-ended = ap (λ (k : Content). has_client k its_path) sorted ∙ has_client-registered old (holding_of taken).client ended.registered
 
-  pub held-ended : HoldsAt content held.client (quantities_of held.bundle)
+  pub held-ended : HoldsAt content its_path (quantities_of taken.bundle)
   held-ended =
-      subst (λ (k : Content). HoldsAt k held.client (quantities_of held.bundle)) (sym sorted)
-      (HoldsAt-gave_back old new held.client (quantities_of held.bundle) gave)
+      subst (λ (k : Content). HoldsAt k its_path (quantities_of taken.bundle)) (sym sorted)
+      (HoldsAt-gave_back old new its_path (quantities_of taken.bundle) gave)
 
-  pub sorted-ended : with_change content held.client (refunded (quantities_of held.bundle)) ≡ content_of new
+  pub sorted-ended : with_change content its_path (refunded (quantities_of taken.bundle)) ≡ content_of new
   sorted-ended =
-      ap (λ (k : Content). with_change k held.client (refunded (quantities_of held.bundle))) sorted
-      ∙ content_of-gave_back old new held.client (quantities_of held.bundle) gave
+      ap (λ (k : Content). with_change k its_path (refunded (quantities_of taken.bundle))) sorted
+      ∙ content_of-gave_back old new its_path (quantities_of taken.bundle) gave
 
 -- ---- all that ends has ended
 

@@ -20,7 +20,8 @@ use Rattle.drf_rows.specs.declared.rows.OfferRow.{OfferRow}
 use Rattle.drf_rows.specs.declared.rows.TaskRow.{TaskRow}
 use Rattle.drf_rows.specs.declared.rows.Rows.{Rows}
 use Rattle.drf_tables.specs.Ended.{HasEnded}
-use Rattle.drf_tables.specs.declared.ending.Held.{Held}
+use Rattle.drf_holdings.specs.Stored.{holding_of}
+use Rattle.drf_holdings.specs.declared.holdings.Taken.{Taken}
 use Rattle.drf_core.specs.Registering.{client_paths}
 use Rattle.drf_core.specs.Working.{nodes_of, offered_to, losers}
 use Rattle.drf_core.proofs.drafting.Cycle.{begins_at}
@@ -56,10 +57,9 @@ module _ {X : Type 0} (test : X → Bool) (client : X → Client) where
   ]
 
 -- what ended is one less of what is to end
-pub losers-ended : (old new : Rows) (ending : Ending) (held : Held) → HasEnded old new ending held
-    → nodes_of (losers old ending) ≡ nodes_of (losers new ending) + length held.client
-losers-ended old new ending held ended =
-    let path = ap length ended.path in
+pub losers-ended : (old new : Rows) (ending : Ending) (taken : Taken) → HasEnded old new ending taken
+    → nodes_of (losers old ending) ≡ nodes_of (losers new ending) + length (path_of (holding_of taken).client)
+losers-ended old new ending taken ended =
     elim ended.taken [
       | inl out ↦
           let whole : nodes_of (offered_to (filter (ends_offer ending) old.offers)) ≡ nodes_of (offered_to (filter (ends_offer ending) new.offers)) + length (path_of (of_offer out.offer).client) =
@@ -67,7 +67,7 @@ losers-ended old new ending held ended =
           ∙ nodes_out (ends_offer ending) (λ (o : OfferRow). (of_offer o).client) out.taken.before out.taken.after out.offer out.taken.passes
           ∙ ap (λ (os : List OfferRow). nodes_of (offered_to (filter (ends_offer ending) os)) + length (path_of (of_offer out.offer).client)) (sym out.taken.left) in
           let tasks = ap (λ (ts : List TaskRow). nodes_of (map (λ t. (of_task t).client) (filter (ends_task ending) ts))) out.same in
-          let told : length held.client ≡ length (path_of (of_offer out.offer).client) = path ∙ ap (λ h. length (path_of h.client)) out.told in
+          let told : length (path_of (holding_of taken).client) ≡ length (path_of (of_offer out.offer).client) = ap (λ h. length (path_of h.client)) out.told in
           omega (
             arith,
             whole,
@@ -82,7 +82,7 @@ losers-ended old new ending held ended =
           ∙ nodes_out (ends_task ending) (λ (t : TaskRow). (of_task t).client) out.taken.before out.taken.after out.task out.taken.passes
           ∙ ap (λ (ts : List TaskRow). nodes_of (map (λ t. (of_task t).client) (filter (ends_task ending) ts)) + length (path_of (of_task out.task).client)) (sym out.taken.left) in
           let offers = ap (λ (os : List OfferRow). nodes_of (offered_to (filter (ends_offer ending) os))) out.same in
-          let told : length held.client ≡ length (path_of (of_task out.task).client) = path ∙ ap (λ h. length (path_of h.client)) out.told in
+          let told : length (path_of (holding_of taken).client) ≡ length (path_of (of_task out.task).client) = ap (λ h. length (path_of h.client)) out.told in
           omega (
             arith,
             whole,

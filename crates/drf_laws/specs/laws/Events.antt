@@ -1,20 +1,22 @@
 -- Rows that are consistent are so after each event that is not refused.
-use Rattle.std.proofs.Common.{◌≡◌, ℕ, ◌≤◌, Bool, true, false, List, [], ◌∷◌, Option, Some, None, map, refl, ap, subst, ◌∙◌}
+use Rattle.std.proofs.Common.{◌≡◌, ℕ, ◌≤◌, Bool, true, false, List, [], ◌∷◌, Option, Some, None, map, refl, sym, ap, subst, ◌∙◌}
 use Rattle.std.specs.Prelude.{max}
 use Rattle.std.specs.List.{AllByRecursion}
 use Rattle.std.specs.Option.{option_map_or}
 use Rattle.std.proofs.lemmas.Bool.{not-false}
 use Rattle.drf_role.specs.Text.{Text}
+use Rattle.drf_role.specs.Name.{IsName}
 use Rattle.drf_role.specs.Path.{Path}
+use Rattle.drf_role.specs.Role.{IsRole}
 use Rattle.drf_bundle.specs.Bundle.{IsBundle, quantities_of, relabel}
-use Rattle.drf_bundle.specs.Taken.{bundle-rest_of_all}
+use Rattle.drf_bundle.specs.laws.TakenLaws.{bundle-rest_of_all}
 use Rattle.drf_bundle.specs.declared.resource.Resource.{Resource}
 use Rattle.drf_rows.specs.LimitNumbers.{LimitNumbers}
 use Rattle.drf_rows.specs.Consistent.{are_distinct_roles, IsFilter, IsConsistent}
 use Rattle.drf_rows.specs.Cycle.{at_moment}
 use Rattle.drf_rows.specs.Endings.{without_ended, one_offer, one_task, offers_on}
 use Rattle.drf_rows.specs.Members.{distinct, has_agent, new_client}
-use Rattle.drf_rows.specs.Offers.{offer_at, filter_of, filters_with, left_of_offer, offer_accepted, offer_declined, refused_until, refuses_all, refuses_rest, CanStart}
+use Rattle.drf_rows.specs.Offers.{offer_at, filter_of, filters_with, left_of_offer, offer_accepted, offer_declined, filtered_until, filters_all, filters_rest, CanStart}
 use Rattle.drf_rows.specs.Step.{refusal_of, effect}
 use Rattle.drf_rows.specs.Tasks.{uses}
 use Rattle.drf_rows.specs.laws.EndingLaws.{accepted_in, held-offer_at, IsConsistent-accepted, IsConsistent-filters}
@@ -34,7 +36,7 @@ use Rattle.drf_rows.specs.declared.rows.FilterRow.{FilterRow}
 use Rattle.drf_rows.specs.declared.rows.OfferRow.{OfferRow}
 use Rattle.drf_rows.specs.declared.rows.Rows.{Rows}
 use Rattle.drf_laws.specs.RunLaws.{IsGiven}
-use Rattle.drf_laws.specs.laws.Roles.{distinct_apart, roles_of_new, uncounted_new}
+use Rattle.drf_laws.specs.laws.Roles.{distinct_apart, each-distinct, roles_of_new, uncounted_new}
 use Rattle.drf_laws.specs.laws.Kept.{consistent-clock}
 use Rattle.drf_laws.specs.laws.Offers.{offer_filter, same_offer, can_accept, moment_early}
 use Rattle.drf_laws.specs.laws.Welcome.{no_case_of, welcome_agent, welcome_framework, welcome_weight, welcome_decline, early_accept, early_cycle, small_amounts}
@@ -63,12 +65,13 @@ module _ (limits : LimitNumbers) (rows : Rows) (consistent : IsConsistent rows) 
 
   -- ---- frameworks
 
-  framework_added : (framework : Text) (roles : List Path) → refusal_of limits rows (AddFramework framework roles) ≡ None
-      → IsConsistent (effect rows (AddFramework framework roles))
+  framework_added : (framework : Text) (roles : List Path) → IsName framework → AllByRecursion IsRole roles
+      → refusal_of limits rows (AddFramework framework roles) ≡ None → IsConsistent (effect rows (AddFramework framework roles))
   unfolding effect
-  framework_added framework roles accepted =
+  framework_added framework roles name valid accepted =
       IsConsistent-framework_added rows (record { name = framework; clients = map new_client (distinct roles) }) consistent
       (welcome_framework limits rows framework roles accepted).new
+      (record { name = name; roles = subst (AllByRecursion IsRole) (sym (roles_of_new (distinct roles))) (each-distinct IsRole roles valid) })
       (ap are_distinct_roles (roles_of_new (distinct roles)) ∙ distinct_apart roles)
       (uncounted_new (distinct roles))
 
@@ -79,7 +82,7 @@ module _ (limits : LimitNumbers) (rows : Rows) (consistent : IsConsistent rows) 
       → max rows.clock at ≤ LATEST_MOMENT → (refused : Bool)
       → AllByRecursion (IsFilter rows.agents rows.frameworks) (filters_with (at_moment rows at) refused o bundle refuse_ms)
   are_filters number o bundle at refuse_ms found is early true =
-      each_append (IsFilter rows.agents rows.frameworks) rows.filters (filter_of o bundle (refused_until (max rows.clock at) refuse_ms) ∷ [])
+      each_append (IsFilter rows.agents rows.frameworks) rows.filters (filter_of o bundle (filtered_until (max rows.clock at) refuse_ms) ∷ [])
       consistent.filters (offer_filter rows number o bundle (max rows.clock at) refuse_ms consistent found is early, tt)
   are_filters number o bundle at refuse_ms found is early false = consistent.filters
 
@@ -90,24 +93,24 @@ module _ (limits : LimitNumbers) (rows : Rows) (consistent : IsConsistent rows) 
       let can = subst (λ (p : OfferRow). CanStart rows p a.tasks) (same_offer rows a.offer may.offer o may.at found) may.can in
       let early = moment_early rows a.at (max rows.clock a.at) consistent (early_accept limits rows a accepted) refl in
       let left = bundle-rest_of_all o.bundle (uses a.tasks) (held-offer_at rows a.offer o consistent found).bundle in
-      let filters : List FilterRow = filters_with (at_moment rows a.at) (refuses_rest o a.tasks a.refuse_ms) o (left_of_offer o a.tasks) a.refuse_ms in
+      let filters : List FilterRow = filters_with (at_moment rows a.at) (filters_rest o a.tasks a.refuse_ms) o (left_of_offer o a.tasks) a.refuse_ms in
       let started : Rows = accepted_in rows o a.tasks [] in
       consistent-clock (record started { filters = filters }) (max rows.clock a.at)
       (IsConsistent-filters started filters
       (IsConsistent-accepted rows a.offer o a.tasks [] consistent found bundles can tt)
-      (are_filters a.offer o (left_of_offer o a.tasks) a.at a.refuse_ms found left early (refuses_rest o a.tasks a.refuse_ms)))
+      (are_filters a.offer o (left_of_offer o a.tasks) a.at a.refuse_ms found left early (filters_rest o a.tasks a.refuse_ms)))
       early
 
   offer_given_back : (d : declining.Decline) → refusal_of limits rows (Decline d) ≡ None
       → (o : OfferRow) → offer_at rows d.offer ≡ Some o → IsConsistent (offer_declined (at_moment rows d.at) o d.refuse_ms)
   offer_given_back d accepted o found =
       let early = moment_early rows d.at (max rows.clock d.at) consistent (welcome_decline limits rows d accepted).0 refl in
-      let filters : List FilterRow = filters_with (at_moment rows d.at) (refuses_all d.refuse_ms) o o.bundle d.refuse_ms in
+      let filters : List FilterRow = filters_with (at_moment rows d.at) (filters_all d.refuse_ms) o o.bundle d.refuse_ms in
       let ended : Rows = without_ended rows (one_offer o.number) in
       consistent-clock (record ended { filters = filters }) (max rows.clock d.at)
       (IsConsistent-filters ended filters
       (IsConsistent-ended rows (one_offer o.number) consistent)
-      (are_filters d.offer o o.bundle d.at d.refuse_ms found (held-offer_at rows d.offer o consistent found).bundle early (refuses_all d.refuse_ms)))
+      (are_filters d.offer o o.bundle d.at d.refuse_ms found (held-offer_at rows d.offer o consistent found).bundle early (filters_all d.refuse_ms)))
       early
 
   at_offer : (number : ℕ) (become : OfferRow → Rows) → ((o : OfferRow) → offer_at rows number ≡ Some o → IsConsistent (become o))
@@ -128,7 +131,8 @@ module _ (limits : LimitNumbers) (rows : Rows) (consistent : IsConsistent rows) 
   IsConsistent-effect (DeactivateAgent agent) given accepted =
       IsConsistent-with_activity (without_ended rows (offers_on agent)) agent false (IsConsistent-ended rows (offers_on agent) consistent)
   IsConsistent-effect (SetAgent agent total) given accepted = agent_set agent total given accepted
-  IsConsistent-effect (AddFramework framework roles) given accepted = framework_added framework roles accepted
+  IsConsistent-effect (AddFramework framework roles) given accepted =
+      framework_added framework roles given.0 given.1 accepted
   IsConsistent-effect (RemoveFramework framework) given accepted = IsConsistent-framework_left rows framework consistent
   IsConsistent-effect (Accept a) given accepted =
       at_offer a.offer (λ o. offer_accepted (at_moment rows a.at) o a.tasks a.refuse_ms) (offer_taken a given accepted)
@@ -149,9 +153,9 @@ module _ (limits : LimitNumbers) (rows : Rows) (consistent : IsConsistent rows) 
       IsConsistent-exchanged rows agent can.row consistent can.found (relabel role resources) resources
       (can_exchange-unreserve rows agent role resources consistent given can)
   IsConsistent-effect (SetWeight role weight) given accepted =
-      IsConsistent-weight_set rows role weight (welcome_weight limits rows role weight accepted).right consistent
+      IsConsistent-weight_set rows role weight (welcome_weight limits rows role weight accepted).right given consistent
   IsConsistent-effect (SetLimit role limit) given accepted =
-      IsConsistent-limit_set rows role limit (no_case_of limits rows (SetLimit role limit) accepted).1.0 consistent
+      IsConsistent-limit_set rows role limit (no_case_of limits rows (SetLimit role limit) accepted).1.0 given consistent
   IsConsistent-effect (Cycle at) given accepted =
       IsConsistent-cycle rows at consistent (moment_early rows at (max rows.clock at) consistent (early_cycle limits rows at accepted) refl)
   IsConsistent-effect Report given accepted = consistent

@@ -9,7 +9,7 @@ use Rattle.drf_bundle.specs.Bundle.{IsBundle}
 use Rattle.drf_bundle.specs.declared.resource.Resource.{Resource}
 use Rattle.drf_rows.specs.Consistent.{IsFilter, IsConsistent}
 use Rattle.drf_rows.specs.laws.EndingLaws.{held-offer_at}
-use Rattle.drf_rows.specs.Offers.{CanAccept, filter_of, has_offer, is_task_known, offer_at, refused_until}
+use Rattle.drf_rows.specs.Offers.{CanAccept, filter_of, has_offer, is_task_known, offer_at, filtered_until}
 use Rattle.drf_rows.specs.Tasks.{uses, covers_all}
 use Rattle.drf_rows.specs.LimitNumbers.{LimitNumbers}
 use Rattle.drf_rows.specs.Step.{refusal_of}
@@ -23,7 +23,7 @@ use Rattle.drf_laws.specs.laws.Welcome.{no_case_of}
 -- it may have a filter
 pub offer_filter : (rows : Rows) (number : ℕ) (o : OfferRow) (bundle : List Resource) (moment refuse_ms : ℕ)
     → IsConsistent rows → offer_at rows number ≡ Some o → IsBundle bundle → moment ≤ LATEST_MOMENT
-    → IsFilter rows.agents rows.frameworks (filter_of o bundle (refused_until moment refuse_ms))
+    → IsFilter rows.agents rows.frameworks (filter_of o bundle (filtered_until moment refuse_ms))
 offer_filter rows number o bundle moment refuse_ms right found is early =
     let held = held-offer_at rows number o right found in
     record { agent = held.agent; client = held.client; bundle = is; until = omega (arith, early) }

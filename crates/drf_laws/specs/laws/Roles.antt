@@ -10,6 +10,7 @@ use Rattle.drf_role.specs.Path.{Path, same_path}
 use Rattle.drf_role.specs.PathLaws.{same_path-true}
 use Rattle.drf_rows.specs.Members.{distinct, new_client}
 use Rattle.drf_rows.specs.Consistent.{are_distinct_roles}
+use Rattle.drf_rows.specs.laws.ListLaws.{each_filter}
 use Rattle.drf_laws.specs.laws.Endings.{all_kept}
 
 -- ---- each role once
@@ -106,6 +107,11 @@ pub distinct_apart : (roles : List Path) → are_distinct_roles (distinct roles)
 distinct_apart [] = refl
 distinct_apart (role ∷ roles) =
     rw (all_pass_kept (is_other role) (distinct roles)) (apart-filter (is_other role) (distinct roles) (distinct_apart roles))
+
+-- what holds of all roles holds of each of them
+pub each-distinct : (P : Path → Type 0) (roles : List Path) → AllByRecursion P roles → AllByRecursion P (distinct roles)
+each-distinct P [] all = tt
+each-distinct P (role ∷ roles) all = (all.0, each_filter P (is_other role) (distinct roles) (each-distinct P roles all.1))
 
 -- ---- their clients
 

@@ -17,7 +17,7 @@ use Rattle.drf_rows.specs.Cycle.{at_moment, cycle}
 use Rattle.drf_rows.specs.Filters.{is_of_client, is_on_agent, number_in_force}
 use Rattle.drf_rows.specs.Held.{cluster_total}
 use Rattle.drf_rows.specs.Members.{distinct, has_agent, new_client, with_agent}
-use Rattle.drf_rows.specs.Offers.{are_many_filters, filter_of, filters_with, is_empty, left_of_offer, offer_at, offer_accepted, offer_declined, refused_until, refuses_all, refuses_rest}
+use Rattle.drf_rows.specs.Offers.{are_many_filters, filter_of, filters_with, is_empty, left_of_offer, offer_at, offer_accepted, offer_declined, filtered_until, filters_all, filters_rest}
 use Rattle.drf_rows.specs.Quota.{has_limit}
 use Rattle.drf_rows.specs.Step.{opening, new_offers, refusal_of, effect, rows_after, rows_after_all, too_many_names}
 use Rattle.drf_rows.specs.laws.ListLaws.{each_append, each_filter}
@@ -90,24 +90,24 @@ module _ (most : LimitNumbers) (rows : Rows) (bounded : AreBounded most rows) wh
       → (refused && are_many_filters most rows at) ≡ false
       → number_in_force (max rows.clock at) (filters_with (at_moment rows at) refused o bundle refuse_ms) ≤ most.filters
   filters_then at true o bundle refuse_ms few =
-      one_more_in_force most.filters (max rows.clock at) rows.filters (filter_of o bundle (refused_until (max rows.clock at) refuse_ms)) few
+      one_more_in_force most.filters (max rows.clock at) rows.filters (filter_of o bundle (filtered_until (max rows.clock at) refuse_ms)) few
   filters_then at false o bundle refuse_ms few =
       omega (arith, in_force_later rows.clock (max rows.clock at) rows.filters (omega arith), bounded.filters)
 
   bounded-accepted : (a : accepting.Accept) (found : Option OfferRow)
-      → (option_map_or (λ o. refuses_rest o a.tasks a.refuse_ms) found false && are_many_filters most rows a.at) ≡ false
+      → (option_map_or (λ o. filters_rest o a.tasks a.refuse_ms) found false && are_many_filters most rows a.at) ≡ false
       → AreBounded most (option_map_or (λ o. offer_accepted (at_moment rows a.at) o a.tasks a.refuse_ms) found rows)
   bounded-accepted a None few = bounded
   bounded-accepted a (Some o) few =
       with_filters (offer_accepted (at_moment rows a.at) o a.tasks a.refuse_ms) refl refl refl
-      (filters_then a.at (refuses_rest o a.tasks a.refuse_ms) o (left_of_offer o a.tasks) a.refuse_ms few)
+      (filters_then a.at (filters_rest o a.tasks a.refuse_ms) o (left_of_offer o a.tasks) a.refuse_ms few)
 
-  bounded-declined : (d : declining.Decline) (found : Option OfferRow) → (refuses_all d.refuse_ms && are_many_filters most rows d.at) ≡ false
+  bounded-declined : (d : declining.Decline) (found : Option OfferRow) → (filters_all d.refuse_ms && are_many_filters most rows d.at) ≡ false
       → AreBounded most (option_map_or (λ o. offer_declined (at_moment rows d.at) o d.refuse_ms) found rows)
   bounded-declined d None few = bounded
   bounded-declined d (Some o) few =
       with_filters (offer_declined (at_moment rows d.at) o d.refuse_ms) refl refl refl
-      (filters_then d.at (refuses_all d.refuse_ms) o o.bundle d.refuse_ms few)
+      (filters_then d.at (filters_all d.refuse_ms) o o.bundle d.refuse_ms few)
 
   -- ---- agents and frameworks
 
@@ -177,9 +177,9 @@ module _ (most : LimitNumbers) (rows : Rows) (bounded : AreBounded most rows) wh
   bounded-cycle at =
       let only = cycle_only_offers rows at in
       let after : Rows = cycle rows at in
-      let roles = subst (AllByRecursion (λ f. length f.clients ≤ most.roles)) (sym only.2) (roles-counted most.roles (new_offers rows after) rows.frameworks bounded.roles) in
+      let roles = subst (AllByRecursion (λ f. length f.clients ≤ most.roles)) (sym only.counts) (roles-counted most.roles (new_offers rows after) rows.frameworks bounded.roles) in
       let later = in_force_later rows.clock (max rows.clock at) rows.filters (omega arith) in
-      subst (AreBounded most) (sym only.0) (record {
+      subst (AreBounded most) (sym only.rest) (record {
         roles = roles;
         filters = omega (arith, later, bounded.filters);
         limits = bounded.limits;

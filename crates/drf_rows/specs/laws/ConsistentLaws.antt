@@ -9,13 +9,16 @@ use Rattle.std.proofs.lemmas.List.{map-append}
 use Rattle.std.proofs.lemmas.List.Sums.{sum_by-cons, sum_by-append}
 use Rattle.drf_role.specs.Text.{Text, same_text}
 use Rattle.drf_role.specs.TextLaws.{same_itself, same_from_test}
+use Rattle.drf_role.specs.Name.{IsName}
 use Rattle.drf_role.specs.Path.{Path, same_path}
 use Rattle.drf_role.specs.PathLaws.{same_path-true, same_path-swap}
+use Rattle.drf_role.specs.Role.{IsRole}
 use Rattle.drf_bundle.specs.Value.{Point, Thousandths}
 use Rattle.drf_bundle.specs.Bundle.{Key, IsBundle, units, stock, quantities_of}
 use Rattle.drf_bundle.specs.Quantities.{amount_of}
 use Rattle.drf_bundle.specs.laws.SumLaws.{amount-quantities_of}
-use Rattle.drf_bundle.specs.Taken.{units_of_all, joined-rest_of_all, sum-joined, stock-adds_up}
+use Rattle.drf_bundle.specs.Taken.{units_of_all}
+use Rattle.drf_bundle.specs.laws.TakenLaws.{joined-rest_of_all, sum-joined, stock-adds_up}
 use Rattle.drf_bundle.specs.declared.resource.Resource.{Resource}
 use Rattle.drf_rows.specs.Client.{Client}
 use Rattle.drf_rows.specs.Holdings.{Holding, of_offer, of_task, holdings_of, held_where, is_on, parts_on, AreBundles}
@@ -23,7 +26,7 @@ use Rattle.drf_rows.specs.laws.HoldingsLaws.{parts_on-append, each_part, parts_o
 use Rattle.drf_rows.specs.Cycle.{free_of, new_offer, with_offer, counted, count_offer}
 use Rattle.drf_rows.specs.Step.{live_rows}
 use Rattle.drf_rows.specs.laws.CycleLaws.{bundle-free_of, units-free_of}
-use Rattle.drf_rows.specs.Consistent.{are_distinct, are_distinct_roles, IsAgent, AreFrameworks, IsHeld, IsCovered, offers_counted, are_rising, IsConsistent, IsConserved, IsFilter}
+use Rattle.drf_rows.specs.Consistent.{are_distinct, are_distinct_roles, IsAgent, IsFramework, AreFrameworks, IsHeld, IsCovered, offers_counted, are_rising, IsConsistent, IsConserved, IsFilter}
 use Rattle.drf_rows.specs.Held.{is_registered}
 use Rattle.drf_rows.specs.laws.ListLaws.{sum_by-map, sum_by-plus, sum_by_each_le, sum_by_none, count_by-any, list_any_at, list_any-both, none_has, none_has_at, only_none, count_once, each_at, each_from, each_from_both, each_map}
 use Rattle.drf_rows.specs.declared.rows.AgentRow.{AgentRow}
@@ -169,6 +172,12 @@ AreFrameworks-counted client frameworks right = record {
   roles = each_map HasRoles (count_offer client) frameworks
       (each_from HasRoles (λ f. HasRoles (count_offer client f)) frameworks
       (λ f apart. ap are_distinct_roles (roles-count_offer client f) ∙ apart) right.roles);
+  each = each_map IsFramework (count_offer client) frameworks
+      (each_from IsFramework (λ f. IsFramework (count_offer client f)) frameworks
+      (λ f valid. record {
+        name = subst IsName (sym (name-count_offer client f)) valid.name;
+        roles = subst (AllByRecursion IsRole) (sym (roles-count_offer client f)) valid.roles;
+      }) right.each);
 }
 
 -- who is registered stays

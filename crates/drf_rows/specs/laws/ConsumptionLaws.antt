@@ -12,7 +12,7 @@ use Rattle.drf_role.specs.Path.{Path, begins_with}
 use Rattle.drf_role.specs.Parts.{parts_of}
 use Rattle.drf_bundle.specs.Value.{Thousandths, units_in}
 use Rattle.drf_bundle.specs.Bundle.{Key, IsBundle, key_of}
-use Rattle.drf_bundle.specs.Taken.{units-rest_of_all}
+use Rattle.drf_bundle.specs.laws.TakenLaws.{units-rest_of_all}
 use Rattle.drf_bundle.specs.declared.resource.Resource.{Resource}
 use Rattle.drf_rows.specs.LimitNumbers.{LimitNumbers, ceilings}
 use Rattle.drf_rows.specs.Holdings.{Holding, of_offer, of_task, holdings_of}

@@ -17,7 +17,8 @@ use Rattle.drf_bundle.specs.Quantities.{amount_of, is_named}
 use Rattle.drf_bundle.specs.laws.SumLaws.{of_name, amount-quantities_of}
 use Rattle.drf_bundle.specs.laws.PartLaws.{where-some, bundle-part_for, keeps-clipped, cut-falls, bundle-clip}
 use Rattle.drf_bundle.specs.laws.RestLaws.{where-changed-le}
-use Rattle.drf_bundle.specs.Taken.{rest_of_all, units_of_all, bundle-rest_of_all, units-rest_of_all, rest_of_all-insert, rest-itself}
+use Rattle.drf_bundle.specs.Taken.{rest_of_all, units_of_all}
+use Rattle.drf_bundle.specs.laws.TakenLaws.{bundle-rest_of_all, units-rest_of_all, rest_of_all-insert, rest-itself}
 use Rattle.drf_bundle.specs.declared.quantities.Entry.{Entry}
 use Rattle.drf_bundle.specs.declared.resource.Resource.{Resource}
 use Rattle.drf_rows.specs.Client.{Client}

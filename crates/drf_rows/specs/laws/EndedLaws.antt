@@ -22,13 +22,13 @@ use Rattle.drf_rows.specs.Cycle.{free_of, new_offer, with_offer, at_moment}
 use Rattle.drf_rows.specs.laws.CycleLaws.{bundle-free_of, units-free_of}
 use Rattle.drf_rows.specs.Endings.{is_task}
 use Rattle.drf_rows.specs.laws.EndingLaws.{is_task-swap, find-place}
-use Rattle.drf_rows.specs.Offers.{task_of, offer_at, left_of_offer, refused_until, filter_of, refuses_rest, filters_with, offer_accepted, offer_declined}
+use Rattle.drf_rows.specs.Offers.{task_of, offer_at, left_of_offer, filtered_until, filter_of, filters_rest, filters_with, offer_accepted, offer_declined}
 use Rattle.drf_rows.specs.Tasks.{Start}
 use Rattle.drf_rows.specs.Consistent.{are_distinct_tasks, IsAgent, IsCovered, IsConsistent}
 use Rattle.drf_rows.specs.laws.ConsistentLaws.{numbers_within, bundles-consistent}
 use Rattle.drf_rows.specs.laws.ListLaws.{none_left, filter_each, find_only, filter_only, each_from, each_at, each_true, each_fails, each_append, each_parts}
 use Rattle.drf_rows.specs.Step.{effect}
-use Rattle.drf_rows.specs.laws.LifeLaws.{DeclinedAtOnceIsUndone, FinishedIsGivenBack, AcceptedStartsTasks, FiltersGoWithTheirOwner, OtherFiltersStay}
+use Rattle.drf_rows.specs.laws.LifeLaws.{DeclinedAtOnceIsUndone, GoesAlone, FinishedIsGivenBack, LeavesItsTasks, AcceptedStartsTasks, FiltersGoWithTheirOwner, OtherFiltersStay}
 use Rattle.drf_rows.specs.declared.event.Event.TheVariants.{Finish}
 use Rattle.drf_rows.specs.declared.rows.AgentRow.{AgentRow}
 use Rattle.drf_rows.specs.declared.rows.FilterRow.{FilterRow}
@@ -92,7 +92,7 @@ more_filters o old added few own =
 filters_then : (rows : Rows) (o : OfferRow) (bundle : List Resource) (refuse_ms : ℕ) (refused : Bool)
     → IsAtMostOneMore o rows.filters (filters_with rows refused o bundle refuse_ms)
 filters_then rows o bundle refuse_ms true =
-    more_filters o rows.filters (filter_of o bundle (refused_until rows.clock refuse_ms) ∷ []) (omega arith)
+    more_filters o rows.filters (filter_of o bundle (filtered_until rows.clock refuse_ms) ∷ []) (omega arith)
     (and_from _ _ (and_from _ _ (and_from _ _ (same_path_itself o.role) (same_itself o.framework)) (same_itself o.agent)) refl)
 filters_then rows o bundle refuse_ms false =
     subst (IsAtMostOneMore o rows.filters) (append-nil rows.filters) (more_filters o rows.filters [] (omega arith) refl)
@@ -100,26 +100,17 @@ filters_then rows o bundle refuse_ms false =
 pub accepted_starts_tasks : AcceptedStartsTasks
 unfolding effect IsAtMostOneMore
 accepted_starts_tasks rows a o found =
-    subst (λ (r : Rows).
-    (r
-    ≡ record rows {
-      offers = filter (λ p. not (p.number == a.offer)) rows.offers;
-      tasks = rows.tasks ++ map (task_of o) a.tasks;
-      filters = rows.filters ++ drop (length rows.filters) r.filters;
-      clock = max rows.clock a.at;
-    })
-    × (length (drop (length rows.filters) r.filters) ≤ 1)
-    × (list_all (λ f. is_of_client (of_offer o).client f && is_on_agent o.agent f) (drop (length rows.filters) r.filters) ≡ true))
-    (sym (ap (λ (f : Option OfferRow). option_map_or (λ o. offer_accepted (at_moment rows a.at) o a.tasks a.refuse_ms) f rows) found)) (
-      (λ i. record rows {
+    subst (LeavesItsTasks rows a o)
+    (sym (ap (λ (f : Option OfferRow). option_map_or (λ o. offer_accepted (at_moment rows a.at) o a.tasks a.refuse_ms) f rows) found)) (record {
+      rest = λ i. record rows {
         offers = filter (λ p. not (p.number == same i)) rows.offers;
         tasks = rows.tasks ++ map (task_of o) a.tasks;
         filters = added.0 i;
         clock = max rows.clock a.at;
-      }),
-      added.1,
-      added.2,
-    )
+      };
+      at_most_one_filter = added.1;
+      of_the_client_there = added.2;
+    })
   where
     starts : List Start
     starts = a.tasks
@@ -127,22 +118,22 @@ accepted_starts_tasks rows a o found =
     same : o.number ≡ a.offer
     same = eqb-true o.number a.offer (find-place (λ (p : OfferRow). p.number == a.offer) rows.offers o found).1
 
-    added : IsAtMostOneMore o rows.filters (filters_with (at_moment rows a.at) (refuses_rest o starts a.refuse_ms) o (left_of_offer o starts) a.refuse_ms)
-    added = filters_then (at_moment rows a.at) o (left_of_offer o starts) a.refuse_ms (refuses_rest o starts a.refuse_ms)
+    added : IsAtMostOneMore o rows.filters (filters_with (at_moment rows a.at) (filters_rest o starts a.refuse_ms) o (left_of_offer o starts) a.refuse_ms)
+    added = filters_then (at_moment rows a.at) o (left_of_offer o starts) a.refuse_ms (filters_rest o starts a.refuse_ms)
 
 -- ---- filters go
 
 pub filters_go : FiltersGoWithTheirOwner
 unfolding effect
-filters_go rows agent framework client = (
-  none_left (is_on_agent agent) rows.filters,
-  none_left (λ f. same_text f.framework framework) rows.filters,
-  none_left (is_of_client client) rows.filters,
-)
+filters_go rows agent framework client = record {
+  agent_removed = none_left (is_on_agent agent) rows.filters;
+  framework_removed = none_left (λ f. same_text f.framework framework) rows.filters;
+  client_revived = none_left (is_of_client client) rows.filters;
+}
 
 pub other_filters_stay : OtherFiltersStay
 unfolding effect
-other_filters_stay rows agent framework client = (refl, refl, refl)
+other_filters_stay rows agent framework client = record { agent_removed = refl; framework_removed = refl; client_revived = refl }
 
 -- ---- a task finishes
 
@@ -234,17 +225,11 @@ module _ (rows : Rows) (before later : List TaskRow) (t : TaskRow) (consistent :
         ∙ ap (λ (b : Bool). units (free_of rows agent) key p + cond b (units t.bundle key p) 0) past
         ∙ omega arith)
 
-    finished :
-        (after ≡ left)
-        × (same_text t.agent agent.name ≡ true → join (free_of rows agent) t.bundle ≡ Some (free_of after agent))
-        × (same_text t.agent agent.name ≡ false → free_of after agent ≡ free_of rows agent)
+    finished : GoesAlone rows before later t agent after
     unfolding left
     finished =
-        subst (λ (r : Rows).
-        (r ≡ left)
-        × (same_text t.agent agent.name ≡ true → join (free_of rows agent) t.bundle ≡ Some (free_of r agent))
-        × (same_text t.agent agent.name ≡ false → free_of r agent ≡ free_of rows agent)) (sym only_task)
-        (refl, given_back, kept_elsewhere)
+        subst (GoesAlone rows before later t agent) (sym only_task)
+        (record { only_task = refl; given_back = given_back; kept_elsewhere = kept_elsewhere })
 
 pub finished_is_given_back : FinishedIsGivenBack
 unfolding after left

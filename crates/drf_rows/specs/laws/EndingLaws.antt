@@ -12,7 +12,8 @@ use Rattle.drf_bundle.specs.Quantities.{amount_of}
 use Rattle.drf_bundle.specs.Bundle.{Key, IsBundle, units, quantities_of}
 use Rattle.drf_bundle.specs.laws.SumLaws.{amount-quantities_of}
 use Rattle.drf_bundle.specs.laws.UnitProofs.{stocks_add}
-use Rattle.drf_bundle.specs.Taken.{units_of_all, rest_of_all, bundle-rest_of_all, units-rest_of_all, joined-rest_of_all, AddsUp, sum-joined}
+use Rattle.drf_bundle.specs.Taken.{units_of_all, rest_of_all}
+use Rattle.drf_bundle.specs.laws.TakenLaws.{bundle-rest_of_all, units-rest_of_all, joined-rest_of_all, AddsUp, sum-joined}
 use Rattle.drf_bundle.specs.declared.resource.Resource.{Resource}
 use Rattle.drf_rows.specs.Holdings.{Holding, of_offer, of_task, holdings_of, amount_in, held_where, is_on, parts_on}
 use Rattle.drf_rows.specs.laws.HoldingsLaws.{held_where-append, held_where-cons, parts_on-append, units_on, units_on-append, units_on-cons}

@@ -41,54 +41,68 @@ DeclinedAtOnceIsUndone =
     effect (with_offer rows o) (Decline (record { framework = client.framework; offer = o.number; at = at; refuse_ms = 0 }))
     ≡ record rows { frameworks = (with_offer rows o).frameworks; next_offer = rows.next_offer + 1; clock = max rows.clock at }
 
--- a task that finishes goes, nothing else of the rows changes, and its agent gets back exactly what it used
+-- the task goes, nothing else of the rows changes, and its agent gets back exactly what it used
+pub record GoesAlone (rows : Rows) (before later : List TaskRow) (t : TaskRow) (agent : AgentRow) (after : Rows) : Type 0 where
+  pub only_task : after ≡ record rows { tasks = before ++ later }
+  pub given_back : same_text t.agent agent.name ≡ true → join (free_of rows agent) t.bundle ≡ Some (free_of after agent)
+  pub kept_elsewhere : same_text t.agent agent.name ≡ false → free_of after agent ≡ free_of rows agent
+
+-- what a task that finishes does
 abbrev pub FinishedIsGivenBack : Type 0
 FinishedIsGivenBack =
     (rows : Rows) (before later : List TaskRow) (t : TaskRow) (agent : AgentRow) (place : ℕ)
     → IsConsistent rows
     → rows.tasks ≡ before ++ t ∷ later
     → slice_get rows.agents place ≡ Some agent
-    → let after : Rows = effect rows (Finish t.framework t.name) in
-    (after ≡ record rows { tasks = before ++ later })
-    × (same_text t.agent agent.name ≡ true → join (free_of rows agent) t.bundle ≡ Some (free_of after agent))
-    × (same_text t.agent agent.name ≡ false → free_of after agent ≡ free_of rows agent)
+    → GoesAlone rows before later t agent (effect rows (Finish t.framework t.name))
 
--- an offer that is accepted goes, and leaves its tasks behind those that run, in their order: each its client's, on its agent,
--- with the part that it uses. The clock moves, one filter of the client there may be added, and nothing else of the rows changes
+-- the task is the offer's client's, on its agent, with the part that it uses
+abbrev pub task_started : OfferRow → Start → TaskRow
+task_started o s = record { name = s.0; agent = o.agent; framework = o.framework; role = o.role; bundle = s.1 }
+
+-- the filters behind those that stood
+abbrev pub filters_added : Rows → Rows → List FilterRow
+filters_added rows after = drop (length rows.filters) after.filters
+
+-- the offer goes, and leaves its tasks behind those that run, in their order. The clock moves, one filter of the client
+-- there may be added, and nothing else of the rows changes
+pub record LeavesItsTasks (rows : Rows) (a : accepting.Accept) (o : OfferRow) (after : Rows) : Type 0 where
+  pub rest : after
+      ≡ record rows {
+        offers = filter (λ p. not (p.number == a.offer)) rows.offers;
+        tasks = rows.tasks ++ map (task_started o) a.tasks;
+        filters = rows.filters ++ filters_added rows after;
+        clock = max rows.clock a.at;
+      }
+  pub at_most_one_filter : length (filters_added rows after) ≤ 1
+  pub of_the_client_there : list_all (λ f. is_of_client (of_offer o).client f && is_on_agent o.agent f) (filters_added rows after) ≡ true
+
+-- what an offer that is accepted does
 abbrev pub AcceptedStartsTasks : Type 0
 AcceptedStartsTasks =
     (rows : Rows) (a : accepting.Accept) (o : OfferRow)
     → offer_at rows a.offer ≡ Some o
-    → let started : Start → TaskRow
-    = λ s. record { name = s.0; agent = o.agent; framework = o.framework; role = o.role; bundle = s.1 } in
-    let after : Rows = effect rows (Accept a) in
-    let added : List FilterRow = drop (length rows.filters) after.filters in
-    (after
-    ≡ record rows {
-      offers = filter (λ p. not (p.number == a.offer)) rows.offers;
-      tasks = rows.tasks ++ map started a.tasks;
-      filters = rows.filters ++ added;
-      clock = max rows.clock a.at;
-    })
-    × (length added ≤ 1)
-    × (list_all (λ f. is_of_client (of_offer o).client f && is_on_agent o.agent f) added ≡ true)
+    → LeavesItsTasks rows a o (effect rows (Accept a))
 
 -- no filter outlives its agent, its framework, or the next revival of its client
+pub record NoFilterOutlives (rows : Rows) (agent framework : Text) (client : Client) : Type 0 where
+  pub agent_removed : list_any (is_on_agent agent) (effect rows (RemoveAgent agent)).filters ≡ false
+  pub framework_removed : list_any (λ f. same_text f.framework framework) (effect rows (RemoveFramework framework)).filters ≡ false
+  pub client_revived : list_any (is_of_client client) (effect rows (Revive client.framework client.role)).filters ≡ false
+
 abbrev pub FiltersGoWithTheirOwner : Type 0
-FiltersGoWithTheirOwner =
-    (rows : Rows) (agent framework : Text) (client : Client)
-    → (list_any (is_on_agent agent) (effect rows (RemoveAgent agent)).filters ≡ false)
-    × (list_any (λ f. same_text f.framework framework) (effect rows (RemoveFramework framework)).filters ≡ false)
-    × (list_any (is_of_client client) (effect rows (Revive client.framework client.role)).filters ≡ false)
+FiltersGoWithTheirOwner = (rows : Rows) (agent framework : Text) (client : Client) → NoFilterOutlives rows agent framework client
 
 -- the others stay: those on other agents, of other frameworks, and of other clients
+pub record OnlyOwnFiltersGo (rows : Rows) (agent framework : Text) (client : Client) : Type 0 where
+  pub agent_removed : (effect rows (RemoveAgent agent)).filters ≡ filter (λ f. not (same_text f.agent agent)) rows.filters
+  pub framework_removed :
+      (effect rows (RemoveFramework framework)).filters ≡ filter (λ f. not (same_text f.framework framework)) rows.filters
+  pub client_revived : (effect rows (Revive client.framework client.role)).filters
+      ≡ filter (λ f. not (same_path f.role client.role && same_text f.framework client.framework)) rows.filters
+
 abbrev pub OtherFiltersStay : Type 0
-OtherFiltersStay =
-    (rows : Rows) (agent framework : Text) (client : Client)
-    → ((effect rows (RemoveAgent agent)).filters ≡ filter (λ f. not (same_text f.agent agent)) rows.filters)
-    × ((effect rows (RemoveFramework framework)).filters ≡ filter (λ f. not (same_text f.framework framework)) rows.filters)
-    × ((effect rows (Revive client.framework client.role)).filters
-    ≡ filter (λ f. not (same_path f.role client.role && same_text f.framework client.framework)) rows.filters)
+OtherFiltersStay = (rows : Rows) (agent framework : Text) (client : Client) → OnlyOwnFiltersGo rows agent framework client
 
 abbrev pub is_same_client : Client → Client → Bool
 is_same_client client other = same_path other.role client.role && same_text other.framework client.framework
@@ -113,21 +127,26 @@ quiet_framework f = record f { clients = map quiet_row f.clients }
 abbrev pub all_suppressed : Rows → List FrameworkRow
 all_suppressed rows = map quiet_framework rows.frameworks
 
--- an event suppresses its client or makes it revive, and leaves the others suppressed or not as they were; of the rows it
--- changes nothing else, but that filters go when a client revives
+-- the client is suppressed, the others are or are not as they were, and of the rows nothing else changes
+pub record SuppressesOnly (rows : Rows) (client : Client) (after : Rows) : Type 0 where
+  pub client_suppressed : is_suppressed after client ≡ true
+  pub others_as_before : (other : Client) → is_same_client other client ≡ false → is_suppressed after other ≡ is_suppressed rows other
+  pub nothing_else_there : all_suppressed after ≡ all_suppressed rows
+  pub only_frameworks : after ≡ record rows { frameworks = after.frameworks }
+
+-- the client is served, the others are suppressed or not as they were, and of the rows nothing else changes, but that filters go
+pub record RevivesOnly (rows : Rows) (client : Client) (after : Rows) : Type 0 where
+  pub client_served : is_served after client ≡ true
+  pub others_as_before : (other : Client) → is_same_client other client ≡ false → is_suppressed after other ≡ is_suppressed rows other
+  pub nothing_else_there : all_suppressed after ≡ all_suppressed rows
+  pub only_frameworks_and_filters : after ≡ record rows { frameworks = after.frameworks; filters = after.filters }
+
+-- an event suppresses its client or makes it revive, and no other
 abbrev pub SuppressionIsItsClients : Type 0
 SuppressionIsItsClients =
     (rows : Rows) (client : Client)
-    → let suppressed : Rows = effect rows (Suppress client.framework client.role) in
-    let revived : Rows = effect rows (Revive client.framework client.role) in
-    (is_suppressed suppressed client ≡ true)
-    × (is_served revived client ≡ true)
-    × (all_suppressed suppressed ≡ all_suppressed rows)
-    × (all_suppressed revived ≡ all_suppressed rows)
-    × (suppressed ≡ record rows { frameworks = suppressed.frameworks })
-    × (revived ≡ record rows { frameworks = revived.frameworks; filters = revived.filters })
-    × ((other : Client) → is_same_client other client ≡ false
-    → (is_suppressed suppressed other ≡ is_suppressed rows other) × (is_suppressed revived other ≡ is_suppressed rows other))
+    → SuppressesOnly rows client (effect rows (Suppress client.framework client.role))
+    × RevivesOnly rows client (effect rows (Revive client.framework client.role))
 
 -- no cycle offers anything to a client that is suppressed
 abbrev pub SuppressedIsNotOffered : Type 0
@@ -225,20 +244,21 @@ abbrev pub is_accept : Event → Bool
 is_accept (Accept a) = true
 is_accept event = false
 
--- what an event does not end stays as it was, and in order; a cycle adds offers, and an accept tasks
-abbrev pub OtherHoldingsStay : Type 0
-OtherHoldingsStay =
-    (limits : LimitNumbers) (rows : Rows) (event : Event)
-    → let after : Rows = rows_after limits rows event in
-    (is_cycle event ≡ false → other_offers event after.offers ≡ other_offers event rows.offers)
-    × (is_accept event ≡ false → other_tasks event after.tasks ≡ other_tasks event rows.tasks)
+-- what the event does not end stays as it was, and in order; a cycle adds offers, and an accept tasks
+pub record OthersStay (event : Event) (rows after : Rows) : Type 0 where
+  pub offers : is_cycle event ≡ false → other_offers event after.offers ≡ other_offers event rows.offers
+  pub tasks : is_accept event ≡ false → other_tasks event after.tasks ≡ other_tasks event rows.tasks
 
--- what an event ends is gone, and is all that goes: the others are what is left
+abbrev pub OtherHoldingsStay : Type 0
+OtherHoldingsStay = (limits : LimitNumbers) (rows : Rows) (event : Event) → OthersStay event rows (rows_after limits rows event)
+
+-- what the event ends is gone, and is all that goes: the others are what is left
+pub record OnlyOthersAreLeft (event : Event) (rows after : Rows) : Type 0 where
+  pub offers : is_cycle event ≡ false → after.offers ≡ other_offers event rows.offers
+  pub tasks : is_accept event ≡ false → after.tasks ≡ other_tasks event rows.tasks
+
 abbrev pub EndedIsGone : Type 0
-EndedIsGone =
-    (rows : Rows) (event : Event)
-    → (is_cycle event ≡ false → (effect rows event).offers ≡ other_offers event rows.offers)
-    × (is_accept event ≡ false → (effect rows event).tasks ≡ other_tasks event rows.tasks)
+EndedIsGone = (rows : Rows) (event : Event) → OnlyOthersAreLeft event rows (effect rows event)
 
 -- an agent or a framework that is removed is known no more
 abbrev pub RemovedIsGone : Type 0
@@ -254,19 +274,24 @@ active_row a = record a { active = true }
 abbrev pub all_active : Rows → List AgentRow
 all_active rows = map active_row rows.agents
 
--- an agent that is activated is active, and one that is deactivated is not; nothing else of the rows changes, but that offers
--- go when an agent is deactivated
+-- the agent is active, and of the rows nothing else changes
+pub record ActivatesOnly (rows : Rows) (name : Text) (after : Rows) : Type 0 where
+  pub agent_active : list_all (λ a. not (same_text a.name name) || a.active) after.agents ≡ true
+  pub nothing_else_there : all_active after ≡ all_active rows
+  pub only_agents : after ≡ record rows { agents = after.agents }
+
+-- the agent is not, and of the rows nothing else changes, but that offers go
+pub record DeactivatesOnly (rows : Rows) (name : Text) (after : Rows) : Type 0 where
+  pub agent_inactive : list_all (λ a. not (same_text a.name name) || not a.active) after.agents ≡ true
+  pub nothing_else_there : all_active after ≡ all_active rows
+  pub only_agents_and_offers : after ≡ record rows { agents = after.agents; offers = after.offers }
+
+-- an event activates its agent, or deactivates it
 abbrev pub ActivityIsItsAgents : Type 0
 ActivityIsItsAgents =
     (rows : Rows) (name : Text)
-    → let activated : Rows = effect rows (ActivateAgent name) in
-    let deactivated : Rows = effect rows (DeactivateAgent name) in
-    (list_all (λ a. not (same_text a.name name) || a.active) activated.agents ≡ true)
-    × (list_all (λ a. not (same_text a.name name) || not a.active) deactivated.agents ≡ true)
-    × (all_active activated ≡ all_active rows)
-    × (all_active deactivated ≡ all_active rows)
-    × (activated ≡ record rows { agents = activated.agents })
-    × (deactivated ≡ record rows { agents = deactivated.agents; offers = deactivated.offers })
+    → ActivatesOnly rows name (effect rows (ActivateAgent name))
+    × DeactivatesOnly rows name (effect rows (DeactivateAgent name))
 
 -- the offer is made to the framework, in that role
 abbrev pub is_made_to : Text → Path → OfferRow → Bool
@@ -279,17 +304,17 @@ raised_row made framework c = record c { count = c.count + count_by (is_made_to 
 abbrev pub with_counts : List OfferRow → FrameworkRow → FrameworkRow
 with_counts made f = record f { clients = map (raised_row made f.name) f.clients }
 
--- a cycle moves the clock, adds offers to those that stand, and counts each at its client; it changes nothing else
+-- the clock moves, offers are added to those that stand, and each is counted at its client; nothing else changes
+pub record OnlyOffers (rows : Rows) (at : ℕ) (after : Rows) : Type 0 where
+  pub rest : after
+      ≡ record rows {
+        frameworks = after.frameworks;
+        offers = after.offers;
+        next_offer = after.next_offer;
+        clock = max rows.clock at;
+      }
+  pub offers : after.offers ≡ rows.offers ++ new_offers rows after
+  pub counts : after.frameworks ≡ map (with_counts (new_offers rows after)) rows.frameworks
+
 abbrev pub CycleOnlyOffers : Type 0
-CycleOnlyOffers =
-    (rows : Rows) (at : ℕ)
-    → let after : Rows = cycle rows at in
-    (after
-    ≡ record rows {
-      frameworks = after.frameworks;
-      offers = after.offers;
-      next_offer = after.next_offer;
-      clock = max rows.clock at;
-    })
-    × (after.offers ≡ rows.offers ++ new_offers rows after)
-    × (after.frameworks ≡ map (with_counts (new_offers rows after)) rows.frameworks)
+CycleOnlyOffers = (rows : Rows) (at : ℕ) → OnlyOffers rows at (cycle rows at)

@@ -1,10 +1,11 @@
 -- What an event that sets a limit changes: the limit of its role, and nothing else.
 use Rattle.std.specs.Prelude.{◌≡◌, Bool, true, false, not, ◌&&◌, List, [], ◌∷◌, length, map, Some, None, nat_lt, if◌then◌else◌}
-use Rattle.std.specs.List.{list_all}
+use Rattle.std.specs.List.{list_all, AllByRecursion}
 use Rattle.std.proofs.Common.{refl, sym, ap, ◌∙◌, inl, inr, arith}
 use Rattle.std.proofs.lemmas.Bool.{cases_Bool, and_parts, and_from, not-true, lt-ltb}
 use Rattle.drf_role.specs.Path.{Path, same_path}
 use Rattle.drf_role.specs.PathLaws.{same_path_itself, same_path-true, same_path-swap}
+use Rattle.drf_role.specs.Role.{IsRole}
 use Rattle.drf_bundle.specs.Bundle.{is_default}
 use Rattle.drf_bundle.specs.declared.quantities.Entry.{Entry}
 use Rattle.drf_rows.specs.Quota.{limit_of, limits_put, limits_without, limits_with}
@@ -176,24 +177,48 @@ module _ (role : Path) where
         | inr past ↦ rw past (and_from (is_row l) (list_all is_row (limits_without ls role)) parts.0 (rows-gone ls parts.1))
       ]
 
+  -- roles stay valid
+  valid-put : (limit : List Entry) → IsRole role → (ls : List LimitRow)
+      → AllByRecursion (λ l. IsRole l.role) ls → AllByRecursion (λ l. IsRole l.role) (limits_put ls role limit)
+  valid-put limit right [] all = (right, tt)
+  valid-put limit right (l ∷ ls) all = elim (cases_Bool (same_path l.role role)) [
+    | inl here ↦ rw here all
+    | inr past ↦ rw past (all.0, valid-put limit right ls all.1)
+  ]
+
+  valid-gone : (ls : List LimitRow) → AllByRecursion (λ l. IsRole l.role) ls
+      → AllByRecursion (λ l. IsRole l.role) (limits_without ls role)
+  valid-gone [] all = tt
+  valid-gone (l ∷ ls) all = elim (cases_Bool (same_path l.role role)) [
+    | inl here ↦ rw here all.1
+    | inr past ↦ rw past (all.0, valid-gone ls all.1)
+  ]
+
 -- ---- a limit that is set
 
-pub AreLimits-with : (limits : List LimitRow) (role : Path) (limit : List Entry) → is_default role ≡ false → AreLimits limits
+AreLimits-with : (limits : List LimitRow) (role : Path) (limit : List Entry) → is_default role ≡ false → IsRole role → AreLimits limits
     → AreLimits (limits_with limits role limit)
-AreLimits-with limits role [] other are = record { roles = distinct-gone role limits are.roles; each = rows-gone role limits are.each }
-AreLimits-with limits role (e ∷ es) other are =
-    record { roles = distinct-put role (e ∷ es) limits are.roles; each = rows-put role (e ∷ es) other (lt-ltb 0 (length (e ∷ es)) (omega arith)) limits are.each }
+AreLimits-with limits role [] other valid are = record {
+  roles = distinct-gone role limits are.roles;
+  each = rows-gone role limits are.each;
+  valid = valid-gone role limits are.valid;
+}
+AreLimits-with limits role (e ∷ es) other valid are = record {
+  roles = distinct-put role (e ∷ es) limits are.roles;
+  each = rows-put role (e ∷ es) other (lt-ltb 0 (length (e ∷ es)) (omega arith)) limits are.each;
+  valid = valid-put role (e ∷ es) valid limits are.valid;
+}
 
-pub IsConsistent-limit_set : (rows : Rows) (role : Path) (limit : List Entry) → is_default role ≡ false → IsConsistent rows
+pub IsConsistent-limit_set : (rows : Rows) (role : Path) (limit : List Entry) → is_default role ≡ false → IsRole role → IsConsistent rows
     → IsConsistent (record rows { limits = limits_with rows.limits role limit })
-IsConsistent-limit_set rows role limit other consistent = record {
+IsConsistent-limit_set rows role limit other valid consistent = record {
   agents = consistent.agents;
   frameworks = consistent.frameworks;
   holdings = consistent.holdings;
   covered = consistent.covered;
   tasks = consistent.tasks;
   weights = consistent.weights;
-  limits = AreLimits-with rows.limits role limit other consistent.limits;
+  limits = AreLimits-with rows.limits role limit other valid consistent.limits;
   filters = consistent.filters;
   early = consistent.early;
   counted = consistent.counted;

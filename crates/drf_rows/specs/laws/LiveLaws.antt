@@ -11,7 +11,7 @@ use Rattle.drf_rows.specs.Filters.{in_force, is_of_client, is_on_agent, is_held_
 use Rattle.drf_rows.specs.laws.FilterLaws.{held_back-in_force, in_force-later, number_in_force-later, in_force-left, in_force-more}
 use Rattle.drf_rows.specs.Quota.{entitlement}
 use Rattle.drf_rows.specs.Cycle.{free_of, is_allocatable, grant, new_offer, with_offer, tried, all_tried, turn_order, turn, turns, at_moment, cycle}
-use Rattle.drf_rows.specs.Offers.{offer_at, left_of_offer, refused_until, filter_of, refuses_all, refuses_rest, filters_with, are_many_filters, offer_accepted, offer_declined}
+use Rattle.drf_rows.specs.Offers.{offer_at, left_of_offer, filtered_until, filter_of, filters_all, filters_rest, filters_with, are_many_filters, offer_accepted, offer_declined}
 use Rattle.drf_rows.specs.Tasks.{Start}
 use Rattle.drf_rows.specs.Report.{report_of}
 use Rattle.drf_rows.specs.Step.{live_rows, refusal_of, effect, answer, rows_after, rows_after_all, reply_to, replies_to}
@@ -183,10 +183,10 @@ module _ (rows : Rows) (n : ℕ) where
   live-accepted at starts refuse_ms None = live-stay rows (omega arith) refl
   live-accepted at starts refuse_ms (Some o) =
       let start : Rows = at_moment rows at in
-      let refused : Bool = refuses_rest o starts refuse_ms in
+      let refused : Bool = filters_rest o starts refuse_ms in
       live-kept (record (offer_accepted start o starts refuse_ms) { events = n })
       (filters_with (at_moment (live_rows rows) at) refused o (left_of_offer o starts) refuse_ms)
-      (live-refused rows.clock start.clock rows.filters refused (filter_of o (left_of_offer o starts) (refused_until start.clock refuse_ms) ∷ []) (omega arith))
+      (live-refused rows.clock start.clock rows.filters refused (filter_of o (left_of_offer o starts) (filtered_until start.clock refuse_ms) ∷ []) (omega arith))
 
   live-declined : (at refuse_ms : ℕ) (found : Option OfferRow)
       → live_rows (record (option_map_or (λ o. offer_declined (at_moment (live_rows rows) at) o refuse_ms) found (live_rows rows)) { events = n })
@@ -195,8 +195,8 @@ module _ (rows : Rows) (n : ℕ) where
   live-declined at refuse_ms (Some o) =
       let start : Rows = at_moment rows at in
       live-kept (record (offer_declined start o refuse_ms) { events = n })
-      (filters_with (at_moment (live_rows rows) at) (refuses_all refuse_ms) o o.bundle refuse_ms)
-      (live-refused rows.clock start.clock rows.filters (refuses_all refuse_ms) (filter_of o o.bundle (refused_until start.clock refuse_ms) ∷ []) (omega arith))
+      (filters_with (at_moment (live_rows rows) at) (filters_all refuse_ms) o o.bundle refuse_ms)
+      (live-refused rows.clock start.clock rows.filters (filters_all refuse_ms) (filter_of o o.bundle (filtered_until start.clock refuse_ms) ∷ []) (omega arith))
 
   live-cycle : (at : ℕ) → live_rows (record (cycle (live_rows rows) at) { events = n }) ≡ live_rows (record (cycle rows at) { events = n })
   unfolding cycle

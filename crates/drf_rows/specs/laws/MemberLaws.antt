@@ -10,6 +10,7 @@ use Rattle.std.proofs.lemmas.Simd.{map-map}
 use Rattle.drf_role.specs.Text.{Text, same_text}
 use Rattle.drf_role.specs.TextLaws.{same_itself, same_from_test}
 use Rattle.drf_role.specs.Path.{same_path}
+use Rattle.drf_role.specs.Role.{IsRole}
 use Rattle.drf_bundle.specs.Quantities.{amount_of, plus}
 use Rattle.drf_bundle.specs.laws.QuantitiesLaws.{amount-plus}
 use Rattle.drf_bundle.specs.Bundle.{quantities_of}
@@ -19,7 +20,7 @@ use Rattle.drf_rows.specs.Client.{Client}
 use Rattle.drf_rows.specs.Holdings.{Holding, of_offer, of_task, holdings_of}
 use Rattle.drf_rows.specs.Held.{client_of, clients_of, cluster_total, is_registered}
 use Rattle.drf_rows.specs.Filters.{is_of_client, is_on_agent, filters_without_agent, filters_without_framework}
-use Rattle.drf_rows.specs.Consistent.{are_distinct, are_distinct_roles, IsAgent, AreAgents, AreFrameworks, IsHeld, IsCovered, IsFilter, offers_counted, IsConsistent}
+use Rattle.drf_rows.specs.Consistent.{are_distinct, are_distinct_roles, IsAgent, AreAgents, IsFramework, AreFrameworks, IsHeld, IsCovered, IsFilter, offers_counted, IsConsistent}
 use Rattle.drf_rows.specs.laws.ConsistentLaws.{same_text-swap}
 use Rattle.drf_rows.specs.Members.{has_agent, active_at, with_activity, suppressed_at, suppressed_in, with_suppression, revived, agent_removed, framework_removed}
 use Rattle.drf_rows.specs.Endings.{without_ended, all_on, all_of}
@@ -207,6 +208,10 @@ module _ (rows : Rows) (client : Client) (suppressed : Bool) where
         roles = subst (AllByRecursion HasRoles) same_frameworks (each_map HasRoles (suppressed_as quiet) rows.frameworks
             (each_from HasRoles (λ f. HasRoles (suppressed_as quiet f)) rows.frameworks
             (λ f apart. ap are_distinct_roles (roles_as quiet f) ∙ apart) right.roles));
+        each = subst (AllByRecursion IsFramework) same_frameworks (each_map IsFramework (suppressed_as quiet) rows.frameworks
+            (each_from IsFramework (λ f. IsFramework (suppressed_as quiet f)) rows.frameworks
+            (λ f valid. record { name = valid.name; roles = subst (AllByRecursion IsRole) (sym (roles_as quiet f)) valid.roles })
+            right.each));
       }
 
   pub IsConsistent-with_suppression : IsConsistent rows
@@ -396,6 +401,7 @@ module _ (rows : Rows) (name : Text) (nothing : without_ended rows (all_of name)
         frameworks = record {
           names = are_distinct-kept (λ (f : FrameworkRow). f.name) stays_of rows.frameworks consistent.frameworks.names;
           roles = each_filter HasRoles stays_of rows.frameworks consistent.frameworks.roles;
+          each = each_filter IsFramework stays_of rows.frameworks consistent.frameworks.each;
         };
         holdings = each_from_both (IsHeld rows.agents rows.frameworks) (λ h. same_text h.client.framework name ≡ false)
             (IsHeld rows.agents others_of) (holdings_of rows)

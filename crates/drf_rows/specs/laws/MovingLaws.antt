@@ -525,7 +525,7 @@ unlimited rows consistent = record {
   covered = consistent.covered;
   tasks = consistent.tasks;
   weights = consistent.weights;
-  limits = record { roles = refl; each = refl };
+  limits = record { roles = refl; each = refl; valid = tt };
   filters = consistent.filters;
   early = consistent.early;
   counted = consistent.counted;

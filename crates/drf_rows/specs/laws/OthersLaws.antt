@@ -24,7 +24,7 @@ use Rattle.drf_rows.specs.Totals.{total_at, exchanged}
 use Rattle.drf_rows.specs.Members.{distinct, new_client, active_at, suppressed_at, suppressed_in}
 use Rattle.drf_rows.specs.laws.ListLaws.{filter_each, filter-again, each_true, none_left}
 use Rattle.drf_rows.specs.Step.{refusal_of, effect, new_offers, rows_after}
-use Rattle.drf_rows.specs.laws.LifeLaws.{is_cycle, other_agents, other_frameworks, OtherAgentsStay, OtherFrameworksStay, is_accept, other_offers, other_tasks, OtherHoldingsStay, EndedIsGone, RemovedIsGone, active_row, ActivityIsItsAgents, is_made_to, raised_row, with_counts, CycleOnlyOffers}
+use Rattle.drf_rows.specs.laws.LifeLaws.{is_cycle, other_agents, other_frameworks, OtherAgentsStay, OtherFrameworksStay, OthersStay, is_accept, other_offers, other_tasks, OtherHoldingsStay, EndedIsGone, RemovedIsGone, active_row, ActivityIsItsAgents, is_made_to, raised_row, with_counts, CycleOnlyOffers}
 use Rattle.drf_rows.specs.declared.event.Event.{Event}
 use Rattle.drf_rows.specs.declared.event.Event.TheVariants.{AddAgent, RemoveAgent, ActivateAgent, DeactivateAgent, SetAgent, AddFramework, RemoveFramework, Accept, Decline, Rescind, Finish, Suppress, Revive, Reserve, Unreserve, SetWeight, SetLimit, Cycle, Report}
 use Rattle.drf_rows.specs.declared.reply.Refusal.{Refusal}
@@ -170,11 +170,12 @@ made_cycle rows at = made_turns (at_moment rows at) (filter (λ a. a.active) row
 pub cycle_only_offers : CycleOnlyOffers
 cycle_only_offers rows at =
     let so = made_cycle rows at in
-    let new : so.made ≡ new_offers rows (cycle rows at) = sym (ap (drop (length rows.offers)) so.offers ∙ drop-append_seam rows.offers so.made) in (
-      so.rest,
-      so.offers ∙ ap (λ (os : List OfferRow). rows.offers ++ os) new,
-      so.counts ∙ ap (λ (os : List OfferRow). map (with_counts os) rows.frameworks) new,
-    )
+    let new : so.made ≡ new_offers rows (cycle rows at) = sym (ap (drop (length rows.offers)) so.offers ∙ drop-append_seam rows.offers so.made) in
+    record {
+      rest = so.rest;
+      offers = so.offers ∙ ap (λ (os : List OfferRow). rows.offers ++ os) new;
+      counts = so.counts ∙ ap (λ (os : List OfferRow). map (with_counts os) rows.frameworks) new;
+    }
 
 -- ---- the others
 
@@ -395,11 +396,9 @@ unfolding rows_after
 other_holdings_stay limits rows event = by (refusal_of limits rows event)
   where
     by : (refusal : Option Refusal)
-        → let after : Rows = option_map_or (λ refusal. rows) refusal (record (effect rows event) { events = rows.events + 1 }) in
-        (is_cycle event ≡ false → other_offers event after.offers ≡ other_offers event rows.offers)
-        × (is_accept event ≡ false → other_tasks event after.tasks ≡ other_tasks event rows.tasks)
-    by None = (offers_left rows event, tasks_left rows event)
-    by (Some refusal) = (λ no_cycle. refl, λ no_accept. refl)
+        → OthersStay event rows (option_map_or (λ refusal. rows) refusal (record (effect rows event) { events = rows.events + 1 }))
+    by None = record { offers = offers_left rows event; tasks = tasks_left rows event }
+    by (Some refusal) = record { offers = λ no_cycle. refl; tasks = λ no_accept. refl }
 
 -- ---- what goes
 
@@ -478,7 +477,7 @@ tasks_gone rows (Cycle at) no_accept = ap (λ (r : Rows). r.tasks) (made_cycle r
 tasks_gone rows Report no_accept = refl
 
 pub ended_is_gone : EndedIsGone
-ended_is_gone rows event = (offers_gone rows event, tasks_gone rows event)
+ended_is_gone rows event = record { offers = offers_gone rows event; tasks = tasks_gone rows event }
 
 -- ---- the one
 
@@ -512,14 +511,18 @@ all_as_were name active (a ∷ agents) = λ i. by (same_text a.name name) i ∷ 
 pub activity_is_its_agents : ActivityIsItsAgents
 unfolding effect
 activity_is_its_agents rows name = (
-  own_active (λ b. b) name true refl rows.agents,
-  own_active not name false refl rows.agents,
-  all_as_were name true rows.agents,
-  all_as_were name false rows.agents,
-  refl,
-  (λ i. record rows {
-    agents = map (active_at name false) rows.agents;
-    offers = filter (λ o. not (same_text o.agent name)) rows.offers;
-    tasks = filter_each (λ t. true) rows.tasks (each_true rows.tasks) i;
-  }),
+  record {
+    agent_active = own_active (λ b. b) name true refl rows.agents;
+    nothing_else_there = all_as_were name true rows.agents;
+    only_agents = refl;
+  },
+  record {
+    agent_inactive = own_active not name false refl rows.agents;
+    nothing_else_there = all_as_were name false rows.agents;
+    only_agents_and_offers = λ i. record rows {
+      agents = map (active_at name false) rows.agents;
+      offers = filter (λ o. not (same_text o.agent name)) rows.offers;
+      tasks = filter_each (λ t. true) rows.tasks (each_true rows.tasks) i;
+    };
+  },
 )

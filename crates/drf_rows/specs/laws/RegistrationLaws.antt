@@ -20,7 +20,7 @@ use Rattle.drf_rows.specs.Held.{client_of, clients_of, cluster_total, is_registe
 use Rattle.drf_rows.specs.Step.{opening}
 use Rattle.drf_rows.specs.Members.{has_agent, has_framework, with_agent}
 use Rattle.drf_rows.specs.laws.ListLaws.{each_from, each_append, none_has}
-use Rattle.drf_rows.specs.Consistent.{are_distinct, are_distinct_roles, offers_counted, IsAgent, IsHeld, IsCovered, IsConsistent, IsFilter}
+use Rattle.drf_rows.specs.Consistent.{are_distinct, are_distinct_roles, offers_counted, IsAgent, IsFramework, IsHeld, IsCovered, IsConsistent, IsFilter}
 use Rattle.drf_rows.specs.declared.rows.AgentRow.{AgentRow}
 use Rattle.drf_rows.specs.declared.rows.ClientRow.{ClientRow}
 use Rattle.drf_rows.specs.declared.rows.FrameworkRow.{FrameworkRow}
@@ -156,9 +156,10 @@ registered-push fs f client known =
     list_any-append test fs (f ∷ []) ∙ or_left (list_any test fs) (list_any test (f ∷ [])) known
 
 pub IsConsistent-framework_added : (rows : Rows) (f : FrameworkRow)
-    → IsConsistent rows → has_framework rows f.name ≡ false → are_distinct_roles (map (λ c. c.role) f.clients) ≡ true
+    → IsConsistent rows → has_framework rows f.name ≡ false → IsFramework f
+    → are_distinct_roles (map (λ c. c.role) f.clients) ≡ true
     → AllByRecursion (λ c. c.count ≡ 0) f.clients → IsConsistent (framework_added rows f)
-IsConsistent-framework_added rows f consistent new apart none =
+IsConsistent-framework_added rows f consistent new valid apart none =
     let frameworks : List FrameworkRow = rows.frameworks ++ f ∷ [] in
     let stays : (h : Holding) → IsHeld rows.agents rows.frameworks h → IsHeld rows.agents frameworks h = λ h here. record {
       agent = here.agent;
@@ -172,6 +173,7 @@ IsConsistent-framework_added rows f consistent new apart none =
         roles =
             each_append (λ f. are_distinct_roles (map (λ c. c.role) f.clients) ≡ true) rows.frameworks (f ∷ [])
             consistent.frameworks.roles (apart, tt);
+        each = each_append IsFramework rows.frameworks (f ∷ []) consistent.frameworks.each (valid, tt);
       };
       holdings =
           each_from (IsHeld rows.agents rows.frameworks) (IsHeld rows.agents frameworks)
@@ -197,12 +199,12 @@ IsConsistent-framework_added rows f consistent new apart none =
 pub IsConsistent-opening : IsConsistent opening
 IsConsistent-opening = record {
   agents = record { names = refl; each = tt };
-  frameworks = record { names = refl; roles = tt };
+  frameworks = record { names = refl; roles = tt; each = tt };
   holdings = tt;
   covered = tt;
   tasks = refl;
-  weights = refl;
-  limits = record { roles = refl; each = refl };
+  weights = record { roles = refl; each = refl; valid = tt };
+  limits = record { roles = refl; each = refl; valid = tt };
   filters = tt;
   early = omega arith;
   counted = omega arith;

@@ -114,11 +114,16 @@ module _ (client : Client) (suppressed : Bool) where
 pub suppression_is_its_clients : SuppressionIsItsClients
 unfolding effect
 suppression_is_its_clients rows client = (
-  all_each (passes is_itself client) (suppressed_in client true) rows.frameworks (own_framework client is_itself true refl),
-  all_each (passes not client) (suppressed_in client false) rows.frameworks (own_framework client not false refl),
-  frameworks_unnoticed client true rows.frameworks,
-  frameworks_unnoticed client false rows.frameworks,
-  refl,
-  refl,
-  λ other differ. (others_as_before client true other differ rows.frameworks, others_as_before client false other differ rows.frameworks),
+  record {
+    client_suppressed = all_each (passes is_itself client) (suppressed_in client true) rows.frameworks (own_framework client is_itself true refl);
+    others_as_before = λ other differ. others_as_before client true other differ rows.frameworks;
+    nothing_else_there = frameworks_unnoticed client true rows.frameworks;
+    only_frameworks = refl;
+  },
+  record {
+    client_served = all_each (passes not client) (suppressed_in client false) rows.frameworks (own_framework client not false refl);
+    others_as_before = λ other differ. others_as_before client false other differ rows.frameworks;
+    nothing_else_there = frameworks_unnoticed client false rows.frameworks;
+    only_frameworks_and_filters = refl;
+  },
 )

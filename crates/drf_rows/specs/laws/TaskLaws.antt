@@ -14,7 +14,8 @@ use Rattle.drf_bundle.specs.laws.BundleLaws.{bundle-empty, bundle_laws, covers_e
 use Rattle.drf_bundle.specs.laws.FitLaws.{fits_less, join_some, join_fits, zero_or_some}
 use Rattle.drf_bundle.specs.laws.KeyLaws.{where-cons, units_other, cases_same, units_found, units_at}
 use Rattle.drf_bundle.specs.laws.RestLaws.{covered_units, covers_units}
-use Rattle.drf_bundle.specs.Taken.{joined, units_of_all, rest_of_all, joined-rest_of_all, bundle-rest_of_all, sum-joined, units-adds_up, stock-adds_up}
+use Rattle.drf_bundle.specs.Taken.{joined, units_of_all, rest_of_all}
+use Rattle.drf_bundle.specs.laws.TakenLaws.{joined-rest_of_all, bundle-rest_of_all, sum-joined, units-adds_up, stock-adds_up}
 use Rattle.drf_bundle.specs.declared.resource.Resource.{Resource}
 use Rattle.drf_bundle.specs.declared.value.Value.{Value}
 use Rattle.drf_rows.specs.Offers.{is_empty}

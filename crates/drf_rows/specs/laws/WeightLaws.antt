@@ -1,11 +1,12 @@
 -- What an event that sets a weight changes: the weight of its role, and no other. Weights stay in their range.
 use Rattle.std.specs.Prelude.{◌≡◌, ℕ, ◌+◌, ◌≤◌, Bool, true, false, not, nat_le, IsTrue, List, [], ◌∷◌, map, Option, Some, None}
-use Rattle.std.specs.List.{find}
+use Rattle.std.specs.List.{find, AllByRecursion}
 use Rattle.std.specs.Option.{option_map_or}
 use Rattle.std.proofs.Common.{refl, sym, ap, subst, ◌∙◌, inl, inr, arith}
 use Rattle.std.proofs.lemmas.Bool.{cases_Bool, and_parts, and_from, leb-true}
 use Rattle.drf_role.specs.Path.{Path, same_path}
 use Rattle.drf_role.specs.PathLaws.{same_path_itself, same_path-true}
+use Rattle.drf_role.specs.Role.{IsRole}
 use Rattle.drf_rows.specs.Held.{weight_of}
 use Rattle.drf_rows.specs.Weights.{is_weight, are_weights, weights_with}
 use Rattle.drf_rows.specs.LimitNumbers.{LimitNumbers}
@@ -44,9 +45,7 @@ OthersKeepTheirWeight =
 -- no role gets a second row
 abbrev pub EachHasOneRow : Type 0
 EachHasOneRow =
-    (rows : Rows) (role : Path) (weight : ℕ)
-    → are_distinct_roles (weighed_roles rows) ≡ true
-    → are_distinct_roles (weighed_roles (after rows role weight)) ≡ true
+    (rows : Rows) (role : Path) (weight : ℕ) → IsConsistent rows → are_distinct_roles (weighed_roles (after rows role weight)) ≡ true
 
 -- and so in no run from the start has a role two
 abbrev pub NoRoleHasTwoRows : Type 0
@@ -152,15 +151,28 @@ module _ (role : Path) (weight : ℕ) where
             (and_from (is_weight w.weight) (are_weights (weights_with ws role weight)) parts.0 (are_weights-with ws right parts.1))
       ]
 
-pub IsConsistent-weight_set : (rows : Rows) (role : Path) (weight : ℕ) → is_weight weight ≡ true → IsConsistent rows
+  -- a valid role joins those that are
+  valid-with : IsRole role → (ws : List WeightRow) → AllByRecursion (λ w. IsRole w.role) ws
+      → AllByRecursion (λ w. IsRole w.role) (weights_with ws role weight)
+  valid-with right [] all = (right, tt)
+  valid-with right (w ∷ ws) all = elim (cases_Bool (same_path w.role role)) [
+    | inl here ↦ rw here all
+    | inr past ↦ rw past (all.0, valid-with right ws all.1)
+  ]
+
+pub IsConsistent-weight_set : (rows : Rows) (role : Path) (weight : ℕ) → is_weight weight ≡ true → IsRole role → IsConsistent rows
     → IsConsistent (record rows { weights = weights_with rows.weights role weight })
-IsConsistent-weight_set rows role weight right consistent = record {
+IsConsistent-weight_set rows role weight right valid consistent = record {
   agents = consistent.agents;
   frameworks = consistent.frameworks;
   holdings = consistent.holdings;
   covered = consistent.covered;
   tasks = consistent.tasks;
-  weights = are_weights-with role weight rows.weights right consistent.weights;
+  weights = record {
+    roles = distinct-with role weight rows.weights consistent.weights.roles;
+    each = are_weights-with role weight rows.weights right consistent.weights.each;
+    valid = valid-with role weight valid rows.weights consistent.weights.valid;
+  };
   limits = consistent.limits;
   filters = consistent.filters;
   early = consistent.early;
@@ -178,7 +190,7 @@ others_keep_their_weight rows role weight node other = weight_of-other role weig
 
 pub each_has_one_row : EachHasOneRow
 unfolding effect
-each_has_one_row rows role weight apart = distinct-with role weight rows.weights apart
+each_has_one_row rows role weight consistent = distinct-with role weight rows.weights consistent.weights.roles
 
 -- ---- a run
 
@@ -214,7 +226,7 @@ rows_stay_apart rows (Unreserve agent role resources) apart = apart
 rows_stay_apart rows (SetWeight role weight) apart = distinct-with role weight rows.weights apart
 rows_stay_apart rows (SetLimit role limit) apart = apart
 rows_stay_apart rows (Cycle at) apart =
-    ap (λ (r : Rows). are_distinct_roles (weighed_roles r)) (cycle_only_offers rows at).0 ∙ apart
+    ap (λ (r : Rows). are_distinct_roles (weighed_roles r)) (cycle_only_offers rows at).rest ∙ apart
 rows_stay_apart rows Report apart = apart
 
 step_apart : (limits : LimitNumbers) (rows : Rows) (event : Event) → are_distinct_roles (weighed_roles rows) ≡ true

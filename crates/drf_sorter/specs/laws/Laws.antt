@@ -1,16 +1,15 @@
 -- What is proved of shares and of the order of clients.
 use Rattle.std.specs.Prelude.{◌≡◌, ◌<◌, ◌≤◌, ◌^◌, ℕ, Bool, List, [], ◌∷◌, ◌++◌, IsTrue, codes}
-use Rattle.std.specs.List.{AllByRecursion}
 use Rattle.std.specs.List.Sorted.{IsPermutation}
 use Rattle.std.specs.Ordering.{nat_cmp}
 use Rattle.drf_bundle.specs.Quantities.{amount_of}
 use Rattle.drf_bundle.specs.declared.quantities.Entry.{Entry}
 use Rattle.drf_role.specs.Path.{Path, client_path}
-use Rattle.drf_role.specs.Role.{IsRole}
 use Rattle.drf_role.specs.Text.{Text, text_below}
+use Rattle.drf_rows.specs.Consistent.{IsConsistent}
 use Rattle.drf_rows.specs.Held.{weight_of}
 use Rattle.drf_rows.specs.Share.{Fraction, Standing, IsLowest, is_less, is_same, lowest_terms, stands_before, weighted_share_of}
-use Rattle.drf_rows.specs.declared.rows.WeightRow.{WeightRow}
+use Rattle.drf_rows.specs.declared.rows.Rows.{Rows}
 use Rattle.drf_sorter.specs.Content.{Content, IsOrderOf, activated, charged, discharged, standing_in, with_change, with_weight}
 use Rattle.drf_sorter.specs.Share.{cross_product, share_cmp}
 use Rattle.drf_sorter.specs.declared.share.Share.{Share}
@@ -72,9 +71,9 @@ HeavierHasLess =
 -- `.` and a framework have no weight of their own, since no component of a role is `.`
 abbrev pub ClientsHaveDefaultWeight : Type 0
 ClientsHaveDefaultWeight =
-    (weights : List WeightRow) (role : Path) (framework : Text)
-    → AllByRecursion (λ w. IsRole w.role) weights
-    → (weight_of weights (role ++ codes "." ∷ []) ≡ 1000) × (weight_of weights (client_path role framework) ≡ 1000)
+    (rows : Rows) (role : Path) (framework : Text)
+    → IsConsistent rows
+    → (weight_of rows.weights (role ++ codes "." ∷ []) ≡ 1000) × (weight_of rows.weights (client_path role framework) ≡ 1000)
 
 -- a charge that is taken back leaves all as it was
 abbrev pub UndoneChargeChangesNothing : Type 0

@@ -1,10 +1,17 @@
 use Rattle.std.proofs.Common.{List, set, sym, ap, ◌∙◌, subst}
 use Rattle.drf_bundle.specs.Bundle.{key_of, with_value}
-use Rattle.drf_bundle.specs.Places.{IsKeyAt, IsKeyGap}
+use Rattle.drf_bundle.specs.KeyPlaces.{IsKeyAt, IsKeyGap}
 use Rattle.drf_bundle.specs.declared.resource.Resource.{Resource}
 use Rattle.drf_bundle.specs.declared.value.Value.{Value}
-use Rattle.drf_bundle.proofs.SearchLemmas.{merged_at}
+use Rattle.drf_bundle.proofs.SearchLemmas.{merged_at, small_at}
 use Rattle.drf_bundle.proofs.union.put.Goals as goal
+
+pub unite-requires : goal.unite-requires
+unite-requires c =
+    let rs = c.args.resources.now.items in
+    let r = c.args.resource in
+    let at : IsKeyAt rs (key_of r) c.in-Ok.at = subst (λ (l : List Resource). IsKeyAt l (key_of r) c.in-Ok.at) c.deref.ensures.value c.in-Ok.ensures.found in
+    small_at rs c.args.sums.now r c.index_mut-had.result.now c.in-Ok.at c.requires.kept at c.index_mut-had.ensures.value c.requires.fits
 
 pub returns-in_ok-add_scalar-in-Ok-clause-ok : goal.returns-in_ok-add_scalar-in-Ok-clause-ok
 returns-in_ok-add_scalar-in-Ok-clause-ok c =
@@ -12,7 +19,7 @@ returns-in_ok-add_scalar-in-Ok-clause-ok c =
     let r = c.args.resource in
     let had = c.index_mut-had.result.now in
     let at : IsKeyAt rs (key_of r) c.in-Ok.at = subst (λ (l : List Resource). IsKeyAt l (key_of r) c.in-Ok.at) c.deref.ensures.value c.in-Ok.ensures.found in (
-      ap (λ (v : Value). set rs c.in-Ok.at (with_value had v)) c.in_ok-value-in-Ok.ensures ∙ sym (merged_at rs r had c.in-Ok.at c.requires.in_order at c.index_mut-had.ensures.value),
+      ap (λ (v : Value). set rs c.in-Ok.at (with_value had v)) c.in_ok-value-in-Ok.ensures ∙ sym (merged_at rs r had c.in-Ok.at c.requires.kept.bundle.in_order at c.index_mut-had.ensures.value),
       c.in_ok-add_scalar-in-Ok.ensures.ok,
     )
 

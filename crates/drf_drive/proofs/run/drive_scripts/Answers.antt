@@ -15,4 +15,4 @@ returns-clause-driven g c =
       meant = meant;
       legal = subst (λ (journal : List Entry). IsLegal limits journal) same c.in_ok-journal.ensures.legal;
       shuffle = subst (λ (journal : List Entry). IsShuffleOf scripts journal) same c.in_ok-journal.ensures.shuffle;
-    }) c.write_journal.result _ _ c.write_journal.ensures.ok c.write_journal.ensures.err
+    }) c.write_journal-written.result _ _ c.write_journal-written.ensures.ok c.write_journal-written.ensures.err

@@ -1,7 +1,7 @@
 use Rattle.std.proofs.Common.{ℕ, List, Ok, Err, subst}
 use Rattle.std.specs.List.Sorted.{IsBinarySearchResult}
 use Rattle.std.specs.Ordering.{nat_cmp}
-use Rattle.drf_holdings.proofs.Places.{found_out, missing_out}
+use Rattle.drf_holdings.proofs.RisingLists.{found_out, missing_out}
 use Rattle.drf_holdings.proofs.index.take_out.Goals as goal
 
 pub returns-in-Ok : goal.returns-in-Ok

@@ -5,7 +5,7 @@ use Rattle.drf_holdings.specs.Listed.{task_serial, task_row, AreTasksListed, Are
 use Rattle.drf_holdings.specs.Rising.{IsRising}
 use Rattle.drf_holdings.specs.declared.tasks.Task.{Task}
 use Rattle.drf_holdings.proofs.Lists.{on_err}
-use Rattle.drf_holdings.proofs.Places.{rising_in}
+use Rattle.drf_holdings.proofs.RisingLists.{rising_in}
 use Rattle.drf_holdings.proofs.Removed.{unlisted}
 use Rattle.drf_holdings.proofs.Running.{kept_in}
 use Rattle.drf_holdings.proofs.tasks.put_task.Goals as goal

@@ -1,4 +1,4 @@
-use Rattle.drf_kinds.specs.Places.{is_kept}
+use Rattle.drf_kinds.specs.Sets.{is_kept}
 use Rattle.drf_kinds.proofs.Steps.{passes_both}
 use Rattle.drf_kinds.proofs.Found.{none_kept, found_start, found_on, found_begin, found_end}
 use Rattle.drf_kinds.proofs.sweep.combined.Goals as goal

@@ -1,6 +1,6 @@
 use Rattle.std.proofs.Common.{◌+◌, length}
 use Rattle.drf_kinds.specs.Intervals.{is_in}
-use Rattle.drf_kinds.specs.Places.{is_kept}
+use Rattle.drf_kinds.specs.Sets.{is_kept}
 use Rattle.drf_kinds.proofs.Found.{Found}
 use Rattle.drf_kinds.proofs.sweep.combined.Given as goal
 

@@ -1,6 +1,6 @@
 use Rattle.std.proofs.Common.{◌≡◌, true, false, arith}
 use Rattle.std.proofs.lemmas.Grind.{common_steps}
-use Rattle.drf_kinds.specs.Places.{is_met}
+use Rattle.drf_kinds.specs.Sets.{is_met}
 use Rattle.drf_kinds.proofs.Steps.{passes_both, unmet_start, unmet_step, met_at}
 use Rattle.drf_kinds.proofs.sweep.meets.Goals.{else-is_inside-via-then-is_inside+else-is_inside-inside, else-is_inside-via-else-is_inside}
 use Rattle.drf_kinds.proofs.sweep.meets.Goals as goal

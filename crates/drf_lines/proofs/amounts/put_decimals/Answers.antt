@@ -1,6 +1,6 @@
 use Rattle.std.proofs.Common.{sym, append-nil}
 use Rattle.std.proofs.lemmas.Result.{on_ok_weaker}
-use Rattle.drf_text.proofs.Decimals.{decimals_none, decimals_one, decimals_two, decimals_three}
+use Rattle.drf_text.specs.DecimalLaws.{decimals_none, decimals_one, decimals_two, decimals_three}
 use Rattle.drf_lines.proofs.ReplyTexts.{then}
 use Rattle.drf_lines.proofs.amounts.put_decimals.Goals as goal
 

@@ -1,4 +1,4 @@
-use Rattle.std.proofs.Common.{ℕ, List, [], ◌∷◌, ◌++◌, length, rules, sym, subst, ◌∙◌, arith}
+use Rattle.std.proofs.Common.{◌≡◌, ℕ, List, [], ◌∷◌, ◌++◌, length, rules, sym, subst, ◌∙◌, arith}
 use Rattle.std.specs.Vec.Iter.{into_iter_items}
 use Rattle.drf_rows.specs.declared.reply.Reply.{Reply}
 use Rattle.drf_master.specs.Scripts.{IsAsked, IsCallStop, IsThrough, IsJobFault}
@@ -6,19 +6,17 @@ use Rattle.drf_master.specs.declared.driving.DriveFault.{DriveFault}
 use Rattle.drf_master.proofs.Scripts.{less-of_split, through-starts, through-goes_on, through-count, stopped-at, whole-next}
 use Rattle.drf_master.proofs.driving.run_script.Goals as goal
 
-pub run_call-requires : goal.run_call-requires
-run_call-requires g c = let key = c.loop-event.invariant.1.0.key in search rules
-
 pub returns-in_err-reply : goal.returns-in_err-reply
 returns-in_err-reply g c =
     let at = c.loop-event in
     let asked = IsAsked (g.G.Gate.lets c.args.gate.now) (g.G.Gate.sees c.args.gate.now) c.args.job.worker in
     let stops = g.G.Gate.stops c.args.gate.now c.args.job.worker in
     let fault : DriveFault = c.in_err-reply.field-0.0 in
+    let own : c.args.job.pass.key ≡ c.args.master.now.key = search rules in
     let few = less-of_split c.args.job.script.items at.yielded (into_iter_items at.event-iterator) (into_iter_items c.next.new.self) c.in-Some.event at.invariant.0 c.in-Some.ensures.steps.0 in
     let stopped : IsJobFault asked stops (length c.args.job.script.items) fault =
-    stopped-at asked stops c.args.job.pass at.pass c.args.job.script.items at.yielded at.replies.items fault at.invariant.1.0 few
-    (subst (λ (n : ℕ). IsCallStop (stops n) fault) (c.len-call.ensures ∙ at.replies.ok.0) c.in_err-reply.ensures.fault) in
+    stopped-at asked stops c.args.master.now.key c.args.job.pass at.pass c.args.job.script.items at.yielded at.replies.items fault own at.invariant.1.0 few
+    (subst (λ (n : ℕ). IsCallStop (stops n) c.args.master.now.key at.pass fault) (c.len-call.ensures ∙ at.replies.ok.0) c.in_err-reply.ensures.fault) in
     search rules
 
 pub push_reserved-requires : goal.push_reserved-requires

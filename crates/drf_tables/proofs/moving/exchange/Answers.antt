@@ -28,8 +28,8 @@ exchanged-requires c =
     (each_at (λ e. same_text e.0 name ≡ true → CanExchangeAt c.args.old.now c.args.new.now e.1) entries place (key.key, v) c.requires.can key.at
     (ap (λ (t : Text). same_text t name) named ∙ same_itself name)).total
 
-pub exchanged_free-requires : goal.exchanged_free-requires
-exchanged_free-requires c =
+pub exchanged_free-requires-clause-can : goal.exchanged_free-requires-clause-can
+exchanged_free-requires-clause-can c =
     let entries = c.args.agents.now.entries in
     let place = c.in-Some.place in
     let v = c.index-agent.result.now in

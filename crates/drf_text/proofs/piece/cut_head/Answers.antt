@@ -1,7 +1,7 @@
-use Rattle.std.proofs.Common.{lit<, sym, subst, Result, Option}
+use Rattle.std.proofs.Common.{lit<, refl, sym, subst, Result, Option}
 use Rattle.std.proofs.lemmas.Str.Pattern.{split_once_first, strip_suffix_char}
 use Rattle.drf_role.specs.Text.{Text}
-use Rattle.drf_text.specs.Faults.{IsReadAs}
+use Rattle.drf_text.specs.Faults.{IsCutAs}
 use Rattle.drf_text.specs.Steps.{view_head}
 use Rattle.drf_text.specs.declared.fault.TextFault.{TextFault}
 use Rattle.drf_text.proofs.Cuts.{head_without_role, head_with_role, head_open}
@@ -10,7 +10,7 @@ use Rattle.drf_text.proofs.piece.cut_head.Goals as goal
 pub returns-in-None : goal.returns-in-None
 returns-in-None c =
     let split = split_once_first 40 c.args.head.now c.split_once.result c.split_once.ensures.cases (lit< tt) in
-    subst (λ (meaning : Result (Text × Option Text) TextFault). IsReadAs view_head c.cut_plain_head.result meaning)
+    subst (λ (meaning : Result (Text × Option Text) TextFault). IsCutAs view_head c.cut_plain_head.result meaning)
     (sym (head_without_role c.args.head.now (rw c.in-None.is at split))) c.cut_plain_head.ensures
 
 pub returns-in-Some-strip_suffix : goal.returns-in-Some-strip_suffix
@@ -23,4 +23,4 @@ pub returns-in-None-strip_suffix : goal.returns-in-None-strip_suffix
 returns-in-None-strip_suffix c =
     let split = rw c.in-Some.is at (split_once_first 40 c.args.head.now c.split_once.result c.split_once.ensures.cases (lit< tt)) in
     let open_end = rw c.in-None-strip_suffix.is at (strip_suffix_char 41 c.in-Some.rest.now c.strip_suffix.result c.strip_suffix.ensures.cases (lit< tt)) in
-    λ _. head_open c.args.head.now c.in-Some.rest.now split.0 split.2 open_end
+    (refl, head_open c.args.head.now c.in-Some.rest.now split.0 split.2 open_end)

@@ -5,6 +5,7 @@ use Rattle.drf_text.specs.Faults.{IsTold}
 use Rattle.drf_text.specs.Steps.{◌>>=◌, put_said, bundle_step}
 use Rattle.drf_text.specs.declared.fault.TextFault.{TextFault}
 use Rattle.drf_text.specs.declared.said.Said.{Said}
+use Rattle.drf_text.proofs.Named.{said_named}
 use Rattle.drf_text.proofs.Together.{bundle_step_blank, bundle_step_piece}
 use Rattle.drf_text.proofs.read.add_piece.Goals as goal
 use Rattle.drf_text.proofs.read.add_piece.Goals.{In_ok-said}
@@ -18,13 +19,13 @@ returns-in_err-said-clause-fault c =
     let p = err_from_is_err_and c.from_residual.result c.from_residual.ensures.1 in
     rw (p.1, p.2) (λ known.
     bundle_step_piece c.args.text.now c.trim-piece.result.now c.args.bundle.now c.trim-piece.ensures (grind (arith, nat_tests))
-    ∙ ap (λ (r : Result Said TextFault). r >>= put_said c.args.bundle.now) (c.in_err-said.ensures known))
+    ∙ ap (λ (r : Result Said TextFault). r >>= put_said c.args.bundle.now) (c.in_err-said.ensures.read known))
 
 -- what the piece says is put to what there is
 step : (c : In_ok-said) → bundle_step c.args.text.now c.args.bundle.now ≡ put_said c.args.bundle.now c.in_ok-said.said
 step c =
     bundle_step_piece c.args.text.now c.trim-piece.result.now c.args.bundle.now c.trim-piece.ensures (grind (arith, nat_tests))
-    ∙ ap (λ (r : Result Said TextFault). r >>= put_said c.args.bundle.now) c.in_ok-said.ensures
+    ∙ ap (λ (r : Result Said TextFault). r >>= put_said c.args.bundle.now) c.in_ok-said.ensures.read
 
 pub returns-clause-ok : goal.returns-clause-ok
 returns-clause-ok c = on_ok_weaker c.put_said.result (λ put. step (goal.at.returns-clause-ok c).In_ok-said ∙ put) c.put_said.ensures.ok
@@ -33,3 +34,6 @@ pub returns-clause-fault : goal.returns-clause-fault
 returns-clause-fault c =
     IfErr-weaker c.put_said.result (IsTold (put_said c.args.bundle.now c.in_ok-said.said)) (IsTold (bundle_step c.args.text.now c.args.bundle.now))
     (λ fault told known. step (goal.at.returns-clause-fault c).In_ok-said ∙ told known) c.put_said.ensures.fault
+
+pub returns-clause-memory : goal.returns-clause-memory
+returns-clause-memory c = λ _. rw (← c.trim-piece.ensures) (said_named c.trim-piece.result.now c.in_ok-said.said c.in_ok-said.ensures.read)

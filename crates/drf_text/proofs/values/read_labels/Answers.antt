@@ -33,12 +33,12 @@ returns-in_err-read_label c =
     let p = err_from_is_err_and c.from_residual.result c.from_residual.ensures.1 in
     let some : list_all is_blank c.args.text.now ≡ false = sym c.is_blank.ensures ∙ c.if-is_blank.false in
     rw (p.1, p.2, some, each_of-map) (λ known.
-    sym (left (goal.at.returns-in_err-read_label c).In-Some) ∙ each_after-fault step c.loop-part.labels.items c.in-Some.part.now (drop (length c.loop-part.yielded + 1) (slice_split (λ b. eqb b 44) c.args.text.now)) c.in_err-read_label.field-0.0 (rw c.trim.ensures at (c.in_err-read_label.ensures known)))
+    sym (left (goal.at.returns-in_err-read_label c).In-Some) ∙ each_after-fault step c.loop-part.labels.items c.in-Some.part.now (drop (length c.loop-part.yielded + 1) (slice_split (λ b. eqb b 44) c.args.text.now)) c.in_err-read_label.field-0.0 (rw c.trim.ensures at (c.in_err-read_label.ensures.read known)))
 
 pub loop-part-preserved : goal.loop-part-preserved
 loop-part-preserved c =
     rw (c.in_ok-push.ensures.items, length_push)
-    (sym (each_after-more step c.loop-part.labels.items c.in-Some.part.now (drop (length c.loop-part.yielded + 1) (slice_split (λ b. eqb b 44) c.args.text.now)) c.in_ok-read_label.field-0 (rw c.trim.ensures at c.in_ok-read_label.ensures)) ∙ left (goal.at.loop-part-preserved c).In-Some)
+    (sym (each_after-more step c.loop-part.labels.items c.in-Some.part.now (drop (length c.loop-part.yielded + 1) (slice_split (λ b. eqb b 44) c.args.text.now)) c.in_ok-read_label.field-0 (rw c.trim.ensures at c.in_ok-read_label.ensures.read)) ∙ left (goal.at.loop-part-preserved c).In-Some)
 
 pub returns : goal.returns
 returns c =

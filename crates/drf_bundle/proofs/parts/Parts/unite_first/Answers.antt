@@ -4,7 +4,7 @@ use Rattle.drf_bundle.specs.Value.{Thousandths}
 use Rattle.drf_bundle.specs.laws.ValueLaws.{units-most}
 use Rattle.drf_bundle.specs.Bundle.{key_of, stock, merged}
 use Rattle.drf_bundle.specs.Quantities.{amount_of}
-use Rattle.drf_bundle.specs.Places.{IsNameGap}
+use Rattle.drf_bundle.specs.KeyPlaces.{IsNameGap}
 use Rattle.drf_bundle.specs.laws.SumLaws.{amount-kept}
 use Rattle.drf_bundle.specs.Union.{IsPiece, union_refusal}
 use Rattle.drf_bundle.specs.laws.UnionLaws.{union_empty, union_filled, some_in, kept-merged}

@@ -8,8 +8,8 @@ use Rattle.drf_core.specs.Working.{losers, nodes_of}
 use Rattle.drf_core.proofs.cluster.Cluster.end.Given as goal
 
 -- what ended was given back, and the rest is still to end
-abbrev pub invariant-loop-held : goal.invariant-loop-held
-invariant-loop-held g l = record {
+abbrev pub invariant-loop-taken : goal.invariant-loop-taken
+invariant-loop-taken g l = record {
   sorted : g.S.Sorter.content l.self-inside.sorter ≡ content_of l.self-inside.tables.rows;
   work : IsTrue g.S.Sorter.COUNTED → debt (g.S.Sorter.work l.self-inside.sorter) + nodes_of (losers l.self-inside.tables.rows (ending_of l.ending))
       ≤ debt (g.S.Sorter.work l.initial.self-inside.sorter) + nodes_of (losers l.initial.self-inside.tables.rows (ending_of l.ending));
@@ -17,5 +17,5 @@ invariant-loop-held g l = record {
   made : (g.S.Sorter.work l.self-inside.sorter).made ≡ (g.S.Sorter.work l.initial.self-inside.sorter).made;
 }
 
-abbrev pub decreases-loop-held : goal.decreases-loop-held
-decreases-loop-held g l = left_to_end l.self-inside.tables.rows (ending_of l.ending)
+abbrev pub decreases-loop-taken : goal.decreases-loop-taken
+decreases-loop-taken g l = left_to_end l.self-inside.tables.rows (ending_of l.ending)

@@ -5,7 +5,7 @@ use Rattle.drf_holdings.specs.Rising.{IsRising}
 use Rattle.drf_rows.specs.declared.rows.OfferRow.{OfferRow}
 use Rattle.drf_holdings.proofs.Lists.{on_err}
 use Rattle.drf_holdings.proofs.Numbered.{listed_in, listed_out}
-use Rattle.drf_holdings.proofs.Places.{rising_some, others_split}
+use Rattle.drf_holdings.proofs.RisingLists.{rising_some, others_split}
 use Rattle.drf_holdings.proofs.offers.OfferIndex.add.Goals as goal
 
 pub returns-in_err-add-clause-err : goal.returns-in_err-add-clause-err

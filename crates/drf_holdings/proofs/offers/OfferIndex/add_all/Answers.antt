@@ -3,7 +3,7 @@ use Rattle.std.proofs.lemmas.List.{take_all, take_more, take-append-drop}
 use Rattle.drf_rows.specs.declared.rows.OfferRow.{OfferRow}
 use Rattle.drf_holdings.specs.Listed.{offer_number, AreOffersListed, AreOffersKept}
 use Rattle.drf_holdings.specs.Rising.{IsRising}
-use Rattle.drf_holdings.proofs.Places.{rising_front}
+use Rattle.drf_holdings.proofs.RisingLists.{rising_front}
 use Rattle.drf_holdings.proofs.offers.OfferIndex.add_all.Goals as goal
 
 pub loop-place-preserved : goal.loop-place-preserved

@@ -2,7 +2,7 @@ use Rattle.std.proofs.Common.{◌∷◌, ◌++◌, sym, subst}
 use Rattle.drf_holdings.specs.Listed.{numbers_in, offer_number, offer_on, offer_of}
 use Rattle.drf_holdings.specs.Rising.{IsRising}
 use Rattle.drf_holdings.proofs.Numbered.{listed_out}
-use Rattle.drf_holdings.proofs.Places.{rising_some, others_split}
+use Rattle.drf_holdings.proofs.RisingLists.{rising_some, others_split}
 use Rattle.drf_holdings.proofs.offers.OfferIndex.remove.Goals as goal
 
 pub returns : goal.returns

@@ -2,7 +2,7 @@ use Rattle.std.proofs.Common.{◌≡◌, ◌+◌, ◌∷◌, ◌++◌, List, dro
 use Rattle.std.proofs.lemmas.List.{append-nil, drop_all}
 use Rattle.drf_rows.specs.declared.rows.OfferRow.{OfferRow}
 use Rattle.drf_holdings.specs.Listed.{offer_number, AreOffersListed, AreOffersKept}
-use Rattle.drf_holdings.proofs.Places.{rising_out}
+use Rattle.drf_holdings.proofs.RisingLists.{rising_out}
 use Rattle.drf_holdings.proofs.offers.OfferIndex.remove_all.Goals as goal
 
 pub loop-offer-preserved : goal.loop-offer-preserved

@@ -2,7 +2,7 @@ use Rattle.std.proofs.Common.{◌≡◌, ◌∷◌, [], ◌++◌, List, map, sym
 use Rattle.drf_rows.specs.declared.rows.OfferRow.{OfferRow}
 use Rattle.drf_holdings.specs.Listed.{offer_number, AreOffersKept}
 use Rattle.drf_holdings.specs.Rising.{IsRising}
-use Rattle.drf_holdings.proofs.Places.{rising_front}
+use Rattle.drf_holdings.proofs.RisingLists.{rising_front}
 use Rattle.drf_holdings.proofs.offers.OfferTable.copy.Goals as goal
 
 pub push-requires : goal.push-requires

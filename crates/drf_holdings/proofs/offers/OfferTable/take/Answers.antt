@@ -3,7 +3,7 @@ use Rattle.drf_rows.specs.declared.rows.OfferRow.{OfferRow}
 use Rattle.drf_holdings.specs.Listed.{offer_number, AreOffersListed, AreOffersKept}
 use Rattle.drf_holdings.specs.Rising.{IsRising}
 use Rattle.drf_holdings.specs.Taking.{IsTaken, HasNone}
-use Rattle.drf_holdings.proofs.Places.{rising_out}
+use Rattle.drf_holdings.proofs.RisingLists.{rising_out}
 use Rattle.drf_holdings.proofs.offers.OfferTable.take.Goals as goal
 
 pub invariant_of-self : goal.invariant_of-self

@@ -3,7 +3,7 @@ use Rattle.drf_holdings.specs.Listed.{numbers_in, serials_in, task_serial, task_
 use Rattle.drf_holdings.specs.Rising.{IsRising}
 use Rattle.drf_holdings.proofs.Named.{only_out, few_at}
 use Rattle.drf_holdings.proofs.Numbered.{listed_out}
-use Rattle.drf_holdings.proofs.Places.{rising_some, others_split}
+use Rattle.drf_holdings.proofs.RisingLists.{rising_some, others_split}
 use Rattle.drf_holdings.proofs.tasks.TaskIndex.remove.Goals as goal
 
 pub returns : goal.returns

@@ -2,7 +2,7 @@ use Rattle.std.proofs.Common.{refl, subst}
 use Rattle.std.specs.Cmp.Lexicographic.{nat_list_cmp_total}
 use Rattle.drf_role.specs.Name.{IsLabel}
 use Rattle.drf_kinds.specs.Names.{IsLabelSet}
-use Rattle.drf_kinds.specs.Places.{is_kept}
+use Rattle.drf_kinds.specs.Sets.{is_kept}
 use Rattle.drf_kinds.proofs.Answered.{kept_answer}
 use Rattle.drf_kinds.proofs.Names.{IsLabelSet-kept, contains-names, contains-view, texts_same}
 use Rattle.drf_kinds.proofs.items.Items.combined.Goals as goal

@@ -1,7 +1,7 @@
 use Rattle.std.proofs.Common.{◌<◌, ◌^◌, refl, sym}
 use Rattle.std.specs.Cmp.{nat_cmp_total}
 use Rattle.std.specs.FinSet as set
-use Rattle.drf_kinds.specs.Places.{is_kept}
+use Rattle.drf_kinds.specs.Sets.{is_kept}
 use Rattle.drf_kinds.proofs.Answered.{kept_answer}
 use Rattle.drf_kinds.proofs.Members.{contains-view}
 use Rattle.drf_kinds.proofs.ranges.Ranges.combined.Goals as goal

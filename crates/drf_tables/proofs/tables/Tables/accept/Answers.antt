@@ -1,108 +1,70 @@
-use Rattle.std.proofs.Common.{◌≡◌, ◌==◌, Bool, List, [], ◌∷◌, Some, Option, map, sym, ap, ◌∙◌, subst}
-use Rattle.std.specs.Option.{option_map_or}
-use Rattle.drf_role.specs.Path.{client_path}
-use Rattle.drf_rows.specs.laws.EndingLaws.{new_starts}
-use Rattle.drf_rows.specs.Consistent.{IsFilter}
-use Rattle.drf_rows.specs.Offers.{CanAccept, left_of_offer, offer_at, task_of, AreNew}
-use Rattle.drf_rows.specs.declared.rows.FilterRow.{FilterRow}
-use Rattle.drf_rows.specs.declared.rows.LimitRow.{LimitRow}
+use Rattle.std.proofs.Common.{◌≡◌, Some, sym, ap, subst, ◌∙◌, nat_lt}
+use Rattle.std.specs.Prelude.{◌&&◌, max, not, option_copied}
+use Rattle.drf_rows.specs.Consistent.{IsConsistent}
+use Rattle.drf_rows.specs.Cycle.{at_moment}
+use Rattle.drf_rows.specs.Offers.{offer_accepted, filter_of, is_empty, left_of_offer, offer_at, filtered_until, filters_rest}
 use Rattle.drf_rows.specs.declared.rows.OfferRow.{OfferRow}
 use Rattle.drf_rows.specs.declared.rows.Rows.{Rows}
-use Rattle.drf_bundle.specs.declared.resource.Resource.{Resource}
-use Rattle.drf_tables.specs.Changing.{HasFreed}
-use Rattle.drf_tables.specs.Ended.{with_accepted}
-use Rattle.drf_tables.specs.Inside.{CountsIf, AreDerived, rows_of, rows_in}
+use Rattle.drf_laws.specs.laws.Offers.{moment_early, same_offer}
+use Rattle.drf_tables.specs.Ended.{filter_if}
+use Rattle.drf_tables.specs.Inside.{rows_of}
 use Rattle.drf_tables.specs.Stored.{Stored}
-use Rattle.drf_tables.proofs.Ended.{found_any, accepted-rows, accepted-kept}
-use Rattle.drf_tables.proofs.Recounted.{accept_fits, counts-accepted}
+use Rattle.drf_tables.proofs.Accepted.{accept_filter, rows_accepted}
 use Rattle.drf_tables.proofs.tables.Tables.accept.Goals as goal
 
-pub start-requires-clause-there : goal.start-requires-clause-there
-unfolding rows_of
-start-requires-clause-there c =
-    let t = c.self.inside in
-    let test : OfferRow → Bool = λ o. o.number == c.args.number in
-    let can : CanAccept (rows_in t) c.args.number c.args.tasks =
-    subst (λ (s : Stored). CanAccept s.rows c.args.number c.args.tasks) (sym c.self.view_is) c.requires.can in
-    found_any test t.holdings.offers can.offer can.at
+pub start-requires-clause-bundles : goal.start-requires-clause-bundles
+start-requires-clause-bundles c = c.as_slice.ensures.right.bundles
 
-pub start-requires-clause-new : goal.start-requires-clause-new
+pub start-requires-clause-filter : goal.start-requires-clause-filter
 unfolding rows_of
-start-requires-clause-new c = λ o found.
-    let t = c.self.inside in
-    let can : CanAccept (rows_in t) c.args.number c.args.tasks =
-    subst (λ (s : Stored). CanAccept s.rows c.args.number c.args.tasks) (sym c.self.view_is) c.requires.can in
-    let both : ◌≡◌ {A = Option OfferRow} (Some o) (Some can.offer) = sym found ∙ can.at in
-    let same : o ≡ can.offer = cc in
-    subst (λ (p : OfferRow). AreNew t.holdings.tasks (map (task_of p) c.args.tasks)) (sym same) (new_starts (rows_in t) can.offer c.args.tasks can.can)
+start-requires-clause-filter c =
+    let rows : Rows = c.args.self.now.rows in
+    let a = c.args.accept in
+    let o : OfferRow = c.unwrap-offer.result.now in
+    let found : offer_at rows a.offer ≡ Some o = sym c.offer.ensures ∙ ap option_copied c.unwrap-offer.ensures in
+    let consistent : IsConsistent rows = subst (λ (s : Stored). IsConsistent s.rows) c.self.view_is c.self.invariant.kept.consistent in
+    let rest_is : c.in_ok-rest.rest ≡ left_of_offer o a.tasks = c.in_ok-rest.ensures in
+    let later : c.max-moment.result ≡ max rows.clock a.at = c.max-moment.ensures ∙ ap (λ (s : Stored). max s.rows.clock a.at) c.self.view_is in
+    let told : c.in_ok-filter.filter
+    ≡ filter_if (filters_rest o a.tasks a.refuse_ms) (filter_of o (left_of_offer o a.tasks) (filtered_until c.max-moment.result a.refuse_ms))
+    = c.in_ok-filter.ensures
+    ∙ (λ i. filter_if (nat_lt 0 a.refuse_ms && not (is_empty (rest_is i))) (filter_of o (rest_is i) (filtered_until c.max-moment.result a.refuse_ms))) in
+    accept_filter rows a.offer a.tasks o c.in_ok-filter.filter (filters_rest o a.tasks a.refuse_ms) c.max-moment.result a.refuse_ms consistent found
+    (moment_early rows a.at c.max-moment.result consistent c.requires.early later) told
 
-pub release_held-requires : goal.release_held-requires
-unfolding rows_of
-release_held-requires c = λ is label.
-    let t = c.self.inside in
-    let number = c.args.number in
-    let can : CanAccept (rows_in t) number c.args.tasks =
-    subst (λ (s : Stored). CanAccept s.rows number c.args.tasks) (sym c.self.view_is) c.requires.can in
-    let rest : c.args.rest ≡ left_of_offer can.offer c.args.tasks =
-    c.requires.rest can.offer (sym (ap (λ (s : Stored). offer_at s.rows number) c.self.view_is) ∙ can.at) in
-    let both : ◌≡◌ {A = Option OfferRow} (Some c.in-Ok.offer) (Some can.offer) = sym c.in-Ok.ensures.ok.found ∙ can.at in
-    let same : c.in-Ok.offer ≡ can.offer = cc in
-    accept_fits t.is_counted (rows_in t) t.quota c.self.invariant.consumed number can.offer c.in-Ok.offer c.args.tasks c.args.rest
-    c.self.invariant.kept.consistent can.at c.requires.bundles can.can same rest is label
+pub start-requires-clause-rest : goal.start-requires-clause-rest
+start-requires-clause-rest c = λ p at.
+    let rows : Rows = c.args.self.now.rows in
+    let a = c.args.accept in
+    let o : OfferRow = c.unwrap-offer.result.now in
+    let found : offer_at rows a.offer ≡ Some o = sym c.offer.ensures ∙ ap option_copied c.unwrap-offer.ensures in
+    c.in_ok-rest.ensures ∙ ap (λ (x : OfferRow). left_of_offer x a.tasks) (same_offer rows a.offer o p found at)
 
-pub invariant_of-self-in-Ok : goal.invariant_of-self-in-Ok
+pub start-requires-clause-early : goal.start-requires-clause-early
 unfolding rows_of
-invariant_of-self-in-Ok c =
-    let t = c.self.inside in
-    let number = c.args.number in
-    let can : CanAccept (rows_in t) number c.args.tasks =
-    subst (λ (s : Stored). CanAccept s.rows number c.args.tasks) (sym c.self.view_is) c.requires.can in
-    let rest : c.args.rest ≡ left_of_offer can.offer c.args.tasks =
-    c.requires.rest can.offer (sym (ap (λ (s : Stored). offer_at s.rows number) c.self.view_is) ∙ can.at) in
-    let both : ◌≡◌ {A = Option OfferRow} (Some c.in-Ok.offer) (Some can.offer) = sym c.in-Ok.ensures.ok.found ∙ can.at in
-    let same : c.in-Ok.offer ≡ can.offer = cc in
-    let allowed = subst (λ (s : Stored). (f : FilterRow) → c.args.filter ≡ Some f → IsFilter s.rows.agents s.rows.frameworks f) (sym c.self.view_is) c.requires.filter in
-    let entries = c.give_back.new.agents.entries in
-    let held = c.start.new.self in
-    let filters = c.add_if.new.filters in
-    let after = c.release_held.new.quota in
-    let more : List FilterRow = option_map_or (λ f. f ∷ []) c.args.filter [] in
-    let rows : List LimitRow → Rows = λ limits.
-    rows_of entries t.frameworks.entries held filters t.weights.entries limits t.clock t.next_offer t.events in
-    let back = subst (λ (r : List Resource). HasFreed c.in-Ok.offer.agent r t.agents.entries entries) rest c.give_back.ensures in
-    let told = accepted-rows t entries held filters number c.args.tasks c.args.filter can.offer c.in-Ok.offer c.self.invariant.kept can.at
-    c.in-Ok.ensures.ok back c.in_ok-add_if.ensures.ok in
-    let counts : CountsIf t.is_counted (with_accepted (rows_in t) can.offer c.args.tasks c.args.filter) after =
-    counts-accepted t.is_counted (rows_in t) t.quota c.self.invariant.consumed number can.offer c.in-Ok.offer c.args.tasks c.args.rest
-    c.self.invariant.kept.consistent can.at c.requires.bundles can.can same rest more after c.release_held.ensures in
-    record {
-      kept = subst (λ (limits : List LimitRow). AreDerived (rows limits) entries t.total t.clients) c.release_held.ensures.limits
-          (accepted-kept t entries held filters number c.args.tasks c.args.filter
-          can.offer c.in-Ok.offer c.self.invariant.kept can.at c.in-Ok.ensures.ok back c.in_ok-add_if.ensures.ok
-          c.requires.bundles can.can allowed);
-      consumed = subst (λ (limits : List LimitRow). CountsIf t.is_counted (rows limits) after) c.release_held.ensures.limits
-          (subst (λ (r : Rows). CountsIf t.is_counted r after) (sym told) counts);
-    }
+start-requires-clause-early c =
+    let rows : Rows = c.args.self.now.rows in
+    let a = c.args.accept in
+    moment_early rows a.at c.max-moment.result
+    (subst (λ (s : Stored). IsConsistent s.rows) c.self.view_is c.self.invariant.kept.consistent) c.requires.early
+    (c.max-moment.ensures ∙ ap (λ (s : Stored). max s.rows.clock a.at) c.self.view_is)
 
-pub returns-in-Ok-clause-ok : goal.returns-in-Ok-clause-ok
-unfolding rows_of
-returns-in-Ok-clause-ok c = λ o at.
-    let t = c.self.inside in
-    let number = c.args.number in
-    let found : offer_at (rows_in t) number ≡ Some o = ap (λ (s : Stored). offer_at s.rows number) c.self.view_is ∙ at in
-    let entries = c.give_back.new.agents.entries in
-    let back = subst (λ (r : List Resource). HasFreed c.in-Ok.offer.agent r t.agents.entries entries) (c.requires.rest o at) c.give_back.ensures in
-    let rows : List LimitRow → Rows = λ limits.
-    rows_of entries t.frameworks.entries c.start.new.self c.add_if.new.filters t.weights.entries limits t.clock t.next_offer t.events in
-    ap rows (sym c.release_held.ensures.limits)
-    ∙ accepted-rows t entries c.start.new.self c.add_if.new.filters number c.args.tasks c.args.filter
-    o c.in-Ok.offer c.self.invariant.kept found c.in-Ok.ensures.ok back c.in_ok-add_if.ensures.ok
-    ∙ ap (λ (s : Stored). with_accepted s.rows o c.args.tasks c.args.filter) c.self.view_is
+pub returns-clause-bundles : goal.returns-clause-bundles
+returns-clause-bundles c = c.as_slice.ensures.right.bundles
 
-pub returns-in-Ok-clause-held : goal.returns-in-Ok-clause-held
+pub returns-clause-ok : goal.returns-clause-ok
 unfolding rows_of
-returns-in-Ok-clause-held c = λ o at.
-    let found : offer_at (rows_in c.self.inside) c.args.number ≡ Some o = ap (λ (s : Stored). offer_at s.rows c.args.number) c.self.view_is ∙ at in
-    let both : ◌≡◌ {A = Option OfferRow} (Some c.in-Ok.offer) (Some o) = sym c.in-Ok.ensures.ok.found ∙ found in
-    let same : c.in-Ok.offer ≡ o = cc in
-    (c.from_parts.ensures ∙ ap (λ (p : OfferRow). client_path p.role p.framework) same, c.requires.rest o at)
+returns-clause-ok c = λ p at.
+    let rows : Rows = c.args.self.now.rows in
+    let a = c.args.accept in
+    let o : OfferRow = c.unwrap-offer.result.now in
+    let found : offer_at rows a.offer ≡ Some o = sym c.offer.ensures ∙ ap option_copied c.unwrap-offer.ensures in
+    let rest_is : c.in_ok-rest.rest ≡ left_of_offer o a.tasks = c.in_ok-rest.ensures in
+    let later : c.max-moment.result ≡ max rows.clock a.at = c.max-moment.ensures ∙ ap (λ (s : Stored). max s.rows.clock a.at) c.self.view_is in
+    let told : c.in_ok-filter.filter
+    ≡ filter_if (filters_rest o a.tasks a.refuse_ms) (filter_of o (left_of_offer o a.tasks) (filtered_until c.max-moment.result a.refuse_ms))
+    = c.in_ok-filter.ensures
+    ∙ (λ i. filter_if (nat_lt 0 a.refuse_ms && not (is_empty (rest_is i))) (filter_of o (rest_is i) (filtered_until c.max-moment.result a.refuse_ms))) in
+    subst (λ (x : OfferRow). c.start.new.self.rows ≡ offer_accepted (at_moment rows a.at) x a.tasks a.refuse_ms) (same_offer rows a.offer o p found at)
+    (rows_accepted rows c.start.new.self.rows o a.tasks c.in_ok-filter.filter a.at c.max-moment.result a.refuse_ms later told
+    (c.in_ok-taken.ensures.ok o found))

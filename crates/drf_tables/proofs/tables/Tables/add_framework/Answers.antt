@@ -1,6 +1,9 @@
-use Rattle.std.proofs.Common.{◌≡◌, List, false, ap, ◌∙◌, refl}
+use Rattle.std.proofs.Common.{◌≡◌, List, map, false, ap, subst, ◌∙◌, refl}
+use Rattle.std.specs.List.{AllByRecursion}
 use Rattle.indexmap.specs.IndexMap.{insert_entry}
+use Rattle.drf_role.specs.Role.{IsRole}
 use Rattle.drf_role.specs.Text.{same_text}
+use Rattle.drf_rows.specs.Consistent.{IsFramework}
 use Rattle.drf_rows.specs.laws.RegistrationLaws.{framework_added}
 use Rattle.drf_rows.specs.Members.{has_framework}
 use Rattle.drf_rows.specs.declared.rows.ClientRow.{ClientRow}
@@ -21,6 +24,10 @@ invariant_of-self c =
     let f : FrameworkRow = record { name = name; clients = c.args.clients } in
     let new : has_framework (rows_in t) name ≡ false =
     ap (λ (s : Stored). has_framework s.rows name) c.self.view_is ∙ c.requires.new in
+    let valid : IsFramework f = record {
+      name = c.recall.ensures;
+      roles = subst (λ (clients : List ClientRow). AllByRecursion IsRole (map (λ x. x.role) clients)) c.as_slice.ensures c.recall_roles.ensures;
+    } in
     let inserted : c.insert.new.self.entries ≡ insert_entry same_text t.frameworks.entries name c.into_vec.result =
     from_ok c.insert.result c.unwrap.result _ c.unwrap.ensures c.insert.ensures.entries in
     let rows =
@@ -30,7 +37,7 @@ invariant_of-self c =
     record {
       kept = rw (rows, c.len.ensures) (
           AreDerived-framework_added (rows_in t) t.agents.entries t.total t.clients f
-          c.self.invariant.kept new c.requires.roles c.requires.uncounted
+          c.self.invariant.kept new valid c.requires.roles c.requires.uncounted
           );
       consumed = counts-same _ (rows_in c.self.inside) _ _ c.self.invariant.consumed refl refl (λ test label. refl);
     }

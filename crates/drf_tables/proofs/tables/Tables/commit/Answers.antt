@@ -5,7 +5,7 @@ use Rattle.drf_rows.specs.declared.rows.LimitRow.{LimitRow}
 use Rattle.drf_rows.specs.declared.rows.OfferRow.{OfferRow}
 use Rattle.drf_rows.specs.declared.rows.Rows.{Rows}
 use Rattle.drf_holdings.specs.Listed.{offer_number}
-use Rattle.drf_holdings.specs.Rising.{rising_from}
+use Rattle.drf_holdings.specs.RisingLaws.{rising_from}
 use Rattle.drf_tables.specs.Counting.{counting_all, first_number}
 use Rattle.drf_tables.specs.DraftLaws.{next-with_offers, offers-with_offers}
 use Rattle.drf_tables.specs.Drafts.{with_offers, frees_of, frees_after}

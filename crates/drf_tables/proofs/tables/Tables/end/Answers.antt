@@ -1,4 +1,4 @@
-use Rattle.std.proofs.Common.{◌≡◌, List, Some, None, sym, ap, ◌∙◌, subst, refl}
+use Rattle.std.proofs.Common.{◌≡◌, List, Some, None, sym, ap, ◌∙◌, subst}
 use Rattle.drf_rows.specs.Consistent.{IsConsistent}
 use Rattle.drf_rows.specs.Endings.{without_ended}
 use Rattle.drf_rows.specs.declared.rows.LimitRow.{LimitRow}
@@ -8,7 +8,6 @@ use Rattle.drf_tables.specs.Ended.{HasEnded}
 use Rattle.drf_tables.specs.Inside.{CountsIf, AreDerived, rows_in, rows_of}
 use Rattle.drf_tables.specs.Stored.{Stored}
 use Rattle.drf_holdings.specs.Stored.{HasTaken, holding_of}
-use Rattle.drf_tables.specs.declared.ending.Held.{Held}
 use Rattle.drf_tables.proofs.Ended.{ended-kept, ended-one, rows_ended, rows-none, without_it, without-none}
 use Rattle.drf_tables.proofs.Recounted.{counts-ended, ending_fits}
 use Rattle.drf_tables.proofs.tables.Tables.end.Goals as goal
@@ -64,11 +63,10 @@ returns-clause-some c =
     let taken = c.in_ok-taken.taken in
     let lost : HasTaken ending t.holdings c.take.new.self (Some taken) = c.in_ok-taken.ensures in
     let entries = c.give_back.new.agents.entries in
-    let told : Held = record { client = c.from_parts.result; bundle = taken.bundle } in
     let rows : List LimitRow → Rows = λ limits.
     rows_of entries t.frameworks.entries c.take.new.self t.filters t.weights.entries limits t.clock t.next_offer t.events in
-    subst (λ (q : Stored × List LimitRow). HasEnded q.0.rows (rows q.1) ending told) (λ i. (c.self.view_is i, c.release_held.ensures.limits i))
-    (ended-one t entries c.take.new.self ending taken c.self.invariant.kept c.give_back.ensures lost told c.from_parts.ensures refl)
+    subst (λ (q : Stored × List LimitRow). HasEnded q.0.rows (rows q.1) ending taken) (λ i. (c.self.view_is i, c.release_held.ensures.limits i))
+    (ended-one t entries c.take.new.self ending taken c.self.invariant.kept c.give_back.ensures lost)
 
 pub returns-clause-consistent : goal.returns-clause-consistent
 returns-clause-consistent c =

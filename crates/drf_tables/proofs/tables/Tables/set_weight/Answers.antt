@@ -17,7 +17,8 @@ invariant_of-self c =
     from_ok c.insert.result c.unwrap.result _ c.unwrap.ensures c.insert.ensures.entries in
     record {
       kept = rw (rows_of-weight t c.insert.new.self.entries role c.args.weight inserted) (
-          AreDerived-weight_set (rows_in t) t.agents.entries t.total t.clients role c.args.weight c.requires.right c.self.invariant.kept
+          AreDerived-weight_set (rows_in t) t.agents.entries t.total t.clients role c.args.weight c.requires.right c.recall.ensures.right
+          c.self.invariant.kept
           );
       consumed = counts-same _ (rows_in c.self.inside) _ _ c.self.invariant.consumed refl refl (λ test label. refl);
     }

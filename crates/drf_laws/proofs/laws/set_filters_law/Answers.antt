@@ -1,5 +1,5 @@
-use Rattle.drf_laws.specs.laws.Refused.{declined_sets_filter, accepted_sets_filter, some_rest_is_left, declined_is_held_back, left_is_held_back}
-use Rattle.drf_laws.proofs.laws.refused_law.Goals as goal
+use Rattle.drf_laws.specs.laws.SetFilters.{declined_sets_filter, accepted_sets_filter, some_rest_is_left, declined_is_held_back, left_is_held_back}
+use Rattle.drf_laws.proofs.laws.set_filters_law.Goals as goal
 
 pub returns-clause-declined : goal.returns-clause-declined
 returns-clause-declined c = declined_sets_filter

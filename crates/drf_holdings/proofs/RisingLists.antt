@@ -1,4 +1,4 @@
--- Where things with rising numbers stand.
+-- Lists of things whose numbers rise: what is taken out, put in and found there.
 use Rattle.std.specs.Prelude.{◌≡◌, ℕ, ◌==◌, ◌<◌, ◌≤◌, Bool, true, false, not, List, [], ◌∷◌, ◌++◌, length, map, filter, cond, take, drop, remove, slice_get, slice_index_or, Some, Ok, Err}
 use Rattle.std.specs.List.{list_any, AllByRecursion}
 use Rattle.std.specs.Ordering.{nat_cmp}

@@ -4,7 +4,7 @@ use Rattle.std.specs.Option.{option_map_or}
 use Rattle.std.proofs.lemmas.Bool.{cases_Bool, ltb-false, lt-ltb, le-ltb}
 use Rattle.std.proofs.lemmas.List.Folds.{list_any-append}
 use Rattle.drf_role.specs.Text.{Text}
-use Rattle.drf_bundle.specs.Taken.{only_rest_of_all, bundle-rest_of_all, joined-rest_of_all}
+use Rattle.drf_bundle.specs.laws.TakenLaws.{only_rest_of_all, bundle-rest_of_all, joined-rest_of_all}
 use Rattle.drf_bundle.specs.declared.resource.Resource.{Resource}
 use Rattle.drf_rows.specs.Client.{Client}
 use Rattle.drf_rows.specs.Consistent.{IsConsistent}
@@ -23,7 +23,7 @@ use Rattle.drf_rows.specs.declared.event.Event.TheVariants.{Accept, Decline}
 use Rattle.drf_rows.specs.declared.rows.FilterRow.{FilterRow}
 use Rattle.drf_rows.specs.declared.rows.OfferRow.{OfferRow}
 use Rattle.drf_rows.specs.declared.rows.Rows.{Rows}
-use Rattle.drf_laws.specs.FilterLaws.{one_more, end_of, IsLeft, is_refused, DeclinedSetsFilter, AcceptedSetsFilter, DeclinedIsHeldBack, LeftIsHeldBack, SomeRestIsLeft}
+use Rattle.drf_laws.specs.FilterLaws.{one_more, end_of, IsLeft, is_filtered, DeclinedSetsFilter, AcceptedSetsFilter, DeclinedIsHeldBack, LeftIsHeldBack, SomeRestIsLeft}
 
 -- ---- the filters after the event
 
@@ -102,21 +102,21 @@ module _ (rows : Rows) (o : OfferRow) (refused : List Resource) (at refuse_ms mo
 
   -- a filter more
   held_back-more : is_held_back (one_more rows o refused until) moment client agent bundle
-      ≡ (before || is_refused o refused until moment client agent bundle)
+      ≡ (before || is_filtered o refused until moment client agent bundle)
   held_back-more =
       let f : FilterRow = record { framework = o.framework; role = o.role; agent = o.agent; bundle = refused; until = until } in
       list_any-append (holds_back moment client agent bundle) rows.filters (f ∷ [])
-      ∙ ap (λ (b : Bool). before || b) (sym (or_none (is_refused o refused until moment client agent bundle)))
+      ∙ ap (λ (b : Bool). before || b) (sym (or_none (is_filtered o refused until moment client agent bundle)))
 
   -- none, where it would be for no time
-  over : nat_lt 0 refuse_ms ≡ false → is_refused o refused until moment client agent bundle ≡ false
+  over : nat_lt 0 refuse_ms ≡ false → is_filtered o refused until moment client agent bundle ≡ false
   over none =
       let zero : refuse_ms ≤ 0 = ltb-false 0 refuse_ms none in
       let past : nat_lt moment until ≡ false = le-ltb moment until (omega (arith, zero, late)) in
       rw past
 
   held_back_then : (set : Bool) → is_held_back (if nat_lt 0 refuse_ms && set then one_more rows o refused until else rows.filters) moment client agent bundle
-      ≡ (before || (set && is_refused o refused until moment client agent bundle))
+      ≡ (before || (set && is_filtered o refused until moment client agent bundle))
   held_back_then false = elim (cases_Bool (nat_lt 0 refuse_ms)) [
     | inl some ↦ rw some (or_none before)
     | inr none ↦ rw none (or_none before)

@@ -1,6 +1,5 @@
--- The places where a set of numbers begins and ends, in ascending order.
-use Rattle.std.specs.Prelude.{◌≡◌, ◌==◌, ℕ, ◌+◌, ◌≤◌, ◌^◌, Bool, false, not, ◌&&◌, ◌||◌, List, [], ◌∷◌, nat_lt, if◌then◌else◌}
-use Rattle.std.specs.Bool.{beq}
+-- A sweep over a set of numbers: the places where the set begins and ends, in ascending order, and steps past them.
+use Rattle.std.specs.Prelude.{◌≡◌, ◌==◌, ℕ, ◌+◌, ◌≤◌, ◌^◌, Bool, false, not, List, [], ◌∷◌, nat_lt, if◌then◌else◌}
 use Rattle.drf_kinds.specs.declared.interval.Interval.{Interval}
 
 -- what is left of a set's places, and whether the numbers before the next one are members
@@ -40,11 +39,3 @@ next_place (p ∷ ps) = p
 -- the steps past a place, if it is the next one
 abbrev pub passed : ℕ → Steps → Steps
 passed place s = if next_place s.places == place then record { inside = not s.inside; places = rest s.places } else s
-
--- in either set if they are united, and else in the left one alone
-abbrev pub is_kept : Bool → Bool → Bool → Bool
-is_kept united left right = if united then left || right else left && not right
-
--- in the left set, and in the right one or out of it
-abbrev pub is_met : Bool → Bool → Bool → Bool
-is_met inside left right = left && beq right inside

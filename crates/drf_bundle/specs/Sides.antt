@@ -24,7 +24,7 @@ next_side [] (s ∷ ss) = Some Right
 next_side (r ∷ rs) [] = Some Left
 next_side (r ∷ rs) (s ∷ ss) = Some (side_of (key_cmp (key_of r) (key_of s)))
 
--- what both have of each name together is what there may be of it
+-- the stocks of both together fit
 abbrev pub FitTogether : List Resource → List Resource → Type 0
 FitTogether left right = Fits (λ name p. stock left name p + stock right name p)
 

@@ -43,7 +43,7 @@ impl<S: Sorter> Cluster<S> {
         ensures work { OnOk result (Adds S.COUNTED self.old.work self.new.work (nodes_of (losers self.old.rows (one_offer decline.now.offer)))) }
         ensures made { self.new.work.made ≡ self.old.work.made }
     {
-        self.tables.refuse(decline)?;
+        self.tables.filter_declined(decline)?;
         self.end(Ending::Offer(decline.offer));
         Ok(())
     }

@@ -27,6 +27,6 @@ module _ {K : Type 0} {R : K → K → Ordering} where
 abbrev pub is_kept : Bool → Bool → Bool → Bool
 is_kept united left right = if united then left || right else left && not right
 
--- in the left set, and in the right one or out of it
+-- in the left set, and in the right one if inside, else out of it
 abbrev pub is_met : Bool → Bool → Bool → Bool
 is_met inside left right = left && beq right inside

@@ -18,8 +18,8 @@ use Rattle.drf_rows.specs.declared.rows.Rows.{Rows}
 
 -- ---- rows stay consistent
 
--- the resources of an event are bundles, what it moves it moves to a role or from one, and what it registers or sets has a valid name or
--- valid roles: so it is of each event, by its type
+-- the resources of an event are bundles, what it moves it moves to a role or from one, the framework that it registers has a
+-- valid name and valid roles, and the role whose weight or limit it sets is valid: so it is of each event, by its type
 abbrev pub IsGiven : Event → Type 0
 IsGiven (AddAgent agent total) = IsBundle total
 IsGiven (SetAgent agent total) = IsBundle total

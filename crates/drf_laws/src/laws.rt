@@ -73,8 +73,8 @@ fn recall_roles(roles: &[Role])
     }
 }
 
-/// By its type, the resources of every event are bundles, what it moves it moves to a role or from one, and what it registers or sets has a
-/// valid name or valid roles.
+/// By its type, the resources of every event are bundles, what it moves it moves to a role or from one, the framework that it
+/// registers has a valid name and valid roles, and the role whose weight or limit it sets is valid.
 pub fn given_law(event: &Event)
     ensures { IsGiven event.now }
 {

@@ -21,8 +21,8 @@ refusal_member refuse_ms members =
     if refuse_ms == usual_refusal then members else member (codes "refuse_ms") (number (unsigned refuse_ms)) members
 
 -- which offer is answered, and for how long it is refused
-abbrev pub answered_members : ℕ → ℕ → Members → Members
-answered_members offer refuse_ms more = member (codes "offer") (number (unsigned offer)) (refusal_member refuse_ms more)
+abbrev pub offer_members : ℕ → ℕ → Members → Members
+offer_members offer refuse_ms more = member (codes "offer") (number (unsigned offer)) (refusal_member refuse_ms more)
 
 -- what accept and decline have in common, before the keys that come after it
 abbrev pub answer_members : List ℕ → List ℕ → ℕ → ℕ → ℕ → Members → Members
@@ -30,7 +30,7 @@ answer_members event framework offer at refuse_ms more =
     member (codes "at") (number (unsigned at))
     (member (codes "event") (string event)
     (member (codes "framework") (string framework)
-    (answered_members offer refuse_ms more)))
+    (offer_members offer refuse_ms more)))
 
 -- a framework starts tasks
 unfoldable pub accept_event : Data → Result Event LineFault

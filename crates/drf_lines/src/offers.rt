@@ -9,7 +9,7 @@ ghost use Rattle.drf_lines.specs.TaskTexts.{each_in, start_in, start_text, sever
 ghost use Rattle.drf_lines.specs.Spelled.{IsSpelled};
 ghost use Rattle.drf_lines.specs.Words.{name_in};
 ghost use Rattle.drf_lines.specs.Written.{KeepsFront, KeepsUtf8};
-ghost use Rattle.drf_lines.specs.OfferEvents.{refusal_member, answered_members, accept_event, accept_value, decline_event, decline_value, rescind_event, rescind_value, finish_event, finish_value};
+ghost use Rattle.drf_lines.specs.OfferEvents.{refusal_member, offer_members, accept_event, accept_value, decline_event, decline_value, rescind_event, rescind_value, finish_event, finish_value};
 
 use crate::fault::LineError;
 use crate::member::{put, put_byte, put_name, put_number};
@@ -105,7 +105,7 @@ fn put_moment(line: &mut Vec<u8>, at: u64) -> Result<(), AllocError>
 
 /// Writes which offer is answered, and for how long it is refused.
 fn put_answered(line: &mut Vec<u8>, offer: u64, refuse_ms: u64) -> Result<(), AllocError>
-    ensures ok { OnOk result ((more : Members) → line.new.items ++ members_text true more ≡ line.old.items ++ members_text true (answered_members offer refuse_ms more)) }
+    ensures ok { OnOk result ((more : Members) → line.new.items ++ members_text true more ≡ line.old.items ++ members_text true (offer_members offer refuse_ms more)) }
     ensures front { KeepsFront line.old.items line.new.items }
     ensures utf8 { OnOk result (KeepsUtf8 line.old.items line.new.items) }
     ensures small { (offer < 2 ^ 64) × (refuse_ms < 2 ^ 64) }

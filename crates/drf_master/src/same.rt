@@ -1,7 +1,7 @@
 //! Whether two events, replies or entries are the same.
 ghost use Rattle.std.specs.Prelude.{◌≡◌, ◌↔◌, IsTrue};
 
-use drf_amount::Algebra;
+use drf_amount::is_same;
 use drf_board::Entry;
 use drf_bundle::{Bundle, Quantities};
 use drf_role::{Name, NodePath, Role};
@@ -14,14 +14,6 @@ pub trait Same {
     /// Whether it is the same as the other.
     fn same(&self, other: &Self) -> bool
         ensures { IsTrue result ↔ (self.now ≡ other.now) };
-}
-
-// Whether two amounts are the same: one is then covered by the other, and nothing is left.
-fn is_amount<A: Algebra>(amount: &A, other: &A) -> bool
-    ensures { IsTrue result ↔ (amount.now ≡ other.now) }
-{
-    let is_enough = amount.covers(other);
-    is_enough && amount.amount() == other.amount()
 }
 
 // Whether two lists have the same rows in the same order.
@@ -59,7 +51,7 @@ impl Same for NodePath {
 
 impl Same for Bundle {
     fn same(&self, other: &Bundle) -> bool {
-        is_amount(self, other)
+        is_same(self, other)
     }
 }
 

@@ -47,7 +47,7 @@ pub record IsFramework (framework : FrameworkRow) : Type 0 where
   pub name : IsName framework.name
   pub roles : AllByRecursion IsRole (map (λ c. c.role) framework.clients)
 
--- a framework has one client for each of its roles
+-- frameworks have names of their own, and each has one client for each of its roles
 pub record AreFrameworks (frameworks : List FrameworkRow) : Type 0 where
   pub names : are_distinct (map (λ f. f.name) frameworks) ≡ true
   pub roles : AllByRecursion (λ f. are_distinct_roles (map (λ c. c.role) f.clients) ≡ true) frameworks

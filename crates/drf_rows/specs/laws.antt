@@ -11,6 +11,7 @@ pub mod CycleLaws
 pub mod ConsistentLaws
 pub mod RegistrationLaws
 pub mod EndingLaws
+pub mod OfferLaws
 pub mod MemberLaws
 pub mod TotalLaws
 pub mod WeightLaws

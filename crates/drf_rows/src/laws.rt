@@ -153,8 +153,8 @@ pub fn order_example()
     ensures below { served nothing_held ≡ codes "f2" ∷ codes "f1" ∷ [] }
 {}
 
-/// An event that sets a weight changes the weight of its role, and no other; each role keeps one row, and in no run from the
-/// start has a role two.
+/// An event that sets a weight changes the weight of its role, and no other; of consistent rows each role keeps one row, and in no
+/// run from the start has a role two.
 pub fn set_weight_law()
     ensures set { RoleHasItsWeight }
     ensures others { OthersKeepTheirWeight }

@@ -49,7 +49,8 @@ pub fn sibling_law()
     ensures { LesserNameFirst }
 {}
 
-/// A greater weight gives a role that holds something of the total a less weighted share. Only roles have weights.
+/// A greater weight gives a role that holds something of the total a less weighted share. Of consistent rows only roles have
+/// weights.
 pub fn weight_law()
     ensures heavier { HeavierHasLess }
     ensures roles_alone { ClientsHaveDefaultWeight }

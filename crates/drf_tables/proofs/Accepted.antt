@@ -14,7 +14,7 @@ use Rattle.drf_rows.specs.declared.limits.TheConstants.{LATEST_MOMENT}
 use Rattle.drf_rows.specs.declared.rows.FilterRow.{FilterRow}
 use Rattle.drf_rows.specs.declared.rows.OfferRow.{OfferRow}
 use Rattle.drf_rows.specs.declared.rows.Rows.{Rows}
-use Rattle.drf_laws.specs.laws.Offers.{offer_filter}
+use Rattle.drf_rows.specs.laws.OfferLaws.{offer_filter}
 use Rattle.drf_tables.specs.Ended.{filter_if, with_accepted}
 
 -- ---- it is accepted

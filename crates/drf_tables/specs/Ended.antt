@@ -22,9 +22,9 @@ abbrev pub held_in : Rows → OffersAndTasks
 held_in rows = record { offers = rows.offers; tasks = rows.tasks }
 
 -- one holding that ends was taken out
-pub record HasEnded (old new : Rows) (ending : Ending) (one : Taken) : Type 0 where
-  pub registered : is_registered old.frameworks (holding_of one).client ≡ true
-  pub taken : IsOfferOut ending (held_in old) (held_in new) (holding_of one) ⊎ IsTaskOut ending (held_in old) (held_in new) (holding_of one)
+pub record HasEnded (old new : Rows) (ending : Ending) (ended : Taken) : Type 0 where
+  pub registered : is_registered old.frameworks (holding_of ended).client ≡ true
+  pub taken : IsOfferOut ending (held_in old) (held_in new) (holding_of ended) ⊎ IsTaskOut ending (held_in old) (held_in new) (holding_of ended)
   -- nothing else changed
   pub others : new ≡ record old { offers = new.offers; tasks = new.tasks }
   -- the others that end are still to end, and all that stays, stays
@@ -33,7 +33,7 @@ pub record HasEnded (old new : Rows) (ending : Ending) (one : Taken) : Type 0 wh
   -- whatever passes a test holds so much less
   pub out : (test : Holding → Bool) (label : Text)
       → held_where test (holdings_of old) label
-      ≡ held_where test (holdings_of new) label + cond (test (holding_of one)) (amount_in label (holding_of one)) 0
+      ≡ held_where test (holdings_of new) label + cond (test (holding_of ended)) (amount_in label (holding_of ended)) 0
 
 -- what an accept gives back of its offer
 abbrev pub rest_taken : OfferRow → List Start → Taken
@@ -41,7 +41,7 @@ rest_taken o starts = record { agent = o.agent; role = o.role; framework = o.fra
 
 -- a filter, if there is to be one
 abbrev pub filter_if : Bool → FilterRow → Option FilterRow
-filter_if refused filter = if refused then Some filter else None
+filter_if is_filtered filter = if is_filtered then Some filter else None
 
 -- parts of the offer are tasks, and a filter stands last, if there is one
 abbrev pub with_accepted : Rows → OfferRow → List Start → Option FilterRow → Rows

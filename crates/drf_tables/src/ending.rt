@@ -135,7 +135,6 @@ impl Tables {
         let offer = self.offer(accept.offer).unwrap();
         let rest = accept.tasks.rest_of(&offer.bundle)?;
         let filter = filter_rest(offer, &rest, moment, accept.refuse_ms)?;
-        let taken = self.start(accept.offer, accept.tasks, rest, filter, moment)?;
-        Ok(taken)
+        self.start(accept.offer, accept.tasks, rest, filter, moment)
     }
 }

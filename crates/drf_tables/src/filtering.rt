@@ -61,7 +61,7 @@ pub(crate) fn filter_rest(
     Ok(Some(filter_row(offer, rest, moment, refuse_ms)?))
 }
 
-/// An offer is filtered whole, if for any time.
+/// A filter for the whole of an offer, if for any time.
 fn filter_offer(
     tables: &mut Tables,
     number: u64,
@@ -108,8 +108,8 @@ impl Tables {
         self.filters.add(filter)
     }
 
-    /// An offer is refused whole, if for any time, at a moment to which the clock goes on. An `Err` changes no row.
-    pub fn refuse(&mut self, decline: &Decline) -> Result<(), AllocError>
+    /// A declined offer is filtered whole, if for any time, at a moment to which the clock goes on. An `Err` changes no row.
+    pub fn filter_declined(&mut self, decline: &Decline) -> Result<(), AllocError>
         requires offer { has_offer self.old.rows decline.now.offer ≡ true }
         requires early { decline.now.at ≤ LATEST_MOMENT }
         ensures ok { OnOk result ((o : OfferRow) → offer_at self.old.rows decline.now.offer ≡ Some o

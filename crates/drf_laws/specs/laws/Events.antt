@@ -38,7 +38,8 @@ use Rattle.drf_rows.specs.declared.rows.Rows.{Rows}
 use Rattle.drf_laws.specs.RunLaws.{IsGiven}
 use Rattle.drf_laws.specs.laws.Roles.{distinct_apart, each-distinct, roles_of_new, uncounted_new}
 use Rattle.drf_laws.specs.laws.Kept.{consistent-clock}
-use Rattle.drf_laws.specs.laws.Offers.{offer_filter, same_offer, can_accept, moment_early}
+use Rattle.drf_rows.specs.laws.OfferLaws.{offer_filter, same_offer, moment_early}
+use Rattle.drf_laws.specs.laws.Offers.{can_accept}
 use Rattle.drf_laws.specs.laws.Welcome.{no_case_of, welcome_agent, welcome_framework, welcome_weight, welcome_decline, early_accept, early_cycle, small_amounts}
 use Rattle.drf_laws.specs.laws.Endings.{IsConsistent-ended, IsConsistent-agent_left, IsConsistent-framework_left}
 use Rattle.drf_laws.specs.laws.Cycles.{IsConsistent-cycle}

@@ -179,7 +179,7 @@ module _ (most : LimitNumbers) (rows : Rows) (bounded : AreBounded most rows) wh
       let after : Rows = cycle rows at in
       let roles = subst (AllByRecursion (λ f. length f.clients ≤ most.roles)) (sym only.counts) (roles-counted most.roles (new_offers rows after) rows.frameworks bounded.roles) in
       let later = in_force_later rows.clock (max rows.clock at) rows.filters (omega arith) in
-      subst (AreBounded most) (sym only.rest) (record {
+      subst (AreBounded most) (sym only.nothing_else) (record {
         roles = roles;
         filters = omega (arith, later, bounded.filters);
         limits = bounded.limits;

@@ -102,7 +102,7 @@ unfolding effect IsAtMostOneMore
 accepted_starts_tasks rows a o found =
     subst (LeavesItsTasks rows a o)
     (sym (ap (λ (f : Option OfferRow). option_map_or (λ o. offer_accepted (at_moment rows a.at) o a.tasks a.refuse_ms) f rows) found)) (record {
-      rest = λ i. record rows {
+      nothing_else = λ i. record rows {
         offers = filter (λ p. not (p.number == same i)) rows.offers;
         tasks = rows.tasks ++ map (task_of o) a.tasks;
         filters = added.0 i;

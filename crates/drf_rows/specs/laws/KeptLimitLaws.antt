@@ -230,7 +230,7 @@ limits_stay rows (Reserve agent role resources) kind = refl
 limits_stay rows (Unreserve agent role resources) kind = refl
 limits_stay rows (SetWeight role weight) kind = refl
 limits_stay rows (SetLimit role limit) kind = cc
-limits_stay rows (Cycle at) kind = ap (λ (r : Rows). r.limits) (cycle_only_offers rows at).rest
+limits_stay rows (Cycle at) kind = ap (λ (r : Rows). r.limits) (cycle_only_offers rows at).nothing_else
 limits_stay rows Report kind = refl
 
 -- ---- a step, and a run

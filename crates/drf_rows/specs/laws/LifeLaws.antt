@@ -67,7 +67,7 @@ filters_added rows after = drop (length rows.filters) after.filters
 -- the offer goes, and leaves its tasks behind those that run, in their order. The clock moves, one filter of the client
 -- there may be added, and nothing else of the rows changes
 pub record LeavesItsTasks (rows : Rows) (a : accepting.Accept) (o : OfferRow) (after : Rows) : Type 0 where
-  pub rest : after
+  pub nothing_else : after
       ≡ record rows {
         offers = filter (λ p. not (p.number == a.offer)) rows.offers;
         tasks = rows.tasks ++ map (task_started o) a.tasks;
@@ -306,7 +306,7 @@ with_counts made f = record f { clients = map (raised_row made f.name) f.clients
 
 -- the clock moves, offers are added to those that stand, and each is counted at its client; nothing else changes
 pub record OnlyOffers (rows : Rows) (at : ℕ) (after : Rows) : Type 0 where
-  pub rest : after
+  pub nothing_else : after
       ≡ record rows {
         frameworks = after.frameworks;
         offers = after.offers;

@@ -172,7 +172,7 @@ cycle_only_offers rows at =
     let so = made_cycle rows at in
     let new : so.made ≡ new_offers rows (cycle rows at) = sym (ap (drop (length rows.offers)) so.offers ∙ drop-append_seam rows.offers so.made) in
     record {
-      rest = so.rest;
+      nothing_else = so.rest;
       offers = so.offers ∙ ap (λ (os : List OfferRow). rows.offers ++ os) new;
       counts = so.counts ∙ ap (λ (os : List OfferRow). map (with_counts os) rows.frameworks) new;
     }

@@ -226,7 +226,7 @@ rows_stay_apart rows (Unreserve agent role resources) apart = apart
 rows_stay_apart rows (SetWeight role weight) apart = distinct-with role weight rows.weights apart
 rows_stay_apart rows (SetLimit role limit) apart = apart
 rows_stay_apart rows (Cycle at) apart =
-    ap (λ (r : Rows). are_distinct_roles (weighed_roles r)) (cycle_only_offers rows at).rest ∙ apart
+    ap (λ (r : Rows). are_distinct_roles (weighed_roles r)) (cycle_only_offers rows at).nothing_else ∙ apart
 rows_stay_apart rows Report apart = apart
 
 step_apart : (limits : LimitNumbers) (rows : Rows) (event : Event) → are_distinct_roles (weighed_roles rows) ≡ true

@@ -5,7 +5,7 @@ use Rattle.drf_rows.specs.Endings.{one_offer}
 use Rattle.drf_rows.specs.Offers.{filters_with, filters_all}
 use Rattle.drf_rows.specs.declared.rows.Rows.{Rows}
 use Rattle.drf_core.specs.Working.{losers, nodes_of}
-use Rattle.drf_laws.specs.laws.Offers.{some_offer}
+use Rattle.drf_rows.specs.laws.OfferLaws.{some_offer}
 use Rattle.drf_core.proofs.effects.Accepted.{sorted-declined, rows_declined, effect-decline}
 use Rattle.drf_core.proofs.cluster.Cluster.decline.Goals as goal
 
@@ -14,8 +14,8 @@ invariant_of-self-2 g c =
     let rows : Rows = c.self.inside.tables.rows in
     let d = c.args.decline.now in
     let one = some_offer rows d.offer (rw (← c.self.view_is) at c.requires.offer) in
-    sorted-declined rows c.refuse.new.self.rows (filters_with (at_moment rows d.at) (filters_all d.refuse_ms) one.offer one.offer.bundle d.refuse_ms)
-    (max rows.clock d.at) (g.S.Sorter.content c.self.inside.sorter) c.self.invariant (c.in_ok-refuse.ensures.ok one.offer one.at)
+    sorted-declined rows c.filter_declined.new.self.rows (filters_with (at_moment rows d.at) (filters_all d.refuse_ms) one.offer one.offer.bundle d.refuse_ms)
+    (max rows.clock d.at) (g.S.Sorter.content c.self.inside.sorter) c.self.invariant (c.in_ok-filter_declined.ensures.ok one.offer one.at)
 
 pub returns-clause-ok : goal.returns-clause-ok
 returns-clause-ok g c = rw (← c.self.view_is) (
@@ -23,8 +23,8 @@ returns-clause-ok g c = rw (← c.self.view_is) (
     let d = c.args.decline.now in
     let one = some_offer rows d.offer (rw (← c.self.view_is) at c.requires.offer) in
     effect-decline rows c.end.new.self.rows d one.offer one.at
-    (rows_declined rows c.refuse.new.self.rows c.end.new.self.rows d.offer one.offer d.at d.refuse_ms one.at
-    (c.in_ok-refuse.ensures.ok one.offer one.at) c.end.ensures.rows))
+    (rows_declined rows c.filter_declined.new.self.rows c.end.new.self.rows d.offer one.offer d.at d.refuse_ms one.at
+    (c.in_ok-filter_declined.ensures.ok one.offer one.at) c.end.ensures.rows))
 
 pub returns-clause-work : goal.returns-clause-work
 returns-clause-work g c =
@@ -32,4 +32,4 @@ returns-clause-work g c =
     let d = c.args.decline.now in
     let one = some_offer rows d.offer (rw (← c.self.view_is) at c.requires.offer) in
     rw (← c.self.view_is) (λ counted.
-    omega (arith, c.end.ensures.work counted, ap (λ (r : Rows). nodes_of (losers r (one_offer d.offer))) (c.in_ok-refuse.ensures.ok one.offer one.at)))
+    omega (arith, c.end.ensures.work counted, ap (λ (r : Rows). nodes_of (losers r (one_offer d.offer))) (c.in_ok-filter_declined.ensures.ok one.offer one.at)))

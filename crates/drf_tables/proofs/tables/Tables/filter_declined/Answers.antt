@@ -2,11 +2,11 @@ use Rattle.std.proofs.Common.{ap, subst, ◌∙◌}
 use Rattle.std.specs.Prelude.{max}
 use Rattle.drf_rows.specs.Consistent.{IsConsistent}
 use Rattle.drf_rows.specs.declared.rows.Rows.{Rows}
-use Rattle.drf_laws.specs.laws.Offers.{moment_early}
+use Rattle.drf_rows.specs.laws.OfferLaws.{moment_early}
 use Rattle.drf_tables.specs.Inside.{rows_of}
 use Rattle.drf_tables.specs.Stored.{Stored}
 use Rattle.drf_tables.proofs.Accepted.{rows_refused}
-use Rattle.drf_tables.proofs.tables.Tables.refuse.Goals as goal
+use Rattle.drf_tables.proofs.tables.Tables.filter_declined.Goals as goal
 
 pub filter_offer-requires-clause-consistent : goal.filter_offer-requires-clause-consistent
 filter_offer-requires-clause-consistent c = subst (λ (s : Stored). IsConsistent s.rows) c.self.view_is c.self.invariant.kept.consistent

@@ -1,7 +1,7 @@
 //! The one that adds to a history.
 ghost use Rattle.std.specs.Prelude.{◌≡◌, ◌+◌, ◌<◌, ◌^◌, ◌++◌, ◌∷◌, [], length};
 ghost use Rattle.logbook.specs.Pages.{may_write};
-ghost use Rattle.drf_board.specs.Chains.{head_of, word_of, IsAtEnd};
+ghost use Rattle.drf_board.specs.Chains.{head_of, word_of};
 ghost use Rattle.drf_board.specs.History.{IsLegal, entry};
 
 use crate::history::{AddLink, Chained, Lent, Link, Naming, NewPen, NoGain};

@@ -63,6 +63,7 @@ where
         let prefix = author.known();
         let (first, second) = Pane::pair(alloc)?;
         first.fill(Shown::new(Sheet::blank(alloc), prefix.again()));
+        // The carrier has a place for one reader at least.
         let writer = WriteHandle::new(alloc, rt, first, second, viewers.max(1) as usize)?;
         let readers = readers_of(alloc, &writer, &prefix, viewers as usize)?;
         let board = Board {

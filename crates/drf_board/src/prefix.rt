@@ -47,11 +47,11 @@ impl<K: Naming> Prefix<K> {
         }
     }
 
-    pub fn len(&self) -> u64
-        ensures length { result ≡ length self.now }
-        ensures legal { IsLegal K.slate.limits self.now }
+    /// Tells a proof that the list is legal. It does nothing.
+    pub fn recall(&self)
+        ensures { IsLegal K.slate.limits self.now }
     {
-        self.count
+        let _ = self.count;
     }
 
     /// The same list once more, without memory.
@@ -69,6 +69,7 @@ impl<K: Naming> Prefix<K> {
     pub fn begins(&self, other: &Prefix<K>) -> bool
         ensures { MatchBool result (IsPrefix self.now other.now) (IsPrefix other.now self.now) }
     {
+        // For the proof alone: one of the two lists begins with the other.
         let mut both = self.seen.again();
         both.learn(&other.seen);
         if other.count < self.count {

@@ -80,14 +80,13 @@ impl<K: Naming> Viewer<K> {
         ensures sheet { IfOk result (λ sheet. IsSheet K.slate.limits self.new sheet) }
         ensures err { OnErr result (self.new ≡ self.old) }
     {
-        // A proof learns that a prefix is legal by this call alone.
-        let _ = self.prefix.len();
+        self.prefix.recall();
         let seen = match self.handle.enter() {
             Some(guard) => see(&guard, &self.prefix),
             None => Err(ViewFault::Closed),
         };
         let (sheet, prefix) = seen?;
-        let _ = prefix.len();
+        prefix.recall();
         self.prefix = prefix;
         Ok(sheet)
     }

@@ -8,9 +8,12 @@ use Rattle.drf_board.specs.HistoryLaws.{legal-nil}
 use Rattle.drf_board.specs.declared.entry.Entry.{Entry}
 use Rattle.drf_journal.specs.declared.fault.RunFault.TheVariants.{Read, Write, Memory}
 use Rattle.drf_master.specs.Receipts.{Held}
+use Rattle.drf_master.specs.declared.driving.DriveFault.{DriveFault}
+use Rattle.drf_master.specs.declared.driving.DriveFault.TheVariants as driving
+use Rattle.drf_master.specs.declared.matching.CloseFault.TheVariants as why
 use Rattle.drf_rows.specs.LimitNumbers.{LimitNumbers}
 use Rattle.drf_rows.specs.declared.event.Event.{Event}
-use Rattle.drf_drive.specs.Driven.{HasDrivenFiles, IsJournalOfFiles, IsShuffleOf}
+use Rattle.drf_drive.specs.Driven.{HasDrivenFiles, IsJournalOfFiles, IsRunFault, IsShuffleOf, told_as}
 use Rattle.drf_drive.specs.Files.{Known, AreContents}
 use Rattle.drf_drive.specs.JournalText.{IsCutOff, journal_text}
 use Rattle.drf_drive.specs.Scripts.{HasScripts}
@@ -68,3 +71,12 @@ written-ends limits known names journal right (Err Close) old new ok err = absur
 pub scripts-none : (known : Known) (names : List (List ℕ)) → length names ≡ 0 → HasScripts known names []
 scripts-none known [] none = record { contents = []; read = tt; meant = tt }
 scripts-none known (n ∷ names) none = absurd (omega arith)
+
+-- a master's drive ends so
+pub told-fault : (fault : DriveFault) → IsRunFault (told_as fault)
+told-fault driving.Stopped = tt
+told-fault driving.Memory = tt
+told-fault (driving.Close why.Stranger) = tt
+told-fault (driving.Close why.Missing) = tt
+told-fault (driving.Close (why.Mismatch place)) = tt
+told-fault (driving.Close why.Memory) = tt

@@ -3,4 +3,3 @@ pub mod Contents
 pub mod Scripts
 pub mod Sent
 pub mod Endings
-pub mod Misfits

@@ -8,11 +8,10 @@ use Rattle.drf_journal.specs.Device.{AppendsFrontOf}
 use Rattle.drf_journal.specs.declared.fault.RunFault.TheVariants.{Read, Write, Memory}
 use Rattle.drf_master.specs.Matching.{IsShuffle}
 use Rattle.drf_master.specs.Receipts.{Held}
-use Rattle.drf_master.specs.Scripts.{HasDriven, HaveRun}
+use Rattle.drf_master.specs.Scripts.{HasDriven}
 use Rattle.drf_master.specs.declared.driving.DriveFault.{DriveFault}
 use Rattle.drf_master.specs.declared.driving.DriveFault.TheVariants as driving
 use Rattle.drf_master.specs.declared.matching.CloseFault.TheVariants as why
-use Rattle.drf_master.specs.declared.pass.Receipt.{Receipt}
 use Rattle.drf_rows.specs.LimitNumbers.{LimitNumbers}
 use Rattle.drf_rows.specs.declared.event.Event.{Event}
 use Rattle.drf_rows.specs.declared.reply.Reply.{Reply}
@@ -37,23 +36,10 @@ pub record IsJournalOfFiles (limits : LimitNumbers) (known : Known) (names : Lis
   pub legal : IsLegal limits journal
   pub shuffle : IsShuffleOf scripts journal
 
--- Scripts were run to their ends, by passes that had not called before, but the journal that was found, which is legal, is no shuffle of
--- the receipts that there are then. Nobody is handed either, so this says that there are such, not which.
-pub record HasMisfit (limits : LimitNumbers) (scripts : List (Vec Event)) : Type 0 where
-  pub passes : List Held
-  pub unused : All (λ pass. pass.receipts ≡ []) passes
-  pub replies : List (Vec Reply)
-  pub lists : List (List Receipt)
-  pub run : HaveRun passes scripts replies lists
-  pub journal : List Entry
-  pub legal : IsLegal limits journal
-  pub other : ¬ IsShuffle journal lists
-
--- so it is with what the lines of the files of these names mean, all of which are events
-pub record HasMisfitOfFiles (limits : LimitNumbers) (known : Known) (names : List (List ℕ)) : Type 0 where
+-- the files of these names were read, and all their lines are events
+pub record AreAllEvents (known : Known) (names : List (List ℕ)) : Type 0 where
   pub scripts : List (Vec Event)
   pub meant : HasScripts known names scripts
-  pub misfit : HasMisfit limits scripts
 
 -- how a fault of a master's drive is told
 abbrev pub told_as : DriveFault → ScriptFault
@@ -64,11 +50,12 @@ told_as (driving.Close why.Missing) = Close
 told_as (driving.Close (why.Mismatch place)) = Close
 told_as (driving.Close why.Memory) = Run Memory
 
--- why scripts gave no journal
-abbrev pub IsRunFault : LimitNumbers → List (Vec Event) → ScriptFault → Type 0
-IsRunFault limits scripts (Run Memory) = ⊤
-IsRunFault limits scripts Close = HasMisfit limits scripts
-IsRunFault limits scripts _ = ⊥
+-- Why scripts gave no journal: memory ran out, or the journal that was found did not fit the receipts of the passes. Nobody is handed
+-- either, so nothing is said of them.
+abbrev pub IsRunFault : ScriptFault → Type 0
+IsRunFault (Run Memory) = ⊤
+IsRunFault Close = ⊤
+IsRunFault _ = ⊥
 
 -- such a journal was written
 pub record HasWritten (limits : LimitNumbers) (known : Known) (names : List (List ℕ)) (old new : Option (List ℕ)) : Type 0 where
@@ -90,4 +77,4 @@ HasDrivenFiles limits known names old new (Err (Run Read)) = (new ≡ old) × Is
 HasDrivenFiles limits known names old new (Err (Run Write)) = HasWrittenFront limits known names old new
 HasDrivenFiles limits known names old new (Err (Run Memory)) = (new ≡ old) ⊎ HasWrittenFront limits known names old new
 HasDrivenFiles limits known names old new (Err (Line bad)) = (new ≡ old) × HasRefused known names bad
-HasDrivenFiles limits known names old new (Err Close) = (new ≡ old) × HasMisfitOfFiles limits known names
+HasDrivenFiles limits known names old new (Err Close) = (new ≡ old) × AreAllEvents known names

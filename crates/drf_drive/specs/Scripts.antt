@@ -74,10 +74,11 @@ abbrev pub AreEventsOf : List ℕ → List Event → Option LineError → Type 0
 AreEventsOf bytes events None = IsScript bytes events
 AreEventsOf bytes events (Some error) = IsStoppedAfter bytes events error
 
+-- what was read of a file's bytes
 abbrev pub IsScriptOf : List ℕ → Script → Type 0
 IsScriptOf bytes script = AreEventsOf bytes script.events.items script.stop
 
--- one of the files does
+-- one of the files has a bad line, and this is the first
 abbrev pub HaveBadLine : List (List ℕ) → ScriptFault → Type 0
 HaveBadLine contents (Run Memory) = ⊤
 HaveBadLine contents (Line bad) = IsFirstBad contents bad
@@ -138,7 +139,7 @@ pub record IsFirstStop (scripts : List Script) (bad : BadLine) : Type 0 where
   pub whole : AreWhole before events
   pub stopped : IsStoppedBy (length before) script (Line bad)
 
--- or memory ran out
+-- which that is, or memory ran out
 abbrev pub HaveStopped : List Script → ScriptFault → Type 0
 HaveStopped scripts (Run Memory) = ⊤
 HaveStopped scripts (Line bad) = IsFirstStop scripts bad

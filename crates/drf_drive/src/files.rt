@@ -14,7 +14,7 @@ pub trait FileBytes {
     ghost use Rattle.std.specs.Prelude.{ℕ, List};
     ghost use Rattle.drf_drive.specs.Files.{Content, unknown};
 
-    // What is known of the file of a name.
+    /// What is known of the file of a name.
     ghost known: { Self → List ℕ → Content } = { λ _ _. unknown };
 
     /// All bytes of a file. The fault is `Read`, or `Memory`.

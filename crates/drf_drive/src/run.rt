@@ -52,7 +52,7 @@ fn run_named<K: Naming + Send + Sync, W: Threads + Wait + Sync>(
     requires count { (1 ≤ length scripts.items) × (length scripts.items ≤ 64) }
     ensures legal { IfOk result (λ journal. IsLegal limits journal.items) }
     ensures shuffle { IfOk result (λ journal. IsShuffleOf scripts.items journal.items) }
-    ensures fault { IfErr result (λ fault. IsRunFault limits scripts.items (told_as fault)) }
+    ensures fault { IfErr result (λ fault. IsRunFault (told_as fault)) }
 {
     let count = scripts.len() as u64;
     let (master, passes, _viewers) = Master::<K, &W>::open(rt, alloc, KEY, limits, count, slate)?;
@@ -72,7 +72,7 @@ fn run_scripts<W: Threads + Wait + Sync>(
     requires count { (1 ≤ length scripts.items) × (length scripts.items ≤ 64) }
     ensures legal { IfOk result (λ journal. IsLegal limits journal.items) }
     ensures shuffle { IfOk result (λ journal. IsShuffleOf scripts.items journal.items) }
-    ensures fault { IfErr result (IsRunFault limits scripts.items) }
+    ensures fault { IfErr result IsRunFault }
 {
     let slate = Slate::open(0, limits)?;
     Ok(run_named::<Brand, W>(rt, alloc, limits, slate, scripts)?)

@@ -1,5 +1,5 @@
 pub mod Tallying
-pub mod Sames
+pub mod Paths
 pub mod Runs
 pub mod Scripts
 pub mod Closing

@@ -93,7 +93,8 @@ abbrev pub IsMisfitOf : LimitNumbers → ℕ → List Held → DriveFault → Ty
 IsMisfitOf given key passes (Close fault) = (journal : List Entry) × (IsLegal given journal × IsCloseFault journal key passes fault)
 IsMisfitOf given key passes _ = ⊥
 
--- all scripts were run by passes of the master, but the passes do not fit a legal journal
+-- All scripts were run by passes of the master, but the passes do not fit a legal journal. Nobody is handed that journal or the receipts, so
+-- this says that there are such, as there always are where the passes had no receipts.
 pub record IsMisfit (given : LimitNumbers) (asked : ℕ → ℕ → Type 0) (key : ℕ) (passes : List Held) (scripts : List (Vec Event)) (fault : CloseFault) : Type 0 where
   pub own : AreOf key passes
   pub calls : AreAsked asked 0 scripts

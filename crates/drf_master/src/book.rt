@@ -20,7 +20,7 @@ use std::marker::Model;
 use std::mem::replace;
 
 /// A core, and the journal of what it was asked and what it answered: the core is the run of the journal's events, and each reply is
-/// the definition's. Contracts see its limits and its journal.
+/// the definition's. Contracts see its limits, its journal and how many entries it has room for.
 pub struct Book<S: Sorter> {
     core: Core<S>,
     // Another core, behind that one, which works out what comes next.

@@ -37,6 +37,7 @@ impl<K: Naming, R: Wait + Drop> Model for Desk<K, R> {
     ghost invariant = { λ d. (d.board.entries ≡ d.book.entries) × (d.book.limits ≡ K.slate.limits) };
 }
 
+// Written out, so that the proof of whoever drops a desk sees two calls.
 impl<K: Naming, R: Wait + Drop> Drop for Desk<K, R> {
     fn drop(self) {
         drop(self.into_book());
@@ -187,7 +188,7 @@ impl<K: Naming, R: Wait + Drop> Desk<K, R> {
         Ok(answer)
     }
 
-    /// The same, with a receipt.
+    // The same, with a receipt.
     fn answer_with_receipt(&mut self, event: Event) -> Result<(Answer<K>, Receipt), AllocError>
         ensures journal { IfOk result (λ r. self.new ≡ self.old ++ entry event r.0.reply ∷ []) }
         ensures told { IfOk result (λ r. r.0.told ≡ self.new) }

@@ -129,10 +129,7 @@ impl Tally {
     }
 }
 
-/// Compares a journal with the receipts that passes hold: a call for each entry, and each pass's calls in their order. Where there is
-/// memory, `Ok` is told exactly where the journal is a shuffle of the receipts, or else the first fault that holds, `Missing` before
-/// `Mismatch` at the least wrong place; want of it is told only where none is missing. It never tells `Stranger`, and takes time linear
-/// in journal and receipts.
+/// What `Book::matches` tells, of a journal and the receipts that passes hold.
 pub fn matches(alloc: Global, journal: &[Entry], passes: &[Pass]) -> Result<(), CloseFault>
     ensures ok { OnOk result (IsShuffle journal.now (receipts_of passes.now)) }
     ensures err { IfErr result (IsFault journal.now (receipts_of passes.now)) }

@@ -9,7 +9,7 @@ use drf_rows::{
     Accept, Decline, Event, NodeLine, OfferLine, Reply, Report, SharedTable, Table, TaskList,
 };
 
-/// What can be told apart.
+/// What can be compared for equality.
 pub trait Same {
     /// Whether it is the same as the other.
     fn same(&self, other: &Self) -> bool
@@ -57,13 +57,13 @@ impl Same for Bundle {
 
 impl Same for drf_bundle::Entry {
     fn same(&self, other: &drf_bundle::Entry) -> bool {
-        let is_label = is_text(self.label.text(), other.label.text());
+        let is_label = is_same_text(self.label.text(), other.label.text());
         is_label && self.amount.thousandths() == other.amount.thousandths()
     }
 }
 
 // Whether two texts have the same bytes.
-fn is_text(text: &str, other: &str) -> bool
+fn is_same_text(text: &str, other: &str) -> bool
     ensures { IsTrue result ↔ (text.now ≡ other.now) }
 {
     text == other
@@ -120,6 +120,7 @@ impl Same for Decline {
 }
 
 impl Same for Event {
+    // A match for each kind: one match on both events would be 361 cases of a proof.
     fn same(&self, other: &Event) -> bool {
         match self {
             Event::AddAgent { agent, total } => match other {

@@ -3,7 +3,7 @@ ghost use Rattle.std.specs.Prelude.{◌≡◌, ◌≤◌, length};
 ghost use Rattle.drf_rows.specs.LimitNumbers.{ceilings};
 
 use crate::closing::keep_passes;
-use crate::lines::{AGENT, CYCLE, FRAMEWORK};
+use crate::lines::{AGENT, CYCLE, FRAMEWORK, OTHER_AGENT};
 use crate::server::append_reply;
 use anyhow::{Context, Result, bail};
 use drf_board::{Brand, Entry, Naming, Slate};
@@ -292,8 +292,24 @@ fn append_script<W: Threads + Wait + Sync>(
     Ok(told.push('\n')?)
 }
 
-// One script that waits for another in vain, and the same on a pass of another key, which is told before. Then one of three events, and
-// scripts that meet.
+// One script on a pass of another master of the key, which made a call there.
+fn append_misfit<W: Threads + Wait + Sync>(
+    rt: &W,
+    alloc: Global,
+    told: &mut String,
+    others: &mut Vec<Pass>,
+) -> Result<()> {
+    others.truncate(0);
+    keep_passes(rt, alloc, 1, &[OTHER_AGENT], others)?;
+    others.truncate(1);
+    let misfit = "one script, on a pass of another master of key 1:";
+    append_script(rt, alloc, told, misfit, 1, &[AGENT], others)?;
+    others.truncate(0);
+    Ok(())
+}
+
+// One script that waits for another in vain, the same on a pass of another key, which is told before, and one whose pass does not fit. Then
+// one of three events, and scripts that meet.
 fn append_each<W: Threads + Wait + Sync>(
     rt: &W,
     alloc: Global,
@@ -307,7 +323,7 @@ fn append_each<W: Threads + Wait + Sync>(
     others.truncate(1);
     let stranger = "one script that is to meet another, on a pass of key 2:";
     append_script(rt, alloc, told, stranger, 2, &one, others)?;
-    others.truncate(0);
+    append_misfit(rt, alloc, told, others)?;
     append_script(
         rt,
         alloc,

@@ -135,6 +135,7 @@ impl Tables {
         let offer = self.offer(accept.offer).unwrap();
         let rest = accept.tasks.rest_of(&offer.bundle)?;
         let filter = filter_rest(offer, &rest, moment, accept.refuse_ms)?;
-        self.start(accept.offer, accept.tasks, rest, filter, moment)
+        let taken = self.start(accept.offer, accept.tasks, rest, filter, moment)?;
+        Ok(taken)
     }
 }

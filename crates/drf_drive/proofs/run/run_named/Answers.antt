@@ -1,13 +1,10 @@
-use Rattle.std.proofs.Common.{◌≡◌, ℕ, [], List, sym, ap, ◌∙◌, subst}
+use Rattle.std.proofs.Common.{◌≡◌, ℕ, [], List, sym, subst}
 use Rattle.std.specs.Prelude.{All}
 use Rattle.std.proofs.lemmas.List.Elements.{All-weaker}
-use Rattle.drf_board.specs.Slates.{SlateName}
 use Rattle.drf_board.specs.declared.entry.Entry.{Entry}
 use Rattle.drf_master.specs.Receipts.{Held, IsNewPass}
-use Rattle.drf_master.specs.Scripts.{IsAsked, IsDriveFault}
-use Rattle.drf_rows.specs.LimitNumbers.{LimitNumbers}
 use Rattle.drf_drive.specs.Driven.{IsShuffleOf}
-use Rattle.drf_drive.proofs.Misfits.{told-fault}
+use Rattle.drf_drive.proofs.Endings.{told-fault}
 use Rattle.drf_drive.proofs.run.run_named.Goals as goal
 
 pub returns-in-Ok-clause-shuffle : goal.returns-in-Ok-clause-shuffle
@@ -23,13 +20,4 @@ returns-in-Ok-clause-shuffle g c =
     })
 
 pub returns-clause-fault : goal.returns-clause-fault
-returns-clause-fault g c =
-    let limits = c.args.limits in
-    let key = c.in_ok-master.master.key in
-    let passes = c.in_ok-master.passes.items in
-    let scripts = c.args.scripts.items in
-    let asked = IsAsked (λ worker call. Unit {0}) (λ worker call. Unit {0}) in
-    let given : g.K.Naming.slate.limits ≡ limits = sym (c.requires.limits ∙ ap (λ (name : SlateName). name.limits) c.requires.named) in
-    let new = subst (λ (k : ℕ). All (IsNewPass k) passes) (sym c.in_ok-master.ensures.key) c.in_ok-master.ensures.passes.1 in
-    told-fault limits asked key passes scripts new c.in-Err.fault
-    (subst (λ (l : LimitNumbers). IsDriveFault l asked (λ worker call. ⊥) key passes scripts c.in-Err.fault) given c.in-Err.ensures.fault)
+returns-clause-fault g c = told-fault c.in-Err.fault

@@ -1,4 +1,4 @@
-use Rattle.drf_master.proofs.Sames.{paths_same}
+use Rattle.drf_master.proofs.Paths.{paths_same}
 use Rattle.drf_master.proofs.same.RoleSame.same.Goals as goal
 
 pub returns : goal.returns

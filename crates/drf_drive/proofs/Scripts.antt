@@ -2,7 +2,6 @@
 use Rattle.std.proofs.Common.{◌≡◌, ℕ, suc, List, [], ◌∷◌, ◌++◌, length, map, refl, sym, ap, subst, ◌∙◌, append-nil, arith}
 use Rattle.std.specs.List.{AllZip}
 use Rattle.std.specs.Global.{Vec}
-use Rattle.drf_journal.specs.Lines.{lines_of}
 use Rattle.drf_journal.specs.declared.fault.RunFault.TheVariants.{Read, Write, Memory}
 use Rattle.drf_lines.specs.Meaning.{meaning_of}
 use Rattle.drf_lines.specs.declared.fault.LineError.TheVariants as errors

@@ -6,7 +6,6 @@ use Rattle.drf_board.specs.History.{IsLegal}
 use Rattle.drf_board.specs.declared.entry.Entry.{Entry}
 use Rattle.drf_journal.specs.Device.{AppendsFrontOf}
 use Rattle.drf_journal.specs.declared.fault.RunFault.TheVariants.{Read, Write, Memory}
-use Rattle.drf_master.specs.Matching.{IsShuffle}
 use Rattle.drf_master.specs.Receipts.{Held}
 use Rattle.drf_master.specs.Scripts.{HasDriven}
 use Rattle.drf_master.specs.declared.driving.DriveFault.{DriveFault}

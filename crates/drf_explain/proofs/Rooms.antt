@@ -1,5 +1,5 @@
 -- What limits leave, as a quota counts it and as the rows say it, and what comes of a client by that.
-use Rattle.std.specs.Prelude.{◌≡◌, ℕ, max, true, false, List, map, filter, Option, None}
+use Rattle.std.specs.Prelude.{◌≡◌, ℕ, max, true, false, List, map, filter, Option}
 use Rattle.std.specs.List.{reduce}
 use Rattle.std.specs.Option.{option_map_or}
 use Rattle.std.proofs.Common.{sym, ap, ◌∙◌, cond}
@@ -20,7 +20,7 @@ use Rattle.drf_rows.specs.declared.rows.LimitRow.{LimitRow}
 use Rattle.drf_rows.specs.declared.rows.Rows.{Rows}
 use Rattle.drf_explain.specs.Explained.{held_until, limiting_role, outcome_by, shortage, tightest, worthy_scalar}
 use Rattle.drf_explain.specs.ExplainedLaws.{filter_weaker}
-use Rattle.drf_explain.specs.Gates.{AreGatesOf, IsQuotaOf, client_at}
+use Rattle.drf_explain.specs.Gates.{AreGatesOf, client_at}
 use Rattle.drf_explain.specs.declared.finding.Outcome.{Outcome}
 use Rattle.drf_explain.specs.declared.finding.Outcome.TheVariants.{Grant, HeldBack}
 use Rattle.drf_explain.specs.declared.gates.Gates.{Gates}

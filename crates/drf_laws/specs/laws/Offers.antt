@@ -1,5 +1,5 @@
 -- An accept that is not refused may start its tasks.
-use Rattle.std.proofs.Common.{◌≡◌, true, false, Option, None, sym, ap, ◌∙◌}
+use Rattle.std.proofs.Common.{◌≡◌, false, Option, None, sym, ap, ◌∙◌}
 use Rattle.std.specs.Prelude.{not}
 use Rattle.std.specs.Option.{option_map_or}
 use Rattle.std.proofs.lemmas.Bool.{not-false}

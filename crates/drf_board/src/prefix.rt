@@ -51,7 +51,7 @@ impl<K: Naming> Prefix<K> {
     pub fn recall(&self)
         ensures { IsLegal K.slate.limits self.now }
     {
-        let _ = self.count;
+        let _ = &self.count;
     }
 
     /// The same list once more, without memory.

@@ -4,7 +4,6 @@ use Rattle.std.specs.List.{AllZip}
 use Rattle.std.specs.Global.{Vec}
 use Rattle.drf_journal.specs.declared.fault.RunFault.TheVariants.{Read, Write, Memory}
 use Rattle.drf_lines.specs.Meaning.{meaning_of}
-use Rattle.drf_lines.specs.declared.fault.LineError.TheVariants as errors
 use Rattle.drf_rows.specs.declared.event.Event.{Event}
 use Rattle.drf_drive.specs.Files.{bytes_of}
 use Rattle.drf_drive.specs.Scripts.{AreEventsOf, AreScripts, AreWhole, HaveBadLine, HaveStopped, IsScript, IsScriptOf, IsStoppedBy, IsWhole, as_meant, meanings_of}

@@ -1,6 +1,7 @@
 pub mod Exits
 pub mod RoleLists
 pub mod Values
+pub mod KnownTexts
 pub mod LineValues
 pub mod LineNumbers
 pub mod Ranges

@@ -10,9 +10,9 @@ ghost use Rattle.drf_lines.specs.Words.{name_in};
 ghost use Rattle.drf_lines.specs.Written.{KeepsFront, KeepsUtf8};
 
 use crate::fault::LineError;
+use crate::known::KnownBundles;
 use crate::member::{put_bundle, put_byte, put_name, put_text};
 use crate::object::{LineValue, keys, text_at};
-use crate::resources::read_bundle;
 use crate::words::read_name;
 use drf_bundle::Bundle;
 use drf_role::Name;
@@ -20,13 +20,17 @@ use std::alloc::{AllocError, Global};
 
 /// The agent and the total of an event that has no other keys.
 #[tactic(auto, unfolding(crate::specs::AgentEvents::its_total))]
-pub fn read_its_total(alloc: Global, value: &LineValue<'_>) -> Result<(Name, Bundle), LineError>
+pub fn read_its_total(
+    alloc: Global,
+    known: &mut KnownBundles,
+    value: &LineValue<'_>,
+) -> Result<(Name, Bundle), LineError>
     ensures { IsReadOf result (its_total (line_view value.now)) }
 {
     keys(value, 3)?;
     let agent = text_at(value, "agent")?;
     let total = text_at(value, "total")?;
-    Ok((read_name(alloc, agent)?, read_bundle(alloc, total)?))
+    Ok((read_name(alloc, agent)?, known.read(alloc, total)?))
 }
 
 /// An event of an agent and a total.

@@ -7,6 +7,7 @@ mod event_line;
 mod fault;
 mod fraction;
 mod frameworks;
+mod known;
 mod limits;
 mod line;
 mod member;

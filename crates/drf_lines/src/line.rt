@@ -13,6 +13,7 @@ ghost use Rattle.drf_lines.specs.Meaning.{value_in, cycle_event, report_event, e
 use crate::agents::{read_its_agent, read_its_total};
 use crate::fault::{LineError, LineFault};
 use crate::frameworks::{read_framework, read_its_client, read_its_framework};
+use crate::known::KnownBundles;
 use crate::limits::read_limiting;
 use crate::object::{LineValue, keys, number_at, text_at};
 use crate::offers::{read_accept, read_decline, read_finish, read_rescind};
@@ -90,12 +91,22 @@ fn read_report(value: &LineValue<'_>) -> Result<Event, LineError>
 }
 
 #[tactic(auto, unfolding(crate::specs::Meaning::event_in))]
-fn read_object(alloc: Global, value: &LineValue<'_>) -> Result<Event, LineError>
+fn read_object(
+    alloc: Global,
+    known: &mut KnownBundles,
+    value: &LineValue<'_>,
+) -> Result<Event, LineError>
     ensures { IsReadOf result (event_in (line_view value.now)) }
 {
     match text_at(value, "event")? {
+        // Most lines are of these, so that they are looked for first.
+        "finish" => read_finish(alloc, value),
+        "accept" => read_accept(alloc, known, value),
+        "decline" => read_decline(alloc, value),
+        "rescind" => read_rescind(value),
+        "cycle" => read_cycle(value),
         "add_agent" => {
-            let (agent, total) = read_its_total(alloc, value)?;
+            let (agent, total) = read_its_total(alloc, known, value)?;
             Ok(Event::AddAgent { agent, total })
         }
         "remove_agent" => Ok(Event::RemoveAgent {
@@ -108,7 +119,7 @@ fn read_object(alloc: Global, value: &LineValue<'_>) -> Result<Event, LineError>
             agent: read_its_agent(alloc, value)?,
         }),
         "set_agent" => {
-            let (agent, total) = read_its_total(alloc, value)?;
+            let (agent, total) = read_its_total(alloc, known, value)?;
             Ok(Event::SetAgent { agent, total })
         }
         "add_framework" => read_framework(alloc, value),
@@ -123,12 +134,8 @@ fn read_object(alloc: Global, value: &LineValue<'_>) -> Result<Event, LineError>
             let (framework, role) = read_its_client(alloc, value)?;
             Ok(Event::Revive { framework, role })
         }
-        "accept" => read_accept(alloc, value),
-        "decline" => read_decline(alloc, value),
-        "rescind" => read_rescind(value),
-        "finish" => read_finish(alloc, value),
         "reserve" => {
-            let (agent, role, resources) = read_its_reservation(alloc, value)?;
+            let (agent, role, resources) = read_its_reservation(alloc, known, value)?;
             Ok(Event::Reserve {
                 agent,
                 role,
@@ -136,7 +143,7 @@ fn read_object(alloc: Global, value: &LineValue<'_>) -> Result<Event, LineError>
             })
         }
         "unreserve" => {
-            let (agent, role, resources) = read_its_reservation(alloc, value)?;
+            let (agent, role, resources) = read_its_reservation(alloc, known, value)?;
             Ok(Event::Unreserve {
                 agent,
                 role,
@@ -145,7 +152,6 @@ fn read_object(alloc: Global, value: &LineValue<'_>) -> Result<Event, LineError>
         }
         "set_weight" => read_weighing(alloc, value),
         "set_limit" => read_limiting(alloc, value),
-        "cycle" => read_cycle(value),
         "report" => read_report(value),
         _ => Err(LineError::Fault(LineFault::BadShape)),
     }
@@ -159,6 +165,7 @@ const LONGEST_LINE: usize = 65_536;
 pub struct LineReader {
     alloc: Global,
     scratch: Scratch,
+    known: KnownBundles,
 }
 
 impl LineReader {
@@ -167,6 +174,7 @@ impl LineReader {
         LineReader {
             alloc,
             scratch: Scratch::new(alloc),
+            known: KnownBundles::none(),
         }
     }
 
@@ -180,7 +188,7 @@ impl LineReader {
             return Err(LineError::Fault(LineFault::LineTooLong));
         }
         let value = line_value(self.alloc, &mut self.scratch, line)?;
-        read_object(self.alloc, &value)
+        read_object(self.alloc, &mut self.known, &value)
     }
 }
 

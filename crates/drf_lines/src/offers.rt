@@ -12,6 +12,7 @@ ghost use Rattle.drf_lines.specs.Written.{KeepsFront, KeepsUtf8};
 ghost use Rattle.drf_lines.specs.OfferEvents.{refusal_member, offer_members, accept_event, accept_value, decline_event, decline_value, rescind_event, rescind_value, finish_event, finish_value};
 
 use crate::fault::LineError;
+use crate::known::KnownBundles;
 use crate::member::{put, put_byte, put_name, put_number};
 use crate::object::{LineValue, keys, keys_besides, number_at, number_or, text_at};
 use crate::tasks::{put_start, put_task_list, read_tasks, task_texts};
@@ -25,7 +26,11 @@ use std::alloc::{AllocError, Global};
 const USUAL_REFUSAL: u64 = 5000;
 
 #[tactic(auto, unfolding(crate::specs::OfferEvents::accept_event))]
-pub fn read_accept(alloc: Global, value: &LineValue<'_>) -> Result<Event, LineError>
+pub fn read_accept(
+    alloc: Global,
+    known: &mut KnownBundles,
+    value: &LineValue<'_>,
+) -> Result<Event, LineError>
     ensures { IsReadOf result (accept_event (line_view value.now)) }
 {
     let tasks = task_texts(alloc, value)?;
@@ -36,7 +41,7 @@ pub fn read_accept(alloc: Global, value: &LineValue<'_>) -> Result<Event, LineEr
     Ok(Event::Accept(Accept {
         framework: read_name(alloc, framework)?,
         offer,
-        tasks: read_tasks(alloc, tasks.as_slice())?,
+        tasks: read_tasks(alloc, known, tasks.as_slice())?,
         at,
         refuse_ms,
     }))

@@ -11,9 +11,9 @@ ghost use Rattle.drf_lines.specs.Words.{name_in, role_in};
 ghost use Rattle.drf_lines.specs.Written.{KeepsFront, KeepsUtf8};
 
 use crate::fault::LineError;
+use crate::known::KnownBundles;
 use crate::member::{put_bundle, put_byte, put_name, put_role, put_text};
 use crate::object::{LineValue, keys, text_at};
-use crate::resources::read_bundle;
 use crate::words::{read_name, read_role};
 use drf_bundle::Bundle;
 use drf_role::{Name, Role};
@@ -23,6 +23,7 @@ use std::alloc::{AllocError, Global};
 #[tactic(auto, unfolding(crate::specs::ReservationEvents::its_reservation))]
 pub fn read_its_reservation(
     alloc: Global,
+    known: &mut KnownBundles,
     value: &LineValue<'_>,
 ) -> Result<(Name, Role, Bundle), LineError>
     ensures { IsReadOf result (its_reservation (line_view value.now)) }
@@ -34,7 +35,7 @@ pub fn read_its_reservation(
     Ok((
         read_name(alloc, agent)?,
         read_role(alloc, role)?,
-        read_bundle(alloc, resources)?,
+        known.read(alloc, resources)?,
     ))
 }
 

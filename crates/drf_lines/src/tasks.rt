@@ -11,9 +11,9 @@ ghost use Rattle.drf_lines.specs.TaskTexts.{each_in, task_text, is_few, if_few, 
 ghost use Rattle.drf_lines.specs.Written.{KeepsFront, KeepsUtf8};
 
 use crate::fault::{LineError, LineFault};
+use crate::known::KnownBundles;
 use crate::member::{put_bundle, put_byte, put_comma, put_name};
 use crate::object::{LineValue, find, keys, keys_besides, text_at, values_at};
-use crate::resources::read_bundle;
 use crate::words::read_name;
 use drf_bundle::Bundle;
 use drf_role::Name;
@@ -104,20 +104,28 @@ pub fn task_texts<'a>(
 }
 
 #[tactic(auto, unfolding(crate::specs::TaskTexts::start_in))]
-fn read_start(alloc: Global, text: &TaskText) -> Result<(Name, Bundle), LineError>
+fn read_start(
+    alloc: Global,
+    known: &mut KnownBundles,
+    text: &TaskText,
+) -> Result<(Name, Bundle), LineError>
     ensures { IsReadOf result (start_in (text.now.name.now, text.now.used.now)) }
 {
     let name = read_name(alloc, text.name)?;
-    let used = read_bundle(alloc, text.used)?;
+    let used = known.read(alloc, text.used)?;
     Ok((name, used))
 }
 
-fn read_starts(alloc: Global, texts: &[TaskText]) -> Result<Table<(Name, Bundle)>, LineError>
+fn read_starts(
+    alloc: Global,
+    known: &mut KnownBundles,
+    texts: &[TaskText],
+) -> Result<Table<(Name, Bundle)>, LineError>
     ensures { IsReadOf result (each_in start_in (map (λ text. (text.name.now, text.used.now)) texts.now)) }
 {
     let mut starts = Vec::with_capacity(alloc, texts.len())?;
     for text in texts {
-        starts.push(read_start(alloc, text)?)?;
+        starts.push(read_start(alloc, known, text)?)?;
     }
     Ok(Table::from_vec(starts))
 }
@@ -132,10 +140,14 @@ fn task_list(tasks: Table<(Name, Bundle)>) -> Result<TaskList, LineFault>
 
 /// Reads the tasks of an accept.
 #[tactic(auto, unfolding(crate::specs::TaskTexts::starts_in))]
-pub fn read_tasks(alloc: Global, texts: &[TaskText]) -> Result<TaskList, LineError>
+pub fn read_tasks(
+    alloc: Global,
+    known: &mut KnownBundles,
+    texts: &[TaskText],
+) -> Result<TaskList, LineError>
     ensures { IsReadOf result (starts_in (map (λ text. (text.name.now, text.used.now)) texts.now)) }
 {
-    let starts = read_starts(alloc, texts)?;
+    let starts = read_starts(alloc, known, texts)?;
     let tasks = task_list(starts)?;
     Ok(tasks)
 }

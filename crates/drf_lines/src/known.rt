@@ -1,8 +1,8 @@
-//! Bundles that were read before. Tasks and agents of one shape come again and again: a copy of what was read takes no memory, and is
-//! shared by all that have it.
-ghost use Rattle.std.specs.Prelude.{◌≡◌, [], Ok, IfSome};
+//! Bundles that were read before. Tasks and agents of one shape come again and again: a copy of what was read takes no memory, and shares
+//! what the others hold.
+ghost use Rattle.std.specs.Prelude.{◌≡◌, ◌≤◌, length, Ok, IfSome};
 ghost use Rattle.drf_lines.specs.Fault.{IsReadOf};
-ghost use Rattle.drf_lines.specs.Known.{AreRead};
+ghost use Rattle.drf_lines.specs.Known.{AreKnown, longest_known};
 ghost use Rattle.drf_lines.specs.Resources.{bundle_in};
 
 use crate::fault::LineError;
@@ -14,36 +14,37 @@ use std::alloc::{AllocError, Global};
 use std::marker::Model;
 use std::num::NonZeroUsize;
 
-/// How many bundles are known at most.
+/// How many texts are known at most.
 const MOST_KNOWN: usize = 128;
 
-/// The most bytes of a text that is kept with its bundle.
+/// How many bytes each has at most.
 const LONGEST_KNOWN: usize = 128;
 
 /// The texts that came last, each with its bundle.
 type Texts = LruCache<String, Bundle>;
 
-/// No text.
+/// No text, but room for some.
 fn no_texts(alloc: Global) -> Option<Texts>
-    ensures { IfSome result (λ texts. texts.entries ≡ []) }
+    ensures { IfSome result AreKnown }
 {
     LruCache::sparse(alloc, NonZeroUsize::new(MOST_KNOWN)?).ok()
 }
 
 /// The bundle of a text that is among them.
 fn find(texts: &mut Texts, text: &str) -> Option<Bundle>
-    requires { AreRead texts.old.entries }
+    requires { AreKnown texts.old }
     ensures found { IfSome result (λ bundle. bundle_in text.now ≡ Ok bundle) }
-    ensures read { AreRead texts.new.entries }
+    ensures known { AreKnown texts.new }
 {
     texts.get(text)?.copy().ok()
 }
 
 /// Puts a text among them, if there is memory for that.
 fn keep(texts: &mut Texts, alloc: Global, text: &str, bundle: &Bundle) -> Result<(), AllocError>
+    requires short { length text.now ≤ longest_known }
     requires bundle { bundle_in text.now ≡ Ok bundle.now }
-    requires read { AreRead texts.old.entries }
-    ensures read { AreRead texts.new.entries }
+    requires known { AreKnown texts.old }
+    ensures known { AreKnown texts.new }
 {
     let text = String::from_str(alloc, text)?;
     let bundle = bundle.copy()?;
@@ -51,28 +52,40 @@ fn keep(texts: &mut Texts, alloc: Global, text: &str, bundle: &Bundle) -> Result
     Ok(())
 }
 
-/// A reader of bundles, which knows some. What it knows is in no contract.
+/// A reader of bundles, which knows some, or none where it reads a line alone. What it knows is in no contract.
 #[derive(Drop)]
 pub struct KnownBundles {
-    // None as long as there was no text.
+    keeps: bool,
+    // None until there is something to keep, and memory for that.
     texts: Option<Texts>,
 }
 
 impl Model for KnownBundles {
     ghost use Rattle.std.specs.Prelude.{⊤, IfSome};
-    ghost use Rattle.drf_lines.specs.Known.{AreRead};
+    ghost use Rattle.drf_lines.specs.Known.{AreKnown};
 
     ghost Value = { ⊤ };
 
-    ghost view = { λ k. tt };
+    ghost view = { λ _. tt };
 
-    ghost invariant = { λ k. IfSome k.texts (λ texts. AreRead texts.entries) };
+    ghost invariant = { λ k. IfSome k.texts AreKnown };
 }
 
 impl KnownBundles {
-    /// None is known.
+    /// None is known yet.
+    pub fn new() -> KnownBundles {
+        KnownBundles {
+            keeps: true,
+            texts: None,
+        }
+    }
+
+    /// None is known, and none will be.
     pub fn none() -> KnownBundles {
-        KnownBundles { texts: None }
+        KnownBundles {
+            keeps: false,
+            texts: None,
+        }
     }
 
     fn find(&mut self, text: &str) -> Option<Bundle>
@@ -82,7 +95,8 @@ impl KnownBundles {
     }
 
     fn keep(&mut self, alloc: Global, text: &str, bundle: &Bundle)
-        requires { bundle_in text.now ≡ Ok bundle.now }
+        requires short { length text.now ≤ longest_known }
+        requires bundle { bundle_in text.now ≡ Ok bundle.now }
     {
         if self.texts.is_none() {
             self.texts = no_texts(alloc);
@@ -96,7 +110,7 @@ impl KnownBundles {
     pub fn read(&mut self, alloc: Global, text: &str) -> Result<Bundle, LineError>
         ensures { IsReadOf result (bundle_in text.now) }
     {
-        if text.len() > LONGEST_KNOWN {
+        if !self.keeps || text.len() > LONGEST_KNOWN {
             return read_bundle(alloc, text);
         }
         if let Some(bundle) = self.find(text) {

@@ -171,10 +171,14 @@ pub struct LineReader {
 impl LineReader {
     /// A reader that has read nothing.
     pub fn new(alloc: Global) -> LineReader {
+        LineReader::knowing(alloc, KnownBundles::new())
+    }
+
+    fn knowing(alloc: Global, known: KnownBundles) -> LineReader {
         LineReader {
             alloc,
             scratch: Scratch::new(alloc),
-            known: KnownBundles::none(),
+            known,
         }
     }
 
@@ -198,5 +202,5 @@ pub fn read_event(alloc: Global, line: &[u8]) -> Result<Event, LineError>
     ensures memory { IsErrOf result LineError.Memory → length line.now ≤ longest_line }
     ensures utf8 { IsErrOf result LineError.Memory → IsUtf8 line.now }
 {
-    LineReader::new(alloc).read(line)
+    LineReader::knowing(alloc, KnownBundles::none()).read(line)
 }

@@ -11,12 +11,12 @@ use Rattle.drf_bundle.specs.declared.resource.Resource.{Resource}
 use Rattle.drf_rows.specs.Consistent.{IsFramework, are_distinct_roles, offers_counted}
 use Rattle.drf_rows.specs.Cycle.{free_of}
 use Rattle.drf_rows.specs.Filters.{in_force}
-use Rattle.drf_rows.specs.Held.{is_registered}
+use Rattle.drf_rows.specs.Held.{clients_of, is_registered}
 use Rattle.drf_rows.specs.LimitNumbers.{LimitNumbers}
 use Rattle.drf_rows.specs.Members.{has_agent, has_framework}
 use Rattle.drf_rows.specs.Offers.{has_task, is_empty}
 use Rattle.drf_rows.specs.Quota.{has_limit}
-use Rattle.drf_rows.specs.Step.{opening, is_too_large, too_many_agents, too_many_frameworks}
+use Rattle.drf_rows.specs.Step.{opening, is_too_large, too_many_agents}
 use Rattle.drf_rows.specs.Totals.{agent_at}
 use Rattle.drf_rows.specs.Weights.{has_weight, is_weight}
 use Rattle.drf_rows.specs.declared.limits.TheConstants.{LATEST_MOMENT}
@@ -90,6 +90,12 @@ no_frameworks rows = is_empty rows.frameworks && no_weights rows
 abbrev pub roles_of : FrameworkRow → List Path
 roles_of f = map (λ c. c.role) f.clients
 
+-- with one more framework the frameworks, its clients, or all clients would be too many
+abbrev pub has_too_many_clients : LimitNumbers → Rows → FrameworkRow → Bool
+has_too_many_clients limits rows f =
+    nat_lt limits.frameworks (length rows.frameworks + 1)
+    || (nat_lt limits.roles (length f.clients) || nat_lt limits.clients (length (clients_of rows) + length f.clients))
+
 -- what the role may use of what is free on the agent covers the bundle
 abbrev pub is_usable : Rows → Text → Path → List Resource → Bool
 is_usable rows agent role bundle = option_map_or (λ a. covers (part_for role (free_of rows a)) bundle) (agent_at rows agent) false
@@ -113,8 +119,8 @@ row_cases limits rows (Agent a) =
 row_cases limits rows (Framework f) =
     (not (no_weights rows), OutOfOrder)
     ∷ (has_framework rows f.name, Refused KnownFramework)
+    ∷ (has_too_many_clients limits rows f, Refused TooMany)
     ∷ (not (are_distinct_roles (roles_of f)), KnownRole)
-    ∷ (too_many_frameworks limits rows (roles_of f), Refused TooMany)
     ∷ (nat_le rows.next_offer (offers_counted (rows.frameworks ++ f ∷ [])), BadNumber)
     ∷ []
 row_cases limits rows (Weight w) =

@@ -1,5 +1,13 @@
 //! The rows of an allocator, one by one.
-use drf_rows::{AgentRow, FilterRow, FrameworkRow, LimitRow, OfferRow, TaskRow, WeightRow};
+ghost use Rattle.std.specs.Prelude.{map};
+ghost use Rattle.std.specs.List.{AllByRecursion};
+ghost use Rattle.drf_role.specs.Role.{IsRole};
+ghost use Rattle.drf_rows.specs.Consistent.{IsFramework};
+ghost use Rattle.drf_saved.specs.Saved.{IsTyped};
+
+use drf_rows::{
+    AgentRow, ClientRow, FilterRow, FrameworkRow, LimitRow, OfferRow, TaskRow, WeightRow,
+};
 
 /// The numbers with which a state begins: the clock in milliseconds, the number of the next offer, and how many events were accepted.
 #[derive(Clone, Copy, Debug)]
@@ -19,6 +27,59 @@ pub enum SavedRow {
     Offer(OfferRow),
     Task(TaskRow),
     Filter(FilterRow),
+}
+
+/// Tells a proof that clients have valid roles.
+fn recall_roles(clients: &[ClientRow])
+    ensures { AllByRecursion IsRole (map (λ c. c.role) clients.now) }
+{
+    for client in clients {
+        client.role.recall();
+    }
+}
+
+/// Tells a proof that a framework has a valid name and valid roles.
+fn recall_framework(row: &FrameworkRow)
+    ensures { IsFramework row.now }
+{
+    row.name.recall();
+    recall_roles(row.clients.as_slice());
+}
+
+impl SavedRow {
+    /// Tells a proof what the types of every row give. It does nothing.
+    pub fn recall(&self)
+        ensures { IsTyped self.now }
+    {
+        match self {
+            SavedRow::Agent(row) => {
+                row.name.recall();
+                row.total.recall();
+            }
+            SavedRow::Framework(row) => recall_framework(row),
+            SavedRow::Weight(row) => row.role.recall(),
+            SavedRow::Limit(row) => row.role.recall(),
+            SavedRow::Offer(row) => {
+                row.agent.recall();
+                row.framework.recall();
+                row.role.recall();
+                row.bundle.recall();
+            }
+            SavedRow::Task(row) => {
+                row.name.recall();
+                row.agent.recall();
+                row.framework.recall();
+                row.role.recall();
+                row.bundle.recall();
+            }
+            SavedRow::Filter(row) => {
+                row.agent.recall();
+                row.framework.recall();
+                row.role.recall();
+                row.bundle.recall();
+            }
+        }
+    }
 }
 
 /// What a line of a state file says. The last line is known by its bytes, of which nothing is kept.

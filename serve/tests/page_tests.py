@@ -1,0 +1,364 @@
+# Tests of the page over a stand-in: what it shows of given rows, of events, of faults. Outside the proof.
+import json
+import os
+
+from selenium.webdriver.common.keys import Keys
+
+import stand_in
+from chromium import equal, holds, test
+from stand_in import StandIn, TOKEN
+
+PAGE = open(os.path.join(os.path.dirname(os.path.realpath(__file__)), "..", "page.html"), encoding="utf-8").read()
+
+
+def small(browser):
+    own = StandIn(PAGE, stand_in.small_rows())
+    browser.enter(own.url, TOKEN)
+    browser.wait("the cluster", lambda: browser.texts("#tree tbody tr"))
+    return own
+
+
+ROW = """
+const cells = ['.name span', '.share b', '.share small', '.weighted', '.made'];
+return [...document.querySelectorAll('#tree tbody tr')].map(row =>
+  [...cells.map(cell => row.querySelector(cell).textContent), ...[...row.querySelectorAll('.part i')].map(part => part.style.width)])"""
+
+
+@test
+def a_wrong_token_is_told(browser, room):
+    own = StandIn(PAGE, stand_in.small_rows())
+    browser.enter(own.url, "another")
+    browser.wait("the refusal", lambda: "not known" in browser.text("#denied"))
+    holds("the page is not shown", not browser.one("#page").is_displayed() and browser.one("#login").is_displayed())
+    equal("what is kept", browser.run("return sessionStorage.length"), 0)
+    own.end()
+
+
+@test
+def the_token_is_kept_in_this_tab_alone(browser, room):
+    own = small(browser)
+    browser.driver.refresh()
+    browser.wait("the cluster again", lambda: browser.texts("#tree tbody tr"))
+    equal("what is kept for good", browser.run("return [localStorage.length, document.cookie]"), [0, ""])
+    browser.one("#leave").click()
+    browser.wait("the start", lambda: browser.focused() == "token")
+    equal("what is kept behind a sign-out", browser.run("return [sessionStorage.length, document.querySelectorAll('#tree tbody tr').length]"), [0, 0])
+    own.end()
+
+
+@test
+def an_empty_cluster_is_told(browser, room):
+    own = StandIn(PAGE, [stand_in.state(0, 0, 1)])
+    browser.enter(own.url, TOKEN)
+    browser.wait("the words", lambda: browser.one("#nobody").is_displayed() and "There are no agents." in browser.text("#meters"))
+    holds("what is empty is hidden", not browser.one("#tree").is_displayed() and not browser.one("#agents").is_displayed())
+    own.show(stand_in.small_rows() + [stand_in.agent("odd", "constructor:1;none:1;toString:2")])
+    browser.wait("the cluster", lambda: browser.one("#tree").is_displayed() and browser.one("#agents").is_displayed() and browser.run(MAPPED))
+    holds("the words are gone", "There are no agents." not in browser.text("#meters"))
+    equal("console", browser.console(), [])
+    own.end()
+
+
+# Whether something is drawn on the map.
+MAPPED = """
+const map = document.getElementById('map');
+return map.clientWidth > 0 && map.getContext('2d').getImageData(0, 0, map.width, map.height).data.some(byte => byte > 0)"""
+
+
+@test
+def shares_weights_and_what_is_offered_apart(browser, room):
+    own = small(browser)
+    # Of cpus:40;mem:32768 together, the inactive agent's among them.
+    equal("the tree", browser.run(ROW), [
+        ["ci", "0.0%", "", "0.0%", "0", "0%", "0%"], ["tests", "0.0%", "", "", "0", "0%", "0%"],
+        ["data", "15.6%", "mem", "15.6%", "3", "15.63%", "0%"], ["batch", "3.1%", "mem", "", "1", "3.13%", "0%"],
+        ["adhoc", "12.5%", "mem", "12.5%", "2", "12.5%", "0%"], ["query", "12.5%", "mem", "", "2", "12.5%", "0%"],
+        ["web", "20.0%", "cpus", "10.0%", "3", "10%", "10%"], ["batch", "0.0%", "", "", "0", "0%", "0%"],
+        ["site", "20.0%", "cpus", "", "3", "10%", "10%"]])
+    equal("how full", browser.texts("#meters .small"),
+          ["of 40", "7 used, 4 offered, 9 free, 20 inactive", "of 32,768", "6,144 used, 1,024 offered, 17,408 free, 8,192 inactive"])
+    equal("in numbers", dict(zip(browser.texts("#numbers dt"), browser.texts("#numbers dd"))),
+          {"agents, 1 inactive": "4", "frameworks": "4", "hold nothing": "1", "tasks": "3", "offers stand": "1", "filters in force": "1"})
+    equal("console", browser.console(), [])
+    own.end()
+
+
+@test
+def limits_stand_beside_consumption(browser, room):
+    own = small(browser)
+    # What is reserved for `data` counts once, held or not; what is held of it does not count again.
+    equal("limits", browser.texts("#tree .limits li"), ["cpus 4 of 4, full", "mem 5,120 of 8,192", "cpus 8 of 9"])
+    holds("a full limit is told", any("data has consumed its limit of cpus" in note for note in browser.texts("#notes li")))
+    own.end()
+
+
+@test
+def roles_fold_and_orders_change(browser, room):
+    own = small(browser)
+    browser.one("#fold").click()
+    equal("closed", browser.texts("#tree .name span"), ["ci", "data", "web"])
+    browser.one("#tree button[aria-label='Open data']").click()
+    equal("one opened", browser.texts("#tree .name span"), ["ci", "data", "batch", "adhoc", "web"])
+    browser.one("#order option[value=share]").click()
+    equal("greatest first", browser.texts("#tree .name span"), ["web", "data", "batch", "adhoc", "ci"])
+    browser.one("#order option[value=next]").click()
+    equal("served next first", browser.texts("#tree .name span"), ["ci", "web", "data", "batch", "adhoc"])
+    own.end()
+
+
+@test
+def a_change_comes_within_seconds(browser, room):
+    own = small(browser)
+    rows = [row for row in stand_in.small_rows() if row.get("offer") != 8]
+    own.show(rows)
+    own.tell('{"event":"rescind","offer":8}', '{"ok":true}')
+    browser.wait("the new share", lambda: ["web", "10.0%", "cpus", "5.0%", "3", "10%", "0%"] in browser.run(ROW), 5)
+    equal("the event", browser.texts("#feed li span")[0], "Offer 8 taken back")
+    equal("offers", browser.text("#count"), "No offer stands.")
+    own.end()
+
+
+EVENTS = [
+    ({"event": "add_agent", "agent": "n9", "total": "cpus:4;mem:1024"}, {"ok": True}, "Agent n9 came, with cpus 4, mem 1024"),
+    ({"event": "set_limit", "role": "web", "limit": ""}, {"ok": True}, "web has no limit"),
+    ({"event": "reserve", "agent": "n1", "role": "web", "resources": "cpus:1"}, {"ok": True}, "cpus 1 on n1 reserved for web"),
+    ({"event": "accept", "framework": "site", "offer": 8, "tasks": [{"task": "a", "use": "cpus:1"}, {"task": "b", "use": "cpus:2"}]}, {"ok": True},
+     "site accepted offer 8: task a uses cpus 1; task b uses cpus 2"),
+    ({"event": "decline", "framework": "site", "offer": 8}, {"ok": True}, "site declined offer 8, for 5 s"),
+    ({"event": "cycle", "at": 1}, {"offers": [{"framework": "site"}, {"framework": "batch"}]}, "Cycle: 2 offers, to site, batch"),
+    ({"event": "rescind", "offer": 7}, {"name": "UnknownOffer", "refused": 7}, "Refused: rescind offer 7 (UnknownOffer: no such offer stands)"),
+    ({"event": "constructor"}, {"name": "BadShape", "refused": 32}, 'Line: {"event": "constructor"} (BadShape: the line is no event)'),
+    ({"event": "add_agent", "agent": 7}, {"name": "BadShape", "refused": 32}, "Refused: add_agent 7 (BadShape: the line is no event)"),
+]
+
+
+@test
+def events_are_told_in_words(browser, room):
+    own = small(browser)
+    for event, reply, _ in EVENTS:
+        own.tell(json.dumps(event), json.dumps(reply))
+    browser.wait("all", lambda: len(browser.texts("#feed li time")) == len(EVENTS))
+    equal("words", browser.texts("#feed li span"), [words for _, _, words in reversed(EVENTS)])
+    browser.one("#refused").click()
+    equal("refused alone", len(browser.texts("#feed li")), 3)
+    browser.one("#refused").click()
+    browser.one("#only").send_keys("n9")
+    browser.wait("one", lambda: browser.texts("#feed li span") == [EVENTS[0][2]])
+    browser.one("#raw").click()
+    equal("the line itself", browser.text("#feed code").split("\n")[0], json.dumps(EVENTS[0][0]))
+    equal("console", browser.console(), [])
+    own.end()
+
+
+HOSTILE = "<img src=x onerror=\"window.taken=1\"><script>window.taken=1</script>"
+
+
+@test
+def the_latest_events_of_the_journal_come_first(browser, room):
+    own = StandIn(PAGE, stand_in.small_rows())
+    pairs = [f'{{"event":"decline","framework":"site","offer":{k},"at":{1795860000000 + k}}}\n{{"ok":true}}\n' for k in range(2000)]
+    own.journal = "".join(pairs) + '{"ok":true}\n{"name":"BadShape","refused":32}\n'
+    own.show(stand_in.small_rows())
+    browser.enter(own.url, TOKEN)
+    wanted = ['Line: {"ok":true} (BadShape: the line is no event)', "site declined offer 1999, for 5 s", "site declined offer 1998, for 5 s"]
+    browser.wait("the latest", lambda: browser.texts("#feed li span")[:3] == wanted)
+    own.tell('{"event":"rescind","offer":3000}', '{"ok":true}')
+    browser.wait("and what comes", lambda: browser.texts("#feed li span")[:1] == ["Offer 3000 taken back"])
+    own.end()
+
+
+@test
+def a_hostile_text_is_text(browser, room):
+    own = small(browser)
+    bad = "<b>x&amp;</b>"
+    rows = stand_in.small_rows() + [stand_in.framework(bad, (bad, 1, False)), stand_in.agent(HOSTILE, "cpus:1;" + bad + ":{" + HOSTILE + "}"),
+                                    stand_in.task(HOSTILE, bad, bad, HOSTILE, "cpus:1"), stand_in.offer(77, bad, bad, HOSTILE, bad + ":1")]
+    own.answers["/explain"] = (200, json.dumps({"client": bad + "/./" + bad, "why": HOSTILE}) + "\n")
+    own.show(rows)
+    own.tell(HOSTILE + "\u202egnp\u0000", '{"name":"NotJson","refused":31}')
+    own.tell(json.dumps({"event": "add_framework", "framework": HOSTILE, "roles": [HOSTILE]}), '{"name":"' + HOSTILE.replace('"', "'") + '","refused":33}')
+    browser.wait("the lines", lambda: len(browser.texts("#feed li time")) == 2)
+    browser.wait("the rows", lambda: bad in browser.texts("#tree .name span"))
+    holds("the line is shown, marks of direction made visible", "Line: " + HOSTILE + "\\u{202e}gnp\\u{0}" in browser.text("#feed"))
+    browser.one("#find").send_keys(HOSTILE)
+    browser.wait("the agent", lambda: HOSTILE in browser.text("#agent h3"))
+    browser.one("#whom").send_keys(bad, Keys.ENTER)
+    browser.wait("why", lambda: HOSTILE in browser.text("#because"))
+    made = "return [document.querySelectorAll('img, main b b, #page b:not(.top b):not(.share b), #page script').length, window.taken ?? null]"
+    equal("made of it", browser.run(made), [0, None])
+    equal("console", browser.console(), [])
+    own.end()
+
+
+@test
+def why_is_told_in_words(browser, room):
+    own = small(browser)
+    own.answers["/explain"] = (200, "".join(json.dumps(line) + "\n" for line in [
+        {"client": "web/./batch", "why": "Suppressed"}, {"agent": "n1", "client": "data/./batch", "role": "data", "why": "OverLimit"},
+        {"agent": "n1", "client": "web/./site", "grant": "cpus:1"}, {"agent": "n2", "client": "data/./batch", "until": 1795860005000, "why": "HeldBack"},
+        {"agent": "n3", "client": "web/./site", "grant": "cpus:2"}, {"agent": "n3", "clients": 2, "left": "cpus:0.005"}, {"agent": "n4", "why": "Inactive"}]))
+    browser.one("#whom").send_keys("batch", Keys.ENTER)
+    browser.wait("the answer", lambda: "Inactive" not in browser.text("#because") and "takes no part" in browser.text("#because"))
+    told = browser.texts("#because li")
+    for part in ("web: It wants no offers", "data: The limit of data leaves too little. On 1 agent: n1.", "data: It declined, or left a rest",
+                 "The agent takes no part. On 1 agent: n4."):
+        holds(f"{part!r} in {told}", any(part in line for line in told))
+    browser.one("#whom").clear()
+    browser.one("#whom").send_keys("nobody", Keys.ENTER)
+    browser.wait("no such framework", lambda: "There is no framework nobody" in browser.text("#because"))
+    own.end()
+
+
+@test
+def replaying_and_a_lost_gateway_are_told(browser, room):
+    own = small(browser)
+    own.show(stand_in.small_rows(), ready=False)
+    browser.wait("replaying", lambda: browser.text("#health") == "Replaying" and "replaying" in browser.text("#notes"))
+    own.show(stand_in.small_rows(), clock_fault="the clock of this machine is 1m0s behind the service's: set it right")
+    browser.wait("a wrong clock", lambda: browser.text("#health") == "Takes no events" and "1m0s behind" in browser.text("#notes"))
+    own.show(stand_in.small_rows(), allocator={"restarts": 2})
+    browser.wait("a killed allocator", lambda: "started again, 2 times" in browser.text("#notes"))
+    own.show(stand_in.small_rows())
+    browser.wait("live", lambda: browser.text("#health") == "Live" and "replaying" not in browser.text("#notes"))
+    own.end()
+    browser.wait("lost", lambda: browser.text("#health") == "No answer" and "no answer since" in browser.text("#notes"))
+    holds("what was last known stays", browser.texts("#tree tbody tr"))
+    browser.console()
+
+
+@test
+def without_states_shares_are_shown(browser, room):
+    own = StandIn(PAGE, [])
+    own.answers["/state"] = (501, "drf has no `save`\n")
+    nodes = [{"count": 2, "held": "cpus:4", "path": path, "share": "1/2", "weighted": w} for path, w in (("web", "1/4"), ("web/.", "1/2"), ("web/./site", "1/2"))]
+    own.answers["/report"] = (200, {"nodes": nodes, "total": "cpus:8"})
+    browser.enter(own.url, TOKEN)
+    browser.wait("the tree", lambda: browser.texts("#tree .name span") == ["web", "site"])
+    equal("shares", browser.texts("#tree .share b, #tree .weighted"), ["50.0%", "25.0%", "50.0%", ""])
+    holds("it says what is missing, and why", "not available: drf has no `save`" in browser.text("#notes"))
+    holds("the rest is hidden", not browser.one("#agents").is_displayed() and not browser.one("#standing").is_displayed())
+    own.end()
+
+
+UNSEEN = """
+const e = document.activeElement, s = getComputedStyle(e);
+return e !== document.body && (s.outlineStyle === 'none' || parseFloat(s.outlineWidth) < 2)"""
+
+
+@test
+def it_is_used_by_keyboard(browser, room):
+    own = StandIn(PAGE, stand_in.small_rows())
+    browser.open(own.url)
+    equal("focus at the start", browser.focused(), "token")
+    browser.keys(TOKEN, Keys.ENTER)
+    browser.wait("the cluster", lambda: browser.texts("#tree tbody tr"))
+    seen, unseen = [], []
+    for _ in range(40):
+        browser.keys(Keys.TAB)
+        seen.append(browser.focused())
+        if browser.run(UNSEEN):
+            unseen.append(seen[-1])
+        if seen[-1] == "Close data":
+            browser.keys(Keys.SPACE)
+            equal("focus stays on what was pressed", browser.focused(), "Open data")
+            holds("data is closed", "adhoc" not in browser.texts("#tree .name span"))
+        if seen[-1] == "map":
+            browser.keys(Keys.HOME, Keys.ARROW_RIGHT, Keys.ARROW_RIGHT)
+            browser.wait("the third agent", lambda: browser.text("#agent h3").startswith("n3"))
+            holds("its task", "scan of query" in browser.text("#agent"))
+        if seen[-1] == "whom":
+            browser.keys("site", Keys.ENTER)
+            browser.wait("an answer", lambda: browser.texts("#because li") and "Asking" not in browser.text("#because"))
+            break
+    wanted = {"leave", "order", "unfold", "fold", "Close data", "measure", "find", "map", "which", "pause", "only", "refused", "raw", "feed", "whom"}
+    equal("not reached", wanted - set(seen), set())
+    equal("focus that is not seen", unseen, [])
+    own.end()
+
+
+# The ratio of each visible text to what is behind it, after WCAG 2; large texts need 3, others 4.5.
+CONTRAST = """
+const rgb = c => c.match(/[\\d.]+/g).map(Number), lin = v => (v /= 255) <= .04045 ? v / 12.92 : ((v + .055) / 1.055) ** 2.4;
+const lum = c => .2126 * lin(c[0]) + .7152 * lin(c[1]) + .0722 * lin(c[2]);
+const behind = e => {
+  for (; e; e = e.parentElement) { const c = rgb(getComputedStyle(e).backgroundColor); if (c.length < 4 || c[3] > .99) return c; }
+  return [255, 255, 255];
+};
+const isText = e => e.tagName === 'INPUT' || [...e.childNodes].some(n => n.nodeType === 3 && n.textContent.trim());
+const bad = [];
+for (const e of document.querySelectorAll('body *')) {
+  if (!isText(e) || ['SCRIPT', 'STYLE', 'OPTION'].includes(e.tagName) || !e.checkVisibility()) continue;
+  const s = getComputedStyle(e), a = lum(rgb(s.color)), b = lum(behind(e)), size = parseFloat(s.fontSize);
+  const ratio = (Math.max(a, b) + .05) / (Math.min(a, b) + .05);
+  if (ratio < (size >= 24 || size >= 18.66 && s.fontWeight >= 700 ? 3 : 4.5)) bad.push([e.textContent.slice(0, 30), ratio.toFixed(2)]);
+}
+return bad"""
+
+
+@test
+def contrast_is_enough_in_light_and_dark(browser, room):
+    for dark in (False, True):
+        browser.look(dark=dark)
+        own = small(browser)
+        for event, reply, _ in EVENTS:
+            own.tell(json.dumps(event), json.dumps(reply))
+        browser.wait("events", lambda: len(browser.texts("#feed li time")) == len(EVENTS))
+        browser.one("#raw").click()
+        browser.one("#find").send_keys("n1")
+        own.show(stand_in.small_rows(), ready=False)
+        browser.wait("replaying", lambda: browser.text("#health") == "Replaying")
+        equal("texts of too little contrast, dark" if dark else "texts of too little contrast", browser.run(CONTRAST), [])
+        background = browser.run("return getComputedStyle(document.body).backgroundColor")
+        equal("dark", sum(int(part) for part in background[4:-1].split(",")) < 200, dark)
+        own.answers["/status"] = (401, "no such token")
+        browser.wait("the start", lambda: "not known" in browser.text("#denied"))
+        equal("texts of too little contrast at the start", browser.run(CONTRAST), [])
+        browser.console()
+        own.end()
+
+
+CLIPPED = """
+const out = e => e.checkVisibility() && !e.closest('.sr, thead, canvas') && e.getBoundingClientRect().right > innerWidth + 1;
+return [...document.querySelectorAll('#page *')].filter(out).map(e => e.tagName + '.' + e.className)"""
+
+
+@test
+def nothing_is_wider_than_a_narrow_screen(browser, room):
+    for width in (360, 700, 1001):
+        browser.look(width=width, height=800)
+        own = small(browser)
+        long = "w" * 64
+        own.show(stand_in.small_rows() + [
+            stand_in.framework(long, (long, 1, True)), stand_in.limit(long, f"{long}:1000000;cpus:4000"), stand_in.agent(long, f"cpus:1;{long}:123456789"),
+            stand_in.offer(9007199254740991, long, long, long, f"{long}:1")])
+        browser.one("#find").send_keys(long)
+        for event, reply, _ in EVENTS:
+            own.tell(json.dumps(event), json.dumps(reply))
+        browser.wait("the long names", lambda: long in browser.texts("#tree .name span"))
+        own.tell("x" * 3000, '{"name":"NotJson","refused":31}')
+        browser.wait("events", lambda: len(browser.texts("#feed li time")) > len(EVENTS))
+        browser.one("#raw").click()
+        equal(f"width at {width}", browser.run("return document.documentElement.scrollWidth <= innerWidth"), True)
+        clipped = browser.run(CLIPPED)
+        equal(f"what stands out at {width}", clipped, [])
+        own.end()
+
+
+@test
+def two_thousand_agents_stay_quick(browser, room):
+    own = StandIn(PAGE, stand_in.large_rows())
+    browser.enter(own.url, TOKEN)
+    browser.wait("the cluster", lambda: len(browser.texts("#tree tbody tr")) == 20)
+    holds("the map tells them", "2,000 agents" in browser.one("#map").get_attribute("aria-label"))
+    took = browser.run("const began = performance.now(); view.cluster = clusterOf(arguments[0]); drawAll(); return performance.now() - began", stand_in.large_rows())
+    holds(f"a redraw took {took:.0f} ms", took < 500)
+    elements = browser.run("return document.querySelectorAll('*').length")
+    holds(f"{elements} elements", elements < 6000)
+    browser.one("#unfold").click()
+    equal("all opened", len(browser.texts("#tree .framework")), 200)
+    for k in range(5000):
+        own.tell('{"event":"rescind","offer":%d}' % k, '{"name":"UnknownOffer","refused":7}')
+    browser.wait("a flood of events", lambda: "5,000 UnknownOffer" in browser.text("#notes"), 20)
+    holds("the list stays short", len(browser.texts("#feed li")) <= 80)
+    equal("console", browser.console(), [])
+    own.end()

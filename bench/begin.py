@@ -12,6 +12,15 @@ def built_program():
     return f"{ROOT}/crates/drf/out/drf"
 
 
+def driver_of(program):
+    """The program that drives files: beside the built one that of ./drf drive, which is built where it must be, and else the one of the
+    same name with `_driver` behind it."""
+    if program != f"{ROOT}/crates/drf/out/drf":
+        return f"{program}_driver"
+    subprocess.run([f"{ROOT}/drf", "drive", "--version"], stdout=subprocess.DEVNULL, check=True)
+    return f"{ROOT}/crates/drf_driver/out/drf_driver"
+
+
 def inputs(extent):
     """The lines that use every event; of the whole, those of examples/ too."""
     return [f"{ROOT}/bench/every_event.jsonl"] + (sorted(glob.glob(f"{ROOT}/examples/*.jsonl")) if extent == "whole" else [])

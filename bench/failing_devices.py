@@ -14,7 +14,7 @@ import sys
 import tempfile
 from multiprocessing.pool import ThreadPool
 
-from begin import built_program, inputs, shim
+from begin import built_program, driver_of, inputs, shim
 
 # One call of a kind fails, the next one would not. A piece is what a call moves at most. Standard error is left alone.
 SHIM = r"""
@@ -61,7 +61,7 @@ int open(const char *path, int flags, ...) {
     return real(path, flags, mode);
 }
 """
-COMMANDS = [["run"], ["run", "--echo"], ["audit"], ["explain"], ["check"], ["drive"]]
+COMMANDS = [["run"], ["run", "--echo"], ["audit"], ["explain"], ["check"], ["save"], ["drive"]]
 # How many reply lines and lines in all a line that is answered has; the other commands write once they have read all.
 LINES_OF = {"run": 1, "run --echo": 2}
 READ_FAULTS = (errno.EIO, errno.EINTR, errno.EAGAIN, errno.EISDIR)
@@ -84,14 +84,16 @@ def is_tried_again(words, how):
 
 class Sweep:
     def __init__(self, program, shim, pool):
-        self.program, self.shim, self.pool, self.cases, self.faults, self.wrong = program, shim, pool, 0, 0, []
+        self.program, self.driver, self.shim, self.pool = program, driver_of(program), shim, pool
+        self.cases, self.faults, self.wrong = 0, 0, []
 
     def ran(self, words, path, kind="", call=0, how=0, piece=WHOLE):
+        program = self.driver if words == ["drive"] else self.program
         words = words + [path] if words == ["drive"] else words
         known = {**os.environ, "LD_PRELOAD": self.shim, "FAILING_KIND": kind, "FAILING_CALL": str(call)}
         known |= {"FAILING_HOW": str(how), "FAILING_PIECE": str(piece)}
         with open(path, "rb") as given:
-            done = subprocess.run([self.program, *words], stdin=given, capture_output=True, env=known, timeout=60)
+            done = subprocess.run([program, *words], stdin=given, capture_output=True, env=known, timeout=60)
         return done.returncode, done.stdout, done.stderr
 
     def note(self, is_right, *case):
@@ -163,10 +165,10 @@ def real_devices(program, path):
         ("nobody reads", '(sleep 0.3; "$0" run < "$1"; echo $? >&2) | true', (0, b"", b"drf: write fault\n1\n")),
         ("a full standard error", '"$0" run < / 2> /dev/full', (1, b"", b"")),
         ("no standard error", '"$0" run < / 2>&-', (1, b"", b"")),
-        ("a file that is not there", '"$0" drive "$1" /none', (1, b"", b"drf: read fault\n")),
-        ("a folder is driven", '"$0" drive "$1" /', (1, b"", b"drf: read fault\n")),
+        ("a file that is not there", '"$2" drive "$1" /none', (1, b"", b"drf: read fault\n")),
+        ("a folder is driven", '"$2" drive "$1" /', (1, b"", b"drf: read fault\n")),
     ):
-        done = subprocess.run(["bash", "-o", "pipefail", "-c", script, program, path], capture_output=True, timeout=60)
+        done = subprocess.run(["bash", "-o", "pipefail", "-c", script, program, path, driver_of(program)], capture_output=True, timeout=60)
         ends.append((done.returncode, done.stdout, done.stderr) == wanted)
         if not ends[-1]:
             print(f"{name}: status {done.returncode}, {done.stdout[:80]}, {done.stderr[:80]}")

@@ -14,7 +14,7 @@ import sys
 import tempfile
 from multiprocessing.pool import ThreadPool
 
-from begin import built_program, inputs, shim
+from begin import built_program, driver_of, inputs, shim
 
 SHIM = r"""
 #define _GNU_SOURCE
@@ -37,7 +37,7 @@ void *realloc(void *kept, size_t size) {
     return real(kept, size);
 }
 """
-COMMANDS = [["run"], ["run", "--echo"], ["audit"], ["explain"], ["check"]]
+COMMANDS = [["run"], ["run", "--echo"], ["audit"], ["explain"], ["check"], ["save"]]
 # So many ports that the journal of a drive is written in several pieces.
 PORTS = ",".join(f"{port}-{port}" for port in range(0, 8000, 2))
 # What each file of a drive has.
@@ -87,7 +87,7 @@ def sweep(pool, run, is_right):
 
 
 def tell(words, sums):
-    print(f"{' '.join(words):12}{sums[0]:7} growths refused, after {sums[1]} all was answered, {sums[2]} differences", flush=True)
+    print(f"{' '.join(words[:2]):12}{sums[0]:7} growths refused, after {sums[1]} all was answered, {sums[2]} differences", flush=True)
 
 
 def sweep_examples(pool, names, program, words, shim):
@@ -104,14 +104,23 @@ def sweep_examples(pool, names, program, words, shim):
     tell(words, sums)
 
 
+def sweep_from(pool, names, program, room, shim):
+    """Commands that begin with the state after the lines of the last name."""
+    state = f"{room}/state"
+    with open(state, "wb") as it:
+        it.write(ran(program, ["save"], open(names[-1], "rb").read(), shim, 0)[1])
+    for command in ("run", "save"):
+        sweep_examples(pool, names, program, [command, "--from", state], shim)
+
+
 def sweep_drive(pool, program, room, shim):
-    names = []
+    names, driver = [], driver_of(program)
     for number, events in enumerate(SCRIPTS):
         names.append(f"{room}/{number}.jsonl")
         with open(names[-1], "w") as script:
             script.writelines(json.dumps(event) + "\n" for event in events)
     words = ["drive", *names]
-    refused, went_on, wrong = sweep(pool, lambda growth: ran(program, words, b"", shim, growth), lambda done: is_right_drive(program, shim, done))
+    refused, went_on, wrong = sweep(pool, lambda growth: ran(driver, words, b"", shim, growth), lambda done: is_right_drive(program, shim, done))
     if wrong:
         print(f"drive: wrong after {wrong[:9]}")
     tell(["drive"], [refused, went_on, len(wrong)])
@@ -124,6 +133,7 @@ def main(program=None, extent=""):
         library = shim(SHIM, room)
         for words in COMMANDS:
             sweep_examples(pool, names, program, words, library)
+        sweep_from(pool, names, program, room, library)
         sweep_drive(pool, program, room, library)
 
 

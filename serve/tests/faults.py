@@ -361,7 +361,7 @@ def test_states_compared(programs):
     with Fleet("outer", programs.gateway, programs.saving, "-cycle", "0", save_every=20) as fleet:
         one, other = fleet.gateways
         other.kill()
-        honest, fleet.drf = fleet.drf, program(fleet.folder, "other", f'#!/bin/sh\nif [ "$1" = save ] && [ "$2" != --help ]; then sleep 2; {programs.saving} "$@" | sed s/rescind/Rescind/; else exec {programs.saving} "$@"; fi\n')
+        honest, fleet.drf = fleet.drf, program(fleet.folder, "other", f'#!/bin/sh\nif [ "$1" = save ] && [ "$2" != --help ]; then sleep 2; {programs.saving} "$@" | sed s/row/Row/; else exec {programs.saving} "$@"; fi\n')
         other.start()
         other.until_ready()
         fleet.drf = honest

@@ -1,2 +1,3 @@
-mod Words
 mod Flushed
+mod Bounds
+mod Started

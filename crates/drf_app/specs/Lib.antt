@@ -1,5 +1,4 @@
 pub mod Line
-pub mod Drives
-pub mod Told
+pub mod Starts
 pub mod Verdicts
 pub mod Done

@@ -1,7 +1,7 @@
 -- What is said of a journal, and the status.
 use Rattle.std.specs.Prelude.{◌≡◌, ℕ, Bool, true, false, List, [], ◌∷◌, ◌++◌, Option, Result, Ok, Err, IfSome, codes, decimal}
 use Rattle.std.specs.Io.KnownBytes.{Appends}
-use Rattle.drf_rows.specs.LimitNumbers.{ceilings}
+use Rattle.drf_core.specs.Machine.{Machine}
 use Rattle.drf_journal.specs.Device.{AppendsFrontOf}
 use Rattle.drf_journal.specs.Journal.{IsVerdict}
 use Rattle.drf_journal.specs.declared.fault.RunFault.{RunFault}
@@ -24,16 +24,16 @@ IsSaid verdict (Err Read) old new failed = ⊥
 IsSaid verdict (Err Write) old new failed = AppendsFrontOf old new (verdict_line verdict) × (failed ≡ true)
 IsSaid verdict (Err Memory) old new failed = (new ≡ old) × (failed ≡ false)
 
--- it is the journal's
-abbrev pub IsOf : Option (List ℕ) → Verdict → Type 0
-IsOf unread verdict = IfSome unread (λ journal. IsVerdict ceilings journal verdict)
+-- it is that of the journal, which begins with an allocator
+abbrev pub IsOf : Machine → Option (List ℕ) → Verdict → Type 0
+IsOf machine unread verdict = IfSome unread (λ journal. IsVerdict machine journal verdict)
 
 -- and what was written of it: nothing where reading failed or memory ran out
-abbrev pub IsJudged : Option (List ℕ) → Result Verdict RunFault → Option (List ℕ) → Option (List ℕ) → Type 0
-IsJudged unread (Ok verdict) old new = IsOf unread verdict × Appends old new (verdict_line verdict)
-IsJudged unread (Err Read) old new = new ≡ old
-IsJudged unread (Err Write) old new = (verdict : Verdict) × IsOf unread verdict × AppendsFrontOf old new (verdict_line verdict)
-IsJudged unread (Err Memory) old new = new ≡ old
+abbrev pub IsJudged : Machine → Option (List ℕ) → Result Verdict RunFault → Option (List ℕ) → Option (List ℕ) → Type 0
+IsJudged machine unread (Ok verdict) old new = IsOf machine unread verdict × Appends old new (verdict_line verdict)
+IsJudged machine unread (Err Read) old new = new ≡ old
+IsJudged machine unread (Err Write) old new = (verdict : Verdict) × IsOf machine unread verdict × AppendsFrontOf old new (verdict_line verdict)
+IsJudged machine unread (Err Memory) old new = new ≡ old
 
 -- the status of a check
 abbrev pub check_status : Result Verdict RunFault → ℕ

@@ -1,11 +1,12 @@
 //! The check of a journal, and what is said of it.
 ghost use Rattle.std.specs.Prelude.{◌≡◌, ◌≤◌, ◌^◌, true, false, IfOk, string_bytes};
+ghost use Rattle.drf_core.specs.Machine.{live};
 ghost use Rattle.drf_journal.specs.Device.{IsNew};
 ghost use Rattle.drf_journal.specs.Ended.{HasCause};
 ghost use Rattle.drf_app.specs.Verdicts.{verdict_line, verdict_status, IsSaid, IsJudged};
 
-use drf_journal::{Device, RunFault, Verdict, verify, write_whole};
-use drf_rows::Limits;
+use drf_core::Core;
+use drf_journal::{Device, ProgramSorter, RunFault, Verdict, verify, write_whole};
 use itoa::Buffer;
 use std::alloc::{AllocError, Global};
 use std::io::{Read, Write};
@@ -34,20 +35,21 @@ fn say<W: Write>(alloc: Global, verdict: Verdict, output: &mut Device<W>) -> Res
     write_whole(output, line.as_str().as_bytes())
 }
 
-/// Checks the journal on `input`, and writes what is said of it on `output`.
+/// Checks the journal on `input`, which begins with an allocator, and writes what is said of it on `output`.
 pub(crate) fn check<R: Read, W: Write>(
     alloc: Global,
+    core: Core<ProgramSorter>,
     input: &mut Device<R>,
     output: &mut Device<W>,
 ) -> Result<Verdict, RunFault>
     requires input { IsNew input.old.calls input.old.failed }
     requires output { IsNew output.old.calls output.old.failed }
-    ensures judged { IsJudged (R.remaining input.old.inner) result (W.contents output.old.inner) (W.contents output.new.inner) }
+    ensures judged { IsJudged (live core) (R.remaining input.old.inner) result (W.contents output.old.inner) (W.contents output.new.inner) }
     ensures cause { HasCause result input.new.failed input.new.calls output.new.failed }
     ensures flushed { output.old.flushed ≡ true → output.new.failed ≡ false → output.new.flushed ≡ true }
     ensures reads { input.new.calls ≤ 2 ^ 40 }
 {
-    let verdict = verify(alloc, Limits::full(), input)?;
+    let verdict = verify(alloc, core, input)?;
     say(alloc, verdict, output)?;
     Ok(verdict)
 }

@@ -2,12 +2,10 @@
 #![tactic(auto)]
 
 mod check;
-mod drive;
 mod line;
-mod refusal;
+mod start;
 mod tasks;
-mod told;
 
-pub use line::Task;
+pub use line::{Request, Task};
+pub use start::StartFault;
 pub use tasks::command;
-pub use told::no_words;

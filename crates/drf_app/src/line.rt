@@ -1,7 +1,7 @@
 //! The words of the command line, and what they ask for.
-ghost use Rattle.std.specs.Prelude.{◌≡◌, map, take, MatchResult, IfOk};
-ghost use Rattle.clap.specs.Words.{app_of, found_of, rows_of};
-ghost use Rattle.drf_app.specs.Line.{audit_line, check_line, drive_line, explain_line, run_line, drf_line, Asks, IsRefused, SaysFiles, SaysMoment};
+ghost use Rattle.std.specs.Prelude.{◌≡◌, map, false, MatchResult, IfOk};
+ghost use Rattle.clap.specs.Words.{app_of, found_of, rows_of, rule_of};
+ghost use Rattle.drf_app.specs.Line.{audit_line, check_line, explain_line, run_line, save_line, drf_line, flag, from_option, name_of, Asks, HasFlag, IsCommand, IsRefused, SaysMoment, SaysTask};
 
 use clap::builder::ValueParser;
 use clap::{Arg, ArgAction, ArgMatches, Command, Error};
@@ -9,9 +9,9 @@ use drf_rows::LATEST_MOMENT;
 use std::alloc::{AllocError, Global};
 use std::convert::AsStr;
 
-/// What the words ask for.
-#[derive(Debug, Drop)]
-pub enum Task<'a> {
+/// What a command does.
+#[derive(Clone, Copy, Debug)]
+pub enum Task {
     /// The replies to event lines; with `echo` each line, as it was read, before its reply.
     Run { echo: bool },
     /// Whether a journal is right.
@@ -21,44 +21,75 @@ pub enum Task<'a> {
     /// What the cycle at a moment in milliseconds would offer after the events of event lines, and why it would offer nothing. The clock
     /// never goes back: 0 is the moment at which it stands.
     Explain { at: u64 },
-    /// The journal of the event lines of files, each of which runs on a thread of its own.
-    Drive { files: Vec<&'a str> },
+    /// The state after the events of event lines; with `epoch` as a cluster begins anew that keeps its tasks.
+    Save { epoch: bool },
 }
 
-/// How many files run side by side at most.
-const MOST_FILES: usize = 64;
+/// What the words ask for.
+#[derive(Clone, Copy, Debug)]
+pub struct Request<'a> {
+    pub task: Task,
+    /// The file with the state that the task begins with; without it there are no rows.
+    pub from: Option<&'a str>,
+}
 
 const VERSION: &str = "0.1.0";
+
+fn from_option<'a>(alloc: Global) -> Arg<'a>
+    ensures rule { rule_of result ≡ from_option }
+    ensures local { result.global ≡ false }
+{
+    Arg::new(alloc, "from")
+        .long("from")
+        .value_name("STATE")
+        .help(
+            "Begins with the state in this file, as `save` writes it, and not with an empty cluster",
+        )
+        .action(ArgAction::Set)
+}
+
+fn flag<'a>(alloc: Global, name: &'a str, help: &'a str) -> Arg<'a>
+    ensures rule { rule_of result ≡ flag name.now }
+    ensures local { result.global ≡ false }
+{
+    Arg::new(alloc, name)
+        .long(name)
+        .help(help)
+        .action(ArgAction::SetTrue)
+}
 
 fn run_line<'a>(alloc: Global) -> Result<Command<'a>, AllocError>
     ensures { IfOk result (λ line. app_of line ≡ run_line) }
 {
-    let echo = Arg::new(alloc, "echo")
-        .long("echo")
-        .help("Writes each line, as it was read, before its reply: a journal")
-        .action(ArgAction::SetTrue);
     Command::new(alloc, "run")
         .about("Answers each event line of standard input by a line on standard output")
         .after_help("Example: drf run < examples/day.jsonl")
-        .arg(echo)
+        .arg(flag(
+            alloc,
+            "echo",
+            "Writes each line, as it was read, before its reply: a journal",
+        ))?
+        .arg(from_option(alloc))
 }
 
-fn check_line<'a>(alloc: Global) -> Command<'a>
-    ensures { app_of result ≡ check_line }
+fn check_line<'a>(alloc: Global) -> Result<Command<'a>, AllocError>
+    ensures { IfOk result (λ line. app_of line ≡ check_line) }
 {
     Command::new(alloc, "check")
         .about("Tells whether the journal on standard input is right")
         .after_help("Example: drf run --echo < examples/day.jsonl | drf check")
+        .arg(from_option(alloc))
 }
 
-fn audit_line<'a>(alloc: Global) -> Command<'a>
-    ensures { app_of result ≡ audit_line }
+fn audit_line<'a>(alloc: Global) -> Result<Command<'a>, AllocError>
+    ensures { IfOk result (λ line. app_of line ≡ audit_line) }
 {
     Command::new(alloc, "audit")
         .about(
             "Tells what each machine has, what is free and how much is out, after the event lines of standard input",
         )
         .after_help("Example: drf audit < examples/day.jsonl")
+        .arg(from_option(alloc))
 }
 
 fn explain_line<'a>(alloc: Global) -> Result<Command<'a>, AllocError>
@@ -74,35 +105,41 @@ fn explain_line<'a>(alloc: Global) -> Result<Command<'a>, AllocError>
             "Tells what the next cycle would offer to whom, and why to others nothing, after the event lines of standard input",
         )
         .after_help("Example: head -12 examples/day.jsonl | drf explain")
-        .arg(at)
+        .arg(at)?
+        .arg(from_option(alloc))
 }
 
-fn drive_line<'a>(alloc: Global) -> Result<Command<'a>, AllocError>
-    ensures { IfOk result (λ line. app_of line ≡ drive_line) }
+fn save_line<'a>(alloc: Global) -> Result<Command<'a>, AllocError>
+    ensures { IfOk result (λ line. app_of line ≡ save_line) }
 {
-    let files = Arg::new(alloc, "FILE")
-        .help("Files of event lines, 1 to 64")
-        .required(true)
-        .num_args(1..=MOST_FILES)
-        .action(ArgAction::Append);
-    Command::new(alloc, "drive")
+    Command::new(alloc, "save")
         .about(
-            "Runs files of event lines side by side, each on a thread of its own, and writes the journal",
+            "Takes the event lines or the journal on standard input, and writes the state after them",
         )
-        .after_help("Example: drf drive examples/first.jsonl examples/teams.jsonl | drf check")
-        .arg(files)
+        .after_help(
+            "Example: drf save < monday.jsonl > monday.state, then drf run --from monday.state < tuesday.jsonl",
+        )
+        .arg(flag(
+            alloc,
+            "epoch",
+            "Ends all offers, and counts offers and events from the beginning: for a history that is full",
+        ))?
+        .arg(from_option(alloc))
 }
 
 fn drf_line<'a>(alloc: Global) -> Result<Command<'a>, AllocError>
     ensures { IfOk result (λ line. app_of line ≡ drf_line) }
 {
     let run = run_line(alloc)?;
-    let check = check_line(alloc);
-    let audit = audit_line(alloc);
+    let check = check_line(alloc)?;
+    let audit = audit_line(alloc)?;
     let explain = explain_line(alloc)?;
-    let drive = drive_line(alloc)?;
+    let save = save_line(alloc)?;
     Command::new(alloc, "drf")
         .about("Shares the machines of a cluster among teams by Dominant Resource Fairness")
+        .after_help(
+            "drf drive, which runs files of event lines side by side, is a program of its own that the script ./drf runs.",
+        )
         .version(VERSION)
         .subcommand_required(true)
         .disable_help_subcommand(true)
@@ -110,7 +147,7 @@ fn drf_line<'a>(alloc: Global) -> Result<Command<'a>, AllocError>
         .subcommand(check)?
         .subcommand(audit)?
         .subcommand(explain)?
-        .subcommand(drive)
+        .subcommand(save)
 }
 
 /// The moment that the words of a command say, at most the latest; 0 where they say none.
@@ -123,50 +160,47 @@ fn moment_of(explain: &ArgMatches) -> u64
     }
 }
 
-/// The first 64 of some names.
-fn first_names<'a>(alloc: Global, names: &[&'a str]) -> Result<Vec<&'a str>, AllocError>
-    ensures { IfOk result (λ files. files.items ≡ take 64 names.now) }
+/// Whether the words of a command say a flag.
+fn flag_of(command: &ArgMatches, name: &str) -> bool
+    ensures { HasFlag (rows_of (found_of command.now)) name.now result }
 {
-    let mut files = Vec::new(alloc);
-    files.extend_from_slice(&names[..names.len().min(MOST_FILES)])?;
-    Ok(files)
+    command.get_flag(name)
 }
 
-/// The files that the words of a command name, at most 64.
-fn files_of<'a>(alloc: Global, drive: &ArgMatches<'a>) -> Result<Vec<&'a str>, AllocError>
-    ensures { IfOk result (λ files. SaysFiles (rows_of (found_of drive.now)) (map (λ name. name.now) files.items)) }
+/// The task of the command of a name, and what its words say.
+fn task_of(name: &str, command: &ArgMatches) -> Task
+    requires { IsCommand name.now }
+    ensures name { name.now ≡ name_of result }
+    ensures says { SaysTask (rows_of (found_of command.now)) result }
 {
-    let Some(names) = drive.get_strs("FILE") else {
-        return Ok(Vec::new(alloc));
-    };
-    first_names(alloc, names)
+    if name == "run" {
+        let echo = flag_of(command, "echo");
+        return Task::Run { echo };
+    }
+    if name == "check" {
+        return Task::Check;
+    }
+    if name == "audit" {
+        return Task::Audit;
+    }
+    if name == "explain" {
+        let at = moment_of(command);
+        return Task::Explain { at };
+    }
+    let epoch = flag_of(command, "epoch");
+    Task::Save { epoch }
 }
 
 /// What the words ask for, of which the first is the program's name.
-pub(crate) fn task_of<'a, S: AsStr>(alloc: Global, words: &'a [S]) -> Result<Task<'a>, Error>
+pub(crate) fn request_of<'a, S: AsStr>(alloc: Global, words: &'a [S]) -> Result<Request<'a>, Error>
     ensures { MatchResult result (Asks (map S.text words.now)) (IsRefused (map S.text words.now)) }
 {
     let mut line = drf_line(alloc)?;
     let matches = line.try_get_matches_from_mut(words)?;
-    if matches.subcommand_matches("check").is_some() {
-        return Ok(Task::Check);
-    }
-    if matches.subcommand_matches("audit").is_some() {
-        return Ok(Task::Audit);
-    }
-    if let Some(explain) = matches.subcommand_matches("explain") {
-        return Ok(Task::Explain {
-            at: moment_of(explain),
-        });
-    }
-    if let Some(drive) = matches.subcommand_matches("drive") {
-        let files = files_of(alloc, drive)?;
-        return Ok(Task::Drive { files });
-    }
-    let Some(run) = matches.subcommand_matches("run") else {
+    let Some((name, command)) = matches.subcommand() else {
         unreachable!()
     };
-    Ok(Task::Run {
-        echo: run.get_flag("echo"),
-    })
+    let task = task_of(name, command);
+    let from = command.get_str("from");
+    Ok(Request { task, from })
 }

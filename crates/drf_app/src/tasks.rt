@@ -1,29 +1,31 @@
 //! A whole command.
 ghost use Rattle.std.specs.Prelude.{◌≡◌, ◌≤◌, ◌^◌, map, true, false};
+ghost use Rattle.drf_core.specs.Machine.{live};
 ghost use Rattle.drf_journal.specs.Device.{IsNew};
-ghost use Rattle.drf_app.specs.Done.{HasDone, HasObeyed, stream_of};
+ghost use Rattle.drf_told.specs.Streams.{stream_of};
+ghost use Rattle.drf_app.specs.Done.{HasDone, HasDoneFrom, HasObeyed};
 ghost use Rattle.drf_app.specs.Line.{IsWithinBounds};
 
 use crate::check::{check, verdict_status};
-use crate::drive::drive_files;
-use crate::line::{Task, task_of};
-use crate::refusal::refuse;
-use crate::told::finish;
-use drf_drive::FileBytes;
-use drf_journal::{Device, run, run_audit, run_explain};
-use drf_rows::Limits;
+use crate::line::{Request, Task, request_of};
+use crate::start::{begin, tell_start};
+use drf_core::Core;
+use drf_files::FileBytes;
+use drf_journal::{Device, ProgramSorter, run, run_audit, run_explain};
+use drf_resume::save;
+use drf_told::{finish, refuse};
 use std::alloc::Global;
 use std::convert::AsStr;
 use std::io::{Read, Write};
-use std::sync::Wait;
 use std::thread::Threads;
 
+/// Does a task that begins with an allocator.
 #[tactic(auto, using(crate::proofs::Flushed::flushed_unless_failed))]
-fn perform<F: FileBytes, R: Read, W: Write, E: Write>(
-    rt: &(impl Threads + Wait + Sync),
+fn perform_from<R: Read, W: Write, E: Write>(
+    rt: &(impl Threads + Sync),
     alloc: Global,
-    task: Task<'_>,
-    files: &mut F,
+    core: Core<ProgramSorter>,
+    task: Task,
     input: &mut Device<R>,
     output: &mut Device<W>,
     errors: &mut Device<E>,
@@ -32,7 +34,7 @@ fn perform<F: FileBytes, R: Read, W: Write, E: Write>(
     requires input { IsNew input.old.calls input.old.failed }
     requires output { IsNew output.old.calls output.old.failed }
     requires errors { IsNew errors.old.calls errors.old.failed }
-    ensures done { HasDone (F.known files.old) task.entry
+    ensures done { HasDoneFrom (live core) task
         (record { input = stream_of R.remaining input.old; output = stream_of W.contents output.old; errors = stream_of E.contents errors.old })
         (record { input = stream_of R.remaining input.new; output = stream_of W.contents output.new; errors = stream_of E.contents errors.new })
         result }
@@ -41,30 +43,60 @@ fn perform<F: FileBytes, R: Read, W: Write, E: Write>(
 {
     match task {
         Task::Run { echo } => {
-            let ended = run(alloc, Limits::full(), input, output, echo);
+            let ended = run(alloc, core, input, output, echo);
             finish(ended, errors)
         }
-        Task::Check => match check(alloc, input, output) {
+        Task::Check => match check(alloc, core, input, output) {
             Ok(verdict) => verdict_status(verdict),
             Err(fault) => finish::<(), E>(Err(fault), errors),
         },
         Task::Audit => {
-            let ended = run_audit(rt, alloc, Limits::full(), input, output);
+            let ended = run_audit(rt, alloc, core, input, output);
             finish(ended, errors)
         }
         Task::Explain { at } => {
-            let ended = run_explain(alloc, Limits::full(), at, input, output);
+            let ended = run_explain(alloc, core, at, input, output);
             finish(ended, errors)
         }
-        Task::Drive { files: names } => drive_files(rt, alloc, files, &names, output, errors),
+        Task::Save { epoch } => {
+            let ended = save(alloc, core, epoch, input, output);
+            finish(ended, errors)
+        }
     }
 }
 
-/// Does what the words ask for, of which the first is the program's name: reads `input` or `files`, writes `output`, tells faults on
-/// `errors`, and gives the program's status. That is 0, 1 where a file or a stream failed, memory ran out or a drive did not close, 2
-/// where the words ask for nothing that there is, or 3 where a journal is wrong or a line of a file is no event.
+/// Does what is asked for, or tells why it has not begun.
+fn perform<F: FileBytes, R: Read, W: Write, E: Write>(
+    rt: &(impl Threads + Sync),
+    alloc: Global,
+    request: Request<'_>,
+    files: &mut F,
+    input: &mut Device<R>,
+    output: &mut Device<W>,
+    errors: &mut Device<E>,
+) -> u8
+    requires bounds { IsWithinBounds request.task }
+    requires input { IsNew input.old.calls input.old.failed }
+    requires output { IsNew output.old.calls output.old.failed }
+    requires errors { IsNew errors.old.calls errors.old.failed }
+    ensures done { HasDone (F.known files.old) request.entry
+        (record { input = stream_of R.remaining input.old; output = stream_of W.contents output.old; errors = stream_of E.contents errors.old })
+        (record { input = stream_of R.remaining input.new; output = stream_of W.contents output.new; errors = stream_of E.contents errors.new })
+        result }
+    ensures flushed { output.old.flushed ≡ true → output.new.failed ≡ false → output.new.flushed ≡ true }
+    ensures reads { input.new.calls ≤ 2 ^ 40 }
+{
+    match begin(alloc, files, request.from) {
+        Ok(core) => perform_from(rt, alloc, core, request.task, input, output, errors),
+        Err(fault) => tell_start(alloc, request.from, fault, errors),
+    }
+}
+
+/// Does what the words ask for, of which the first is the program's name: reads the file that they name, then `input`, writes `output`, tells
+/// faults on `errors`, and gives the program's status. That is 0, 1 where a file or a stream failed or memory ran out, 2 where the words ask
+/// for nothing that there is, or 3 where a journal is wrong or a file is no state.
 pub fn command<S: AsStr, F: FileBytes, R: Read, W: Write, E: Write>(
-    rt: &(impl Threads + Wait + Sync),
+    rt: &(impl Threads + Sync),
     alloc: Global,
     words: &[S],
     files: &mut F,
@@ -82,8 +114,8 @@ pub fn command<S: AsStr, F: FileBytes, R: Read, W: Write, E: Write>(
     ensures flushed { output.old.flushed ≡ true → output.new.failed ≡ false → output.new.flushed ≡ true }
     ensures reads { input.new.calls ≤ 2 ^ 40 }
 {
-    match task_of(alloc, words) {
-        Ok(task) => perform(rt, alloc, task, files, input, output, errors),
+    match request_of(alloc, words) {
+        Ok(request) => perform(rt, alloc, request, files, input, output, errors),
         Err(error) => refuse(alloc, &error, output, errors),
     }
 }

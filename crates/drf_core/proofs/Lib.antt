@@ -1,4 +1,3 @@
-pub mod content
 pub mod drafting
 pub mod effects
 pub mod refusing

@@ -5,3 +5,4 @@ pub mod Registered
 pub mod Ended
 pub mod Accepted
 pub mod Answered
+pub mod Known

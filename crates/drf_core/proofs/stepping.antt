@@ -3,3 +3,4 @@ pub mod Safe
 pub mod Work
 pub mod Step
 pub mod Allowance
+pub mod Saveable

@@ -18,7 +18,7 @@ use Rattle.drf_rows.specs.declared.rows.Rows.{Rows}
 use Rattle.drf_sorter.specs.Content.{Content}
 use Rattle.drf_tables.specs.Drafts.{with_offers, frees_of, frees_after}
 use Rattle.drf_tables.specs.declared.tables.Left.{Left}
-use Rattle.drf_core.specs.Content.{content_of}
+use Rattle.drf_content.specs.Content.{content_of}
 
 -- the sorter knows the drafts, and the rows with them are consistent
 pub record IsDrafting (content : Content) (rows : Rows) (offers : List OfferRow) : Type 0 where

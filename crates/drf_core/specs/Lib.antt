@@ -1,13 +1,12 @@
 pub mod Machine
 pub mod MachineLaws
-pub mod Content
 pub mod Copies
+pub mod Keeping
 pub mod Cluster
 pub mod Working
 pub mod Drafting
 pub mod Entitling
 pub mod Explaining
-pub mod Registering
 pub mod Accepting
 pub mod Refusing
 pub mod Applying

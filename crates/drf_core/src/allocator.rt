@@ -7,8 +7,10 @@ ghost use Rattle.drf_core.specs.Machine.{IsOpened, IsSafe, IsSame, IsAfter, IsAf
 use crate::cluster::Cluster;
 use crate::stepped::Stepped;
 use drf_explain::Finding;
+use drf_laws::given_law;
 use drf_rows::{Event, Limits, Reply, Report, Rows};
 use drf_sorter::Sorter;
+use drf_tables::Tables;
 use std::alloc::{AllocError, Global};
 use std::marker::Model;
 
@@ -39,11 +41,11 @@ impl<S: Sorter> Model for Core<S> {
 
     ghost coded = { engine_code };
 
-    ghost use Rattle.drf_laws.specs.Kept.{IsKept};
+    ghost use Rattle.drf_core.specs.Keeping.{IsStanding};
 
     ghost view = { λ c. record { limits = c.limits; rows = c.cluster.value.rows; work = c.cluster.value.work } };
 
-    ghost invariant = { λ c. IsKept c.limits c.cluster.value.rows };
+    ghost invariant = { λ c. IsStanding c.limits c.cluster.value.rows };
 }
 
 impl<S: Sorter> Core<S> {
@@ -51,8 +53,10 @@ impl<S: Sorter> Core<S> {
     ghost use Rattle.drf_rows.specs.Step.{live_rows, refusal_of, reply_to, replies_to};
     ghost use Rattle.drf_core.specs.Refusing.{early_refusal_of};
     ghost use Rattle.drf_rows.specs.Report.{report_of};
-    ghost use Rattle.drf_core.specs.Content.{content_of};
+    ghost use Rattle.drf_content.specs.Content.{content_of};
     ghost use Rattle.drf_explain.specs.Explained.{explained};
+    ghost use Rattle.drf_core.specs.Keeping.{IsStanding};
+    ghost use Rattle.drf_saved_laws.specs.SavedLaws.{IsSaveable};
     ghost use Rattle.drf_rows.specs.declared.limits.TheConstants.{LATEST_MOMENT};
 
     /// An allocator with no rows.
@@ -65,6 +69,26 @@ impl<S: Sorter> Core<S> {
             alloc,
             limits,
             cluster: Box::new(alloc, Cluster::open(alloc)?)?,
+        })
+    }
+
+    /// An allocator of rows that are kept and can be saved, over a sorter that holds what they say.
+    pub fn assemble(
+        alloc: Global,
+        limits: Limits,
+        tables: Tables,
+        sorter: S,
+    ) -> Result<Core<S>, AllocError>
+        requires content { S.content sorter ≡ content_of tables.rows }
+        requires standing { IsStanding limits tables.rows }
+        ensures limits { IfOk result (λ core. core.limits ≡ limits) }
+        ensures rows { IfOk result (λ core. core.rows ≡ tables.rows) }
+        ensures work { IfOk result (λ core. core.work ≡ S.work sorter) }
+    {
+        Ok(Core {
+            alloc,
+            limits,
+            cluster: Box::new(alloc, Cluster { tables, sorter })?,
         })
     }
 
@@ -106,6 +130,7 @@ impl<S: Sorter> Core<S> {
         ensures keys { may_make_keys event ≡ false → self.new.work.made ≡ self.old.work.made }
         ensures refused { IfSome (refusal_of self.old.limits self.old.rows event) (λ refusal. self.new.work.made ≡ self.old.work.made) }
     {
+        given_law(&event);
         let cluster = &mut *self.cluster;
         cluster.forget_spent();
         if let Some(refusal) = cluster.refusal(&self.limits, &event)? {
@@ -180,10 +205,11 @@ impl<S: Sorter> Core<S> {
         })
     }
 
-    /// The live rows, which are consistent: nothing is granted twice.
+    /// The live rows, which are consistent: nothing is granted twice. They can be saved.
     pub fn rows(&self) -> Result<Rows, AllocError>
         ensures rows { IfOk result (λ rows. rows ≡ live_rows self.now.rows) }
         ensures safe { IfOk result IsSafe }
+        ensures saveable { IfOk result (IsSaveable self.now.limits) }
     {
         self.cluster.rows()
     }

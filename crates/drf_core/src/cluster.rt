@@ -2,7 +2,7 @@
 ghost use Rattle.std.specs.Prelude.{◌≡◌, ◌+◌, ◌<◌, ◌^◌, None, IfOk, OnErr};
 ghost use Rattle.drf_rows.specs.Consistent.{IsConsistent};
 ghost use Rattle.drf_rows.specs.Step.{opening, live_rows, refusal_of};
-ghost use Rattle.drf_core.specs.Content.{content_of};
+ghost use Rattle.drf_content.specs.Content.{content_of};
 ghost use Rattle.drf_laws.specs.Kept.{AreFew};
 ghost use Rattle.drf_core.specs.Refusing.{early_refusal_of};
 
@@ -28,7 +28,7 @@ impl<S: Sorter> Model for Cluster<S> {
 
     ghost coded = { cluster_code };
 
-    ghost use Rattle.drf_core.specs.Content.{content_of};
+    ghost use Rattle.drf_content.specs.Content.{content_of};
 
     ghost view = { λ c. record { rows = c.tables.rows; counted = c.tables.counted; work = S.work c.sorter } };
 

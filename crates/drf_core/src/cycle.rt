@@ -9,7 +9,7 @@ ghost use Rattle.drf_rows.specs.Step.{line_told, new_offers, refusal_of, effect}
 ghost use Rattle.drf_rows.specs.declared.event.Event.TheVariants.{Cycle};
 ghost use Rattle.drf_rows.specs.declared.reply.Reply.TheVariants.{Offers};
 ghost use Rattle.drf_tables.specs.Drafts.{with_offers};
-ghost use Rattle.drf_core.specs.Content.{content_of};
+ghost use Rattle.drf_content.specs.Content.{content_of};
 ghost use Rattle.drf_core.specs.Copies.{copies_if};
 ghost use Rattle.drf_laws.specs.Kept.{IsKept};
 ghost use Rattle.drf_core.specs.Entitling.{IsKnown, IsPassedOver, IsQuotaOf};
@@ -159,7 +159,7 @@ pub(crate) fn try_first<S: Sorter>(
     let offer = offer_row(number, agent, &client, bundle)?;
     drafts.offers.reserve(1)?;
     count_offer(&mut drafts.quota, &offer)?;
-    sorter.charge(&client, offer.bundle.quantities())?;
+    sorter.charge(&client, offer.bundle.quantities(), 1)?;
     drafts.offers.push_reserved(offer);
     Ok(())
 }

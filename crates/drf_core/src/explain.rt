@@ -11,7 +11,7 @@ ghost use Rattle.drf_sorter.specs.Content.{IsOrderOf, IsSound};
 ghost use Rattle.drf_explain.specs.Explained.{explained, told_of_agents};
 ghost use Rattle.drf_explain.specs.Gates.{AreGatesOf};
 ghost use Rattle.drf_tables.specs.Drafts.{with_offers};
-ghost use Rattle.drf_core.specs.Content.{content_of};
+ghost use Rattle.drf_content.specs.Content.{content_of};
 ghost use Rattle.drf_core.specs.Drafting.{IsDrafting, HasLeft, turn_at};
 ghost use Rattle.drf_core.specs.Entitling.{IsQuotaOf};
 ghost use Rattle.drf_core.specs.Explaining.{AreToldAt, AreTried, IsOutcomeOf, left_told, told_at};

@@ -6,7 +6,7 @@ ghost use Rattle.drf_rows.specs.declared.event.Event.TheVariants.{AddFramework, 
 ghost use Rattle.drf_laws.specs.Kept.{IsKept};
 ghost use Rattle.drf_sorter.specs.Work.{Adds};
 ghost use Rattle.drf_core.specs.Working.{nodes_of, touched};
-ghost use Rattle.drf_core.specs.Registering.{AreKnown, AreNew, client_paths, with_all, without_all};
+ghost use Rattle.drf_content.specs.Registering.{AreKnown, AreNew, client_paths, with_all, without_all};
 
 use crate::cluster::Cluster;
 use drf_role::{ClientPath, Name, Role};

@@ -12,12 +12,12 @@ ghost use Rattle.drf_rows.specs.declared.rows.AgentRow.{AgentRow};
 ghost use Rattle.drf_laws.specs.Kept.{AreFew};
 ghost use Rattle.drf_core.specs.Refusing.{cases_of_names, cases_of_reserved, cases_of_total, cases_of_unreserved, early_refusal_of, late_cases_of};
 
-use crate::refusal::{first_case, is_too_large};
+use crate::refusal::first_case;
 use drf_amount::Algebra;
 use drf_bundle::{Bundle, Quantities};
 use drf_role::{Name, Role};
 use drf_rows::{Event, Limits, Refusal};
-use drf_tables::Tables;
+use drf_tables::{Tables, is_too_large};
 use std::alloc::AllocError;
 
 /// The agent is there, and what is free on it does not cover the resources.

@@ -4,8 +4,8 @@ ghost use Rattle.std.specs.List.{list_all};
 ghost use Rattle.std.specs.Option.{option_copied, option_map_or};
 ghost use Rattle.drf_role.specs.Text.{same_text};
 ghost use Rattle.drf_rows.specs.Consistent.{IsConsistent};
-ghost use Rattle.drf_rows.specs.Step.{accept_is_too_much, decline_is_too_much, first_case, is_full, is_in_role, is_too_large, too_many_agents, too_many_frameworks, too_many_limits, refusal_of};
-ghost use Rattle.drf_rows.specs.Members.{distinct, has_framework, with_agent};
+ghost use Rattle.drf_rows.specs.Step.{accept_is_too_much, decline_is_too_much, first_case, is_full, is_in_role, too_many_frameworks, too_many_limits, refusal_of};
+ghost use Rattle.drf_rows.specs.Members.{distinct, has_framework};
 ghost use Rattle.drf_rows.specs.Offers.{are_many_filters, has_task, is_beyond, is_empty, is_task_known, left_of_offer, offer_at};
 ghost use Rattle.drf_rows.specs.Tasks.{covers_all, uses};
 ghost use Rattle.drf_rows.specs.Weights.{is_weight, too_many_weights};
@@ -18,11 +18,8 @@ ghost use Rattle.drf_core.specs.Refusing.{cases_of_agent, cases_of_move, early_r
 use crate::late::refuse_late;
 use drf_bundle::{Bundle, Quantities};
 use drf_role::{Name, Role};
-use drf_rows::{
-    Accept, Decline, Event, LARGEST_AMOUNT, LATEST_MOMENT, Limits, OfferRow, Refusal, Table,
-    TaskList,
-};
-use drf_tables::Tables;
+use drf_rows::{Accept, Decline, Event, LATEST_MOMENT, Limits, OfferRow, Refusal, Table, TaskList};
+use drf_tables::{Tables, is_too_large};
 use std::alloc::AllocError;
 
 /// The first of some cases that holds.
@@ -37,27 +34,6 @@ pub(crate) fn is_full(limits: &Limits, tables: &Tables) -> bool
     ensures { result ≡ is_full limits.now tables.now.rows }
 {
     limits.events() <= tables.events()
-}
-
-/// A scalar of the total is above the largest amount.
-pub(crate) fn is_too_large(total: &Bundle) -> bool
-    ensures { result ≡ is_too_large total.now }
-{
-    total
-        .quantities()
-        .entries()
-        .iter()
-        .any(|entry| LARGEST_AMOUNT < entry.amount.thousandths())
-}
-
-/// With one more agent the agents, or the names of scalars over all of them, would be too many.
-fn too_many_agents(limits: &Limits, tables: &Tables, agent: &Name, total: &Bundle) -> bool
-    requires { AreFew limits.now tables.now.rows }
-    ensures { result ≡ too_many_agents limits.now (with_agent tables.now.rows agent.now total.now) }
-{
-    let agents = tables.agent_count() as u64 + 1;
-    let names = tables.total().count_with(total.quantities());
-    limits.agents() < agents || limits.scalar_names() < names
 }
 
 /// How many different roles stand in a list, if they are not more than some. It needs no memory.
@@ -223,10 +199,7 @@ fn refuse_agent(limits: &Limits, tables: &Tables, agent: &Name, total: &Bundle) 
         (is_full(limits, tables), Refusal::HistoryFull),
         (tables.has_agent(agent), Refusal::KnownAgent),
         (is_too_large(total), Refusal::TooLarge),
-        (
-            too_many_agents(limits, tables, agent, total),
-            Refusal::TooMany,
-        ),
+        (tables.too_many_agents(limits, total), Refusal::TooMany),
     ])
 }
 

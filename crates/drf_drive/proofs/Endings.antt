@@ -14,7 +14,8 @@ use Rattle.drf_master.specs.declared.matching.CloseFault.TheVariants as why
 use Rattle.drf_rows.specs.LimitNumbers.{LimitNumbers}
 use Rattle.drf_rows.specs.declared.event.Event.{Event}
 use Rattle.drf_drive.specs.Driven.{HasDrivenFiles, IsJournalOfFiles, IsRunFault, IsShuffleOf, told_as}
-use Rattle.drf_drive.specs.Files.{Known, AreContents}
+use Rattle.drf_files.specs.Files.{Known}
+use Rattle.drf_drive.specs.Files.{AreContents}
 use Rattle.drf_drive.specs.JournalText.{IsCutOff, journal_text}
 use Rattle.drf_drive.specs.Scripts.{HasScripts}
 use Rattle.drf_drive.specs.declared.script.ScriptFault.{ScriptFault}

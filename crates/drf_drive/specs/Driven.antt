@@ -14,7 +14,8 @@ use Rattle.drf_master.specs.declared.matching.CloseFault.TheVariants as why
 use Rattle.drf_rows.specs.LimitNumbers.{LimitNumbers}
 use Rattle.drf_rows.specs.declared.event.Event.{Event}
 use Rattle.drf_rows.specs.declared.reply.Reply.{Reply}
-use Rattle.drf_drive.specs.Files.{Known, IsUnread}
+use Rattle.drf_files.specs.Files.{Known}
+use Rattle.drf_drive.specs.Files.{IsUnread}
 use Rattle.drf_drive.specs.JournalText.{journal_text}
 use Rattle.drf_drive.specs.Scripts.{HasRefused, HasScripts}
 use Rattle.drf_drive.specs.declared.script.ScriptFault.{ScriptFault}

@@ -9,7 +9,8 @@ use Rattle.drf_lines.specs.declared.fault.LineError.TheVariants.{Fault}
 use Rattle.drf_lines.specs.declared.fault.LineError.TheVariants as errors
 use Rattle.drf_lines.specs.declared.fault.LineFault.{LineFault}
 use Rattle.drf_rows.specs.declared.event.Event.{Event}
-use Rattle.drf_drive.specs.Files.{Known, AreContents, IsUnread}
+use Rattle.drf_files.specs.Files.{Known}
+use Rattle.drf_drive.specs.Files.{AreContents, IsUnread}
 use Rattle.drf_drive.specs.declared.script.BadLine.{BadLine}
 use Rattle.drf_drive.specs.declared.script.Script.{Script}
 use Rattle.drf_drive.specs.declared.script.ScriptFault.{ScriptFault}

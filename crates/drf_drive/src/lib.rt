@@ -7,6 +7,5 @@ mod lines;
 mod run;
 mod script;
 
-pub use files::{FileBytes, SystemFiles};
 pub use run::run_drive;
 pub use script::{BadLine, ScriptFault};

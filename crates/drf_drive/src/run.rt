@@ -1,15 +1,15 @@
 //! Files that are run on threads.
 ghost use Rattle.std.specs.Prelude.{◌≡◌, ◌<◌, ◌≤◌, ℕ, List, length, map, true, false, IfOk, IfErr};
 ghost use Rattle.drf_board.specs.History.{IsLegal};
+ghost use Rattle.drf_files.specs.Files.{Known};
 ghost use Rattle.drf_drive.specs.Driven.{HasDrivenFiles, IsRunFault, IsShuffleOf, told_as};
-ghost use Rattle.drf_drive.specs.Files.{Known};
 ghost use Rattle.drf_drive.specs.JournalText.{is_write_fault};
 ghost use Rattle.drf_drive.specs.Scripts.{HasScripts};
 
-use crate::files::FileBytes;
 use crate::journal::{write_journal, write_nothing};
 use crate::script::{ScriptFault, read_scripts};
 use drf_board::{Brand, Entry, Naming, Slate};
+use drf_files::FileBytes;
 use drf_journal::{Device, RunFault};
 use drf_master::{CloseFault, DriveFault, Master, OpenGate, drive};
 use drf_rows::{Event, Limits};

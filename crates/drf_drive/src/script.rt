@@ -3,8 +3,9 @@ ghost use Rattle.std.specs.Prelude.{◌≡◌, [], map, OnOk, OnErr, IfOk, IfErr
 ghost use Rattle.drf_drive.specs.Files.{bytes_of};
 ghost use Rattle.drf_drive.specs.Scripts.{AreScripts, AreWhole, HasScripts, HaveBadLine, HaveStopped, IsNoEvent, IsScript, IsScriptOf, IsStoppedAfter, IsStoppedBy, IsUnreadable, IsWhole, Takes};
 
-use crate::files::{FileBytes, read_files};
+use crate::files::read_files;
 use crate::lines::first_line;
+use drf_files::FileBytes;
 use drf_journal::RunFault;
 use drf_lines::{LineError, LineFault, LineReader};
 use drf_rows::Event;

@@ -3,8 +3,9 @@
 //! whose lines may stand in several orders is told by what `check` says of it, behind `?`.
 use crate::streams::{Bounds, Full, NO_BOUNDS, Slow};
 use drf_app::command;
-use drf_drive::SystemFiles;
-use drf_journal::Device;
+use drf_drive_app::command as drive_command;
+use drf_files::{FileBytes, SystemFiles};
+use drf_journal::{Device, RunFault};
 use std::alloc::{AllocError, Global};
 use std::rt::{Files, Runtime};
 use std::sync::Wait;
@@ -86,12 +87,70 @@ fn is_text<R: Files + Threads + Wait + Sync + AllocGlobal>(
     Ok(text == whole.as_slice())
 }
 
+/// The files of the system, and under the name `STATE` what was saved.
+#[derive(Drop)]
+struct WithState<'a, R> {
+    rt: &'a R,
+    state: &'a [u8],
+}
+
+impl<R: Files + AllocGlobal> FileBytes for WithState<'_, R> {
+    fn bytes(&mut self, name: &str) -> Result<Vec<u8>, RunFault> {
+        if name != "STATE" {
+            return SystemFiles { rt: self.rt }.bytes(name);
+        }
+        let mut bytes = Vec::new(self.rt.alloc());
+        bytes.extend_from_slice(self.state)?;
+        Ok(bytes)
+    }
+}
+
 /// What a command did.
 #[derive(Drop)]
-struct Done {
-    status: u8,
-    written: Vec<u8>,
-    told: Vec<u8>,
+pub struct Done {
+    pub status: u8,
+    pub written: Vec<u8>,
+    pub told: Vec<u8>,
+}
+
+fn is_drive(words: &[&str]) -> bool {
+    match words.get(1) {
+        Some(word) => *word == "drive",
+        None => false,
+    }
+}
+
+/// Does what words ask for, with a state under the name `STATE`.
+pub fn done_from<R: Files + Threads + Wait + Sync + AllocGlobal>(
+    rt: &R,
+    words: &[&str],
+    state: &[u8],
+    input: &[u8],
+    bounds: Bounds,
+) -> Done {
+    let alloc = rt.alloc();
+    let mut reader = Device::new(Slow::new(input, bounds));
+    let mut writer = Device::new(Full::new(alloc, bounds));
+    let mut errors = Device::new(Full::new(alloc, NO_BOUNDS));
+    let mut files = WithState { rt, state };
+    let status = if is_drive(words) {
+        drive_command(rt, alloc, words, &mut files, &mut writer, &mut errors)
+    } else {
+        command(
+            rt,
+            alloc,
+            words,
+            &mut files,
+            &mut reader,
+            &mut writer,
+            &mut errors,
+        )
+    };
+    Done {
+        status,
+        written: writer.into_inner().into_taken(),
+        told: errors.into_inner().into_taken(),
+    }
 }
 
 fn done_by<R: Files + Threads + Wait + Sync + AllocGlobal>(
@@ -100,25 +159,7 @@ fn done_by<R: Files + Threads + Wait + Sync + AllocGlobal>(
     input: &[u8],
     bounds: Bounds,
 ) -> Done {
-    let alloc = rt.alloc();
-    let mut reader = Device::new(Slow::new(input, bounds));
-    let mut writer = Device::new(Full::new(alloc, bounds));
-    let mut errors = Device::new(Full::new(alloc, NO_BOUNDS));
-    let mut files = SystemFiles { rt };
-    let status = command(
-        rt,
-        alloc,
-        words,
-        &mut files,
-        &mut reader,
-        &mut writer,
-        &mut errors,
-    );
-    Done {
-        status,
-        written: writer.into_inner().into_taken(),
-        told: errors.into_inner().into_taken(),
-    }
+    done_from(rt, words, &[], input, bounds)
 }
 
 fn is_done<R: Files + Threads + Wait + Sync + AllocGlobal>(

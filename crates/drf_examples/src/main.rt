@@ -6,6 +6,7 @@ mod commands;
 mod ends;
 mod events;
 mod keys;
+mod resumes;
 mod rows;
 mod streams;
 
@@ -17,5 +18,6 @@ fn main(rt: HostRuntime) -> io::Result<()> {
     events::run_all(&rt)?;
     keys::run_all(&rt)?;
     ends::run_all(&rt)?;
-    commands::run_all(&rt)
+    commands::run_all(&rt)?;
+    resumes::run_all(&rt)
 }

@@ -1,6 +1,7 @@
 //! The worked examples: `rows` names each, behind it the word `echo`, or a limit that is not the greatest: `agents`,
 //! `filters`, `limits`, `scalar_names` or `events`, and its number. The lines of `NAME.in` are answered by those of `NAME.out`.
 use crate::streams::tell;
+use drf_core::Core;
 use drf_journal::{Device, run};
 use drf_rows::Limits;
 use std::alloc::Global;
@@ -49,9 +50,12 @@ fn settings_of(words: &str) -> Option<Settings> {
 /// Whether the lines of an example are answered by those bytes.
 fn is_answered(alloc: Global, settings: Settings, input: &[u8], output: &[u8]) -> bool {
     let Settings { limits, echo } = settings;
+    let Ok(core) = Core::open(alloc, limits) else {
+        return false;
+    };
     let mut reader = Device::new(input);
     let mut writer = Device::new(Vec::new(alloc));
-    let is_done = run(alloc, limits, &mut reader, &mut writer, echo).is_ok();
+    let is_done = run(alloc, core, &mut reader, &mut writer, echo).is_ok();
     let told = writer.into_inner();
     is_done && told.as_slice() == output
 }

@@ -1,5 +1,6 @@
 //! Streams that are slow or fail: what was written when a run ends, and that a reply does not wait for more input.
 use crate::rows::bytes;
+use drf_core::Core;
 use drf_journal::{Device, RunFault, run};
 use drf_rows::Limits;
 use std::alloc::Global;
@@ -112,15 +113,18 @@ fn is_run(
     fault: Option<RunFault>,
     output: &[u8],
 ) -> bool {
+    let Ok(core) = Core::open(alloc, Limits::full()) else {
+        return false;
+    };
     let mut reader = Device::new(Slow::new(input, bounds));
     let mut writer = Device::new(Full::new(alloc, bounds));
-    let ended = run(alloc, Limits::full(), &mut reader, &mut writer, false).err();
+    let ended = run(alloc, core, &mut reader, &mut writer, false).err();
     let taken = writer.into_inner().into_taken();
     ended == fault && taken.as_slice() == output
 }
 
 /// The first lines of a text, `count` of them.
-fn first_lines(text: &[u8], count: usize) -> &[u8] {
+pub fn first_lines(text: &[u8], count: usize) -> &[u8] {
     let mut left = count;
     let mut end = 0;
     for (i, byte) in text.iter().enumerate() {
@@ -211,6 +215,9 @@ impl Write for Counting<'_> {
 
 /// Whether each line is answered, and the answer flushed, before the next one is asked for.
 fn answers_at_once(alloc: Global, input: &[u8]) -> bool {
+    let Ok(core) = Core::open(alloc, Limits::full()) else {
+        return false;
+    };
     let flushed = Cell::new(0);
     let mut reader = Device::new(Asking {
         slow: Slow::new(input, NO_BOUNDS),
@@ -222,7 +229,7 @@ fn answers_at_once(alloc: Global, input: &[u8]) -> bool {
         written: 0,
         flushed: &flushed,
     });
-    let is_done = run(alloc, Limits::full(), &mut reader, &mut writer, false).is_ok();
+    let is_done = run(alloc, core, &mut reader, &mut writer, false).is_ok();
     is_done && !reader.into_inner().is_late
 }
 

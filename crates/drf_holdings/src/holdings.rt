@@ -1,5 +1,5 @@
 //! What clients hold, and how it ends.
-ghost use Rattle.std.specs.Prelude.{◌≡◌, ◌==◌, [], ◌++◌, Some, true, map, find, filter, not, nat_lt, IfOk, OnOk, OnErr, MatchOption, option_copied};
+ghost use Rattle.std.specs.Prelude.{◌≡◌, ◌==◌, [], ◌∷◌, ◌++◌, Some, true, false, length, map, find, filter, not, nat_lt, IfOk, OnOk, OnErr, MatchOption, option_copied};
 ghost use Rattle.std.specs.List.{list_any};
 ghost use Rattle.std.specs.Map.{values_of};
 ghost use Rattle.drf_bundle.specs.Taken.{rest_of_all};
@@ -108,6 +108,20 @@ impl Holdings {
         }
     }
 
+    /// How many offers there are.
+    pub fn offer_count(&self) -> usize
+        ensures { result ≡ length self.now.offers }
+    {
+        self.offers.len()
+    }
+
+    /// How many tasks there are.
+    pub fn task_count(&self) -> usize
+        ensures { result ≡ length self.now.tasks }
+    {
+        self.tasks.len()
+    }
+
     /// The offers, in order of number.
     pub fn offers(&self) -> Values<'_, u64, OfferRow>
         ensures { result ≡ self.now.offers }
@@ -204,6 +218,16 @@ impl Holdings {
         ensures err { OnErr result ((self.new ≡ self.old) × (offers.new.items ≡ offers.old.items)) }
     {
         self.offers.append(offers)
+    }
+
+    /// Puts a task behind those that are there. An `Err` changes nothing.
+    pub fn put_task(&mut self, task: TaskRow) -> Result<(), AllocError>
+        requires { list_any (is_task task.framework task.name) self.old.tasks ≡ false }
+        ensures ok { OnOk result (self.new.tasks ≡ self.old.tasks ++ task ∷ []) }
+        ensures offers { self.new.offers ≡ self.old.offers }
+        ensures err { OnErr result (self.new ≡ self.old) }
+    {
+        self.tasks.push(task)
     }
 
     /// Tasks are started with parts of an offer, which goes. Gives the offer that it was. An `Err` changes nothing.

@@ -185,6 +185,13 @@ impl OfferTable {
         }
     }
 
+    /// How many offers there are.
+    pub(crate) fn len(&self) -> usize
+        ensures { result ≡ length self.now }
+    {
+        self.rows.len()
+    }
+
     /// The offers, in order of number.
     pub(crate) fn rows(&self) -> Values<'_, u64, OfferRow>
         ensures { result ≡ self.now }

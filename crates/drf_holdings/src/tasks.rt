@@ -214,6 +214,13 @@ impl TaskTable {
         }
     }
 
+    /// How many tasks there are.
+    pub(crate) fn len(&self) -> usize
+        ensures { result ≡ length self.now }
+    {
+        self.tasks.len()
+    }
+
     /// The tasks, as they were started.
     pub(crate) fn tasks(&self) -> Values<'_, u64, Task>
         ensures { map task_row result ≡ self.now }

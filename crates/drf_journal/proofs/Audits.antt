@@ -8,16 +8,11 @@ use Rattle.std.proofs.lemmas.List.{at_drop_more, drop_all}
 use Rattle.drf_audit.specs.Audit.{line_of}
 use Rattle.drf_audit.specs.AuditText.{audit_text}
 use Rattle.drf_audit.specs.declared.agents.AuditLine.{AuditLine}
-use Rattle.drf_core.specs.Machine.{Machine, opened, after}
+use Rattle.drf_core.specs.Machine.{Machine}
 use Rattle.drf_explain.specs.ExplainedLaws.{live_rows_are_explained}
 use Rattle.drf_explain.specs.ExplainedText.{explained_text}
-use Rattle.drf_lines.specs.Meaning.{meaning_of}
-use Rattle.drf_lines.specs.declared.fault.LineFault.{LineFault}
 use Rattle.drf_rows.specs.Cycle.{free_of}
-use Rattle.drf_rows.specs.LimitNumbers.{LimitNumbers}
-use Rattle.drf_rows.specs.laws.LiveLaws.{rows_after-same_live, live_rows-twice}
-use Rattle.drf_rows.specs.Step.{opening, live_rows, rows_after}
-use Rattle.drf_rows.specs.declared.event.Event.{Event}
+use Rattle.drf_rows.specs.Step.{live_rows}
 use Rattle.drf_rows.specs.declared.rows.Rows.{Rows}
 use Rattle.drf_journal.specs.declared.fault.RunFault.{RunFault}
 use Rattle.drf_journal.specs.declared.fault.RunFault.TheVariants.{Read, Write, Memory}
@@ -25,29 +20,10 @@ use Rattle.drf_journal.specs.Audited.{rows_after_lines, agents_text, cycle_text,
 use Rattle.drf_journal.specs.Device.{AppendsFrontOf}
 use Rattle.drf_journal.specs.Ended.{HasCause, HasFlushed}
 use Rattle.drf_journal.specs.Lines.{lines_of}
-use Rattle.drf_journal.specs.Output.{rows_after_line}
-use Rattle.drf_journal.specs.State.{State, IsBegun, machine_after, machine_after_lines, at_end}
+use Rattle.drf_journal.specs.State.{State, IsBegun, machine_after_lines, at_end}
 use Rattle.drf_journal.proofs.Devices.{WroteFront, wrote-front}
+use Rattle.drf_journal.proofs.Resumes.{rows-stand}
 use Rattle.drf_journal.proofs.Served.{IsServing, consumed_all, machine_at_end}
-
--- ---- the rows after lines
-
--- an allocator stands at the live rows of these, and so after lines
-rows_from : (machine : Machine) (rows : Rows) (lines : List (List ℕ)) → machine.rows ≡ live_rows rows
-    → (machine_after_lines machine lines).rows ≡ live_rows (rows_after_lines machine.limits rows lines)
-unfolding after
-rows_from machine rows [] same = same
-rows_from machine rows (line ∷ lines) same = by_meaning (meaning_of line) (λ machine rows same. rows_from machine rows lines same)
-  where
-    by_meaning : (meaning : Result Event LineFault)
-        → ((machine : Machine) (rows : Rows) → machine.rows ≡ live_rows rows
-        → (machine_after_lines machine lines).rows ≡ live_rows (rows_after_lines machine.limits rows lines))
-        → (machine_after_lines (machine_after machine meaning) lines).rows
-        ≡ live_rows (rows_after_lines machine.limits (rows_after_line machine.limits rows meaning) lines)
-    by_meaning (Ok event) rest =
-        rest (after machine event) (rows_after machine.limits rows event)
-        (rows_after-same_live machine.limits machine.rows rows (ap live_rows same ∙ live_rows-twice rows) event)
-    by_meaning (Err fault) rest = rest machine rows same
 
 -- agents are told by live rows as by all
 pub agents-live : (rows : Rows) → agents_text (live_rows rows) ≡ agents_text rows
@@ -68,49 +44,50 @@ cycle-live at rows = ap explained_text (live_rows_are_explained rows at)
 
 module _ (tell : Rows → List ℕ) (live : (rows : Rows) → tell (live_rows rows) ≡ tell rows) where
   -- what is told of the rows at which an allocator stands is the text that is due
-  text_due : (limits : LimitNumbers) (read : List ℕ) (machine : Machine) (text : List ℕ)
-      → machine ≡ machine_after_lines (opened limits) (lines_of read)
-      → text ≡ tell machine.rows → text ≡ told_of_lines tell limits (lines_of read)
+  text_due : (old : Machine) (read : List ℕ) (new : Machine) (text : List ℕ)
+      → new ≡ machine_after_lines old (lines_of read)
+      → text ≡ tell new.rows → text ≡ told_of_lines tell old (lines_of read)
   unfolding told_of_lines
-  text_due limits read machine text is told =
-      let rows = rows_after_lines limits opening (lines_of read) in
-      let stands : machine.rows ≡ live_rows rows = ap (λ (m : Machine). m.rows) is ∙ rows_from (opened limits) opening (lines_of read) refl in
-      told ∙ ap tell stands ∙ live rows
+  text_due old read new text is told =
+      let rows = rows_after_lines old.limits old.rows (lines_of read) in
+      let stands : live_rows new.rows ≡ live_rows rows =
+      ap (λ (m : Machine). live_rows m.rows) is ∙ rows-stand old old.rows (lines_of read) refl in
+      told ∙ sym (live new.rows) ∙ ap tell stands ∙ live rows
 
   -- the text was written, or a front of it
-  pub told-ends : (limits : LimitNumbers) (unread_before unread_after written written_next : Option (List ℕ)) (new : Machine)
+  pub told-ends : (old : Machine) (unread_before unread_after written written_next : Option (List ℕ)) (new : Machine)
       (text : List ℕ) (r : Result (Unit {0}) RunFault) (failed : Bool)
-      → HasTakenLines (opened limits) unread_before unread_after new (Ok tt)
+      → HasTakenLines old unread_before unread_after new (Ok tt)
       → text ≡ tell new.rows → HasCause r false 0 failed
       → OnOk r (Appends written written_next text)
       → OnErr r (AppendsFrontOf written written_next text)
-      → HasToldOfRows tell limits unread_before unread_after written written_next r
-  told-ends limits unread_before unread_after written written_next new text (Ok done) failed taken told cause all front = record {
+      → HasToldOfRows tell old unread_before unread_after written written_next r
+  told-ends old unread_before unread_after written written_next new text (Ok done) failed taken told cause all front = record {
     read = taken.read;
     written = text;
     consumed = taken.consumed;
     appended = all;
-    told = text_due limits taken.read new text taken.machine told;
+    told = text_due old taken.read new text taken.machine told;
     whole = taken.whole;
     late = λ some. taken.whole;
   }
-  told-ends limits unread_before unread_after written written_next new text (Err Read) failed taken told cause all front =
+  told-ends old unread_before unread_after written written_next new text (Err Read) failed taken told cause all front =
       absurd (⊎_elim (λ e. false≢true e) (λ e. omega arith) cause.0)
-  told-ends limits unread_before unread_after written written_next new text (Err Write) failed taken told cause all front = record {
+  told-ends old unread_before unread_after written written_next new text (Err Write) failed taken told cause all front = record {
     read = taken.read;
     written = take front.0 text;
     consumed = taken.consumed;
     appended = front.1;
-    told = (front.0, ap (take front.0) (text_due limits taken.read new text taken.machine told));
+    told = (front.0, ap (take front.0) (text_due old taken.read new text taken.machine told));
     whole = tt;
     late = λ some. taken.whole;
   }
-  told-ends limits unread_before unread_after written written_next new text (Err Memory) failed taken told cause all front = record {
+  told-ends old unread_before unread_after written written_next new text (Err Memory) failed taken told cause all front = record {
     read = taken.read;
     written = take front.0 text;
     consumed = taken.consumed;
     appended = front.1;
-    told = (front.0, ap (take front.0) (text_due limits taken.read new text taken.machine told));
+    told = (front.0, ap (take front.0) (text_due old taken.read new text taken.machine told));
     whole = tt;
     late = λ some. taken.whole;
   }
@@ -140,12 +117,6 @@ module _ (old : State) (begins : IsBegun old) (unread_first unread unread_next :
     machine = ap (λ (s : State). s.machine) is ∙ machine_at_end old begins _ _ _ None None None session serving consumed;
     whole = end;
   }
-
--- the allocator that took them is known by another name
-pub taken_as : (old other : Machine) (unread_before unread_after : Option (List ℕ)) (new : Machine) → old ≡ other
-    → HasTakenLines old unread_before unread_after new (Ok tt) → HasTakenLines other unread_before unread_after new (Ok tt)
-taken_as old other unread_before unread_after new same taken =
-    subst (λ (m : Machine). HasTakenLines m unread_before unread_after new (Ok tt)) same taken
 
 -- ---- text that is written part by part
 
@@ -195,11 +166,11 @@ cause-written {T} (Err e) failed same fault = subst (λ (e : RunFault). HasCause
 -- ---- how it ends
 
 -- nothing is written where not all lines were taken
-pub told-unread : (tell : Rows → List ℕ) (limits : LimitNumbers) (unread_before unread_after written : Option (List ℕ)) (fault : RunFault) (reads : ℕ)
+pub told-unread : (tell : Rows → List ℕ) (unread_before unread_after written : Option (List ℕ)) (fault : RunFault) (reads : ℕ)
     (reader_failed : Bool) (old new : Machine) → HasCause {T = Unit {0}} (Err fault) reader_failed reads false
     → HasTakenLines old unread_before unread_after new (Err fault)
-    → HasToldOfRows tell limits unread_before unread_after written written (Err fault)
-told-unread tell limits unread_before unread_after written Read reads reader_failed old new cause taken = record {
+    → HasToldOfRows tell old unread_before unread_after written written (Err fault)
+told-unread tell unread_before unread_after written Read reads reader_failed old new cause taken = record {
   read = taken.read;
   written = [];
   consumed = taken.consumed;
@@ -208,9 +179,9 @@ told-unread tell limits unread_before unread_after written Read reads reader_fai
   whole = tt;
   late = λ some. absurd (omega arith);
 }
-told-unread tell limits unread_before unread_after written Write reads reader_failed old new cause taken =
+told-unread tell unread_before unread_after written Write reads reader_failed old new cause taken =
     let bad : false ≡ true = cause.1 in absurd (false≢true bad)
-told-unread tell limits unread_before unread_after written Memory reads reader_failed old new cause taken = record {
+told-unread tell unread_before unread_after written Memory reads reader_failed old new cause taken = record {
   read = taken.read;
   written = [];
   consumed = taken.consumed;
@@ -221,10 +192,10 @@ told-unread tell limits unread_before unread_after written Memory reads reader_f
 }
 
 -- nor where memory ran out while the rows were looked at
-pub told-forgotten : (tell : Rows → List ℕ) (limits : LimitNumbers) (unread_before unread_after written : Option (List ℕ)) (new : Machine)
-    → HasTakenLines (opened limits) unread_before unread_after new (Ok tt)
-    → HasToldOfRows tell limits unread_before unread_after written written (Err Memory)
-told-forgotten tell limits unread_before unread_after written new taken = record {
+pub told-forgotten : (tell : Rows → List ℕ) (unread_before unread_after written : Option (List ℕ)) (old new : Machine)
+    → HasTakenLines old unread_before unread_after new (Ok tt)
+    → HasToldOfRows tell old unread_before unread_after written written (Err Memory)
+told-forgotten tell unread_before unread_after written old new taken = record {
   read = taken.read;
   written = [];
   consumed = taken.consumed;

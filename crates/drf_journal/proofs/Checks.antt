@@ -7,8 +7,7 @@ use Rattle.std.proofs.Math.Seq.{drop-append_seam}
 use Rattle.std.proofs.lemmas.Bool.{ne_eqb, cases_lt}
 use Rattle.std.proofs.lemmas.List.{length-append, append_cancel_left}
 use Rattle.std.proofs.lemmas.List.Elements.{All-append}
-use Rattle.drf_core.specs.Machine.{Machine, opened}
-use Rattle.drf_rows.specs.LimitNumbers.{LimitNumbers}
+use Rattle.drf_core.specs.Machine.{Machine}
 use Rattle.drf_rows.specs.declared.event.Event.{Event}
 use Rattle.drf_lines.specs.declared.fault.LineFault.{LineFault}
 use Rattle.drf_lines.specs.Meaning.{meaning_of}
@@ -20,7 +19,7 @@ use Rattle.drf_journal.specs.Journal.{event_lines, replies_due, replies_there, I
 use Rattle.drf_journal.specs.Lines.{is_line_feed, ended_lines_of, open_line_of, lines_of, IsWithinLine}
 use Rattle.drf_journal.specs.Output.{kept_of, reply_line_after}
 use Rattle.drf_journal.specs.State.{machine_after, machine_after_lines}
-use Rattle.drf_journal.proofs.Cuts.{ended-within, open-within, within-nil, ended-feed, open-feed, goes_on, cut_at, lines-goes_on, lines-feed, lines-begun}
+use Rattle.drf_journal.proofs.Cuts.{ended-within, open-within, within-nil, ended-feed, open-feed, goes_on, cut_at, lines-goes_on, lines-feed, lines-begun, lines-none}
 use Rattle.drf_journal.proofs.Kept.{kept-append, meaning-kept}
 use Rattle.drf_journal.proofs.Pairs.{ended, event-more, reply-more, reply-wrong, reply-missing}
 
@@ -95,28 +94,28 @@ come-next text line bytes rest come has same = append_cancel_left line _ _ (sym 
 
 -- ---- one step each
 
-abbrev begun_check : LimitNumbers → Check
-begun_check limits = record { machine = opened limits; line = []; due = record { text = []; come = 0 }; events = 0 }
+abbrev begun_check : Machine → Check
+begun_check start = record { machine = start; line = []; due = record { text = []; come = 0 }; events = 0 }
 
-due_none : (limits : LimitNumbers) → replies_due limits [] ≡ replies_there []
+due_none : (start : Machine) → replies_due start [] ≡ replies_there []
 unfolding replies_due replies_there
-due_none limits = refl
+due_none start = refl
 
-pub checked-none : (limits : LimitNumbers) → IsCheckedTo limits [] (begun_check limits)
-checked-none limits =
+pub checked-none : (start : Machine) → IsCheckedTo start [] (begun_check start)
+checked-none start =
     let none : ended_lines_of [] ≡ [] = ended-within [] within-nil in
     record {
-      machine = ap (λ ls. machine_after_lines (opened limits) (event_lines ls)) (sym none);
+      machine = ap (λ ls. machine_after_lines start (event_lines ls)) (sym none);
       events = ap (λ ls. length (event_lines ls)) (sym none);
       event = λ _. record {
-        replies = rw none (due_none limits);
+        replies = rw none (due_none start);
         line = ap kept_of (sym (open-within [] within-nil));
       };
       reply = λ some. absurd (omega arith);
     }
 
-pub checked-first : (limits : LimitNumbers) (check : Check) → IsCheckedTo limits [] check → check.events ≡ 0
-checked-first limits check at = at.events ∙ ap (λ ls. length (event_lines ls)) (ended-within [] within-nil)
+pub checked-first : (start : Machine) (check : Check) → IsCheckedTo start [] check → check.events ≡ 0
+checked-first start check at = at.events ∙ ap (λ ls. length (event_lines ls)) (ended-within [] within-nil)
 
 module _ (old : Check) (end : List ℕ) where
   pub event-line-is : (machine : Machine) (line text : List ℕ) (due : DueLine)
@@ -135,10 +134,10 @@ module _ (old : Check) (end : List ℕ) where
   event-line-counted = refl
 
 module _ (old : Check) (end : List ℕ) (within : IsWithinLine end) where
-  event-line : length old.due.text ≡ 0 → (limits : LimitNumbers) (read : List ℕ) → IsCheckedTo limits read old
-      → IsCheckedTo limits (read ++ (end ++ 10 ∷ [])) (after_event_line old end)
+  event-line : length old.due.text ≡ 0 → (start : Machine) (read : List ℕ) → IsCheckedTo start read old
+      → IsCheckedTo start (read ++ (end ++ 10 ∷ [])) (after_event_line old end)
   unfolding after_event_line
-  event-line none limits read at =
+  event-line none start read at =
       let line = open_line_of read ++ end in
       let was = at.event none in
       let meant : meaning_of (old.line ++ end) ≡ meaning_of line =
@@ -147,16 +146,16 @@ module _ (old : Check) (end : List ℕ) (within : IsWithinLine end) where
       ∙ meaning-kept line in
       let more = one_line_more read end within in
       let open_now = nothing_open read end within in
-      let one = event-more limits (ended_lines_of read) line old.machine was.replies at.machine in
+      let one = event-more start (ended_lines_of read) line old.machine was.replies at.machine in
       let text = reply_line_after old.machine.limits old.machine.rows (meaning_of (old.line ++ end)) in
       let some : 0 < length text = reply-some old.machine (meaning_of (old.line ++ end)) in
       record {
         machine = ap (machine_after old.machine) meant ∙ one.machine
-            ∙ ap (λ ls. machine_after_lines (opened limits) (event_lines ls)) (sym more);
+            ∙ ap (λ ls. machine_after_lines start (event_lines ls)) (sym more);
         events = ap (λ (n : ℕ). n + 1) at.events ∙ sym one.events ∙ ap (λ ls. length (event_lines ls)) (sym more);
         event = λ empty. absurd (omega arith);
         reply = λ _. record {
-          replies = ap (replies_due limits) more ∙ one.replies
+          replies = ap (replies_due start) more ∙ one.replies
               ∙ (λ i. replies_there (sym more i) ++ reply_line_after old.machine.limits old.machine.rows (sym meant i) ∷ []);
           line = refl;
           come = record { text = ap (λ (l : List ℕ). l ++ text) (sym open_now); count = ap length (sym open_now) };
@@ -166,8 +165,8 @@ module _ (old : Check) (end : List ℕ) (within : IsWithinLine end) where
   pub checked-event : (new : Check) → length old.due.text ≡ 0 → new ≡ after_event_line old end
       → HasChecked (end ++ 10 ∷ []) old new true
   checked-event new none is = record {
-    goes_on = λ _ limits read at.
-        subst (IsCheckedTo limits (read ++ (end ++ 10 ∷ []))) (sym is) (event-line none limits read at);
+    goes_on = λ _ start read at.
+        subst (IsCheckedTo start (read ++ (end ++ 10 ∷ []))) (sym is) (event-line none start read at);
     wrong = λ no. absurd (true_is_false no);
   }
     where
@@ -180,26 +179,26 @@ module _ (old : Check) (end : List ℕ) (within : IsWithinLine end) where
       → new ≡ record old { due = record { text = []; come = 0 } }
       → HasChecked (end ++ 10 ∷ []) old new true
   checked-reply new some whole is = record {
-    goes_on = λ _ limits read at. subst (IsCheckedTo limits (read ++ (end ++ 10 ∷ []))) (sym is) (replied limits read at);
+    goes_on = λ _ start read at. subst (IsCheckedTo start (read ++ (end ++ 10 ∷ []))) (sym is) (replied start read at);
     wrong = λ no. absurd (true_is_false no);
   }
     where
       true_is_false : true ≡ false → ⊥
       true_is_false e = cc
 
-      replied : (limits : LimitNumbers) (read : List ℕ) → IsCheckedTo limits read old
-          → IsCheckedTo limits (read ++ (end ++ 10 ∷ [])) (record old { due = record { text = []; come = 0 } })
-      replied limits read at =
+      replied : (start : Machine) (read : List ℕ) → IsCheckedTo start read old
+          → IsCheckedTo start (read ++ (end ++ 10 ∷ [])) (record old { due = record { text = []; come = 0 } })
+      replied start read at =
           let line = open_line_of read ++ end in
           let was = at.reply some in
           let same : old.due.text ≡ ended line =
           whole (open_line_of read) was.come ∙ sym (append_assoc (open_line_of read) end (10 ∷ [])) in
           let more = one_line_more read end within in
-          let one = reply-more limits (ended_lines_of read) old.due.text was.replies line same in
+          let one = reply-more start (ended_lines_of read) old.due.text was.replies line same in
           let events : event_lines (ended_lines_of read) ≡ event_lines (ended_lines_of (read ++ (end ++ 10 ∷ []))) =
           sym one.1 ∙ ap event_lines (sym more) in
           record {
-            machine = at.machine ∙ ap (machine_after_lines (opened limits)) events;
+            machine = at.machine ∙ ap (machine_after_lines start) events;
             events = at.events ∙ ap length events;
             event = λ _. record {
               replies = rw more one.0;
@@ -215,10 +214,10 @@ module _ (old : Check) (end : List ℕ) (within : IsWithinLine end) where
       → HasChecked (end ++ 10 ∷ []) old new false
   checked-other new some other counted = record {
     goes_on = λ no. absurd (false_is_true no);
-    wrong = λ _ limits read more at.
+    wrong = λ _ start read more at.
         let line = open_line_of read ++ end in
         let was = at.reply some in
-        let found = reply-wrong limits (ended_lines_of read) old.due.text was.replies line (lines_of more)
+        let found = reply-wrong start (ended_lines_of read) old.due.text was.replies line (lines_of more)
         (λ same. other (open_line_of read) was.come (same ∙ append_assoc (open_line_of read) end (10 ∷ []))) in
         rw (lines_then read end within more, counted, at.events) found;
   }
@@ -230,16 +229,16 @@ module _ (old : Check) (more : List ℕ) (within : IsWithinLine more) where
   pub checked-part : (new : Check) → length old.due.text ≡ 0 → new ≡ record old { line = kept_of (old.line ++ more) }
       → HasChecked more old new true
   checked-part new none is = record {
-    goes_on = λ _ limits read at. subst (IsCheckedTo limits (read ++ more)) (sym is) (longer limits read at);
+    goes_on = λ _ start read at. subst (IsCheckedTo start (read ++ more)) (sym is) (longer start read at);
     wrong = λ no. absurd (true_is_false no);
   }
     where
       true_is_false : true ≡ false → ⊥
       true_is_false e = cc
 
-      longer : (limits : LimitNumbers) (read : List ℕ) → IsCheckedTo limits read old
-          → IsCheckedTo limits (read ++ more) (record old { line = kept_of (old.line ++ more) })
-      longer limits read at =
+      longer : (start : Machine) (read : List ℕ) → IsCheckedTo start read old
+          → IsCheckedTo start (read ++ more) (record old { line = kept_of (old.line ++ more) })
+      longer start read at =
           let was = at.event none in
           let same = same_lines read more within in
           record {
@@ -258,16 +257,16 @@ module _ (old : Check) (more : List ℕ) (within : IsWithinLine more) where
       → new ≡ record old { due = due }
       → HasChecked more old new true
   checked-come new due some kept comes is = record {
-    goes_on = λ _ limits read at. subst (IsCheckedTo limits (read ++ more)) (sym is) (longer limits read at);
+    goes_on = λ _ start read at. subst (IsCheckedTo start (read ++ more)) (sym is) (longer start read at);
     wrong = λ no. absurd (true_is_false no);
   }
     where
       true_is_false : true ≡ false → ⊥
       true_is_false e = cc
 
-      longer : (limits : LimitNumbers) (read : List ℕ) → IsCheckedTo limits read old
-          → IsCheckedTo limits (read ++ more) (record old { due = due })
-      longer limits read at =
+      longer : (start : Machine) (read : List ℕ) → IsCheckedTo start read old
+          → IsCheckedTo start (read ++ more) (record old { due = due })
+      longer start read at =
           let was = at.reply some in
           let same = same_lines read more within in
           let sized = ap length kept in
@@ -288,15 +287,15 @@ module _ (old : Check) (more : List ℕ) (within : IsWithinLine more) where
       → HasChecked more old new false
   checked-strange new some strange counted = record {
     goes_on = λ no. absurd (false_is_true no);
-    wrong = λ _ limits read later at.
+    wrong = λ _ start read later at.
         let line = open_line_of read ++ more in
         let was = at.reply some in
-        let begun : 0 < length line = longer limits read at in
+        let begun : 0 < length line = longer start read at in
         let bytes : lines_of ((read ++ more) ++ later) ≡ ended_lines_of read ++ lines_of (line ++ later) =
         ap lines_of (append_assoc read more later) ∙ lines-goes_on read (more ++ later)
         ∙ ap (λ l. ended_lines_of read ++ lines_of l) (sym (append_assoc (open_line_of read) more later)) in
         let on = lines-begun line later (joined read more within) begun in
-        let found = reply-wrong limits (ended_lines_of read) old.due.text was.replies (line ++ on.0) on.1.0
+        let found = reply-wrong start (ended_lines_of read) old.due.text was.replies (line ++ on.0) on.1.0
         (λ same. strange (open_line_of read) was.come (on.0 ++ 10 ∷ [])
         (same ∙ ap ended (append_assoc (open_line_of read) more on.0)
         ∙ append_assoc (open_line_of read) (more ++ on.0) (10 ∷ [])
@@ -313,8 +312,8 @@ module _ (old : Check) (more : List ℕ) (within : IsWithinLine more) where
       not_none [] line come strange = absurd (strange line come (drop old.due.come old.due.text) come.text)
       not_none (b ∷ more) line come strange = omega arith
 
-      longer : (limits : LimitNumbers) (read : List ℕ) → IsCheckedTo limits read old → 0 < length (open_line_of read ++ more)
-      longer limits read at =
+      longer : (start : Machine) (read : List ℕ) → IsCheckedTo start read old → 0 < length (open_line_of read ++ more)
+      longer start read at =
           let some_more = not_none more (open_line_of read) (at.reply some).come strange in
           let sum = length-append (open_line_of read) more in omega arith
 
@@ -328,7 +327,7 @@ checked-by piece old new false passed failed = failed refl
 
 pub checked-nothing : (check : Check) → HasChecked [] check check true
 checked-nothing check = record {
-  goes_on = λ _ limits read at. subst (λ (l : List ℕ). IsCheckedTo limits l check) (sym (append-nil read)) at;
+  goes_on = λ _ start read at. subst (λ (l : List ℕ). IsCheckedTo start l check) (sym (append-nil read)) at;
   wrong = λ no. absurd (true_is_false no);
 }
   where
@@ -338,22 +337,22 @@ checked-nothing check = record {
 pub checked-then : (front next : List ℕ) (old now new : Check) (right : Bool) → HasChecked front old now true
     → HasChecked next now new right → HasChecked (front ++ next) old new right
 checked-then front next old now new right first second = record {
-  goes_on = λ yes limits read at.
-      subst (λ (l : List ℕ). IsCheckedTo limits l new) (append_assoc read front next)
-      (second.goes_on yes limits (read ++ front) (first.goes_on refl limits read at));
-  wrong = λ no limits read more at.
-      subst (λ (l : List ℕ). IsVerdict limits (l ++ more) (Bad (2 * new.events))) (append_assoc read front next)
-      (second.wrong no limits (read ++ front) more (first.goes_on refl limits read at));
+  goes_on = λ yes start read at.
+      subst (λ (l : List ℕ). IsCheckedTo start l new) (append_assoc read front next)
+      (second.goes_on yes start (read ++ front) (first.goes_on refl start read at));
+  wrong = λ no start read more at.
+      subst (λ (l : List ℕ). IsVerdict start (l ++ more) (Bad (2 * new.events))) (append_assoc read front next)
+      (second.wrong no start (read ++ front) more (first.goes_on refl start read at));
 }
 
 pub checked-stop : (front rest : List ℕ) (old now : Check) → HasChecked front old now false
     → HasChecked (front ++ rest) old now false
 checked-stop front rest old now first = record {
   goes_on = λ no. absurd (false_is_true no);
-  wrong = λ _ limits read more at.
-      subst (λ (l : List ℕ). IsVerdict limits l (Bad (2 * now.events)))
+  wrong = λ _ start read more at.
+      subst (λ (l : List ℕ). IsVerdict start l (Bad (2 * now.events)))
       (sym (ap (λ l. l ++ more) (sym (append_assoc read front rest)) ∙ append_assoc (read ++ front) rest more))
-      (first.wrong refl limits read (rest ++ more) at);
+      (first.wrong refl start read (rest ++ more) at);
 }
   where
     false_is_true : false ≡ true → ⊥
@@ -399,10 +398,6 @@ front-rest old now new piece rest right front checked =
 
 -- ---- the end of the journal
 
-lines-none : (read : List ℕ) → length (open_line_of read) ≡ 0 → lines_of read ≡ ended_lines_of read
-unfolding lines_of
-lines-none read none = rw none (append-nil (ended_lines_of read))
-
 lines-last : (read : List ℕ) → 0 < length (open_line_of read) → lines_of read ≡ ended_lines_of read ++ open_line_of read ∷ []
 unfolding lines_of
 lines-last read some = rw (ne_eqb (length (open_line_of read)) 0 (λ e. omega arith)) refl
@@ -411,17 +406,17 @@ length-kept : (line : List ℕ) → length (kept_of line) ≡ 0 → length line 
 length-kept [] none = refl
 length-kept (b ∷ line) none = absurd (omega arith)
 
-module _ (limits : LimitNumbers) (read : List ℕ) (check : Check) (at : IsCheckedTo limits read check) where
+module _ (start : Machine) (read : List ℕ) (check : Check) (at : IsCheckedTo start read check) where
   -- an event line was at hand: it is the last line, and its reply is missing
-  pub ends-open : 0 < length check.line → IsVerdict limits read (Bad (2 * (check.events + 1)))
+  pub ends-open : 0 < length check.line → IsVerdict start read (Bad (2 * (check.events + 1)))
   ends-open some =
       ⊎_elim (λ (due : 0 < length check.due.text). absurd (let none = ap length (at.reply due).line in omega arith))
       (λ (none : length check.due.text ≤ 0).
       let was = at.event (omega arith) in
       let line = open_line_of read in
       let last : 0 < length line = some_line line (subst (λ (l : List ℕ). 0 < length l) was.line some) in
-      let one = event-more limits (ended_lines_of read) line check.machine was.replies at.machine in
-      let found = reply-missing limits (ended_lines_of read ++ line ∷ []) _ one.replies in
+      let one = event-more start (ended_lines_of read) line check.machine was.replies at.machine in
+      let found = reply-missing start (ended_lines_of read ++ line ∷ []) _ one.replies in
       rw (lines-last read last) (found.0, found.1, (let a = one.events in let b = at.events in let c = found.2 in omega arith)))
       (cases_lt 0 (length check.due.text))
     where
@@ -430,60 +425,60 @@ module _ (limits : LimitNumbers) (read : List ℕ) (check : Check) (at : IsCheck
       some_line (b ∷ line) some = omega arith
 
   -- nothing was at hand
-  pub ends-good : length check.line ≡ 0 → length check.due.text ≡ 0 → IsVerdict limits read (Good check.events)
+  pub ends-good : length check.line ≡ 0 → length check.due.text ≡ 0 → IsVerdict start read (Good check.events)
   ends-good empty none =
       let was = at.event none in
       let nothing = length-kept (open_line_of read) (ap length (sym was.line) ∙ empty) in
       rw (lines-none read nothing) (was.replies, at.events)
 
   -- the last reply has not begun
-  pub ends-missing : 0 < length check.due.text → check.due.come ≡ 0 → IsVerdict limits read (Bad (2 * check.events))
+  pub ends-missing : 0 < length check.due.text → check.due.come ≡ 0 → IsVerdict start read (Bad (2 * check.events))
   ends-missing some none =
       let was = at.reply some in
       let nothing : length (open_line_of read) ≡ 0 = sym was.come.count ∙ none in
-      rw (lines-none read nothing, at.events) (reply-missing limits (ended_lines_of read) check.due.text was.replies)
+      rw (lines-none read nothing, at.events) (reply-missing start (ended_lines_of read) check.due.text was.replies)
 
   -- it is right but for its line feed
   pub ends-whole : 0 < length check.due.text → 0 < check.due.come
       → ((line : List ℕ) → HasCome check.due line → check.due.text ≡ line ++ 10 ∷ [])
-      → IsVerdict limits read (Good check.events)
+      → IsVerdict start read (Good check.events)
   ends-whole some begun whole =
       let was = at.reply some in
       let line = open_line_of read in
       let last : 0 < length line = let count = was.come.count in omega arith in
-      let one = reply-more limits (ended_lines_of read) check.due.text was.replies line (whole line was.come) in
+      let one = reply-more start (ended_lines_of read) check.due.text was.replies line (whole line was.come) in
       rw (lines-last read last) (one.0, at.events ∙ ap length (sym one.1))
 
   -- it is another
   pub ends-wrong : 0 < length check.due.text → 0 < check.due.come
       → ((line : List ℕ) → HasCome check.due line → ¬ (check.due.text ≡ line ++ 10 ∷ []))
-      → IsVerdict limits read (Bad (2 * check.events))
+      → IsVerdict start read (Bad (2 * check.events))
   ends-wrong some begun other =
       let was = at.reply some in
       let line = open_line_of read in
       let last : 0 < length line = let count = was.come.count in omega arith in
       rw (lines-last read last, at.events)
-      (reply-wrong limits (ended_lines_of read) check.due.text was.replies line [] (other line was.come))
+      (reply-wrong start (ended_lines_of read) check.due.text was.replies line [] (other line was.come))
 
 -- ---- between two reads
 
 -- whatever follows
-journal_of : (unread_first unread : Option (List ℕ)) (read : List ℕ) (verdict : Verdict) (limits : LimitNumbers)
-    → Consumes unread_first unread read → ((more : List ℕ) → IsVerdict limits (read ++ more) verdict)
-    → IfSome unread_first (λ journal. IsVerdict limits journal verdict)
-journal_of None unread read verdict limits consumed is = tt
-journal_of (Some all) None read verdict limits consumed is = absurd consumed
-journal_of (Some all) (Some more) read verdict limits consumed is =
-    subst (λ (l : List ℕ). IsVerdict limits l verdict) (sym consumed) (is more)
+journal_of : (unread_first unread : Option (List ℕ)) (read : List ℕ) (verdict : Verdict) (start : Machine)
+    → Consumes unread_first unread read → ((more : List ℕ) → IsVerdict start (read ++ more) verdict)
+    → IfSome unread_first (λ journal. IsVerdict start journal verdict)
+journal_of None unread read verdict start consumed is = tt
+journal_of (Some all) None read verdict start consumed is = absurd consumed
+journal_of (Some all) (Some more) read verdict start consumed is =
+    subst (λ (l : List ℕ). IsVerdict start l verdict) (sym consumed) (is more)
 
 -- nothing follows
-whole_of : (unread_first unread : Option (List ℕ)) (read : List ℕ) (verdict : Verdict) (limits : LimitNumbers)
-    → Consumes unread_first unread read → IsAtEnd unread → IsVerdict limits read verdict
-    → IfSome unread_first (λ journal. IsVerdict limits journal verdict)
-whole_of None unread read verdict limits consumed end is = tt
-whole_of (Some all) None read verdict limits consumed end is = absurd consumed
-whole_of (Some all) (Some more) read verdict limits consumed end is =
-    subst (λ (l : List ℕ). IsVerdict limits l verdict)
+whole_of : (unread_first unread : Option (List ℕ)) (read : List ℕ) (verdict : Verdict) (start : Machine)
+    → Consumes unread_first unread read → IsAtEnd unread → IsVerdict start read verdict
+    → IfSome unread_first (λ journal. IsVerdict start journal verdict)
+whole_of None unread read verdict start consumed end is = tt
+whole_of (Some all) None read verdict start consumed end is = absurd consumed
+whole_of (Some all) (Some more) read verdict start consumed end is =
+    subst (λ (l : List ℕ). IsVerdict start l verdict)
     (sym (consumed ∙ ap (λ l. read ++ l) end ∙ append-nil read)) is
 
 pub record IsReading (unread_first unread : Option (List ℕ)) (first now : Check) : Type 0 where
@@ -504,21 +499,21 @@ module _ (unread_first unread unread_next : Option (List ℕ)) (first now : Chec
     checked = checked-then reading.read piece first now next true reading.checked checked;
   }
 
-  pub reading-wrong : (piece : List ℕ) (next : Check) (limits : LimitNumbers) → Consumes unread unread_next piece
-      → HasChecked piece now next false → IsCheckedTo limits [] first
-      → IfSome unread_first (λ journal. IsVerdict limits journal (Bad (2 * next.events)))
-  reading-wrong piece next limits consumed checked begun =
+  pub reading-wrong : (piece : List ℕ) (next : Check) (start : Machine) → Consumes unread unread_next piece
+      → HasChecked piece now next false → IsCheckedTo start [] first
+      → IfSome unread_first (λ journal. IsVerdict start journal (Bad (2 * next.events)))
+  reading-wrong piece next start consumed checked begun =
       let all = checked-then reading.read piece first now next false reading.checked checked in
-      journal_of unread_first unread_next (reading.read ++ piece) (Bad (2 * next.events)) limits
+      journal_of unread_first unread_next (reading.read ++ piece) (Bad (2 * next.events)) start
       (Consumes-trans unread_first unread unread_next reading.read piece reading.consumed consumed)
-      (λ more. all.wrong refl limits [] more begun)
+      (λ more. all.wrong refl start [] more begun)
 
-  pub reading-ends : (verdict : Verdict) (limits : LimitNumbers) → Consumes unread unread_next [] → IsAtEnd unread_next
-      → ((limits : LimitNumbers) (read : List ℕ) → IsCheckedTo limits read now → IsVerdict limits read verdict)
-      → IsCheckedTo limits [] first
-      → IfSome unread_first (λ journal. IsVerdict limits journal verdict)
-  reading-ends verdict limits consumed end is begun =
-      whole_of unread_first unread_next (reading.read ++ []) verdict limits
+  pub reading-ends : (verdict : Verdict) (start : Machine) → Consumes unread unread_next [] → IsAtEnd unread_next
+      → ((start : Machine) (read : List ℕ) → IsCheckedTo start read now → IsVerdict start read verdict)
+      → IsCheckedTo start [] first
+      → IfSome unread_first (λ journal. IsVerdict start journal verdict)
+  reading-ends verdict start consumed end is begun =
+      whole_of unread_first unread_next (reading.read ++ []) verdict start
       (Consumes-trans unread_first unread unread_next reading.read [] reading.consumed consumed) end
-      (subst (λ (l : List ℕ). IsVerdict limits l verdict) (sym (append-nil reading.read))
-      (is limits reading.read (reading.checked.goes_on refl limits [] begun)))
+      (subst (λ (l : List ℕ). IsVerdict start l verdict) (sym (append-nil reading.read))
+      (is start reading.read (reading.checked.goes_on refl start [] begun)))

@@ -126,6 +126,10 @@ lines-feed line rest within =
     let last : List ℕ → List (List ℕ) = λ line. if length line == 0 then [] else line ∷ [] in
     λ i. ended-feed line 10 rest within refl i ++ last (open-feed line 10 rest within refl i)
 
+pub lines-none : (read : List ℕ) → length (open_line_of read) ≡ 0 → lines_of read ≡ ended_lines_of read
+unfolding lines_of
+lines-none read none = rw none (append-nil (ended_lines_of read))
+
 -- where something has come of a line it is the first, and goes on
 pub lines-begun : (line more : List ℕ) → IsWithinLine line → 0 < length line
     → (rest : List ℕ) × ((others : List (List ℕ)) × (lines_of (line ++ more) ≡ (line ++ rest) ∷ others))

@@ -10,4 +10,8 @@ pub mod Served
 pub mod Pairs
 pub mod Checks
 pub mod Verdicts
+pub mod ReplyLines
+pub mod Resumes
+pub mod Glues
 pub mod Audits
+pub mod Advances

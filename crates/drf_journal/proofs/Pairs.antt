@@ -3,7 +3,7 @@ use Rattle.std.proofs.Common.{◌≡◌, ℕ, ◌+◌, ◌*◌, List, [], ◌∷
 use Rattle.std.specs.Prelude.{slice_get}
 use Rattle.std.proofs.Math.Seq.{take-append_seam}
 use Rattle.std.proofs.lemmas.List.{length-map, length-append, map-append}
-use Rattle.drf_core.specs.Machine.{Machine, opened, after}
+use Rattle.drf_core.specs.Machine.{Machine, after}
 use Rattle.drf_rows.specs.LimitNumbers.{LimitNumbers}
 use Rattle.drf_rows.specs.Step.{live_rows, rows_after}
 use Rattle.drf_rows.specs.laws.LiveLaws.{reply_to-same_live, rows_after-same_live, live_rows-twice}
@@ -28,18 +28,18 @@ replies-cons x [] = refl
 replies-cons x (y ∷ ys) = sym (events-cons y ys)
 
 -- as many event lines as reply lines, or one more
-abbrev IsEven : List (List ℕ) → Type 0
+abbrev pub IsEven : List (List ℕ) → Type 0
 IsEven lines = length (event_lines lines) ≡ length (reply_lines lines)
 
-abbrev IsOdd : List (List ℕ) → Type 0
+abbrev pub IsOdd : List (List ℕ) → Type 0
 IsOdd lines = length (event_lines lines) ≡ length (reply_lines lines) + 1
 
-events-even : (xs ys : List (List ℕ)) → IsEven xs → event_lines (xs ++ ys) ≡ event_lines xs ++ event_lines ys
+pub events-even : (xs ys : List (List ℕ)) → IsEven xs → event_lines (xs ++ ys) ≡ event_lines xs ++ event_lines ys
 events-even [] ys even = refl
 events-even (e ∷ []) ys even = absurd (omega arith)
 events-even (e ∷ r ∷ xs) ys even = ap (λ l. e ∷ l) (events-even xs ys (omega arith))
 
-replies-even : (xs ys : List (List ℕ)) → IsEven xs → reply_lines (xs ++ ys) ≡ reply_lines xs ++ reply_lines ys
+pub replies-even : (xs ys : List (List ℕ)) → IsEven xs → reply_lines (xs ++ ys) ≡ reply_lines xs ++ reply_lines ys
 replies-even [] ys even = refl
 replies-even (e ∷ []) ys even = absurd (omega arith)
 replies-even (e ∷ r ∷ xs) ys even = ap (λ l. r ∷ l) (replies-even xs ys (omega arith))
@@ -62,7 +62,7 @@ replies_by machine (line ∷ lines) =
     reply_line_after machine.limits machine.rows (meaning_of line) ∷ replies_by (machine_after machine (meaning_of line)) lines
 
 -- rows that have the same live rows give the same replies
-replies-same_live : (limits : LimitNumbers) (a b : Rows) (lines : List (List ℕ)) → live_rows a ≡ live_rows b
+pub replies-same_live : (limits : LimitNumbers) (a b : Rows) (lines : List (List ℕ)) → live_rows a ≡ live_rows b
     → replies_from limits a lines ≡ replies_from limits b lines
 replies-same_live limits a b [] same = refl
 replies-same_live limits a b (line ∷ lines) same =
@@ -148,80 +148,80 @@ differs-end front x xs = record {
 abbrev pub ended : List ℕ → List ℕ
 ended line = line ++ 10 ∷ []
 
-module _ (limits : LimitNumbers) (lines : List (List ℕ)) where
-  due_by : replies_due limits lines ≡ replies_by (opened limits) (event_lines lines)
+module _ (start : Machine) (lines : List (List ℕ)) where
+  due_by : replies_due start lines ≡ replies_by start (event_lines lines)
   unfolding replies_due
-  due_by = replies_from-lines (opened limits) (event_lines lines)
+  due_by = replies_from-lines start (event_lines lines)
 
-  length_due : length (replies_due limits lines) ≡ length (event_lines lines)
-  length_due = ap length due_by ∙ length-replies_by (opened limits) (event_lines lines)
+  pub length_due : length (replies_due start lines) ≡ length (event_lines lines)
+  length_due = ap length due_by ∙ length-replies_by start (event_lines lines)
 
-  length_there : length (replies_there lines) ≡ length (reply_lines lines)
+  pub length_there : length (replies_there lines) ≡ length (reply_lines lines)
   unfolding replies_there
   length_there = length-map (reply_lines lines) ended
 
-  is_even : replies_due limits lines ≡ replies_there lines → IsEven lines
+  pub is_even : replies_due start lines ≡ replies_there lines → IsEven lines
   is_even right = let a = ap length right in let b = length_due in let c = length_there in omega arith
 
-  is_odd : (due : List ℕ) → replies_due limits lines ≡ replies_there lines ++ due ∷ [] → IsOdd lines
+  is_odd : (due : List ℕ) → replies_due start lines ≡ replies_there lines ++ due ∷ [] → IsOdd lines
   is_odd due right =
       let a = ap length right in let b = length_due in let c = length_there in
       let d = length-append (replies_there lines) (due ∷ []) in omega arith
 
-there_more : (lines more others : List (List ℕ)) → reply_lines more ≡ reply_lines lines ++ others
+pub there_more : (lines more others : List (List ℕ)) → reply_lines more ≡ reply_lines lines ++ others
     → replies_there more ≡ replies_there lines ++ map ended others
 unfolding replies_there
 there_more lines more others e = ap (map ended) e ∙ map-append ended (reply_lines lines) others
 
-due_more : (limits : LimitNumbers) (lines more others : List (List ℕ)) → event_lines more ≡ event_lines lines ++ others
-    → replies_due limits more ≡ replies_due limits lines ++ replies_by (machine_after_lines (opened limits) (event_lines lines)) others
-due_more limits lines more others e =
-    due_by limits more ∙ ap (replies_by (opened limits)) e
-    ∙ replies_by-append (opened limits) (event_lines lines) others
-    ∙ ap (λ l. l ++ replies_by (machine_after_lines (opened limits) (event_lines lines)) others) (sym (due_by limits lines))
+due_more : (start : Machine) (lines more others : List (List ℕ)) → event_lines more ≡ event_lines lines ++ others
+    → replies_due start more ≡ replies_due start lines ++ replies_by (machine_after_lines start (event_lines lines)) others
+due_more start lines more others e =
+    due_by start more ∙ ap (replies_by start) e
+    ∙ replies_by-append start (event_lines lines) others
+    ∙ ap (λ l. l ++ replies_by (machine_after_lines start (event_lines lines)) others) (sym (due_by start lines))
 
 -- an event line: its reply is due
-pub record HasOneDue (limits : LimitNumbers) (lines : List (List ℕ)) (line : List ℕ) (more : List (List ℕ)) (before : Machine)
+pub record HasOneDue (start : Machine) (lines : List (List ℕ)) (line : List ℕ) (more : List (List ℕ)) (before : Machine)
     : Type 0 where
-  pub replies : replies_due limits more
+  pub replies : replies_due start more
       ≡ replies_there more ++ reply_line_after before.limits before.rows (meaning_of line) ∷ []
-  pub machine : machine_after before (meaning_of line) ≡ machine_after_lines (opened limits) (event_lines more)
+  pub machine : machine_after before (meaning_of line) ≡ machine_after_lines start (event_lines more)
   pub events : length (event_lines more) ≡ length (event_lines lines) + 1
 
-pub event-more : (limits : LimitNumbers) (lines : List (List ℕ)) (line : List ℕ) (machine : Machine)
-    → replies_due limits lines ≡ replies_there lines
-    → machine ≡ machine_after_lines (opened limits) (event_lines lines)
-    → HasOneDue limits lines line (lines ++ line ∷ []) machine
-event-more limits lines line machine right is =
+pub event-more : (start : Machine) (lines : List (List ℕ)) (line : List ℕ) (machine : Machine)
+    → replies_due start lines ≡ replies_there lines
+    → machine ≡ machine_after_lines start (event_lines lines)
+    → HasOneDue start lines line (lines ++ line ∷ []) machine
+event-more start lines line machine right is =
     let more = lines ++ line ∷ [] in
     let events : event_lines more ≡ event_lines lines ++ line ∷ [] =
-    events-even lines (line ∷ []) (is_even limits lines right) in
+    events-even lines (line ∷ []) (is_even start lines right) in
     let replies : reply_lines more ≡ reply_lines lines ++ [] =
-    replies-even lines (line ∷ []) (is_even limits lines right) in
+    replies-even lines (line ∷ []) (is_even start lines right) in
     let there : replies_there more ≡ replies_there lines =
     there_more lines more [] replies ∙ append-nil (replies_there lines) in
     record {
       replies =
-          due_more limits lines more (line ∷ []) events
+          due_more start lines more (line ∷ []) events
           ∙ (λ i. (right ∙ sym there) i ++ replies_by (sym is i) (line ∷ []));
       machine =
           ap (λ (m : Machine). machine_after m (meaning_of line)) is
-          ∙ sym (ap (machine_after_lines (opened limits)) events ∙ machine-append (opened limits) (event_lines lines) line);
+          ∙ sym (ap (machine_after_lines start) events ∙ machine-append start (event_lines lines) line);
       events = ap length events ∙ length-append (event_lines lines) (line ∷ []);
     }
 
-module _ (limits : LimitNumbers) (lines : List (List ℕ)) (due : List ℕ)
-    (right : replies_due limits lines ≡ replies_there lines ++ due ∷ []) where
+module _ (start : Machine) (lines : List (List ℕ)) (due : List ℕ)
+    (right : replies_due start lines ≡ replies_there lines ++ due ∷ []) where
   -- the reply that is due comes
   pub reply-more : (line : List ℕ) → due ≡ ended line
-      → (replies_due limits (lines ++ line ∷ []) ≡ replies_there (lines ++ line ∷ []))
+      → (replies_due start (lines ++ line ∷ []) ≡ replies_there (lines ++ line ∷ []))
       × (event_lines (lines ++ line ∷ []) ≡ event_lines lines)
   reply-more line same =
-      let odd = is_odd limits lines due right in
+      let odd = is_odd start lines due right in
       let more = lines ++ line ∷ [] in
       let events : event_lines more ≡ event_lines lines ++ [] = events-odd lines (line ∷ []) odd in
       let replies : reply_lines more ≡ reply_lines lines ++ line ∷ [] = replies-odd lines (line ∷ []) odd in (
-        due_more limits lines more [] events ∙ append-nil (replies_due limits lines) ∙ right
+        due_more start lines more [] events ∙ append-nil (replies_due start lines) ∙ right
             ∙ ap (λ (l : List ℕ). replies_there lines ++ l ∷ []) same
             ∙ sym (there_more lines more (line ∷ []) replies),
         events ∙ append-nil (event_lines lines),
@@ -229,21 +229,21 @@ module _ (limits : LimitNumbers) (lines : List (List ℕ)) (due : List ℕ)
 
   -- its number, from 1
   reply-number : 2 * (length (replies_there lines) + 1) ≡ 2 * length (event_lines lines)
-  reply-number = let odd = is_odd limits lines due right in let there = length_there limits lines in omega arith
+  reply-number = let odd = is_odd start lines due right in let there = length_there start lines in omega arith
 
   -- another line comes
   pub reply-wrong : (line : List ℕ) (others : List (List ℕ)) → ¬ (due ≡ ended line)
-      → (place : ℕ) × IsFirstDifference (replies_due limits (lines ++ line ∷ others)) (replies_there (lines ++ line ∷ others)) place
+      → (place : ℕ) × IsFirstDifference (replies_due start (lines ++ line ∷ others)) (replies_there (lines ++ line ∷ others)) place
       × (2 * length (event_lines lines) ≡ 2 * (place + 1))
   reply-wrong line others other =
-      let odd = is_odd limits lines due right in
+      let odd = is_odd start lines due right in
       let more = lines ++ line ∷ others in
       let events : event_lines more ≡ event_lines lines ++ reply_lines (line ∷ others) = events-odd lines (line ∷ others) odd in
       let replies : reply_lines more ≡ reply_lines lines ++ line ∷ reply_lines others =
       replies-odd lines (line ∷ others) odd ∙ ap (λ l. reply_lines lines ++ l) (events-cons line others) in
-      let later = replies_by (machine_after_lines (opened limits) (event_lines lines)) (reply_lines (line ∷ others)) in
-      let due_all : replies_due limits more ≡ replies_there lines ++ due ∷ later =
-      due_more limits lines more (reply_lines (line ∷ others)) events ∙ ap (λ l. l ++ later) right
+      let later = replies_by (machine_after_lines start (event_lines lines)) (reply_lines (line ∷ others)) in
+      let due_all : replies_due start more ≡ replies_there lines ++ due ∷ later =
+      due_more start lines more (reply_lines (line ∷ others)) events ∙ ap (λ l. l ++ later) right
       ∙ append_assoc (replies_there lines) (due ∷ []) later in
       let there : replies_there more ≡ replies_there lines ++ ended line ∷ map ended (reply_lines others) =
       there_more lines more (line ∷ reply_lines others) replies in
@@ -254,7 +254,7 @@ module _ (limits : LimitNumbers) (lines : List (List ℕ)) (due : List ℕ)
       )
 
   -- no line comes
-  pub reply-missing : (place : ℕ) × IsFirstDifference (replies_due limits lines) (replies_there lines) place
+  pub reply-missing : (place : ℕ) × IsFirstDifference (replies_due start lines) (replies_there lines) place
       × (2 * length (event_lines lines) ≡ 2 * (place + 1))
   reply-missing =
       let found = differs-end (replies_there lines) due [] in (

@@ -6,16 +6,15 @@ use Rattle.std.specs.Io.KnownBytes.{Appends, Consumes, Keeps, IsAtEnd}
 use Rattle.std.proofs.KnownBytes.{Appends-nil, Appends-trans, Consumes-nil, Consumes-trans, Consumes-kept}
 use Rattle.std.proofs.lemmas.Bool.{ne_eqb}
 use Rattle.std.proofs.lemmas.List.{length-append, take_all, take-append-le}
-use Rattle.drf_core.specs.Machine.{Machine, opened}
-use Rattle.drf_rows.specs.LimitNumbers.{LimitNumbers}
+use Rattle.drf_core.specs.Machine.{Machine}
 use Rattle.drf_lines.specs.Meaning.{meaning_of}
 use Rattle.drf_journal.specs.declared.fault.RunFault.{RunFault}
 use Rattle.drf_journal.specs.declared.fault.RunFault.TheVariants.{Read, Write, Memory}
 use Rattle.drf_journal.specs.Device.{AppendsFrontOf}
 use Rattle.drf_journal.specs.Lines.{ended_lines_of, open_line_of, lines_of}
 use Rattle.drf_journal.specs.Output.{output_of}
-use Rattle.drf_journal.specs.State.{State, begun, IsBegun, machine_after, machine_after_lines, after_line, after_piece, at_end, AnswersFrontOf}
-use Rattle.drf_journal.specs.Ended.{HaveEnded, HasAnswered, HasTaken, HasServed, HasStopped, HasCause, HasFlushed}
+use Rattle.drf_journal.specs.State.{State, IsBegun, machine_after, machine_after_lines, after_line, after_piece, at_end, AnswersFrontOf}
+use Rattle.drf_journal.specs.Ended.{HaveEnded, HasTaken, HasServed, HasStopped, HasCause, HasFlushed}
 use Rattle.drf_journal.proofs.Cuts.{within-nil, ended-within, goes_on}
 use Rattle.drf_journal.proofs.Kept.{answer-kept, meaning-kept}
 use Rattle.drf_journal.proofs.Pieces.{answers_from, after_lines, after_piece-lines, piece-nil, end-none, end-line, end-sent, end-counted, end-machine}
@@ -129,23 +128,23 @@ pub record IsServing (old : State) (unread_first unread written_first written : 
 
 module _ (old : State) (begins : IsBegun old) where
   abbrev text : List (List ℕ) → List ℕ
-  text lines = output_of old.machine.limits old.echo lines
+  text lines = output_of old.machine old.echo lines
 
   read_lines : (read : List ℕ) → after_piece old read ≡ after_lines old (ended_lines_of read) (open_line_of read)
   read_lines read = after_piece-lines old [] read within-nil (ap (λ (s : State). s.pending) begins)
 
   text_begun : (lines : List (List ℕ)) → old.unsent ++ answers_from old.echo old.machine lines ≡ text lines
   text_begun lines =
-      ap (λ (s : State). s.unsent ++ answers_from old.echo s.machine lines) begins
-      ∙ sym (text-lines old.machine.limits old.echo lines)
+      ap (λ (s : State). s.unsent ++ answers_from old.echo old.machine lines) begins
+      ∙ sym (text-lines old.machine old.echo lines)
 
   -- the text for the lines of a front comes first
   text_rest : (front more read : List ℕ) → read ≡ front ++ more
       → (rest : List ℕ) × (text (ended_lines_of read) ≡ text (ended_lines_of front) ++ rest)
   text_rest front more read whole = (
-    answers_from old.echo (machine_after_lines (opened old.machine.limits) (ended_lines_of front)) (others front more read whole),
+    answers_from old.echo (machine_after_lines old.machine (ended_lines_of front)) (others front more read whole),
     ap text (parted front more read whole)
-        ∙ text-append old.machine.limits old.echo (ended_lines_of front) (others front more read whole),
+        ∙ text-append old.machine old.echo (ended_lines_of front) (others front more read whole),
   )
 
   number_from : (number : ℕ) → old.lines + number ≡ number
@@ -470,7 +469,7 @@ module _ (old : State) (begins : IsBegun old) where
   pub never-served : (unread written : Option (List ℕ)) → HasServed old unread unread written written old (Err Memory)
   never-served unread written =
       let none : text (ended_lines_of []) ≡ [] =
-      ap text (ended-within [] within-nil) ∙ text-lines old.machine.limits old.echo [] in
+      ap text (ended-within [] within-nil) ∙ text-lines old.machine old.echo [] in
       record {
         run = record {
           read = [];
@@ -478,18 +477,13 @@ module _ (old : State) (begins : IsBegun old) where
           consumed = Consumes-nil unread;
           appended = Appends-nil written;
           lines = 0;
-          answered = record { output = sym (text-lines old.machine.limits old.echo []); had_ended = omega arith };
+          answered = record { output = sym (text-lines old.machine old.echo []); had_ended = omega arith };
           ended = inl (omega arith);
           prompt = ap (λ (t : List ℕ). take (length t) []) none ∙ sym none;
         };
         counted = ap (λ (s : State). s.lines) begins;
         taken = record { taken = 0; machine = refl; ahead = inl refl; ended = inl (omega arith) };
       }
-
--- no session was opened
-pub never-run : (limits : LimitNumbers) (echo : Bool) (unread written : Option (List ℕ))
-    → HasAnswered limits echo unread unread written written (Err Memory)
-never-run limits echo unread written = (never-served (begun limits echo) refl unread written).run
 
 -- ---- within a piece
 

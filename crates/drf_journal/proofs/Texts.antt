@@ -1,6 +1,6 @@
 -- The text for lines, line by line.
 use Rattle.std.proofs.Common.{◌≡◌, ℕ, Bool, List, [], ◌∷◌, ◌++◌, Result, Ok, Err, refl, sym, ap, ◌∙◌, append_assoc}
-use Rattle.drf_core.specs.Machine.{Machine, opened, after}
+use Rattle.drf_core.specs.Machine.{Machine, after}
 use Rattle.drf_rows.specs.LimitNumbers.{LimitNumbers}
 use Rattle.drf_rows.specs.Step.{live_rows, rows_after}
 use Rattle.drf_rows.specs.laws.LiveLaws.{reply_to-same_live, rows_after-same_live, live_rows-twice}
@@ -14,7 +14,7 @@ use Rattle.drf_journal.specs.State.{machine_after, machine_after_lines, answer_t
 use Rattle.drf_journal.proofs.Pieces.{answers_from}
 
 -- rows that have the same live rows give the same text
-text-same_live : (limits : LimitNumbers) (echo : Bool) (a b : Rows) (lines : List (List ℕ)) → live_rows a ≡ live_rows b
+pub text-same_live : (limits : LimitNumbers) (echo : Bool) (a b : Rows) (lines : List (List ℕ)) → live_rows a ≡ live_rows b
     → output_from limits echo a lines ≡ output_from limits echo b lines
 text-same_live limits echo a b [] same = refl
 text-same_live limits echo a b (line ∷ lines) same =
@@ -52,9 +52,9 @@ output_from-lines echo machine (line ∷ lines) = by_meaning (meaning_of line) (
         ap (λ l. echo_of echo line ++ (fault_line fault ++ l)) (rest machine)
         ∙ sym (append_assoc (echo_of echo line) (fault_line fault) _)
 
-pub text-lines : (limits : LimitNumbers) (echo : Bool) (lines : List (List ℕ)) → output_of limits echo lines ≡ answers_from echo (opened limits) lines
+pub text-lines : (machine : Machine) (echo : Bool) (lines : List (List ℕ)) → output_of machine echo lines ≡ answers_from echo machine lines
 unfolding output_of
-text-lines limits echo lines = output_from-lines echo (opened limits) lines
+text-lines machine echo lines = output_from-lines echo machine lines
 
 pub answers-append : (echo : Bool) (machine : Machine) (front more : List (List ℕ))
     → answers_from echo machine (front ++ more) ≡ answers_from echo machine front ++ answers_from echo (machine_after_lines machine front) more
@@ -64,8 +64,8 @@ answers-append echo machine (line ∷ front) more =
     ∙ sym (append_assoc (answer_to echo machine line) _ _)
 
 -- the text for the first lines comes first
-pub text-append : (limits : LimitNumbers) (echo : Bool) (front more : List (List ℕ))
-    → output_of limits echo (front ++ more) ≡ output_of limits echo front ++ answers_from echo (machine_after_lines (opened limits) front) more
-text-append limits echo front more =
-    text-lines limits echo (front ++ more) ∙ answers-append echo (opened limits) front more
-    ∙ ap (λ l. l ++ answers_from echo (machine_after_lines (opened limits) front) more) (sym (text-lines limits echo front))
+pub text-append : (machine : Machine) (echo : Bool) (front more : List (List ℕ))
+    → output_of machine echo (front ++ more) ≡ output_of machine echo front ++ answers_from echo (machine_after_lines machine front) more
+text-append machine echo front more =
+    text-lines machine echo (front ++ more) ∙ answers-append echo machine front more
+    ∙ ap (λ l. l ++ answers_from echo (machine_after_lines machine front) more) (sym (text-lines machine echo front))

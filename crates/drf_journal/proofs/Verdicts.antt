@@ -27,12 +27,12 @@ same_place xs ys one other is also =
     (cases_lt one other)
 
 pub one-verdict : HasOneVerdict
-one-verdict limits journal (Good a) (Good b) one other = ap Good (one.1 ∙ sym other.1)
-one-verdict limits journal (Good a) (Bad b) one other =
+one-verdict machine journal (Good a) (Good b) one other = ap Good (one.1 ∙ sym other.1)
+one-verdict machine journal (Good a) (Bad b) one other =
     absurd (other.1.there (ap (λ (l : List (List ℕ)). slice_get l other.0) one.0))
-one-verdict limits journal (Bad a) (Good b) one other =
+one-verdict machine journal (Bad a) (Good b) one other =
     absurd (one.1.there (ap (λ (l : List (List ℕ)). slice_get l one.0) other.0))
-one-verdict limits journal (Bad a) (Bad b) one other =
+one-verdict machine journal (Bad a) (Bad b) one other =
     let place = same_place _ _ one.0 other.0 one.1 other.1 in
     let first = one.2 in let second = other.2 in
     let same : a ≡ b = omega arith in

@@ -9,7 +9,6 @@ use Rattle.drf_explain.specs.Explained.{explained}
 use Rattle.drf_explain.specs.ExplainedText.{explained_text}
 use Rattle.drf_lines.specs.Meaning.{meaning_of}
 use Rattle.drf_rows.specs.LimitNumbers.{LimitNumbers}
-use Rattle.drf_rows.specs.Step.{opening}
 use Rattle.drf_rows.specs.declared.rows.Rows.{Rows}
 use Rattle.drf_journal.specs.declared.fault.RunFault.{RunFault}
 use Rattle.drf_journal.specs.declared.fault.RunFault.TheVariants.{Read, Write, Memory}
@@ -25,26 +24,26 @@ rows_after_lines limits rows (line ∷ lines) =
 
 -- ---- a text that tells of the rows after an input
 
--- the text that is due to the lines of an input, where `tell` is that of rows
-unfoldable pub told_of_lines : (Rows → List ℕ) → LimitNumbers → List (List ℕ) → List ℕ
-told_of_lines tell limits lines = tell (rows_after_lines limits opening lines)
+-- the text that is due to the lines of an input, from an allocator that stands so, where `tell` is that of rows
+unfoldable pub told_of_lines : (Rows → List ℕ) → Machine → List (List ℕ) → List ℕ
+told_of_lines tell machine lines = tell (rows_after_lines machine.limits machine.rows lines)
 
 -- What was written for what was read: at `Ok` the whole text, and else a front of it.
-abbrev pub IsToldOfRows : (Rows → List ℕ) → LimitNumbers → Result (Unit {0}) RunFault → List ℕ → List ℕ → Type 0
-IsToldOfRows tell limits (Ok done) read written = written ≡ told_of_lines tell limits (lines_of read)
-IsToldOfRows tell limits (Err Read) read written = written ≡ []
-IsToldOfRows tell limits (Err Write) read written = (count : ℕ) × (written ≡ take count (told_of_lines tell limits (lines_of read)))
-IsToldOfRows tell limits (Err Memory) read written = (count : ℕ) × (written ≡ take count (told_of_lines tell limits (lines_of read)))
+abbrev pub IsToldOfRows : (Rows → List ℕ) → Machine → Result (Unit {0}) RunFault → List ℕ → List ℕ → Type 0
+IsToldOfRows tell machine (Ok done) read written = written ≡ told_of_lines tell machine (lines_of read)
+IsToldOfRows tell machine (Err Read) read written = written ≡ []
+IsToldOfRows tell machine (Err Write) read written = (count : ℕ) × (written ≡ take count (told_of_lines tell machine (lines_of read)))
+IsToldOfRows tell machine (Err Memory) read written = (count : ℕ) × (written ≡ take count (told_of_lines tell machine (lines_of read)))
 
 -- bytes were taken from a reader and given to a writer, nothing before the input was at its end
-pub record HasToldOfRows (tell : Rows → List ℕ) (limits : LimitNumbers)
+pub record HasToldOfRows (tell : Rows → List ℕ) (machine : Machine)
     (unread_before unread_after written_before written_after : Option (List ℕ))
     (result : Result (Unit {0}) RunFault) : Type 0 where
   pub read : List ℕ
   pub written : List ℕ
   pub consumed : Consumes unread_before unread_after read
   pub appended : Appends written_before written_after written
-  pub told : IsToldOfRows tell limits result read written
+  pub told : IsToldOfRows tell machine result read written
   pub whole : OnOk result (IsAtEnd unread_after)
   pub late : 0 < length written → IsAtEnd unread_after
 
@@ -59,12 +58,12 @@ abbrev pub cycle_text : ℕ → Rows → List ℕ
 cycle_text at rows = explained_text (explained rows at)
 
 -- an audit took bytes from a reader and gave bytes to a writer
-abbrev pub HasAudited : LimitNumbers → (unread_before unread_after written_before written_after : Option (List ℕ))
+abbrev pub HasAudited : Machine → (unread_before unread_after written_before written_after : Option (List ℕ))
     → Result (Unit {0}) RunFault → Type 0
 HasAudited = HasToldOfRows agents_text
 
 -- and so did an explanation of the cycle at a moment
-abbrev pub HasExplained : ℕ → LimitNumbers → (unread_before unread_after written_before written_after : Option (List ℕ))
+abbrev pub HasExplained : ℕ → Machine → (unread_before unread_after written_before written_after : Option (List ℕ))
     → Result (Unit {0}) RunFault → Type 0
 HasExplained at = HasToldOfRows (cycle_text at)
 

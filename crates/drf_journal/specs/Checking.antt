@@ -1,8 +1,7 @@
 -- A check of a journal between two reads.
 use Rattle.std.specs.Prelude.{refl, ◌≡◌, ℕ, ◌+◌, ◌*◌, ◌<◌, Bool, true, false, List, [], ◌∷◌, ◌++◌, length, drop}
 use Rattle.std.specs.Coded.{Coded, code_by, coded×, coded_ℕ, coded_list}
-use Rattle.drf_core.specs.Machine.{Machine, machine_code, opened}
-use Rattle.drf_rows.specs.LimitNumbers.{LimitNumbers}
+use Rattle.drf_core.specs.Machine.{Machine, machine_code}
 use Rattle.drf_lines.specs.Meaning.{meaning_of}
 use Rattle.drf_journal.specs.declared.journal.Verdict.TheVariants.{Bad}
 use Rattle.drf_journal.specs.Journal.{event_lines, replies_due, replies_there, IsVerdict}
@@ -49,28 +48,28 @@ after_event_line check end = record {
 }
 
 -- all replies are there, and an event line is at hand
-pub record ExpectsEvent (limits : LimitNumbers) (read : List ℕ) (check : Check) : Type 0 where
-  pub replies : replies_due limits (ended_lines_of read) ≡ replies_there (ended_lines_of read)
+pub record ExpectsEvent (start : Machine) (read : List ℕ) (check : Check) : Type 0 where
+  pub replies : replies_due start (ended_lines_of read) ≡ replies_there (ended_lines_of read)
   pub line : check.line ≡ kept_of (open_line_of read)
 
 -- one reply is not there yet, and its line is at hand
-pub record ExpectsReply (limits : LimitNumbers) (read : List ℕ) (check : Check) : Type 0 where
-  pub replies : replies_due limits (ended_lines_of read) ≡ replies_there (ended_lines_of read) ++ check.due.text ∷ []
+pub record ExpectsReply (start : Machine) (read : List ℕ) (check : Check) : Type 0 where
+  pub replies : replies_due start (ended_lines_of read) ≡ replies_there (ended_lines_of read) ++ check.due.text ∷ []
   pub line : check.line ≡ []
   pub come : HasCome check.due (open_line_of read)
 
--- the check stands so after these bytes, in which no reply line is wrong
-pub record IsCheckedTo (limits : LimitNumbers) (read : List ℕ) (check : Check) : Type 0 where
-  pub machine : check.machine ≡ machine_after_lines (opened limits) (event_lines (ended_lines_of read))
+-- the check of a journal that begins from an allocator stands so after these bytes, in which no reply line is wrong
+pub record IsCheckedTo (start : Machine) (read : List ℕ) (check : Check) : Type 0 where
+  pub machine : check.machine ≡ machine_after_lines start (event_lines (ended_lines_of read))
   pub events : check.events ≡ length (event_lines (ended_lines_of read))
-  pub event : length check.due.text ≡ 0 → ExpectsEvent limits read check
-  pub reply : 0 < length check.due.text → ExpectsReply limits read check
+  pub event : length check.due.text ≡ 0 → ExpectsEvent start read check
+  pub reply : 0 < length check.due.text → ExpectsReply start read check
 
 -- A check went over the next bytes, and tells whether they are right. If they are not, the reply line at hand is the
 -- first wrong one, whatever follows.
 pub record HasChecked (piece : List ℕ) (old new : Check) (right : Bool) : Type 0 where
   pub goes_on : right ≡ true
-      → (limits : LimitNumbers) (read : List ℕ) → IsCheckedTo limits read old → IsCheckedTo limits (read ++ piece) new
+      → (start : Machine) (read : List ℕ) → IsCheckedTo start read old → IsCheckedTo start (read ++ piece) new
   pub wrong : right ≡ false
-      → (limits : LimitNumbers) (read more : List ℕ) → IsCheckedTo limits read old
-      → IsVerdict limits ((read ++ piece) ++ more) (Bad (2 * new.events))
+      → (start : Machine) (read more : List ℕ) → IsCheckedTo start read old
+      → IsVerdict start ((read ++ piece) ++ more) (Bad (2 * new.events))

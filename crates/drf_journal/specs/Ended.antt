@@ -3,7 +3,6 @@ use Rattle.std.specs.Prelude.{◌≡◌, ℕ, ◌+◌, ◌-◌, ◌^◌, ◌≤�
 use Rattle.std.specs.Io.{StartsWith}
 use Rattle.std.specs.Io.KnownBytes.{Appends, Consumes, IsAtEnd}
 use Rattle.drf_core.specs.Machine.{Machine}
-use Rattle.drf_rows.specs.LimitNumbers.{LimitNumbers}
 use Rattle.drf_journal.specs.declared.fault.RunFault.{RunFault}
 use Rattle.drf_journal.specs.declared.fault.RunFault.TheVariants.{Read, Write, Memory}
 use Rattle.drf_journal.specs.Device.{AppendsFrontOf}
@@ -12,40 +11,40 @@ use Rattle.drf_journal.specs.Output.{output_of}
 use Rattle.drf_journal.specs.State.{State, machine_after_lines, AnswersFrontOf}
 
 -- at `Ok`: all lines were answered, and their number is told
-pub record AnsweredAll (limits : LimitNumbers) (echo : Bool) (lines answered : ℕ) (read written : List ℕ) : Type 0 where
-  pub output : written ≡ output_of limits echo (lines_of read)
+pub record AnsweredAll (machine : Machine) (echo : Bool) (lines answered : ℕ) (read written : List ℕ) : Type 0 where
+  pub output : written ≡ output_of machine echo (lines_of read)
   pub all_lines : answered ≡ length (lines_of read)
   pub told : lines ≡ answered
 
 -- after a failed read: all lines that had ended were answered
-pub record AnsweredEnded (limits : LimitNumbers) (echo : Bool) (answered : ℕ) (read written : List ℕ) : Type 0 where
-  pub output : written ≡ output_of limits echo (ended_lines_of read)
+pub record AnsweredEnded (machine : Machine) (echo : Bool) (answered : ℕ) (read written : List ℕ) : Type 0 where
+  pub output : written ≡ output_of machine echo (ended_lines_of read)
   pub all_ended : answered ≡ length (ended_lines_of read)
 
 -- after a failed write: of the text for the lines that were answered a front was written
-pub record WroteFront (limits : LimitNumbers) (echo : Bool) (answered : ℕ) (read written : List ℕ) : Type 0 where
+pub record WroteFront (machine : Machine) (echo : Bool) (answered : ℕ) (read written : List ℕ) : Type 0 where
   pub count : ℕ
-  pub output : written ≡ take count (output_of limits echo (take answered (lines_of read)))
+  pub output : written ≡ take count (output_of machine echo (take answered (lines_of read)))
 
 -- where memory ran out: the lines before the one at hand were answered, all of which had ended
-pub record AnsweredFirst (limits : LimitNumbers) (echo : Bool) (answered : ℕ) (read written : List ℕ) : Type 0 where
-  pub output : written ≡ output_of limits echo (take answered (ended_lines_of read))
+pub record AnsweredFirst (machine : Machine) (echo : Bool) (answered : ℕ) (read written : List ℕ) : Type 0 where
+  pub output : written ≡ output_of machine echo (take answered (ended_lines_of read))
   pub had_ended : answered ≤ length (ended_lines_of read)
 
 -- what was written for what was read, where the first `answered` lines were answered
-abbrev pub IsAnswered : LimitNumbers → Bool → Result ℕ RunFault → ℕ → List ℕ → List ℕ → Type 0
-IsAnswered limits echo (Ok lines) answered read written = AnsweredAll limits echo lines answered read written
-IsAnswered limits echo (Err Read) answered read written = AnsweredEnded limits echo answered read written
-IsAnswered limits echo (Err Write) answered read written = WroteFront limits echo answered read written
-IsAnswered limits echo (Err Memory) answered read written = AnsweredFirst limits echo answered read written
+abbrev pub IsAnswered : Machine → Bool → Result ℕ RunFault → ℕ → List ℕ → List ℕ → Type 0
+IsAnswered machine echo (Ok lines) answered read written = AnsweredAll machine echo lines answered read written
+IsAnswered machine echo (Err Read) answered read written = AnsweredEnded machine echo answered read written
+IsAnswered machine echo (Err Write) answered read written = WroteFront machine echo answered read written
+IsAnswered machine echo (Err Memory) answered read written = AnsweredFirst machine echo answered read written
 
 -- a number of lines had ended, each by a line feed or the last by the end of the input
 abbrev pub HaveEnded : ℕ → List ℕ → Option (List ℕ) → Type 0
 HaveEnded number read unread_after = (number ≤ length (ended_lines_of read)) ⊎ IsAtEnd unread_after
 
--- a run from the rows of an opening took bytes from a reader and gave bytes to a writer. Of the lines that had ended
+-- a run of an allocator took bytes from a reader and gave bytes to a writer. Of the lines that had ended
 -- before the last 65,536 bytes the whole text was written, however the run ended.
-pub record HasAnswered (limits : LimitNumbers) (echo : Bool)
+pub record HasAnswered (machine : Machine) (echo : Bool)
     (unread_before unread_after written_before written_after : Option (List ℕ))
     (result : Result ℕ RunFault) : Type 0 where
   pub read : List ℕ
@@ -53,9 +52,9 @@ pub record HasAnswered (limits : LimitNumbers) (echo : Bool)
   pub consumed : Consumes unread_before unread_after read
   pub appended : Appends written_before written_after written
   pub lines : ℕ
-  pub answered : IsAnswered limits echo result lines read written
+  pub answered : IsAnswered machine echo result lines read written
   pub ended : HaveEnded lines read unread_after
-  pub prompt : StartsWith written (output_of limits echo (ended_lines_of (take (length read - 65536) read)))
+  pub prompt : StartsWith written (output_of machine echo (ended_lines_of (take (length read - 65536) read)))
 
 -- after a failed write: `text` is what all that was answered of the piece came to, and a front of it was written
 pub record StoppedWriting (old : State) (piece : List ℕ) (new : State) (written_before written_after : Option (List ℕ)) : Type 0 where
@@ -87,7 +86,7 @@ pub record HasTaken (old new : Machine) (answered : ℕ) (read : List ℕ) (unre
 pub record HasServed (old : State)
     (unread_before unread_after written_before written_after : Option (List ℕ))
     (new : State) (result : Result ℕ RunFault) : Type 0 where
-  pub run : HasAnswered old.machine.limits old.echo unread_before unread_after written_before written_after result
+  pub run : HasAnswered old.machine old.echo unread_before unread_after written_before written_after result
   pub counted : new.lines ≡ run.lines
   pub taken : HasTaken old.machine new.machine run.lines run.read unread_after
 

@@ -1,7 +1,7 @@
 -- When a journal is right: its lines are in pairs, an event line as it was read and the line that it was answered.
 use Rattle.std.specs.Prelude.{◌≡◌, ℕ, ◌+◌, ◌*◌, List, [], ◌∷◌, ◌++◌, length, take, map, slice_get}
+use Rattle.drf_core.specs.Machine.{Machine}
 use Rattle.drf_rows.specs.LimitNumbers.{LimitNumbers}
-use Rattle.drf_rows.specs.Step.{opening}
 use Rattle.drf_rows.specs.declared.rows.Rows.{Rows}
 use Rattle.drf_lines.specs.Meaning.{meaning_of}
 use Rattle.drf_journal.specs.declared.journal.Verdict.{Verdict}
@@ -28,9 +28,9 @@ replies_from limits rows (line ∷ lines) =
     reply_line_after limits rows (meaning_of line)
     ∷ replies_from limits (rows_after_line limits rows (meaning_of line)) lines
 
--- the replies that are due: those to the event lines
-unfoldable pub replies_due : LimitNumbers → List (List ℕ) → List (List ℕ)
-replies_due limits lines = replies_from limits opening (event_lines lines)
+-- the replies that are due: those to the event lines, from an allocator that stands so
+unfoldable pub replies_due : Machine → List (List ℕ) → List (List ℕ)
+replies_due machine lines = replies_from machine.limits machine.rows (event_lines lines)
 
 -- the replies that are there, each with a line feed, as the last line may lack it
 unfoldable pub replies_there : List (List ℕ) → List (List ℕ)
@@ -41,11 +41,11 @@ pub record IsFirstDifference (one other : List (List ℕ)) (place : ℕ) : Type 
   pub before : take place one ≡ take place other
   pub there : ¬ (slice_get one place ≡ slice_get other place)
 
--- what is to be said of a journal: it is good, and has so many event lines, if all replies that are due are there, and no
+-- what is to be said of a journal that begins from an allocator: it is good, and has so many event lines, if all replies that are due are there, and no
 -- other; or the first reply line that is wrong or missing is the line of that number, counted from 1
-abbrev pub IsVerdict : LimitNumbers → List ℕ → Verdict → Type 0
-IsVerdict limits journal (Good events) =
-    (replies_due limits (lines_of journal) ≡ replies_there (lines_of journal)) × (events ≡ length (event_lines (lines_of journal)))
-IsVerdict limits journal (Bad line) =
-    (place : ℕ) × IsFirstDifference (replies_due limits (lines_of journal)) (replies_there (lines_of journal)) place
+abbrev pub IsVerdict : Machine → List ℕ → Verdict → Type 0
+IsVerdict machine journal (Good events) =
+    (replies_due machine (lines_of journal) ≡ replies_there (lines_of journal)) × (events ≡ length (event_lines (lines_of journal)))
+IsVerdict machine journal (Bad line) =
+    (place : ℕ) × IsFirstDifference (replies_due machine (lines_of journal)) (replies_there (lines_of journal)) place
     × (line ≡ 2 * (place + 1))

@@ -1,11 +1,96 @@
--- Laws of the verdict on a journal.
-use Rattle.std.specs.Prelude.{◌≡◌, ℕ, List}
-use Rattle.drf_rows.specs.LimitNumbers.{LimitNumbers}
+-- Laws of journals: of the verdict, of reply lines, and of inputs that are cut in two.
+use Rattle.std.specs.Prelude.{◌≡◌, ℕ, ◌+◌, Bool, true, is_err, List, [], ◌∷◌, ◌++◌, length, ◌↔◌}
+use Rattle.drf_core.specs.Machine.{Machine}
+use Rattle.drf_lines.specs.declared.fault.LineFault.{LineFault}
+use Rattle.drf_lines.specs.Meaning.{meaning_of}
+use Rattle.drf_lines.specs.ReplyLine.{reply_line, fault_line}
+use Rattle.drf_rows.specs.Step.{live_rows}
+use Rattle.drf_rows.specs.declared.reply.Reply.{Reply}
 use Rattle.drf_journal.specs.declared.journal.Verdict.{Verdict}
-use Rattle.drf_journal.specs.Journal.{IsVerdict}
+use Rattle.drf_journal.specs.declared.journal.Verdict.TheVariants.{Good}
+use Rattle.drf_journal.specs.Audited.{rows_after_lines, agents_text, cycle_text, told_of_lines}
+use Rattle.drf_journal.specs.Journal.{event_lines, reply_lines, IsVerdict}
+use Rattle.drf_journal.specs.Lines.{lines_of}
+use Rattle.drf_journal.specs.Output.{output_of}
+use Rattle.drf_journal.specs.Resumed.{resumed, IsCutBehindLine}
+use Rattle.drf_journal.specs.State.{machine_after_lines}
 
 -- a journal has one verdict at most: it is not both good and bad, has one number of event lines, and one first wrong line
 abbrev pub HasOneVerdict : Type 0
 HasOneVerdict =
-    (limits : LimitNumbers) (journal : List ℕ) (one other : Verdict) → IsVerdict limits journal one → IsVerdict limits journal other
+    (machine : Machine) (journal : List ℕ) (one other : Verdict) → IsVerdict machine journal one → IsVerdict machine journal other
     → one ≡ other
+
+-- ---- reply lines
+
+-- the line that tells a reply is no event
+abbrev pub RepliesAreNoEvents : Type 0
+RepliesAreNoEvents =
+    (reply : Reply) (line : List ℕ) → reply_line reply ≡ line ++ 10 ∷ [] → is_err (meaning_of line) ≡ true
+
+-- nor is the line that tells why a line is no event
+abbrev pub FaultsAreNoEvents : Type 0
+FaultsAreNoEvents =
+    (fault : LineFault) (line : List ℕ) → fault_line fault ≡ line ++ 10 ∷ [] → is_err (meaning_of line) ≡ true
+
+-- so the rows after the lines of a journal that is right are those after its event lines
+abbrev pub RepliesArePassedOver : Type 0
+RepliesArePassedOver =
+    (machine : Machine) (journal : List ℕ) (events : ℕ)
+    → IsVerdict machine journal (Good events)
+    → rows_after_lines machine.limits machine.rows (lines_of journal)
+    ≡ rows_after_lines machine.limits machine.rows (event_lines (lines_of journal))
+
+-- ---- an input that is cut behind a line
+
+-- its lines are those of the parts
+abbrev pub LinesInTwo : Type 0
+LinesInTwo = (a b : List ℕ) → IsCutBehindLine a → lines_of (a ++ b) ≡ lines_of a ++ lines_of b
+
+-- the text for it is the text for the first part, and then that for the second from the allocator after the first
+abbrev pub OutputInTwo : Type 0
+OutputInTwo =
+    (machine : Machine) (echo : Bool) (a b : List ℕ) → IsCutBehindLine a
+    → output_of machine echo (lines_of (a ++ b))
+    ≡ output_of machine echo (lines_of a) ++ output_of (resumed machine (lines_of a)) echo (lines_of b)
+
+-- the allocator after it is that after the second part, from the allocator after the first
+abbrev pub AllocatorInTwo : Type 0
+AllocatorInTwo =
+    (machine : Machine) (a b : List ℕ) → IsCutBehindLine a
+    → resumed machine (lines_of (a ++ b)) ≡ resumed (resumed machine (lines_of a)) (lines_of b)
+
+-- and so is an audit
+abbrev pub AuditInTwo : Type 0
+AuditInTwo =
+    (machine : Machine) (a b : List ℕ) → IsCutBehindLine a
+    → told_of_lines agents_text machine (lines_of (a ++ b))
+    ≡ told_of_lines agents_text (resumed machine (lines_of a)) (lines_of b)
+
+-- and an explanation of the cycle at a moment
+abbrev pub ExplanationInTwo : Type 0
+ExplanationInTwo =
+    (machine : Machine) (at : ℕ) (a b : List ℕ) → IsCutBehindLine a
+    → told_of_lines (cycle_text at) machine (lines_of (a ++ b))
+    ≡ told_of_lines (cycle_text at) (resumed machine (lines_of a)) (lines_of b)
+
+-- an allocator that keeps the live rows alone, line by line, comes to the same
+abbrev pub StepsLeaveLiveRows : Type 0
+StepsLeaveLiveRows =
+    (machine : Machine) (lines : List (List ℕ)) → machine.rows ≡ live_rows machine.rows
+    → machine_after_lines machine lines ≡ resumed machine lines
+
+-- ---- a journal that is cut behind a pair
+
+-- the bytes are so many whole pairs of an event line and a reply line
+pub record AreWholePairs (pairs : ℕ) (bytes : List ℕ) : Type 0 where
+  pub whole : IsCutBehindLine bytes
+  pub events : length (event_lines (lines_of bytes)) ≡ pairs
+  pub replies : length (reply_lines (lines_of bytes)) ≡ pairs
+
+-- it is right just where both parts are, the second from the allocator after the events of the first
+abbrev pub JournalInTwo : Type 0
+JournalInTwo =
+    (machine : Machine) (a b : List ℕ) (pairs more : ℕ) → AreWholePairs pairs a
+    → IsVerdict machine (a ++ b) (Good (pairs + more))
+    ↔ (IsVerdict machine a (Good pairs) × IsVerdict (resumed machine (event_lines (lines_of a))) b (Good more))

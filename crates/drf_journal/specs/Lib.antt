@@ -5,5 +5,6 @@ pub mod State
 pub mod Ended
 pub mod Journal
 pub mod Checking
-pub mod JournalLaws
 pub mod Audited
+pub mod Resumed
+pub mod JournalLaws

@@ -1,7 +1,8 @@
 -- What the lines of an input are answered.
 use Rattle.std.specs.Prelude.{ℕ, ◌+◌, Bool, List, [], ◌∷◌, ◌++◌, take, Result, Ok, Err, if◌then◌else◌}
+use Rattle.drf_core.specs.Machine.{Machine}
 use Rattle.drf_rows.specs.LimitNumbers.{LimitNumbers}
-use Rattle.drf_rows.specs.Step.{opening, reply_to, rows_after}
+use Rattle.drf_rows.specs.Step.{reply_to, rows_after}
 use Rattle.drf_rows.specs.declared.event.Event.{Event}
 use Rattle.drf_rows.specs.declared.rows.Rows.{Rows}
 use Rattle.drf_lines.specs.declared.fault.LineFault.{LineFault}
@@ -34,6 +35,6 @@ output_from limits echo rows (line ∷ lines) =
     ++ (reply_line_after limits rows (meaning_of line)
     ++ output_from limits echo (rows_after_line limits rows (meaning_of line)) lines)
 
--- the text for the lines of an input
-unfoldable pub output_of : LimitNumbers → Bool → List (List ℕ) → List ℕ
-output_of limits echo lines = output_from limits echo opening lines
+-- the text for the lines of an input, from an allocator that stands so
+unfoldable pub output_of : Machine → Bool → List (List ℕ) → List ℕ
+output_of machine echo lines = output_from machine.limits echo machine.rows lines

@@ -1,8 +1,7 @@
 -- A run between two reads, and what a byte of the input does to it.
 use Rattle.std.specs.Prelude.{refl, ◌≡◌, ℕ, ◌+◌, ◌<◌, Bool, ◌==◌, List, [], ◌∷◌, ◌++◌, length, take, fold, Result, Ok, Err, ◌⊎◌, if◌then◌else◌}
 use Rattle.std.specs.Coded.{Coded, code_by, coded×, coded_ℕ, coded_bool, coded_list}
-use Rattle.drf_core.specs.Machine.{Machine, machine_code, opened, after}
-use Rattle.drf_rows.specs.LimitNumbers.{LimitNumbers}
+use Rattle.drf_core.specs.Machine.{Machine, machine_code, after}
 use Rattle.drf_rows.specs.declared.event.Event.{Event}
 use Rattle.drf_lines.specs.declared.fault.LineFault.{LineFault}
 use Rattle.drf_lines.specs.Meaning.{meaning_of}
@@ -25,12 +24,13 @@ state_code = code_by (Machine × (Bool × (List ℕ × (List ℕ × ℕ))))
     (λ s. (s.machine, (s.echo, (s.pending, (s.unsent, s.lines)))))
     (λ p. record { machine = p.0; echo = p.1.0; pending = p.1.1.0; unsent = p.1.1.1.0; lines = p.1.1.1.1 }) (λ _. refl)
 
--- a run that has read nothing
-abbrev pub begun : LimitNumbers → Bool → State
-begun limits echo = record { machine = opened limits; echo = echo; pending = []; unsent = []; lines = 0 }
+-- a run of an allocator that has read nothing
+abbrev pub begun : Machine → Bool → State
+begun machine echo = record { machine = machine; echo = echo; pending = []; unsent = []; lines = 0 }
 
+-- nothing is pending, unsent or counted
 abbrev pub IsBegun : State → Type 0
-IsBegun state = state ≡ begun state.machine.limits state.echo
+IsBegun state = state ≡ begun state.machine state.echo
 
 -- the allocator after a line; only an event changes it
 abbrev pub machine_after : Machine → Result Event LineFault → Machine

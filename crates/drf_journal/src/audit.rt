@@ -3,6 +3,7 @@ ghost use Rattle.std.specs.Prelude.{◌≡◌, ◌+◌, ◌<◌, ◌≤◌, ◌^
 ghost use Rattle.std.specs.List.{flat_map};
 ghost use Rattle.std.specs.Io.KnownBytes.{Appends};
 ghost use Rattle.drf_audit.specs.AuditText.{audit_text};
+ghost use Rattle.drf_core.specs.Machine.{live};
 ghost use Rattle.drf_journal.specs.Audited.{HasAudited, HasTakenLines};
 ghost use Rattle.drf_journal.specs.Device.{AppendsFrontOf, IsNew};
 ghost use Rattle.drf_journal.specs.Ended.{HasCause, HasFlushed};
@@ -13,7 +14,7 @@ use crate::engine::{CHUNK, MAX_READS, ProgramSorter};
 use crate::fault::RunFault;
 use crate::session::Session;
 use drf_audit::{AuditLine, write_audit_line};
-use drf_rows::Limits;
+use drf_core::Core;
 use drf_sorter::Sorter;
 use std::alloc::{AllocError, Global};
 use std::io::{Read, Write};
@@ -105,7 +106,7 @@ fn serve_audit<S: Sorter, R: Read, W: Write>(
     requires session { IsBegun session.old }
     requires reader { IsNew reader.old.calls reader.old.failed }
     requires writer { IsNew writer.old.calls writer.old.failed }
-    ensures audited { HasAudited session.old.machine.limits (R.remaining reader.old.inner) (R.remaining reader.new.inner)
+    ensures audited { HasAudited session.old.machine (R.remaining reader.old.inner) (R.remaining reader.new.inner)
         (W.contents writer.old.inner) (W.contents writer.new.inner) result }
     ensures cause { HasCause result reader.new.failed reader.new.calls writer.new.failed }
     ensures flushed { writer.old.flushed ≡ true → HasFlushed result writer.new.flushed }
@@ -116,22 +117,22 @@ fn serve_audit<S: Sorter, R: Read, W: Write>(
     write_lines(alloc, &lines, writer)
 }
 
-/// Audits the agents after a reader's lines, by the sorter that the program uses.
+/// Audits the agents of an allocator after a reader's lines, by the sorter that the program uses.
 pub fn run_audit<R: Read, W: Write>(
     rt: &(impl Threads + Sync),
     alloc: Global,
-    limits: Limits,
+    core: Core<ProgramSorter>,
     reader: &mut Device<R>,
     writer: &mut Device<W>,
 ) -> Result<(), RunFault>
     requires reader { IsNew reader.old.calls reader.old.failed }
     requires writer { IsNew writer.old.calls writer.old.failed }
-    ensures audited { HasAudited limits (R.remaining reader.old.inner) (R.remaining reader.new.inner)
+    ensures audited { HasAudited (live core) (R.remaining reader.old.inner) (R.remaining reader.new.inner)
         (W.contents writer.old.inner) (W.contents writer.new.inner) result }
     ensures cause { HasCause result reader.new.failed reader.new.calls writer.new.failed }
     ensures flushed { writer.old.flushed ≡ true → HasFlushed result writer.new.flushed }
     ensures reads { reader.new.calls ≤ 2 ^ 40 }
 {
-    let mut session = Session::<ProgramSorter>::open(alloc, limits, false)?;
+    let mut session = Session::begin(alloc, core, false);
     serve_audit(rt, alloc, &mut session, reader, writer)
 }

@@ -1,6 +1,6 @@
 //! A check of a journal between two reads.
 ghost use Rattle.std.specs.Prelude.{◌≡◌, ℕ, ◌+◌, ◌*◌, ◌^◌, ◌<◌, ◌≤◌, [], ◌∷◌, ◌++◌, List, length, OnOk, IfOk};
-ghost use Rattle.drf_rows.specs.LimitNumbers.{LimitNumbers};
+ghost use Rattle.drf_core.specs.Machine.{Machine, live};
 ghost use Rattle.drf_journal.specs.Lines.{IsWithinLine};
 ghost use Rattle.drf_journal.specs.Checking.{after_event_line, IsCheckedTo, HasChecked};
 ghost use Rattle.drf_journal.specs.Journal.{IsVerdict};
@@ -11,7 +11,6 @@ use crate::journal::Verdict;
 use crate::open_line::{OpenLine, line_feed_in};
 use drf_core::Core;
 use drf_lines::LineReader;
-use drf_rows::Limits;
 use drf_sorter::Sorter;
 use std::alloc::{AllocError, Global};
 use std::marker::Model;
@@ -49,17 +48,17 @@ impl<S: Sorter> Model for Checker<S> {
 }
 
 impl<S: Sorter> Checker<S> {
-    /// A check that has read nothing.
-    pub(crate) fn open(alloc: Global, limits: Limits) -> Result<Checker<S>, AllocError>
-        ensures { IfOk result (IsCheckedTo limits []) }
+    /// A check of a journal that begins with an allocator. It has read nothing.
+    pub(crate) fn begin(alloc: Global, core: Core<S>) -> Checker<S>
+        ensures { IsCheckedTo (live core) [] result }
     {
-        Ok(Checker {
-            core: Core::open(alloc, limits)?,
+        Checker {
+            core,
             line: OpenLine::new(alloc),
             due: Due::none(alloc),
             events: 0,
             reader: LineReader::new(alloc),
-        })
+        }
     }
 
     /// The number of the reply line that is at hand, or was the last one.
@@ -141,7 +140,7 @@ impl<S: Sorter> Checker<S> {
     /// The journal ended.
     pub(crate) fn verdict(&mut self) -> Verdict
         requires { self.old.events + 1 < 2 ^ 63 }
-        ensures { (limits : LimitNumbers) (read : List ℕ) → IsCheckedTo limits read self.old → IsVerdict limits read result }
+        ensures { (start : Machine) (read : List ℕ) → IsCheckedTo start read self.old → IsVerdict start read result }
     {
         if !self.line.is_empty() {
             return Verdict::Bad(2 * (self.events + 1));

@@ -1,6 +1,7 @@
 //! The engine: lines in, reply lines out.
 ghost use Rattle.std.specs.Prelude.{◌≡◌, ◌+◌, ◌<◌, ◌≤◌, ◌^◌, [], length, take, true, false, OnOk, IfOk, IfErr};
 ghost use Rattle.std.specs.Io.KnownBytes.{Appends, IsAtEnd};
+ghost use Rattle.drf_core.specs.Machine.{live};
 ghost use Rattle.drf_journal.specs.Device.{IsNew};
 ghost use Rattle.drf_journal.specs.Ended.{HasAnswered, HasServed, HasStopped, HasCause, HasFlushed};
 ghost use Rattle.drf_journal.specs.State.{IsBegun, after_piece};
@@ -8,14 +9,14 @@ ghost use Rattle.drf_journal.specs.State.{IsBegun, after_piece};
 use crate::device::Device;
 use crate::fault::RunFault;
 use crate::session::Session;
-use drf_rows::Limits;
+use drf_core::Core;
 use drf_sorter::Sorter;
 use drf_tree::TreeSorter;
 use std::alloc::Global;
 use std::io::{Read, Write};
 
 /// The sorter that the program uses.
-pub(crate) type ProgramSorter = TreeSorter;
+pub type ProgramSorter = TreeSorter;
 
 /// How many bytes a read asks for.
 pub(crate) const CHUNK: usize = 65_536;
@@ -104,23 +105,24 @@ pub fn serve<S: Sorter, R: Read, W: Write>(
     Err(RunFault::Read)
 }
 
-/// Serves a session by the sorter that the program uses. With `echo` each line is written before its answer.
+/// Serves a session that begins with an allocator, by the sorter that the program uses. With `echo` each line is written before its
+/// answer.
 pub fn run<R: Read, W: Write>(
     alloc: Global,
-    limits: Limits,
+    core: Core<ProgramSorter>,
     reader: &mut Device<R>,
     writer: &mut Device<W>,
     echo: bool,
 ) -> Result<u64, RunFault>
     requires reader { IsNew reader.old.calls reader.old.failed }
     requires writer { IsNew writer.old.calls writer.old.failed }
-    ensures run { HasAnswered limits echo (R.remaining reader.old.inner) (R.remaining reader.new.inner)
+    ensures run { HasAnswered (live core) echo (R.remaining reader.old.inner) (R.remaining reader.new.inner)
         (W.contents writer.old.inner) (W.contents writer.new.inner) result }
     ensures read { OnOk result (IsAtEnd (R.remaining reader.new.inner)) }
     ensures cause { HasCause result reader.new.failed reader.new.calls writer.new.failed }
     ensures flushed { writer.old.flushed ≡ true → HasFlushed result writer.new.flushed }
     ensures reads { reader.new.calls ≤ 2 ^ 40 }
 {
-    let mut session = Session::<ProgramSorter>::open(alloc, limits, echo)?;
+    let mut session = Session::begin(alloc, core, echo);
     serve(alloc, &mut session, reader, writer)
 }

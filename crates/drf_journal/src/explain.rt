@@ -1,5 +1,6 @@
 //! An explanation of the next cycle, as it would come after the events of a stream of lines.
 ghost use Rattle.std.specs.Prelude.{◌≡◌, ◌≤◌, ◌^◌, true};
+ghost use Rattle.drf_core.specs.Machine.{live};
 ghost use Rattle.drf_rows.specs.declared.limits.TheConstants.{LATEST_MOMENT};
 ghost use Rattle.drf_journal.specs.Audited.{HasExplained};
 ghost use Rattle.drf_journal.specs.Device.{IsNew};
@@ -11,7 +12,7 @@ use crate::device::{Device, write_whole};
 use crate::engine::ProgramSorter;
 use crate::fault::RunFault;
 use crate::session::Session;
-use drf_rows::Limits;
+use drf_core::Core;
 use drf_sorter::Sorter;
 use std::alloc::Global;
 use std::io::{Read, Write};
@@ -30,7 +31,7 @@ fn serve_explain<S: Sorter, R: Read, W: Write>(
     requires early { at ≤ LATEST_MOMENT }
     requires reader { IsNew reader.old.calls reader.old.failed }
     requires writer { IsNew writer.old.calls writer.old.failed }
-    ensures explained { HasExplained at session.old.machine.limits (R.remaining reader.old.inner) (R.remaining reader.new.inner)
+    ensures explained { HasExplained at session.old.machine (R.remaining reader.old.inner) (R.remaining reader.new.inner)
         (W.contents writer.old.inner) (W.contents writer.new.inner) result }
     ensures cause { HasCause result reader.new.failed reader.new.calls writer.new.failed }
     ensures flushed { writer.old.flushed ≡ true → HasFlushed result writer.new.flushed }
@@ -41,10 +42,10 @@ fn serve_explain<S: Sorter, R: Read, W: Write>(
     write_whole(writer, &text)
 }
 
-/// Explains the cycle at a moment, as it would come after a reader's lines, by the sorter that the program uses.
+/// Explains the cycle of an allocator at a moment, as it would come after a reader's lines, by the sorter that the program uses.
 pub fn run_explain<R: Read, W: Write>(
     alloc: Global,
-    limits: Limits,
+    core: Core<ProgramSorter>,
     at: u64,
     reader: &mut Device<R>,
     writer: &mut Device<W>,
@@ -52,12 +53,12 @@ pub fn run_explain<R: Read, W: Write>(
     requires early { at ≤ LATEST_MOMENT }
     requires reader { IsNew reader.old.calls reader.old.failed }
     requires writer { IsNew writer.old.calls writer.old.failed }
-    ensures explained { HasExplained at limits (R.remaining reader.old.inner) (R.remaining reader.new.inner)
+    ensures explained { HasExplained at (live core) (R.remaining reader.old.inner) (R.remaining reader.new.inner)
         (W.contents writer.old.inner) (W.contents writer.new.inner) result }
     ensures cause { HasCause result reader.new.failed reader.new.calls writer.new.failed }
     ensures flushed { writer.old.flushed ≡ true → HasFlushed result writer.new.flushed }
     ensures reads { reader.new.calls ≤ 2 ^ 40 }
 {
-    let mut session = Session::<ProgramSorter>::open(alloc, limits, false)?;
+    let mut session = Session::begin(alloc, core, false);
     serve_explain(alloc, &mut session, at, reader, writer)
 }

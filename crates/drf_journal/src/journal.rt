@@ -1,6 +1,6 @@
 //! The check of a journal.
 ghost use Rattle.std.specs.Prelude.{◌≡◌, ◌≤◌, ◌^◌, [], false, IfOk, IfSome};
-ghost use Rattle.drf_rows.specs.LimitNumbers.{LimitNumbers};
+ghost use Rattle.drf_core.specs.Machine.{Machine, live};
 ghost use Rattle.drf_journal.specs.Checking.{IsCheckedTo};
 ghost use Rattle.drf_journal.specs.Device.{IsNew};
 ghost use Rattle.drf_journal.specs.Ended.{HasCause};
@@ -10,7 +10,7 @@ use crate::checker::Checker;
 use crate::device::Device;
 use crate::engine::{CHUNK, MAX_READS, ProgramSorter};
 use crate::fault::RunFault;
-use drf_rows::Limits;
+use drf_core::Core;
 use drf_sorter::Sorter;
 use std::alloc::Global;
 use std::io::Read;
@@ -32,8 +32,8 @@ fn check<S: Sorter, R: Read>(
 ) -> Result<Verdict, RunFault>
     requires first { checker.old.events ≡ 0 }
     requires reader { IsNew reader.old.calls reader.old.failed }
-    ensures verdict { IfOk result (λ verdict. (limits : LimitNumbers) → IsCheckedTo limits [] checker.old
-        → IfSome (R.remaining reader.old.inner) (λ journal. IsVerdict limits journal verdict)) }
+    ensures verdict { IfOk result (λ verdict. (start : Machine) → IsCheckedTo start [] checker.old
+        → IfSome (R.remaining reader.old.inner) (λ journal. IsVerdict start journal verdict)) }
     ensures cause { HasCause result reader.new.failed reader.new.calls false }
     ensures reads { reader.new.calls ≤ 2 ^ 40 }
 {
@@ -54,18 +54,18 @@ fn check<S: Sorter, R: Read>(
     Err(RunFault::Read)
 }
 
-/// Tells whether a journal is right, by the sorter that the program uses. It reads up to the first wrong line, and keeps
-/// of a line no more than a run does, and of a reply line no more than the right one has.
+/// Tells whether a journal that begins with an allocator is right, by the sorter that the program uses. It reads up to the first
+/// wrong line, and keeps of a line no more than a run does, and of a reply line no more than the right one has.
 pub fn verify<R: Read>(
     alloc: Global,
-    limits: Limits,
+    core: Core<ProgramSorter>,
     reader: &mut Device<R>,
 ) -> Result<Verdict, RunFault>
     requires reader { IsNew reader.old.calls reader.old.failed }
-    ensures verdict { IfOk result (λ verdict. IfSome (R.remaining reader.old.inner) (λ journal. IsVerdict limits journal verdict)) }
+    ensures verdict { IfOk result (λ verdict. IfSome (R.remaining reader.old.inner) (λ journal. IsVerdict (live core) journal verdict)) }
     ensures cause { HasCause result reader.new.failed reader.new.calls false }
     ensures reads { reader.new.calls ≤ 2 ^ 40 }
 {
-    let mut checker = Checker::<ProgramSorter>::open(alloc, limits)?;
+    let mut checker = Checker::begin(alloc, core);
     check(alloc, &mut checker, reader)
 }

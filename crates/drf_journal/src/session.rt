@@ -2,6 +2,7 @@
 ghost use Rattle.std.specs.Prelude.{◌≡◌, ◌⊎◌, ◌+◌, ◌^◌, ◌<◌, ◌≤◌, [], ◌∷◌, ◌++◌, true, false, is_err, length, map, take, IfOk, OnOk, OnErr, IfErr};
 ghost use Rattle.std.specs.Io.KnownBytes.{Appends};
 ghost use Rattle.drf_audit.specs.Audit.{line_of};
+ghost use Rattle.drf_core.specs.Machine.{live};
 ghost use Rattle.drf_explain.specs.Explained.{explained};
 ghost use Rattle.drf_explain.specs.ExplainedText.{explained_text};
 ghost use Rattle.drf_rows.specs.declared.limits.TheConstants.{LATEST_MOMENT};
@@ -17,7 +18,6 @@ use drf_audit::{AuditLine, audit};
 use drf_core::Core;
 use drf_explain::write_explained_lines;
 use drf_lines::LineReader;
-use drf_rows::Limits;
 use drf_sorter::Sorter;
 use std::alloc::{AllocError, Global};
 use std::io::Write;
@@ -72,18 +72,33 @@ impl<S: Sorter> Model for Session<S> {
 }
 
 impl<S: Sorter> Session<S> {
-    /// A run that has read nothing.
-    pub fn open(alloc: Global, limits: Limits, echo: bool) -> Result<Session<S>, AllocError>
-        ensures { IfOk result (λ session. session ≡ begun limits echo) }
+    /// A run of an allocator that has read nothing.
+    pub fn begin(alloc: Global, core: Core<S>, echo: bool) -> Session<S>
+        ensures { result ≡ begun (live core) echo }
     {
-        Ok(Session {
-            core: Core::open(alloc, limits)?,
+        Session {
+            core,
             echo,
             pending: OpenLine::new(alloc),
             unsent: Vec::new(alloc),
             lines: 0,
             reader: LineReader::new(alloc),
-        })
+        }
+    }
+
+    /// The allocator, as it stands.
+    pub(crate) fn into_core(self) -> Core<S>
+        ensures { live result ≡ self.machine }
+    {
+        let Session {
+            core,
+            echo: _echo,
+            pending: _pending,
+            unsent: _unsent,
+            lines: _lines,
+            reader: _reader,
+        } = self;
+        core
     }
 
     /// How many lines were answered.

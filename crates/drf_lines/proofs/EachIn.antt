@@ -1,6 +1,6 @@
 -- What a step finds in each of a list, one after another.
-use Rattle.std.proofs.Common.{◌≡◌, List, [], ◌∷◌, ◌++◌, Result, Ok, Err, refl, sym, ap, append_assoc}
-use Rattle.std.proofs.lemmas.List.{append-nil}
+use Rattle.std.proofs.Common.{◌≡◌, ℕ, ◌+◌, ◌<◌, ◌≤◌, List, [], ◌∷◌, ◌++◌, map, drop, length, get_or, Result, Ok, Err, refl, sym, ap, ◌∙◌, append_assoc}
+use Rattle.std.proofs.lemmas.List.{append-nil, at_drop_more, at_drop_all}
 use Rattle.drf_lines.specs.declared.fault.LineFault.{LineFault}
 use Rattle.drf_lines.specs.declared.fault.LineError.{LineError}
 use Rattle.drf_lines.specs.declared.fault.LineError.TheVariants.{Fault, Memory}
@@ -36,3 +36,18 @@ module _ {X Y : Type 0} (step : X → Result Y LineFault) where
       → IsReadAs one (Err error) (step x) → IsReadAs all (Err error) (each_after ys (x ∷ xs))
   each_after-refused one all (Fault fault) ys x xs is = rw is refl
   each_after-refused one all Memory ys x xs is = tt
+
+  -- the one at a place is the first of those that are left there
+  pub each_after-first : {A : Type 0} (of : A → X) (ys : List Y) (all : List A) (i : ℕ) (a : A) → i < length all
+      → each_after ys (map of (drop i all)) ≡ each_after ys (of (get_or all i a) ∷ map of (drop (i + 1) all))
+  each_after-first {A} of ys all i a inside = at_drop_more (λ (left : List A). each_after ys (map of left)) all i a inside
+
+  pub each_after-item : {A : Type 0} (of : A → X) (ys : List Y) (all : List A) (i : ℕ) (a : A) → i < length all → a ≡ get_or all i a
+      → each_after ys (map of (drop i all)) ≡ each_after ys (of a ∷ map of (drop (i + 1) all))
+  each_after-item {A} of ys all i a inside is =
+      each_after-first of ys all i a inside ∙ ap (λ (first : A). each_after ys (of first ∷ map of (drop (i + 1) all))) (sym is)
+
+  -- behind the last one none is left
+  pub each_after-none : {A : Type 0} (of : A → X) (ys : List Y) (all : List A) (i : ℕ) → length all ≤ i
+      → each_after ys (map of (drop i all)) ≡ Ok ys
+  each_after-none {A} of ys all i past = at_drop_all (λ (left : List A). each_after ys (map of left)) all i past ∙ each_after-end ys

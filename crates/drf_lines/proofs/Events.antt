@@ -15,24 +15,23 @@ use Rattle.drf_rows.specs.declared.event.Accept as accepting
 use Rattle.drf_rows.specs.declared.event.Decline as declining
 use Rattle.drf_rows.specs.declared.event.Event.{Event}
 use Rattle.drf_rows.specs.declared.event.Event.TheVariants.{AddAgent, RemoveAgent, ActivateAgent, DeactivateAgent, SetAgent, AddFramework, RemoveFramework, Accept, Decline, Rescind, Finish, Suppress, Revive, Reserve, Unreserve, SetWeight, SetLimit, Cycle, Report}
-use Rattle.drf_text.specs.RoundTrip.{WeightIsRead}
-use Rattle.drf_text.specs.Written.{bundle_text, quantities_text}
+use Rattle.drf_text.specs.Written.{bundle_text, amount_text, quantities_text}
 use Rattle.drf_lines.specs.AgentEvents.{its_total, agent_of}
 use Rattle.drf_lines.specs.FrameworkEvents.{framework_event, role_value, framework_of, its_client}
 use Rattle.drf_lines.specs.OfferEvents.{usual_refusal, accept_event, accept_value, decline_event, decline_value, rescind_event, finish_event}
 use Rattle.drf_lines.specs.TaskTexts.{each_in, task_text, values_in, is_few, if_few, values_at, one_text, several_texts, task_texts, start_in, starts_in, start_text, task_value}
 use Rattle.drf_lines.specs.ReservationEvents.{its_reservation}
-use Rattle.drf_lines.specs.WeightEvents.{weight_event}
-use Rattle.drf_lines.specs.LimitEvents.{limit_event}
+use Rattle.drf_lines.specs.WeightEvents.{its_weight}
+use Rattle.drf_lines.specs.LimitEvents.{its_limit}
 use Rattle.drf_lines.specs.EventLine.{event_value, event_line}
 use Rattle.drf_lines.specs.Object.{has_members, keys, keys_besides, texts_of, text_at, number_at, number_or, texts_at}
 use Rattle.drf_lines.specs.Meaning.{cycle_event, report_event, event_in, longest_line, meaning_of}
-use Rattle.drf_lines.specs.Resources.{bundle_in, quantities_in}
+use Rattle.drf_lines.specs.Resources.{bundle_in, quantities_in, weight_in}
 use Rattle.drf_lines.specs.Words.{name_in, roles_in}
 use Rattle.drf_lines.specs.Spelled.{IsSpelled}
 use Rattle.drf_lines.proofs.Meanings.{meaning_read}
 use Rattle.drf_lines.proofs.Spellings.{IsPrinted, text_read, total_printed, agent_printed, framework_printed, client_printed, reservation_printed, finish_printed, weight_printed, limit_printed, report_printed, rescind_printed, cycle_printed, roles_printed, decline_printed, accept_printed}
-use Rattle.drf_lines.proofs.Texts.{IsRoleRead, weight_said}
+use Rattle.drf_lines.proofs.Texts.{IsRoleRead}
 use Rattle.drf_lines.proofs.Values.{value_read}
 
 -- a value that is read as it is printed, and that means the event
@@ -208,15 +207,14 @@ module _ (agent : List ℕ) (role : List (List ℕ)) (resources : List Resource)
 
 -- ---- other events
 
-pub weight_read : (role : List (List ℕ)) (weight : ℕ) → WeightIsRead → IsRoleRead role → weight < 2 ^ 64
+pub weight_read : (role : List (List ℕ)) (weight : ℕ) → IsRoleRead role → weight_in (amount_text weight) ≡ Ok weight
     → IsSpelled (SetWeight role weight)
-unfolding event_in weight_event keys has_members text_at
-weight_read role weight law is small =
-    spelled (SetWeight role weight) (weight_printed role weight) (rw (is, weight_said weight law small) refl)
+unfolding event_in its_weight keys has_members text_at
+weight_read role weight is said = spelled (SetWeight role weight) (weight_printed role weight) (rw (is, said) refl)
 
 pub limit_read : (role : List (List ℕ)) (limit : List Entry) → IsRoleRead role → quantities_in (quantities_text limit) ≡ Ok limit
     → IsSpelled (SetLimit role limit)
-unfolding event_in limit_event keys has_members text_at
+unfolding event_in its_limit keys has_members text_at
 limit_read role limit is amounts = spelled (SetLimit role limit) (limit_printed role limit) (rw (is, amounts) refl)
 
 pub cycle_read : (at : ℕ) → at < 2 ^ 64 → IsSpelled (Cycle at)

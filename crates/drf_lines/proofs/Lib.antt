@@ -11,6 +11,9 @@ pub mod Meanings
 pub mod Texts
 pub mod EachIn
 pub mod Spellings
+pub mod RowTexts
+pub mod Rows
+pub mod OneLines
 pub mod Events
 pub mod ReplyTexts
 pub mod Lanes

@@ -6,7 +6,7 @@ use Rattle.std.proofs.lemmas.Slice.Eq.{bytes_eq-Decides}
 use Rattle.json.specs.Json as json
 use Rattle.json.specs.Find as found_in
 use Rattle.serde_json.specs.Data.{Num, Data, number, array, object, item, Members, no_members, put}
-use Rattle.serde_json.specs.Find.{get, get_member, as_str, as_number}
+use Rattle.serde_json.specs.Find.{get, get_member, as_str, as_bool, as_number}
 use Rattle.serde_json.specs.Read.{of_json, of_items, of_members, number_of}
 use Rattle.serde_json.proofs.Views.{get_member-put, get_member-put_other}
 use Rattle.drf_lines.specs.LineValue.{number_in, data_of, items_of, members_of, is_in_range, items_in_range, members_in_range}
@@ -107,3 +107,11 @@ number_seen (json.number text) = refl
 number_seen (json.string text) = refl
 number_seen (json.array js) = refl
 number_seen (json.object ms) = refl
+
+pub boolean_seen : (j : json.Json) → as_bool (data_of j) ≡ found_in.as_bool j
+boolean_seen json.null = refl
+boolean_seen (json.boolean b) = refl
+boolean_seen (json.number text) = refl
+boolean_seen (json.string text) = refl
+boolean_seen (json.array js) = refl
+boolean_seen (json.object ms) = refl

@@ -14,6 +14,13 @@ pub mod LimitEvents
 pub mod Meaning
 pub mod EventLine
 pub mod Spelled
+pub mod AgentRows
+pub mod FrameworkRows
+pub mod RoleRows
+pub mod HeldRows
+pub mod StateMeaning
+pub mod StateLine
+pub mod OneLine
 pub mod ReportLine
 pub mod ReplyLine
 pub mod Written

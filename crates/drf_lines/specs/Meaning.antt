@@ -8,7 +8,7 @@ use Rattle.serde_json.specs.Data.{Data}
 use Rattle.serde_json.specs.Read.{read}
 use Rattle.drf_role.specs.Text.{same_text}
 use Rattle.drf_rows.specs.declared.event.Event.{Event}
-use Rattle.drf_rows.specs.declared.event.Event.TheVariants.{AddAgent, RemoveAgent, ActivateAgent, DeactivateAgent, SetAgent, RemoveFramework, Suppress, Revive, Reserve, Unreserve, Cycle, Report}
+use Rattle.drf_rows.specs.declared.event.Event.TheVariants.{AddAgent, RemoveAgent, ActivateAgent, DeactivateAgent, SetAgent, RemoveFramework, Suppress, Revive, Reserve, Unreserve, SetWeight, SetLimit, Cycle, Report}
 use Rattle.drf_lines.specs.declared.fault.LineFault.{LineFault}
 use Rattle.drf_lines.specs.declared.fault.LineFault.TheVariants.{LineTooLong, NotJson, BadShape}
 use Rattle.drf_lines.specs.Fault.{◌>>=◌}
@@ -17,8 +17,8 @@ use Rattle.drf_lines.specs.AgentEvents.{its_total, agent_of}
 use Rattle.drf_lines.specs.FrameworkEvents.{framework_event, framework_of, its_client}
 use Rattle.drf_lines.specs.OfferEvents.{accept_event, decline_event, rescind_event, finish_event}
 use Rattle.drf_lines.specs.ReservationEvents.{its_reservation}
-use Rattle.drf_lines.specs.WeightEvents.{weight_event}
-use Rattle.drf_lines.specs.LimitEvents.{limit_event}
+use Rattle.drf_lines.specs.WeightEvents.{its_weight}
+use Rattle.drf_lines.specs.LimitEvents.{its_limit}
 
 -- how many bytes a line has at most, without its line feed
 abbrev pub longest_line : ℕ
@@ -36,9 +36,9 @@ cycle_event value = keys 2 value >>= λ _. number_at (codes "at") value >>= λ a
 unfoldable pub report_event : Data → Result Event LineFault
 report_event value = keys 1 value >>= λ _. Ok Report
 
--- the event that is made of what was read
-abbrev pub made : {A : Type 0} → (A → Event) → (Data → Result A LineFault) → Data → Result Event LineFault
-made event read value = read value >>= λ found. Ok (event found)
+-- what is made of what was read
+abbrev pub made : {A B : Type 0} → (A → B) → (Data → Result A LineFault) → Data → Result B LineFault
+made make read value = read value >>= λ found. Ok (make found)
 
 -- the events by name
 abbrev pub events : List (List ℕ × (Data → Result Event LineFault))
@@ -58,20 +58,19 @@ events =
     ∷ (codes "finish", finish_event)
     ∷ (codes "reserve", made (λ r. Reserve r.0 r.1 r.2) its_reservation)
     ∷ (codes "unreserve", made (λ r. Unreserve r.0 r.1 r.2) its_reservation)
-    ∷ (codes "set_weight", weight_event)
-    ∷ (codes "set_limit", limit_event)
+    ∷ (codes "set_weight", made (λ w. SetWeight w.0 w.1) its_weight)
+    ∷ (codes "set_limit", made (λ l. SetLimit l.0 l.1) its_limit)
     ∷ (codes "cycle", cycle_event)
     ∷ (codes "report", report_event)
     ∷ []
 
--- what a value means whose `event` is that name
-abbrev pub event_among : List (List ℕ × (Data → Result Event LineFault)) → List ℕ → Data → Result Event LineFault
-event_among [] name value = Err BadShape
-event_among (event ∷ events) name value =
-    if same_text name event.0 then event.1 value else event_among events name value
+-- what a value means that is of the kind of that name
+abbrev pub meant_among : {A : Type 0} → List (List ℕ × (Data → Result A LineFault)) → List ℕ → Data → Result A LineFault
+meant_among [] name value = Err BadShape
+meant_among (kind ∷ kinds) name value = if same_text name kind.0 then kind.1 value else meant_among kinds name value
 
 unfoldable pub event_in : Data → Result Event LineFault
-event_in value = text_at (codes "event") value >>= λ name. event_among events name value
+event_in value = text_at (codes "event") value >>= λ name. meant_among events name value
 
 -- what a line means
 unfoldable pub meaning_of : List ℕ → Result Event LineFault

@@ -1,8 +1,8 @@
--- What stands in a JSON object: how many keys it has, and the text, the number or the texts under a key.
+-- What stands in a JSON object: how many keys it has, and the text, the number, the truth value or the texts under a key.
 use Rattle.std.specs.Prelude.{ℕ, Bool, false, ◌==◌, suc, List, [], ◌∷◌, Option, Some, Result, Ok, Err, is_some, option_map, option_and_then, if◌then◌else◌}
 use Rattle.std.specs.Option.{ok_or, option_map_or}
 use Rattle.serde_json.specs.Data.{Data, Items, no_items, item, Members, no_members, member}
-use Rattle.serde_json.specs.Find.{get, as_str, as_number, as_u64, as_array, as_object}
+use Rattle.serde_json.specs.Find.{get, as_str, as_bool, as_number, as_u64, as_array, as_object}
 use Rattle.drf_lines.specs.declared.fault.LineFault.{LineFault}
 use Rattle.drf_lines.specs.declared.fault.LineFault.TheVariants.{BadShape}
 
@@ -41,6 +41,9 @@ text_at key value = ok_or (option_and_then as_str (get key value)) BadShape
 
 unfoldable pub number_at : List ℕ → Data → Result ℕ LineFault
 number_at key value = ok_or (option_and_then number_of (get key value)) BadShape
+
+unfoldable pub boolean_at : List ℕ → Data → Result Bool LineFault
+boolean_at key value = ok_or (option_and_then as_bool (get key value)) BadShape
 
 -- where the key is left out, the number is the usual one
 unfoldable pub number_or : ℕ → List ℕ → Data → Result ℕ LineFault

@@ -11,6 +11,10 @@ is_plain_byte b = nat_le 32 b && (not (b == 34) && not (b == 92))
 abbrev pub KeepsFront : List ℕ → List ℕ → Type 0
 KeepsFront old new = (front : List ℕ) → StartsWith old front → StartsWith new front
 
+-- the text is UTF-8, as each `str` is; a word of its own, which is not seen through where a proof looks for what follows
+unfoldable pub IsText : List ℕ → Type 0
+IsText text = IsUtf8 text
+
 -- UTF-8 stays UTF-8
 abbrev pub KeepsUtf8 : List ℕ → List ℕ → Type 0
 KeepsUtf8 old new = IsUtf8 old → IsUtf8 new

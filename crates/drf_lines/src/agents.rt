@@ -1,21 +1,27 @@
-//! The events of agents.
+//! The events and the rows of agents.
 ghost use Rattle.std.specs.Prelude.{◌≡◌, ◌++◌, Ok, OnOk};
 ghost use Rattle.serde_json.specs.Written.{compact_text};
 ghost use Rattle.drf_text.specs.Written.{bundle_text};
+ghost use Rattle.drf_saved.specs.declared.saved.SavedRow.TheVariants.{Agent};
+ghost use Rattle.drf_saved.specs.declared.saved.StateLine.TheVariants.{Row};
 ghost use Rattle.drf_lines.specs.AgentEvents.{its_total, of_total, agent_of, of_agent};
+ghost use Rattle.drf_lines.specs.AgentRows.{agent_row};
 ghost use Rattle.drf_lines.specs.Fault.{IsReadOf};
 ghost use Rattle.drf_lines.specs.LineValue.{line_view};
 ghost use Rattle.drf_lines.specs.Resources.{bundle_in};
+ghost use Rattle.drf_lines.specs.StateLine.{row_line};
+ghost use Rattle.drf_lines.specs.StateMeaning.{state_line_meaning};
 ghost use Rattle.drf_lines.specs.Words.{name_in};
 ghost use Rattle.drf_lines.specs.Written.{KeepsFront, KeepsUtf8};
 
 use crate::fault::LineError;
 use crate::known::KnownBundles;
-use crate::member::{put_bundle, put_byte, put_name, put_text};
-use crate::object::{LineValue, keys, text_at};
+use crate::member::{put_boolean, put_bundle, put_byte, put_name, put_text};
+use crate::object::{LineValue, boolean_at, keys, text_at};
 use crate::words::read_name;
 use drf_bundle::Bundle;
 use drf_role::Name;
+use drf_rows::AgentRow;
 use std::alloc::{AllocError, Global};
 
 /// The agent and the total of an event that has no other keys.
@@ -72,4 +78,42 @@ pub fn put_of_agent(line: &mut Vec<u8>, event: &str, agent: &Name) -> Result<(),
     put_name(line, "{\"agent\":\"", agent)?;
     put_text(line, ",\"event\":\"", event)?;
     put_byte(line, b'}')
+}
+
+#[tactic(auto, unfolding(crate::specs::AgentRows::agent_row))]
+pub fn read_agent_row(
+    alloc: Global,
+    known: &mut KnownBundles,
+    value: &LineValue<'_>,
+) -> Result<AgentRow, LineError>
+    ensures { IsReadOf result (agent_row (line_view value.now)) }
+{
+    keys(value, 4)?;
+    let active = boolean_at(value, "active")?;
+    let agent = text_at(value, "agent")?;
+    let total = text_at(value, "total")?;
+    Ok(AgentRow {
+        name: read_name(alloc, agent)?,
+        total: known.read(alloc, total)?,
+        active,
+    })
+}
+
+/// Adds the line of an agent's row, as `push_row` does.
+pub fn push_agent_row(text: &mut Vec<u8>, row: &AgentRow) -> Result<(), AllocError>
+    ensures ok { OnOk result (text.new.items ≡ text.old.items ++ row_line (Agent row.now)) }
+    ensures front { KeepsFront text.old.items text.new.items }
+    ensures utf8 { OnOk result (KeepsUtf8 text.old.items text.new.items) }
+    ensures read { OnOk result (state_line_meaning (row_line (Agent row.now)) ≡ Ok (Row (Agent row.now))) }
+{
+    let mut between = String::new(*text.allocator());
+    put_boolean(text, "{\"active\":", row.active)?;
+    put_name(text, ",\"agent\":\"", &row.name)?;
+    put_bundle(
+        text,
+        &mut between,
+        ",\"row\":\"agent\",\"total\":\"",
+        &row.total,
+    )?;
+    put_byte(text, b'}')
 }

@@ -1,23 +1,29 @@
-//! The events of frameworks and of their clients.
+//! The events of frameworks and of their clients, and the rows of frameworks.
 ghost use Rattle.std.specs.Prelude.{◌≡◌, ◌++◌, map, Ok, OnOk};
 ghost use Rattle.serde_json.specs.Data.{array};
 ghost use Rattle.serde_json.specs.View.{items_of};
 ghost use Rattle.serde_json.specs.Written.{compact_text};
 ghost use Rattle.drf_role.specs.Parts.{text_of};
 ghost use Rattle.drf_rows.specs.declared.event.Event.TheVariants.{AddFramework};
+ghost use Rattle.drf_saved.specs.declared.saved.SavedRow.TheVariants.{Framework};
+ghost use Rattle.drf_saved.specs.declared.saved.StateLine.TheVariants.{Row};
 ghost use Rattle.drf_lines.specs.Fault.{IsReadOf};
 ghost use Rattle.drf_lines.specs.LineValue.{line_view};
 ghost use Rattle.drf_lines.specs.FrameworkEvents.{framework_event, role_value, framework_value, framework_of, of_framework, its_client, of_client};
+ghost use Rattle.drf_lines.specs.FrameworkRows.{framework_row};
 ghost use Rattle.drf_lines.specs.Spelled.{IsSpelled};
+ghost use Rattle.drf_lines.specs.StateLine.{row_line};
+ghost use Rattle.drf_lines.specs.StateMeaning.{state_line_meaning};
 ghost use Rattle.drf_lines.specs.Words.{name_in, role_in, roles_in};
 ghost use Rattle.drf_lines.specs.Written.{KeepsFront, KeepsUtf8};
 
+use crate::clients::{client_texts, put_client_list, read_clients};
 use crate::fault::LineError;
 use crate::member::{put, put_byte, put_comma, put_name, put_role, put_text};
-use crate::object::{LineValue, keys, text_at, texts_at};
+use crate::object::{LineValue, keys, text_at, texts_at, values_at};
 use crate::words::{read_name, read_role};
 use drf_role::{Name, Role};
-use drf_rows::{Event, Table};
+use drf_rows::{Event, FrameworkRow, Table};
 use std::alloc::{AllocError, Global};
 
 /// Reads a role. Where it is one that was read before, it shares the text.
@@ -149,4 +155,30 @@ pub fn put_of_client(
     put_name(line, ",\"framework\":\"", framework)?;
     put_role(line, ",\"role\":\"", role)?;
     put_byte(line, b'}')
+}
+
+#[tactic(auto, unfolding(crate::specs::FrameworkRows::framework_row))]
+pub fn read_framework_row(alloc: Global, value: &LineValue<'_>) -> Result<FrameworkRow, LineError>
+    ensures { IsReadOf result (framework_row (line_view value.now)) }
+{
+    keys(value, 3)?;
+    let clients = client_texts(alloc, values_at(value, "clients")?)?;
+    let framework = text_at(value, "framework")?;
+    Ok(FrameworkRow {
+        name: read_name(alloc, framework)?,
+        clients: read_clients(alloc, clients.as_slice())?,
+    })
+}
+
+/// Adds the line of a framework's row, as `push_row` does.
+pub fn push_framework_row(text: &mut Vec<u8>, row: &FrameworkRow) -> Result<(), AllocError>
+    ensures ok { OnOk result (text.new.items ≡ text.old.items ++ row_line (Framework row.now)) }
+    ensures front { KeepsFront text.old.items text.new.items }
+    ensures utf8 { OnOk result (KeepsUtf8 text.old.items text.new.items) }
+    ensures read { OnOk result (state_line_meaning (row_line (Framework row.now)) ≡ Ok (Row (Framework row.now))) }
+{
+    put(text, "{\"clients\":")?;
+    put_client_list(text, row.clients.as_slice())?;
+    put_name(text, ",\"framework\":\"", &row.name)?;
+    put(text, ",\"row\":\"framework\"}")
 }

@@ -1,35 +1,52 @@
-//! The event of limits.
-ghost use Rattle.std.specs.Prelude.{◌≡◌, ◌++◌, OnOk};
+//! The event and the rows of limits.
+ghost use Rattle.std.specs.Prelude.{◌≡◌, ◌∷◌, ◌++◌, [], Ok, OnOk};
+ghost use Rattle.json.specs.Print.{escape};
 ghost use Rattle.serde_json.specs.Written.{compact_text};
 ghost use Rattle.drf_rows.specs.declared.event.Event.TheVariants.{SetLimit};
+ghost use Rattle.drf_saved.specs.declared.saved.SavedRow.TheVariants.{Limit};
+ghost use Rattle.drf_saved.specs.declared.saved.StateLine.TheVariants.{Row};
+ghost use Rattle.drf_text.specs.Written.{quantities_text};
 ghost use Rattle.drf_lines.specs.Fault.{IsReadOf};
-ghost use Rattle.drf_lines.specs.LimitEvents.{limit_event, limit_value};
+ghost use Rattle.drf_lines.specs.LimitEvents.{its_limit, limit_value};
 ghost use Rattle.drf_lines.specs.LineValue.{line_view};
+ghost use Rattle.drf_lines.specs.Resources.{quantities_in};
 ghost use Rattle.drf_lines.specs.Spelled.{IsSpelled};
-ghost use Rattle.drf_lines.specs.Written.{KeepsFront, KeepsUtf8};
+ghost use Rattle.drf_lines.specs.StateLine.{row_line};
+ghost use Rattle.drf_lines.specs.StateMeaning.{state_line_meaning};
+ghost use Rattle.drf_lines.specs.Written.{IsText, KeepsFront, KeepsUtf8};
 
 use crate::fault::LineError;
-use crate::member::{put_byte, put_role, put_text};
+use crate::member::{put, put_byte, put_role, put_text};
 use crate::object::{LineValue, keys, text_at};
 use crate::resources::read_quantities;
 use crate::words::read_role;
 use drf_bundle::Quantities;
 use drf_role::Role;
-use drf_rows::Event;
+use drf_rows::LimitRow;
 use drf_text::write_quantities;
 use std::alloc::{AllocError, Global};
 
-#[tactic(auto, unfolding(crate::specs::LimitEvents::limit_event))]
-pub fn read_limiting(alloc: Global, value: &LineValue<'_>) -> Result<Event, LineError>
-    ensures { IsReadOf result (limit_event (line_view value.now)) }
+/// The role and the limit of an event, or of a row, that has no other keys.
+#[tactic(auto, unfolding(crate::specs::LimitEvents::its_limit))]
+pub fn read_its_limit(alloc: Global, value: &LineValue<'_>) -> Result<(Role, Quantities), LineError>
+    ensures { IsReadOf result (its_limit (line_view value.now)) }
 {
     keys(value, 3)?;
     let role = text_at(value, "role")?;
     let limit = text_at(value, "limit")?;
-    Ok(Event::SetLimit {
-        role: read_role(alloc, role)?,
-        limit: read_quantities(alloc, limit)?,
-    })
+    Ok((read_role(alloc, role)?, read_quantities(alloc, limit)?))
+}
+
+/// Writes what stands before a limit with its first `"`, and the limit, amounts of 0 too. It is read as this limit.
+fn put_limit(line: &mut Vec<u8>, before: &str, limit: &Quantities) -> Result<(), AllocError>
+    ensures ok { OnOk result (line.new.items ≡ line.old.items ++ (before.now ++ (escape (quantities_text limit.now) ++ 34 ∷ []))) }
+    ensures front { KeepsFront line.old.items line.new.items }
+    ensures utf8 { OnOk result (KeepsUtf8 line.old.items line.new.items) }
+    ensures read { OnOk result (quantities_in (quantities_text limit.now) ≡ Ok limit.now) }
+    ensures text { OnOk result (IsText (quantities_text limit.now)) }
+{
+    let text = write_quantities(*line.allocator(), limit)?;
+    put_text(line, before, text.as_str())
 }
 
 pub fn put_set_limit(line: &mut Vec<u8>, role: &Role, limit: &Quantities) -> Result<(), AllocError>
@@ -38,8 +55,19 @@ pub fn put_set_limit(line: &mut Vec<u8>, role: &Role, limit: &Quantities) -> Res
     ensures utf8 { OnOk result (KeepsUtf8 line.old.items line.new.items) }
     ensures read { OnOk result (IsSpelled (SetLimit role.now limit.now)) }
 {
-    let text = write_quantities(*line.allocator(), limit)?;
-    put_text(line, "{\"event\":\"set_limit\",\"limit\":\"", text.as_str())?;
+    put_limit(line, "{\"event\":\"set_limit\",\"limit\":\"", limit)?;
     put_role(line, ",\"role\":\"", role)?;
     put_byte(line, b'}')
+}
+
+/// Adds the line of a limit's row, as `push_row` does.
+pub fn push_limit_row(text: &mut Vec<u8>, row: &LimitRow) -> Result<(), AllocError>
+    ensures ok { OnOk result (text.new.items ≡ text.old.items ++ row_line (Limit row.now)) }
+    ensures front { KeepsFront text.old.items text.new.items }
+    ensures utf8 { OnOk result (KeepsUtf8 text.old.items text.new.items) }
+    ensures read { OnOk result (state_line_meaning (row_line (Limit row.now)) ≡ Ok (Row (Limit row.now))) }
+{
+    put_limit(text, "{\"limit\":\"", &row.limit)?;
+    put_role(text, ",\"role\":\"", &row.role)?;
+    put(text, ",\"row\":\"limit\"}")
 }

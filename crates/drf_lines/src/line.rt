@@ -9,18 +9,21 @@ ghost use Rattle.drf_lines.specs.declared.fault.LineFault.TheVariants.{NotJson};
 ghost use Rattle.drf_lines.specs.Fault.{IsReadAs, IsReadOf};
 ghost use Rattle.drf_lines.specs.LineValue.{line_view, IsRefused};
 ghost use Rattle.drf_lines.specs.Meaning.{value_in, cycle_event, report_event, event_in, meaning_of, longest_line};
+ghost use Rattle.drf_lines.specs.StateMeaning.{state_line_meaning};
 
 use crate::agents::{read_its_agent, read_its_total};
 use crate::fault::{LineError, LineFault};
 use crate::frameworks::{read_framework, read_its_client, read_its_framework};
 use crate::known::KnownBundles;
-use crate::limits::read_limiting;
+use crate::limits::read_its_limit;
 use crate::object::{LineValue, keys, number_at, text_at};
 use crate::offers::{read_accept, read_decline, read_finish, read_rescind};
 use crate::range::is_in_range;
 use crate::reservations::read_its_reservation;
-use crate::weights::read_weighing;
+use crate::state_line::read_state_object;
+use crate::weights::read_its_weight;
 use drf_rows::Event;
+use drf_saved::StateLine;
 use json::{Error, Reader, Scratch};
 use std::alloc::Global;
 
@@ -150,8 +153,14 @@ fn read_object(
                 resources,
             })
         }
-        "set_weight" => read_weighing(alloc, value),
-        "set_limit" => read_limiting(alloc, value),
+        "set_weight" => {
+            let (role, weight) = read_its_weight(alloc, value)?;
+            Ok(Event::SetWeight { role, weight })
+        }
+        "set_limit" => {
+            let (role, limit) = read_its_limit(alloc, value)?;
+            Ok(Event::SetLimit { role, limit })
+        }
         "report" => read_report(value),
         _ => Err(LineError::Fault(LineFault::BadShape)),
     }
@@ -193,6 +202,15 @@ impl LineReader {
         }
         let value = line_value(self.alloc, &mut self.scratch, line)?;
         read_object(self.alloc, &mut self.known, &value)
+    }
+
+    /// Reads a line of a state, of any length, which is its numbers, a row or its end, or has a fault.
+    pub fn read_state_line(&mut self, line: &[u8]) -> Result<StateLine, LineError>
+        ensures read { IsReadOf result (state_line_meaning line.now) }
+        ensures utf8 { IsErrOf result LineError.Memory → IsUtf8 line.now }
+    {
+        let value = line_value(self.alloc, &mut self.scratch, line)?;
+        read_state_object(self.alloc, &mut self.known, &value)
     }
 }
 

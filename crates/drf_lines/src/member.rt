@@ -1,12 +1,13 @@
 //! Members of an object that is being written. What stands before it stays, also where memory ends.
-ghost use Rattle.std.specs.Prelude.{◌≡◌, ◌<◌, ◌∷◌, ◌++◌, [], Ok, IfOk, OnOk, decimal, nat_lt};
-ghost use Rattle.json.specs.Print.{escape, quoted};
+ghost use Rattle.std.specs.Prelude.{◌≡◌, ◌<◌, ◌^◌, ◌∷◌, ◌++◌, [], Ok, IfOk, OnOk, decimal, nat_lt};
+ghost use Rattle.json.specs.Print.{escape, quoted, token_text};
+ghost use Rattle.json.specs.Token.{boolean};
 ghost use Rattle.serde_json.specs.Written.{comma_if};
 ghost use Rattle.drf_role.specs.Parts.{text_of};
 ghost use Rattle.drf_text.specs.Written.{bundle_text};
 ghost use Rattle.drf_lines.specs.Resources.{bundle_in};
 ghost use Rattle.drf_lines.specs.Words.{name_in, role_in};
-ghost use Rattle.drf_lines.specs.Written.{KeepsFront, KeepsUtf8};
+ghost use Rattle.drf_lines.specs.Written.{IsText, KeepsFront, KeepsUtf8};
 
 use crate::plain::is_plain;
 use drf_bundle::Bundle;
@@ -73,9 +74,23 @@ pub fn put_number(line: &mut Vec<u8>, before: &str, value: u64) -> Result<(), Al
     ensures ok { OnOk result (line.new.items ≡ line.old.items ++ (before.now ++ decimal value)) }
     ensures front { KeepsFront line.old.items line.new.items }
     ensures utf8 { OnOk result (KeepsUtf8 line.old.items line.new.items) }
+    ensures small { value < 2 ^ 64 }
 {
     put(line, before)?;
     put(line, Buffer::new().format(value))
+}
+
+/// Writes what stands before a truth value, and the value.
+pub fn put_boolean(line: &mut Vec<u8>, before: &str, value: bool) -> Result<(), AllocError>
+    ensures ok { OnOk result (line.new.items ≡ line.old.items ++ (before.now ++ token_text (boolean value))) }
+    ensures front { KeepsFront line.old.items line.new.items }
+    ensures utf8 { OnOk result (KeepsUtf8 line.old.items line.new.items) }
+{
+    put(line, before)?;
+    if value {
+        return put(line, "true");
+    }
+    put(line, "false")
 }
 
 /// Writes the comma before an item, but not before the first.
@@ -96,6 +111,7 @@ pub fn put_name(line: &mut Vec<u8>, before: &str, name: &Name) -> Result<(), All
     ensures front { KeepsFront line.old.items line.new.items }
     ensures utf8 { OnOk result (KeepsUtf8 line.old.items line.new.items) }
     ensures read { OnOk result (name_in name.now ≡ Ok name.now) }
+    ensures text { IsText name.now }
 {
     put_text(line, before, name.text())
 }
@@ -106,6 +122,7 @@ pub fn put_role(line: &mut Vec<u8>, before: &str, role: &Role) -> Result<(), All
     ensures front { KeepsFront line.old.items line.new.items }
     ensures utf8 { OnOk result (KeepsUtf8 line.old.items line.new.items) }
     ensures read { OnOk result (role_in (text_of role.now) ≡ Ok role.now) }
+    ensures text { IsText (text_of role.now) }
 {
     put_text(line, before, role.text())
 }
@@ -122,6 +139,7 @@ pub fn put_bundle(
     ensures front { KeepsFront line.old.items line.new.items }
     ensures utf8 { OnOk result (KeepsUtf8 line.old.items line.new.items) }
     ensures read { OnOk result (bundle_in (bundle_text bundle.now) ≡ Ok bundle.now) }
+    ensures text { OnOk result (IsText (bundle_text bundle.now)) }
 {
     bundle_round_trip_law();
     // What is written of a bundle is read where it is one.

@@ -2,11 +2,11 @@
 ghost use Rattle.std.specs.Prelude.{◌≡◌, ◌≤◌, ◌==◌, map, option_map, option_and_then};
 ghost use Rattle.json.specs.Value.{members_view};
 ghost use Rattle.serde_json.specs.Data.{no_members};
-ghost use Rattle.serde_json.specs.Find.{get, as_str, as_array};
+ghost use Rattle.serde_json.specs.Find.{get, as_str, as_bool, as_array};
 ghost use Rattle.drf_lines.specs.Fault.{IsFoundAs, IsReadAs};
 ghost use Rattle.drf_lines.specs.LineValue.{is_among, line_view, items_seen, members_of};
 ghost use Rattle.drf_lines.specs.TaskTexts.{values_at};
-ghost use Rattle.drf_lines.specs.Object.{has_members, keys, keys_besides, member_count, number_of, text_at, number_at, number_or, texts_at};
+ghost use Rattle.drf_lines.specs.Object.{has_members, keys, keys_besides, member_count, number_of, text_at, number_at, boolean_at, number_or, texts_at};
 
 use crate::fault::{LineError, LineFault};
 use crate::number::whole_number;
@@ -98,6 +98,14 @@ fn as_number(value: &LineValue<'_>) -> Option<u64>
     whole_number(value.as_number()?)
 }
 
+/// The truth value that a value is.
+#[tactic(auto, unfolding(crate::specs::LineValue::line_view))]
+fn as_boolean(value: &LineValue<'_>) -> Option<bool>
+    ensures { result ≡ as_bool (line_view value.now) }
+{
+    value.as_bool()
+}
+
 /// The items of an array.
 #[tactic(auto, unfolding(crate::specs::LineValue::line_view))]
 fn as_items<'v, 'a>(value: &'v LineValue<'a>) -> Option<&'v Vec<LineValue<'a>>>
@@ -146,6 +154,19 @@ pub fn number_at(value: &LineValue<'_>, key: &str) -> Result<u64, LineFault>
     ensures { result ≡ number_at key.now (line_view value.now) }
 {
     find_number(value, key).ok_or(LineFault::BadShape)
+}
+
+fn find_boolean(value: &LineValue<'_>, key: &str) -> Option<bool>
+    ensures { result ≡ option_and_then as_bool (get key.now (line_view value.now)) }
+{
+    as_boolean(find(value, key)?)
+}
+
+#[tactic(auto, unfolding(crate::specs::Object::boolean_at))]
+pub fn boolean_at(value: &LineValue<'_>, key: &str) -> Result<bool, LineFault>
+    ensures { result ≡ boolean_at key.now (line_view value.now) }
+{
+    find_boolean(value, key).ok_or(LineFault::BadShape)
 }
 
 /// The number under a key, or the usual one where the key is left out.

@@ -1,12 +1,19 @@
-//! The event of weights.
-ghost use Rattle.std.specs.Prelude.{◌≡◌, ◌++◌, OnOk};
+//! The event and the rows of weights.
+ghost use Rattle.std.specs.Prelude.{◌≡◌, ◌∷◌, ◌++◌, [], Ok, OnOk};
+ghost use Rattle.json.specs.Print.{escape};
 ghost use Rattle.serde_json.specs.Written.{compact_text};
 ghost use Rattle.drf_rows.specs.declared.event.Event.TheVariants.{SetWeight};
+ghost use Rattle.drf_saved.specs.declared.saved.SavedRow.TheVariants.{Weight};
+ghost use Rattle.drf_saved.specs.declared.saved.StateLine.TheVariants.{Row};
+ghost use Rattle.drf_text.specs.Written.{amount_text};
 ghost use Rattle.drf_lines.specs.Fault.{IsReadOf};
 ghost use Rattle.drf_lines.specs.LineValue.{line_view};
+ghost use Rattle.drf_lines.specs.Resources.{weight_in};
 ghost use Rattle.drf_lines.specs.Spelled.{IsSpelled};
-ghost use Rattle.drf_lines.specs.WeightEvents.{weight_event, weight_value};
-ghost use Rattle.drf_lines.specs.Written.{KeepsFront, KeepsUtf8};
+ghost use Rattle.drf_lines.specs.StateLine.{row_line};
+ghost use Rattle.drf_lines.specs.StateMeaning.{state_line_meaning};
+ghost use Rattle.drf_lines.specs.WeightEvents.{its_weight, weight_value};
+ghost use Rattle.drf_lines.specs.Written.{IsText, KeepsFront, KeepsUtf8};
 
 use crate::fault::LineError;
 use crate::member::{put_byte, put_role, put_text};
@@ -14,21 +21,32 @@ use crate::object::{LineValue, keys, text_at};
 use crate::resources::read_weight;
 use crate::words::read_role;
 use drf_role::Role;
-use drf_rows::Event;
+use drf_rows::WeightRow;
 use drf_text::{weight_round_trip_law, write_weight};
 use std::alloc::{AllocError, Global};
 
-#[tactic(auto, unfolding(crate::specs::WeightEvents::weight_event))]
-pub fn read_weighing(alloc: Global, value: &LineValue<'_>) -> Result<Event, LineError>
-    ensures { IsReadOf result (weight_event (line_view value.now)) }
+/// The role and the weight of an event, or of a row, that has no other keys.
+#[tactic(auto, unfolding(crate::specs::WeightEvents::its_weight))]
+pub fn read_its_weight(alloc: Global, value: &LineValue<'_>) -> Result<(Role, u64), LineError>
+    ensures { IsReadOf result (its_weight (line_view value.now)) }
 {
     keys(value, 3)?;
     let role = text_at(value, "role")?;
     let weight = text_at(value, "weight")?;
-    Ok(Event::SetWeight {
-        role: read_role(alloc, role)?,
-        weight: read_weight(weight)?,
-    })
+    Ok((read_role(alloc, role)?, read_weight(weight)?))
+}
+
+/// Writes what stands before a weight with its first `"`, and the weight. It is read as this weight.
+fn put_weight(line: &mut Vec<u8>, before: &str, weight: u64) -> Result<(), AllocError>
+    ensures ok { OnOk result (line.new.items ≡ line.old.items ++ (before.now ++ (escape (amount_text weight) ++ 34 ∷ []))) }
+    ensures front { KeepsFront line.old.items line.new.items }
+    ensures utf8 { OnOk result (KeepsUtf8 line.old.items line.new.items) }
+    ensures read { OnOk result (weight_in (amount_text weight) ≡ Ok weight) }
+    ensures text { OnOk result (IsText (amount_text weight)) }
+{
+    weight_round_trip_law();
+    let text = write_weight(*line.allocator(), weight)?;
+    put_text(line, before, text.as_str())
 }
 
 pub fn put_set_weight(line: &mut Vec<u8>, role: &Role, weight: u64) -> Result<(), AllocError>
@@ -37,9 +55,19 @@ pub fn put_set_weight(line: &mut Vec<u8>, role: &Role, weight: u64) -> Result<()
     ensures utf8 { OnOk result (KeepsUtf8 line.old.items line.new.items) }
     ensures read { OnOk result (IsSpelled (SetWeight role.now weight)) }
 {
-    weight_round_trip_law();
-    let text = write_weight(*line.allocator(), weight)?;
     put_role(line, "{\"event\":\"set_weight\",\"role\":\"", role)?;
-    put_text(line, ",\"weight\":\"", text.as_str())?;
+    put_weight(line, ",\"weight\":\"", weight)?;
     put_byte(line, b'}')
+}
+
+/// Adds the line of a weight's row, as `push_row` does.
+pub fn push_weight_row(text: &mut Vec<u8>, row: &WeightRow) -> Result<(), AllocError>
+    ensures ok { OnOk result (text.new.items ≡ text.old.items ++ row_line (Weight row.now)) }
+    ensures front { KeepsFront text.old.items text.new.items }
+    ensures utf8 { OnOk result (KeepsUtf8 text.old.items text.new.items) }
+    ensures read { OnOk result (state_line_meaning (row_line (Weight row.now)) ≡ Ok (Row (Weight row.now))) }
+{
+    put_role(text, "{\"role\":\"", &row.role)?;
+    put_weight(text, ",\"row\":\"weight\",\"weight\":\"", row.weight)?;
+    put_byte(text, b'}')
 }

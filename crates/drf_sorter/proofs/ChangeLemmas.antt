@@ -246,14 +246,14 @@ known-found clients path known none =
     (sym (position-none (λ (x : Client). same_path x.path path) clients none)
     ∙ sym (any_ranked (λ c. same_path c.path path) clients) ∙ known)
 
-pub charged_is : (x : Client) (quantities sum : List Entry)
+pub charged_is : (x : Client) (quantities : List Entry) (offers : ℕ) (sum : List Entry)
     → ((label : List ℕ) → amount_of sum label ≡ amount_of x.held label + amount_of quantities label)
-    → ranked (record x { held = sum; count = x.count + 1 }) ≡ charged quantities (ranked x)
-charged_is x quantities sum is = λ i. record {
+    → ranked (record x { held = sum; count = x.count + offers }) ≡ charged quantities offers (ranked x)
+charged_is x quantities offers sum is = λ i. record {
   path = x.path;
   active = x.active;
   held = λ label. is label i;
-  count = x.count + 1;
+  count = x.count + offers;
 }
 
 -- what holds of each client holds of the one that was found

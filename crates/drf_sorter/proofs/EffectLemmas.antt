@@ -11,7 +11,7 @@ use Rattle.drf_sorter.specs.Content.{Ranked, Content, activated, charged, discha
 module _ (path : List (List ℕ)) where
   -- ---- a charge is taken back
 
-  same_client : (quantities : List Entry) (c : Ranked) → discharged quantities (charged quantities c) ≡ c
+  same_client : (quantities : List Entry) (c : Ranked) → discharged quantities (charged quantities 1 c) ≡ c
   same_client quantities c = λ i. record {
     path = c.path;
     active = c.active;
@@ -24,7 +24,7 @@ module _ (path : List (List ℕ)) where
 
   same_clients : (quantities : List Entry) (cs : List Ranked)
       → map (λ c. cond (same_path c.path path) (discharged quantities c) c)
-      (map (λ c. cond (same_path c.path path) (charged quantities c) c) cs)
+      (map (λ c. cond (same_path c.path path) (charged quantities 1 c) c) cs)
       ≡ cs
   same_clients quantities [] = refl
   same_clients quantities (c ∷ cs) = elim (cases_Bool (same_path c.path path)) [
@@ -63,7 +63,7 @@ module _ (path : List (List ℕ)) where
     ]
 
 pub charge_taken_back : (content : Content) (path : List (List ℕ)) (quantities : List Entry)
-    → with_change (with_change content path (charged quantities)) path (discharged quantities) ≡ content
+    → with_change (with_change content path (charged quantities 1)) path (discharged quantities) ≡ content
 charge_taken_back content path quantities =
     ap (λ cs. record { clients = cs; total = content.total; weights = content.weights })
     (same_clients path quantities content.clients)

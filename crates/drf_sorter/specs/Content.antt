@@ -52,11 +52,12 @@ with_change content path change = record content {
 abbrev pub activated : Bool → Ranked → Ranked
 activated active c = record c { active = active }
 
--- a client that was made one more offer, of these quantities
-abbrev pub charged : List Entry → Ranked → Ranked
-charged quantities c = record c { held = λ label. c.held label + amount_of quantities label; count = c.count + 1 }
+-- a client that was made so many more offers, of these quantities
+abbrev pub charged : List Entry → ℕ → Ranked → Ranked
+charged quantities offers c =
+    record c { held = λ label. c.held label + amount_of quantities label; count = c.count + offers }
 
--- a client from which that is taken back
+-- a client from which one offer of these quantities is taken back
 abbrev pub discharged : List Entry → Ranked → Ranked
 discharged quantities c = record c { held = λ label. c.held label - amount_of quantities label; count = c.count - 1 }
 

@@ -285,11 +285,16 @@ impl Sorter for PlainSorter {
     }
 
     #[tactic(auto, using(crate::proofs::ChangeLemmas::distinct_stays, crate::proofs::ChangeLemmas::listed_stays))]
-    fn charge(&mut self, path: &ClientPath, quantities: &Quantities) -> Result<(), AllocError> {
+    fn charge(
+        &mut self,
+        path: &ClientPath,
+        quantities: &Quantities,
+        offers: u64,
+    ) -> Result<(), AllocError> {
         if let Some(at) = self.row_of(path) {
             let client = &mut self.clients[at];
             raise(&mut client.held, quantities)?;
-            client.count += 1;
+            client.count += offers;
         }
         Ok(())
     }

@@ -61,17 +61,23 @@ pub trait Sorter: Sized + Drop {
         ensures made { (work self.new).made ≡ (work self.old).made }
         ensures work { Adds COUNTED (work self.old) (work self.new) 0 };
 
-    /// A client got one more offer, of these quantities.
-    fn charge(&mut self, path: &ClientPath, quantities: &Quantities) -> Result<(), AllocError>
+    /// A client got so many more offers, of these quantities together: one in a cycle, none where a task is put back, and several where a
+    /// client is put back that had offers before.
+    fn charge(
+        &mut self,
+        path: &ClientPath,
+        quantities: &Quantities,
+        offers: u64,
+    ) -> Result<(), AllocError>
         requires known { has_client (content self.old) path.now ≡ true }
-        requires sound { IsSound (with_change (content self.old) path.now (charged quantities.now)) }
-        ensures ok { OnOk result (content self.new ≡ with_change (content self.old) path.now (charged quantities.now)) }
+        requires sound { IsSound (with_change (content self.old) path.now (charged quantities.now offers)) }
+        ensures ok { OnOk result (content self.new ≡ with_change (content self.old) path.now (charged quantities.now offers)) }
         ensures err { OnErr result (content self.new ≡ content self.old) }
         ensures queue { queue self.new ≡ queue self.old }
         ensures made { (work self.new).made ≡ (work self.old).made }
         ensures work { Adds COUNTED (work self.old) (work self.new) (length path.now) };
 
-    /// Takes a charge back.
+    /// Takes a charge of one offer back.
     fn undo_charge(&mut self, path: &ClientPath, quantities: &Quantities)
         requires known { has_client (content self.old) path.now ≡ true }
         requires charged { HasChargeAt (content self.old) path.now quantities.now }

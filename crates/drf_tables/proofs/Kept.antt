@@ -11,9 +11,9 @@ use Rattle.drf_bundle.specs.declared.resource.Resource.{Resource}
 use Rattle.drf_rows.specs.Held.{clients_of, cluster_total}
 use Rattle.drf_rows.specs.Holdings.{Holding, holdings_of, parts_on}
 use Rattle.drf_rows.specs.Members.{has_agent, has_framework}
-use Rattle.drf_rows.specs.Consistent.{IsAgent, IsFramework, IsConsistent, are_distinct_roles}
+use Rattle.drf_rows.specs.Consistent.{IsAgent, IsFramework, IsConsistent, are_distinct_roles, offers_counted}
 use Rattle.drf_rows.specs.laws.ListLaws.{each_append}
-use Rattle.drf_rows.specs.laws.RegistrationLaws.{new_agent, agent_added, framework_added, cluster_total-with_agent, parts_on-nothing, length-clients_of-framework_added, IsConsistent-agent_added, IsConsistent-framework_added}
+use Rattle.drf_rows.specs.laws.RegistrationLaws.{new_agent, agent_added, framework_added, cluster_total-with_agent, parts_on-nothing, length-clients_of-framework_added, IsConsistent-agent_added}
 use Rattle.drf_rows.specs.declared.limits.TheConstants.{LATEST_MOMENT}
 use Rattle.drf_rows.specs.Cycle.{free_of}
 use Rattle.drf_rows.specs.declared.rows.AgentRow.{AgentRow}
@@ -26,6 +26,7 @@ use Rattle.drf_tables.specs.Inside.{agent_row, frees_in, known_after, is_settled
 use Rattle.drf_tables.specs.declared.tables.Agent.{Agent}
 use Rattle.drf_tables.specs.declared.tables.Left.{Left}
 use Rattle.drf_tables.proofs.Counted.{count_clients-counting_all}
+use Rattle.drf_tables.proofs.Registered.{IsConsistent-framework_put}
 use Rattle.drf_tables.proofs.Known.{frees-settled, settled-frees, known-frees, known_after-some}
 
 -- ---- what is held stays, and so do agents and clients
@@ -91,9 +92,9 @@ AreDerived-agent_added rows agents sum number name a kept few new right all =
 pub AreDerived-framework_added : (rows : Rows) (agents : List (Text × Agent)) (sum : List Entry) (number : ℕ) (f : FrameworkRow)
     → AreDerived rows agents sum number → has_framework rows f.name ≡ false → IsFramework f
     → are_distinct_roles (map (λ c. c.role) f.clients) ≡ true
-    → AllByRecursion (λ c. c.count ≡ 0) f.clients → AreDerived (framework_added rows f) agents sum (number + length f.clients)
-AreDerived-framework_added rows agents sum number f kept new valid apart none = record {
-  consistent = IsConsistent-framework_added rows f kept.consistent new valid apart none;
+    → offers_counted (rows.frameworks ++ f ∷ []) < rows.next_offer → AreDerived (framework_added rows f) agents sum (number + length f.clients)
+AreDerived-framework_added rows agents sum number f kept new valid apart counted = record {
+  consistent = IsConsistent-framework_put rows f kept.consistent new valid apart counted;
   free = kept.free;
   total = kept.total;
   clients = ap (λ n. n + length f.clients) kept.clients ∙ sym (length-clients_of-framework_added rows f);

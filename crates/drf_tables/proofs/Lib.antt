@@ -2,6 +2,10 @@ pub mod Entries
 pub mod Appended
 pub mod Known
 pub mod Freed
+pub mod Held
+pub mod Registered
+pub mod Standing
+pub mod PutBack
 pub mod Suppressed
 pub mod Ended
 pub mod Accepted

@@ -26,6 +26,10 @@ joined_free (Some known) part = join known part
 abbrev pub freed : Bool → List Resource → Agent → Agent
 freed kept part a = record a { free = if kept then joined_free a.free part else None }
 
+-- one more part is held there
+abbrev pub with_held : List Resource → Agent → Agent
+with_held part a = record a { free = option_map (λ known. rest known part) a.free }
+
 -- the agent of a name got a part back, or what is free there is not known any more
 pub record HasFreed (name : Text) (part : List Resource) (old new : List (Text × Agent)) : Type 0 where
   pub kept : Bool

@@ -100,10 +100,12 @@ impl Tables {
     }
 
     /// Puts a filter behind the others. An `Err` changes no row.
-    fn add_filter(&mut self, filter: FilterRow) -> Result<(), AllocError>
+    pub fn add_filter(&mut self, filter: FilterRow) -> Result<(), AllocError>
         requires { IsFilter self.old.rows.agents self.old.rows.frameworks filter }
         ensures ok { OnOk result (self.new.rows ≡ record self.old.rows { filters = self.old.rows.filters ++ filter ∷ [] }) }
         ensures err { OnErr result (self.new.rows ≡ self.old.rows) }
+        ensures settled { self.new.settled ≡ self.old.settled }
+        ensures counted { self.new.counted ≡ self.old.counted }
     {
         self.filters.add(filter)
     }

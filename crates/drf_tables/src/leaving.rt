@@ -38,7 +38,9 @@ impl Tables {
 
     /// Makes an agent active or inactive.
     pub fn set_active(&mut self, agent: &Name, active: bool)
-        ensures { self.new.rows ≡ record self.old.rows { agents = with_activity self.old.rows agent.now active } }
+        ensures rows { self.new.rows ≡ record self.old.rows { agents = with_activity self.old.rows agent.now active } }
+        ensures settled { self.new.settled ≡ self.old.settled }
+        ensures counted { self.new.counted ≡ self.old.counted }
     {
         set_active(&mut self.agents, agent, active);
     }

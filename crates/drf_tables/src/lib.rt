@@ -14,9 +14,13 @@ mod members;
 mod moving;
 mod offers;
 mod recounting;
+mod restoring;
+mod room;
 mod settling;
 mod tables;
 
 pub use drf_holdings::Taken;
 pub use drf_rows::Ending;
+pub use restoring::offers_with;
+pub use room::is_too_large;
 pub use tables::{Left, Tables};

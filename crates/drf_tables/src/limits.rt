@@ -57,6 +57,8 @@ impl Tables {
         requires { is_default role ≡ false }
         ensures ok { OnOk result (self.new.rows ≡ record self.old.rows { limits = limits_with self.old.rows.limits role limit }) }
         ensures err { OnErr result (self.new.rows ≡ self.old.rows) }
+        ensures settled { self.new.settled ≡ self.old.settled }
+        ensures counted { self.new.counted ≡ self.old.counted }
     {
         role.recall();
         self.quota.set_limit(role, limit)

@@ -12,7 +12,7 @@ ghost use Rattle.drf_rows.specs.Step.{opening, live_rows};
 ghost use Rattle.drf_rows.specs.Totals.{agent_at};
 ghost use Rattle.drf_rows.specs.Members.{has_agent, has_framework, with_agent};
 ghost use Rattle.drf_rows.specs.Weights.{has_weight, is_weight, weights_with};
-ghost use Rattle.drf_rows.specs.Consistent.{IsConsistent, are_distinct_roles};
+ghost use Rattle.drf_rows.specs.Consistent.{IsConsistent, are_distinct_roles, offers_counted};
 ghost use Rattle.drf_rows.specs.declared.limits.TheConstants.{LARGEST_AMOUNT, LATEST_MOMENT};
 ghost use Rattle.drf_rows.specs.declared.rows.AgentRow.{AgentRow};
 ghost use Rattle.drf_tables.specs.Drafts.{with_offers, frees_of, frees_after};
@@ -119,6 +119,7 @@ impl Tables {
     pub fn new(alloc: Global) -> Tables
         ensures rows { result.rows ≡ opening }
         ensures settled { result.settled ≡ true }
+        ensures counted { result.counted ≡ false }
     {
         Tables {
             agents: IndexMap::new(alloc),
@@ -284,6 +285,7 @@ impl Tables {
         requires few { length self.old.rows.agents < 4096 }
         ensures ok { OnOk result (self.new.rows ≡ record self.old.rows { agents = with_agent self.old.rows name total }) }
         ensures err { OnErr result (self.new.rows ≡ self.old.rows) }
+        ensures settled { self.new.settled ≡ self.old.settled }
         ensures counted { self.new.counted ≡ self.old.counted }
     {
         let sum = self.total.plus(total.quantities())?;
@@ -304,18 +306,23 @@ impl Tables {
     pub fn reserve_framework(&mut self) -> Result<(), AllocError>
         ensures ok { OnOk result (1 ≤ self.new.room) }
         ensures same { self.new.rows ≡ self.old.rows }
+        ensures settled { self.new.settled ≡ self.old.settled }
+        ensures counted { self.new.counted ≡ self.old.counted }
     {
         self.frameworks.reserve(1)
     }
 
-    /// Adds a framework with its clients, to which no offer was made yet. It needs no memory.
+    /// Adds a framework with its clients, to which fewer offers were made than the next number, with those to all others. It needs no
+    /// memory.
     pub fn add_framework(&mut self, name: Name, clients: Table<ClientRow>)
         requires room { 1 ≤ self.old.room }
         requires new { has_framework self.old.rows name ≡ false }
         requires roles { are_distinct_roles (map (λ c. c.role) clients) ≡ true }
-        requires uncounted { AllByRecursion (λ c. c.count ≡ 0) clients }
+        requires counted { offers_counted (self.old.rows.frameworks ++ record { name = name; clients = clients } ∷ []) < self.old.rows.next_offer }
         requires few { length (clients_of self.old.rows) + length clients < 2 ^ 64 }
-        ensures { self.new.rows ≡ record self.old.rows { frameworks = self.old.rows.frameworks ++ record { name = name; clients = clients } ∷ [] } }
+        ensures rows { self.new.rows ≡ record self.old.rows { frameworks = self.old.rows.frameworks ++ record { name = name; clients = clients } ∷ [] } }
+        ensures settled { self.new.settled ≡ self.old.settled }
+        ensures counted { self.new.counted ≡ self.old.counted }
     {
         name.recall();
         recall_roles(clients.as_slice());
@@ -327,6 +334,8 @@ impl Tables {
     pub fn reserve_weight(&mut self) -> Result<(), AllocError>
         ensures ok { OnOk result (1 ≤ self.new.weight_room) }
         ensures same { self.new.rows ≡ self.old.rows }
+        ensures settled { self.new.settled ≡ self.old.settled }
+        ensures counted { self.new.counted ≡ self.old.counted }
     {
         self.weights.reserve(1)
     }
@@ -335,7 +344,9 @@ impl Tables {
     pub fn set_weight(&mut self, role: Role, weight: u64)
         requires room { 1 ≤ self.old.weight_room }
         requires right { is_weight weight ≡ true }
-        ensures { self.new.rows ≡ record self.old.rows { weights = weights_with self.old.rows.weights role weight } }
+        ensures rows { self.new.rows ≡ record self.old.rows { weights = weights_with self.old.rows.weights role weight } }
+        ensures settled { self.new.settled ≡ self.old.settled }
+        ensures counted { self.new.counted ≡ self.old.counted }
     {
         role.recall();
         let _ = self.weights.insert(role, weight).unwrap();

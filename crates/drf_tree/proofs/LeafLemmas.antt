@@ -189,36 +189,37 @@ module _ (content : Content) (tree : Tree) (leaf : ℕ) (of : IsTreeOf content t
         → begins_with path (path_at tree.places.items i) ≡ true
     begins_at i begins = ap (λ (q : Path). begins_with q (path_at tree.places.items i)) (sym at) ∙ begins
 
-    more_below : (i : ℕ) → begins_with (path_at tree.places.items leaf) (path_at tree.places.items i) ≡ true
-        → AreMoved none (of_charged quantities) content (with_change content path (charged quantities)) (path_at tree.places.items i)
-    more_below i begins =
-        changed_below content path (path_at tree.places.items i) (charged quantities) (λ c. refl) none (of_charged quantities) refl
+    more_below : (offers : ℕ) (i : ℕ) → begins_with (path_at tree.places.items leaf) (path_at tree.places.items i) ≡ true
+        → AreMoved none (of_charged quantities offers) content (with_change content path (charged quantities offers)) (path_at tree.places.items i)
+    more_below offers i begins =
+        changed_below content path (path_at tree.places.items i) (charged quantities offers) (λ c. refl) none (of_charged quantities offers) refl
         (begins_at i begins) of.distinct has
-        (each_all (λ (c : Ranked). same_path c.path path ≡ true → IsChange none (of_charged quantities) c (charged quantities c))
+        (each_all (λ (c : Ranked). same_path c.path path ≡ true → IsChange none (of_charged quantities offers) c (charged quantities offers c))
         (λ c same. record { held = λ label. omega arith; count = omega arith; active = refl }) content.clients)
 
-    pub room : IsSound (with_change content path (charged quantities)) → HasRoomFor tree leaf quantities
+    pub room : (offers : ℕ) → IsSound (with_change content path (charged quantities offers))
+        → HasRoomFor tree leaf quantities offers
     unfolding standing_in
-    room sound = record {
+    room offers sound = record {
       live = live;
       held = λ i s on there label.
           let way = live_on_way tree.places.items leaf i on in
-          let more = (more_below i way.1).held label in
+          let more = (more_below offers i way.1).held label in
           let is = (of.sums i s way.0 there).held label in
           let within = sound.held label in
           let fits = sound.total label in
           let part =
           part_less (λ (c : Ranked). c.held label) (λ (c : Ranked). begins_with c.path (path_at tree.places.items i))
-          (with_change content path (charged quantities)).clients in
+          (with_change content path (charged quantities offers)).clients in
           omega (arith, is, more, part, within, fits);
       count = λ i s on there.
           let way = live_on_way tree.places.items leaf i on in
-          let more = (more_below i way.1).count in
+          let more = (more_below offers i way.1).count in
           let is = (of.sums i s way.0 there).count in
           let fits = sound.count in
           let part =
           part_less (λ (c : Ranked). c.count) (λ (c : Ranked). begins_with c.path (path_at tree.places.items i))
-          (with_change content path (charged quantities)).clients in
+          (with_change content path (charged quantities offers)).clients in
           omega (arith, is, more, part, fits);
     }
 

@@ -27,11 +27,11 @@ abbrev pub OnWay : Tree → ℕ → (Sum → Type 0) → Type 0
 OnWay tree leaf P =
     (i : ℕ) (sum : Sum) → is_on_way tree leaf i ≡ true → slice_get tree.sums.items i ≡ Some sum → P sum
 
--- so much more, and one offer more, fit into each of them
-pub record HasRoomFor (tree : Tree) (leaf : ℕ) (quantities : List Entry) : Type 0 where
+-- so much more, and so many offers more, fit into each of them
+pub record HasRoomFor (tree : Tree) (leaf : ℕ) (quantities : List Entry) (offers : ℕ) : Type 0 where
   pub live : is_live tree.places.items leaf ≡ true
   pub held : OnWay tree leaf (λ s. (label : Text) → amount_of s.held label + amount_of quantities label < 2 ^ 64)
-  pub count : OnWay tree leaf (λ s. s.count + 1 < 2 ^ 64)
+  pub count : OnWay tree leaf (λ s. s.count + offers < 2 ^ 64)
 
 -- each of them holds so much, and was made so many offers
 pub record IsLowerable (tree : Tree) (leaf : ℕ) (quantities : List Entry) (offers : ℕ) : Type 0 where

@@ -38,12 +38,12 @@ impl Tree {
         Ok(())
     }
 
-    /// The nodes from this one up, which name all its labels, hold so much more, and were made one more offer.
-    pub(crate) fn charge(&mut self, leaf: usize, quantities: &Quantities)
+    /// The nodes from this one up, which name all its labels, hold so much more, and were made so many more offers.
+    pub(crate) fn charge(&mut self, leaf: usize, quantities: &Quantities, offers: u64)
         requires shape { IsShapeOf self.old }
-        requires room { HasRoomFor self.old leaf quantities.now }
+        requires room { HasRoomFor self.old leaf quantities.now offers }
         requires named { OnWay self.old leaf (λ s. names_all s.held quantities.now ≡ true) }
-        ensures tree { (content : Content) (path : Path) → IsTreeOf content self.old → client_at self.old.places.items leaf ≡ Some path → has_client content path ≡ true → IsTreeOf (with_change content path (charged quantities.now)) self.new }
+        ensures tree { (content : Content) (path : Path) → IsTreeOf content self.old → client_at self.old.places.items leaf ≡ Some path → has_client content path ≡ true → IsTreeOf (with_change content path (charged quantities.now offers)) self.new }
         ensures places { self.new.places ≡ self.old.places }
         ensures families { self.new.families ≡ self.old.families }
         ensures made { self.new.marks.made ≡ self.old.marks.made }
@@ -54,7 +54,7 @@ impl Tree {
         while node != ROOT {
             let sum = &mut self.sums[node];
             sum.held.raise(quantities);
-            sum.count += 1;
+            sum.count += offers;
             self.marks.mark(node);
             node = self.parent(node);
         }

@@ -102,15 +102,20 @@ impl Sorter for TreeSorter {
         self.tree.set_active(node, active);
     }
 
-    fn charge(&mut self, path: &ClientPath, quantities: &Quantities) -> Result<(), AllocError> {
+    fn charge(
+        &mut self,
+        path: &ClientPath,
+        quantities: &Quantities,
+        offers: u64,
+    ) -> Result<(), AllocError> {
         let known = leaf_at(&self.leaves, self.ledger.row_of(path));
         let Some(node) = self.tree.leaf(known, path) else {
             return Ok(());
         };
         self.is_total_free = false;
         self.tree.name_labels(node, quantities)?;
-        self.ledger.charge(path, quantities)?;
-        self.tree.charge(node, quantities);
+        self.ledger.charge(path, quantities, offers)?;
+        self.tree.charge(node, quantities, offers);
         Ok(())
     }
 

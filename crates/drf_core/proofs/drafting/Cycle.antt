@@ -13,7 +13,7 @@ use Rattle.drf_rows.specs.declared.rows.OfferRow.{OfferRow}
 use Rattle.drf_rows.specs.declared.rows.Rows.{Rows}
 use Rattle.drf_tables.specs.Drafts.{with_offers}
 use Rattle.drf_sorter.specs.Content.{Content}
-use Rattle.drf_core.specs.Content.{content_of}
+use Rattle.drf_content.specs.Content.{content_of}
 use Rattle.drf_laws.specs.Kept.{IsKept}
 use Rattle.drf_core.specs.Drafting.{IsDrafting, turn_at, turns_of}
 use Rattle.drf_gates.specs.Quota.{Allowance}

@@ -13,9 +13,9 @@ use Rattle.drf_rows.specs.declared.rows.OfferRow.{OfferRow}
 use Rattle.drf_rows.specs.declared.rows.Rows.{Rows}
 use Rattle.drf_sorter.specs.Content.{Content, with_change, charged, discharged, has_client, HasChargeAt}
 use Rattle.drf_tables.specs.Drafts.{with_offers}
-use Rattle.drf_core.specs.Content.{content_of}
-use Rattle.drf_core.proofs.content.Offer.{content_of-with_offer, discharged-with_change, HasChargeAt-charged}
-use Rattle.drf_core.proofs.content.Members.{has_client-registered}
+use Rattle.drf_content.specs.Content.{content_of}
+use Rattle.drf_content.specs.laws.Offer.{content_of-with_offer, discharged-with_change, HasChargeAt-charged}
+use Rattle.drf_content.specs.laws.Members.{has_client-registered}
 
 -- ---- what offers leave as it is
 
@@ -41,7 +41,7 @@ module _ (content : Content) (rows : Rows) (offers drafts : List OfferRow) (offe
   sorted_last : content ≡ content_of (with_offer (with_offers rows drafts) offer)
   sorted_last = sorted ∙ ap (λ (os : List OfferRow). content_of (with_offers rows os)) is ∙ ap content_of (with_offers-push rows drafts offer)
 
-  charged_last : content ≡ with_change (content_of (with_offers rows drafts)) (path_of (of_offer offer).client) (charged (quantities_of offer.bundle))
+  charged_last : content ≡ with_change (content_of (with_offers rows drafts)) (path_of (of_offer offer).client) (charged (quantities_of offer.bundle) 1)
   charged_last = sorted_last ∙ content_of-with_offer (with_offers rows drafts) offer
 
   each_front : (P : OfferRow → Type 0) (xs : List OfferRow) (x : OfferRow) → AllByRecursion P (xs ++ x ∷ []) → AllByRecursion P xs × P x

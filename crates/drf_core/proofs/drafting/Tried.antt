@@ -22,15 +22,15 @@ use Rattle.drf_rows.specs.declared.rows.OfferRow.{OfferRow}
 use Rattle.drf_rows.specs.declared.rows.Rows.{Rows}
 use Rattle.drf_sorter.specs.Content.{Content, with_change, charged, has_client, IsSound}
 use Rattle.drf_tables.specs.Drafts.{with_offers}
-use Rattle.drf_core.specs.Content.{content_of}
+use Rattle.drf_content.specs.Content.{content_of}
 use Rattle.drf_core.specs.Drafting.{IsDrafting, CanCount, IsRegisteredPath, IsFreeAt, IsTried}
 use Rattle.drf_core.specs.Entitling.{IsQuotaOf}
 use Rattle.drf_core.proofs.drafting.Granted.{can_count}
 use Rattle.drf_tables.specs.DraftLaws.{agents-with_offers, next-with_offers}
 use Rattle.drf_core.proofs.drafting.Drafts.{with_offers-push, is_registered-with_offers}
-use Rattle.drf_core.proofs.content.Offer.{content_of-with_offer}
-use Rattle.drf_core.proofs.content.Members.{has_client-registered}
-use Rattle.drf_core.proofs.content.Sound.{IsSound-content_of}
+use Rattle.drf_content.specs.laws.Offer.{content_of-with_offer}
+use Rattle.drf_content.specs.laws.Members.{has_client-registered}
+use Rattle.drf_content.specs.laws.Sound.{IsSound-content_of}
 use Rattle.drf_rows.specs.laws.ConsistentLaws.{bundles-consistent, IsConsistent-with_offer}
 use Rattle.drf_laws.specs.TurnLaws.{IsPart}
 use Rattle.drf_laws.specs.laws.Turns.{grant-part}
@@ -58,10 +58,10 @@ module _ (content : Content) (rows : Rows) (offers : List OfferRow) (drafting : 
   consistent_after =
       IsConsistent-with_offer (with_offers rows offers) agent place client bundle drafting.consistent at_now known_now part_now.bundle_is part_now.small
 
-  charged_after : with_change content (path_of client) (charged (quantities_of bundle))
+  charged_after : with_change content (path_of client) (charged (quantities_of bundle) 1)
       ≡ content_of (with_offer (with_offers rows offers) (next_draft rows offers agent client bundle))
   charged_after =
-      ap (λ (c : Content). with_change c (path_of client) (charged (quantities_of bundle))) drafting.sorted
+      ap (λ (c : Content). with_change c (path_of client) (charged (quantities_of bundle) 1)) drafting.sorted
       ∙ sym (content_of-with_offer (with_offers rows offers) (next_draft rows offers agent client bundle))
 
   few_after : length (with_offer (with_offers rows offers) (next_draft rows offers agent client bundle)).agents ≤ 4096
@@ -80,7 +80,7 @@ module _ (content : Content) (rows : Rows) (offers : List OfferRow) (drafting : 
   has_client-now =
       ap (λ (c : Content). has_client c (path_of client)) drafting.sorted ∙ has_client-registered (with_offers rows offers) client known_now
 
-  pub sound_after : IsSound (with_change content (path_of client) (charged (quantities_of bundle)))
+  pub sound_after : IsSound (with_change content (path_of client) (charged (quantities_of bundle) 1))
   sound_after =
       subst IsSound (sym charged_after)
       (IsSound-content_of (with_offer (with_offers rows offers) (next_draft rows offers agent client bundle)) consistent_after few_after early_after)
@@ -89,7 +89,7 @@ module _ (content : Content) (rows : Rows) (offers : List OfferRow) (drafting : 
   each_push P [] x all here = (here, tt)
   each_push P (y ∷ xs) x all here = (all.0, each_push P xs x all.1 here)
 
-  pub drafting_after : (after : Content) → after ≡ with_change content (path_of client) (charged (quantities_of bundle))
+  pub drafting_after : (after : Content) → after ≡ with_change content (path_of client) (charged (quantities_of bundle) 1)
       → IsDrafting after rows (offers ++ next_draft rows offers agent client bundle ∷ [])
   drafting_after after charge =
       let offer : OfferRow = next_draft rows offers agent client bundle in
@@ -178,14 +178,14 @@ module _ (content : Content) (rows : Rows) (offers : List OfferRow) (drafting : 
   pub known_next : has_client content path ≡ true
   known_next = rw next.joined (has_client-now content rows offers drafting place next.agent next.at next.client next.known bundle next.granted fits)
 
-  pub sound_next : IsSound (with_change content path (charged (quantities_of bundle)))
+  pub sound_next : IsSound (with_change content path (charged (quantities_of bundle) 1))
   sound_next = rw next.joined (sound_after content rows offers drafting place next.agent next.at next.client next.known bundle next.granted fits)
 
-  pub drafting_next : (after : Content) → after ≡ with_change content path (charged (quantities_of bundle)) → IsDrafting after rows (offers ++ row ∷ [])
+  pub drafting_next : (after : Content) → after ≡ with_change content path (charged (quantities_of bundle) 1) → IsDrafting after rows (offers ++ row ∷ [])
   drafting_next after charge =
       rw next.made
       (drafting_after content rows offers drafting place next.agent next.at next.client next.known bundle next.granted fits after
-      (charge ∙ ap (λ (p : Path). with_change content p (charged (quantities_of bundle))) next.joined))
+      (charge ∙ ap (λ (p : Path). with_change content p (charged (quantities_of bundle) 1)) next.joined))
 
   pub can_count_next : (quota : Option Allowance) → IsQuotaOf (with_offers rows offers) quota → CanCount quota row
   can_count_next quota counted =

@@ -25,8 +25,8 @@ use Rattle.drf_core.specs.Drafting.{IsDrafting, IsFreeAt, IsRegisteredPath, IsTr
 use Rattle.drf_sorter.specs.Content.{Content, IsSound, IsOrderOf}
 use Rattle.drf_tables.specs.DraftLaws.{agents-with_offers, next-with_offers}
 use Rattle.drf_core.proofs.drafting.Drafts.{is_registered-with_offers}
-use Rattle.drf_core.proofs.content.Sound.{IsSound-content_of}
-use Rattle.drf_core.proofs.content.Order.{IsOrderOf-turn_order}
+use Rattle.drf_content.specs.laws.Sound.{IsSound-content_of}
+use Rattle.drf_content.specs.laws.Order.{IsOrderOf-turn_order}
 use Rattle.drf_laws.specs.laws.Turns.{turn_order-registered, free_of-all_tried_other}
 
 -- ---- lists

@@ -24,12 +24,12 @@ use Rattle.drf_tables.specs.Ended.{HasEnded}
 use Rattle.drf_rows.specs.Client.{path_of}
 use Rattle.drf_holdings.specs.Stored.{holding_of}
 use Rattle.drf_holdings.specs.declared.holdings.Taken.{Taken}
-use Rattle.drf_core.specs.Content.{content_of}
-use Rattle.drf_core.specs.Registering.{AreKnown, client_paths, without_all}
-use Rattle.drf_core.proofs.content.Ended.{GaveBack, content_of-gave_back, HoldsAt-gave_back}
-use Rattle.drf_core.proofs.content.Changed.{content_of-filters, content_of-activity, content_of-suppression, content_of-agent_removed}
-use Rattle.drf_core.proofs.content.Members.{has_client-registered}
-use Rattle.drf_core.proofs.content.Removed.{AreKnown-removing, content_of-framework_removed}
+use Rattle.drf_content.specs.Content.{content_of}
+use Rattle.drf_content.specs.Registering.{AreKnown, client_paths, without_all}
+use Rattle.drf_content.specs.laws.Ended.{GaveBack, content_of-gave_back, HoldsAt-gave_back}
+use Rattle.drf_content.specs.laws.Changed.{content_of-filters, content_of-activity, content_of-suppression, content_of-agent_removed}
+use Rattle.drf_content.specs.laws.Members.{has_client-registered}
+use Rattle.drf_content.specs.laws.Removed.{AreKnown-removing, content_of-framework_removed}
 use Rattle.drf_laws.specs.laws.Endings.{ended_twice}
 
 -- ---- one holding ended

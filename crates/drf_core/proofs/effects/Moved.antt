@@ -26,7 +26,7 @@ use Rattle.drf_rows.specs.declared.rows.LimitRow.{LimitRow}
 use Rattle.drf_rows.specs.declared.rows.Rows.{Rows}
 use Rattle.drf_sorter.specs.Content.{Content}
 use Rattle.drf_tables.specs.Changing.{CanExchangeOn, CanHaveTotal}
-use Rattle.drf_core.specs.Content.{content_of}
+use Rattle.drf_content.specs.Content.{content_of}
 use Rattle.drf_core.specs.Refusing.{early_cases_of, late_cases_of}
 use Rattle.drf_laws.specs.laws.Welcome.{no_case_of, small_amounts}
 

@@ -13,10 +13,10 @@ use Rattle.drf_rows.specs.declared.event.Event.TheVariants.{AddAgent, AddFramewo
 use Rattle.drf_rows.specs.declared.rows.ClientRow.{ClientRow}
 use Rattle.drf_rows.specs.declared.rows.Rows.{Rows}
 use Rattle.drf_sorter.specs.Content.{Content}
-use Rattle.drf_core.specs.Content.{content_of}
-use Rattle.drf_core.specs.Registering.{client_paths, with_all}
-use Rattle.drf_core.proofs.content.Members.{content_of-with_agent}
-use Rattle.drf_core.proofs.content.Registered.{content_of-registered}
+use Rattle.drf_content.specs.Content.{content_of}
+use Rattle.drf_content.specs.Registering.{client_paths, with_all}
+use Rattle.drf_content.specs.laws.Members.{content_of-with_agent}
+use Rattle.drf_content.specs.laws.Registered.{content_of-registered}
 
 -- ---- one more agent
 

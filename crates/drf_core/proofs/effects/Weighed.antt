@@ -6,7 +6,7 @@ use Rattle.drf_rows.specs.Weights.{weights_with}
 use Rattle.drf_rows.specs.declared.event.Event.TheVariants.{SetWeight}
 use Rattle.drf_rows.specs.declared.rows.Rows.{Rows}
 use Rattle.drf_sorter.specs.Content.{Content, with_weight}
-use Rattle.drf_core.specs.Content.{content_of}
+use Rattle.drf_content.specs.Content.{content_of}
 
 pub effect-weight : (rows tables : Rows) (role : Path) (weight : ℕ)
     → tables ≡ record rows { weights = weights_with rows.weights role weight } → tables ≡ effect rows (SetWeight role weight)

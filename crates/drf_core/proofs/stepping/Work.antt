@@ -22,7 +22,7 @@ use Rattle.drf_rows.specs.declared.rows.Rows.{Rows}
 use Rattle.drf_tables.specs.Ended.{HasEnded}
 use Rattle.drf_holdings.specs.Stored.{holding_of}
 use Rattle.drf_holdings.specs.declared.holdings.Taken.{Taken}
-use Rattle.drf_core.specs.Registering.{client_paths}
+use Rattle.drf_content.specs.Registering.{client_paths}
 use Rattle.drf_core.specs.Working.{nodes_of, offered_to, losers}
 use Rattle.drf_core.proofs.drafting.Cycle.{begins_at}
 

@@ -44,12 +44,12 @@ use Rattle.drf_laws.specs.laws.Bounds.{fewer_in_force, in_force_later, one_more_
 use Rattle.drf_laws.specs.laws.Runs.{IsConsistent-after}
 
 -- what is not said of the tables by `IsKept`
-record AreBounded (most : LimitNumbers) (rows : Rows) : Type 0 where
-  roles : AllByRecursion (λ f. length f.clients ≤ most.roles) rows.frameworks
-  filters : number_in_force rows.clock rows.filters ≤ most.filters
-  limits : length rows.limits ≤ most.limits
-  names : length (cluster_total rows.agents) ≤ most.scalar_names
-  names_of_each : AllByRecursion (λ l. length l.limit ≤ most.scalar_names) rows.limits
+pub record AreBounded (most : LimitNumbers) (rows : Rows) : Type 0 where
+  pub roles : AllByRecursion (λ f. length f.clients ≤ most.roles) rows.frameworks
+  pub filters : number_in_force rows.clock rows.filters ≤ most.filters
+  pub limits : length rows.limits ≤ most.limits
+  pub names : length (cluster_total rows.agents) ≤ most.scalar_names
+  pub names_of_each : AllByRecursion (λ l. length l.limit ≤ most.scalar_names) rows.limits
 
 module _ (most : LimitNumbers) (rows : Rows) (bounded : AreBounded most rows) where
   -- ---- tables that change alone
@@ -235,9 +235,9 @@ module _ (most : LimitNumbers) (rows : Rows) (bounded : AreBounded most rows) wh
 
 -- ---- a step, and a run
 
-record Stands (limits : LimitNumbers) (rows : Rows) : Type 0 where
-  kept : IsKept limits rows
-  bounded : AreBounded limits rows
+pub record Stands (limits : LimitNumbers) (rows : Rows) : Type 0 where
+  pub kept : IsKept limits rows
+  pub bounded : AreBounded limits rows
 
 stands_after : (limits : LimitNumbers) (rows : Rows) (event : Event) → IsGiven event → Stands limits rows → Stands limits (rows_after limits rows event)
 stands_after limits rows event given stands = by (refusal_of limits rows event) refl
@@ -264,7 +264,7 @@ stands_after limits rows event given stands = by (refusal_of limits rows event) 
         }
     by (Some refusal) refused = subst (Stands limits) (sym (rows_after-refused limits rows event refusal refused)) stands
 
-run_stands : (limits : LimitNumbers) (rows : Rows) (events : List Event) → AreGiven events → Stands limits rows
+pub run_stands : (limits : LimitNumbers) (rows : Rows) (events : List Event) → AreGiven events → Stands limits rows
     → Stands limits (rows_after_all limits rows events)
 run_stands limits rows [] given stands = stands
 run_stands limits rows (event ∷ events) given stands =

@@ -30,7 +30,7 @@ three_clients =
     (with_client (with_client (record empty { total = cpus 8000 }) client_of_eng) client_of_eng_web) client_of_ops
 
 abbrev pub with_charge : Path → ℕ → Content → Content
-with_charge path amount content = with_change content path (charged (cpus amount))
+with_charge path amount content = with_change content path (charged (cpus amount) 1)
 
 -- each was made one offer
 abbrev pub three_charges : Content

@@ -75,11 +75,11 @@ ClientsHaveDefaultWeight =
     → IsConsistent rows
     → (weight_of rows.weights (role ++ codes "." ∷ []) ≡ 1000) × (weight_of rows.weights (client_path role framework) ≡ 1000)
 
--- a charge that is taken back leaves all as it was
+-- a charge of one offer that is taken back leaves all as it was
 abbrev pub UndoneChargeChangesNothing : Type 0
 UndoneChargeChangesNothing =
     (content : Content) (path : Path) (quantities : List Entry)
-    → with_change (with_change content path (charged quantities)) path (discharged quantities) ≡ content
+    → with_change (with_change content path (charged quantities 1)) path (discharged quantities) ≡ content
 
 -- a client that is suppressed, or is not any more, counts as before in all shares and counts
 abbrev pub SuppressedCounts : Type 0

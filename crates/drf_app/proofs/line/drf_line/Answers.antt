@@ -3,25 +3,26 @@ use Rattle.std.proofs.lemmas.Result.{IfOk-weaker}
 use Rattle.clap.specs.Words.{App, app_of, new_app, with_subcommand}
 use Rattle.clap.specs.Simple.{app_of_fields, on_top}
 use Rattle.drf_app.specs.Line.{drf_top}
-use Rattle.drf_app.proofs.Words.{local}
+use Rattle.drf_told.proofs.Words.{local}
 use Rattle.drf_app.proofs.line.drf_line.Goals as goal
 
 pub returns : goal.returns
 returns c =
-    let named : app_of c.about.result ≡ new_app (codes "drf") = ap app_of_fields c.about.ensures ∙ c.new.ensures.app in
+    let named : app_of c.after_help.result ≡ new_app (codes "drf") =
+    ap app_of_fields c.after_help.ensures ∙ (ap app_of_fields c.about.ensures ∙ c.new.ensures.app) in
     let versioned = ap app_of_fields c.version.ensures ∙ ap (on_top (λ s. record s { has_version = true })) named in
     let required = ap app_of_fields c.subcommand_required.ensures ∙ ap (on_top (λ s. record s { subcommand_required = true })) versioned in
     let top : app_of c.disable_help_subcommand.result ≡ on_top drf_top (new_app (codes "drf")) =
     ap app_of_fields c.disable_help_subcommand.ensures ∙ ap (on_top (λ s. record s { disable_help_subcommand = true })) required in
     let with_run = c.in_ok-subcommand.ensures.shape (local c.in_ok-run.run' (ap (λ (a : App). a.top.is_plain) c.in_ok-run.ensures))
     ∙ ap₂ with_subcommand top (ap (λ (a : App). a.top) c.in_ok-run.ensures) in
-    let with_check = c.in_ok-subcommand-2.ensures.shape (local c.check_line-check.result (ap (λ (a : App). a.top.is_plain) c.check_line-check.ensures))
-    ∙ ap₂ with_subcommand with_run (ap (λ (a : App). a.top) c.check_line-check.ensures) in
-    let with_audit = c.in_ok-subcommand-3.ensures.shape (local c.audit_line-audit.result (ap (λ (a : App). a.top.is_plain) c.audit_line-audit.ensures))
-    ∙ ap₂ with_subcommand with_check (ap (λ (a : App). a.top) c.audit_line-audit.ensures) in
+    let with_check = c.in_ok-subcommand-2.ensures.shape (local c.in_ok-check.check (ap (λ (a : App). a.top.is_plain) c.in_ok-check.ensures))
+    ∙ ap₂ with_subcommand with_run (ap (λ (a : App). a.top) c.in_ok-check.ensures) in
+    let with_audit = c.in_ok-subcommand-3.ensures.shape (local c.in_ok-audit.audit (ap (λ (a : App). a.top.is_plain) c.in_ok-audit.ensures))
+    ∙ ap₂ with_subcommand with_check (ap (λ (a : App). a.top) c.in_ok-audit.ensures) in
     let with_explain = c.in_ok-subcommand-4.ensures.shape (local c.in_ok-explain.explain (ap (λ (a : App). a.top.is_plain) c.in_ok-explain.ensures))
     ∙ ap₂ with_subcommand with_audit (ap (λ (a : App). a.top) c.in_ok-explain.ensures) in
     IfOk-weaker c.subcommand-5.result _ _
-    (λ line added. added.shape (local c.in_ok-drive.drive (ap (λ (a : App). a.top.is_plain) c.in_ok-drive.ensures))
-    ∙ ap₂ with_subcommand with_explain (ap (λ (a : App). a.top) c.in_ok-drive.ensures))
+    (λ line added. added.shape (local c.in_ok-save.save (ap (λ (a : App). a.top.is_plain) c.in_ok-save.ensures))
+    ∙ ap₂ with_subcommand with_explain (ap (λ (a : App). a.top) c.in_ok-save.ensures))
     c.subcommand-5.ensures

@@ -10,7 +10,7 @@ use Rattle.drf_core.specs.Entitling.{IsQuotaOf}
 use Rattle.drf_tables.specs.DraftLaws.{next-with_offers, with_offers-added}
 use Rattle.drf_tables.specs.Drafts.{with_offers}
 use Rattle.drf_core.proofs.drafting.Cycle.{counts_all, is_counting, new_offers-drafts}
-use Rattle.drf_core.specs.Content.{content_of}
+use Rattle.drf_content.specs.Content.{content_of}
 use Rattle.drf_core.proofs.drafting.Closed.{no_offers}
 use Rattle.drf_core.proofs.cycle.offer_all.Goals as goal
 

@@ -72,8 +72,8 @@ returns-clause-drafting g c =
     let content = g.S.Sorter.content c.args.sorter.now in
     let items : c.push_reserved.new.self.items ≡ c.args.drafts.now.offers.items ++ c.in_ok-offer.offer ∷ [] =
     c.push_reserved.ensures.items ∙ ap (λ os. os ++ c.in_ok-offer.offer ∷ []) c.reserve.ensures.items in
-    let charge : g.S.Sorter.content c.charge.new.self ≡ with_change content c.in_ok-client.client (charged (quantities_of c.in-Some-granted.bundle)) =
-    c.in_ok-charge.ensures.ok ∙ ap (λ q. with_change content c.in_ok-client.client (charged q)) (bundle_at g (goal.at.returns-clause-drafting g c).After-quantities) in
+    let charge : g.S.Sorter.content c.charge.new.self ≡ with_change content c.in_ok-client.client (charged (quantities_of c.in-Some-granted.bundle) 1) =
+    c.in_ok-charge.ensures.ok ∙ ap (λ q. with_change content c.in_ok-client.client (charged q 1)) (bundle_at g (goal.at.returns-clause-drafting g c).After-quantities) in
     rw items
     (drafting_next content c.args.tables.now.rows c.args.drafts.now.offers.items c.requires.drafting c.args.place c.in_ok-client.client
     c.args.free.now.bundle c.in-Some-granted.bundle c.in_ok-offer.offer (next_at g b) (fits_at g b) (g.S.Sorter.content c.charge.new.self) charge)

@@ -3,7 +3,7 @@ use Rattle.std.specs.Prelude.{sum_by}
 use Rattle.std.proofs.lemmas.List.Sums.{sum_by-cons}
 use Rattle.drf_role.specs.Path.{Path}
 use Rattle.drf_sorter.specs.Content.{Content, has_client, with_client, without_client}
-use Rattle.drf_core.proofs.content.Registered.{has_client-added, without-added, first_new}
+use Rattle.drf_content.specs.laws.Registered.{has_client-added, without-added, first_new}
 use Rattle.drf_core.proofs.frameworks.+add_clients.Goals as goal
 
 pub remove-requires : goal.remove-requires

@@ -1,5 +1,5 @@
 use Rattle.std.proofs.Common.{◌≡◌, take}
-use Rattle.drf_core.specs.Registering.{client_paths}
+use Rattle.drf_content.specs.Registering.{client_paths}
 use Rattle.drf_core.proofs.frameworks.client_paths.Given as goal
 
 abbrev pub invariant-loop-client : goal.invariant-loop-client

@@ -1,8 +1,8 @@
 use Rattle.std.proofs.Common.{◌+◌, length, drop, refl, sym, ap, subst, ◌∙◌, arith}
 use Rattle.std.proofs.lemmas.Option.{slice_get_read}
 use Rattle.drf_sorter.specs.Content.{Content}
-use Rattle.drf_core.specs.Registering.{AreKnown, without_all}
-use Rattle.drf_core.proofs.content.Known.{first_known}
+use Rattle.drf_content.specs.Registering.{AreKnown, without_all}
+use Rattle.drf_core.proofs.effects.Known.{first_known}
 use Rattle.drf_core.proofs.stepping.Work.{sum_at}
 use Rattle.drf_core.proofs.frameworks.remove_clients.Goals as goal
 

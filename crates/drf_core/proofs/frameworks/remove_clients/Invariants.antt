@@ -1,7 +1,7 @@
 use Rattle.std.proofs.Common.{◌≡◌, ◌+◌, ◌≤◌, IsTrue, drop, length}
 use Rattle.std.specs.Prelude.{sum_by}
 use Rattle.drf_sorter.specs.Work.{debt}
-use Rattle.drf_core.specs.Registering.{AreKnown, without_all}
+use Rattle.drf_content.specs.Registering.{AreKnown, without_all}
 use Rattle.drf_core.proofs.frameworks.remove_clients.Given as goal
 
 -- those that are left are known, and without them the sorter holds what it is to hold

@@ -4,7 +4,7 @@ use Rattle.std.proofs.lemmas.List.{take_more, take_more_set, take_all, map-appen
 use Rattle.drf_role.specs.Path.{Path}
 use Rattle.drf_rows.specs.Members.{distinct}
 use Rattle.drf_laws.specs.laws.Roles.{is_role, distinct-known, distinct-new, distinct-grows}
-use Rattle.drf_core.proofs.content.Registered.{list_any-seen}
+use Rattle.drf_content.specs.laws.Registered.{list_any-seen}
 use Rattle.drf_core.proofs.refusal.count_roles.Goals as goal
 
 abbrev now_of : Bor Path → Path

@@ -1,7 +1,8 @@
 use Rattle.std.proofs.Common.{◌≡◌, ℕ, ◌+◌, List, [], ◌∷◌, ◌++◌, map, take, ◌∙◌, sym, subst}
 use Rattle.std.specs.Global.{Vec}
 use Rattle.std.proofs.lemmas.Result.{err_from_is_err_and}
-use Rattle.drf_drive.specs.Files.{Known, AreContents, IsFileFault, MayHave, bytes_of}
+use Rattle.drf_files.specs.Files.{Known, IsFileFault, MayHave}
+use Rattle.drf_drive.specs.Files.{AreContents, bytes_of}
 use Rattle.drf_drive.proofs.Contents.{contents-fault, contents-next}
 use Rattle.drf_drive.proofs.files.read_files.Goals as goal
 

@@ -17,22 +17,22 @@ loop-turn-init g c = record {
 }
 
 pub returns-then-count-eq0-clause-verdict : goal.returns-then-count-eq0-clause-verdict
-returns-then-count-eq0-clause-verdict g c = λ limits begun.
+returns-then-count-eq0-clause-verdict g c = λ start begun.
     let bytes = rw c.if-count-eq0.true at c.in-Ok.ensures.bytes in
     let some : 0 < length c.read.new.buf = let a = c.read.auto.buf in let b = c.loop-turn.invariant.chunk in
     omega arith in
-    reading-ends _ _ _ _ _ c.loop-turn.invariant.reading c.verdict.result limits bytes.0 (bytes.1 refl some)
+    reading-ends _ _ _ _ _ c.loop-turn.invariant.reading c.verdict.result start bytes.0 (bytes.1 refl some)
     c.verdict.ensures begun
 
 pub returns-then-not-right-clause-verdict : goal.returns-then-not-right-clause-verdict
-returns-then-not-right-clause-verdict g c = λ limits begun.
+returns-then-not-right-clause-verdict g c = λ start begun.
     let piece = take c.in-Ok.count c.read.new.buf in
     let next = c.take.new.self in
     let checked : HasChecked piece c.loop-turn.checker next false =
     subst (HasChecked piece c.loop-turn.checker next) c.if-not-right.true c.in_ok-right.ensures.checked in
-    subst (λ (n : ℕ). IfSome (g.R.Read.remaining c.args.reader.now.inner) (λ journal. IsVerdict limits journal (Bad n)))
+    subst (λ (n : ℕ). IfSome (g.R.Read.remaining c.args.reader.now.inner) (λ journal. IsVerdict start journal (Bad n)))
     (sym c.reply_line.ensures)
-    (reading-wrong _ _ _ _ _ c.loop-turn.invariant.reading piece next limits c.in-Ok.ensures.bytes.0 checked begun)
+    (reading-wrong _ _ _ _ _ c.loop-turn.invariant.reading piece next start c.in-Ok.ensures.bytes.0 checked begun)
 
 pub loop-turn-preserved : goal.loop-turn-preserved
 loop-turn-preserved g c =

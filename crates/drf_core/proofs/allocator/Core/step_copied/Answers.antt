@@ -6,7 +6,10 @@ use Rattle.drf_rows.specs.declared.rows.Rows.{Rows}
 use Rattle.drf_laws.specs.Kept.{IsKept}
 use Rattle.drf_core.specs.Machine.{Engine, IsSafe}
 use Rattle.drf_core.specs.Refusing.{early_refusal_of}
+use Rattle.drf_core.specs.Keeping.{IsStanding}
 use Rattle.drf_core.proofs.stepping.Safe.{safe_kept}
+use Rattle.drf_core.proofs.stepping.Saveable.{saveable_after, standing_as}
+use Rattle.drf_saved_laws.specs.SavedLaws.{IsSaveable}
 use Rattle.drf_laws.specs.laws.Welcome.{room_for}
 use Rattle.drf_core.proofs.stepping.Step.{IsReady-tested, early_from, early_none, rows_after-counted, events-applied, IsKept-counted}
 use Rattle.drf_laws.specs.laws.SameLive.{refused_from, welcome_from, accepted_from}
@@ -34,7 +37,7 @@ pub returns-in_err-refusal-clause-safe : goal.returns-in_err-refusal-clause-safe
 returns-in_err-refusal-clause-safe g c =
     let limits = c.self.inside.limits in
     let its = c.deref_mut-cluster.ensures.value in
-    let kept = subst (λ m. IsKept limits m.rows) (sym its) c.self.invariant in
+    let kept = subst (λ m. IsKept limits m.rows) (sym its) c.self.invariant.kept in
     let old : Rows = c.deref_mut-cluster.result.now.rows in
     let rows : Rows = c.refusal.new.self.rows in
     let ready = IsReady-tested limits old c.forget_spent.new.self.rows rows kept c.forget_spent.ensures.live
@@ -46,7 +49,7 @@ pub returns-in-Some-clause-reply : goal.returns-in-Some-clause-reply
 returns-in-Some-clause-reply g c =
     let limits = c.self.inside.limits in
     let its = c.deref_mut-cluster.ensures.value in
-    let kept = subst (λ m. IsKept limits m.rows) (sym its) c.self.invariant in
+    let kept = subst (λ m. IsKept limits m.rows) (sym its) c.self.invariant.kept in
     let at : Engine = record { limits = limits; rows = c.deref_mut-cluster.result.now.rows; work = c.deref_mut-cluster.result.now.work } in
     let view : at ≡ c.args.self.now = (λ i. record { limits = limits; rows = (its i).rows; work = (its i).work }) ∙ c.self.view_is in
     let old : Rows = c.deref_mut-cluster.result.now.rows in
@@ -62,7 +65,7 @@ pub returns-in-Some-clause-ok : goal.returns-in-Some-clause-ok
 returns-in-Some-clause-ok g c =
     let limits = c.self.inside.limits in
     let its = c.deref_mut-cluster.ensures.value in
-    let kept = subst (λ m. IsKept limits m.rows) (sym its) c.self.invariant in
+    let kept = subst (λ m. IsKept limits m.rows) (sym its) c.self.invariant.kept in
     let at : Engine = record { limits = limits; rows = c.deref_mut-cluster.result.now.rows; work = c.deref_mut-cluster.result.now.work } in
     let view : at ≡ c.args.self.now = (λ i. record { limits = limits; rows = (its i).rows; work = (its i).work }) ∙ c.self.view_is in
     let old : Rows = c.deref_mut-cluster.result.now.rows in
@@ -80,7 +83,7 @@ pub returns-in-Some-clause-safe : goal.returns-in-Some-clause-safe
 returns-in-Some-clause-safe g c =
     let limits = c.self.inside.limits in
     let its = c.deref_mut-cluster.ensures.value in
-    let kept = subst (λ m. IsKept limits m.rows) (sym its) c.self.invariant in
+    let kept = subst (λ m. IsKept limits m.rows) (sym its) c.self.invariant.kept in
     let old : Rows = c.deref_mut-cluster.result.now.rows in
     let rows : Rows = c.refusal.new.self.rows in
     let ready = IsReady-tested limits old c.forget_spent.new.self.rows rows kept c.forget_spent.ensures.live
@@ -91,7 +94,7 @@ pub returns-in-Some-clause-work : goal.returns-in-Some-clause-work
 returns-in-Some-clause-work g c =
     let limits = c.self.inside.limits in
     let its = c.deref_mut-cluster.ensures.value in
-    let kept = subst (λ m. IsKept limits m.rows) (sym its) c.self.invariant in
+    let kept = subst (λ m. IsKept limits m.rows) (sym its) c.self.invariant.kept in
     let at : Engine = record { limits = limits; rows = c.deref_mut-cluster.result.now.rows; work = c.deref_mut-cluster.result.now.work } in
     let view : at ≡ c.args.self.now = (λ i. record { limits = limits; rows = (its i).rows; work = (its i).work }) ∙ c.self.view_is in
     let old : Rows = c.deref_mut-cluster.result.now.rows in
@@ -109,7 +112,7 @@ pub count_event-requires : goal.count_event-requires
 count_event-requires g c =
     let limits = c.self.inside.limits in
     let its = c.deref_mut-cluster.ensures.value in
-    let kept = subst (λ m. IsKept limits m.rows) (sym its) c.self.invariant in
+    let kept = subst (λ m. IsKept limits m.rows) (sym its) c.self.invariant.kept in
     let old : Rows = c.deref_mut-cluster.result.now.rows in
     let rows : Rows = c.refusal.new.self.rows in
     let ready = IsReady-tested limits old c.forget_spent.new.self.rows rows kept c.forget_spent.ensures.live
@@ -124,7 +127,7 @@ pub returns-clause-reply : goal.returns-clause-reply
 returns-clause-reply g c =
     let limits = c.self.inside.limits in
     let its = c.deref_mut-cluster.ensures.value in
-    let kept = subst (λ m. IsKept limits m.rows) (sym its) c.self.invariant in
+    let kept = subst (λ m. IsKept limits m.rows) (sym its) c.self.invariant.kept in
     let at : Engine = record { limits = limits; rows = c.deref_mut-cluster.result.now.rows; work = c.deref_mut-cluster.result.now.work } in
     let view : at ≡ c.args.self.now = (λ i. record { limits = limits; rows = (its i).rows; work = (its i).work }) ∙ c.self.view_is in
     let old : Rows = c.deref_mut-cluster.result.now.rows in
@@ -140,7 +143,7 @@ pub returns-clause-ok : goal.returns-clause-ok
 returns-clause-ok g c =
     let limits = c.self.inside.limits in
     let its = c.deref_mut-cluster.ensures.value in
-    let kept = subst (λ m. IsKept limits m.rows) (sym its) c.self.invariant in
+    let kept = subst (λ m. IsKept limits m.rows) (sym its) c.self.invariant.kept in
     let at : Engine = record { limits = limits; rows = c.deref_mut-cluster.result.now.rows; work = c.deref_mut-cluster.result.now.work } in
     let view : at ≡ c.args.self.now = (λ i. record { limits = limits; rows = (its i).rows; work = (its i).work }) ∙ c.self.view_is in
     let old : Rows = c.deref_mut-cluster.result.now.rows in
@@ -161,7 +164,7 @@ pub returns-in_err-stepped-clause-not_refused : goal.returns-in_err-stepped-clau
 returns-in_err-stepped-clause-not_refused g c =
     let limits = c.self.inside.limits in
     let its = c.deref_mut-cluster.ensures.value in
-    let kept = subst (λ m. IsKept limits m.rows) (sym its) c.self.invariant in
+    let kept = subst (λ m. IsKept limits m.rows) (sym its) c.self.invariant.kept in
     let at : Engine = record { limits = limits; rows = c.deref_mut-cluster.result.now.rows; work = c.deref_mut-cluster.result.now.work } in
     let view : at ≡ c.args.self.now = (λ i. record { limits = limits; rows = (its i).rows; work = (its i).work }) ∙ c.self.view_is in
     let old : Rows = c.deref_mut-cluster.result.now.rows in
@@ -177,7 +180,7 @@ pub returns-in_err-stepped-clause-safe : goal.returns-in_err-stepped-clause-safe
 returns-in_err-stepped-clause-safe g c =
     let limits = c.self.inside.limits in
     let its = c.deref_mut-cluster.ensures.value in
-    let kept = subst (λ m. IsKept limits m.rows) (sym its) c.self.invariant in
+    let kept = subst (λ m. IsKept limits m.rows) (sym its) c.self.invariant.kept in
     let old : Rows = c.deref_mut-cluster.result.now.rows in
     let rows : Rows = c.refusal.new.self.rows in
     let ready = IsReady-tested limits old c.forget_spent.new.self.rows rows kept c.forget_spent.ensures.live
@@ -188,20 +191,27 @@ pub invariant_of-self-2 : goal.invariant_of-self-2
 invariant_of-self-2 g c =
     let limits = c.self.inside.limits in
     let its = c.deref_mut-cluster.ensures.value in
-    let kept = subst (λ m. IsKept limits m.rows) (sym its) c.self.invariant in
+    let standing = subst (λ m. IsStanding limits m.rows) (sym its) c.self.invariant in
+    let kept = standing.kept in
     let old : Rows = c.deref_mut-cluster.result.now.rows in
     let rows : Rows = c.refusal.new.self.rows in
     let ready = IsReady-tested limits old c.forget_spent.new.self.rows rows kept c.forget_spent.ensures.live
     c.forget_spent.ensures.others c.forget_spent.ensures.consistent c.refusal.ensures.same in
     let none = ap (λ (r : Rows). refusal_of limits r c.args.event) c.refusal.ensures.same ∙ sym c.in_ok-refusal.ensures.value ∙ c.in_default.is in
-    IsKept-counted limits rows c.apply.new.self.rows c.count_event.new.self.rows c.args.event ready.kept none
-    c.in_ok-stepped.ensures.ok c.count_event.ensures.counted c.count_event.ensures.consistent
+    let stepped = rows_after-counted limits rows c.apply.new.self.rows c.count_event.new.self.rows c.args.event
+    ready.kept none c.in_ok-stepped.ensures.ok c.count_event.ensures.counted in
+    record {
+      kept = IsKept-counted limits rows c.apply.new.self.rows c.count_event.new.self.rows c.args.event ready.kept none
+          c.in_ok-stepped.ensures.ok c.count_event.ensures.counted c.count_event.ensures.consistent;
+      saveable = subst (IsSaveable limits) (sym (ap live_rows stepped))
+          (saveable_after limits rows c.args.event kept.few.ceilings c.given_law.ensures (subst (IsSaveable limits) (sym ready.live) standing.saveable));
+    }
 
 pub returns-clause-safe : goal.returns-clause-safe
 returns-clause-safe g c =
     let limits = c.self.inside.limits in
     let its = c.deref_mut-cluster.ensures.value in
-    let kept = subst (λ m. IsKept limits m.rows) (sym its) c.self.invariant in
+    let kept = subst (λ m. IsKept limits m.rows) (sym its) c.self.invariant.kept in
     let old : Rows = c.deref_mut-cluster.result.now.rows in
     let rows : Rows = c.refusal.new.self.rows in
     let ready = IsReady-tested limits old c.forget_spent.new.self.rows rows kept c.forget_spent.ensures.live
@@ -216,7 +226,7 @@ pub returns-clause-work : goal.returns-clause-work
 returns-clause-work g c =
     let limits = c.self.inside.limits in
     let its = c.deref_mut-cluster.ensures.value in
-    let kept = subst (λ m. IsKept limits m.rows) (sym its) c.self.invariant in
+    let kept = subst (λ m. IsKept limits m.rows) (sym its) c.self.invariant.kept in
     let at : Engine = record { limits = limits; rows = c.deref_mut-cluster.result.now.rows; work = c.deref_mut-cluster.result.now.work } in
     let view : at ≡ c.args.self.now = (λ i. record { limits = limits; rows = (its i).rows; work = (its i).work }) ∙ c.self.view_is in
     let old : Rows = c.deref_mut-cluster.result.now.rows in
@@ -236,7 +246,7 @@ pub returns-in_err-stepped-clause-refused : goal.returns-in_err-stepped-clause-r
 returns-in_err-stepped-clause-refused g c =
     let limits = c.self.inside.limits in
     let its = c.deref_mut-cluster.ensures.value in
-    let kept = subst (λ m. IsKept limits m.rows) (sym its) c.self.invariant in
+    let kept = subst (λ m. IsKept limits m.rows) (sym its) c.self.invariant.kept in
     let at : Engine = record { limits = limits; rows = c.deref_mut-cluster.result.now.rows; work = c.deref_mut-cluster.result.now.work } in
     let view : at ≡ c.args.self.now = (λ i. record { limits = limits; rows = (its i).rows; work = (its i).work }) ∙ c.self.view_is in
     let old : Rows = c.deref_mut-cluster.result.now.rows in
@@ -251,7 +261,7 @@ pub returns-clause-refused : goal.returns-clause-refused
 returns-clause-refused g c =
     let limits = c.self.inside.limits in
     let its = c.deref_mut-cluster.ensures.value in
-    let kept = subst (λ m. IsKept limits m.rows) (sym its) c.self.invariant in
+    let kept = subst (λ m. IsKept limits m.rows) (sym its) c.self.invariant.kept in
     let at : Engine = record { limits = limits; rows = c.deref_mut-cluster.result.now.rows; work = c.deref_mut-cluster.result.now.work } in
     let view : at ≡ c.args.self.now = (λ i. record { limits = limits; rows = (its i).rows; work = (its i).work }) ∙ c.self.view_is in
     let old : Rows = c.deref_mut-cluster.result.now.rows in

@@ -7,4 +7,4 @@ use Rattle.drf_core.proofs.allocator.Core.tell_safe.Goals as goal
 pub returns : goal.returns
 returns g c =
     subst (λ (m : Engine). IsSafe (live_rows m.rows)) c.self.view_is
-    (safe_kept c.self.inside.limits c.self.inside.cluster.value.rows c.self.invariant)
+    (safe_kept c.self.inside.limits c.self.inside.cluster.value.rows c.self.invariant.kept)

@@ -1,17 +1,19 @@
-use Rattle.std.proofs.Common.{◌≡◌, ◌++◌, ◌∷◌, [], List, length, ap, sym, subst, ◌∙◌, arith}
+use Rattle.std.proofs.Common.{◌≡◌, ◌<◌, ◌++◌, ◌∷◌, [], ℕ, List, length, refl, ap, sym, subst, ◌∙◌, arith}
 use Rattle.std.specs.Prelude.{map, sum_by}
 use Rattle.std.specs.List.{AllByRecursion}
+use Rattle.std.proofs.lemmas.List.Sums.{sum_by-append, sum_by-cons}
 use Rattle.drf_role.specs.Path.{Path}
 use Rattle.drf_rows.specs.Members.{distinct, has_framework, new_client}
 use Rattle.drf_rows.specs.Step.{effect}
 use Rattle.drf_rows.specs.declared.event.Event.TheVariants.{AddFramework}
-use Rattle.drf_rows.specs.Consistent.{are_distinct_roles}
+use Rattle.drf_rows.specs.Consistent.{are_distinct_roles, offers_counted}
 use Rattle.drf_rows.specs.declared.rows.ClientRow.{ClientRow}
+use Rattle.drf_rows.specs.declared.rows.FrameworkRow.{FrameworkRow}
 use Rattle.drf_rows.specs.declared.rows.Rows.{Rows}
 use Rattle.drf_sorter.specs.Content.{Content}
-use Rattle.drf_core.specs.Registering.{AreNew, client_paths, with_all}
+use Rattle.drf_content.specs.Registering.{AreNew, client_paths, with_all}
 use Rattle.drf_laws.specs.laws.Roles.{distinct_apart, roles_of_new, uncounted_new}
-use Rattle.drf_core.proofs.content.Registered.{AreNew-registering}
+use Rattle.drf_content.specs.laws.Registered.{AreNew-registering}
 use Rattle.drf_laws.specs.laws.Welcome.{welcome_framework}
 use Rattle.drf_core.proofs.effects.Registered.{sorted-framework, effect-framework}
 use Rattle.drf_core.proofs.stepping.Work.{nodes_of-new}
@@ -39,9 +41,24 @@ add_framework-requires-clause-roles g c =
     ap are_distinct_roles (ap (map (λ (x : ClientRow). x.role)) (c.in_ok-clients.ensures ∙ ap (map new_client) c.in_ok-roles.ensures) ∙ roles_of_new (distinct c.args.roles))
     ∙ distinct_apart c.args.roles
 
-pub add_framework-requires-clause-uncounted : goal.add_framework-requires-clause-uncounted
-add_framework-requires-clause-uncounted g c =
-    subst (AllByRecursion (λ (x : ClientRow). x.count ≡ 0)) (sym c.in_ok-clients.ensures) (uncounted_new c.in_ok-roles.roles.items)
+-- no offer was made to its clients
+nothing_made : (cs : List ClientRow) → AllByRecursion (λ c. c.count ≡ 0) cs → sum_by (λ c. c.count) cs ≡ 0
+nothing_made [] all = refl
+nothing_made (c ∷ cs) all = omega (arith, sum_by-cons (λ (c : ClientRow). c.count) c cs, all.0, nothing_made cs all.1)
+
+counted_still : (rows : Rows) (f : FrameworkRow) → AllByRecursion (λ c. c.count ≡ 0) f.clients → offers_counted rows.frameworks < rows.next_offer
+    → offers_counted (rows.frameworks ++ f ∷ []) < rows.next_offer
+counted_still rows f none few =
+    let counts : FrameworkRow → ℕ = λ f. sum_by (λ (c : ClientRow). c.count) f.clients in
+    omega (arith, sum_by-append counts rows.frameworks (f ∷ []), sum_by-cons counts f [], nothing_made f.clients none, few)
+
+pub add_framework-requires-clause-counted : goal.add_framework-requires-clause-counted
+add_framework-requires-clause-counted g c =
+    let f : FrameworkRow = record { name = c.args.framework; clients = c.in_ok-clients.clients } in
+    let kept = rw (← c.self.view_is) at c.requires.kept in
+    subst (λ (r : Rows). offers_counted (r.frameworks ++ f ∷ []) < r.next_offer) (sym c.reserve_framework.ensures.same)
+    (counted_still c.self.inside.tables.rows f
+    (subst (AllByRecursion (λ (x : ClientRow). x.count ≡ 0)) (sym c.in_ok-clients.ensures) (uncounted_new c.in_ok-roles.roles.items)) kept.consistent.counted)
 
 pub invariant_of-self-2 : goal.invariant_of-self-2
 invariant_of-self-2 g c =
@@ -52,7 +69,7 @@ invariant_of-self-2 g c =
     let made = c.in_ok-clients.ensures ∙ ap (map new_client) c.in_ok-roles.ensures in
     let same : c.add_framework.new.self.rows ≡ effect rows (AddFramework c.args.framework c.args.roles) =
     effect-framework rows c.add_framework.new.self.rows c.args.framework c.args.roles c.in_ok-clients.clients made
-    (c.add_framework.ensures ∙ (λ i. record (c.reserve_framework.ensures.same i) { frameworks = (c.reserve_framework.ensures.same i).frameworks ++ record { name = c.args.framework; clients = c.in_ok-clients.clients } ∷ [] })) in
+    (c.add_framework.ensures.rows ∙ (λ i. record (c.reserve_framework.ensures.same i) { frameworks = (c.reserve_framework.ensures.same i).frameworks ++ record { name = c.args.framework; clients = c.in_ok-clients.clients } ∷ [] })) in
     sorted-framework rows c.add_framework.new.self.rows c.args.framework c.args.roles content (g.S.Sorter.content c.add_clients.new.sorter)
     c.self.invariant kept.consistent welcome.new same
     (c.in_ok-add_clients.ensures.ok
@@ -62,7 +79,7 @@ pub returns-clause-ok : goal.returns-clause-ok
 returns-clause-ok g c =
     rw (← c.self.view_is) (effect-framework c.self.inside.tables.rows c.add_framework.new.self.rows c.args.framework c.args.roles c.in_ok-clients.clients
     (c.in_ok-clients.ensures ∙ ap (map new_client) c.in_ok-roles.ensures)
-    (c.add_framework.ensures ∙ (λ i. record (c.reserve_framework.ensures.same i) { frameworks = (c.reserve_framework.ensures.same i).frameworks ++ record { name = c.args.framework; clients = c.in_ok-clients.clients } ∷ [] })))
+    (c.add_framework.ensures.rows ∙ (λ i. record (c.reserve_framework.ensures.same i) { frameworks = (c.reserve_framework.ensures.same i).frameworks ++ record { name = c.args.framework; clients = c.in_ok-clients.clients } ∷ [] })))
 
 pub returns-clause-work : goal.returns-clause-work
 returns-clause-work g c =

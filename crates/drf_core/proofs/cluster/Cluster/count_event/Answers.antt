@@ -1,5 +1,5 @@
 use Rattle.std.proofs.Common.{sym, ap, ◌∙◌}
-use Rattle.drf_core.specs.Content.{content_of}
+use Rattle.drf_content.specs.Content.{content_of}
 use Rattle.drf_core.proofs.cluster.Cluster.count_event.Goals as goal
 
 pub invariant_of-self : goal.invariant_of-self

@@ -4,7 +4,7 @@ use Rattle.drf_rows.specs.Step.{line_told, new_offers, effect}
 use Rattle.drf_rows.specs.declared.event.Event.TheVariants.{Cycle}
 use Rattle.drf_rows.specs.declared.reply.Reply.TheVariants.{Offers}
 use Rattle.drf_rows.specs.declared.rows.Rows.{Rows}
-use Rattle.drf_core.specs.Content.{content_of}
+use Rattle.drf_content.specs.Content.{content_of}
 use Rattle.drf_rows.specs.declared.rows.OfferRow.{OfferRow}
 use Rattle.drf_core.specs.Drafting.{turns_of}
 use Rattle.drf_core.specs.Working.{nodes_of, offered_to}

@@ -1,6 +1,6 @@
 use Rattle.std.proofs.Common.{sym, ap, ◌∙◌}
-use Rattle.drf_core.specs.Content.{content_of}
-use Rattle.drf_core.proofs.content.Changed.{content_of-filters}
+use Rattle.drf_content.specs.Content.{content_of}
+use Rattle.drf_content.specs.laws.Changed.{content_of-filters}
 use Rattle.drf_core.proofs.cluster.Cluster.forget_spent.Goals as goal
 
 pub invariant_of-self : goal.invariant_of-self

@@ -9,7 +9,7 @@ use Rattle.drf_rows.specs.declared.rows.FrameworkRow.{FrameworkRow}
 use Rattle.drf_rows.specs.declared.rows.Rows.{Rows}
 use Rattle.drf_sorter.specs.Work.{debt}
 use Rattle.drf_core.specs.Cluster.{ClusterState}
-use Rattle.drf_core.specs.Registering.{client_paths}
+use Rattle.drf_content.specs.Registering.{client_paths}
 use Rattle.drf_core.specs.Working.{losers}
 use Rattle.drf_core.proofs.stepping.Work.{nodes_of-append, nodes_of-leaving}
 use Rattle.drf_core.proofs.effects.Ended.{one_found, nothing_left, AreKnown-ended, sorted-left, effect-left}

@@ -3,8 +3,8 @@ use Rattle.drf_bundle.specs.Quantities.{without_zeros}
 use Rattle.drf_rows.specs.declared.rows.Rows.{Rows}
 use Rattle.drf_sorter.specs.Content.{Content, IsSound}
 use Rattle.drf_sorter.specs.Lines.{AreLinesOf}
-use Rattle.drf_core.proofs.content.Sound.{IsSound-content_of}
-use Rattle.drf_core.proofs.content.Report.{report_of-lines}
+use Rattle.drf_content.specs.laws.Sound.{IsSound-content_of}
+use Rattle.drf_content.specs.laws.Report.{report_of-lines}
 use Rattle.drf_core.proofs.cluster.Cluster.report.Goals as goal
 
 pub lines-requires : goal.lines-requires

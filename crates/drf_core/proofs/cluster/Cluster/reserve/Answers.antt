@@ -2,7 +2,7 @@ use Rattle.std.proofs.Common.{◌≡◌, ap, sym, ◌∙◌}
 use Rattle.drf_rows.specs.Step.{effect}
 use Rattle.drf_rows.specs.declared.event.Event.TheVariants.{Reserve}
 use Rattle.drf_rows.specs.declared.rows.Rows.{Rows}
-use Rattle.drf_core.specs.Content.{content_of}
+use Rattle.drf_content.specs.Content.{content_of}
 use Rattle.drf_core.proofs.effects.Moved.{unreserved-reserve, exchange-reserve, effect-reserved, content_of-reserved}
 use Rattle.drf_core.proofs.cluster.Cluster.reserve.Goals as goal
 

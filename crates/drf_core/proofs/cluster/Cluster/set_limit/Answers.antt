@@ -1,6 +1,6 @@
 use Rattle.std.proofs.Common.{ap, sym, ◌∙◌}
 use Rattle.drf_rows.specs.declared.rows.Rows.{Rows}
-use Rattle.drf_core.specs.Content.{content_of}
+use Rattle.drf_content.specs.Content.{content_of}
 use Rattle.drf_core.proofs.effects.Moved.{other-set_limit, effect-limit, content_of-limit}
 use Rattle.drf_core.proofs.cluster.Cluster.set_limit.Goals as goal
 

@@ -22,10 +22,10 @@ invariant_of-self-2 g c =
     let rows : Rows = c.self.inside.tables.rows in
     sorted-weight rows c.set_weight-2.new.self.rows c.args.role c.args.weight (g.S.Sorter.content c.self.inside.sorter) (g.S.Sorter.content c.set_weight.new.self)
     c.self.invariant
-    (c.set_weight-2.ensures ∙ (λ i. record (c.reserve_weight.ensures.same i) { weights = weights_with (c.reserve_weight.ensures.same i).weights c.args.role c.args.weight }))
+    (c.set_weight-2.ensures.rows ∙ (λ i. record (c.reserve_weight.ensures.same i) { weights = weights_with (c.reserve_weight.ensures.same i).weights c.args.role c.args.weight }))
     c.in_ok-set_weight.ensures.ok
 
 pub returns-clause-ok : goal.returns-clause-ok
 returns-clause-ok g c =
     rw (← c.self.view_is) (effect-weight c.self.inside.tables.rows c.set_weight-2.new.self.rows c.args.role c.args.weight
-    (c.set_weight-2.ensures ∙ (λ i. record (c.reserve_weight.ensures.same i) { weights = weights_with (c.reserve_weight.ensures.same i).weights c.args.role c.args.weight })))
+    (c.set_weight-2.ensures.rows ∙ (λ i. record (c.reserve_weight.ensures.same i) { weights = weights_with (c.reserve_weight.ensures.same i).weights c.args.role c.args.weight })))

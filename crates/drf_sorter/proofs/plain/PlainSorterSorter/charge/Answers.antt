@@ -12,7 +12,7 @@ raise-requires c label =
     place-found clients c.args.path.now c.in-Some.at x c.in-Some.ensures
     c.index_mut-client.ensures.value in
     let part =
-    changed_in_sum c.args.path.now (charged c.args.quantities.now) (λ r. r.held label) clients c.in-Some.at x found in
+    changed_in_sum c.args.path.now (charged c.args.quantities.now c.args.offers) (λ r. r.held label) clients c.in-Some.at x found in
     omega (arith, part, c.requires.sound.held label, c.requires.sound.total label)
 
 pub overflow_add-client : goal.overflow_add-client
@@ -23,7 +23,7 @@ overflow_add-client c =
     place-found clients c.args.path.now c.in-Some.at x c.in-Some.ensures
     c.index_mut-client.ensures.value in
     let part =
-    changed_in_sum c.args.path.now (charged c.args.quantities.now) (λ r. r.count) clients c.in-Some.at x found in
+    changed_in_sum c.args.path.now (charged c.args.quantities.now c.args.offers) (λ r. r.count) clients c.in-Some.at x found in
     omega (arith, part, c.requires.sound.count)
 
 pub returns-in_ok-raise-clause-ok : goal.returns-in_ok-raise-clause-ok
@@ -31,14 +31,14 @@ returns-in_ok-raise-clause-ok c =
     let sorter = c.args.self.now in
     let clients = sorter.clients.items in
     let x = c.index_mut-client.result.now in
-    let y : Client = record x { held = c.raise.new.held; count = x.count + 1 } in
+    let y : Client = record x { held = c.raise.new.held; count = x.count + c.args.offers } in
     let found =
     place-found clients c.args.path.now c.in-Some.at x c.in-Some.ensures
     c.index_mut-client.ensures.value in
     let made =
-    charged_is x c.args.quantities.now c.raise.new.held c.in_ok-raise.ensures.ok in
+    charged_is x c.args.quantities.now c.args.offers c.raise.new.held c.in_ok-raise.ensures.ok in
     ap (with_clients sorter)
-    (changed_one c.args.path.now (charged c.args.quantities.now) clients c.in-Some.at x y sorter.distinct found made)
+    (changed_one c.args.path.now (charged c.args.quantities.now c.args.offers) clients c.in-Some.at x y sorter.distinct found made)
 
 pub returns-in_default-clause-ok : goal.returns-in_default-clause-ok
 returns-in_default-clause-ok c =

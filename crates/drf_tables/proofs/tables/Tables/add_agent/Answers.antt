@@ -1,4 +1,5 @@
-use Rattle.std.proofs.Common.{◌≡◌, ◌<◌, List, Some, true, false, length, sym, ap, ◌∙◌, subst, refl, arith}
+use Rattle.std.proofs.Common.{◌≡◌, ◌<◌, ◌&&◌, Bool, List, [], ◌∷◌, Some, is_some, true, false, length, sym, ap, ◌∙◌, subst, refl, arith}
+use Rattle.std.proofs.lemmas.List.Folds.{list_all-append}
 use Rattle.indexmap.specs.IndexMap.{insert_entry}
 use Rattle.drf_role.specs.Text.{Text, same_text}
 use Rattle.drf_bundle.specs.Quantities.{amount_of, plus}
@@ -12,7 +13,7 @@ use Rattle.drf_rows.specs.Quota.{reserved_in}
 use Rattle.drf_rows.specs.declared.limits.TheConstants.{LARGEST_AMOUNT}
 use Rattle.drf_rows.specs.declared.rows.LimitRow.{LimitRow}
 use Rattle.drf_rows.specs.declared.rows.Rows.{Rows}
-use Rattle.drf_tables.specs.Inside.{CountsIf, AreDerived, rows_in, rows_of}
+use Rattle.drf_tables.specs.Inside.{CountsIf, AreDerived, is_settled, rows_in, rows_of}
 use Rattle.drf_tables.specs.Stored.{Stored}
 use Rattle.drf_tables.specs.declared.tables.Agent.{Agent}
 use Rattle.drf_tables.proofs.Entries.{from_ok}
@@ -105,3 +106,22 @@ returns-clause-ok c =
     ap rows c.in_ok-consume_total.ensures.ok.limits
     ∙ rows_of-agent t c.insert.new.self.entries name agent new inserted refl
     ∙ ap (λ (s : Stored). agent_added s.rows name c.args.total) c.self.view_is
+
+pub returns-clause-settled : goal.returns-clause-settled
+returns-clause-settled c =
+    let t = c.self.inside in
+    let name = c.args.name in
+    let agent : Agent = record { total = c.args.total; active = true; free = Some c.new.result } in
+    let new : has_agent (rows_in t) name ≡ false =
+    ap (λ (s : Stored). has_agent s.rows name) c.self.view_is ∙ c.requires.new in
+    let inserted : c.insert.new.self.entries ≡ insert_entry same_text t.agents.entries name agent =
+    from_ok c.insert.result c.unwrap.result _ c.unwrap.ensures c.insert.ensures.entries
+    ∙ ap (λ (es : List (Text × Agent)). insert_entry same_text es name agent) c.in_ok-reserve.ensures.entries in
+    ap is_settled (last_agent t c.insert.new.self.entries name agent new inserted)
+    ∙ list_all-append (λ (e : Text × Agent). is_some e.1.free) t.agents.entries ((name, agent) ∷ [])
+    ∙ by (is_settled t.agents.entries)
+    ∙ ap (λ (s : Stored). s.settled) c.self.view_is
+  where
+    by : (b : Bool) → (b && true) ≡ b
+    by true = refl
+    by false = refl

@@ -1,9 +1,9 @@
-use Rattle.std.proofs.Common.{◌≡◌, List, map, false, ap, subst, ◌∙◌, refl}
+use Rattle.std.proofs.Common.{◌≡◌, ◌<◌, ◌++◌, ◌∷◌, [], List, map, false, ap, subst, sym, ◌∙◌, refl}
 use Rattle.std.specs.List.{AllByRecursion}
 use Rattle.indexmap.specs.IndexMap.{insert_entry}
 use Rattle.drf_role.specs.Role.{IsRole}
 use Rattle.drf_role.specs.Text.{same_text}
-use Rattle.drf_rows.specs.Consistent.{IsFramework}
+use Rattle.drf_rows.specs.Consistent.{IsFramework, offers_counted}
 use Rattle.drf_rows.specs.laws.RegistrationLaws.{framework_added}
 use Rattle.drf_rows.specs.Members.{has_framework}
 use Rattle.drf_rows.specs.declared.rows.ClientRow.{ClientRow}
@@ -24,6 +24,8 @@ invariant_of-self c =
     let f : FrameworkRow = record { name = name; clients = c.args.clients } in
     let new : has_framework (rows_in t) name ≡ false =
     ap (λ (s : Stored). has_framework s.rows name) c.self.view_is ∙ c.requires.new in
+    let counted : offers_counted ((rows_in t).frameworks ++ f ∷ []) < (rows_in t).next_offer =
+    subst (λ (s : Stored). offers_counted (s.rows.frameworks ++ f ∷ []) < s.rows.next_offer) (sym c.self.view_is) c.requires.counted in
     let valid : IsFramework f = record {
       name = c.recall.ensures;
       roles = subst (λ (clients : List ClientRow). AllByRecursion IsRole (map (λ x. x.role) clients)) c.as_slice.ensures c.recall_roles.ensures;
@@ -37,13 +39,13 @@ invariant_of-self c =
     record {
       kept = rw (rows, c.len.ensures) (
           AreDerived-framework_added (rows_in t) t.agents.entries t.total t.clients f
-          c.self.invariant.kept new valid c.requires.roles c.requires.uncounted
+          c.self.invariant.kept new valid c.requires.roles counted
           );
       consumed = counts-same _ (rows_in c.self.inside) _ _ c.self.invariant.consumed refl refl (λ test label. refl);
     }
 
-pub returns : goal.returns
-returns c =
+pub returns-clause-rows : goal.returns-clause-rows
+returns-clause-rows c =
     let t = c.self.inside in
     let name = c.args.name in
     let new : has_framework (rows_in t) name ≡ false =

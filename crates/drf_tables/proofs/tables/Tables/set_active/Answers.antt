@@ -2,10 +2,12 @@ use Rattle.std.proofs.Common.{refl, sym, ap, ◌∙◌}
 use Rattle.drf_rows.specs.Members.{with_activity}
 use Rattle.drf_rows.specs.Quota.{reserved_for}
 use Rattle.drf_rows.specs.declared.rows.Rows.{Rows}
+use Rattle.drf_tables.specs.Changing.{with_active}
 use Rattle.drf_tables.specs.Stored.{Stored}
 use Rattle.drf_tables.proofs.Changes.{rows-active, kept-active}
 use Rattle.drf_tables.proofs.Counts.{counts-same, reserved-with_activity}
-use Rattle.drf_tables.specs.Inside.{rows_of, rows_in}
+use Rattle.drf_tables.specs.Inside.{is_settled, rows_of, rows_in}
+use Rattle.drf_tables.proofs.Held.{settled-changed}
 use Rattle.drf_tables.proofs.tables.Tables.set_active.Goals as goal
 
 pub invariant_of-self : goal.invariant_of-self
@@ -20,9 +22,15 @@ invariant_of-self c =
           (rows-active c.self.inside c.self.invariant.kept c.args.agent.now c.args.active c.set_active.new.agents.entries c.set_active.ensures)));
     }
 
-pub returns : goal.returns
-returns c =
+pub returns-clause-rows : goal.returns-clause-rows
+returns-clause-rows c =
     let name = c.args.agent.now in
     let active = c.args.active in
     rows-active c.self.inside c.self.invariant.kept name active c.set_active.new.agents.entries c.set_active.ensures
     ∙ ap (λ (s : Stored). record s.rows { agents = with_activity s.rows name active }) c.self.view_is
+
+pub returns-clause-settled : goal.returns-clause-settled
+returns-clause-settled c =
+    ap is_settled c.set_active.ensures
+    ∙ settled-changed c.args.agent.now (with_active c.args.active) (λ a. refl) c.self.inside.agents.entries
+    ∙ ap (λ (s : Stored). s.settled) c.self.view_is

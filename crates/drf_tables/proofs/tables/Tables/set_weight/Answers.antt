@@ -23,8 +23,8 @@ invariant_of-self c =
       consumed = counts-same _ (rows_in c.self.inside) _ _ c.self.invariant.consumed refl refl (λ test label. refl);
     }
 
-pub returns : goal.returns
-returns c =
+pub returns-clause-rows : goal.returns-clause-rows
+returns-clause-rows c =
     let t = c.self.inside in
     let role = c.args.role in
     let inserted : c.insert.new.self.entries ≡ insert_entry same_path t.weights.entries role c.args.weight =

@@ -43,21 +43,21 @@ charge-requires-2-clause-room c =
     room content c.name_labels.new.self c.in-Some.node (c.name_labels.ensures.tree content c.self.invariant.of_ledger)
     (ap (λ (v : _). is_live v.items c.in-Some.node) places ∙ c.in-Some.ensures.live)
     c.args.path.now (ap (λ (v : _). path_at v.items c.in-Some.node) places ∙ c.in-Some.ensures.at)
-    (known_in c.self.inside.ledger c.args.self.now.ledger c.args.path.now ledger c.requires.known) c.args.quantities.now
-    (subst (λ (l : PlainSorter). IsSound (with_change (plain_content l) c.args.path.now (charged c.args.quantities.now)))
+    (known_in c.self.inside.ledger c.args.self.now.ledger c.args.path.now ledger c.requires.known) c.args.quantities.now c.args.offers
+    (subst (λ (l : PlainSorter). IsSound (with_change (plain_content l) c.args.path.now (charged c.args.quantities.now c.args.offers)))
     (sym ledger) c.requires.sound)
 
 pub invariant_of-self-2 : goal.invariant_of-self-2
 invariant_of-self-2 c =
     let content = plain_content c.self.inside.ledger in
     let path = c.args.path.now in
-    let now : Content = with_change content path (charged c.args.quantities.now) in
+    let now : Content = with_change content path (charged c.args.quantities.now c.args.offers) in
     let known =
     known_in c.self.inside.ledger c.args.self.now.ledger path (ap (λ (s : Sorted). s.ledger) c.self.view_is) c.requires.known in
     let places = c.name_labels.ensures.places in
     let of = c.name_labels.ensures.tree content c.self.invariant.of_ledger in
     kept_along c.charge.new.self content now c.in_ok-charge.ensures.ok
-    (active_stays path (charged c.args.quantities.now) (λ d. refl) (λ d. refl) content)
+    (active_stays path (charged c.args.quantities.now c.args.offers) (λ d. refl) (λ d. refl) content)
     c.self.inside.tree c.charge-2.new.self c.self.inside.walk false
     (c.charge-2.ensures.tree content path of
     (leaf_of content c.name_labels.new.self c.in-Some.node path of known
@@ -71,7 +71,7 @@ returns-clause-queue c =
     let content = plain_content c.self.inside.ledger in
     queue_stays content (plain_content c.charge.new.self)
     (ap active_paths c.in_ok-charge.ensures.ok
-    ∙ active_stays c.args.path.now (charged c.args.quantities.now) (λ d. refl) (λ d. refl) content)
+    ∙ active_stays c.args.path.now (charged c.args.quantities.now c.args.offers) (λ d. refl) (λ d. refl) content)
     c.self.inside.tree c.charge-2.new.self (c.charge-2.ensures.places ∙ c.name_labels.ensures.places)
     (c.charge-2.ensures.families ∙ c.name_labels.ensures.families) c.self.inside.walk.frames.items
     ∙ ap (λ (s : Sorted). s.queue) c.self.view_is

@@ -9,9 +9,9 @@ use Rattle.drf_tree.proofs.tree.Tree.charge.Goals as goal
 pub loop-node-init : goal.loop-node-init
 loop-node-init c = (
   climb_start c.args.self.now c.args.self.now c.requires.shape c.args.leaf c.args.leaf
-      (λ i. IsMoved none (of_charged c.args.quantities.now)) c.requires.room.live,
+      (λ i. IsMoved none (of_charged c.args.quantities.now c.args.offers)) c.requires.room.live,
   marking_start c.args.self.now c.args.self.now c.requires.shape c.args.leaf c.args.leaf
-      (λ i. IsMoved none (of_charged c.args.quantities.now)),
+      (λ i. IsMoved none (of_charged c.args.quantities.now c.args.offers)),
 )
 
 pub raise-requires-clause-named : goal.raise-requires-clause-named
@@ -21,9 +21,9 @@ raise-requires-clause-named c =
     let s = c.index_mut-sum.result.now in
     c.requires.named c.loop-node.node s
     (climb_on old c.loop-node.self c.requires.shape c.args.leaf c.loop-node.node
-    (λ i. IsMoved none (of_charged c.args.quantities.now)) so c.loop-node-test.true)
+    (λ i. IsMoved none (of_charged c.args.quantities.now c.args.offers)) so c.loop-node-test.true)
     (climb_was old c.loop-node.self c.requires.shape c.args.leaf c.loop-node.node
-    (λ i. IsMoved none (of_charged c.args.quantities.now)) so c.loop-node-test.true s c.index_mut-sum.ensures.value)
+    (λ i. IsMoved none (of_charged c.args.quantities.now c.args.offers)) so c.loop-node-test.true s c.index_mut-sum.ensures.value)
 
 pub raise-requires-clause-fits : goal.raise-requires-clause-fits
 raise-requires-clause-fits c =
@@ -32,9 +32,9 @@ raise-requires-clause-fits c =
     let s = c.index_mut-sum.result.now in
     c.requires.room.held c.loop-node.node s
     (climb_on old c.loop-node.self c.requires.shape c.args.leaf c.loop-node.node
-    (λ i. IsMoved none (of_charged c.args.quantities.now)) so c.loop-node-test.true)
+    (λ i. IsMoved none (of_charged c.args.quantities.now c.args.offers)) so c.loop-node-test.true)
     (climb_was old c.loop-node.self c.requires.shape c.args.leaf c.loop-node.node
-    (λ i. IsMoved none (of_charged c.args.quantities.now)) so c.loop-node-test.true s c.index_mut-sum.ensures.value)
+    (λ i. IsMoved none (of_charged c.args.quantities.now c.args.offers)) so c.loop-node-test.true s c.index_mut-sum.ensures.value)
 
 pub overflow_add-sum : goal.overflow_add-sum
 overflow_add-sum c =
@@ -43,9 +43,9 @@ overflow_add-sum c =
     let s = c.index_mut-sum.result.now in
     let fits = c.requires.room.count c.loop-node.node s
     (climb_on old c.loop-node.self c.requires.shape c.args.leaf c.loop-node.node
-    (λ i. IsMoved none (of_charged c.args.quantities.now)) so c.loop-node-test.true)
+    (λ i. IsMoved none (of_charged c.args.quantities.now c.args.offers)) so c.loop-node-test.true)
     (climb_was old c.loop-node.self c.requires.shape c.args.leaf c.loop-node.node
-    (λ i. IsMoved none (of_charged c.args.quantities.now)) so c.loop-node-test.true s c.index_mut-sum.ensures.value) in
+    (λ i. IsMoved none (of_charged c.args.quantities.now c.args.offers)) so c.loop-node-test.true s c.index_mut-sum.ensures.value) in
     omega (arith, fits)
 
 pub loop-node-smaller : goal.loop-node-smaller
@@ -55,7 +55,7 @@ loop-node-smaller c =
     let above : c.parent-node.result ≡ parent_at old.places.items c.loop-node.node =
     c.parent-node.ensures ∙ ap (λ ps. parent_at ps.items c.loop-node.node) so.places in
     let less = climb_less old c.loop-node.self c.requires.shape c.args.leaf c.loop-node.node
-    (λ i. IsMoved none (of_charged c.args.quantities.now)) so c.loop-node-test.true in
+    (λ i. IsMoved none (of_charged c.args.quantities.now c.args.offers)) so c.loop-node-test.true in
     rw above (omega (arith, less))
 
 pub loop-node-preserved : goal.loop-node-preserved
@@ -64,22 +64,22 @@ loop-node-preserved c =
     let so = c.loop-node.invariant.0 in
     let marking = c.loop-node.invariant.1 in
     let s : Sum = c.index_mut-sum.result.now in
-    let t : Sum = record s { held = c.raise.new.self; count = s.count + 1 } in
+    let t : Sum = record s { held = c.raise.new.self; count = s.count + c.args.offers } in
     let above : c.parent-node.result ≡ parent_at old.places.items c.loop-node.node =
     c.parent-node.ensures ∙ ap (λ ps. parent_at ps.items c.loop-node.node) so.places in (
       climb_step old c.loop-node.self c.requires.shape c.args.leaf c.loop-node.node
-          (λ i. IsMoved none (of_charged c.args.quantities.now)) so c.loop-node-test.true
+          (λ i. IsMoved none (of_charged c.args.quantities.now c.args.offers)) so c.loop-node-test.true
           _ c.parent-node.result s t above c.index_mut-sum.ensures.value
-          (is_charged c.args.quantities.now s c.raise.new.self c.recall.ensures c.raise.ensures)
+          (is_charged c.args.quantities.now c.args.offers s c.raise.new.self c.recall.ensures c.raise.ensures)
           refl refl refl,
       marking_step old c.loop-node.self c.requires.shape c.args.leaf c.loop-node.node
-          (λ i. IsMoved none (of_charged c.args.quantities.now)) so c.loop-node-test.true marking
+          (λ i. IsMoved none (of_charged c.args.quantities.now c.args.offers)) so c.loop-node-test.true marking
           _ c.parent-node.result above c.mark.ensures.flags c.mark.ensures.work,
     )
 
 pub returns-clause-tree : goal.returns-clause-tree
 returns-clause-tree c content path tree at has =
-    charged_tree content path c.args.quantities.now c.args.self.now c.loop-node.self c.args.leaf c.loop-node.node
+    charged_tree content path c.args.quantities.now c.args.offers c.args.self.now c.loop-node.self c.args.leaf c.loop-node.node
     tree at has c.loop-node.invariant.0 c.loop-node.invariant.1 c.loop-node-test.false
 
 pub returns-clause-made : goal.returns-clause-made

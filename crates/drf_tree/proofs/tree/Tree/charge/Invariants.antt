@@ -7,7 +7,7 @@ use Rattle.drf_tree.proofs.tree.Tree.charge.Given as goal
 
 abbrev pub invariant-loop-node : goal.invariant-loop-node
 invariant-loop-node l =
-    IsClimbing l.fn.self l.self l.leaf l.node (λ i. IsMoved none (of_charged l.quantities))
+    IsClimbing l.fn.self l.self l.leaf l.node (λ i. IsMoved none (of_charged l.quantities l.offers))
     × IsMarking l.fn.self l.self l.leaf l.node
 
 abbrev pub decreases-loop-node : goal.decreases-loop-node

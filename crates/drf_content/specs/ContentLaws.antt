@@ -1,0 +1,75 @@
+-- What is proved of a sorter that holds what the rows say.
+use Rattle.std.specs.Prelude.{◌≡◌, ◌^◌, ◌<◌, ◌≤◌, false, List, [], length, map, not}
+use Rattle.drf_role.specs.Text.{Text}
+use Rattle.drf_role.specs.Path.{Path, client_path}
+use Rattle.drf_bundle.specs.Quantities.{without_zeros}
+use Rattle.drf_bundle.specs.declared.quantities.Entry.{Entry}
+use Rattle.drf_rows.specs.Client.{path_of}
+use Rattle.drf_rows.specs.Consistent.{IsConsistent}
+use Rattle.drf_rows.specs.Cycle.{turn_order}
+use Rattle.drf_rows.specs.Held.{cluster_total}
+use Rattle.drf_rows.specs.Report.{report_of}
+use Rattle.drf_rows.specs.declared.report.NodeLine.{NodeLine}
+use Rattle.drf_rows.specs.declared.report.Report.{Report}
+use Rattle.drf_rows.specs.declared.rows.ClientRow.{ClientRow}
+use Rattle.drf_rows.specs.declared.rows.FrameworkRow.{FrameworkRow}
+use Rattle.drf_rows.specs.declared.rows.Rows.{Rows}
+use Rattle.drf_saved.specs.Saved.{begun, with_row}
+use Rattle.drf_saved.specs.declared.saved.Head.{Head}
+use Rattle.drf_saved.specs.declared.saved.SavedRow.{SavedRow}
+use Rattle.drf_saved.specs.declared.saved.SavedRow.TheVariants.{Framework}
+use Rattle.drf_sorter.specs.Content.{Content, IsSound, IsOrderOf, activated, charged, empty, has_client, with_change, with_client}
+use Rattle.drf_sorter.specs.Lines.{AreLinesOf}
+use Rattle.drf_content.specs.Content.{content_of}
+use Rattle.drf_content.specs.Putting.{CanAllBeBack, IsNew, put_back, with_last, with_put}
+
+-- no more is held than there is, and all numbers fit
+abbrev pub ContentIsSound : Type 0
+ContentIsSound =
+    (rows : Rows) → IsConsistent rows → length rows.agents ≤ 4096 → rows.next_offer < 2 ^ 64
+    → IsSound (content_of rows)
+
+-- the active clients in the sorter's order are served in that order
+abbrev pub OrderIsTheTurns : Type 0
+OrderIsTheTurns =
+    (rows : Rows) (paths : List Path) → IsConsistent rows → IsOrderOf (content_of rows) paths
+    → paths ≡ map path_of (turn_order rows)
+
+-- the cluster's total and the sorter's lines are the report
+abbrev pub LinesAreTheReports : Type 0
+LinesAreTheReports =
+    (rows : Rows) (total : List Entry) (lines : List NodeLine) → IsConsistent rows
+    → total ≡ without_zeros (cluster_total rows.agents)
+    → AreLinesOf (content_of rows) lines
+    → let report : Report = record { total = total; nodes = lines } in
+    report ≡ report_of rows
+
+-- ---- rows that are put back
+
+-- at the head nothing is held
+abbrev pub HeadIsEmpty : Type 0
+HeadIsEmpty = (head : Head) → content_of (begun head) ≡ empty
+
+-- a row that is put behind others changes what is held by what it brings
+abbrev pub ContentFollowsRow : Type 0
+ContentFollowsRow =
+    (rows : Rows) (row : SavedRow) → IsConsistent rows → IsNew rows row
+    → content_of (with_row rows row) ≡ with_put (content_of rows) row
+
+-- an unknown client that is added, active or not, and charged with its offers is put back
+abbrev pub ClientIsPutBack : Type 0
+ClientIsPutBack =
+    (content : Content) (framework : Text) (c : ClientRow)
+    → let path : Path = client_path c.role framework in
+    let added : Content = with_client content path in
+    has_client content path ≡ false
+    → with_change (with_change added path (activated (not c.suppressed))) path (charged [] c.count)
+    ≡ with_last content (put_back framework c)
+
+-- the clients of an unknown framework can be put back one by one
+abbrev pub ClientsCanBeBack : Type 0
+ClientsCanBeBack =
+    (rows : Rows) (f : FrameworkRow) → IsConsistent rows → IsConsistent (with_row rows (Framework f))
+    → length rows.agents ≤ 4096 → rows.next_offer < 2 ^ 64
+    → IsNew rows (Framework f)
+    → CanAllBeBack (content_of rows) f.name f.clients

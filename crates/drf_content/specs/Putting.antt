@@ -1,0 +1,63 @@
+-- A saved row that is put behind others: what a sorter holds of it.
+use Rattle.std.specs.Prelude.{◌≡◌, false, not, List, [], ◌∷◌, ◌++◌, fold}
+use Rattle.drf_role.specs.Text.{Text}
+use Rattle.drf_role.specs.Path.{client_path}
+use Rattle.drf_bundle.specs.Bundle.{quantities_of}
+use Rattle.drf_bundle.specs.Quantities.{plus}
+use Rattle.drf_rows.specs.Client.{path_of}
+use Rattle.drf_rows.specs.Holdings.{Holding, of_offer, of_task}
+use Rattle.drf_rows.specs.Members.{has_framework}
+use Rattle.drf_rows.specs.Weights.{has_weight}
+use Rattle.drf_rows.specs.declared.rows.ClientRow.{ClientRow}
+use Rattle.drf_rows.specs.declared.rows.Rows.{Rows}
+use Rattle.drf_saved.specs.declared.saved.SavedRow.{SavedRow}
+use Rattle.drf_saved.specs.declared.saved.SavedRow.TheVariants.{Agent, Framework, Weight, Limit, Offer, Task, Filter}
+use Rattle.drf_sorter.specs.Content.{Content, Ranked, IsSound, charged, has_client, with_change, with_weight}
+
+-- ---- the clients of a framework, one by one
+
+-- a client that is put back: offers were made to it before, and it holds nothing yet
+abbrev pub put_back : Text → ClientRow → Ranked
+put_back framework c =
+    record { path = client_path c.role framework; active = not c.suppressed; held = λ _. 0; count = c.count }
+
+-- one more client stands last
+abbrev pub with_last : Content → Ranked → Content
+with_last content client = record content { clients = content.clients ++ client ∷ [] }
+
+-- clients that were put back, in that order
+abbrev pub with_all_back : Content → Text → List ClientRow → Content
+with_all_back content framework clients = fold (λ content c. with_last content (put_back framework c)) content clients
+
+-- a client that is unknown, and with which all numbers fit
+pub record CanBeLast (content : Content) (client : Ranked) : Type 0 where
+  pub new : has_client content client.path ≡ false
+  pub sound : IsSound (with_last content client)
+
+-- each can be put back when all before it were
+abbrev pub CanAllBeBack : Content → Text → List ClientRow → Type 0
+CanAllBeBack content framework [] = Unit {0}
+CanAllBeBack content framework (c ∷ cs) =
+    CanBeLast content (put_back framework c) × CanAllBeBack (with_last content (put_back framework c)) framework cs
+
+-- ---- a row
+
+-- the client of a holding holds it too, and no offer is counted
+abbrev pub with_held : Content → Holding → Content
+with_held content h = with_change content (path_of h.client) (charged (quantities_of h.bundle) 0)
+
+-- what a sorter holds once a row is put
+abbrev pub with_put : Content → SavedRow → Content
+with_put content (Agent a) = record content { total = plus content.total (quantities_of a.total) }
+with_put content (Framework f) = with_all_back content f.name f.clients
+with_put content (Weight w) = with_weight content w.role w.weight
+with_put content (Limit l) = content
+with_put content (Offer o) = with_held content (of_offer o)
+with_put content (Task t) = with_held content (of_task t)
+with_put content (Filter f) = content
+
+-- the framework is unknown, the role has no weight
+abbrev pub IsNew : Rows → SavedRow → Type 0
+IsNew rows (Framework f) = has_framework rows f.name ≡ false
+IsNew rows (Weight w) = has_weight rows w.role ≡ false
+IsNew rows row = Unit {0}

@@ -1,0 +1,14 @@
+-- How what a sorter holds of the rows follows the changes of these, and what is said of it by the rows.
+pub mod Client
+pub mod Held
+pub mod Offer
+pub mod Order
+pub mod Members
+pub mod Sound
+pub mod Ended
+pub mod Changed
+pub mod Removed
+pub mod Registered
+pub mod Report
+pub mod Put
+pub mod Back

@@ -1,0 +1,19 @@
+//! Laws of what a sorter holds. The functions do nothing: what they promise is proved of the definitions alone.
+
+ghost use Rattle.drf_content.specs.ContentLaws.{ContentIsSound, OrderIsTheTurns, LinesAreTheReports, HeadIsEmpty, ContentFollowsRow, ClientIsPutBack, ClientsCanBeBack};
+
+/// A sorter that holds what consistent rows say is sound. Its order is that of a turn, and its lines are those of a report.
+pub fn content_law()
+    ensures sound { ContentIsSound }
+    ensures order { OrderIsTheTurns }
+    ensures lines { LinesAreTheReports }
+{}
+
+/// A saved row that is put behind others changes what a sorter of the rows holds by what it brings; the clients of a framework can be
+/// put back one by one.
+pub fn put_law()
+    ensures head { HeadIsEmpty }
+    ensures row { ContentFollowsRow }
+    ensures client { ClientIsPutBack }
+    ensures clients { ClientsCanBeBack }
+{}

@@ -1,0 +1,6 @@
+//! What a sorter holds of the rows, and what its answers then say of these.
+#![tactic(auto)]
+
+mod laws;
+
+pub use laws::{content_law, put_law};

@@ -1,0 +1,75 @@
+//! A drive of files, and what is told of it.
+ghost use Rattle.std.specs.Prelude.{◌≡◌, ◌≤◌, [], true, false, length, map, slice_get, unwrap_or};
+ghost use Rattle.drf_told.specs.Streams.{Stream, stream_of};
+ghost use Rattle.drf_drive_app.specs.Done.{HasDriven};
+ghost use Rattle.drf_drive_app.specs.Drives.{HasToldDrive};
+
+use drf_drive::{ScriptFault, run_drive};
+use drf_files::FileBytes;
+use drf_journal::Device;
+use drf_rows::Limits;
+use drf_told::{RefusedLine, finish, tell, tell_line};
+use std::alloc::Global;
+use std::io::Write;
+use std::sync::Wait;
+use std::thread::Threads;
+
+fn name_at<'a>(names: &[&'a str], file: usize) -> &'a str
+    ensures { result.now ≡ unwrap_or (slice_get (map (λ name. name.now) names.now) file) [] }
+{
+    match names.get(file) {
+        Some(name) => *name,
+        None => "",
+    }
+}
+
+/// Tells how a drive ended, and gives the program's status.
+fn tell_end<E: Write>(
+    alloc: Global,
+    names: &[&str],
+    ended: Result<(), ScriptFault>,
+    errors: &mut Device<E>,
+) -> u8
+    requires { errors.old.failed ≡ false }
+    ensures { HasToldDrive (map (λ name. name.now) names.now) ended result (E.contents errors.old.inner) (E.contents errors.new.inner) errors.new.failed }
+{
+    match ended {
+        Ok(()) => 0,
+        Err(ScriptFault::Run(fault)) => finish::<(), E>(Err(fault), errors),
+        Err(ScriptFault::Close) => {
+            tell(errors, "drf: close fault\n");
+            1
+        }
+        Err(ScriptFault::Line(bad)) => {
+            let line = RefusedLine {
+                file: name_at(names, bad.file),
+                line: bad.line,
+                fault: bad.fault.number(),
+                name: bad.fault.name(),
+            };
+            tell_line(alloc, line, errors)
+        }
+    }
+}
+
+/// Runs files side by side and writes the journal on `output`.
+pub(crate) fn drive_files<F: FileBytes, W: Write, E: Write>(
+    rt: &(impl Threads + Wait + Sync),
+    alloc: Global,
+    files: &mut F,
+    names: &[&str],
+    output: &mut Device<W>,
+    errors: &mut Device<E>,
+) -> u8
+    requires few { length names.now ≤ 64 }
+    requires output { output.old.failed ≡ false }
+    requires errors { errors.old.failed ≡ false }
+    ensures driven { (input : Stream) → HasDriven (F.known files.old) (map (λ name. name.now) names.now)
+        (record { input = input; output = stream_of W.contents output.old; errors = stream_of E.contents errors.old })
+        (record { input = input; output = stream_of W.contents output.new; errors = stream_of E.contents errors.new })
+        result }
+    ensures flushed { output.old.flushed ≡ true → output.new.failed ≡ false → output.new.flushed ≡ true }
+{
+    let ended = run_drive(rt, alloc, Limits::full(), files, names, output);
+    tell_end(alloc, names, ended, errors)
+}

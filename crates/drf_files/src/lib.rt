@@ -1,0 +1,6 @@
+//! Files by name.
+#![tactic(auto)]
+
+mod files;
+
+pub use files::{FileBytes, SystemFiles};

@@ -1,0 +1,17 @@
+use Rattle.std.proofs.lemmas.Result.{on_ok_weaker}
+use Rattle.json.specs.Print.{escape_byte}
+use Rattle.drf_lines.specs.StateLine.{row_line}
+use Rattle.drf_lines.proofs.ReplyTexts.{then}
+use Rattle.drf_lines.proofs.Rows.{limit_read}
+use Rattle.drf_lines.proofs.Texts.{holds_at_ok}
+use Rattle.drf_lines.proofs.limits.push_limit_row.Goals as goal
+
+pub returns-clause-ok : goal.returns-clause-ok
+unfolding escape_byte row_line
+returns-clause-ok c =
+    on_ok_weaker c.put.result (λ end. then c.args.text.now.items _ _ c.in_ok-put_limit.ensures.ok (then c.put_limit.new.line.items _ _ c.in_ok-put_role.ensures.ok end)) c.put.ensures.ok
+
+pub returns-clause-read : goal.returns-clause-read
+returns-clause-read c =
+    holds_at_ok c.put.result _
+    (limit_read c.args.row.now (c.in_ok-put_role.ensures.read, c.in_ok-put_role.ensures.text) c.in_ok-put_limit.ensures.read c.in_ok-put_limit.ensures.text)

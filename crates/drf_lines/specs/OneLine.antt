@@ -1,0 +1,6 @@
+-- A text on one line.
+use Rattle.std.specs.Prelude.{◌≡◌, ℕ, ◌==◌, false, List, All}
+
+-- no byte of it is a line feed
+abbrev pub IsOneLine : List ℕ → Type 0
+IsOneLine text = All (λ b. (b == 10) ≡ false) text

@@ -1,0 +1,3 @@
+pub mod SavedLaws
+pub mod laws
+pub mod examples

@@ -1,0 +1,2 @@
+-- Computed from the definitions of saved rows.
+pub mod StateExamples

@@ -1,0 +1,26 @@
+//! A state and rows that may not stand in it, computed from the definitions.
+#![tactic(auto, unfolding(drf_rows::specs::Cycle::free_of, drf_saved::specs::Saved::head_fault, drf_saved::specs::Saved::row_fault))]
+
+ghost use Rattle.std.specs.Prelude.{◌≡◌, Some, None};
+ghost use Rattle.std.specs.List.{AllByRecursion};
+ghost use Rattle.drf_rows.specs.LimitNumbers.{ceilings};
+ghost use Rattle.drf_saved.specs.Saved.{head_fault, restored, row_fault, saved_rows};
+ghost use Rattle.drf_saved_laws.specs.examples.StateExamples.{faulty_heads, faulty_rows, first_rows, one_too_many, other_rows, state, state_head, state_rows, PortsAreRestored};
+
+use drf_rows::Refusal;
+use drf_saved::RowFault;
+
+/// A state makes just the rows that it lists, whatever ports are in it.
+pub fn state_example()
+    ensures restored { restored ceilings state_head state ≡ Some state_rows }
+    ensures ports { PortsAreRestored }
+    ensures listed { saved_rows state_rows ≡ state }
+{}
+
+/// Of a row behind others the first fault is told, if it has one; so it is of numbers at the head.
+pub fn faults_example()
+    ensures rows { AllByRecursion (λ f. row_fault ceilings (first_rows f.0) f.1 ≡ Some f.2) faulty_rows }
+    ensures too_many { AllByRecursion (λ f. row_fault f.0 (first_rows f.1) f.2 ≡ Some (RowFault.Refused Refusal.TooMany)) one_too_many }
+    ensures others { AllByRecursion (λ f. row_fault ceilings (first_rows f.0) f.1 ≡ None) other_rows }
+    ensures heads { AllByRecursion (λ f. head_fault ceilings f.0 ≡ Some f.1) faulty_heads }
+{}

@@ -1,0 +1,11 @@
+use Rattle.std.proofs.Common.{◌≡◌, drop}
+use Rattle.drf_content.specs.Putting.{CanAllBeBack, with_all_back}
+use Rattle.drf_state.proofs.clients.put_clients.Given as goal
+
+-- those that are left can be put back, and with them the sorter holds what it is to hold
+abbrev pub invariant-loop-client : goal.invariant-loop-client
+invariant-loop-client g l = record {
+  can : CanAllBeBack (g.S.Sorter.content l.sorter) l.framework (drop l.client-index l.clients);
+  all : with_all_back (g.S.Sorter.content l.sorter) l.framework (drop l.client-index l.clients)
+      ≡ with_all_back (g.S.Sorter.content l.initial.sorter) l.framework l.clients;
+}

@@ -1,0 +1,9 @@
+pub mod Fault
+pub mod State
+pub mod Read
+pub mod StateLaws
+pub mod LinedText
+pub mod Restored
+pub mod Placing
+pub mod Reading
+pub mod laws

@@ -1,0 +1,37 @@
+-- What a reader of a state answers.
+use Rattle.std.specs.Prelude.{◌≡◌, ℕ, Bool, true, false, List, [], Option, Some, None, Result, Ok, Err}
+use Rattle.drf_rows.specs.LimitNumbers.{LimitNumbers}
+use Rattle.drf_rows.specs.Step.{live_rows}
+use Rattle.drf_rows.specs.declared.rows.Rows.{Rows}
+use Rattle.drf_core.specs.Machine.{Engine, Machine}
+use Rattle.drf_saved_laws.specs.SavedLaws.{IsSaveable}
+use Rattle.drf_state.specs.State.{Said, rows_behind, said_by, state_in, state_text}
+use Rattle.drf_state.specs.declared.fault.StateError.{StateError}
+use Rattle.drf_state.specs.declared.fault.StateError.TheVariants as error
+use Rattle.drf_state.specs.declared.fault.StateFault.{StateFault}
+use Rattle.drf_state.specs.declared.fault.LineStop.{LineStop}
+use Rattle.drf_state.specs.declared.fault.LineStop.TheVariants as stop
+
+-- an allocator with just the rows that a text says, which can be saved, and whose text it is
+pub record IsReadState (most : LimitNumbers) (bytes : List ℕ) (core : Engine) : Type 0 where
+  pub said : state_in most bytes ≡ Ok core.rows
+  pub text : bytes ≡ state_text core.rows
+  pub saveable : IsSaveable most core.rows
+  pub live : live_rows core.rows ≡ core.rows
+  pub limits : core.limits ≡ most
+
+-- the first fault of a text, or memory ran out
+abbrev pub IsFaultOf : Said → StateError → Type 0
+IsFaultOf said (error.Line number fault) = said ≡ Err (number, fault)
+IsFaultOf said error.Memory = Unit {0}
+
+-- the fault of a line, or memory ran out
+abbrev pub IsStop : {A : Type 0} → Result A StateFault → LineStop → Type 0
+IsStop said (stop.Fault fault) = said ≡ Err fault
+IsStop said stop.Memory = Unit {0}
+
+-- a line made more rows, or ended the text
+pub record HasTakenLine (old : Machine) (text : List ℕ) (lines : ℕ) (line : List ℕ) (new : Machine) (last : Bool) : Type 0 where
+  pub limits : new.limits ≡ old.limits
+  pub more : last ≡ false → rows_behind old.limits text lines old.rows line (said_by line) ≡ Ok (Some new.rows)
+  pub end : last ≡ true → (rows_behind old.limits text lines old.rows line (said_by line) ≡ Ok None) × (new.rows ≡ old.rows)

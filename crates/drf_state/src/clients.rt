@@ -1,0 +1,43 @@
+//! The clients of a framework that is put back, and what they are to the sorter.
+ghost use Rattle.std.specs.Prelude.{◌≡◌, OnOk};
+ghost use Rattle.drf_content.specs.Putting.{CanAllBeBack, CanBeLast, put_back, with_all_back, with_last};
+
+use drf_bundle::Quantities;
+use drf_role::{ClientPath, Name};
+use drf_rows::ClientRow;
+use drf_sorter::Sorter;
+use std::alloc::{AllocError, Global};
+
+/// Puts a client back that holds nothing.
+fn put_client<S: Sorter>(
+    alloc: Global,
+    sorter: &mut S,
+    framework: &Name,
+    client: &ClientRow,
+) -> Result<(), AllocError>
+    requires { CanBeLast (S.content sorter.old) (put_back framework.now client.now) }
+    ensures { OnOk result (S.content sorter.new ≡ with_last (S.content sorter.old) (put_back framework.now client.now)) }
+{
+    let path = ClientPath::new(alloc, &client.role, framework)?;
+    let nothing = Quantities::empty(alloc);
+    sorter.add(path.copy()?)?;
+    sorter.set_active(&path, !client.suppressed);
+    sorter.charge(&path, &nothing, client.count)?;
+    Ok(())
+}
+
+/// Puts the clients of a framework back, of which none holds anything.
+pub(crate) fn put_clients<S: Sorter>(
+    alloc: Global,
+    sorter: &mut S,
+    framework: &Name,
+    clients: &[ClientRow],
+) -> Result<(), AllocError>
+    requires { CanAllBeBack (S.content sorter.old) framework.now clients.now }
+    ensures { OnOk result (S.content sorter.new ≡ with_all_back (S.content sorter.old) framework.now clients.now) }
+{
+    for client in clients {
+        put_client(alloc, sorter, framework, client)?;
+    }
+    Ok(())
+}

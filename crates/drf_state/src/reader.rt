@@ -1,0 +1,217 @@
+//! The reader of a state.
+ghost use Rattle.std.specs.Prelude.{◌≡◌, ◌+◌, ◌∷◌, [], ◌<◌, ◌≤◌, Ok, drop, length, take, IfErr, IfNone, IfOk, IfSome, MatchResult};
+ghost use Rattle.drf_role.specs.Text.{same_text};
+ghost use Rattle.drf_rows.specs.LimitNumbers.{LimitNumbers};
+ghost use Rattle.drf_state.specs.Reading.{HasTakenLine, IsFaultOf, IsReadState, IsStop};
+ghost use Rattle.drf_state.specs.Fault.{stopped_at};
+ghost use Rattle.drf_state.specs.State.{closing, ended, is_written, rest_says, rows_begun, rows_behind, said_by, state_in};
+ghost use Rattle.drf_state.specs.declared.fault.StateError.TheVariants as error;
+ghost use Rattle.drf_state.specs.declared.fault.StateFault.TheVariants.{Row};
+ghost use Rattle.drf_saved.specs.declared.fault.RowFault.TheVariants.{OutOfOrder};
+ghost use Rattle.drf_state.specs.laws.Parts.{parts_of_text};
+
+use crate::digest::digest_of;
+use crate::fault::{LineStop, StateError, StateFault};
+use crate::restoring::Restoring;
+use drf_core::Core;
+use drf_lines::{LineReader, push_end, push_head, push_row};
+use drf_rows::Limits;
+use drf_saved::{RowFault, StateLine};
+use drf_sorter::Sorter;
+use memchr::memchr;
+use std::alloc::{AllocError, Global};
+
+/// What is used for one line after another.
+#[derive(Drop)]
+struct Scratch {
+    alloc: Global,
+    reader: LineReader,
+    written: Vec<u8>,
+}
+
+/// Whether what a line says has just this line as its written form. The last line is known by another.
+fn is_written(written: &mut Vec<u8>, line: &[u8], said: &StateLine) -> Result<bool, AllocError>
+    ensures { IfOk result (λ yes. yes ≡ is_written line.now said.now) }
+{
+    written.clear();
+    match said {
+        StateLine::Head(head) => push_head(written, head)?,
+        StateLine::Row(row) => push_row(written, row)?,
+        StateLine::End => return Ok(true),
+    }
+    Ok(line == written.as_slice())
+}
+
+/// What a line says that is in its written form.
+fn said_by(scratch: &mut Scratch, line: &[u8]) -> Result<StateLine, LineStop>
+    ensures { MatchResult result (λ said. said_by line.now ≡ Ok said) (IsStop (said_by line.now)) }
+{
+    let said = scratch.reader.read_state_line(line)?;
+    if !is_written(&mut scratch.written, line, &said)? {
+        return Err(LineStop::Fault(StateFault::NotWritten));
+    }
+    Ok(said)
+}
+
+/// Whether a line is the last one behind a text of so many lines.
+fn is_closing(
+    scratch: &mut Scratch,
+    line: &[u8],
+    text: &[u8],
+    lines: u64,
+) -> Result<bool, AllocError>
+    ensures { IfOk result (λ yes. yes ≡ same_text line.now (closing text.now lines)) }
+{
+    let digest = digest_of(scratch.alloc, text)?;
+    let written = &mut scratch.written;
+    written.clear();
+    push_end(written, lines, digest.as_str())?;
+    Ok(line == written.as_slice())
+}
+
+/// The allocator that the first line makes.
+fn begin<S: Sorter>(
+    scratch: &mut Scratch,
+    limits: Limits,
+    line: &[u8],
+) -> Result<Restoring<S>, LineStop>
+    ensures rows { IfOk result (λ restoring. rows_begun limits (said_by line.now) ≡ Ok restoring.rows) }
+    ensures limits { IfOk result (λ restoring. restoring.limits ≡ limits) }
+    ensures err { IfErr result (IsStop (rows_begun limits (said_by line.now))) }
+{
+    match said_by(scratch, line)? {
+        StateLine::Head(head) => Ok(Restoring::begin(scratch.alloc, limits, head)?),
+        StateLine::Row(_) => Err(LineStop::Fault(StateFault::Row(RowFault::OutOfOrder))),
+        StateLine::End => Err(LineStop::Fault(StateFault::Row(RowFault::OutOfOrder))),
+    }
+}
+
+/// The allocator with what a later line says, and whether that line is the last one. `text` is what stands before it, of so many lines.
+fn take_line<S: Sorter>(
+    scratch: &mut Scratch,
+    restoring: Restoring<S>,
+    text: &[u8],
+    lines: u64,
+    line: &[u8],
+) -> Result<(Restoring<S>, bool), LineStop>
+    ensures ok { IfOk result (λ taken. HasTakenLine restoring text.now lines line.now taken.0 taken.1) }
+    ensures err { IfErr result (IsStop (rows_behind restoring.limits text.now lines restoring.rows line.now (said_by line.now))) }
+{
+    match said_by(scratch, line)? {
+        StateLine::Head(_) => Err(LineStop::Fault(StateFault::Row(RowFault::OutOfOrder))),
+        StateLine::Row(row) => Ok((restoring.put(row)?, false)),
+        StateLine::End => {
+            if !is_closing(scratch, line, text, lines)? {
+                return Err(LineStop::Fault(StateFault::BadEnd));
+            }
+            Ok((restoring, true))
+        }
+    }
+}
+
+/// Where the first line ends, by a line feed.
+fn line_end(bytes: &[u8]) -> Option<usize>
+    ensures found { IfSome result (λ at. (at < length bytes.now) × (parts_of_text bytes.now ≡ take at bytes.now ∷ parts_of_text (drop (at + 1) bytes.now))) }
+    ensures one { IfSome result (λ at. take (at + 1) bytes.now ≡ ended (take at bytes.now)) }
+    ensures none { IfNone result (parts_of_text bytes.now ≡ bytes.now ∷ []) }
+{
+    memchr(b'\n', bytes)
+}
+
+/// What stands behind the first bytes.
+fn behind(bytes: &[u8], count: usize) -> &[u8]
+    requires { count ≤ length bytes.now }
+    ensures { result.now ≡ drop count bytes.now }
+{
+    &bytes[count..]
+}
+
+/// The first bytes.
+fn front(bytes: &[u8], count: usize) -> &[u8]
+    requires { count ≤ length bytes.now }
+    ensures { result.now ≡ take count bytes.now }
+{
+    &bytes[..count]
+}
+
+/// The fault of a text in which a line stands where none may, or lacks: that of this number.
+fn out_of_order(number: u64) -> StateError
+    ensures { result ≡ error.Line number (Row OutOfOrder) }
+{
+    StateError::Line {
+        number,
+        fault: StateFault::Row(RowFault::OutOfOrder),
+    }
+}
+
+/// The fault of a text whose line of this number was not taken.
+fn stopped_at(number: u64, stop: LineStop) -> StateError
+    ensures { result ≡ stopped_at number stop }
+{
+    match stop {
+        LineStop::Fault(fault) => StateError::Line { number, fault },
+        LineStop::Memory => StateError::Memory,
+    }
+}
+
+/// The allocator with what the lines say that stand behind the first `start` bytes, the first line.
+fn take_lines<S: Sorter>(
+    scratch: &mut Scratch,
+    begun: Restoring<S>,
+    bytes: &[u8],
+    start: usize,
+) -> Result<Restoring<S>, StateError>
+    requires { (1 ≤ start) × (start ≤ length bytes.now) }
+    ensures rows { IfOk result (λ whole. rest_says begun.limits (take start bytes.now) 1 begun.rows (parts_of_text (drop start bytes.now)) ≡ Ok whole.rows) }
+    ensures limits { IfOk result (λ whole. whole.limits ≡ begun.limits) }
+    ensures err { IfErr result (IsFaultOf (rest_says begun.limits (take start bytes.now) 1 begun.rows (parts_of_text (drop start bytes.now)))) }
+{
+    let mut restoring = begun;
+    let mut read = start;
+    let mut lines = 1;
+    while let Some(at) = line_end(behind(bytes, read)) {
+        let rest = behind(bytes, read);
+        let line = front(rest, at);
+        let text = front(bytes, read);
+        let (next, is_last) = match take_line(scratch, restoring, text, lines, line) {
+            Ok(taken) => taken,
+            Err(stop) => return Err(stopped_at(lines + 1, stop)),
+        };
+        read += at + 1;
+        lines += 1;
+        if is_last {
+            if read < bytes.len() {
+                return Err(out_of_order(lines + 1));
+            }
+            return Ok(next);
+        }
+        restoring = next;
+    }
+    Err(out_of_order(lines + 1))
+}
+
+/// Reads a state: the allocator with just its rows, or the first line that has a fault.
+pub fn read_state<S: Sorter>(
+    alloc: Global,
+    limits: Limits,
+    bytes: &[u8],
+) -> Result<Core<S>, StateError>
+    ensures ok { IfOk result (IsReadState limits bytes.now) }
+    ensures err { IfErr result (IsFaultOf (state_in limits bytes.now)) }
+{
+    let mut scratch = Scratch {
+        alloc,
+        reader: LineReader::new(alloc),
+        written: Vec::new(alloc),
+    };
+    let Some(at) = line_end(bytes) else {
+        return Err(out_of_order(1));
+    };
+    let begun = match begin::<S>(&mut scratch, limits, front(bytes, at)) {
+        Ok(begun) => begun,
+        Err(stop) => return Err(stopped_at(1, stop)),
+    };
+    let whole = take_lines(&mut scratch, begun, bytes, at + 1)?;
+    let core = whole.end()?;
+    Ok(core)
+}

@@ -1,0 +1,92 @@
+//! An allocator that is put together again, row by row.
+ghost use Rattle.std.specs.Prelude.{◌≡◌, IfOk, MatchResult};
+ghost use Rattle.drf_rows.specs.Step.{live_rows};
+ghost use Rattle.drf_saved.specs.Saved.{head_fault, row_fault};
+ghost use Rattle.drf_saved_laws.specs.SavedLaws.{IsSaveable};
+ghost use Rattle.drf_state.specs.Restored.{IsBegunWith, IsPut, IsTold};
+
+use crate::fault::RestoreError;
+use crate::fitting::{head_fault, row_fault};
+use crate::placing::Parts;
+use drf_core::Core;
+use drf_rows::Limits;
+use drf_saved::{Head, SavedRow};
+use drf_sorter::Sorter;
+use std::alloc::{AllocError, Global};
+use std::marker::Model;
+
+/// An allocator whose rows come one by one, each behind those that it rests on.
+#[derive(Drop)]
+pub struct Restoring<S: Sorter> {
+    alloc: Global,
+    limits: Limits,
+    parts: Parts<S>,
+}
+
+impl<S: Sorter> Model for Restoring<S> {
+    ghost use Rattle.drf_core.specs.Machine.{Machine, machine_code};
+    ghost use Rattle.drf_state.specs.Restored.{IsRestored};
+
+    ghost Value = { Machine };
+
+    ghost coded = { machine_code };
+
+    ghost view = { λ r. record { limits = r.limits; rows = r.parts.tables.rows } };
+
+    ghost invariant = { λ r. IsRestored r.limits r.parts.tables (S.content r.parts.sorter) r.parts.counted };
+}
+
+impl<S: Sorter> Restoring<S> {
+    /// An allocator with these numbers and no rows.
+    pub fn begin(alloc: Global, limits: Limits, head: Head) -> Result<Restoring<S>, RestoreError>
+        ensures { MatchResult result (IsBegunWith limits head) (IsTold (head_fault limits head)) }
+    {
+        // The contract of this call tells that the limits are within the ceilings.
+        let _ = limits.agents();
+        if let Some(fault) = head_fault(&limits, head) {
+            return Err(RestoreError::Fault(fault));
+        }
+        Ok(Restoring {
+            alloc,
+            limits,
+            parts: Parts::begin(alloc, head)?,
+        })
+    }
+
+    /// The same with one more row, which may stand behind those before it.
+    pub fn put(self, row: SavedRow) -> Result<Restoring<S>, RestoreError>
+        ensures { MatchResult result (IsPut self row) (IsTold (row_fault self.limits self.rows row)) }
+    {
+        let Restoring {
+            alloc,
+            limits,
+            mut parts,
+        } = self;
+        row.recall();
+        if let Some(fault) = row_fault(&limits, &parts.tables, parts.counted, &row)? {
+            return Err(RestoreError::Fault(fault));
+        }
+        parts.put(alloc, row)?;
+        Ok(Restoring {
+            alloc,
+            limits,
+            parts,
+        })
+    }
+
+    /// The allocator that goes on from the rows.
+    pub fn end(self) -> Result<Core<S>, AllocError>
+        ensures limits { IfOk result (λ core. core.limits ≡ self.limits) }
+        ensures rows { IfOk result (λ core. core.rows ≡ self.rows) }
+        ensures live { IfOk result (λ core. live_rows core.rows ≡ core.rows) }
+        ensures saveable { IfOk result (λ core. IsSaveable core.limits core.rows) }
+    {
+        let Restoring {
+            alloc,
+            limits,
+            parts: Parts { tables, sorter, .. },
+        } = self;
+        let core = Core::assemble(alloc, limits, tables, sorter)?;
+        Ok(core)
+    }
+}

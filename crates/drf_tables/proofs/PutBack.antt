@@ -1,0 +1,132 @@
+-- The tables once an offer or a task is put back.
+use Rattle.std.specs.Prelude.{◌≡◌, ℕ, Bool, true, false, not, List, [], ◌∷◌, ◌++◌, find, map, slice_get, Option, Some, None}
+use Rattle.std.specs.List.{list_all, list_any, position}
+use Rattle.std.specs.Map.{keys_of, values_of}
+use Rattle.std.specs.Option.{option_map, option_map_or}
+use Rattle.std.proofs.Common.{refl, sym, ap, subst, ◌∙◌}
+use Rattle.std.proofs.lemmas.Bool.{and_parts, not-true, or_from, or_parts}
+use Rattle.std.proofs.lemmas.List.Folds.{list_all-append}
+use Rattle.indexmap.specs.IndexMap.{set_value_at}
+use Rattle.drf_role.specs.Path.{Path}
+use Rattle.drf_role.specs.Text.{Text, same_text}
+use Rattle.drf_bundle.specs.Bundle.{covers, part_for, rest}
+use Rattle.drf_bundle.specs.declared.resource.Resource.{Resource}
+use Rattle.drf_rows.specs.Consistent.{are_distinct, are_distinct_tasks, IsConsistent, IsHeld}
+use Rattle.drf_rows.specs.Cycle.{free_of}
+use Rattle.drf_rows.specs.Endings.{is_task}
+use Rattle.drf_rows.specs.Holdings.{Holding, holdings_of, of_offer, of_task}
+use Rattle.drf_rows.specs.Members.{has_agent}
+use Rattle.drf_rows.specs.laws.EndingLaws.{IsOneLess, is_task-swap, one-one_less}
+use Rattle.drf_rows.specs.laws.ReservationLaws.{found_known}
+use Rattle.drf_rows.specs.Totals.{agent_at}
+use Rattle.drf_rows.specs.declared.rows.AgentRow.{AgentRow}
+use Rattle.drf_saved.specs.Saved.{is_usable}
+use Rattle.drf_rows.specs.declared.rows.OfferRow.{OfferRow}
+use Rattle.drf_rows.specs.declared.rows.Rows.{Rows}
+use Rattle.drf_rows.specs.declared.rows.TaskRow.{TaskRow}
+use Rattle.drf_holdings.specs.Stored.{OffersAndTasks}
+use Rattle.drf_tables.specs.Changing.{changed, with_held}
+use Rattle.drf_tables.specs.Inside.{agent_row, rows_in, rows_of, AreDerived}
+use Rattle.drf_tables.specs.declared.tables.Agent.{Agent}
+use Rattle.drf_tables.specs.declared.tables.Tables.TheInside.{Inside}
+use Rattle.drf_tables.proofs.Entries.{key_at, key_found}
+use Rattle.drf_tables.proofs.Fields.{agents_in}
+use Rattle.drf_tables.proofs.Held.{AreDerived-held, one_more-offer, one_more-task, rows-held}
+use Rattle.drf_tables.proofs.Known.{changed_entry}
+
+-- the rows with one more offer, and with one more task
+abbrev pub offer_put : Rows → OfferRow → Rows
+offer_put rows o = record rows { offers = rows.offers ++ o ∷ [] }
+
+abbrev pub task_put : Rows → TaskRow → Rows
+task_put rows x = record rows { tasks = rows.tasks ++ x ∷ [] }
+
+-- they are held on an agent that is registered
+known_agent : (old new : Rows) (h : Holding) → IsOneLess (holdings_of new) (holdings_of old) h → IsConsistent new → has_agent new h.agent ≡ true
+known_agent old new h more consistent =
+    (one-one_less (holdings_of new) (holdings_of old) h more (IsHeld new.agents new.frameworks) consistent.holdings).agent
+
+pub agent_of-offer : (rows : Rows) (o : OfferRow) → IsConsistent (offer_put rows o) → has_agent rows o.agent ≡ true
+agent_of-offer rows o = known_agent rows (offer_put rows o) (of_offer o) (one_more-offer rows o)
+
+pub agent_of-task : (rows : Rows) (x : TaskRow) → IsConsistent (task_put rows x) → has_agent rows x.agent ≡ true
+agent_of-task rows x = known_agent rows (task_put rows x) (of_task x) (one_more-task rows x)
+
+-- its name is new behind those of its framework's other tasks
+pub new_task : (ts : List TaskRow) (x : TaskRow) → are_distinct_tasks (ts ++ x ∷ []) ≡ true → list_any (is_task x.framework x.name) ts ≡ false
+new_task [] x apart = refl
+new_task (t ∷ ts) x apart =
+    let other : TaskRow → Bool = λ u. not (is_task t.framework t.name u) in
+    let parts = and_parts (list_all other (ts ++ x ∷ [])) (are_distinct_tasks (ts ++ x ∷ [])) apart in
+    let both = and_parts (list_all other ts) (list_all other (x ∷ [])) (sym (list_all-append other ts (x ∷ [])) ∙ parts.0) in
+    let last = and_parts (other x) true both.1 in
+    or_from (is_task x.framework x.name t) (list_any (is_task x.framework x.name) ts)
+    (is_task-swap x t ∙ not-true (is_task t.framework t.name x) last.0) (new_task ts x parts.1)
+
+-- ---- what is usable
+
+module _ (rows : Rows) (name : Text) (role : Path) (bundle : List Resource) where
+  abbrev tested : Option AgentRow → Bool
+  tested found = option_map_or (λ a. covers (part_for role (free_of rows a)) bundle) found false
+
+  pub usable-unknown : has_agent rows name ≡ false → false ≡ is_usable rows name role bundle
+  usable-unknown absent = sym (ap tested (not_there rows.agents absent))
+    where
+      not_there : (agents : List AgentRow) → list_any (λ a. same_text a.name name) agents ≡ false → find (λ a. same_text a.name name) agents ≡ None
+      not_there [] none = refl
+      not_there (a ∷ agents) none =
+          let parts = or_parts (same_text a.name name) (list_any (λ a. same_text a.name name) agents) none in
+          rw parts.0 (not_there agents parts.1)
+
+  pub usable-known : (free : List Resource) → has_agent rows name ≡ true
+      → ((a : AgentRow) → agent_at rows name ≡ Some a → free ≡ free_of rows a)
+      → covers (part_for role free) bundle ≡ is_usable rows name role bundle
+  usable-known free known is_free =
+      let at = found_known rows name known in
+      ap (λ (f : List Resource). covers (part_for role f) bundle) (is_free at.0 at.1) ∙ sym (ap tested at.1)
+
+-- ---- what is left
+
+-- what is left is written where the agent stands
+pub left_written : (es : List (Text × Agent)) (name : Text) (part : List Resource) (place : ℕ) (a b : Agent) (left : Option (List Resource))
+    → are_distinct (map (λ a. a.name) (map agent_row es)) ≡ true → position (same_text name) (keys_of es) ≡ Some place
+    → slice_get (values_of es) place ≡ Some a → slice_get (values_of es) place ≡ Some b → left ≡ option_map (λ known. rest known part) a.free
+    → set_value_at es place (record b { free = left }) ≡ map (changed name (with_held part)) es
+left_written es name part place a b left apart found at again is =
+    let same : a ≡ b = cc in
+    let key = key_at es place b again in
+    ap (λ (free : Option (List Resource)). set_value_at es place (record b { free = free })) (is ∙ (λ i. option_map (λ known. rest known part) (same i).free))
+    ∙ changed_entry name (with_held part) es place (key.key, b) apart key.at (key_found es place key.key name found key.name)
+
+module _ (t : Inside) (kept : AreDerived (rows_in t) t.agents.entries t.total t.clients) (entries : List (Text × Agent)) (held : OffersAndTasks) where
+  -- the rows with other agents and holdings
+  abbrev rows_now : Rows
+  rows_now = rows_of entries t.frameworks.entries held t.filters t.weights.entries t.quota.limits t.clock t.next_offer t.events
+
+  module _ (o : OfferRow) (told : entries ≡ map (changed o.agent (with_held o.bundle)) t.agents.entries)
+      (offers : held.offers ≡ t.holdings.offers ++ o ∷ []) (tasks : held.tasks ≡ t.holdings.tasks) where
+    pub rows-offer_put : rows_now ≡ offer_put (rows_in t) o
+    unfolding rows_of
+    rows-offer_put =
+        let read = ap (map agent_row) told ∙ rows-held o.agent o.bundle t.agents.entries in
+        λ i. record (rows_in t) { agents = read i; offers = offers i; tasks = tasks i }
+
+    pub kept-offer_put : IsConsistent (offer_put (rows_in t) o) → AreDerived rows_now entries t.total t.clients
+    kept-offer_put consistent =
+        subst (λ (q : Rows × List (Text × Agent)). AreDerived q.0 q.1 t.total t.clients) (λ i. (sym rows-offer_put i, sym told i))
+        (AreDerived-held (rows_in t) (offer_put (rows_in t) o) t.agents.entries t.total t.clients (of_offer o) consistent
+        (one_more-offer (rows_in t) o) refl (agents_in t) kept)
+
+  module _ (x : TaskRow) (told : entries ≡ map (changed x.agent (with_held x.bundle)) t.agents.entries)
+      (tasks : held.tasks ≡ t.holdings.tasks ++ x ∷ []) (offers : held.offers ≡ t.holdings.offers) where
+    pub rows-task_put : rows_now ≡ task_put (rows_in t) x
+    unfolding rows_of
+    rows-task_put =
+        let read = ap (map agent_row) told ∙ rows-held x.agent x.bundle t.agents.entries in
+        λ i. record (rows_in t) { agents = read i; offers = offers i; tasks = tasks i }
+
+    pub kept-task_put : IsConsistent (task_put (rows_in t) x) → AreDerived rows_now entries t.total t.clients
+    kept-task_put consistent =
+        subst (λ (q : Rows × List (Text × Agent)). AreDerived q.0 q.1 t.total t.clients) (λ i. (sym rows-task_put i, sym told i))
+        (AreDerived-held (rows_in t) (task_put (rows_in t) x) t.agents.entries t.total t.clients (of_task x) consistent
+        (one_more-task (rows_in t) x) refl (agents_in t) kept)

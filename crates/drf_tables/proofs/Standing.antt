@@ -1,0 +1,31 @@
+-- Whether anything stands in a table.
+use Rattle.std.specs.Prelude.{◌≡◌, ◌==◌, ℕ, Bool, true, false, not, List, [], ◌∷◌, filter, length, nat_lt, Option, Some, None, is_some}
+use Rattle.std.specs.List.{list_all}
+use Rattle.std.specs.Map.{values_of}
+use Rattle.std.specs.Map.Iter.{TakesFirst}
+use Rattle.std.proofs.Common.{refl, sym, ap, inl, inr}
+use Rattle.std.proofs.lemmas.Bool.{cases_Bool}
+use Rattle.std.proofs.Math.Dec.{eqb-suc-zero}
+use Rattle.drf_rows.specs.Offers.{is_empty}
+use Rattle.drf_rows.specs.declared.rows.OfferRow.{OfferRow}
+
+pub none_there : {X : Type 0} (xs : List X) → (length xs == 0) ≡ is_empty xs
+none_there [] = refl
+none_there (x ∷ xs) = eqb-suc-zero (length xs)
+
+-- where no first one is given, there is none
+pub none_first : {A V : Type 0} (shows : A → ℕ × V) (s t : List (ℕ × V)) (r : Option A) (none : Bool) → TakesFirst shows s r t
+    → is_some r ≡ not none → none ≡ is_empty (values_of s)
+none_first shows s t None true gone told = ap (λ (es : List _). is_empty (values_of es)) (sym gone.0)
+none_first shows s t None false gone told = cc
+none_first shows s t (Some x) true first told = cc
+none_first shows s t (Some x) false first told = ap (λ (es : List _). is_empty (values_of es)) (sym first)
+
+-- all numbers are below one where none is from it on
+pub none_from : (number : ℕ) (os : List OfferRow)
+    → is_empty (filter (λ o. not (nat_lt o.number number)) os) ≡ list_all (λ o. nat_lt o.number number) os
+none_from number [] = refl
+none_from number (o ∷ os) = elim (cases_Bool (nat_lt o.number number)) [
+  | inl below ↦ rw below (none_from number os)
+  | inr from ↦ rw from refl
+]

@@ -1,0 +1,4 @@
+pub mod Told
+pub mod Streams
+pub mod Refused
+pub mod Entered

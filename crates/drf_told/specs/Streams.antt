@@ -1,0 +1,17 @@
+-- The streams of a command.
+use Rattle.std.specs.Prelude.{ℕ, Bool, List, Option}
+use Rattle.drf_journal.specs.declared.device.Device.{Device}
+
+-- a stream: what is still to be read or what was written, where that is known, how often it was called, and whether it failed
+pub record Stream : Type 0 where
+  pub bytes : Option (List ℕ)
+  pub calls : ℕ
+  pub failed : Bool
+
+abbrev pub stream_of : {T : Type 0} → (T → Option (List ℕ)) → Device T → Stream
+stream_of bytes device = record { bytes = bytes device.inner; calls = device.calls; failed = device.failed }
+
+pub record Streams : Type 0 where
+  pub input : Stream
+  pub output : Stream
+  pub errors : Stream

@@ -1,0 +1,65 @@
+//! A line of a file that is not what it must be.
+ghost use Rattle.std.specs.Prelude.{◌≡◌, ◌∷◌, ◌++◌, [], false, OnOk, IfOk, codes, decimal, string_bytes};
+ghost use Rattle.drf_told.specs.Told.{HasToldLine, refused_line};
+
+use crate::told::{finish, tell};
+use drf_journal::{Device, RunFault};
+use itoa::Buffer;
+use std::alloc::{AllocError, Global};
+use std::io::Write;
+
+/// A line of a file, and its fault.
+#[derive(Clone, Copy)]
+pub struct RefusedLine<'a> {
+    pub file: &'a str,
+    /// Its number, from 1.
+    pub line: u64,
+    /// The number that its fault is told by.
+    pub fault: u64,
+    /// The name that its fault is told by.
+    pub name: &'a str,
+}
+
+// Adds a word and a number.
+fn push_number(text: &mut String, word: &str, number: u64) -> Result<(), AllocError>
+    ensures { OnOk result (string_bytes text.new ≡ string_bytes text.old ++ (word.now ++ decimal number)) }
+{
+    text.push_str(word)?;
+    text.push_str(Buffer::new().format(number))
+}
+
+// Adds the number and the name of a fault, and a line feed.
+fn push_fault(text: &mut String, number: u64, name: &str) -> Result<(), AllocError>
+    ensures { OnOk result (string_bytes text.new ≡ string_bytes text.old ++ ((codes " refused " ++ decimal number) ++ (32 ∷ name.now ++ 10 ∷ []))) }
+{
+    push_number(text, " refused ", number)?;
+    text.push(' ')?;
+    text.push_str(name)?;
+    text.push('\n')
+}
+
+fn refused_line(alloc: Global, line: RefusedLine<'_>) -> Result<String, AllocError>
+    ensures { IfOk result (λ text. string_bytes text ≡ refused_line line.entry.file.now line.entry.line line.entry.fault line.entry.name.now) }
+{
+    let mut text = String::new(alloc);
+    text.push_str("drf: ")?;
+    text.push_str(line.file)?;
+    push_number(&mut text, " line ", line.line)?;
+    push_fault(&mut text, line.fault, line.name)?;
+    Ok(text)
+}
+
+/// Tells of a line that is not what it must be, and gives the program's status.
+pub fn tell_line<E: Write>(alloc: Global, line: RefusedLine<'_>, errors: &mut Device<E>) -> u8
+    requires { errors.old.failed ≡ false }
+    ensures { HasToldLine (refused_line line.entry.file.now line.entry.line line.entry.fault line.entry.name.now) result
+        (E.contents errors.old.inner) (E.contents errors.new.inner) errors.new.failed }
+{
+    match refused_line(alloc, line) {
+        Ok(text) => {
+            tell(errors, text.as_str());
+            3
+        }
+        Err(_) => finish::<(), E>(Err(RunFault::Memory), errors),
+    }
+}

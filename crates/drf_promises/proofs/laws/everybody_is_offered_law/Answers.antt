@@ -1,0 +1,5 @@
+use Rattle.drf_promises.specs.laws.Everybody.{everybody_is_offered}
+use Rattle.drf_promises.proofs.laws.everybody_is_offered_law.Goals as goal
+
+pub returns : goal.returns
+returns c = everybody_is_offered

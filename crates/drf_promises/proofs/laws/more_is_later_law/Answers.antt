@@ -1,0 +1,11 @@
+use Rattle.drf_promises.specs.laws.Siblings.{more_is_later, offer_is_later, weight_is_not_later}
+use Rattle.drf_promises.proofs.laws.more_is_later_law.Goals as goal
+
+pub returns-clause-more : goal.returns-clause-more
+returns-clause-more c = more_is_later
+
+pub returns-clause-offer : goal.returns-clause-offer
+returns-clause-offer c = offer_is_later
+
+pub returns-clause-weight : goal.returns-clause-weight
+returns-clause-weight c = weight_is_not_later

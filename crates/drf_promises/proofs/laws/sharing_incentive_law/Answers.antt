@@ -1,0 +1,13 @@
+use Rattle.drf_promises.specs.laws.Equal.{equal_agents_are_shared}
+use Rattle.drf_promises.specs.laws.Incentive.{sharing_incentive}
+use Rattle.drf_promises.specs.laws.Shared.{fair_shares}
+use Rattle.drf_promises.proofs.laws.sharing_incentive_law.Goals as goal
+
+pub returns-clause-part : goal.returns-clause-part
+returns-clause-part c = sharing_incentive
+
+pub returns-clause-cycle : goal.returns-clause-cycle
+returns-clause-cycle c = fair_shares
+
+pub returns-clause-equal : goal.returns-clause-equal
+returns-clause-equal c = equal_agents_are_shared

@@ -1,0 +1,9 @@
+pub mod Runs
+pub mod Cycles
+pub mod Siblings
+pub mod Apart
+pub mod Sharing
+pub mod Waiting
+pub mod Passes
+pub mod laws
+pub mod examples

@@ -1,0 +1,88 @@
+-- What is promised of the part that each sibling gets.
+use Rattle.std.specs.Prelude.{◌≡◌, ℕ, ◌+◌, ◌*◌, ◌<◌, ◌≤◌, true, List, [], ◌∷◌, filter, length, sum_by}
+use Rattle.std.specs.List.{AllByRecursion}
+use Rattle.drf_role.specs.Path.{Path, begins_with}
+use Rattle.drf_role.specs.Text.{Text}
+use Rattle.drf_bundle.specs.Quantities.{amount_of}
+use Rattle.drf_bundle.specs.declared.resource.Resource.{Resource}
+use Rattle.drf_rows.specs.Client.{path_of}
+use Rattle.drf_rows.specs.Consistent.{IsConsistent}
+use Rattle.drf_rows.specs.Cycle.{cycle, is_allocatable}
+use Rattle.drf_rows.specs.Held.{cluster_total, held_by, standing_of, weight_of}
+use Rattle.drf_rows.specs.Holdings.{of_offer}
+use Rattle.drf_rows.specs.Share.{Fraction, share_of}
+use Rattle.drf_rows.specs.declared.limits.TheConstants.{LATEST_MOMENT}
+use Rattle.drf_rows.specs.declared.rows.Rows.{Rows}
+use Rattle.drf_promises.specs.Apart.{largest_agent, AreClientsOf, AreOneAgentApart, TakesPart}
+use Rattle.drf_promises.specs.Cycles.{IsOpen}
+use Rattle.drf_promises.specs.Siblings.{child, AtMostSum}
+
+abbrev pub times : ℕ → Fraction → Fraction
+times n f = record { part = n * f.part; whole = f.whole }
+
+abbrev pub share_at : Rows → Path → Fraction
+share_at rows node = share_of (standing_of rows) node
+
+abbrev pub weight_at : Rows → Path → ℕ
+weight_at rows node = weight_of rows.weights node
+
+-- one child and the others hold all that their parent holds
+abbrev pub HoldAll : Rows → Path → Text → List Text → Type 0
+HoldAll rows parent one others =
+    (label : Text) → held_by rows parent label ≤ held_by rows (child parent one) label + sum_by (λ name. held_by rows (child parent name) label) others
+
+-- Where siblings are one agent apart, each child has its part of what its parent has, by weight, but for one agent a sibling. With a weight of w,
+-- of W for all, and n siblings its share is at least w/W of the parent's share less n times that of the largest agent.
+abbrev pub SharingIncentive : Type 0
+SharingIncentive =
+    (rows : Rows) (parent : Path) (one : Text) (others : List Text)
+    → IsConsistent rows
+    → AreOneAgentApart rows
+    → TakesPart rows (child parent one)
+    → HoldAll rows parent one others
+    → let w : ℕ = weight_at rows (child parent one) in
+    let all : ℕ = w + sum_by (λ name. weight_at rows (child parent name)) others in
+    AtMostSum (times w (share_at rows parent)) (times all (share_at rows (child parent one))) (times (w * length others) (largest_agent rows))
+
+-- ---- of an empty cluster
+
+-- So of an empty cluster, where nothing is reserved, limited or refused and every agent is active and worth an offer, a cycle gives each role at the
+-- top its part by weight, but for the largest agent a sibling: at least w/W less n times w/W of that agent's share.
+abbrev pub FairShares : Type 0
+FairShares =
+    (rows : Rows) (at : ℕ) (one : Text) (others : List Text) (label : Text)
+    → IsConsistent rows
+    → at ≤ LATEST_MOMENT
+    → IsOpen rows
+    → rows.offers ≡ []
+    → rows.tasks ≡ []
+    → AllByRecursion (λ a. (a.active ≡ true) × (is_allocatable a.total ≡ true)) rows.agents
+    → 0 < amount_of (cluster_total rows.agents) label
+    → AreClientsOf rows [] (one ∷ others)
+    → TakesPart rows (child [] one)
+    → let after : Rows = cycle rows at in
+    let w : ℕ = weight_at after (child [] one) in
+    let all : ℕ = w + sum_by (λ name. weight_at after (child [] name)) others in
+    AtMostSum (times w (record { part = 1; whole = 1 })) (times all (share_at after (child [] one))) (times (w * length others) (largest_agent after))
+
+-- how many offers clients of the node have
+abbrev pub offers_to : Rows → Path → ℕ
+offers_to rows node = length (filter (λ o. begins_with (path_of (of_offer o).client) node) rows.offers)
+
+-- so of m equal agents each gets at least w/W of m - n
+abbrev pub EqualAgentsAreShared : Type 0
+EqualAgentsAreShared =
+    (rows : Rows) (at : ℕ) (one : Text) (others : List Text) (total : List Resource)
+    → IsConsistent rows
+    → at ≤ LATEST_MOMENT
+    → IsOpen rows
+    → rows.offers ≡ []
+    → rows.tasks ≡ []
+    → AllByRecursion (λ a. (a.active ≡ true) × (a.total ≡ total)) rows.agents
+    → is_allocatable total ≡ true
+    → AreClientsOf rows [] (one ∷ others)
+    → TakesPart rows (child [] one)
+    → let after : Rows = cycle rows at in
+    let w : ℕ = weight_at after (child [] one) in
+    let all : ℕ = w + sum_by (λ name. weight_at after (child [] name)) others in
+    w * length rows.agents ≤ all * offers_to after (child [] one) + w * length others

@@ -1,0 +1,55 @@
+-- What is promised to who waits for a machine that others decline.
+use Rattle.std.specs.Prelude.{◌≡◌, ℕ, ◌+◌, ◌<◌, ◌≤◌, min, true, List, [], ◌∷◌, ◌++◌, length}
+use Rattle.std.specs.List.{AllByRecursion, list_any}
+use Rattle.drf_rows.specs.Client.{Client}
+use Rattle.drf_rows.specs.Consistent.{IsConsistent}
+use Rattle.drf_rows.specs.Cycle.{free_of, is_allocatable}
+use Rattle.drf_rows.specs.Held.{active_clients}
+use Rattle.drf_rows.specs.Holdings.{of_offer}
+use Rattle.drf_rows.specs.Step.{effect, new_offers}
+use Rattle.drf_rows.specs.laws.LifeLaws.{is_same_client}
+use Rattle.drf_rows.specs.declared.event.Event.TheVariants.{Cycle, Decline}
+use Rattle.drf_rows.specs.declared.limits.TheConstants.{LATEST_MOMENT, LONGEST_FILTER}
+use Rattle.drf_rows.specs.declared.rows.AgentRow.{AgentRow}
+use Rattle.drf_rows.specs.declared.rows.OfferRow.{OfferRow}
+use Rattle.drf_rows.specs.declared.rows.Rows.{Rows}
+use Rattle.drf_promises.specs.Cycles.{active_agents, IsOpen}
+
+-- the offers of a cycle
+abbrev pub made_at : Rows → ℕ → List OfferRow
+made_at rows at = new_offers rows (effect rows (Cycle at))
+
+-- the rows once each of some offers was declined
+abbrev pub all_declined : ℕ → ℕ → Rows → List OfferRow → Rows
+all_declined at refuse_ms rows [] = rows
+all_declined at refuse_ms rows (offer ∷ offers) =
+    all_declined at refuse_ms
+    (effect rows (Decline (record { framework = offer.framework; offer = offer.number; at = at; refuse_ms = refuse_ms }))) offers
+
+-- the rows after a cycle of which each offer is declined at once
+abbrev pub round : ℕ → Rows → ℕ → Rows
+round refuse_ms rows at = all_declined at refuse_ms (effect rows (Cycle at)) (made_at rows at)
+
+-- the offers of such cycles
+abbrev pub made_in : ℕ → Rows → List ℕ → List OfferRow
+made_in refuse_ms rows [] = []
+made_in refuse_ms rows (at ∷ moments) = made_at rows at ++ made_in refuse_ms (round refuse_ms rows at) moments
+
+abbrev pub IsOffered : List OfferRow → Client → Type 0
+IsOffered offers client = list_any (λ o. is_same_client client (of_offer o).client) offers ≡ true
+
+-- One agent is active, what is free on it is worth an offer, and nothing is reserved, limited or refused. Where each declines what it is offered, for
+-- longer than some cycles take, each is offered something in as many cycles as there are clients that take part, whatever the tree and the shares.
+abbrev pub EverybodyIsOffered : Type 0
+EverybodyIsOffered =
+    (rows : Rows) (agent : AgentRow) (moments : List ℕ) (first last refuse_ms : ℕ)
+    → IsConsistent rows
+    → IsOpen rows
+    → active_agents rows ≡ agent ∷ []
+    → is_allocatable (free_of rows agent) ≡ true
+    → rows.clock ≤ last
+    → last ≤ LATEST_MOMENT
+    → AllByRecursion (λ at. (first ≤ at) × (at ≤ last)) moments
+    → last < first + min refuse_ms LONGEST_FILTER
+    → length (active_clients rows) ≤ length moments
+    → AllByRecursion (IsOffered (made_in refuse_ms rows moments)) (active_clients rows)

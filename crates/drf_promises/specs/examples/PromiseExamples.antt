@@ -1,0 +1,167 @@
+-- Some runs: of each promise one, and of what is not promised one where it fails.
+use Rattle.std.specs.Prelude.{ℕ, List, [], ◌∷◌, ◌++◌, codes, flat_map, map}
+use Rattle.drf_role.specs.Path.{Path}
+use Rattle.drf_role.specs.Text.{Text}
+use Rattle.drf_bundle.specs.declared.resource.Resource.{Resource}
+use Rattle.drf_rows.specs.LimitNumbers.{ceilings}
+use Rattle.drf_rows.specs.Step.{opening, replies_to, rows_after_all}
+use Rattle.drf_rows.specs.examples.Examples.{cpus, cpus_for, framework_in, mem}
+use Rattle.drf_rows.specs.examples.LifeExamples.{accept, decline, decline_for}
+use Rattle.drf_rows.specs.examples.QuotaExamples.{cpus_limit}
+use Rattle.drf_rows.specs.examples.WeightExamples.{weighing}
+use Rattle.drf_rows.specs.laws.LifeLaws.{lines_told}
+use Rattle.drf_rows.specs.declared.event.Event.{Event}
+use Rattle.drf_rows.specs.declared.event.Event.TheVariants.{AddAgent, AddFramework, Cycle}
+use Rattle.drf_rows.specs.declared.rows.Rows.{Rows}
+use Rattle.drf_rows.specs.declared.rows.TaskRow.{TaskRow}
+use Rattle.drf_promises.specs.Waiting.{made_in}
+
+abbrev pub rows_of : List Event → Rows
+rows_of events = rows_after_all ceilings opening events
+
+-- to whom the offers of a run go, one after another
+abbrev pub offered_to : List Event → List Text
+offered_to events = map (λ line. line.framework) (flat_map lines_told (replies_to ceilings opening events))
+
+abbrev pub fa : Text
+fa = codes "fa"
+
+abbrev pub fb : Text
+fb = codes "fb"
+
+abbrev pub fc : Text
+fc = codes "fc"
+
+abbrev pub a : Path
+a = codes "a" ∷ []
+
+abbrev pub b : Path
+b = codes "b" ∷ []
+
+-- two frameworks, each in a role of its own
+abbrev both : List Event
+both = framework_in fa (codes "a") ∷ framework_in fb (codes "b") ∷ []
+
+abbrev agent : Text → List Resource → Event
+agent name total = AddAgent name total
+
+-- ---- what is promised
+
+-- a limit leaves 3 of 4 `cpus`, and nobody would be granted them
+abbrev pub cut : List Event
+cut = agent (codes "n1") (cpus 4000 ∷ []) ∷ framework_in fa (codes "a") ∷ cpus_limit a 1000 ∷ Cycle 0 ∷ []
+
+-- a task of `fa` runs while `fb` comes with a weight of 1000, and `fa` gets a limit that is less than it uses
+abbrev pub running : List Event
+running =
+    agent (codes "n1") (cpus 4000 ∷ [])
+    ∷ framework_in fa (codes "a")
+    ∷ Cycle 0
+    ∷ accept fa 1 (codes "t") (cpus 3000 ∷ [])
+    ∷ framework_in fb (codes "b")
+    ∷ weighing (codes "b") 1000000
+    ∷ cpus_limit a 1000
+    ∷ Cycle 0
+    ∷ []
+
+abbrev pub its_task : TaskRow
+its_task = record { name = codes "t"; agent = codes "n1"; framework = fa; role = a; bundle = cpus 3000 ∷ [] }
+
+-- what is reserved for `a` is not for `fb`, and not for everyone
+abbrev pub reserved : List Event
+reserved = agent (codes "n1") (cpus_for (codes "a") 4000 ∷ []) ∷ framework_in fb (codes "b") ∷ Cycle 0 ∷ framework_in fa (codes "a") ∷ Cycle 0 ∷ []
+
+-- five agents of one size
+abbrev five : List Event
+five =
+    agent (codes "n1") (cpus 1000 ∷ [])
+    ∷ agent (codes "n2") (cpus 1000 ∷ [])
+    ∷ agent (codes "n3") (cpus 1000 ∷ [])
+    ∷ agent (codes "n4") (cpus 1000 ∷ [])
+    ∷ agent (codes "n5") (cpus 1000 ∷ [])
+    ∷ []
+
+abbrev pub shared : List Event
+shared = five ++ (both ++ Cycle 0 ∷ [])
+
+-- one agent, of which both would have all
+abbrev pub alone : List Event
+alone = agent (codes "n1") (cpus 1000 ∷ []) ∷ both
+
+-- to whom it is offered in some cycles, if each declines it for 5000
+abbrev pub declined_by_each : List ℕ → List Text
+declined_by_each moments = map (λ o. o.framework) (made_in 5000 (rows_of alone) moments)
+
+-- ---- what is not promised
+
+-- As `fb` in `eng/b` is offered 7 of 8 `cpus`, `eng` has 1 and `ops` nothing. The order is that of the turn's beginning.
+abbrev pub in_turn : List Event
+in_turn =
+    agent (codes "n1") (cpus 8000 ∷ [])
+    ∷ AddFramework fa ((codes "eng" ∷ a) ∷ [])
+    ∷ AddFramework fb ((codes "eng" ∷ b) ∷ [])
+    ∷ framework_in fc (codes "ops")
+    ∷ cpus_limit (codes "eng" ∷ a) 1000
+    ∷ Cycle 0
+    ∷ []
+
+-- of one agent one of two gets all
+abbrev pub one : List Event
+one = alone ++ Cycle 0 ∷ []
+
+-- six agents of one size, shared with some others
+abbrev pub six : List Event → List Event
+six others = five ++ (agent (codes "n6") (cpus 1000 ∷ []) ∷ both ++ (others ++ Cycle 0 ∷ []))
+
+-- `fa` needs 2 of 4 `cpus` now and 2 later; if it uses no more than it needs now, `fb` gets the others
+abbrev pub modest : List Event
+modest = agent (codes "n1") (cpus 4000 ∷ []) ∷ both ++ (Cycle 0 ∷ accept fa 1 (codes "t") (cpus 2000 ∷ []) ∷ Cycle 0 ∷ [])
+
+-- `fb` declines again and again, for no time and then for 5000
+abbrev pub declined : List Event
+declined =
+    agent (codes "n1") (cpus 1000 ∷ [])
+    ∷ framework_in fa (codes "a")
+    ∷ Cycle 0
+    ∷ agent (codes "n2") (cpus 3000 ∷ [])
+    ∷ framework_in fb (codes "b")
+    ∷ Cycle 0
+    ∷ decline fb 2
+    ∷ Cycle 0
+    ∷ decline fb 3
+    ∷ Cycle 0
+    ∷ decline_for fb 4 0 5000
+    ∷ Cycle 0
+    ∷ []
+
+-- four agents of different shapes, shared by two roles of which the first has a weight
+abbrev pub weighed : ℕ → List Event
+weighed weight =
+    agent (codes "n1") (cpus 4000 ∷ mem 32000 ∷ [])
+    ∷ agent (codes "n2") (cpus 2000 ∷ mem 32000 ∷ [])
+    ∷ agent (codes "n3") (cpus 2000 ∷ mem 32000 ∷ [])
+    ∷ agent (codes "n4") (cpus 4000 ∷ mem 128000 ∷ [])
+    ∷ both ++ (weighing (codes "a") weight ∷ Cycle 0 ∷ [])
+
+-- four agents, shared with some others
+abbrev pub among : List Event → List Event
+among others =
+    agent (codes "n1") (cpus 4000 ∷ mem 32000 ∷ [])
+    ∷ agent (codes "n2") (cpus 4000 ∷ mem 32000 ∷ [])
+    ∷ agent (codes "n3") (cpus 4000 ∷ mem 64000 ∷ [])
+    ∷ agent (codes "n4") (cpus 4000 ∷ mem 128000 ∷ [])
+    ∷ both ++ (others ++ Cycle 0 ∷ [])
+
+abbrev pub one_more : List Event
+one_more = framework_in fc (codes "c") ∷ []
+
+-- `fa` takes three of five agents and uses next to nothing there, `fb` keeps two
+abbrev pub little_used : List Event
+little_used =
+    shared
+    ++ accept fa 1 (codes "t1") (cpus 1 ∷ [])
+    ∷ accept fb 2 (codes "t2") (cpus 1000 ∷ [])
+    ∷ accept fa 3 (codes "t3") (cpus 1 ∷ [])
+    ∷ accept fb 4 (codes "t4") (cpus 1000 ∷ [])
+    ∷ accept fa 5 (codes "t5") (cpus 1 ∷ [])
+    ∷ []

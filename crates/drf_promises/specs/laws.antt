@@ -1,0 +1,21 @@
+-- Theorems about runs, which prove the statements beside this folder.
+pub mod Less
+pub mod Left
+pub mod Cycles
+pub mod Order
+pub mod Stands
+pub mod Counts
+pub mod Shares
+pub mod Siblings
+pub mod Open
+pub mod First
+pub mod Apart
+pub mod ApartRuns
+pub mod Incentive
+pub mod Waiting
+pub mod Rounds
+pub mod Everybody
+pub mod Passes
+pub mod PassRuns
+pub mod Shared
+pub mod Equal

@@ -1,5 +1,5 @@
 -- What a text says, line by line.
-use Rattle.std.proofs.Common.{◌≡◌, ℕ, ◌+◌, ◌<◌, ◌≤◌, Bool, true, false, List, [], ◌∷◌, ◌++◌, length, take, drop, Option, Some, None, Result, Ok, Err, refl, sym, ap, subst, ◌∙◌, take-append-drop, arith}
+use Rattle.std.proofs.Common.{◌≡◌, ℕ, ◌+◌, ◌<◌, ◌≤◌, Bool, true, false, List, [], ◌∷◌, ◌++◌, length, take, drop, Option, Result, Ok, Err, refl, sym, ap, subst, ◌∙◌, take-append-drop, arith}
 use Rattle.std.specs.List.{join_with_byte}
 use Rattle.std.specs.Prelude.{IfErr, IsErrAnd}
 use Rattle.std.proofs.Math.Seq.{drop-drop, take-append-add}
@@ -9,7 +9,7 @@ use Rattle.drf_rows.specs.declared.rows.Rows.{Rows}
 use Rattle.drf_saved.specs.declared.fault.RowFault.TheVariants.{OutOfOrder}
 use Rattle.drf_state.specs.Fault.{stopped_at}
 use Rattle.drf_state.specs.Reading.{IsFaultOf, IsStop}
-use Rattle.drf_state.specs.State.{ended, said_by, rows_behind, is_at_end, whole_if, Said, says_behind, says_first, rest_says, rows_begun, state_in, parts_say}
+use Rattle.drf_state.specs.State.{ended, said_by, rows_behind, is_at_end, Said, says_behind, says_first, rest_says, rows_begun, state_in, parts_say}
 use Rattle.drf_state.specs.declared.fault.LineStop.{LineStop}
 use Rattle.drf_state.specs.declared.fault.LineStop.TheVariants as stop
 use Rattle.drf_state.specs.declared.fault.StateError.{StateError}

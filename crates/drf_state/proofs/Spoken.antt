@@ -1,5 +1,5 @@
 -- What is read of the lines of a text.
-use Rattle.std.proofs.Common.{◌≡◌, ℕ, Bool, true, false, List, Result, Ok, Err, sym, ap, subst, ◌∙◌}
+use Rattle.std.proofs.Common.{◌≡◌, ℕ, Bool, List, Result, Ok, Err, sym, ap, subst, ◌∙◌}
 use Rattle.std.specs.Prelude.{IsErrAnd, MatchResult, if◌then◌else◌}
 use Rattle.drf_saved.specs.declared.saved.StateLine.{StateLine}
 use Rattle.drf_lines.specs.Fault.{IsReadOf}
@@ -10,7 +10,7 @@ use Rattle.drf_state.specs.Fault.{stop_of_line}
 use Rattle.drf_state.specs.Reading.{IsStop}
 use Rattle.drf_state.specs.State.{is_written, said_by, said_or}
 use Rattle.drf_state.specs.declared.fault.LineStop.{LineStop}
-use Rattle.drf_state.specs.declared.fault.StateFault.TheVariants.{Line, NotWritten}
+use Rattle.drf_state.specs.declared.fault.StateFault.TheVariants.{NotWritten}
 
 -- a line that says something, by whether that is its written form
 pub said_as : (line : List ℕ) (said : StateLine) (is : Bool) → state_line_meaning line ≡ Ok said → is ≡ is_written line said

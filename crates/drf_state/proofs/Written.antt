@@ -4,7 +4,6 @@ use Rattle.hex.specs.Hex.{encode_lower}
 use Rattle.sha2.specs.Sha256.{sha256}
 use Rattle.drf_rows.specs.declared.rows.Rows.{Rows}
 use Rattle.drf_lines.specs.StateLine.{end_line}
-use Rattle.drf_state.specs.LinedText.{LinedBytes, begun_text, with_rows}
 use Rattle.drf_state.specs.State.{body_text, ended, lines_before, state_text}
 
 -- the lines of a text, and the last one with its line feed

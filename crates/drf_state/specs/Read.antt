@@ -1,5 +1,5 @@
 -- What is written of a state is read as what it was written of.
-use Rattle.std.specs.Prelude.{◌≡◌, ℕ, List, Ok}
+use Rattle.std.specs.Prelude.{◌≡◌, List, Ok}
 use Rattle.std.specs.List.{AllByRecursion}
 use Rattle.drf_rows.specs.declared.rows.Rows.{Rows}
 use Rattle.drf_saved.specs.Saved.{head_of, saved_rows}

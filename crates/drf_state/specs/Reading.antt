@@ -1,8 +1,7 @@
 -- What a reader of a state answers.
-use Rattle.std.specs.Prelude.{◌≡◌, ℕ, Bool, true, false, List, [], Option, Some, None, Result, Ok, Err}
+use Rattle.std.specs.Prelude.{◌≡◌, ℕ, Bool, true, false, List, Some, None, Result, Ok, Err}
 use Rattle.drf_rows.specs.LimitNumbers.{LimitNumbers}
 use Rattle.drf_rows.specs.Step.{live_rows}
-use Rattle.drf_rows.specs.declared.rows.Rows.{Rows}
 use Rattle.drf_core.specs.Machine.{Engine, Machine}
 use Rattle.drf_saved_laws.specs.SavedLaws.{IsSaveable}
 use Rattle.drf_state.specs.State.{Said, rows_behind, said_by, state_in, state_text}

@@ -1,10 +1,10 @@
 -- The text of a state: its lines, and a last one with their number and digest (SHA-256, FIPS 180-4). And what a text says.
-use Rattle.std.specs.Prelude.{ℕ, ◌+◌, ◌-◌, ◌==◌, Bool, true, false, List, [], ◌∷◌, ◌++◌, length, Option, Some, None, Result, Ok, Err, if◌then◌else◌}
+use Rattle.std.specs.Prelude.{ℕ, ◌+◌, ◌==◌, Bool, true, false, List, [], ◌∷◌, ◌++◌, length, Option, Some, None, Result, Ok, Err, if◌then◌else◌}
 use Rattle.std.specs.List.{flat_map, slice_split}
 use Rattle.std.specs.Option.{option_map_or}
 use Rattle.hex.specs.Hex.{encode_lower}
 use Rattle.sha2.specs.Sha256.{sha256}
-use Rattle.drf_role.specs.Text.{Text, same_text}
+use Rattle.drf_role.specs.Text.{same_text}
 use Rattle.drf_rows.specs.LimitNumbers.{LimitNumbers}
 use Rattle.drf_rows.specs.declared.rows.Rows.{Rows}
 use Rattle.drf_saved.specs.Saved.{saved_rows, head_of, begun, with_row, head_fault, row_fault}

@@ -1,6 +1,6 @@
 -- A text that says rows is their text, and the text of rows says them.
-use Rattle.std.specs.Prelude.{◌≡◌, ℕ, ◌+◌, ◌<◌, ◌==◌, Bool, true, false, cond, List, [], ◌∷◌, ◌++◌, length, Option, Some, None, is_some, Result, Ok, Err, if◌then◌else◌}
-use Rattle.std.specs.List.{flat_map, slice_split, join_with_byte}
+use Rattle.std.specs.Prelude.{◌≡◌, ℕ, ◌+◌, ◌<◌, Bool, true, false, List, [], ◌∷◌, ◌++◌, length, Option, Some, None, is_some, Result, Ok, Err, if◌then◌else◌}
+use Rattle.std.specs.List.{join_with_byte}
 use Rattle.std.specs.Option.{option_map_or}
 use Rattle.std.proofs.Common.{refl, sym, ap, subst, ◌∙◌, arith, append_assoc, append-nil}
 use Rattle.drf_role.specs.Text.{same_text}
@@ -21,8 +21,8 @@ use Rattle.drf_lines.specs.OneLine.{IsOneLine}
 use Rattle.drf_lines.specs.StateLine.{head_line, row_line, end_line}
 use Rattle.drf_lines.specs.StateMeaning.{state_line_meaning}
 use Rattle.drf_lines.specs.declared.fault.LineFault.{LineFault}
-use Rattle.drf_state.specs.Read.{IsRead, AreRead}
-use Rattle.drf_state.specs.State.{ended, closing, rows_text, is_written, if_written, said_or, said_by, rows_or, rows_begun, rows_behind, is_at_end, whole_if, Said, says_behind, rest_says, says_first, parts_say, state_in, state_text}
+use Rattle.drf_state.specs.Read.{AreRead}
+use Rattle.drf_state.specs.State.{ended, closing, rows_text, is_written, said_or, said_by, rows_or, rows_begun, rows_behind, is_at_end, whole_if, says_behind, rest_says, says_first, parts_say, state_in, state_text}
 use Rattle.drf_state.specs.StateLaws.{WhatIsSaidIsTheText, WhatIsWrittenIsSaid}
 use Rattle.drf_state.specs.declared.fault.StateFault.{StateFault}
 use Rattle.drf_state.specs.declared.fault.StateFault.TheVariants.{NotWritten, Row, BadEnd}

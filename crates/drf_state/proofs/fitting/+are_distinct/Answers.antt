@@ -1,4 +1,4 @@
-use Rattle.std.proofs.Common.{◌≡◌, ◌&&◌, List, map, ap, sym, ◌∙◌}
+use Rattle.std.proofs.Common.{◌&&◌, List, map, ap, sym, ◌∙◌}
 use Rattle.drf_rows.specs.Consistent.{are_distinct_roles}
 use Rattle.drf_rows.specs.declared.rows.ClientRow.{ClientRow}
 use Rattle.drf_state.proofs.Fits.{distinct_first}

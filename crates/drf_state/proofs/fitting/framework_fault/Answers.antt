@@ -1,9 +1,8 @@
-use Rattle.std.proofs.Common.{◌≡◌, Bool, List, ◌∷◌, [], ◌++◌, ◌∙◌, Some, None, map, nat_le, not, ap, sym}
+use Rattle.std.proofs.Common.{◌≡◌, Bool, List, ◌∷◌, [], ◌++◌, ◌∙◌, nat_le, not, sym}
 use Rattle.drf_rows.specs.declared.reply.Refusal.TheVariants.{KnownFramework, TooMany}
 use Rattle.drf_saved.specs.Saved.{first_fault, has_too_many_clients, no_weights, roles_of, row_fault}
 use Rattle.drf_rows.specs.Consistent.{are_distinct_roles, offers_counted}
 use Rattle.drf_rows.specs.Members.{has_framework}
-use Rattle.drf_rows.specs.declared.rows.ClientRow.{ClientRow}
 use Rattle.drf_rows.specs.declared.rows.FrameworkRow.{FrameworkRow}
 use Rattle.drf_rows.specs.declared.rows.Rows.{Rows}
 use Rattle.drf_saved.specs.declared.fault.RowFault.{RowFault}

@@ -1,4 +1,4 @@
-use Rattle.std.proofs.Common.{◌≡◌, ℕ, Bool, ◌+◌, ◌∷◌, [], ◌++◌, ◌∙◌, not, nat_le, refl}
+use Rattle.std.proofs.Common.{◌∷◌, [], ◌∙◌, not}
 use Rattle.drf_saved.specs.Saved.{first_fault, row_fault}
 use Rattle.drf_rows.specs.declared.reply.Refusal.TheVariants.{UnknownAgent, UnknownFramework, NotInRole, NotCovered}
 use Rattle.drf_saved.specs.declared.fault.RowFault.TheVariants.{Refused, OutOfOrder, BadNumber}

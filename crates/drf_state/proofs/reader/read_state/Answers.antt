@@ -1,8 +1,8 @@
-use Rattle.std.proofs.Common.{◌≡◌, ◌+◌, List, Result, Ok, Err, length, take, drop, sym, ap, subst, ◌∙◌, IfErr}
+use Rattle.std.proofs.Common.{◌≡◌, ◌+◌, Ok, take, drop, sym, ap, subst, ◌∙◌}
 use Rattle.drf_rows.specs.LimitNumbers.{LimitNumbers}
 use Rattle.drf_rows.specs.declared.rows.Rows.{Rows}
 use Rattle.drf_saved_laws.specs.SavedLaws.{IsSaveable}
-use Rattle.drf_state.specs.Reading.{IsFaultOf, IsReadState}
+use Rattle.drf_state.specs.Reading.{IsFaultOf}
 use Rattle.drf_state.specs.State.{Said, rest_says, rows_begun, said_by, says_first, state_in}
 use Rattle.drf_state.specs.laws.Parts.{parts_of_text}
 use Rattle.drf_state.specs.laws.Texts.{what_is_said_is_the_text}

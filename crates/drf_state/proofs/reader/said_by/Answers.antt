@@ -1,4 +1,4 @@
-use Rattle.std.proofs.Common.{false, true, sym, ◌∙◌, ap}
+use Rattle.std.proofs.Common.{false, true, sym, ◌∙◌}
 use Rattle.drf_state.proofs.Spoken.{said_as, stopped_as}
 use Rattle.drf_state.proofs.reader.said_by.Goals as goal
 

@@ -1,4 +1,4 @@
-use Rattle.std.proofs.Common.{false, true, ap, ◌∙◌, sym, Ok, Err, Some, true≢false}
+use Rattle.std.proofs.Common.{ap, ◌∙◌, sym, Ok, Err, Some, true≢false}
 use Rattle.std.specs.Option.{option_map_or}
 use Rattle.std.specs.Prelude.{Result, Option}
 use Rattle.drf_rows.specs.declared.rows.Rows.{Rows}

@@ -1,9 +1,8 @@
-use Rattle.std.proofs.Common.{◌≡◌, ℕ, ◌+◌, ◌-◌, ◌<◌, ◌≤◌, Bool, true, false, List, ◌∷◌, length, take, drop, Ok, Err, Some, None, sym, ap, subst, ◌∙◌, rules, arith}
+use Rattle.std.proofs.Common.{◌≡◌, ◌+◌, ◌-◌, ◌<◌, ◌≤◌, Bool, false, length, take, drop, Ok, Err, sym, ap, subst, ◌∙◌, arith}
 use Rattle.std.proofs.lemmas.List.{length-drop}
 use Rattle.drf_rows.specs.LimitNumbers.{LimitNumbers}
 use Rattle.drf_rows.specs.declared.rows.Rows.{Rows}
 use Rattle.drf_saved.specs.declared.fault.RowFault.TheVariants.{OutOfOrder}
-use Rattle.drf_state.specs.Fault.{stopped_at}
 use Rattle.drf_state.specs.Reading.{IsFaultOf}
 use Rattle.drf_state.specs.State.{Said, is_at_end, rest_says, rows_behind, said_by, says_behind, whole_if}
 use Rattle.drf_state.specs.declared.fault.StateFault.TheVariants.{Row}

@@ -1,14 +1,12 @@
-use Rattle.std.proofs.Common.{◌≡◌, ◌+◌, ◌++◌, ◌∷◌, [], List, ℕ, Ok, length, sym, ap, subst, ◌∙◌}
-use Rattle.std.specs.String.{string_bytes}
+use Rattle.std.proofs.Common.{◌≡◌, ◌++◌, ◌∷◌, [], List, ℕ, Ok, sym, ap, subst, ◌∙◌}
 use Rattle.hex.specs.Hex.{encode_lower}
 use Rattle.sha2.specs.Sha256.{sha256}
-use Rattle.drf_rows.specs.Step.{live_rows}
 use Rattle.drf_saved.specs.Saved.{saved_rows}
 use Rattle.drf_saved.specs.declared.saved.StateLine.TheVariants as says
 use Rattle.drf_lines.specs.StateLine.{end_line}
 use Rattle.drf_lines.specs.StateMeaning.{state_line_meaning}
 use Rattle.drf_state.specs.LinedText.{LinedBytes, begun_text, with_rows}
-use Rattle.drf_state.specs.State.{body_text, closing, ended, lines_before, state_in, state_text}
+use Rattle.drf_state.specs.State.{body_text, closing, lines_before, state_in}
 use Rattle.drf_state.proofs.Written.{text_of}
 use Rattle.drf_state.proofs.writer.write_state.Goals as goal
 

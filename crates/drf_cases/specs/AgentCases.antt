@@ -1,0 +1,35 @@
+-- Agents: each case in which they are refused.
+use Rattle.std.specs.Prelude.{[], ◌∷◌, codes}
+use Rattle.drf_rows.specs.declared.event.Event.TheVariants.{AddAgent, RemoveAgent, ActivateAgent, DeactivateAgent, SetAgent, Rescind, Cycle}
+use Rattle.drf_rows.specs.declared.reply.Refusal.TheVariants.{UnknownAgent, KnownAgent, UnknownOffer, NotCovered, TooLarge, TooMany}
+use Rattle.drf_rows.specs.declared.reply.Reply.TheVariants.{Done, Refused}
+use Rattle.drf_rows.specs.examples.Examples.{cpus, mem, gpus, framework_in, offer}
+use Rattle.drf_rows.specs.examples.LifeExamples.{one}
+use Rattle.drf_cases.specs.Told.{Told, too_large}
+
+-- who registers, is activated or is not, is so again, gets another total, and leaves with its offer
+abbrev pub agents_told : Told
+agents_told =
+    (RemoveAgent (codes "n1"), Refused UnknownAgent)
+    ∷ (ActivateAgent (codes "n1"), Refused UnknownAgent)
+    ∷ (DeactivateAgent (codes "n1"), Refused UnknownAgent)
+    ∷ (SetAgent (codes "n1") (cpus 1000 ∷ []), Refused UnknownAgent)
+    ∷ (AddAgent (codes "n1") (cpus 2000 ∷ mem 64000 ∷ []), Done)
+    ∷ (AddAgent (codes "n1") (cpus 1000 ∷ []), Refused KnownAgent)
+    ∷ (AddAgent (codes "n2") (cpus too_large ∷ []), Refused TooLarge)
+    ∷ (AddAgent (codes "n2") (gpus 1000 ∷ []), Refused TooMany)
+    ∷ (AddAgent (codes "n2") (cpus 1000 ∷ []), Done)
+    ∷ (AddAgent (codes "n3") (cpus 1000 ∷ []), Refused TooMany)
+    ∷ (ActivateAgent (codes "n1"), Done)
+    ∷ (DeactivateAgent (codes "n2"), Done)
+    ∷ (DeactivateAgent (codes "n2"), Done)
+    ∷ (framework_in (codes "f1") (codes "a"), Done)
+    ∷ (Cycle 0, one (offer 1 (codes "f1") (codes "a") (codes "n1") (cpus 2000 ∷ mem 64000 ∷ [])))
+    ∷ (SetAgent (codes "n1") (cpus 1999 ∷ mem 64000 ∷ []), Refused NotCovered)
+    ∷ (SetAgent (codes "n1") (cpus too_large ∷ mem 64000 ∷ []), Refused TooLarge)
+    ∷ (SetAgent (codes "n2") (gpus 1000 ∷ []), Refused TooMany)
+    ∷ (SetAgent (codes "n1") (cpus 2000 ∷ mem 64000 ∷ []), Done)
+    ∷ (RemoveAgent (codes "n1"), Done)
+    ∷ (Rescind 1, Refused UnknownOffer)
+    ∷ (RemoveAgent (codes "n1"), Refused UnknownAgent)
+    ∷ []

@@ -1,0 +1,57 @@
+-- Reservations, weights and limits of roles: each case in which they are refused.
+use Rattle.std.specs.Prelude.{List, [], ◌∷◌, ◌++◌, codes}
+use Rattle.drf_role.specs.Role.{default_role}
+use Rattle.drf_bundle.specs.declared.quantities.Entry.{Entry}
+use Rattle.drf_rows.specs.declared.event.Event.TheVariants.{AddAgent, DeactivateAgent, Reserve, Unreserve, SetWeight, SetLimit}
+use Rattle.drf_rows.specs.declared.reply.Refusal.TheVariants.{UnknownAgent, DefaultRole, Empty, NotUnreserved, NotCovered, OverLimit, BadWeight, TooMany}
+use Rattle.drf_rows.specs.declared.reply.Reply.TheVariants.{Done, Refused}
+use Rattle.drf_rows.specs.examples.Examples.{cpus, cpus_for}
+use Rattle.drf_rows.specs.examples.OrderExamples.{eng, ops, role_a, role_b}
+use Rattle.drf_rows.specs.examples.QuotaExamples.{cpus_limit}
+use Rattle.drf_rows.specs.examples.ReportExamples.{told_cpus}
+use Rattle.drf_cases.specs.Told.{Told}
+
+-- a part of an agent that takes no part is reserved, and is for everyone again
+abbrev pub reservations_told : Told
+reservations_told =
+    (Reserve (codes "n1") eng (cpus 1000 ∷ []), Refused UnknownAgent)
+    ∷ (Unreserve (codes "n1") eng (cpus 1000 ∷ []), Refused UnknownAgent)
+    ∷ (AddAgent (codes "n1") (cpus 2000 ∷ []), Done)
+    ∷ (DeactivateAgent (codes "n1"), Done)
+    ∷ (cpus_limit eng 1000, Done)
+    ∷ (Reserve (codes "n1") default_role (cpus 1000 ∷ []), Refused DefaultRole)
+    ∷ (Reserve (codes "n1") eng [], Refused Empty)
+    ∷ (Reserve (codes "n1") eng (cpus_for (codes "a") 1000 ∷ []), Refused NotUnreserved)
+    ∷ (Reserve (codes "n1") eng (cpus 2001 ∷ []), Refused NotCovered)
+    ∷ (Reserve (codes "n1") eng (cpus 1001 ∷ []), Refused OverLimit)
+    ∷ (Reserve (codes "n1") eng (cpus 1000 ∷ []), Done)
+    ∷ (Reserve (codes "n1") ops (cpus 1001 ∷ []), Refused NotCovered)
+    ∷ (Unreserve (codes "n1") default_role (cpus 1000 ∷ []), Refused DefaultRole)
+    ∷ (Unreserve (codes "n1") eng [], Refused Empty)
+    ∷ (Unreserve (codes "n1") eng (cpus_for (codes "eng") 1000 ∷ []), Refused NotUnreserved)
+    ∷ (Unreserve (codes "n1") eng (cpus 1001 ∷ []), Refused NotCovered)
+    ∷ (Unreserve (codes "n1") ops (cpus 1000 ∷ []), Refused NotCovered)
+    ∷ (Unreserve (codes "n1") eng (cpus 1000 ∷ []), Done)
+    ∷ (Reserve (codes "n1") ops (cpus 2000 ∷ []), Done)
+    ∷ []
+
+-- a name more than there may be
+abbrev three_scalars : List Entry
+three_scalars = told_cpus 0 ++ record { label = codes "gpus"; amount = 0 } ∷ record { label = codes "mem"; amount = 0 } ∷ []
+
+-- one role has a weight, which is set anew, and one a limit, which is taken away
+abbrev pub roles_told : Told
+roles_told =
+    (SetWeight role_a 0, Refused BadWeight)
+    ∷ (SetWeight role_a 1000001, Refused BadWeight)
+    ∷ (SetWeight role_a 1000000, Done)
+    ∷ (SetWeight role_b 1, Refused TooMany)
+    ∷ (SetWeight role_a 1, Done)
+    ∷ (SetLimit default_role [], Refused DefaultRole)
+    ∷ (cpus_limit role_a 0, Done)
+    ∷ (cpus_limit role_b 0, Refused TooMany)
+    ∷ (SetLimit role_b [], Done)
+    ∷ (SetLimit role_a three_scalars, Refused TooMany)
+    ∷ (SetLimit role_a [], Done)
+    ∷ (cpus_limit role_b 0, Done)
+    ∷ []

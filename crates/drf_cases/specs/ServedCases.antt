@@ -1,0 +1,25 @@
+-- Who is served, where a part of what stands is easily left out of the count.
+use Rattle.std.specs.Prelude.{ℕ, true, [], ◌∷◌, codes}
+use Rattle.drf_role.specs.Text.{Text}
+use Rattle.drf_bundle.specs.declared.resource.Resource.{Resource}
+use Rattle.drf_bundle.specs.declared.value.Value.TheVariants.{Scalar}
+use Rattle.drf_rows.specs.declared.rows.FrameworkRow.{FrameworkRow}
+use Rattle.drf_rows.specs.declared.rows.Rows.{Rows}
+use Rattle.drf_rows.specs.examples.Examples.{cpus}
+use Rattle.drf_rows.specs.examples.OrderExamples.{agent_with, eng, framework_row, holding, ops, rows_with}
+
+-- so many thousandths, for a role of one component
+abbrev pub mem_for : Text → ℕ → Resource
+mem_for role amount = record { label = codes "mem"; role = role ∷ []; value = Scalar amount }
+
+-- a framework that wants no offers
+abbrev suppressed_in_eng : FrameworkRow
+suppressed_in_eng = record { name = codes "f1"; clients = record { role = eng; count = 1; suppressed = true } ∷ [] }
+
+-- two frameworks share a role, of which one wants no offers and holds more than a third, of another role, does
+abbrev pub one_suppressed : Rows
+one_suppressed = rows_with
+    (agent_with (cpus 8000 ∷ []) ∷ [])
+    (suppressed_in_eng ∷ framework_row (codes "f2") eng 0 ∷ framework_row (codes "f3") ops 1 ∷ [])
+    (holding (codes "f1") eng (cpus 2000 ∷ []) ∷ holding (codes "f3") ops (cpus 1000 ∷ []) ∷ [])
+    []

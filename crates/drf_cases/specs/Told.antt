@@ -1,0 +1,41 @@
+-- A run told event by event, each with its reply.
+use Rattle.std.specs.Prelude.{◌≡◌, ℕ, List, map}
+use Rattle.drf_rows.specs.LimitNumbers.{LimitNumbers}
+use Rattle.drf_rows.specs.Step.{opening, replies_to}
+use Rattle.drf_rows.specs.declared.event.Event.{Event}
+use Rattle.drf_rows.specs.declared.reply.Reply.{Reply}
+
+abbrev pub Told : Type 0
+Told = List (Event × Reply)
+
+abbrev pub events_told : Told → List Event
+events_told told = map (λ t. t.0) told
+
+abbrev pub replies_told : Told → List Reply
+replies_told told = map (λ t. t.1) told
+
+-- the replies are those of an allocator that was just opened, to these events
+abbrev pub IsRun : LimitNumbers → Told → Type 0
+IsRun limits told = replies_to limits opening (events_told told) ≡ replies_told told
+
+-- tables of which each is soon full
+abbrev pub few : LimitNumbers
+few = record {
+  agents = 2;
+  frameworks = 2;
+  roles = 2;
+  clients = 3;
+  filters = 1;
+  weights = 1;
+  limits = 1;
+  scalar_names = 2;
+  events = 4294967295;
+}
+
+-- a moment later than the latest
+abbrev pub too_late : ℕ
+too_late = 4611686018427387905
+
+-- a thousandth more of a scalar than an agent may have
+abbrev pub too_large : ℕ
+too_large = 1099511627776

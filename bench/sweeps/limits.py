@@ -1,18 +1,20 @@
 #!/usr/bin/env python3
-"""Asks the program at the ends of its limits: as many agents, frameworks, clients, weights, limits, names, filters and tasks as there
+"""Outside the proof. Asks the program at the ends of its limits: as many agents, frameworks, clients, weights, limits, names, filters and tasks as there
 may be and one more, the greatest amounts, shares that differ in their last place, and the latest moments. Each reply is compared with what
 the rules say, the journal must check as good, and another program, where one is named, must write the same bytes.
 
-    bench/limits.py                  the program that ./drf builds, all but the filters
-    bench/limits.py PROGRAM          another one
-    bench/limits.py PROGRAM whole    the filters too
-    bench/limits.py PROGRAM whole OTHER"""
+    bench/sweeps/limits.py                  the program that ./drf builds, all but the filters
+    bench/sweeps/limits.py PROGRAM          another one
+    bench/sweeps/limits.py PROGRAM whole    the filters too
+    bench/sweeps/limits.py PROGRAM whole OTHER"""
 import json
+import os
 import random
 import subprocess
 import sys
 from fractions import Fraction
 
+sys.path.append(f"{os.path.dirname(os.path.realpath(__file__))}/../tools")
 from begin import built_program
 from churn import line
 

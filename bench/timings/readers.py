@@ -1,14 +1,15 @@
 #!/usr/bin/env python3
-"""Tells how many reports viewers read while one thread calls, a call for each line of a cluster in use: reads and calls a second with
-1, 8 and 64 viewers, each on a thread of its own. It builds an unproved program (bench/unproved.py), in some minutes.
+"""Outside the proof. Tells how many reports viewers read while one thread calls, a call for each line of a cluster in use: reads and calls a second with
+1, 8 and 64 viewers, each on a thread of its own. It builds an unproved program (bench/tools/unproved.py), in some minutes.
 
-    bench/readers.py PROGRAM            PROGRAM answers lines, from which the lines are made
-    bench/readers.py PROGRAM READERS    READERS is what bench/unproved.py made of bench/readers before"""
+    bench/timings/readers.py PROGRAM            PROGRAM answers lines, from which the lines are made
+    bench/timings/readers.py PROGRAM READERS    READERS is what bench/tools/unproved.py made of bench/timings/readers before"""
 import os
 import subprocess
 import sys
 import tempfile
 
+sys.path.append(f"{os.path.dirname(os.path.realpath(__file__))}/../tools")
 from begin import ROOT
 from churn import Talk, churn
 from unproved import build
@@ -22,7 +23,7 @@ def main(program, readers=None):
     with tempfile.TemporaryDirectory() as room:
         if not readers:
             readers = f"{room}/readers"
-            build(f"{ROOT}/bench/readers", readers)
+            build(f"{ROOT}/bench/timings/readers", readers)
         print(f"{'viewers':>8}{'calls':>8}{'calls/s':>10}{'reads/s':>10}{'reads/s of one':>16}")
         for viewers in VIEWERS:
             told = subprocess.run([readers, str(viewers)], input=lines, capture_output=True, text=True, check=True, timeout=600).stdout

@@ -1,12 +1,12 @@
 #!/usr/bin/env python3
-"""Makes each read and each write of the program fail in turn, in several ways and with pieces of several lengths, while it takes
+"""Outside the proof. Makes each read and each write of the program fail in turn, in several ways and with pieces of several lengths, while it takes
 events: after a read fault just the lines that had come whole are answered (an audit, an explanation, a check and a drive
 write nothing then), after a write fault just what the device took is out, and it is a front of the answers; the status and the
 line on standard error tell of it. Pieces of any length alone change nothing. It needs a C compiler.
 
-    bench/failing_devices.py                  the program that ./drf builds, on lines that use every event
-    bench/failing_devices.py PROGRAM          another one
-    bench/failing_devices.py PROGRAM whole    on the lines of examples/ too, in some minutes"""
+    bench/sweeps/failing_devices.py                  the program that ./drf builds, on lines that use every event
+    bench/sweeps/failing_devices.py PROGRAM          another one
+    bench/sweeps/failing_devices.py PROGRAM whole    on the lines of examples/ too, in some minutes"""
 import errno
 import os
 import subprocess
@@ -14,6 +14,7 @@ import sys
 import tempfile
 from multiprocessing.pool import ThreadPool
 
+sys.path.append(f"{os.path.dirname(os.path.realpath(__file__))}/../tools")
 from begin import built_program, driver_of, inputs, shim
 
 # One call of a kind fails, the next one would not. A piece is what a call moves at most. Standard error is left alone.

@@ -1,12 +1,12 @@
 #!/usr/bin/env python3
-"""Refuses each growth of memory in turn, once, while the program takes events: what was written must be whole lines of a front
+"""Outside the proof. Refuses each growth of memory in turn, once, while the program takes events: what was written must be whole lines of a front
 of the answers, and the status and the line on standard error must say that memory ended; or else all was answered. Of files
 that are driven side by side no two journals need be the same, nor the growths of two runs: what was written must be a journal
 that the program's own check finds good, with all events unless memory ended. It needs a C compiler.
 
-    bench/refused_memory.py                  the program that ./drf builds, on lines that use every event
-    bench/refused_memory.py PROGRAM          another one
-    bench/refused_memory.py PROGRAM whole    on the lines of examples/ too, in some minutes"""
+    bench/sweeps/refused_memory.py                  the program that ./drf builds, on lines that use every event
+    bench/sweeps/refused_memory.py PROGRAM          another one
+    bench/sweeps/refused_memory.py PROGRAM whole    on the lines of examples/ too, in some minutes"""
 import json
 import os
 import subprocess
@@ -14,6 +14,7 @@ import sys
 import tempfile
 from multiprocessing.pool import ThreadPool
 
+sys.path.append(f"{os.path.dirname(os.path.realpath(__file__))}/../tools")
 from begin import built_program, driver_of, inputs, shim
 
 SHIM = r"""

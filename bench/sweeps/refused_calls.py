@@ -1,21 +1,21 @@
 #!/usr/bin/env python3
-"""Makes calls of the libraries again and again, each time with the next growth of memory refused, until none was refused: each event
+"""Outside the proof. Makes calls of the libraries again and again, each time with the next growth of memory refused, until none was refused: each event
 as a step of the allocator, as a call of a master that is watched, and as an entry of a book; all events as one list, one input and
 one journal; each line as a text; and calls below the allocator. At want of memory what stands must be what stood before, and the call made
 again must answer as if nothing had been; an event that is refused by its number must be so at every growth, but for late refusals. It
-needs a C compiler. SWEEPS is the program of bench/refused_calls, DRF the one that checks journals and answers lines.
+needs a C compiler. CALLS is the program of bench/sweeps/refused_calls, DRF the one that checks journals and answers lines.
 
-    bench/refused_calls.py                     builds both (SWEEPS without proofs, by bench/unproved.py)
-    bench/refused_calls.py SWEEPS DRF          other builds
-    bench/refused_calls.py SWEEPS DRF whole    on the lines of examples/ too; - for SWEEPS or DRF builds it"""
-import glob
+    bench/sweeps/refused_calls.py                     builds both (CALLS without proofs, by bench/tools/unproved.py)
+    bench/sweeps/refused_calls.py CALLS DRF          other builds
+    bench/sweeps/refused_calls.py CALLS DRF whole    on the lines of examples/ too; - for CALLS or DRF builds it"""
 import json
 import os
 import subprocess
 import sys
 import tempfile
 
-from begin import ROOT, built_program, shim
+sys.path.append(f"{os.path.dirname(os.path.realpath(__file__))}/../tools")
+from begin import SWEEPS, built_program, inputs, shim
 from unproved import build
 
 # A size that nobody asks for tells which growth is refused, and another asks whether one was. An audit asks by several threads.
@@ -97,14 +97,14 @@ def sweep_journals(sums, told, word, replies, check):
 
 
 def main(sweeps="-", program="-", extent=""):
-    names = [f"{ROOT}/bench/every_event.jsonl", f"{ROOT}/bench/twelve_agents.jsonl"] + (sorted(glob.glob(f"{ROOT}/examples/*.jsonl")) if extent == "whole" else [])
+    names = [f"{SWEEPS}/twelve_agents.jsonl", *inputs(extent)]
     sums = Sums()
     if program == "-":
         program = built_program()
     with tempfile.TemporaryDirectory() as room:
         if sweeps == "-":
             sweeps = f"{room}/sweeps"
-            build(f"{ROOT}/bench/refused_calls", sweeps, is_checked=True)
+            build(f"{SWEEPS}/refused_calls", sweeps, is_checked=True)
         library = shim(SHIM, room)
 
         def ran(words, given, shim=""):

@@ -1,16 +1,18 @@
 #!/usr/bin/env python3
-"""Keeps a cluster in use for a million events, and tells how much memory the program has on the way: it must not have grown by a
+"""Outside the proof. Keeps a cluster in use for a million events, and tells how much memory the program has on the way: it must not have grown by a
 tenth after the first of ten parts. Then the same lines are run for a journal, which must check as good.
 
-    bench/long_life.py                 the program that ./drf builds, 100,000 events
-    bench/long_life.py PROGRAM         another one
-    bench/long_life.py PROGRAM whole   1,000,000 events, in some minutes"""
+    bench/sweeps/long_life.py                 the program that ./drf builds, 100,000 events
+    bench/sweeps/long_life.py PROGRAM         another one
+    bench/sweeps/long_life.py PROGRAM whole   1,000,000 events, in some minutes"""
+import os
 import re
 import subprocess
 import sys
 import tempfile
 import time
 
+sys.path.append(f"{os.path.dirname(os.path.realpath(__file__))}/../tools")
 from begin import built_program
 from churn import Talk, churn
 

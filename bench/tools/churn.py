@@ -1,9 +1,9 @@
 #!/usr/bin/env python3
-"""Writes the lines of a cluster in use: cycles, offers that are accepted in part or declined, tasks that end. What comes
+"""Outside the proof. Writes the lines of a cluster in use: cycles, offers that are accepted in part or declined, tasks that end. What comes
 depends on what is offered, so the lines are made by talking to the program, which is waited for at each cycle; a reply that is
 not as expected ends it.
 
-    bench/churn.py PROGRAM WORD.. > FILE     the program's lines, for 500 agents, 100 frameworks and 40 cycles"""
+    bench/tools/churn.py PROGRAM WORD.. > FILE     the program's lines, for 500 agents, 100 frameworks and 40 cycles"""
 import json
 import random
 import subprocess

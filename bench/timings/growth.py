@@ -1,19 +1,19 @@
 #!/usr/bin/env python3
-"""Tells what an event costs where more stands. A cluster of each size is turned over, so that its events meet as many rows; the
+"""Outside the proof. Tells what an event costs where more stands. A cluster of each size is turned over, so that its events meet as many rows; the
 processor microseconds of an event stand beside the exponent by which they grow, which is 0 where they stay the same.
 
-    bench/growth.py            asks the program that ./drf builds
-    bench/growth.py COMMAND..  asks another command that answers event lines"""
+    bench/timings/growth.py            asks the program that ./drf builds
+    bench/timings/growth.py COMMAND..  asks another command that answers event lines"""
 import math
 import os
 import subprocess
 import sys
 import tempfile
 
+sys.path.append(f"{os.path.dirname(os.path.realpath(__file__))}/../tools")
+from begin import built_program
 from churn import PERIOD, line
 
-ROOT = os.path.dirname(os.path.dirname(os.path.realpath(__file__)))
-PROGRAM = f"{ROOT}/crates/drf/out/drf"
 SIZES = [250, 1000, 4000]
 EVENTS = 40_000
 
@@ -76,10 +76,7 @@ def microseconds(command, lines):
 
 
 def main(command):
-    if not command:
-        # builds the program where it must
-        subprocess.run([f"{ROOT}/drf", "run"], stdin=subprocess.DEVNULL, check=True)
-        command = [PROGRAM, "run"]
+    command = command or [built_program(), "run"]
     print(f"{'what stands':42}" + "".join(f"{n:>9}" for n in SIZES) + f"{'power':>8}")
     for name, lines_of in INPUTS.items():
         costs = [microseconds(command, lines_of(n)) for n in SIZES]

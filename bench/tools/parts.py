@@ -1,12 +1,12 @@
 #!/usr/bin/env python3
-"""Runs parts of the gate over what passed before, for kits that keep nothing between two runs of `rt ci`: a proof stands for its crate's
+"""Outside the proof. Runs parts of the gate over what passed before, for kits that keep nothing between two runs of `rt ci`: a proof stands for its crate's
 text and those below it, an edit for that and its own. The file seconds in KEPT has what each check took of a processor. For work only: the verdict is `rt ci`.
 
-    bench/parts.py KEPT               the last commit, whole; KEPT is a folder for what passed, and for a clone
-    bench/parts.py KEPT CRATE..       these crates, and proofs of those below them
-    bench/parts.py --proofs KEPT ..   proofs and programs alone, no edits
+    bench/tools/parts.py KEPT               the last commit, whole; KEPT is a folder for what passed, and for a clone
+    bench/tools/parts.py KEPT CRATE..       these crates, and proofs of those below them
+    bench/tools/parts.py --proofs KEPT ..   proofs and programs alone, no edits
 
-Afterwards `bench/kept.py --from KEPT/clone CRATE..` gives a checkout those libraries."""
+Afterwards `bench/tools/kept.py --from KEPT/clone CRATE..` gives a checkout those libraries."""
 import copy
 import hashlib
 import os

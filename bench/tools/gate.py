@@ -1,10 +1,10 @@
 #!/usr/bin/env python3
-"""Runs the gate (`rt ci`) on a clone of the last commit, and prints a table of the seconds that each crate's proof, its
+"""Outside the proof. Runs the gate (`rt ci`) on a clone of the last commit, and prints a table of the seconds that each crate's proof, its
 must-fail edits, its tests and its runs took, as docs/PROVING.md has it, then the whole time and the processor time. The
 gate's own lines go to standard error.
 
-    bench/gate.py              the whole repository
-    bench/gate.py CRATE..      these crates and those below them
+    bench/tools/gate.py              the whole repository
+    bench/tools/gate.py CRATE..      these crates and those below them
 
 Parts run side by side, so a part's seconds are its own only where nothing else needs the processors; RT_JOBS=1 runs one
 part at a time."""
@@ -20,13 +20,13 @@ import sys
 import tempfile
 import time
 
-ROOT = os.path.dirname(os.path.dirname(os.path.realpath(__file__)))
+from begin import ROOT, toolchain
+
 PARTS = ["proof", "edits", "tests", "runs"]
 
 
 def load_rt():
-    path = os.path.realpath(shutil.which("rt"))
-    loader = importlib.machinery.SourceFileLoader("rt", path)
+    loader = importlib.machinery.SourceFileLoader("rt", toolchain()[0])
     rt = importlib.util.module_from_spec(importlib.util.spec_from_loader("rt", loader))
     sys.modules["rt"] = rt
     loader.exec_module(rt)
@@ -89,4 +89,6 @@ def main(names):
 
 
 if __name__ == "__main__":
+    if sys.argv[1:2] == ["--help"]:
+        sys.exit(__doc__)
     sys.exit(main(sys.argv[1:]))

@@ -1,10 +1,10 @@
 #!/usr/bin/env python3
-"""Times `drive` of 1, 2, 8 and 64 files, 20,000 events together: seconds of the processor and by the clock, medians of five runs. Then
+"""Outside the proof. Times `drive` of 1, 2, 8 and 64 files, 20,000 events together: seconds of the processor and by the clock, medians of five runs. Then
 64 files of 10,000 events each. Each journal must be one that the program's own check finds good, with all events.
 
-    bench/drive.py                 the program that ./drf builds
-    bench/drive.py PROGRAM         another one
-    bench/drive.py PROGRAM PEER    beside one that takes the same words, one's run after the other's"""
+    bench/timings/drive.py                 the program that ./drf builds
+    bench/timings/drive.py PROGRAM         another one
+    bench/timings/drive.py PROGRAM PEER    beside one that takes the same words, one's run after the other's"""
 import os
 import random
 import resource
@@ -14,6 +14,7 @@ import sys
 import tempfile
 import time
 
+sys.path.append(f"{os.path.dirname(os.path.realpath(__file__))}/../tools")
 from begin import built_program, driver_of
 from churn import line
 

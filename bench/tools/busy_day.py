@@ -17,7 +17,7 @@ DAY = 24 * 60 * MINUTE
 RACKS, IN_RACK = "abcde", 6
 LOST_RACK = "d"
 MACHINE = "cpus:16;mem:98304"
-# A task's cpus and mem, and so how many fit in what is offered; at most so many are started by one accept.
+# So many tasks are started by one accept at most.
 MOST_TASKS = 16
 
 
@@ -26,22 +26,27 @@ def hour(at):
 
 
 def bump(at, middle, width):
+    """Up to 1 in the middle, and near 0 when it is twice the width away."""
     return math.exp(-(((hour(at) - middle) / width) ** 2))
 
 
 class Team:
-    """A framework, and the tasks that it runs: their agents, and when they end."""
+    """A framework of one role, whose tasks have so many cpus and mem and which answers so many minutes after a cycle; and the tasks that
+    it runs, each with its agent and its end."""
 
     def __init__(self, name, role, cpus, mem, answers_after):
         self.name, self.role, self.cpus, self.mem, self.answers_after = name, role, cpus, mem, answers_after * MINUTE
         self.running, self.started, self.is_quiet = {}, 0, False
+
+    def arrive(self, at):
+        """What is asked of it from then on, where it keeps count of that."""
 
     def fit(self, resources):
         amounts = {name: float(amount) for name, amount in (it.split(":") for it in resources.split(";"))}
         return int(min(amounts.get("cpus", 0) // self.cpus, amounts.get("mem", 0) // self.mem, MOST_TASKS))
 
     def start(self, agent, at, count):
-        """Tasks that are not begun yet, each with its end."""
+        """So many new tasks on an agent, as an accept names them."""
         tasks = []
         for _ in range(count):
             self.started += 1
@@ -53,6 +58,7 @@ class Team:
         return [task for task, (_, end) in self.running.items() if end <= at]
 
     def lose(self, agents):
+        """Its tasks there end; how many they were."""
         lost = [task for task, (agent, _) in self.running.items() if agent in agents]
         for task in lost:
             del self.running[task]
@@ -60,7 +66,7 @@ class Team:
 
 
 class Site(Team):
-    """Instances follow the visitors: many at noon, most in the evening."""
+    """Its tasks follow the visitors: many at noon, most in the evening."""
 
     def wants(self, at):
         return round(8 + 22 * bump(at, 12.5, 3.4) + 38 * bump(at, 19.8, 2.2)) - len(self.running)
@@ -69,6 +75,7 @@ class Site(Team):
         return 2 * DAY
 
     def ended(self, at):
+        # one more than it needs may stay
         return list(self.running)[: max(0, -self.wants(at) - 1)]
 
 
@@ -112,6 +119,11 @@ def machines(rack):
     return [f"{rack}{number}" for number in range(1, IN_RACK + 1)]
 
 
+def add_machines(talk, rack):
+    for agent in machines(rack):
+        talk.ask("add_agent", agent=agent, total=MACHINE)
+
+
 def operate(talk, teams, at):
     """What the operators do: a limit in the burst of builds, and a rack that goes and comes back."""
     if hour(at) == 12:
@@ -122,8 +134,7 @@ def operate(talk, teams, at):
         for team in teams:
             team.lose(machines(LOST_RACK))
     if hour(at) == 16.5:
-        for agent in machines(LOST_RACK):
-            talk.ask("add_agent", agent=agent, total=MACHINE)
+        add_machines(talk, LOST_RACK)
 
 
 def ask_or_be_quiet(talk, team, at):
@@ -143,25 +154,23 @@ def answer(talk, team, offer, at):
 
 
 def day(talk, teams):
-    for role, weight in (("web", "2"),):
-        talk.ask("set_weight", role=role, weight=weight)
+    talk.ask("set_weight", role="web", weight="2")
     for rack in RACKS:
-        for agent in machines(rack):
-            talk.ask("add_agent", agent=agent, total=MACHINE)
-    for team in teams.values():
+        add_machines(talk, rack)
+    for team in teams:
         talk.ask("add_framework", framework=team.name, roles=[team.role])
     for at in range(0, DAY, PERIOD):
-        for team in teams.values():
+        for team in teams:
             for task in team.ended(at):
                 del team.running[task]
                 talk.ask("finish", framework=team.name, task=task)
-        operate(talk, teams.values(), at)
-        for team in teams.values():
-            if isinstance(team, Queue):
-                team.arrive(at)
+        operate(talk, teams, at)
+        for team in teams:
+            team.arrive(at)
             ask_or_be_quiet(talk, team, at)
         offers = talk.ask("cycle", at=at)["offers"]
-        for team in sorted(teams.values(), key=lambda it: it.answers_after):
+        # who answers sooner stands first
+        for team in teams:
             for offer in offers:
                 if offer["framework"] == team.name:
                     answer(talk, team, offer, at + team.answers_after)
@@ -177,7 +186,7 @@ def main(words):
         Queue("builds", "ci", 4, 8192, 4, minutes=(20, 50), arrivals=builds_at, chance=chance),
         Queue("nightly", "data", 4, 24576, 8, minutes=(50, 110), arrivals=batches_at, chance=chance),
     ]
-    lines = day(Talk(words), {team.name: team for team in teams})
+    lines = day(Talk(words), teams)
     with open(f"{ROOT}/examples/busy_day.jsonl", "w") as written:
         written.writelines(f"{it}\n" for it in lines)
     print(f"{len(lines)} lines, {sum(len(it) + 1 for it in lines)} bytes")

@@ -130,8 +130,7 @@ WIDTH, HEIGHT = 800, 546
 LEFT, RIGHT = 56, 728
 # Rows of names over the bands, the bands, and the lines.
 NAMES, BANDS, LINES = (40, 106), (114, 334), (378, 508)
-# Below this width of the picture its letters are larger, and fewer.
-NARROW = 560
+# The letters of a wide picture, and of one of less than 560 pixels, which has fewer; STYLE has both.
 SIZES = {"wide": 13, "slim": 22}
 STYLE = """
 text{font:13px system-ui,-apple-system,"Segoe UI",Helvetica,Arial,sans-serif;fill:#24292f}
@@ -184,6 +183,7 @@ def thickest(heights):
 
 
 def bands(kept):
+    """What each team has in tasks and offers, one over the other, before what there is in all."""
     top, bottom = BANDS
     most = max(it["total"] for it in kept)
     height_of = lambda value: bottom - (bottom - top) * value / most
@@ -216,6 +216,7 @@ def apart(places, least):
 
 
 def lines(kept):
+    """The weighted shares, with the teams' names beside their ends."""
     top, bottom = LINES
     most = max(it[team, "share"] for it in kept for team in TEAMS)
     most = -(-most * 5 // 1) / 5
@@ -258,7 +259,9 @@ def names(marks):
     drawn = []
     for mode, size in SIZES.items():
         said = [(at, long if mode == "wide" else short) for at, long, short in marks if short or mode == "wide"]
-        count, placed = next((count, min(ways, key=lambda way: sum(right - x == 4 for _, x, _, right in way))) for count in range(1, 9) if (ways := list(rows_of(said, size, count))))
+        # as few rows as can be, and then as many names as can be right of their lines
+        count, ways = next((count, ways) for count in range(1, 9) if (ways := list(rows_of(said, size, count))))
+        placed = min(ways, key=lambda way: sum(right - x == 4 for _, x, _, right in way))
         height = min((NAMES[1] - NAMES[0]) / count, size * 1.35)
         for (_, name), (row, x, left, right) in zip(said, placed):
             y = NAMES[1] - (count - row - 1) * height
@@ -270,16 +273,13 @@ def names(marks):
 
 def key():
     """What dark, light and blank are."""
-    drawn, x = [], RIGHT
-    for said, kind in (("free", "free"), ("offered", "web offered"), ("in tasks", "web used")):
-        x -= len(said) * 7 + 2
-        drawn += [text(x, 24, said, "wide"), f'<rect class="{kind} wide" x="{x - 17}" y="13" width="12" height="12"/>']
-        x -= 32
-    x = WIDTH - 10
-    for said, kind in (("free", "free"), ("offered", "web offered"), ("in tasks", "web used")):
-        x -= len(said) * 11 + 2
-        drawn += [text(x, 26, said, "slim"), f'<rect class="{kind} slim" x="{x - 24}" y="10" width="18" height="18"/>']
-        x -= 40
+    drawn = []
+    for (mode, size), x in zip(SIZES.items(), (RIGHT, WIDTH - 10)):
+        for said, kind in (("free", "free"), ("offered", "web offered"), ("in tasks", "web used")):
+            x -= round(len(said) * size * 0.54)
+            drawn.append(text(x, 25, said, mode))
+            drawn.append(f'<rect class="{kind} {mode}" x="{x - size - 5}" y="{25 - round(size * 0.85)}" width="{size}" height="{size}"/>')
+            x -= round(size * 2.3)
     return drawn
 
 

@@ -26,7 +26,9 @@ use Rattle.drf_tree.specs.Tree.{IsChildOf, IsMarkedOrRight, IsSumOf, IsTreeOf}
 use Rattle.drf_tree.proofs.ClimbLemmas.{leaf_other}
 use Rattle.drf_tree.proofs.NodeLemmas.{live_within, node_within}
 use Rattle.drf_tree.proofs.PathLemmas.{begins_by}
+use Rattle.drf_tree.specs.Tidy.{IsTidyBut}
 use Rattle.drf_tree.proofs.ShapeLemmas.{shape_from, shape_in}
+use Rattle.drf_tree.proofs.TidyLemmas.{gone_tidy}
 use Rattle.drf_tree.proofs.WayLemmas.{equal, not_equal, shorter_above}
 use Rattle.drf_tree.proofs.WithLemmas.{any_with, each_without, set_family_other, set_family_same}
 use Rattle.drf_tree.proofs.WitherLemmas.{withered}
@@ -242,31 +244,34 @@ module _ (old new : Tree) (shape : IsShapeOf old) (node parent : ℕ) (f : Famil
 
 -- ---- bare nodes go one after another, upwards
 
-pub record IsPruning (old now : Tree) (node : ℕ) : Type 0 where
+pub record IsPruning (old now : Tree) (leaf node : ℕ) : Type 0 where
   pub shape : IsShapeOf now
   pub there : is_node now.places.items node ≡ true
   pub tree : (content : Content) → IsTreeOf content old → IsTreeOf content now
   pub work : debt (work_of now.marks) ≤ debt (work_of old.marks)
   pub made : now.marks.made ≡ old.marks.made
+  pub tidy : (content : Content) → IsTidyBut (path_at old.places.items leaf) content old.places.items
+      → IsTidyBut (path_at now.places.items node) content now.places.items
 
-pub prune_start : (tree : Tree) → IsShapeOf tree → (node : ℕ) → is_node tree.places.items node ≡ true → IsPruning tree tree node
-prune_start tree shape node there = record { shape = shape; there = there; tree = λ content of. of; work = omega arith; made = refl }
+pub prune_start : (tree : Tree) → IsShapeOf tree → (node : ℕ) → is_node tree.places.items node ≡ true → IsPruning tree tree node node
+prune_start tree shape node there =
+    record { shape = shape; there = there; tree = λ content of. of; work = omega arith; made = refl; tidy = λ content but. but }
 
 -- where it is not at the root, it is at a node
-pub prune_live : (old now : Tree) (node : ℕ) → IsPruning old now node → node ≢ 0 → is_live now.places.items node ≡ true
-prune_live old now node so other = elim (or_cases (node == 0) (is_live now.places.items node) so.there) [
+pub prune_live : (old now : Tree) (leaf node : ℕ) → IsPruning old now leaf node → node ≢ 0 → is_live now.places.items node ≡ true
+prune_live old now leaf node so other = elim (or_cases (node == 0) (is_live now.places.items node) so.there) [
   | inl root ↦ absurd (other (equal node 0 root))
   | inr live ↦ live
 ]
 
-module _ (old now new : Tree) (node parent : ℕ) (so : IsPruning old now node) (other : node ≢ 0)
+module _ (old now new : Tree) (leaf node parent : ℕ) (so : IsPruning old now leaf node) (other : node ≢ 0)
     (parent_is : parent ≡ parent_at now.places.items node) (shape : IsShapeOf new)
     (tree : (content : Content) → IsTreeOf content now → IsTreeOf content new)
     (places : new.places.items ≡ slice_set now.places.items node None)
     (work : debt (work_of new.marks) ≤ debt (work_of now.marks)) (made : new.marks.made ≡ now.marks.made) where
   shorter : length (path_at now.places.items node) ≡ length (path_at now.places.items parent) + 1
   shorter =
-      shorter_above now.places.items now.families.items now.marks.stale now.sums.items so.shape node (prune_live old now node so other)
+      shorter_above now.places.items now.families.items now.marks.stale now.sums.items so.shape node (prune_live old now leaf node so other)
       ∙ ap (λ (k : ℕ). length (path_at now.places.items k) + 1) (sym parent_is)
 
   past : parent ≢ node
@@ -275,15 +280,18 @@ module _ (old now new : Tree) (node parent : ℕ) (so : IsPruning old now node) 
   as_it_was : place_at new.places.items parent ≡ place_at now.places.items parent
   as_it_was = ap (λ ps. place_at ps parent) places ∙ get_or-set_other now.places.items node parent None None past
 
-  pub prune_step : IsPruning old new parent
+  pub prune_step : IsPruning old new leaf parent
   prune_step = record {
     shape = shape;
     there =
         ap (λ (o : Option Place). (parent == 0) || is_some o) as_it_was ∙ ap (is_node now.places.items) parent_is
-        ∙ (so.shape.kept node (prune_live old now node so other)).0;
+        ∙ (so.shape.kept node (prune_live old now leaf node so other)).0;
     tree = λ content of. tree content (so.tree content of);
     work = omega (arith, work, so.work);
     made = made ∙ so.made;
+    tidy = λ content but.
+        gone_tidy now new so.shape node parent (prune_live old now leaf node so other) parent_is places content
+        (live_within now.places.items node (prune_live old now leaf node so other)) past (so.tidy content but);
   }
 
   pub prune_less : length (path_at new.places.items parent) + 1 ≡ length (path_at now.places.items node)

@@ -3,10 +3,10 @@ use Rattle.std.specs.Prelude.{◌≡◌, ◌≢◌, ◌≤◌, ◌<◌, ◌+◌,
 use Rattle.std.specs.List.{list_any}
 use Rattle.std.proofs.Common.{refl, sym, ap, subst, ◌∙◌, arith, length-append}
 use Rattle.std.proofs.lemmas.Bool.{true≢false, false_from_ne_true}
-use Rattle.std.proofs.lemmas.List.{length-take-le, take-append-drop, take_at}
+use Rattle.std.proofs.lemmas.List.{length-take-le, take-append-drop, take-take, take_at}
 use Rattle.std.proofs.lemmas.Option.{slice_get_within}
 use Rattle.drf_role.specs.Text.{Text, same_text}
-use Rattle.drf_role.specs.Path.{Path, IsClientPath, IsNodePath}
+use Rattle.drf_role.specs.Path.{Path, IsClientPath, IsNodePath, begins_with}
 use Rattle.drf_role.specs.PathLaws.{client_paths-apart}
 use Rattle.drf_sorter.specs.Content.{Content, has_node}
 use Rattle.drf_sorter.specs.Work.{debt}
@@ -15,10 +15,12 @@ use Rattle.drf_tree.specs.Changes.{IsOneLonger}
 use Rattle.drf_tree.specs.Family.{child_name}
 use Rattle.drf_tree.specs.Marks.{work_of}
 use Rattle.drf_tree.specs.Nodes.{children_at, client_at, is_live, is_node, path_at}
+use Rattle.drf_tree.specs.Tidy.{IsOneMore, IsTidy, IsTidyBut}
 use Rattle.drf_tree.specs.Tree.{IsTotalFree, IsTreeOf}
 use Rattle.drf_tree.proofs.ClimbLemmas.{node_from_live}
 use Rattle.drf_tree.proofs.FindLemmas.{no_such, not_below, take_one_more, take_whole}
 use Rattle.drf_tree.proofs.PathLemmas.{begins_by}
+use Rattle.drf_tree.proofs.TidyLemmas.{grown_but, tidy_but}
 use Rattle.drf_tree.proofs.WayLemmas.{live_from, top_is}
 
 -- ---- the first parts of a path
@@ -56,6 +58,15 @@ read_front {X} xs i x at =
 
 -- ---- one node more
 
+-- more parts begin with fewer
+front_begins : (path : Path) (i : ℕ) → begins_with (take (i + 1) path) (take i path) ≡ true
+front_begins path i =
+    begins_by (take (i + 1) path) (take i path) (drop i (take (i + 1) path))
+    (sym (take-append-drop i (take (i + 1) path)) ∙ ap (λ (p : Path). p ++ drop i (take (i + 1) path)) fewer)
+  where
+    fewer : take i (take (i + 1) path) ≡ take i path
+    fewer = take-take i (i + 1) path (omega arith)
+
 -- the loop stands at the node of the first parts, `i` of them
 pub record IsGrowing (content : Content) (old now : Tree) (path : Path) (node i : ℕ) : Type 0 where
   pub tree : IsTreeOf content now
@@ -64,6 +75,7 @@ pub record IsGrowing (content : Content) (old now : Tree) (path : Path) (node i 
   pub at : path_at now.places.items node ≡ take i path
   pub work : debt (work_of now.marks) ≤ debt (work_of old.marks) + i
   pub made : old.marks.made ≤ now.marks.made
+  pub but : IsTidy content old.places.items → IsTidyBut (take i path) content now.places.items
 
 pub grow_start : (content : Content) (tree : Tree) (path : Path) → IsTreeOf content tree → IsGrowing content tree tree path 0 0
 grow_start content tree path of = record {
@@ -73,19 +85,22 @@ grow_start content tree path of = record {
   at = top_is tree.places.items tree.families.items tree.marks.stale tree.sums.items of.shape;
   work = omega arith;
   made = omega arith;
+  but = tidy_but content (take 0 path) tree.places.items;
 }
 
 pub grow_step : (content : Content) (old now new : Tree) (path : Path) (node i child : ℕ) → IsGrowing content old now path node i
     → IsTreeOf content new → (IsTotalFree content now → IsTotalFree content new) → is_live new.places.items child ≡ true → path_at new.places.items child ≡ take (i + 1) path
     → debt (work_of new.marks) ≤ debt (work_of now.marks) + 1 → now.marks.made ≤ new.marks.made
+    → IsOneMore (take (i + 1) path) now.places.items new.places.items
     → IsGrowing content old new path child (i + 1)
-grow_step content old now new path node i child so of free live at work made = record {
+grow_step content old now new path node i child so of free live at work made one = record {
   tree = of;
   free = λ was. free (so.free was);
   there = node_from_live new.places.items child live;
   at = at;
   work = omega (arith, work, so.work);
   made = omega (arith, made, so.made);
+  but = λ tidy. grown_but content now.places.items new.places.items (take i path) (take (i + 1) path) (front_begins path i) one (so.but tidy);
 }
 
 module _ (content : Content) (old now : Tree) (path : Path) (node i : ℕ) (so : IsGrowing content old now path node i)

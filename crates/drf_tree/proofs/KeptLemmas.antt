@@ -14,6 +14,7 @@ use Rattle.drf_tree.specs.declared.walk.Walk.{Walk}
 use Rattle.drf_tree.specs.Nodes.{family_at, path_at}
 use Rattle.drf_tree.specs.Queue.{AreFrames, IsSettled, frames_queue, most_parts, pending, queue_in}
 use Rattle.drf_tree.specs.Sorter.{AreInStep}
+use Rattle.drf_tree.specs.Tidy.{IsTidy}
 use Rattle.drf_tree.specs.Tree.{IsTotalFree, IsTreeOf}
 use Rattle.drf_tree.specs.Walk.{own}
 use Rattle.drf_tree.proofs.ContentLemmas.{step}
@@ -23,12 +24,14 @@ pub total_counts : (content : Content) (tree : Tree) → false ≡ true → IsTo
 total_counts content tree on = absurd (false≢true on)
 
 pub kept_by : (ledger : PlainSorter) (content : Content) → plain_content ledger ≡ content → (old new : Tree) (walk : Walk) (is_free : Bool)
-    → IsTreeOf content new → (is_free ≡ true → IsTotalFree content new) → new.places ≡ old.places → new.families ≡ old.families
+    → IsTreeOf content new → (is_free ≡ true → IsTotalFree content new) → IsTidy content old.places.items
+    → new.places ≡ old.places → new.families ≡ old.families
     → AreFrames old.places.items walk.frames.items → IsSettled content old.places.items old.families.items walk.frames.items
     → AreInStep ledger new walk is_free
-kept_by ledger content is old new walk is_free of free places families are settled = record {
+kept_by ledger content is old new walk is_free of free tidy places families are settled = record {
   of_ledger = subst (λ (k : Content). IsTreeOf k new) (sym is) of;
   free = λ on. subst (λ (k : Content). IsTotalFree k new) (sym is) (free on);
+  tidy = subst (λ (k : Content). IsTidy k new.places.items) (sym is) (subst (λ (v : _). IsTidy content v.items) (sym places) tidy);
   frames = subst (λ (v : _). AreFrames v.items walk.frames.items) (sym places) are;
   settled = subst (λ (k : Content). IsSettled k new.places.items new.families.items walk.frames.items) (sym is)
       (subst (λ (v : _). IsSettled content v.items new.families.items walk.frames.items) (sym places)
@@ -100,17 +103,19 @@ queue_stays old new same tree now places families frames =
 
 pub kept_along : (ledger : PlainSorter) (old content : Content) → plain_content ledger ≡ content
     → active_paths content ≡ active_paths old → (tree new : Tree) (walk : Walk) (is_free : Bool)
-    → IsTreeOf content new → (is_free ≡ true → IsTotalFree content new) → new.places ≡ tree.places → new.families ≡ tree.families
+    → IsTreeOf content new → (is_free ≡ true → IsTotalFree content new) → IsTidy content tree.places.items
+    → new.places ≡ tree.places → new.families ≡ tree.families
     → AreFrames tree.places.items walk.frames.items → IsSettled old tree.places.items tree.families.items walk.frames.items
     → AreInStep ledger new walk is_free
-kept_along ledger old content is same tree new walk is_free of free places families are settled =
-    kept_by ledger content is tree new walk is_free of free places families are
+kept_along ledger old content is same tree new walk is_free of free tidy places families are settled =
+    kept_by ledger content is tree new walk is_free of free tidy places families are
     (settled_along old content tree.places.items tree.families.items (sym same) walk.frames.items settled)
 
 -- a walk that was stopped is settled
 pub stopped : (ledger : PlainSorter) (content : Content) → plain_content ledger ≡ content → (tree : Tree) (walk : Walk) (is_free : Bool)
-    → walk.frames.items ≡ [] → IsTreeOf content tree → (is_free ≡ true → IsTotalFree content tree) → AreInStep ledger tree walk is_free
-stopped ledger content is tree walk is_free none of free =
-    kept_by ledger content is tree tree walk is_free of free refl refl
+    → walk.frames.items ≡ [] → IsTreeOf content tree → (is_free ≡ true → IsTotalFree content tree) → IsTidy content tree.places.items
+    → AreInStep ledger tree walk is_free
+stopped ledger content is tree walk is_free none of free tidy =
+    kept_by ledger content is tree tree walk is_free of free tidy refl refl
     (subst (AreFrames tree.places.items) (sym none) record { few = omega arith; nodes = tt; deep = λ k frame at. absurd cc; nested = tt })
     (subst (IsSettled content tree.places.items tree.families.items) (sym none) tt)

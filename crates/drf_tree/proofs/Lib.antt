@@ -53,3 +53,4 @@ pub mod WeighLemmas
 pub mod ShareLemmas
 pub mod ListedLemmas
 pub mod LineLemmas
+pub mod TidyLemmas

@@ -10,6 +10,7 @@ use Rattle.drf_tree.specs.declared.node.Place.{Place}
 use Rattle.drf_tree.specs.declared.tree.Tree.{Tree}
 use Rattle.drf_tree.specs.Family.{child_name}
 use Rattle.drf_tree.specs.Nodes.{children_at, client_at, is_live, place_at}
+use Rattle.drf_tree.specs.Tidy.{IsTidy}
 use Rattle.drf_tree.specs.Tree.{IsMarkedOrRight, IsTreeOf}
 use Rattle.drf_tree.proofs.ShapeLemmas.{IsChildIn, shape_from}
 use Rattle.drf_role.specs.Path.{Path}
@@ -31,6 +32,9 @@ module _ (tree : Tree) (places : tree.places.items ≡ None ∷ []) (families : 
 
   not_live : (i : ℕ) → is_live tree.places.items i ≡ true → ⊥
   not_live i live = false≢true (sym (ap (λ (o : Option Place). is_some o) (nothing i)) ∙ live)
+
+  pub opened_tidy : IsTidy empty tree.places.items
+  opened_tidy i live = absurd (not_live i live)
 
   pub opened : IsTreeOf empty tree
   unfolding IsDistinct

@@ -7,3 +7,4 @@ pub mod Queue
 pub mod Changes
 pub mod Sorter
 pub mod Lines
+pub mod Tidy

@@ -1,5 +1,5 @@
 //! Clients that come and go.
-ghost use Rattle.std.specs.Prelude.{◌≡◌, ◌≢◌, ◌≤◌, ◌+◌, ◌<◌, ◌^◌, ℕ, Some, IfOk, IfSome, OnErr, false, length, take, true};
+ghost use Rattle.std.specs.Prelude.{◌≡◌, ◌≢◌, ◌≤◌, ◌+◌, ◌<◌, ◌^◌, ℕ, Some, IfOk, IfSome, OnErr, OnOk, false, length, take, true};
 ghost use Rattle.drf_role.specs.Path.{IsClientPath, Path};
 ghost use Rattle.drf_sorter.specs.Content.{Content, activated, has_client, has_node, with_change, with_client, without_client};
 ghost use Rattle.drf_sorter.specs.Plain.{plain_content};
@@ -7,6 +7,7 @@ ghost use Rattle.drf_sorter.specs.Work.{debt};
 ghost use Rattle.drf_tree.specs.Changes.{IsLeast, IsOneLonger, IsShapeOf, OnWay};
 ghost use Rattle.drf_tree.specs.Marks.{work_of};
 ghost use Rattle.drf_tree.specs.Nodes.{client_at, is_live, is_node, path_at, place_at};
+ghost use Rattle.drf_tree.specs.Tidy.{IsOneMore, IsTidy, IsTidyBut};
 ghost use Rattle.drf_tree.specs.Tree.{IsTotalFree, IsTreeOf};
 
 use crate::node::Sum;
@@ -28,6 +29,8 @@ impl Tree {
         ensures free { IsTotalFree (plain_content ledger.now) self.old → IsTotalFree (plain_content ledger.now) self.new }
         ensures live { IfOk result (λ leaf. is_live self.new.places.items leaf ≡ true) }
         ensures client { IfOk result (λ leaf. client_at self.new.places.items leaf ≡ Some path.now) }
+        ensures grown { OnOk result (IsTidy (plain_content ledger.now) self.old.places.items → IsTidyBut path.now (plain_content ledger.now) self.new.places.items) }
+        ensures left { OnErr result (IsTidy (plain_content ledger.now) self.old.places.items → IsTidy (plain_content ledger.now) self.new.places.items) }
         ensures made { self.old.marks.made ≤ self.new.marks.made }
         ensures work { debt (work_of self.new.marks) ≤ debt (work_of self.old.marks) + length path.now }
     {
@@ -61,6 +64,7 @@ impl Tree {
         ensures free { IsTotalFree (plain_content ledger.now) self.old → IsTotalFree (plain_content ledger.now) self.new }
         ensures path { IfOk result (λ child. path_at self.new.places.items child ≡ take (i + 1) path.now) }
         ensures live { IfOk result (λ child. is_live self.new.places.items child ≡ true) }
+        ensures one { OnOk result (IsOneMore (take (i + 1) path.now) self.old.places.items self.new.places.items) }
         ensures err { OnErr result ((i : ℕ) → place_at self.new.places.items i ≡ place_at self.old.places.items i) }
         ensures made { self.old.marks.made ≤ self.new.marks.made }
         ensures work { debt (work_of self.new.marks) ≤ debt (work_of self.old.marks) + 1 }
@@ -91,6 +95,7 @@ impl Tree {
         ensures free { IsTotalFree (plain_content ledger.now) self.old → IsTotalFree (plain_content ledger.now) self.new }
         ensures path { IfOk result (λ node. path_at self.new.places.items node ≡ take len path.now) }
         ensures live { IfOk result (λ node. is_live self.new.places.items node ≡ true) }
+        ensures one { OnOk result (IsOneMore (take len path.now) self.old.places.items self.new.places.items) }
         ensures err { OnErr result ((i : ℕ) → place_at self.new.places.items i ≡ place_at self.old.places.items i) }
         ensures made { self.old.marks.made ≤ self.new.marks.made }
         ensures work { debt (work_of self.new.marks) ≤ debt (work_of self.old.marks) + 1 }
@@ -174,6 +179,7 @@ impl Tree {
         requires node { is_node self.old.places.items leaf ≡ true }
         ensures shape { IsShapeOf self.new }
         ensures tree { (content : Content) → IsTreeOf content self.old → IsTreeOf content self.new }
+        ensures tidy { (content : Content) → IsTreeOf content self.old → IsTidyBut (path_at self.old.places.items leaf) content self.old.places.items → IsTidy content self.new.places.items }
         ensures made { self.new.marks.made ≡ self.old.marks.made }
         ensures work { debt (work_of self.new.marks) ≤ debt (work_of self.old.marks) }
     {

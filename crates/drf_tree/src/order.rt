@@ -16,6 +16,7 @@ impl Tree {
         requires sound { IsSound (plain_content ledger.now) }
         requires tree { IsTreeOf (plain_content ledger.now) self.old }
         ensures tree { IsTreeOf (plain_content ledger.now) self.new }
+        ensures places { self.new.places ≡ self.old.places }
         ensures repaired { marked_in self.new.marks.stale ≡ 0 }
         ensures made { self.old.marks.made ≤ self.new.marks.made }
         ensures work { debt (work_of self.new.marks) ≤ debt (work_of self.old.marks) }
@@ -33,6 +34,7 @@ impl Tree {
         requires sound { IsSound (plain_content ledger.now) }
         requires tree { IsTreeOf (plain_content ledger.now) self.old }
         ensures tree { IsTreeOf (plain_content ledger.now) self.new }
+        ensures places { self.new.places ≡ self.old.places }
         ensures made { self.old.marks.made ≤ self.new.marks.made }
         ensures work { debt (work_of self.new.marks) ≤ debt (work_of self.old.marks) }
     {
@@ -47,6 +49,7 @@ impl Tree {
         requires tree { IsTreeOf (plain_content ledger.now) self.old }
         requires there { node < length self.old.families.items }
         ensures tree { IsTreeOf (plain_content ledger.now) self.new }
+        ensures places { self.new.places ≡ self.old.places }
         ensures long { length self.new.families.items ≡ length self.old.families.items }
         ensures made { self.old.marks.made ≤ self.new.marks.made }
         ensures work { debt (work_of self.new.marks) ≤ debt (work_of self.old.marks) }

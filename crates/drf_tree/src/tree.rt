@@ -13,6 +13,7 @@ ghost use Rattle.drf_tree.specs.Changes.{IsKeyOfNothing, IsSameTree, IsOneLonger
 ghost use Rattle.drf_tree.specs.Family.{child_name};
 ghost use Rattle.drf_tree.specs.Marks.{work_of};
 ghost use Rattle.drf_tree.specs.Nodes.{children_at, client_at, is_live, is_node, parent_at, path_at, place_at};
+ghost use Rattle.drf_tree.specs.Tidy.{IsOneMore, IsTidy};
 ghost use Rattle.drf_tree.specs.Tree.{IsTreeOf};
 
 use crate::family::{Child, Family, place_named};
@@ -42,6 +43,7 @@ impl Tree {
     /// The root alone.
     pub(crate) fn open(alloc: Global) -> Result<Tree, AllocError>
         ensures tree { IfOk result (IsTreeOf empty) }
+        ensures tidy { IfOk result (λ tree. IsTidy empty tree.places.items) }
         ensures work { IfOk result (λ tree. work_of tree.marks ≡ record { made = 0; marked = 0 }) }
     {
         let mut tree = Tree {
@@ -229,6 +231,7 @@ impl Tree {
         ensures tree { (content : Content) → IsTreeOf content self.old → weight ≡ weight_of content.weights path → has_node content path ≡ false → IsTreeOf content self.new }
         ensures path { IfOk result (λ node. path_at self.new.places.items node ≡ path) }
         ensures live { IfOk result (λ node. is_live self.new.places.items node ≡ true) }
+        ensures one { OnOk result (IsOneMore path self.old.places.items self.new.places.items) }
         ensures err { OnErr result ((i : ℕ) → place_at self.new.places.items i ≡ place_at self.old.places.items i) }
         ensures made { self.old.marks.made ≤ self.new.marks.made }
         ensures work { debt (work_of self.new.marks) ≤ debt (work_of self.old.marks) + 1 }

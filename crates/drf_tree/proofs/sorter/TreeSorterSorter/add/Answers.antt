@@ -1,5 +1,6 @@
 use Rattle.std.specs.Prelude.{List}
-use Rattle.std.proofs.Common.{ap, refl, ◌∙◌}
+use Rattle.std.proofs.Common.{ap, refl, subst, sym, ◌∙◌}
+use Rattle.drf_role.specs.Path.{Path}
 use Rattle.drf_bundle.specs.declared.quantities.Entry.{Entry}
 use Rattle.drf_sorter.specs.Content.{has_client, with_client}
 use Rattle.drf_sorter.specs.Plain.{plain_content}
@@ -8,13 +9,15 @@ use Rattle.drf_tree.specs.Tree.{IsTreeOf}
 use Rattle.drf_tree.proofs.ClimbLemmas.{node_from_live}
 use Rattle.drf_tree.proofs.KeptLemmas.{stopped}
 use Rattle.drf_tree.proofs.LeafLemmas.{admit_fits, few_clients}
+use Rattle.drf_tree.specs.Tidy.{IsTidy, IsTidyBut}
+use Rattle.drf_tree.proofs.TidyLemmas.{has_more}
 use Rattle.drf_tree.proofs.sorter.TreeSorterSorter.add.Goals as goal
 
 pub invariant_of-self-in_err-node : goal.invariant_of-self-in_err-node
 invariant_of-self-in_err-node c =
     stopped c.self.inside.ledger (plain_content c.self.inside.ledger) refl c.grow.new.self c.stop.new.self c.self.inside.is_total_free
     c.stop.ensures c.in_err-node.ensures.tree
-    (λ on. c.in_err-node.ensures.free (c.self.invariant.free on))
+    (λ on. c.in_err-node.ensures.free (c.self.invariant.free on)) (c.in_err-node.ensures.left c.self.invariant.tidy)
 
 pub add-requires : goal.add-requires
 add-requires c = ap (λ (s : Sorted). has_client (plain_content s.ledger) c.args.path) c.self.view_is ∙ c.requires
@@ -31,6 +34,10 @@ invariant_of-self-in-Err c =
     stopped c.add.new.self content c.in-Err.ensures.err c.prune.new.self c.stop.new.self c.self.inside.is_total_free c.stop.ensures
     (c.prune.ensures.tree content c.in_ok-node.ensures.tree)
     (λ on total. c.prune.ensures.tree (record content { total = total }) (c.in_ok-node.ensures.free (c.self.invariant.free on) total))
+    (c.prune.ensures.tidy content c.in_ok-node.ensures.tree
+    (subst (λ (p : Path). IsTidyBut p content c.grow.new.self.places.items)
+    (sym (c.in_ok-node.ensures.tree.shape.others c.in_ok-node.node c.args.path c.in_ok-node.ensures.client).0)
+    (c.in_ok-node.ensures.grown c.self.invariant.tidy)))
 
 pub admit-requires-clause-fits : goal.admit-requires-clause-fits
 admit-requires-clause-fits c =
@@ -48,3 +55,5 @@ invariant_of-self-2 c =
     stopped c.add.new.self (with_client content path) c.in_default.ensures.ok c.admit.new.self c.stop.new.self
     c.self.inside.is_total_free c.stop.ensures (along content.total c.in_ok-node.ensures.tree)
     (λ on total. along total (c.in_ok-node.ensures.free (c.self.invariant.free on) total))
+    (subst (λ (v : _). IsTidy (with_client content path) v.items) (sym c.admit.ensures.places)
+    (λ i live. has_more content path _ (c.in_ok-node.ensures.grown c.self.invariant.tidy i live)))

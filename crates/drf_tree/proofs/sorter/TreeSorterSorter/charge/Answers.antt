@@ -8,6 +8,7 @@ use Rattle.drf_tree.specs.Sorter.{Sorted}
 use Rattle.drf_tree.proofs.FindLemmas.{client_below}
 use Rattle.drf_tree.proofs.KeptLemmas.{active_stays, kept_along, kept_by, queue_stays, total_counts}
 use Rattle.drf_tree.proofs.LeafLemmas.{known_in, leaf_of, room}
+use Rattle.drf_tree.proofs.TidyLemmas.{has_changed}
 use Rattle.drf_tree.proofs.sorter.TreeSorterSorter.charge.Goals as goal
 
 pub returns-in_default-clause-ok : goal.returns-in_default-clause-ok
@@ -21,14 +22,14 @@ pub invariant_of-self : goal.invariant_of-self
 invariant_of-self c =
     let content = plain_content c.self.inside.ledger in
     kept_by c.self.inside.ledger content refl c.self.inside.tree c.name_labels.new.self c.self.inside.walk false
-    (c.name_labels.ensures.tree content c.self.invariant.of_ledger) (total_counts content c.name_labels.new.self)
+    (c.name_labels.ensures.tree content c.self.invariant.of_ledger) (total_counts content c.name_labels.new.self) c.self.invariant.tidy
     c.name_labels.ensures.places c.name_labels.ensures.families c.self.invariant.frames c.self.invariant.settled
 
 pub invariant_of-self-in_err-charge : goal.invariant_of-self-in_err-charge
 invariant_of-self-in_err-charge c =
     let content = plain_content c.self.inside.ledger in
     kept_by c.charge.new.self content c.in_err-charge.ensures.err c.self.inside.tree c.name_labels.new.self c.self.inside.walk false
-    (c.name_labels.ensures.tree content c.self.invariant.of_ledger) (total_counts content c.name_labels.new.self)
+    (c.name_labels.ensures.tree content c.self.invariant.of_ledger) (total_counts content c.name_labels.new.self) c.self.invariant.tidy
     c.name_labels.ensures.places c.name_labels.ensures.families c.self.invariant.frames c.self.invariant.settled
 
 pub charge-requires-2-clause-shape : goal.charge-requires-2-clause-shape
@@ -63,7 +64,9 @@ invariant_of-self-2 c =
     (leaf_of content c.name_labels.new.self c.in-Some.node path of known
     (ap (λ (v : _). is_live v.items c.in-Some.node) places ∙ c.in-Some.ensures.live)
     (ap (λ (v : _). path_at v.items c.in-Some.node) places ∙ c.in-Some.ensures.at)) known)
-    (total_counts now c.charge-2.new.self) (c.charge-2.ensures.places ∙ places) (c.charge-2.ensures.families ∙ c.name_labels.ensures.families)
+    (total_counts now c.charge-2.new.self)
+    (λ i live. has_changed content path (charged c.args.quantities.now c.args.offers) (λ d. refl) _ (c.self.invariant.tidy i live))
+    (c.charge-2.ensures.places ∙ places) (c.charge-2.ensures.families ∙ c.name_labels.ensures.families)
     c.self.invariant.frames c.self.invariant.settled
 
 pub returns-clause-queue : goal.returns-clause-queue

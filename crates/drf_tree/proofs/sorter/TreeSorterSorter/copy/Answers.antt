@@ -7,6 +7,7 @@ use Rattle.drf_tree.specs.Queue.{AreFrames, IsSettled}
 use Rattle.drf_tree.specs.Tree.{IsTreeOf}
 use Rattle.drf_tree.proofs.CopyLemmas.{settled_copied}
 use Rattle.drf_tree.proofs.KeptLemmas.{total_counts}
+use Rattle.drf_tree.specs.Tidy.{IsTidy}
 use Rattle.drf_tree.proofs.sorter.TreeSorterSorter.copy.Goals as goal
 
 pub invariant_of-result : goal.invariant_of-result
@@ -23,6 +24,8 @@ invariant_of-result c =
     record {
       of_ledger = c.in_ok-copy-2.ensures.tree content now;
       free = total_counts content tree;
+      tidy = subst (λ (ps : List (Option Place)). IsTidy content ps) (sym c.in_ok-copy-2.ensures.places)
+          (subst (λ (k : Content). IsTidy k old.places.items) (sym c.in_ok-copy.ensures.content) c.self.invariant.tidy);
       frames = subst (λ (ps : List (Option Place)). AreFrames ps frames) (sym c.in_ok-copy-2.ensures.places)
           (subst (AreFrames old.places.items) (sym c.in_ok-copy-3.ensures) c.self.invariant.frames);
       settled = subst (λ (ps : List (Option Place)). IsSettled content ps tree.families.items frames) (sym c.in_ok-copy-2.ensures.places)

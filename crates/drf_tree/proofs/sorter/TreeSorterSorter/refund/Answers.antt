@@ -10,6 +10,7 @@ use Rattle.drf_tree.specs.Tree.{IsTreeOf}
 use Rattle.drf_tree.proofs.FindLemmas.{client_below}
 use Rattle.drf_tree.proofs.KeptLemmas.{active_stays, kept_along, queue_stays}
 use Rattle.drf_tree.proofs.LeafLemmas.{can_refund, known_in, leaf_of, lowerable, lowered_refunded}
+use Rattle.drf_tree.proofs.TidyLemmas.{has_changed}
 use Rattle.drf_tree.proofs.sorter.TreeSorterSorter.refund.Goals as goal
 
 pub invariant_of-self : goal.invariant_of-self
@@ -52,6 +53,7 @@ invariant_of-self-2 c =
     kept_along c.refund.new.self content now c.refund.ensures.content
     (active_stays path (refunded quantities) (λ d. refl) (λ d. refl) content) tree c.lower.new.self c.self.inside.walk
     c.self.inside.is_total_free (along content.total c.self.invariant.of_ledger) (λ on total. along total (c.self.invariant.free on total))
+    (λ i live. has_changed content path (refunded quantities) (λ d. refl) _ (c.self.invariant.tidy i live))
     c.lower.ensures.places c.lower.ensures.families c.self.invariant.frames c.self.invariant.settled
 
 -- a client has a node

@@ -1,5 +1,7 @@
 use Rattle.std.specs.Prelude.{List}
-use Rattle.std.proofs.Common.{ap, ◌∙◌}
+use Rattle.std.proofs.Common.{ap, subst, sym, ◌∙◌}
+use Rattle.drf_role.specs.Path.{Path}
+use Rattle.drf_tree.specs.Nodes.{path_at}
 use Rattle.std.proofs.lemmas.Bool.{false≢true}
 use Rattle.drf_bundle.specs.declared.quantities.Entry.{Entry}
 use Rattle.drf_sorter.specs.Content.{Content, has_client, without_client}
@@ -9,6 +11,8 @@ use Rattle.drf_tree.specs.Tree.{IsTreeOf}
 use Rattle.drf_tree.proofs.FindLemmas.{client_below}
 use Rattle.drf_tree.proofs.KeptLemmas.{stopped}
 use Rattle.drf_tree.proofs.LeafLemmas.{leaf_of, least}
+use Rattle.drf_tree.specs.Tidy.{IsTidyBut}
+use Rattle.drf_tree.proofs.TidyLemmas.{has_less}
 use Rattle.drf_tree.proofs.sorter.TreeSorterSorter.remove.Goals as goal
 
 pub remove-requires : goal.remove-requires
@@ -50,3 +54,9 @@ invariant_of-self-2 c =
     stopped c.remove.new.self (without_client content path) c.remove.ensures.content c.prune.new.self c.stop.new.self
     c.self.inside.is_total_free c.stop.ensures (along content.total c.self.invariant.of_ledger)
     (λ on total. along total (c.self.invariant.free on total))
+    (c.prune.ensures.tidy (without_client content path)
+    (c.dismiss.ensures.tree content path c.self.invariant.of_ledger
+    (leaf_of content tree c.in-Some.node path c.self.invariant.of_ledger has c.in-Some.ensures.live c.in-Some.ensures.at) has)
+    (subst (λ (v : _). IsTidyBut (path_at v.items c.in-Some.node) (without_client content path) v.items) (sym c.dismiss.ensures.places)
+    (subst (λ (p : Path). IsTidyBut p (without_client content path) tree.places.items) (sym c.in-Some.ensures.at)
+    (λ i live. has_less content path _ (c.self.invariant.tidy i live)))))

@@ -1,5 +1,5 @@
 use Rattle.std.specs.Prelude.{List}
-use Rattle.std.proofs.Common.{ap}
+use Rattle.std.proofs.Common.{ap, refl}
 use Rattle.std.proofs.lemmas.Bool.{false≢true}
 use Rattle.drf_bundle.specs.declared.quantities.Entry.{Entry}
 use Rattle.drf_sorter.specs.Content.{Content, activated, with_change}
@@ -9,6 +9,7 @@ use Rattle.drf_tree.specs.Tree.{IsTreeOf}
 use Rattle.drf_tree.proofs.FindLemmas.{client_below}
 use Rattle.drf_tree.proofs.KeptLemmas.{stopped}
 use Rattle.drf_tree.proofs.LeafLemmas.{active_fits, few_clients, known_in, leaf_of, least}
+use Rattle.drf_tree.proofs.TidyLemmas.{has_changed, tidy_along}
 use Rattle.drf_tree.proofs.sorter.TreeSorterSorter.set_active.Goals as goal
 
 pub invariant_of-self : goal.invariant_of-self
@@ -42,3 +43,5 @@ invariant_of-self-2 c =
     (leaf_of before tree c.in-Some.node path of known c.in-Some.ensures.live c.in-Some.ensures.at) known in
     stopped c.set_active.new.self now c.set_active.ensures.content c.set_active-2.new.self c.stop.new.self c.self.inside.is_total_free
     c.stop.ensures (along content.total c.self.invariant.of_ledger) (λ on total. along total (c.self.invariant.free on total))
+    (tidy_along content now tree.places.items c.set_active-2.new.self.places.items (ap (λ (v : _). v.items) c.set_active-2.ensures.places)
+    (has_changed content path (activated c.args.active) (λ d. refl)) c.self.invariant.tidy)

@@ -14,7 +14,7 @@ invariant_of-self c =
     let new : Content = record content { total = c.args.total } in
     let free = c.self.invariant.free c.if-self.true in
     kept_by c.set_total.new.self new c.set_total.ensures.content tree tree c.self.inside.walk c.self.inside.is_total_free
-    (free c.args.total) (λ on. free) refl refl c.self.invariant.frames
+    (free c.args.total) (λ on. free) c.self.invariant.tidy refl refl c.self.invariant.frames
     (settled_along content new tree.places.items tree.families.items refl c.self.inside.walk.frames.items c.self.invariant.settled)
 
 pub invariant_of-self-2 : goal.invariant_of-self-2
@@ -24,7 +24,7 @@ invariant_of-self-2 c =
     λ total. c.mark_all.ensures.tree content total (plain_weighs c.self.inside.ledger) c.self.invariant.of_ledger in
     let new : Content = record content { total = c.args.total } in
     kept_by c.set_total.new.self new c.set_total.ensures.content c.self.inside.tree c.mark_all.new.self c.self.inside.walk true
-    (right c.args.total) (λ on. right) c.mark_all.ensures.places c.mark_all.ensures.families
+    (right c.args.total) (λ on. right) c.self.invariant.tidy c.mark_all.ensures.places c.mark_all.ensures.families
     c.self.invariant.frames
     (settled_along content new c.self.inside.tree.places.items c.self.inside.tree.families.items refl c.self.inside.walk.frames.items
     c.self.invariant.settled)

@@ -12,7 +12,7 @@ use Rattle.drf_tree.proofs.sorter.TreeSorterSorter.set_weight.Goals as goal
 pub invariant_of-self : goal.invariant_of-self
 invariant_of-self c =
     kept_by c.set_weight.new.self (plain_content c.self.inside.ledger) c.in_err-set_weight.ensures.err c.self.inside.tree c.self.inside.tree
-    c.self.inside.walk c.self.inside.is_total_free c.self.invariant.of_ledger c.self.invariant.free refl refl c.self.invariant.frames
+    c.self.inside.walk c.self.inside.is_total_free c.self.invariant.of_ledger c.self.invariant.free c.self.invariant.tidy refl refl c.self.invariant.frames
     c.self.invariant.settled
 
 pub invariant_of-self-in_default : goal.invariant_of-self-in_default
@@ -25,7 +25,7 @@ invariant_of-self-in_default c =
     λ total of. unweighed_tree (record content { total = total }) role c.args.weight tree of (c.in_default.ensures.missing refl) in
     kept_along c.set_weight.new.self content now c.in_ok-set_weight.ensures.ok refl tree tree c.self.inside.walk
     c.self.inside.is_total_free (along content.total c.self.invariant.of_ledger) (λ on total. along total (c.self.invariant.free on total))
-    refl refl c.self.invariant.frames c.self.invariant.settled
+    c.self.invariant.tidy refl refl c.self.invariant.frames c.self.invariant.settled
 
 pub invariant_of-self-2 : goal.invariant_of-self-2
 invariant_of-self-2 c =
@@ -41,4 +41,4 @@ invariant_of-self-2 c =
     (c.weigh.ensures.tree before of) in
     kept_along c.set_weight.new.self content now c.in_ok-set_weight.ensures.ok refl tree c.weigh.new.self c.self.inside.walk
     c.self.inside.is_total_free (along content.total c.self.invariant.of_ledger) (λ on total. along total (c.self.invariant.free on total))
-    c.weigh.ensures.places c.weigh.ensures.families c.self.invariant.frames c.self.invariant.settled
+    c.self.invariant.tidy c.weigh.ensures.places c.weigh.ensures.families c.self.invariant.frames c.self.invariant.settled

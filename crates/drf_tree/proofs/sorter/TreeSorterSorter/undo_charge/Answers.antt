@@ -7,6 +7,7 @@ use Rattle.drf_tree.specs.Sorter.{Sorted}
 use Rattle.drf_tree.proofs.FindLemmas.{client_below}
 use Rattle.drf_tree.proofs.KeptLemmas.{active_stays, kept_along, queue_stays, total_counts}
 use Rattle.drf_tree.proofs.LeafLemmas.{can_discharge, known_in, leaf_of, lowerable}
+use Rattle.drf_tree.proofs.TidyLemmas.{has_changed}
 use Rattle.drf_tree.proofs.sorter.TreeSorterSorter.undo_charge.Goals as goal
 
 pub invariant_of-self : goal.invariant_of-self
@@ -41,6 +42,7 @@ invariant_of-self-2 c =
     (leaf_of content tree c.in-Some.node path c.self.invariant.of_ledger known c.in-Some.ensures.live c.in-Some.ensures.at) known
     (can_discharge content path c.args.quantities.now
     (subst (λ (l : PlainSorter). HasChargeAt (plain_content l) path c.args.quantities.now) (sym ledger) c.requires.charged))) (total_counts now c.lower.new.self)
+    (λ i live. has_changed content path (discharged c.args.quantities.now) (λ d. refl) _ (c.self.invariant.tidy i live))
     c.lower.ensures.places c.lower.ensures.families c.self.invariant.frames c.self.invariant.settled
 
 -- a client has a node

@@ -1,8 +1,12 @@
-use Rattle.std.specs.Prelude.{◌==◌, ◌||◌, Option}
-use Rattle.std.specs.Option.{is_some}
-use Rattle.std.proofs.Common.{ap, arith, ◌∙◌}
+use Rattle.std.specs.Prelude.{◌==◌, ◌||◌, [], Option, take}
+use Rattle.std.specs.Option.{is_some, option_map_or}
+use Rattle.std.proofs.Common.{ap, arith, subst, sym, ◌∙◌}
+use Rattle.drf_role.specs.Path.{Path}
 use Rattle.drf_sorter.specs.Plain.{plain_content}
 use Rattle.drf_tree.specs.declared.node.Place.{Place}
+use Rattle.drf_tree.specs.Tidy.{IsTidyBut}
+use Rattle.drf_tree.proofs.FindLemmas.{take_whole}
+use Rattle.drf_tree.proofs.TidyLemmas.{but_along}
 use Rattle.drf_tree.proofs.GrowLemmas.{grow_start, grow_step, grown_client, grown_live}
 use Rattle.drf_tree.proofs.tree.Tree.grow.Goals as goal
 
@@ -13,7 +17,7 @@ pub loop-i-preserved : goal.loop-i-preserved
 loop-i-preserved c =
     let e = c.in-Ok.ensures in
     grow_step (plain_content c.args.ledger.now) c.args.self.now c.loop-i.self c.step.new.self c.args.path.now c.loop-i.node c.loop-i.i
-    c.in-Ok.child c.loop-i.invariant e.tree e.free e.live e.path e.work e.made
+    c.in-Ok.child c.loop-i.invariant e.tree e.free e.live e.path e.work e.made e.one
 
 pub prune-requires-clause-shape : goal.prune-requires-clause-shape
 prune-requires-clause-shape c = c.in-Err.ensures.tree.shape
@@ -50,3 +54,19 @@ returns-clause-client c =
 
 pub returns-clause-work : goal.returns-clause-work
 returns-clause-work c = omega (arith, c.loop-i.invariant.work, c.loop-i.auto.i-end, c.len-i-end.ensures.len)
+
+pub returns-in-Err-clause-left : goal.returns-in-Err-clause-left
+returns-in-Err-clause-left c =
+    let content = plain_content c.args.ledger.now in
+    let old = c.loop-i.self in
+    let new = c.step.new.self in
+    λ tidy.
+    c.prune.ensures.tidy content c.in-Err.ensures.tree
+    (subst (λ (p : Path). IsTidyBut p content new.places.items)
+    (sym c.loop-i.invariant.at ∙ ap (λ (o : Option Place). option_map_or (λ p. p.path) o []) (sym (c.in-Err.ensures.err c.loop-i.node)))
+    (but_along content (take c.loop-i.i c.args.path.now) old.places.items new.places.items c.in-Err.ensures.err (c.loop-i.invariant.but tidy)))
+
+pub returns-clause-grown : goal.returns-clause-grown
+returns-clause-grown c = λ tidy.
+    subst (λ (p : Path). IsTidyBut p (plain_content c.args.ledger.now) c.loop-i.self.places.items)
+    (take_whole c.args.path.now c.loop-i.i (omega (arith, c.len-i-end.ensures.len, c.loop-i-test.false))) (c.loop-i.invariant.but tidy)

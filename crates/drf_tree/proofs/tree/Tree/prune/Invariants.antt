@@ -4,7 +4,7 @@ use Rattle.drf_tree.proofs.BareLemmas.{IsPruning}
 use Rattle.drf_tree.proofs.tree.Tree.prune.Given as goal
 
 abbrev pub invariant-loop-node : goal.invariant-loop-node
-invariant-loop-node l = IsPruning l.fn.self l.self l.node
+invariant-loop-node l = IsPruning l.fn.self l.self l.leaf l.node
 
 abbrev pub decreases-loop-node : goal.decreases-loop-node
 decreases-loop-node l = length (path_at l.self.places.items l.node)

@@ -8,6 +8,7 @@ use Rattle.drf_tree.proofs.tree.Tree.renew_all.Given as goal
 abbrev pub invariant-loop-node : goal.invariant-loop-node
 invariant-loop-node l = record {
   tree : IsTreeOf (plain_content l.ledger) l.self;
+  places : l.self.places ≡ l.fn.self.places;
   long : length l.self.families.items ≡ length l.fn.self.families.items;
   made : l.fn.self.marks.made ≤ l.self.marks.made;
   work : debt (work_of l.self.marks) ≤ debt (work_of l.fn.self.marks);

@@ -78,6 +78,7 @@ loop-node-smaller c =
 pub loop-node-preserved : goal.loop-node-preserved
 loop-node-preserved c = record {
   tree = c.renew.ensures.tree;
+  places = c.renew.ensures.places ∙ c.loop-node.invariant.places;
   work = omega (
     arith,
     one_more c.take.new.self c.renew.new.self.marks c.renew.ensures.made c.renew.ensures.stale,

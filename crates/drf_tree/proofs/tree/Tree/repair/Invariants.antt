@@ -1,4 +1,4 @@
-use Rattle.std.proofs.Common.{◌≤◌}
+use Rattle.std.proofs.Common.{◌≡◌, ◌≤◌}
 use Rattle.drf_sorter.specs.Plain.{plain_content}
 use Rattle.drf_sorter.specs.Work.{debt}
 use Rattle.drf_tree.specs.Marks.{marked_in, work_of}
@@ -8,6 +8,7 @@ use Rattle.drf_tree.proofs.tree.Tree.repair.Given as goal
 abbrev pub invariant-loop-node : goal.invariant-loop-node
 invariant-loop-node l = record {
   tree : IsTreeOf (plain_content l.ledger) l.self;
+  places : l.self.places ≡ l.fn.self.places;
   work : debt (work_of l.self.marks) ≤ debt (work_of l.fn.self.marks);
   made : l.fn.self.marks.made ≤ l.self.marks.made;
 }

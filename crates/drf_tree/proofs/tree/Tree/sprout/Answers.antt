@@ -8,6 +8,7 @@ use Rattle.drf_tree.specs.Changes.{IsOneLonger, IsShapeOf}
 use Rattle.drf_tree.specs.Family.{IsWith}
 use Rattle.drf_tree.specs.Nodes.{is_live, is_node, path_at, place_at}
 use Rattle.drf_tree.proofs.NodeLemmas.{family_read, node_within}
+use Rattle.drf_tree.proofs.TidyLemmas.{one_more}
 use Rattle.drf_tree.proofs.SproutLemmas.{IsReady, counted_shape, counted_tree, kept_tree, ready_seen, sprout_tree}
 use Rattle.drf_tree.proofs.tree.Tree.sprout.Goals as goal
 
@@ -108,3 +109,11 @@ returns-clause-tree c content of weighs nobody =
     (ap (slice_set now.sums.items node) c.of_none.ensures) content
     (counted_tree mid now e.places e.sums e.families e.stale v.shape content (v.tree content of))
     weighs nobody
+
+pub returns-clause-one : goal.returns-clause-one
+returns-clause-one c =
+    let e = c.in_ok-child.ensures in
+    let v = c.in_ok-node.ensures in
+    let place : Place = record { path = c.args.path; parent = c.args.parent; client = c.args.client } in
+    one_more c.args.self.now.places.items c.first_child.new.self.places.items _ c.in_ok-node.node place
+    (λ i. ap (λ ps. place_at ps.items i) e.places ∙ v.places i) (omega (arith, v.free.there, ap (λ ps. length ps.items) e.places)) refl

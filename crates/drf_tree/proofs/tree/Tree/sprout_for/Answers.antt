@@ -1,5 +1,7 @@
 use Rattle.std.proofs.Common.{ap, subst, sym, ◌∙◌}
-use Rattle.drf_role.specs.Path.{IsNodePath}
+use Rattle.std.specs.Prelude.{OnOk}
+use Rattle.drf_role.specs.Path.{IsNodePath, Path}
+use Rattle.drf_tree.specs.Tidy.{IsOneMore}
 use Rattle.drf_sorter.specs.Content.{has_node}
 use Rattle.drf_sorter.specs.Plain.{plain_content}
 use Rattle.drf_tree.proofs.GrowLemmas.{front_right}
@@ -21,3 +23,8 @@ returns-clause-free c was =
     let content = plain_content c.args.ledger.now in
     λ total. c.sprout.ensures.tree (record content { total = total }) (was total) c.weight_of-weight.ensures.value
     (ap (has_node content) c.in_ok-node.ensures ∙ c.requires.nobody)
+
+pub returns-clause-one : goal.returns-clause-one
+returns-clause-one c =
+    subst (λ (p : Path). OnOk c.sprout.result (IsOneMore p c.args.self.now.places.items c.sprout.new.self.places.items)) c.in_ok-node.ensures
+    c.sprout.ensures.one

@@ -77,6 +77,7 @@ impl Child {
         ensures stale { marks.new.stale ≡ slice_set marks.old.stale self.old.node false }
         ensures renewed { slice_index_or marks.old.stale self.old.node false ≡ true → IsKeyed total.now sums.now self.new }
         ensures kept { slice_index_or marks.old.stale self.old.node false ≡ false → self.new ≡ self.old }
+        ensures counted { slice_index_or marks.old.stale self.old.node false ≡ true → marks.new.made ≡ min (marks.old.made + 1) (2 ^ 64 - 1) }
         ensures no_less { marks.old.made ≤ marks.new.made }
         ensures work { debt (work_of marks.new) ≤ debt (work_of marks.old) }
     {

@@ -1,5 +1,5 @@
 //! The lines of the nodes in a report.
-ghost use Rattle.std.specs.Prelude.{◌≡◌, true, IfOk, OnOk, length};
+ghost use Rattle.std.specs.Prelude.{◌≡◌, ◌≤◌, true, IfOk, OnOk, length};
 ghost use Rattle.std.specs.List.{AllByRecursion};
 ghost use Rattle.drf_role.specs.Path.{Path};
 ghost use Rattle.drf_sorter.specs.Content.{IsSound, has_node};
@@ -36,8 +36,10 @@ impl Tree {
         Ok(lines.into_vec())
     }
 
-    /// How many nodes have clients. A wrong number would cost memory alone.
-    fn line_count(&self) -> usize {
+    /// How many nodes have clients, for which there is room at first.
+    fn line_count(&self) -> usize
+        ensures { result ≤ length self.now.sums.items }
+    {
         self.sums.iter().filter(|sum| sum.clients > 0).count()
     }
 

@@ -1,7 +1,8 @@
 -- The rows that the fields stand for once spent filters are dropped.
-use Rattle.std.specs.Prelude.{◌≡◌, List}
+use Rattle.std.specs.Prelude.{◌≡◌, List, length}
+use Rattle.std.proofs.lemmas.List.Sums.{length-filter}
 use Rattle.std.proofs.Common.{refl, sym, ap, ◌∙◌, subst}
-use Rattle.drf_rows.specs.Filters.{is_in_force, in_force}
+use Rattle.drf_rows.specs.Filters.{is_in_force, in_force, number_in_force}
 use Rattle.drf_rows.specs.laws.LiveLaws.{live_rows-twice}
 use Rattle.drf_rows.specs.laws.MemberLaws.{IsConsistent-filters_kept}
 use Rattle.drf_rows.specs.Step.{live_rows}
@@ -26,3 +27,11 @@ module _ (t : Inside) (filters : List FilterRow) (left : filters ≡ in_force t.
       subst (λ (r : Rows). AreDerived r t.agents.entries t.total t.clients) (sym swept)
       (AreDerived-same (rows_in t) (live_rows (rows_in t)) t.agents.entries t.total t.clients kept
       (IsConsistent-filters_kept (rows_in t) (is_in_force (rows_in t).clock) kept.consistent) refl refl refl)
+
+-- all that are left are in force
+pub left-swept : (rows : Rows) (filters left : List FilterRow) → left ≡ in_force rows.clock filters → number_in_force rows.clock left ≡ length left
+left-swept rows filters left is =
+    sym (length-filter (is_in_force rows.clock) left)
+    ∙ ap (λ (fs : List FilterRow). length (in_force rows.clock fs)) is
+    ∙ ap (λ (r : Rows). length r.filters) (live_rows-twice (record rows { filters = filters }))
+    ∙ ap (λ (fs : List FilterRow). length fs) (sym is)

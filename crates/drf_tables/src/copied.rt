@@ -167,7 +167,7 @@ impl Tables {
             clients: self.clients,
             quota,
             is_counted: self.is_counted,
-            sweep_at: self.sweep_at,
+            sweep: self.sweep,
         })
     }
 }

@@ -1,7 +1,7 @@
 //! The filters of declined offers, and of what is left of accepted ones.
 #![tactic(auto, unfolding(crate::specs::Inside::rows_of))]
 
-ghost use Rattle.std.specs.Prelude.{◌≡◌, ◌≤◌, ◌&&◌, ◌++◌, ◌∷◌, [], true, not, nat_le, nat_lt, Some, IfOk, OnOk, OnErr};
+ghost use Rattle.std.specs.Prelude.{◌≡◌, ◌≤◌, ◌&&◌, ◌++◌, ◌∷◌, [], true, not, nat_le, nat_lt, length, Some, IfOk, OnOk, OnErr};
 ghost use Rattle.drf_rows.specs.Consistent.{IsConsistent, IsFilter};
 ghost use Rattle.drf_rows.specs.Cycle.{at_moment};
 ghost use Rattle.drf_rows.specs.Filters.{is_held_back, number_in_force};
@@ -11,16 +11,13 @@ ghost use Rattle.drf_rows.specs.declared.limits.TheConstants.{LATEST_MOMENT};
 ghost use Rattle.drf_rows.specs.declared.rows.OfferRow.{OfferRow};
 ghost use Rattle.drf_tables.specs.Ended.{filter_if};
 
+use crate::sweep::Sweep;
 use crate::tables::Tables;
 use drf_amount::Algebra;
 use drf_bundle::Bundle;
 use drf_role::{Name, Role};
 use drf_rows::{Decline, FilterRow, LONGEST_FILTER, OfferRow};
 use std::alloc::AllocError;
-
-// As many filters as may ever be in force. Where more stand, some have run out, and each event that asks how many are in force would
-// go over those.
-const MOST_IN_FORCE: usize = 65536;
 
 /// The filter that keeps a bundle on an offer's agent from its client. It ends so long after the moment, both in
 /// milliseconds, but not later than after 365 days.
@@ -124,17 +121,17 @@ impl Tables {
         Ok(())
     }
 
-    /// Drops filters that have run out, when the filters have become many.
+    /// Drops filters that have run out, when the filters have become many: where as many stand afterwards as may be in force, all are.
     pub fn forget_spent(&mut self)
         ensures live { live_rows self.new.rows ≡ live_rows self.old.rows }
         ensures others { self.new.rows ≡ record self.old.rows { filters = self.new.rows.filters } }
         ensures consistent { IsConsistent self.new.rows }
+        ensures swept { 65536 ≤ length self.new.rows.filters → number_in_force self.new.rows.clock self.new.rows.filters ≡ length self.new.rows.filters }
     {
-        if self.filters.len() < self.sweep_at {
+        if !self.sweep.is_due(self.filters.len()) {
             return;
         }
         self.filters.drop_spent(self.clock);
-        let twice = self.filters.len().saturating_mul(2).saturating_add(8);
-        self.sweep_at = twice.min(MOST_IN_FORCE);
+        self.sweep = Sweep::behind(self.filters.len());
     }
 }

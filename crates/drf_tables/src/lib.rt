@@ -17,6 +17,7 @@ mod recounting;
 mod restoring;
 mod room;
 mod settling;
+mod sweep;
 mod tables;
 
 pub use drf_holdings::Taken;

@@ -22,6 +22,7 @@ use crate::free_part::FreePart;
 use crate::listing::{agent_rows, framework_rows, weight_rows};
 use crate::offers::{count_offers, first_number, put_lefts};
 use crate::recounting::{consume_total, take_over};
+use crate::sweep::Sweep;
 use drf_amount::Algebra;
 use drf_bundle::{Bundle, Quantities};
 use drf_gates::{FilterTable, Quota};
@@ -65,8 +66,7 @@ pub struct Tables {
     pub(crate) quota: Quota,
     // Whether the quota counts what roles consume. Where it does not, that is computed again when it is asked for.
     pub(crate) is_counted: bool,
-    // Those that have run out are dropped when the filters are so many.
-    pub(crate) sweep_at: usize,
+    pub(crate) sweep: Sweep,
 }
 
 // Written out, so that the proof of whoever drops the tables sees one call, and not the drop of each field.
@@ -85,7 +85,7 @@ impl Drop for Tables {
             clients: _clients,
             quota: _quota,
             is_counted: _is_counted,
-            sweep_at: _sweep_at,
+            sweep: _sweep,
         } = self;
     }
 }
@@ -134,7 +134,7 @@ impl Tables {
             clients: 0,
             quota: Quota::new(alloc),
             is_counted: false,
-            sweep_at: 8,
+            sweep: Sweep::first(),
         }
     }
 

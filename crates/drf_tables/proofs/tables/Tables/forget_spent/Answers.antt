@@ -1,7 +1,7 @@
 use Rattle.std.proofs.Common.{ap, ◌∙◌, refl}
 use Rattle.drf_rows.specs.Step.{live_rows}
 use Rattle.drf_tables.specs.Stored.{Stored}
-use Rattle.drf_tables.proofs.Spent.{live-swept, kept-swept}
+use Rattle.drf_tables.proofs.Spent.{kept-swept, left-swept, live-swept}
 use Rattle.drf_tables.specs.Inside.{rows_of, rows_in}
 use Rattle.drf_tables.proofs.Counts.{counts-same}
 use Rattle.drf_tables.proofs.tables.Tables.forget_spent.Goals as goal
@@ -20,3 +20,8 @@ returns-clause-live c =
 
 pub returns-clause-consistent : goal.returns-clause-consistent
 returns-clause-consistent c = (kept-swept c.self.inside c.drop_spent.new.self c.drop_spent.ensures c.self.invariant.kept).consistent
+
+pub returns-clause-swept : goal.returns-clause-swept
+unfolding rows_of
+returns-clause-swept c many =
+    left-swept (rows_in c.self.inside) c.self.inside.filters c.drop_spent.new.self c.drop_spent.ensures

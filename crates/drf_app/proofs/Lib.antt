@@ -1,3 +1,2 @@
 mod Flushed
 mod Bounds
-mod Started

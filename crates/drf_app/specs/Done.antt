@@ -1,8 +1,9 @@
 -- What a command has read, written and told, and its status.
-use Rattle.std.specs.Prelude.{◌≡◌, ℕ, Bool, ◌⊎◌, List, Result, OnOk, option_map}
+use Rattle.std.specs.Prelude.{◌≡◌, ℕ, Bool, true, false, ◌⊎◌, List, Option, Result, OnOk, option_map}
 use Rattle.std.specs.Io.KnownBytes.{IsAtEnd}
 use Rattle.clap.specs.Words.{kind_of}
 use Rattle.clap.specs.declared.error.Error.{Error}
+use Rattle.drf_ask.specs.Ended.{HasAsked}
 use Rattle.drf_core.specs.Machine.{Machine}
 use Rattle.drf_files.specs.Files.{Known}
 use Rattle.drf_journal.specs.Audited.{HasAudited, HasExplained as HasExplainedLines}
@@ -10,20 +11,30 @@ use Rattle.drf_journal.specs.Ended.{HasAnswered, HasCause}
 use Rattle.drf_journal.specs.declared.fault.RunFault.{RunFault}
 use Rattle.drf_journal.specs.declared.journal.Verdict.{Verdict}
 use Rattle.drf_resume.specs.Saving.{HasSaved as HasSavedState}
+use Rattle.drf_start.specs.Starts.{HasNotStarted, IsStart}
+use Rattle.drf_show.specs.Showing.{HasShown as HasShownRows}
+use Rattle.drf_show.specs.declared.form.Form.{Form}
+use Rattle.drf_show.specs.declared.form.Form.TheVariants.{Aligned, Json}
 use Rattle.drf_told.specs.Refused.{HasRefused}
 use Rattle.drf_told.specs.Streams.{Streams}
 use Rattle.drf_told.specs.Told.{IsToldOf, status_of}
 use Rattle.drf_app.specs.Line.{Asks, IsRefused}
-use Rattle.drf_app.specs.Starts.{HasNotStarted, IsStart}
+use Rattle.drf_app.specs.Lints.{IsLinted}
 use Rattle.drf_app.specs.Verdicts.{IsJudged, check_status}
 use Rattle.drf_app.specs.declared.line.Request.{Request}
 use Rattle.drf_app.specs.declared.line.Task.{Task}
-use Rattle.drf_app.specs.declared.line.Task.TheVariants.{Run, Check, Audit, Explain, Save}
+use Rattle.drf_app.specs.declared.line.Task.TheVariants.{Run, Check, Audit, Explain, Save, Show, Lint}
+
+-- the lines of a reader were answered, or its questions too
+abbrev pub HasAnsweredAs : (ask : Bool) → Machine → Bool → (unread_before unread_after written_before written_after : Option (List ℕ))
+    → Result ℕ RunFault → Type 0
+HasAnsweredAs false = HasAnswered
+HasAnsweredAs true = HasAsked
 
 -- a run of an allocator
-pub record HasRun (machine : Machine) (echo : Bool) (old new : Streams) (answer : ℕ) : Type 0 where
+pub record HasRun (machine : Machine) (echo ask : Bool) (old new : Streams) (answer : ℕ) : Type 0 where
   pub ended : Result ℕ RunFault
-  pub run : HasAnswered machine echo old.input.bytes new.input.bytes old.output.bytes new.output.bytes ended
+  pub run : HasAnsweredAs ask machine echo old.input.bytes new.input.bytes old.output.bytes new.output.bytes ended
   pub whole : OnOk ended (IsAtEnd new.input.bytes)
   pub cause : HasCause ended new.input.failed new.input.calls new.output.failed
   pub status : answer ≡ status_of ended
@@ -61,13 +72,27 @@ pub record HasSaved (machine : Machine) (epoch : Bool) (old new : Streams) (answ
   pub status : answer ≡ status_of ended
   pub told : IsToldOf ended old.errors.bytes new.errors.bytes new.errors.failed
 
+abbrev pub form_of : Bool → Form
+form_of true = Json
+form_of false = Aligned
+
+-- the state was shown, as tables or as lines
+pub record HasShown (machine : Machine) (json : Bool) (old new : Streams) (answer : ℕ) : Type 0 where
+  pub ended : Result (Unit {0}) RunFault
+  pub shown : HasShownRows (form_of json) machine old.input.bytes new.input.bytes old.output.bytes new.output.bytes ended
+  pub cause : HasCause ended new.input.failed new.input.calls new.output.failed
+  pub status : answer ≡ status_of ended
+  pub told : IsToldOf ended old.errors.bytes new.errors.bytes new.errors.failed
+
 -- what is done for a task that begins with an allocator
 abbrev pub HasDoneFrom : Machine → Task → Streams → Streams → ℕ → Type 0
-HasDoneFrom machine (Run echo) old new answer = HasRun machine echo old new answer
+HasDoneFrom machine (Run echo ask) old new answer = HasRun machine echo ask old new answer
 HasDoneFrom machine Check old new answer = HasChecked machine old new answer
 HasDoneFrom machine Audit old new answer = HasAudit machine old new answer
 HasDoneFrom machine (Explain at) old new answer = HasExplainedCycle machine at old new answer
 HasDoneFrom machine (Save epoch) old new answer = HasSaved machine epoch old new answer
+HasDoneFrom machine (Show json) old new answer = HasShown machine json old new answer
+HasDoneFrom machine (Lint write) old new answer = IsLinted write old new answer
 
 -- what is done for a request, where so much is known of files: its task has not begun, or was done from what it begins with
 abbrev pub HasDone : Known → Request → Streams → Streams → ℕ → Type 0

@@ -1,4 +1,4 @@
 pub mod Line
-pub mod Starts
 pub mod Verdicts
+pub mod Lints
 pub mod Done

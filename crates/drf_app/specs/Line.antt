@@ -7,16 +7,13 @@ use Rattle.clap.specs.declared.builder.action.ArgAction.TheVariants.{Set, SetTru
 use Rattle.clap.specs.declared.builder.value_parser.ValueParser.TheVariants.{Unsigned}
 use Rattle.clap.specs.declared.error.Error.{Error}
 use Rattle.drf_rows.specs.declared.limits.TheConstants.{LATEST_MOMENT}
+use Rattle.drf_start.specs.Line.{from_option}
 use Rattle.drf_told.specs.Entered.{IsNameOf}
 use Rattle.drf_app.specs.declared.line.Request.{Request}
 use Rattle.drf_app.specs.declared.line.Task.{Task}
-use Rattle.drf_app.specs.declared.line.Task.TheVariants.{Run, Check, Audit, Explain, Save}
+use Rattle.drf_app.specs.declared.line.Task.TheVariants.{Run, Check, Audit, Explain, Save, Show, Lint}
 
--- ---- the form
-
--- each command has `[--from STATE]`
-abbrev pub from_option : Rule
-from_option = record (new_rule (codes "from")) { long = Some (codes "from"); value_names = 1; action = Some Set }
+-- ---- the form, in which each command but `lint` has `[--from STATE]`
 
 abbrev pub flag : Text → Rule
 flag name = record (new_rule name) { long = Some name; action = Some SetTrue }
@@ -24,9 +21,9 @@ flag name = record (new_rule name) { long = Some name; action = Some SetTrue }
 abbrev pub moment_option : Rule
 moment_option = record (new_rule (codes "at")) { long = Some (codes "at"); action = Some Set; parser = Some (Unsigned 0 LATEST_MOMENT) }
 
--- `run [--echo]`
+-- `run [--echo] [--ask]`
 abbrev pub run_line : App
-run_line = with_rule (with_rule (new_app (codes "run")) (flag (codes "echo"))) from_option
+run_line = with_rule (with_rule (with_rule (new_app (codes "run")) (flag (codes "echo"))) (flag (codes "ask"))) from_option
 
 -- `check`
 abbrev pub check_line : App
@@ -44,14 +41,22 @@ explain_line = with_rule (with_rule (new_app (codes "explain")) moment_option) f
 abbrev pub save_line : App
 save_line = with_rule (with_rule (new_app (codes "save")) (flag (codes "epoch"))) from_option
 
+-- `show [--json]`
+abbrev pub show_line : App
+show_line = with_rule (with_rule (new_app (codes "show")) (flag (codes "json"))) from_option
+
+-- `lint [--write]`
+abbrev pub lint_line : App
+lint_line = with_rule (new_app (codes "lint")) (flag (codes "write"))
+
 -- `drf COMMAND`, which has a version
 abbrev pub drf_top : Shape → Shape
 drf_top s = record s { subcommand_required = true; has_version = true; disable_help_subcommand = true }
 
 abbrev pub drf_line : App
 drf_line =
-    with_subcommand (with_subcommand (with_subcommand (with_subcommand (with_subcommand (on_top drf_top (new_app (codes "drf"))) run_line.top)
-    check_line.top) audit_line.top) explain_line.top) save_line.top
+    with_subcommand (with_subcommand (with_subcommand (with_subcommand (with_subcommand (with_subcommand (with_subcommand (on_top drf_top (new_app (codes "drf"))) run_line.top)
+    check_line.top) audit_line.top) explain_line.top) save_line.top) show_line.top) lint_line.top
 
 -- ---- what the words of a command say
 
@@ -71,11 +76,13 @@ pub record SaysMoment (rows : List Row) (at : ℕ) : Type 0 where
 
 -- the name of the command that does a task
 abbrev pub name_of : Task → Text
-name_of (Run echo) = codes "run"
+name_of (Run echo ask) = codes "run"
 name_of Check = codes "check"
 name_of Audit = codes "audit"
 name_of (Explain at) = codes "explain"
 name_of (Save epoch) = codes "save"
+name_of (Show json) = codes "show"
+name_of (Lint write) = codes "lint"
 
 -- a command has that name
 abbrev pub IsCommand : Text → Type 0
@@ -83,11 +90,13 @@ IsCommand name = IsNameOf drf_line.subs name
 
 -- what they say of its flags is the task's
 abbrev pub SaysTask : List Row → Task → Type 0
-SaysTask rows (Run echo) = HasFlag rows (codes "echo") echo
+SaysTask rows (Run echo ask) = HasFlag rows (codes "echo") echo × HasFlag rows (codes "ask") ask
 SaysTask rows Check = ⊤
 SaysTask rows Audit = ⊤
 SaysTask rows (Explain at) = SaysMoment rows at
 SaysTask rows (Save epoch) = HasFlag rows (codes "epoch") epoch
+SaysTask rows (Show json) = HasFlag rows (codes "json") json
+SaysTask rows (Lint write) = HasFlag rows (codes "write") write
 
 -- the words name the command of the task, and the file with the state that it begins with, if it begins with one
 pub record IsNamed (words : List Text) (request : Request) : Type 0 where
@@ -98,11 +107,13 @@ pub record IsNamed (words : List Text) (request : Request) : Type 0 where
 
 -- the moment of a task, if it has one, is no later than the latest
 abbrev pub IsWithinBounds : Task → Type 0
-IsWithinBounds (Run echo) = ⊤
+IsWithinBounds (Run echo ask) = ⊤
 IsWithinBounds Check = ⊤
 IsWithinBounds Audit = ⊤
 IsWithinBounds (Explain at) = at ≤ LATEST_MOMENT
 IsWithinBounds (Save epoch) = ⊤
+IsWithinBounds (Show json) = ⊤
+IsWithinBounds (Lint write) = ⊤
 
 -- the words, of which the first is the program's name, ask for that: nothing is wrong with them, and they name it
 pub record Asks (words : List Text) (request : Request) : Type 0 where

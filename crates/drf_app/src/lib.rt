@@ -3,9 +3,10 @@
 
 mod check;
 mod line;
-mod start;
+mod lint;
+mod run;
+mod show;
 mod tasks;
 
 pub use line::{Request, Task};
-pub use start::StartFault;
 pub use tasks::command;

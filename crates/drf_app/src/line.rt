@@ -1,19 +1,20 @@
 //! The words of the command line, and what they ask for.
 ghost use Rattle.std.specs.Prelude.{◌≡◌, map, false, MatchResult, IfOk};
 ghost use Rattle.clap.specs.Words.{app_of, found_of, rows_of, rule_of};
-ghost use Rattle.drf_app.specs.Line.{audit_line, check_line, explain_line, run_line, save_line, drf_line, flag, from_option, name_of, Asks, HasFlag, IsCommand, IsRefused, SaysMoment, SaysTask};
+ghost use Rattle.drf_app.specs.Line.{audit_line, check_line, explain_line, lint_line, run_line, save_line, show_line, drf_line, flag, name_of, Asks, HasFlag, IsCommand, IsRefused, SaysMoment, SaysTask};
 
 use clap::builder::ValueParser;
 use clap::{Arg, ArgAction, ArgMatches, Command, Error};
 use drf_rows::LATEST_MOMENT;
+use drf_start::from_option;
 use std::alloc::{AllocError, Global};
 use std::convert::AsStr;
 
 /// What a command does.
 #[derive(Clone, Copy, Debug)]
 pub enum Task {
-    /// The replies to event lines; with `echo` each line, as it was read, before its reply.
-    Run { echo: bool },
+    /// The replies to event lines; with `echo` each line, as it was read, before its reply; with `ask` the answers to lines that ask.
+    Run { echo: bool, ask: bool },
     /// Whether a journal is right.
     Check,
     /// What each agent has, and what is free of it, after the events of event lines.
@@ -23,6 +24,10 @@ pub enum Task {
     Explain { at: u64 },
     /// The state after the events of event lines; with `epoch` as a cluster begins anew that keeps its tasks.
     Save { epoch: bool },
+    /// The state after the events of event lines, as tables; with `json` as lines for programs.
+    Show { json: bool },
+    /// What is wrong with the lines that are no events; with `write` the others are written as they are read.
+    Lint { write: bool },
 }
 
 /// What the words ask for.
@@ -34,19 +39,6 @@ pub struct Request<'a> {
 }
 
 const VERSION: &str = "0.1.0";
-
-fn from_option<'a>(alloc: Global) -> Arg<'a>
-    ensures rule { rule_of result ≡ from_option }
-    ensures local { result.global ≡ false }
-{
-    Arg::new(alloc, "from")
-        .long("from")
-        .value_name("STATE")
-        .help(
-            "Begins with the state in this file, as `save` writes it, and not with an empty cluster",
-        )
-        .action(ArgAction::Set)
-}
 
 fn flag<'a>(alloc: Global, name: &'a str, help: &'a str) -> Arg<'a>
     ensures rule { rule_of result ≡ flag name.now }
@@ -68,6 +60,11 @@ fn run_line<'a>(alloc: Global) -> Result<Command<'a>, AllocError>
             alloc,
             "echo",
             "Writes each line, as it was read, before its reply: a journal",
+        ))?
+        .arg(flag(
+            alloc,
+            "ask",
+            "Answers lines that ask, as `?report`, `?explain 5000`, `?offers f1`, `?tasks`, `?state` or `?tables`: no events, and in no journal",
         ))?
         .arg(from_option(alloc))
 }
@@ -127,6 +124,33 @@ fn save_line<'a>(alloc: Global) -> Result<Command<'a>, AllocError>
         .arg(from_option(alloc))
 }
 
+fn show_line<'a>(alloc: Global) -> Result<Command<'a>, AllocError>
+    ensures { IfOk result (λ line. app_of line ≡ show_line) }
+{
+    Command::new(alloc, "show")
+        .about(
+            "Takes the event lines or the journal on standard input, and shows the state after them: who has what, and how full each table is",
+        )
+        .after_help("Example: drf show < examples/day.jsonl")
+        .arg(flag(alloc, "json", "One JSON object a line, for programs"))?
+        .arg(from_option(alloc))
+}
+
+fn lint_line<'a>(alloc: Global) -> Result<Command<'a>, AllocError>
+    ensures { IfOk result (λ line. app_of line ≡ lint_line) }
+{
+    Command::new(alloc, "lint")
+        .about(
+            "Tells of each line of standard input that is no event what is wrong with it, and where; the status is 3 where there is one",
+        )
+        .after_help("Example: drf lint < examples/day.jsonl")
+        .arg(flag(
+            alloc,
+            "write",
+            "Writes each event in its written form on standard output, and tells of the other lines on standard error",
+        ))
+}
+
 fn drf_line<'a>(alloc: Global) -> Result<Command<'a>, AllocError>
     ensures { IfOk result (λ line. app_of line ≡ drf_line) }
 {
@@ -135,6 +159,8 @@ fn drf_line<'a>(alloc: Global) -> Result<Command<'a>, AllocError>
     let audit = audit_line(alloc)?;
     let explain = explain_line(alloc)?;
     let save = save_line(alloc)?;
+    let show = show_line(alloc)?;
+    let lint = lint_line(alloc)?;
     Command::new(alloc, "drf")
         .about("Shares the machines of a cluster among teams by Dominant Resource Fairness")
         .after_help(
@@ -147,7 +173,9 @@ fn drf_line<'a>(alloc: Global) -> Result<Command<'a>, AllocError>
         .subcommand(check)?
         .subcommand(audit)?
         .subcommand(explain)?
-        .subcommand(save)
+        .subcommand(save)?
+        .subcommand(show)?
+        .subcommand(lint)
 }
 
 /// The moment that the words of a command say, at most the latest; 0 where they say none.
@@ -175,7 +203,8 @@ fn task_of(name: &str, command: &ArgMatches) -> Task
 {
     if name == "run" {
         let echo = flag_of(command, "echo");
-        return Task::Run { echo };
+        let ask = flag_of(command, "ask");
+        return Task::Run { echo, ask };
     }
     if name == "check" {
         return Task::Check;
@@ -187,8 +216,16 @@ fn task_of(name: &str, command: &ArgMatches) -> Task
         let at = moment_of(command);
         return Task::Explain { at };
     }
-    let epoch = flag_of(command, "epoch");
-    Task::Save { epoch }
+    if name == "save" {
+        let epoch = flag_of(command, "epoch");
+        return Task::Save { epoch };
+    }
+    if name == "show" {
+        let json = flag_of(command, "json");
+        return Task::Show { json };
+    }
+    let write = flag_of(command, "write");
+    Task::Lint { write }
 }
 
 /// What the words ask for, of which the first is the program's name.

@@ -2,17 +2,21 @@
 ghost use Rattle.std.specs.Prelude.{◌≡◌, ◌≤◌, ◌^◌, map, true, false};
 ghost use Rattle.drf_core.specs.Machine.{live};
 ghost use Rattle.drf_journal.specs.Device.{IsNew};
+ghost use Rattle.drf_rows.specs.LimitNumbers.{ceilings};
 ghost use Rattle.drf_told.specs.Streams.{stream_of};
 ghost use Rattle.drf_app.specs.Done.{HasDone, HasDoneFrom, HasObeyed};
 ghost use Rattle.drf_app.specs.Line.{IsWithinBounds};
 
 use crate::check::{check, verdict_status};
 use crate::line::{Request, Task, request_of};
-use crate::start::{begin, tell_start};
+use crate::lint::lint;
+use crate::run::answer;
+use crate::show::show;
 use drf_core::Core;
 use drf_files::FileBytes;
-use drf_journal::{Device, ProgramSorter, run, run_audit, run_explain};
+use drf_journal::{Device, ProgramSorter, run_audit, run_explain};
 use drf_resume::save;
+use drf_start::{begin, tell_start};
 use drf_told::{finish, refuse};
 use std::alloc::Global;
 use std::convert::AsStr;
@@ -30,6 +34,7 @@ fn perform_from<R: Read, W: Write, E: Write>(
     output: &mut Device<W>,
     errors: &mut Device<E>,
 ) -> u8
+    requires limits { core.limits ≡ ceilings }
     requires bounds { IsWithinBounds task }
     requires input { IsNew input.old.calls input.old.failed }
     requires output { IsNew output.old.calls output.old.failed }
@@ -42,8 +47,8 @@ fn perform_from<R: Read, W: Write, E: Write>(
     ensures reads { input.new.calls ≤ 2 ^ 40 }
 {
     match task {
-        Task::Run { echo } => {
-            let ended = run(alloc, core, input, output, echo);
+        Task::Run { echo, ask } => {
+            let ended = answer(alloc, core, echo, ask, input, output);
             finish(ended, errors)
         }
         Task::Check => match check(alloc, core, input, output) {
@@ -62,6 +67,11 @@ fn perform_from<R: Read, W: Write, E: Write>(
             let ended = save(alloc, core, epoch, input, output);
             finish(ended, errors)
         }
+        Task::Show { json } => {
+            let ended = show(rt, alloc, core, json, input, output);
+            finish(ended, errors)
+        }
+        Task::Lint { write } => lint(alloc, write, input, output, errors),
     }
 }
 

@@ -22,7 +22,11 @@ returns c =
     ∙ ap₂ with_subcommand with_check (ap (λ (a : App). a.top) c.in_ok-audit.ensures) in
     let with_explain = c.in_ok-subcommand-4.ensures.shape (local c.in_ok-explain.explain (ap (λ (a : App). a.top.is_plain) c.in_ok-explain.ensures))
     ∙ ap₂ with_subcommand with_audit (ap (λ (a : App). a.top) c.in_ok-explain.ensures) in
-    IfOk-weaker c.subcommand-5.result _ _
-    (λ line added. added.shape (local c.in_ok-save.save (ap (λ (a : App). a.top.is_plain) c.in_ok-save.ensures))
-    ∙ ap₂ with_subcommand with_explain (ap (λ (a : App). a.top) c.in_ok-save.ensures))
-    c.subcommand-5.ensures
+    let with_save = c.in_ok-subcommand-5.ensures.shape (local c.in_ok-save.save (ap (λ (a : App). a.top.is_plain) c.in_ok-save.ensures))
+    ∙ ap₂ with_subcommand with_explain (ap (λ (a : App). a.top) c.in_ok-save.ensures) in
+    let with_show = c.in_ok-subcommand-6.ensures.shape (local c.in_ok-show.show (ap (λ (a : App). a.top.is_plain) c.in_ok-show.ensures))
+    ∙ ap₂ with_subcommand with_save (ap (λ (a : App). a.top) c.in_ok-show.ensures) in
+    IfOk-weaker c.subcommand-7.result _ _
+    (λ line added. added.shape (local c.in_ok-lint.lint (ap (λ (a : App). a.top.is_plain) c.in_ok-lint.ensures))
+    ∙ ap₂ with_subcommand with_show (ap (λ (a : App). a.top) c.in_ok-lint.ensures))
+    c.subcommand-7.ensures

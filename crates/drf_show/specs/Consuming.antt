@@ -1,0 +1,21 @@
+-- What a quota counts, and what limits have beside it.
+use Rattle.std.specs.Prelude.{◌≡◌, ℕ, ◌+◌, Bool, List, [], fold}
+use Rattle.drf_role.specs.Text.{Text}
+use Rattle.drf_role.specs.Path.{Path}
+use Rattle.drf_bundle.specs.Quantities.{with_amount}
+use Rattle.drf_bundle.specs.declared.quantities.Entry.{Entry}
+use Rattle.drf_rows.specs.declared.rows.LimitRow.{LimitRow}
+use Rattle.drf_gates.specs.Quota.{Allowance, Usage, used_at, used_where}
+use Rattle.drf_show.specs.declared.limits.LimitLine.{LimitLine}
+
+-- the roles that pass a test consume so much more of a scalar
+abbrev pub AreRaisedBy : Allowance → Allowance → ((Path → Bool) → Text → ℕ) → Type 0
+AreRaisedBy old new more =
+    (test : Path → Bool) (label : Text) → used_where test new.used label ≡ used_where test old.used label + more test label
+
+-- what a role consumes of each scalar that a limit names, by what is counted
+abbrev pub used_of : List Usage → Path → List Entry → List Entry
+used_of used role limit = fold (λ sum e. with_amount sum e.label (used_at used role e.label)) [] limit
+
+abbrev pub limit_line_by : List Usage → LimitRow → LimitLine
+limit_line_by used l = record { role = l.role; limit = l.limit; consumed = used_of used l.role l.limit }

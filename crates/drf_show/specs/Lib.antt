@@ -1,0 +1,6 @@
+pub mod Shown
+pub mod Aligned
+pub mod ShownText
+pub mod Showing
+pub mod Consuming
+pub mod Had

@@ -1,0 +1,100 @@
+//! What frameworks have of offers, or in tasks.
+ghost use Rattle.std.specs.Prelude.{◌≡◌, [], ◌∷◌, ◌++◌, cond, map, IfOk, OnOk};
+ghost use Rattle.drf_role.specs.Text.{Text, same_text};
+ghost use Rattle.drf_rows.specs.Holdings.{of_offer, of_task};
+ghost use Rattle.drf_show.specs.Had.{AreAllOf, AreSmall, parts_for, parts_in, parts_of, sum_for};
+
+use drf_bundle::{Bundle, Quantities};
+use drf_role::{Name, Role};
+use drf_rows::{OfferRow, TaskRow};
+use indexmap::IndexMap;
+use std::alloc::{AllocError, Global};
+
+/// The roles and bundles that each framework has, by its name.
+#[derive(Drop)]
+pub(crate) struct Had<'a> {
+    pub(crate) by_framework: IndexMap<Name, Vec<(&'a Role, &'a Bundle)>>,
+}
+
+impl<'a> Had<'a> {
+    fn new(alloc: Global) -> Had<'a>
+        ensures { (name : Text) → parts_in result name ≡ [] }
+    {
+        Had {
+            by_framework: IndexMap::new(alloc),
+        }
+    }
+
+    /// Adds a bundle of a role behind what the framework has.
+    fn add(
+        &mut self,
+        framework: &Name,
+        role: &'a Role,
+        bundle: &'a Bundle,
+    ) -> Result<(), AllocError>
+        ensures { OnOk result ((name : Text) → parts_in self.new name
+            ≡ parts_in self.old name ++ cond (same_text framework.now name) ((role.now, bundle.now) ∷ []) []) }
+    {
+        if let Some(parts) = self.by_framework.get_mut(framework) {
+            parts.push((role, bundle))?;
+            return Ok(());
+        }
+        let mut parts = Vec::new(*self.by_framework.allocator());
+        parts.push((role, bundle))?;
+        self.by_framework.insert(framework.copy()?, parts)?;
+        Ok(())
+    }
+
+    /// What is offered.
+    pub(crate) fn of_offers(alloc: Global, offers: &'a [OfferRow]) -> Result<Had<'a>, AllocError>
+        ensures { IfOk result (λ had. AreAllOf had (map of_offer offers.now)) }
+    {
+        let mut had = Had::new(alloc);
+        for offer in offers {
+            had.add(&offer.framework, &offer.role, &offer.bundle)?;
+        }
+        Ok(had)
+    }
+
+    /// What tasks use.
+    pub(crate) fn of_tasks(alloc: Global, tasks: &'a [TaskRow]) -> Result<Had<'a>, AllocError>
+        ensures { IfOk result (λ had. AreAllOf had (map of_task tasks.now)) }
+    {
+        let mut had = Had::new(alloc);
+        for task in tasks {
+            had.add(&task.framework, &task.role, &task.bundle)?;
+        }
+        Ok(had)
+    }
+
+    /// The scalars that a framework has for a role.
+    pub(crate) fn sum_for(
+        &self,
+        alloc: Global,
+        framework: &Name,
+        role: &Role,
+    ) -> Result<Quantities, AllocError>
+        requires { AreSmall (parts_in self.now framework.now) }
+        ensures { IfOk result (λ sum. sum ≡ sum_for role.now (parts_in self.now framework.now)) }
+    {
+        match self.by_framework.get(framework) {
+            Some(parts) => sum_of(alloc, parts, role),
+            None => Ok(Quantities::empty(alloc)),
+        }
+    }
+}
+
+/// The scalars of the parts that are for a role.
+fn sum_of(alloc: Global, parts: &[(&Role, &Bundle)], role: &Role) -> Result<Quantities, AllocError>
+    requires { AreSmall (parts_of parts.now) }
+    ensures { IfOk result (λ sum. sum ≡ sum_for role.now (parts_of parts.now)) }
+{
+    let mut sum = Quantities::empty(alloc);
+    for (own, bundle) in parts {
+        if *own == role {
+            sum = sum.plus(bundle.quantities())?;
+        }
+    }
+    sum.remove_zeros();
+    Ok(sum)
+}

@@ -1,0 +1,77 @@
+//! Rows that are shown, and their tables.
+ghost use Rattle.std.specs.Prelude.{◌≡◌, ◌∷◌, ◌++◌, [], map, IfOk, OnOk};
+ghost use Rattle.std.specs.List.{flat_map};
+ghost use Rattle.drf_show.specs.ShownText.{table_in};
+ghost use Rattle.drf_show.specs.declared.form.Form.TheVariants.{Aligned, Json};
+
+use crate::aligned::push_table;
+use crate::cells::Row;
+use crate::form::Form;
+use std::alloc::{AllocError, Global};
+
+/// What has a row in a table, and a line of JSON.
+pub(crate) trait Shown {
+    ghost use Rattle.drf_show.specs.Aligned.{Cells};
+    ghost use Rattle.drf_show.specs.ShownText.{ShownRow};
+
+    ghost heads: { Cells };
+
+    ghost shown: { Self → ShownRow };
+
+    /// The heads of the columns.
+    fn heads(alloc: Global) -> Result<Row, AllocError>
+        ensures { IfOk result (λ row. row ≡ heads) };
+
+    /// Its cells.
+    fn row(&self, alloc: Global) -> Result<Row, AllocError>
+        ensures { IfOk result (λ row. row ≡ (shown self.now).cells) };
+
+    /// Adds its line, without a line feed.
+    fn push_line(&self, alloc: Global, text: &mut Vec<u8>) -> Result<(), AllocError>
+        ensures { OnOk result (text.new.items ≡ text.old.items ++ (shown self.now).line) };
+}
+
+/// The heads of a table, and its rows.
+fn rows_of<T: Shown>(alloc: Global, items: &[T]) -> Result<Vec<Row>, AllocError>
+    ensures { IfOk result (λ rows. rows.items ≡ T.heads ∷ map (λ r. r.cells) (map T.shown items.now)) }
+{
+    let mut rows = Vec::with_capacity(alloc, items.len() + 1)?;
+    rows.push(T::heads(alloc)?)?;
+    for item in items {
+        rows.push(item.row(alloc)?)?;
+    }
+    Ok(rows)
+}
+
+/// Adds the lines of rows.
+fn push_lines<T: Shown>(
+    alloc: Global,
+    items: &[T],
+    text: &mut Vec<u8>,
+) -> Result<(), AllocError>
+    ensures { OnOk result (text.new.items ≡ text.old.items ++ flat_map (λ r. r.line ++ 10 ∷ []) (map T.shown items.now)) }
+{
+    for item in items {
+        item.push_line(alloc, text)?;
+        text.push(b'\n')?;
+    }
+    Ok(())
+}
+
+/// Adds a table.
+pub(crate) fn push_shown<T: Shown>(
+    alloc: Global,
+    form: Form,
+    items: &[T],
+    text: &mut Vec<u8>,
+) -> Result<(), AllocError>
+    ensures { OnOk result (text.new.items ≡ text.old.items ++ table_in form (record { heads = T.heads; rows = map T.shown items.now })) }
+{
+    match form {
+        Form::Aligned => {
+            let rows = rows_of(alloc, items)?;
+            push_table(text, &rows)
+        }
+        Form::Json => push_lines(alloc, items, text),
+    }
+}

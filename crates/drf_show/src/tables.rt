@@ -1,0 +1,158 @@
+//! How full the tables are.
+ghost use Rattle.std.specs.Prelude.{◌≡◌, ◌<◌, ◌^◌, ◌∷◌, ◌++◌, [], length, IfOk, OnOk};
+ghost use Rattle.serde_json.specs.View.{view};
+ghost use Rattle.drf_bundle.specs.Quantities.{without_zeros};
+ghost use Rattle.drf_rows.specs.Filters.{number_in_force};
+ghost use Rattle.drf_rows.specs.Held.{clients_in, clients_of, cluster_total};
+ghost use Rattle.drf_show.specs.Shown.{table_line, table_lines};
+ghost use Rattle.drf_show.specs.ShownText.{table_name, table_value};
+
+use crate::cells::Row;
+use crate::json::push_value;
+use crate::shown::Shown;
+use drf_rows::{FilterRow, FrameworkRow, Limits, Rows};
+use serde_json::{Value, json};
+use std::alloc::{AllocError, Global};
+
+/// What has a limit.
+#[derive(Clone, Copy, Debug, PartialEq, Eq)]
+pub(crate) enum CountedTable {
+    Agents,
+    ScalarNames,
+    Frameworks,
+    Clients,
+    Weights,
+    Limits,
+    Filters,
+    Events,
+}
+
+impl CountedTable {
+    /// Its name.
+    fn name(self) -> &'static str
+        ensures { result.now ≡ table_name self }
+    {
+        match self {
+            CountedTable::Agents => "agents",
+            CountedTable::ScalarNames => "scalar names",
+            CountedTable::Frameworks => "frameworks",
+            CountedTable::Clients => "clients",
+            CountedTable::Weights => "weights",
+            CountedTable::Limits => "limits",
+            CountedTable::Filters => "filters",
+            CountedTable::Events => "events",
+        }
+    }
+}
+
+/// A table, how many rows stand in it, and how many may.
+#[derive(Clone, Copy, Debug)]
+pub(crate) struct TableLine {
+    pub(crate) table: CountedTable,
+    pub(crate) rows: u64,
+    pub(crate) limit: u64,
+}
+
+/// How many clients there are.
+fn count_clients(frameworks: &[FrameworkRow]) -> u64
+    requires { length (clients_in frameworks.now) < 2 ^ 64 }
+    ensures { result ≡ length (clients_in frameworks.now) }
+{
+    let mut count = 0;
+    for framework in frameworks {
+        count += framework.clients.len() as u64;
+    }
+    count
+}
+
+/// How many filters are in force.
+fn count_in_force(clock: u64, filters: &[FilterRow]) -> u64
+    ensures { result ≡ number_in_force clock filters.now }
+{
+    let mut count = 0;
+    for filter in filters {
+        if clock < filter.until {
+            count += 1;
+        }
+    }
+    count
+}
+
+/// Adds the line of a table.
+fn push_table_line(
+    lines: &mut Vec<TableLine>,
+    table: CountedTable,
+    rows: u64,
+    limit: u64,
+) -> Result<(), AllocError>
+    ensures { OnOk result (lines.new.items ≡ lines.old.items ++ table_line table rows limit ∷ []) }
+{
+    lines.push(TableLine { table, rows, limit })?;
+    Ok(())
+}
+
+/// A line for each table, where agents have so many names of scalars.
+pub(crate) fn table_lines(
+    alloc: Global,
+    limits: &Limits,
+    rows: &Rows,
+    scalar_names: u64,
+) -> Result<Vec<TableLine>, AllocError>
+    requires names { scalar_names ≡ length (without_zeros (cluster_total rows.now.agents)) }
+    requires clients { length (clients_of rows.now) < 2 ^ 64 }
+    ensures { IfOk result (λ lines. lines.items ≡ table_lines limits.now rows.now) }
+{
+    use CountedTable::{
+        Agents, Clients, Events, Filters, Frameworks, Limits, ScalarNames, Weights,
+    };
+    let clients = count_clients(rows.frameworks.as_slice());
+    let filters = count_in_force(rows.clock, rows.filters.as_slice());
+    let mut lines = Vec::new(alloc);
+    push_table_line(&mut lines, Agents, rows.agents.len() as u64, limits.agents())?;
+    push_table_line(&mut lines, ScalarNames, scalar_names, limits.scalar_names())?;
+    push_table_line(&mut lines, Frameworks, rows.frameworks.len() as u64, limits.frameworks())?;
+    push_table_line(&mut lines, Clients, clients, limits.clients())?;
+    push_table_line(&mut lines, Weights, rows.weights.len() as u64, limits.weights())?;
+    push_table_line(&mut lines, Limits, rows.limits.len() as u64, limits.limits())?;
+    push_table_line(&mut lines, Filters, filters, limits.filters())?;
+    push_table_line(&mut lines, Events, rows.events, limits.events())?;
+    Ok(lines)
+}
+
+fn table_value(alloc: Global, line: &TableLine) -> Result<Value, AllocError>
+    ensures { IfOk result (λ value. view value ≡ table_value line.now) }
+{
+    let limit = line.limit;
+    let rows = line.rows;
+    let table = line.table.name();
+    json!(in alloc; {"limit": limit, "row": "table", "rows": rows, "table": table})
+}
+
+impl Shown for TableLine {
+    ghost use Rattle.drf_show.specs.ShownText.{table_heads, table_shown};
+
+    ghost heads = { table_heads };
+
+    ghost shown = { table_shown };
+
+    fn heads(alloc: Global) -> Result<Row, AllocError> {
+        let mut row = Row::new(alloc);
+        row.put("TABLE")?;
+        row.put("ROWS")?;
+        row.put("LIMIT")?;
+        Ok(row)
+    }
+
+    fn row(&self, alloc: Global) -> Result<Row, AllocError> {
+        let mut row = Row::new(alloc);
+        row.put(self.table.name())?;
+        row.put_number(self.rows)?;
+        row.put_number(self.limit)?;
+        Ok(row)
+    }
+
+    fn push_line(&self, alloc: Global, text: &mut Vec<u8>) -> Result<(), AllocError> {
+        let value = table_value(alloc, self)?;
+        push_value(alloc, &value, text)
+    }
+}

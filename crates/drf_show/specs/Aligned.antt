@@ -1,5 +1,5 @@
 -- Tables whose columns stand one below the other.
-use Rattle.std.specs.Prelude.{ℕ, ◌+◌, ◌-◌, max, min, List, [], ◌∷◌, ◌++◌, length, get_or, replicate, fold, flat_map}
+use Rattle.std.specs.Prelude.{◌≡◌, ◌≢◌, ◌≤◌, ℕ, ◌+◌, ◌-◌, max, min, List, [], ◌∷◌, ◌++◌, length, get_or, replicate, fold, flat_map}
 use Rattle.drf_role.specs.Text.{Text}
 
 -- a row: a text for each column
@@ -16,7 +16,7 @@ widest = 48
 
 -- a cell with blanks up to the width of its column, and two more
 abbrev pub padded : ℕ → Text → Text
-padded width cell = cell ++ replicate (2 + (min widest width - length cell)) 32
+padded width cell = cell ++ replicate (2 + (min width widest - length cell)) 32
 
 -- the cells from a column on; the last one is not padded
 abbrev pub cells_text : (ℕ → ℕ) → ℕ → Cells → List ℕ
@@ -31,3 +31,9 @@ row_text width cells = cells_text width 0 cells ++ 10 ∷ []
 -- the rows of a table
 abbrev pub table_text : List Cells → List ℕ
 table_text rows = flat_map (row_text (width_at rows)) rows
+
+-- one column is as wide as it was or as so much more, the others are as they were, and all up to it have a width
+pub record IsWidenedAt (old new : List ℕ) (column width : ℕ) : Type 0 where
+  pub there : get_or new column 0 ≡ max (get_or old column 0) width
+  pub others : (q : ℕ) → q ≢ column → get_or new q 0 ≡ get_or old q 0
+  pub reached : column + 1 ≤ length new

@@ -1,12 +1,21 @@
 -- What a quota counts, and what limits have beside it.
-use Rattle.std.specs.Prelude.{◌≡◌, ℕ, ◌+◌, Bool, List, [], fold}
+use Rattle.std.specs.Prelude.{◌≡◌, ℕ, ◌+◌, ◌≤◌, ◌<◌, ◌^◌, Bool, List, [], fold, length}
 use Rattle.drf_role.specs.Text.{Text}
 use Rattle.drf_role.specs.Path.{Path}
 use Rattle.drf_bundle.specs.Quantities.{with_amount}
 use Rattle.drf_bundle.specs.declared.quantities.Entry.{Entry}
+use Rattle.drf_rows.specs.Consistent.{IsConsistent}
+use Rattle.drf_rows.specs.Held.{clients_of}
 use Rattle.drf_rows.specs.declared.rows.LimitRow.{LimitRow}
+use Rattle.drf_rows.specs.declared.rows.Rows.{Rows}
 use Rattle.drf_gates.specs.Quota.{Allowance, Usage, used_at, used_where}
 use Rattle.drf_show.specs.declared.limits.LimitLine.{LimitLine}
+
+-- the rows are consistent, and few, so that sums fit
+pub record IsFit (rows : Rows) : Type 0 where
+  pub consistent : IsConsistent rows
+  pub agents : length rows.agents ≤ 4096
+  pub clients : length (clients_of rows) < 2 ^ 64
 
 -- the roles that pass a test consume so much more of a scalar
 abbrev pub AreRaisedBy : Allowance → Allowance → ((Path → Bool) → Text → ℕ) → Type 0

@@ -1,5 +1,5 @@
 -- What frameworks have of offers, or in tasks, as it is found by name, and what a client has of it.
-use Rattle.std.specs.Prelude.{◌≡◌, ℕ, ◌<◌, ◌^◌, List, [], map, filter, fold, sum_by}
+use Rattle.std.specs.Prelude.{◌≡◌, ℕ, ◌<◌, ◌^◌, List, [], map, filter, fold, sum_by, if◌then◌else◌}
 use Rattle.std.specs.Borrow.{Bor}
 use Rattle.std.specs.Map.{lookup}
 use Rattle.std.specs.Option.{option_map_or}
@@ -9,14 +9,9 @@ use Rattle.drf_bundle.specs.declared.quantities.Entry.{Entry}
 use Rattle.drf_bundle.specs.declared.resource.Resource.{Resource}
 use Rattle.drf_role.specs.Text.{Text, same_text}
 use Rattle.drf_role.specs.Path.{Path, same_path}
-use Rattle.drf_rows.specs.Client.{Client, path_of}
-use Rattle.drf_rows.specs.Held.{client_of}
 use Rattle.drf_rows.specs.Holdings.{Holding}
-use Rattle.drf_rows.specs.Report.{terms_of}
-use Rattle.drf_rows.specs.Share.{Standing, weighted_share_of}
 use Rattle.drf_rows.specs.declared.rows.ClientRow.{ClientRow}
 use Rattle.drf_rows.specs.declared.rows.FrameworkRow.{FrameworkRow}
-use Rattle.drf_sorter.specs.Content.{Content, standing_in}
 use Rattle.drf_show.specs.declared.clients.ClientLine.{ClientLine}
 use Rattle.drf_show.specs.declared.had.Had.{Had}
 
@@ -44,18 +39,21 @@ AreAllOf had holdings = (framework : Text) → parts_in had framework ≡ parts_
 abbrev pub sum_for : Path → List Part → List Entry
 sum_for role parts = without_zeros (fold (λ sum p. plus sum (quantities_of p.1)) [] (filter (λ p. same_path p.0 role) parts))
 
+-- a sum, with one part more if that is for the role
+abbrev pub sum_with : Path → List Entry → Part → List Entry
+sum_with role sum p = if same_path p.0 role then plus sum (quantities_of p.1) else sum
+
 -- all parts together have less than 2^64 thousandths of each scalar
 abbrev pub AreSmall : List Part → Type 0
 AreSmall parts = (label : Text) → sum_by (λ p. amount_of (quantities_of p.1) label) parts < 2 ^ 64
 
--- a client's line, by what the sorter holds and by the parts of its framework
-abbrev pub client_line_by : Standing → (Text → List Part) → (Text → List Part) → FrameworkRow → ClientRow → ClientLine
-client_line_by standing offered used framework client = record {
+-- a client's line, by what frameworks have of offers and in tasks
+abbrev pub client_line_by : (Text → List Part) → (Text → List Part) → FrameworkRow → ClientRow → ClientLine
+client_line_by offered used framework client = record {
   framework = framework.name;
   role = client.role;
   suppressed = client.suppressed;
   count = client.count;
-  weighted = terms_of (weighted_share_of standing (path_of (client_of framework client)));
   offered = sum_for client.role (offered framework.name);
   used = sum_for client.role (used framework.name);
 }

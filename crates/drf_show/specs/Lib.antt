@@ -4,3 +4,4 @@ pub mod ShownText
 pub mod Showing
 pub mod Consuming
 pub mod Had
+pub mod ShownExamples

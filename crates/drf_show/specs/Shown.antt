@@ -1,21 +1,20 @@
--- What is shown of an allocator's rows, in a line for each: the agents with what is free and held there, the clients with what is offered
--- to them and used in their tasks, the limits beside what is consumed, the filters in force with the time that is left, and how full the
--- tables are beside their limits.
+-- What is shown of an allocator's rows besides what they say themselves and what a report tells of them, in a line for each: the agents with
+-- what is free and held there, the clients with what is offered to them and used in their tasks, the limits beside what is consumed, the
+-- filters in force with the time that is left, and how full the tables are beside their limits.
 use Rattle.std.specs.Prelude.{ℕ, ◌-◌, Bool, ◌&&◌, List, [], ◌∷◌, length, map, fold, filter, flat_map, codes}
 use Rattle.drf_role.specs.Text.{Text, same_text}
 use Rattle.drf_role.specs.Path.{Path, same_path}
 use Rattle.drf_bundle.specs.Bundle.{rest}
 use Rattle.drf_bundle.specs.Quantities.{with_amount, without_zeros}
 use Rattle.drf_bundle.specs.declared.quantities.Entry.{Entry}
-use Rattle.drf_rows.specs.Client.{Client, path_of}
+use Rattle.drf_rows.specs.Client.{Client}
 use Rattle.drf_rows.specs.Cycle.{free_of}
 use Rattle.drf_rows.specs.Filters.{in_force, number_in_force}
-use Rattle.drf_rows.specs.Held.{client_of, clients_of, cluster_total, standing_of}
+use Rattle.drf_rows.specs.Held.{client_of, clients_of, cluster_total}
 use Rattle.drf_rows.specs.Holdings.{Holding, holdings_of, is_on, of_offer, of_task}
 use Rattle.drf_rows.specs.LimitNumbers.{LimitNumbers}
 use Rattle.drf_rows.specs.Quota.{consumption}
-use Rattle.drf_rows.specs.Report.{sum_of, terms_of}
-use Rattle.drf_rows.specs.Share.{weighted_share_of}
+use Rattle.drf_rows.specs.Report.{sum_of}
 use Rattle.drf_rows.specs.declared.rows.AgentRow.{AgentRow}
 use Rattle.drf_rows.specs.declared.rows.ClientRow.{ClientRow}
 use Rattle.drf_rows.specs.declared.rows.FilterRow.{FilterRow}
@@ -56,14 +55,13 @@ is_its client h = same_text h.client.framework client.framework && same_path h.c
 abbrev pub had_of : Client → List Holding → List Entry
 had_of client holdings = without_zeros (sum_of (filter (is_its client) holdings))
 
--- a client: how many offers it got, its weighted share in lowest terms, what is offered to it, and what its tasks use
+-- a client: how many offers it got, what is offered to it, and what its tasks use
 abbrev pub client_line : Rows → FrameworkRow → ClientRow → ClientLine
 client_line rows framework client = record {
   framework = framework.name;
   role = client.role;
   suppressed = client.suppressed;
   count = client.count;
-  weighted = terms_of (weighted_share_of (standing_of rows) (path_of (client_of framework client)));
   offered = had_of (client_of framework client) (map of_offer rows.offers);
   used = had_of (client_of framework client) (map of_task rows.tasks);
 }

@@ -9,7 +9,10 @@ use Rattle.drf_bundle.specs.declared.quantities.Entry.{Entry}
 use Rattle.drf_bundle.specs.declared.resource.Resource.{Resource}
 use Rattle.drf_text.specs.Written.{amount_text, quantities_text, bundle_text}
 use Rattle.drf_rows.specs.LimitNumbers.{LimitNumbers}
+use Rattle.drf_rows.specs.Report.{report_of}
 use Rattle.drf_rows.specs.Step.{live_rows}
+use Rattle.drf_rows.specs.declared.report.NodeLine.{NodeLine}
+use Rattle.drf_rows.specs.declared.report.Report.{Report}
 use Rattle.drf_rows.specs.declared.rows.OfferRow.{OfferRow}
 use Rattle.drf_rows.specs.declared.rows.Rows.{Rows}
 use Rattle.drf_rows.specs.declared.rows.TaskRow.{TaskRow}
@@ -87,7 +90,7 @@ agent_shown a = record {
 
 abbrev pub client_heads : Cells
 client_heads =
-    codes "FRAMEWORK" ∷ codes "ROLE" ∷ codes "SUPPRESSED" ∷ codes "COUNT" ∷ codes "WEIGHTED" ∷ codes "OFFERED" ∷ codes "USED" ∷ []
+    codes "FRAMEWORK" ∷ codes "ROLE" ∷ codes "SUPPRESSED" ∷ codes "COUNT" ∷ codes "OFFERED" ∷ codes "USED" ∷ []
 
 abbrev pub client_value : ClientLine → Data
 client_value c = object (
@@ -98,14 +101,32 @@ client_value c = object (
     (member (codes "row") (string (codes "client"))
     (member (codes "suppressed") (boolean c.suppressed)
     (member (codes "used") (string (quantities_text c.used))
-    (member (codes "weighted") (string (fraction_text c.weighted))
-    no_members))))))))
+    no_members)))))))
 
 abbrev pub client_shown : ClientLine → ShownRow
 client_shown c = record {
-  cells = c.framework ∷ text_of c.role ∷ flag_cell c.suppressed ∷ decimal c.count ∷ fraction_text c.weighted
-      ∷ quantities_cell c.offered ∷ quantities_cell c.used ∷ [];
+  cells = c.framework ∷ text_of c.role ∷ flag_cell c.suppressed ∷ decimal c.count ∷ quantities_cell c.offered ∷ quantities_cell c.used ∷ [];
   line = compact_text (client_value c);
+}
+
+abbrev pub node_heads : Cells
+node_heads = codes "NODE" ∷ codes "COUNT" ∷ codes "SHARE" ∷ codes "WEIGHTED" ∷ codes "HELD" ∷ []
+
+abbrev pub node_value : NodeLine → Data
+node_value n = object (
+    member (codes "count") (number (unsigned n.count))
+    (member (codes "held") (string (quantities_text n.held))
+    (member (codes "path") (string (text_of n.path))
+    (member (codes "row") (string (codes "node"))
+    (member (codes "share") (string (fraction_text n.share))
+    (member (codes "weighted") (string (fraction_text n.weighted))
+    no_members))))))
+
+-- a node as a report has it
+abbrev pub node_shown : NodeLine → ShownRow
+node_shown n = record {
+  cells = text_of n.path ∷ decimal n.count ∷ fraction_text n.share ∷ fraction_text n.weighted ∷ quantities_cell n.held ∷ [];
+  line = compact_text (node_value n);
 }
 
 abbrev pub weight_heads : Cells
@@ -206,19 +227,41 @@ pub record ShownTable : Type 0 where
   pub heads : Cells
   pub rows : List ShownRow
 
--- what is shown of rows within limits
-abbrev pub shown_tables : LimitNumbers → Rows → List ShownTable
-shown_tables limits rows =
-    record { heads = head_heads; rows = head_shown (head_of rows) ∷ [] }
-    ∷ record { heads = agent_heads; rows = map agent_shown (agent_lines rows) }
-    ∷ record { heads = client_heads; rows = map client_shown (client_lines rows) }
-    ∷ record { heads = weight_heads; rows = map weight_shown rows.weights }
-    ∷ record { heads = limit_heads; rows = map limit_shown (limit_lines rows) }
-    ∷ record { heads = offer_heads; rows = map offer_shown rows.offers }
-    ∷ record { heads = task_heads; rows = map task_shown rows.tasks }
-    ∷ record { heads = filter_heads; rows = map filter_shown (filter_lines rows) }
-    ∷ record { heads = table_heads; rows = map table_shown (table_lines limits rows) }
-    ∷ []
+abbrev pub head_table : Rows → ShownTable
+head_table rows = record { heads = head_heads; rows = head_shown (head_of rows) ∷ [] }
+
+abbrev pub agent_table : Rows → ShownTable
+agent_table rows = record { heads = agent_heads; rows = map agent_shown (agent_lines rows) }
+
+abbrev pub client_table : Rows → ShownTable
+client_table rows = record { heads = client_heads; rows = map client_shown (client_lines rows) }
+
+abbrev pub node_table : Report → ShownTable
+node_table report = record { heads = node_heads; rows = map node_shown report.nodes }
+
+abbrev pub weight_table : Rows → ShownTable
+weight_table rows = record { heads = weight_heads; rows = map weight_shown rows.weights }
+
+abbrev pub limit_table : Rows → ShownTable
+limit_table rows = record { heads = limit_heads; rows = map limit_shown (limit_lines rows) }
+
+abbrev pub offer_table : Rows → ShownTable
+offer_table rows = record { heads = offer_heads; rows = map offer_shown rows.offers }
+
+abbrev pub task_table : Rows → ShownTable
+task_table rows = record { heads = task_heads; rows = map task_shown rows.tasks }
+
+abbrev pub filter_table : Rows → ShownTable
+filter_table rows = record { heads = filter_heads; rows = map filter_shown (filter_lines rows) }
+
+abbrev pub count_table : LimitNumbers → Rows → ShownTable
+count_table limits rows = record { heads = table_heads; rows = map table_shown (table_lines limits rows) }
+
+-- what is shown of rows within limits behind the numbers of the allocator
+abbrev pub later_tables : LimitNumbers → Rows → List ShownTable
+later_tables limits rows =
+    agent_table rows ∷ client_table rows ∷ node_table (report_of rows) ∷ weight_table rows ∷ limit_table rows ∷ offer_table rows
+    ∷ task_table rows ∷ filter_table rows ∷ count_table limits rows ∷ []
 
 -- a table in a form: its heads and rows in columns, or the lines of its rows
 abbrev pub table_in : Form → ShownTable → List ℕ
@@ -230,11 +273,10 @@ abbrev pub behind : Form → ShownTable → List ℕ
 behind Aligned t = 10 ∷ table_in Aligned t
 behind Json t = table_in Json t
 
--- tables one after another
-abbrev pub tables_in : Form → List ShownTable → List ℕ
-tables_in form [] = []
-tables_in form (t ∷ ts) = table_in form t ++ flat_map (behind form) ts
+-- the text that shows rows within limits
+abbrev pub rows_text : Form → LimitNumbers → Rows → List ℕ
+rows_text form limits rows = table_in form (head_table rows) ++ flat_map (behind form) (later_tables limits rows)
 
--- the text that shows the live rows within limits
+-- the text that shows the live rows
 unfoldable pub shown : Form → LimitNumbers → Rows → List ℕ
-shown form limits rows = tables_in form (shown_tables limits (live_rows rows))
+shown form limits rows = rows_text form limits (live_rows rows)

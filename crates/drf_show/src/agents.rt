@@ -55,8 +55,8 @@ pub(crate) fn agent_lines(
     let audited = audit(rt, alloc, rows)?;
     let agents = rows.agents.as_slice();
     let mut lines = Vec::with_capacity(alloc, agents.len())?;
-    for (place, audited) in audited.iter().enumerate() {
-        lines.push(agent_line(&agents[place], audited)?)?;
+    for (place, line) in audited.iter().enumerate() {
+        lines.push(agent_line(&agents[place], line)?)?;
     }
     Ok(lines)
 }

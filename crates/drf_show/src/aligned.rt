@@ -1,6 +1,7 @@
 //! Tables whose columns stand one below the other.
-ghost use Rattle.std.specs.Prelude.{◌≡◌, ◌+◌, ◌-◌, ◌≤◌, ℕ, ◌∷◌, ◌++◌, [], get_or, length, map, max, replicate, string_bytes, IfOk, OnOk};
-ghost use Rattle.drf_show.specs.Aligned.{cells_text, padded, row_text, table_text, width_at};
+ghost use Rattle.std.specs.Prelude.{◌≡◌, ◌≤◌, ℕ, ◌++◌, [], get_or, length, map, max, replicate, string_bytes, IfOk, OnOk};
+ghost use Rattle.std.specs.List.{flat_map};
+ghost use Rattle.drf_show.specs.Aligned.{IsWidenedAt, cells_text, padded, row_text, table_text, width_at};
 
 use crate::cells::Row;
 use std::alloc::{AllocError, Global};
@@ -8,8 +9,19 @@ use std::alloc::{AllocError, Global};
 /// No column is made wider than that.
 const WIDEST: usize = 48;
 
-/// What stands behind a cell at most.
-const BLANKS: [u8; WIDEST + 2] = [b' '; WIDEST + 2];
+/// Widens a column, if it is not as wide.
+#[tactic(auto, using(crate::proofs::Widths::widened_there, crate::proofs::Widths::widened_last))]
+fn widen_at(widths: &mut Vec<usize>, column: usize, width: usize) -> Result<(), AllocError>
+    requires { column ≤ length widths.old.items }
+    ensures { OnOk result (IsWidenedAt widths.old.items widths.new.items column width) }
+{
+    if column < widths.len() {
+        widths[column] = widths[column].max(width);
+        return Ok(());
+    }
+    widths.push(width)?;
+    Ok(())
+}
 
 /// Widens columns to the cells of a row.
 fn widen(widths: &mut Vec<usize>, cells: &[String]) -> Result<(), AllocError>
@@ -17,11 +29,7 @@ fn widen(widths: &mut Vec<usize>, cells: &[String]) -> Result<(), AllocError>
         ≡ max (get_or widths.old.items column 0) (length (get_or (map string_bytes cells.now) column []))) }
 {
     for (column, cell) in cells.iter().enumerate() {
-        if column < widths.len() {
-            widths[column] = widths[column].max(cell.len());
-        } else {
-            widths.push(cell.len())?;
-        }
+        widen_at(widths, column, cell.as_str().len())?;
     }
     Ok(())
 }
@@ -47,13 +55,23 @@ fn width_in(widths: &[usize], column: usize) -> usize
     }
 }
 
+/// Adds so many blanks.
+fn push_blanks(text: &mut Vec<u8>, count: usize) -> Result<(), AllocError>
+    ensures { OnOk result (text.new.items ≡ text.old.items ++ replicate count 32) }
+{
+    for _blank in 0..count {
+        text.push(b' ')?;
+    }
+    Ok(())
+}
+
 /// Adds a cell, and blanks behind it.
 fn push_padded(text: &mut Vec<u8>, cell: &str, width: usize) -> Result<(), AllocError>
     ensures { OnOk result (text.new.items ≡ text.old.items ++ padded width cell.now) }
 {
     let blanks = 2 + width.min(WIDEST).saturating_sub(cell.len());
     text.extend_from_slice(cell.as_bytes())?;
-    text.extend_from_slice(&BLANKS[..blanks])
+    push_blanks(text, blanks)
 }
 
 /// Adds the cells of a row.
@@ -79,13 +97,20 @@ fn push_row(text: &mut Vec<u8>, widths: &[usize], row: &Row) -> Result<(), Alloc
     Ok(())
 }
 
+/// Adds rows.
+fn push_rows(text: &mut Vec<u8>, widths: &[usize], rows: &[Row]) -> Result<(), AllocError>
+    ensures { OnOk result (text.new.items ≡ text.old.items ++ flat_map (row_text (λ column. get_or widths.now column 0)) rows.now) }
+{
+    for row in rows {
+        push_row(text, widths, row)?;
+    }
+    Ok(())
+}
+
 /// Adds a table.
 pub(crate) fn push_table(text: &mut Vec<u8>, rows: &[Row]) -> Result<(), AllocError>
     ensures { OnOk result (text.new.items ≡ text.old.items ++ table_text rows.now) }
 {
     let widths = widths_of(*text.allocator(), rows)?;
-    for row in rows {
-        push_row(text, widths.as_slice(), row)?;
-    }
-    Ok(())
+    push_rows(text, widths.as_slice(), rows)
 }

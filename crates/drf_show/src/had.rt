@@ -1,8 +1,10 @@
 //! What frameworks have of offers, or in tasks.
-ghost use Rattle.std.specs.Prelude.{◌≡◌, [], ◌∷◌, ◌++◌, cond, map, IfOk, OnOk};
+ghost use Rattle.std.specs.Prelude.{◌≡◌, ◌+◌, ◌<◌, ◌^◌, [], ◌∷◌, ◌++◌, cond, map, IfOk, IsTrue, OnOk};
+ghost use Rattle.drf_bundle.specs.Bundle.{quantities_of};
+ghost use Rattle.drf_bundle.specs.Quantities.{amount_of, is_in_order};
 ghost use Rattle.drf_role.specs.Text.{Text, same_text};
 ghost use Rattle.drf_rows.specs.Holdings.{of_offer, of_task};
-ghost use Rattle.drf_show.specs.Had.{AreAllOf, AreSmall, parts_for, parts_in, parts_of, sum_for};
+ghost use Rattle.drf_show.specs.Had.{AreAllOf, AreSmall, parts_for, parts_in, parts_of, sum_for, sum_with};
 
 use drf_bundle::{Bundle, Quantities};
 use drf_role::{Name, Role};
@@ -84,16 +86,33 @@ impl<'a> Had<'a> {
     }
 }
 
+/// A sum, with the scalars of a part if that is for the role.
+fn with_part(
+    sum: Quantities,
+    part: &(&Role, &Bundle),
+    role: &Role,
+) -> Result<Quantities, AllocError>
+    requires { (label : Text) → amount_of sum label + amount_of (quantities_of part.now.1.now) label < 2 ^ 64 }
+    ensures sum { IfOk result (λ new. new ≡ sum_with role.now sum (part.now.0.now, part.now.1.now)) }
+    ensures in_order { IsTrue (is_in_order (quantities_of part.now.1.now)) }
+{
+    let quantities = part.1.quantities();
+    quantities.recall();
+    if part.0 != role {
+        return Ok(sum);
+    }
+    let more = sum.plus(quantities)?;
+    Ok(more)
+}
+
 /// The scalars of the parts that are for a role.
 fn sum_of(alloc: Global, parts: &[(&Role, &Bundle)], role: &Role) -> Result<Quantities, AllocError>
     requires { AreSmall (parts_of parts.now) }
     ensures { IfOk result (λ sum. sum ≡ sum_for role.now (parts_of parts.now)) }
 {
     let mut sum = Quantities::empty(alloc);
-    for (own, bundle) in parts {
-        if *own == role {
-            sum = sum.plus(bundle.quantities())?;
-        }
+    for part in parts {
+        sum = with_part(sum, part, role)?;
     }
     sum.remove_zeros();
     Ok(sum)

@@ -1,4 +1,4 @@
-//! What stands in an allocator, for people and for programs: its numbers, agents, clients, weights, limits, offers, tasks, filters in
+//! What stands in an allocator, for people and for programs: its numbers, agents, clients, nodes, weights, limits, offers, tasks, filters in
 //! force and how full its tables are, in aligned tables or as lines of JSON.
 #![tactic(auto)]
 
@@ -6,20 +6,23 @@ mod agents;
 mod aligned;
 mod cells;
 mod clients;
+mod consumption;
 mod filters;
 mod form;
 mod had;
 mod heads;
 mod holdings;
 mod json;
+mod laws;
 mod limits;
-mod quota;
-mod show;
+mod nodes;
 mod shown;
 mod stream;
 mod tables;
+mod text;
 mod weights;
 
 pub use form::Form;
-pub use show::show;
+pub use laws::show_example;
 pub use stream::run_show;
+pub use text::show;

@@ -35,7 +35,7 @@ pub(crate) trait Shown {
 fn rows_of<T: Shown>(alloc: Global, items: &[T]) -> Result<Vec<Row>, AllocError>
     ensures { IfOk result (λ rows. rows.items ≡ T.heads ∷ map (λ r. r.cells) (map T.shown items.now)) }
 {
-    let mut rows = Vec::with_capacity(alloc, items.len() + 1)?;
+    let mut rows = Vec::new(alloc);
     rows.push(T::heads(alloc)?)?;
     for item in items {
         rows.push(item.row(alloc)?)?;

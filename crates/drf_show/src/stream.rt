@@ -6,7 +6,7 @@ ghost use Rattle.drf_journal.specs.Ended.{HasCause, HasFlushed};
 ghost use Rattle.drf_show.specs.Showing.{HasShown};
 
 use crate::form::Form;
-use crate::show::show;
+use crate::text::show;
 use drf_core::Core;
 use drf_journal::{Device, ProgramSorter, RunFault, advance, write_whole};
 use drf_rows::Limits;

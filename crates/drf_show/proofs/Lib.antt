@@ -1,0 +1,7 @@
+mod Parts
+mod Sums
+mod Widths
+mod RowTexts
+mod Counting
+mod Wrote
+mod Shows

@@ -1,0 +1,12 @@
+use Rattle.std.proofs.Common.{◌≡◌, ◌+◌, Bool, drop}
+use Rattle.drf_role.specs.Text.{Text}
+use Rattle.drf_role.specs.Path.{Path}
+use Rattle.drf_rows.specs.Quota.{reserved_for}
+use Rattle.drf_gates.specs.Quota.{used_where}
+use Rattle.drf_show.proofs.consumption.consume_agents.Given as goal
+
+-- with what is left all is counted
+abbrev pub invariant-loop-agent : goal.invariant-loop-agent
+invariant-loop-agent l =
+    (test : Path → Bool) (label : Text) → used_where test l.quota.used label + reserved_for test (drop l.agent-index l.agents) label
+    ≡ used_where test l.initial.quota.used label + reserved_for test l.agents label

@@ -1,0 +1,13 @@
+use Rattle.std.proofs.Common.{◌≡◌, ◌+◌, Bool, drop, map}
+use Rattle.drf_role.specs.Text.{Text}
+use Rattle.drf_role.specs.Path.{Path}
+use Rattle.drf_rows.specs.Holdings.{of_offer}
+use Rattle.drf_rows.specs.Quota.{held_unreserved}
+use Rattle.drf_gates.specs.Quota.{used_where}
+use Rattle.drf_show.proofs.consumption.consume_offers.Given as goal
+
+-- with what is left all is counted
+abbrev pub invariant-loop-offer : goal.invariant-loop-offer
+invariant-loop-offer l =
+    (test : Path → Bool) (label : Text) → used_where test l.quota.used label + held_unreserved test (map of_offer (drop l.offer-index l.offers)) label
+    ≡ used_where test l.initial.quota.used label + held_unreserved test (map of_offer l.offers) label

@@ -1,0 +1,13 @@
+use Rattle.std.proofs.Common.{◌≡◌, ◌+◌, Bool, drop, map}
+use Rattle.drf_role.specs.Text.{Text}
+use Rattle.drf_role.specs.Path.{Path}
+use Rattle.drf_rows.specs.Holdings.{of_task}
+use Rattle.drf_rows.specs.Quota.{held_unreserved}
+use Rattle.drf_gates.specs.Quota.{used_where}
+use Rattle.drf_show.proofs.consumption.consume_tasks.Given as goal
+
+-- with what is left all is counted
+abbrev pub invariant-loop-task : goal.invariant-loop-task
+invariant-loop-task l =
+    (test : Path → Bool) (label : Text) → used_where test l.quota.used label + held_unreserved test (map of_task (drop l.task-index l.tasks)) label
+    ≡ used_where test l.initial.quota.used label + held_unreserved test (map of_task l.tasks) label

@@ -1,0 +1,167 @@
+//! The text that shows an allocator.
+ghost use Rattle.std.specs.Prelude.{◌≡◌, ◌≤◌, ◌++◌, ◌∷◌, [], length, map, IfOk, OnOk};
+ghost use Rattle.drf_rows.specs.Consistent.{IsConsistent};
+ghost use Rattle.drf_rows.specs.Report.{report_of};
+ghost use Rattle.drf_rows.specs.Step.{live_rows};
+ghost use Rattle.drf_saved_laws.specs.SavedLaws.{IsSaveable};
+ghost use Rattle.drf_show.specs.Consuming.{IsFit};
+ghost use Rattle.drf_show.specs.ShownText.{agent_table, behind, client_table, count_table, filter_table, head_table, limit_table, node_table, rows_text, shown, table_in};
+
+use crate::agents::agent_lines;
+use crate::clients::client_lines;
+use crate::consumption::limit_lines;
+use crate::filters::filter_lines;
+use crate::form::Form;
+use crate::shown::{Shown, push_shown};
+use crate::tables::table_lines;
+use drf_core::Core;
+use drf_rows::{Limits, Report, Rows};
+use drf_saved::Head;
+use drf_sorter::Sorter;
+use std::alloc::{AllocError, Global};
+use std::thread::Threads;
+
+/// Adds a table behind another.
+fn push_behind<T: Shown>(
+    alloc: Global,
+    form: Form,
+    items: &[T],
+    text: &mut Vec<u8>,
+) -> Result<(), AllocError>
+    ensures { OnOk result (text.new.items ≡ text.old.items ++ behind form (record { heads = T.heads; rows = map T.shown items.now })) }
+{
+    if form == Form::Aligned {
+        text.push(b'\n')?;
+    }
+    push_shown(alloc, form, items, text)
+}
+
+fn push_head(
+    alloc: Global,
+    form: Form,
+    rows: &Rows,
+    text: &mut Vec<u8>,
+) -> Result<(), AllocError>
+    ensures { OnOk result (text.new.items ≡ text.old.items ++ table_in form (head_table rows.now)) }
+{
+    let head = Head {
+        clock: rows.clock,
+        next_offer: rows.next_offer,
+        events: rows.events,
+    };
+    push_shown(alloc, form, &[head], text)
+}
+
+fn push_agents(
+    rt: &(impl Threads + Sync),
+    alloc: Global,
+    form: Form,
+    rows: &Rows,
+    text: &mut Vec<u8>,
+) -> Result<(), AllocError>
+    ensures { OnOk result (text.new.items ≡ text.old.items ++ behind form (agent_table rows.now)) }
+{
+    let lines = agent_lines(rt, alloc, rows)?;
+    push_behind(alloc, form, &lines, text)
+}
+
+fn push_clients(
+    alloc: Global,
+    form: Form,
+    rows: &Rows,
+    text: &mut Vec<u8>,
+) -> Result<(), AllocError>
+    requires { IsFit rows.now }
+    ensures { OnOk result (text.new.items ≡ text.old.items ++ behind form (client_table rows.now)) }
+{
+    let lines = client_lines(alloc, rows)?;
+    push_behind(alloc, form, &lines, text)
+}
+
+fn push_limits(
+    alloc: Global,
+    form: Form,
+    rows: &Rows,
+    text: &mut Vec<u8>,
+) -> Result<(), AllocError>
+    requires { IsFit rows.now }
+    ensures { OnOk result (text.new.items ≡ text.old.items ++ behind form (limit_table rows.now)) }
+{
+    let lines = limit_lines(alloc, rows)?;
+    push_behind(alloc, form, &lines, text)
+}
+
+fn push_filters(
+    alloc: Global,
+    form: Form,
+    rows: &Rows,
+    text: &mut Vec<u8>,
+) -> Result<(), AllocError>
+    ensures { OnOk result (text.new.items ≡ text.old.items ++ behind form (filter_table rows.now)) }
+{
+    let lines = filter_lines(alloc, rows.clock, rows.filters.as_slice())?;
+    push_behind(alloc, form, &lines, text)
+}
+
+fn push_counts(
+    alloc: Global,
+    form: Form,
+    rows: &Rows,
+    report: &Report,
+    limits: &Limits,
+    text: &mut Vec<u8>,
+) -> Result<(), AllocError>
+    requires fit { IsFit rows.now }
+    requires report { report.now ≡ report_of rows.now }
+    ensures { OnOk result (text.new.items ≡ text.old.items ++ behind form (count_table limits.now rows.now)) }
+{
+    let scalar_names = report.total.entries().len() as u64;
+    let lines = table_lines(alloc, limits, rows, scalar_names)?;
+    push_behind(alloc, form, &lines, text)
+}
+
+/// Adds all tables.
+fn push_tables(
+    rt: &(impl Threads + Sync),
+    alloc: Global,
+    form: Form,
+    rows: &Rows,
+    report: &Report,
+    limits: &Limits,
+    text: &mut Vec<u8>,
+) -> Result<(), AllocError>
+    requires fit { IsFit rows.now }
+    requires report { report.now ≡ report_of rows.now }
+    ensures { OnOk result (text.new.items ≡ text.old.items ++ rows_text form limits.now rows.now) }
+{
+    push_head(alloc, form, rows, text)?;
+    push_agents(rt, alloc, form, rows, text)?;
+    push_clients(alloc, form, rows, text)?;
+    push_behind(alloc, form, report.nodes.as_slice(), text)?;
+    push_behind(alloc, form, rows.weights.as_slice(), text)?;
+    push_limits(alloc, form, rows, text)?;
+    push_behind(alloc, form, rows.offers.as_slice(), text)?;
+    push_behind(alloc, form, rows.tasks.as_slice(), text)?;
+    push_filters(alloc, form, rows, text)?;
+    push_counts(alloc, form, rows, report, limits, text)
+}
+
+/// The text that shows an allocator's live rows, where it has those limits: its numbers, agents, clients, the nodes of its report, weights,
+/// limits, offers, tasks and filters in force, and how full its tables are. It changes nothing.
+pub fn show<S: Sorter>(
+    rt: &(impl Threads + Sync),
+    alloc: Global,
+    core: &Core<S>,
+    limits: &Limits,
+    form: Form,
+) -> Result<Vec<u8>, AllocError>
+    requires limits { core.now.limits ≡ limits.now }
+    ensures { IfOk result (λ text. text.items ≡ shown form limits.now core.now.rows) }
+{
+    let _ = limits.agents();
+    let rows = core.rows()?;
+    let report = core.report()?;
+    let mut text = Vec::new(alloc);
+    push_tables(rt, alloc, form, &rows, &report, limits, &mut text)?;
+    Ok(text)
+}

@@ -1,5 +1,5 @@
 -- The steps of the history keep its rule, and a pen that may write adds to all that its chain has.
-use Rattle.std.proofs.Common.{◌≡◌, ℕ, zero, suc, ◌<◌, ◌==◌, Bool, true, false, List, [], ◌∷◌, ◌++◌, length, map, refl, ap, sym, ◌∙◌, subst, arith, inl, None, length-append}
+use Rattle.std.proofs.Common.{◌≡◌, ℕ, zero, suc, ◌<◌, ◌≤◌, ◌==◌, Bool, true, false, List, [], ◌∷◌, ◌++◌, length, map, refl, ap, sym, ◌∙◌, subst, arith, inl, None, length-append}
 use Rattle.std.specs.Prelude.{slice_set}
 use Rattle.std.specs.List.{AllByRecursion}
 use Rattle.std.proofs.lemmas.List.{append-nil, map-append}
@@ -7,9 +7,10 @@ use Rattle.std.proofs.lemmas.List.Elements.{filter-append}
 use Rattle.std.proofs.lemmas.Bool.Decides.{nat_tests}
 use mathlib.Core.List.{IsPrefix}
 use prog.Atomic.{either}
-use Rattle.logbook.specs.Pages.{Cell, cell, Nib, nib, gives, adds, may_write, no_nib, step, Moves}
+use Rattle.logbook.specs.Pages.{Cell, cell, Nib, nib, gives, adds, keeps, may_write, no_nib, step, Moves}
 use Rattle.drf_board.specs.declared.history.Link.{Link}
-use Rattle.drf_board.specs.Chains.{IsHome, IsChained, links_of, entries_of, spent_by, end_from, end_of, HasLinked, HasNewPen}
+use Rattle.drf_board.proofs.Prefixes.{begins-trans}
+use Rattle.drf_board.specs.Chains.{IsHome, IsChained, links_of, entries_of, spent_by, end_from, end_of, HasLinked, HasLooked, HasNewPen}
 
 -- ---- words that are at home stay at home
 
@@ -164,6 +165,46 @@ links_moves seen link key value last cells log chained begins away =
       chained.first.0,
       chained.first.1,
       (gives, link ∷ [], None, refl, chained-then cells log link key value chained inside last_of, inl (refl, refl), linked),
+    )
+
+-- ---- a step that adds nothing
+
+length-begins : {A : Type 0} (xs ys : List A) → IsPrefix xs ys → length xs ≤ length ys
+length-begins xs ys begins = omega (arith, ap length begins.1, length-append xs begins.0)
+
+links-prefix : (chain : ℕ) (seen whole : List Link) → IsPrefix seen whole → IsPrefix (links_of chain seen) (links_of chain whole)
+links-prefix chain seen whole begins = (
+  links_of chain begins.0,
+  sym (filter-append (λ l. l.chain == chain) seen begins.0) ∙ ap (links_of chain) begins.1,
+)
+
+chained-home : (cells : List Cell) (log : List Link) → IsChained cells log → IsChained (slice_set cells 0 (same_word (cell cells 0).0, true)) log
+chained-home cells log chained =
+    let home : (k : ℕ) → IsHome cells k → IsHome (slice_set cells 0 (same_word (cell cells 0).0, true)) k =
+    λ k is. home-set cells 0 k (same_word (cell cells 0).0) is in
+    record {
+      first = (omega (arith, length-set cells 0 (same_word (cell cells 0).0, true), chained.first.0), home 0 chained.first.1);
+      spent = λ chain. all-more (IsHome cells) (IsHome (slice_set cells 0 (same_word (cell cells 0).0, true))) (spent_by chain (links_of chain log)) home (chained.spent chain);
+    }
+
+-- Who has the pen of the end of what it has seen of a chain finds that others have seen no more of it, and keeps the pen.
+pub looks_moves : (own both : List Link) (ask : Link) (pen : Nib) → pen.right ≡ may_write → pen.key ≡ end_of ask.chain own → IsPrefix own both
+    → ask.next ≡ length (links_of ask.chain own)
+    → Moves IsChained shows moves 0 (both, (pen, None)) same_word (HasLooked (step 0 0 0 ask) (both, (pen, None)))
+looks_moves own both ask pen right last less count cells log chained begins away =
+    let far : (cell cells pen.key).1 ≡ false = (away right).1 in
+    let far_end : (cell cells (end_of ask.chain own)).1 ≡ false = subst (λ (k : ℕ). (cell cells k).1 ≡ false) last far in
+    let within : IsPrefix own log = begins-trans own both log less begins in
+    let whole : links_of ask.chain log ≡ links_of ask.chain own = links-seen cells log own ask.chain chained within far_end in
+    let low = length-begins (links_of ask.chain own) (links_of ask.chain both) (links-prefix ask.chain own both less) in
+    let high = length-begins (links_of ask.chain both) (links_of ask.chain log) (links-prefix ask.chain both log begins) in
+    let looked : HasLooked (step 0 0 0 ask) (both, (pen, None)) (cell cells 0).0 (log ++ [], (pen, None)) = record {
+      count = omega (arith, low, high, ap length whole, count);
+      pen = refl;
+    } in (
+      chained.first.0,
+      chained.first.1,
+      (keeps, [], None, tt, subst (λ (l : List Link). IsChained (slice_set cells 0 (same_word (cell cells 0).0, true)) l) (sym (append-nil log)) (chained-home cells log chained), inl (refl, refl), looked),
     )
 
 -- whatever the book is, there is a pen for a new word

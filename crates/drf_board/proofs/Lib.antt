@@ -1,3 +1,2 @@
 pub mod Prefixes
 pub mod Chaining
-pub mod Blank

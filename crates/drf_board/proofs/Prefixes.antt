@@ -1,5 +1,5 @@
 -- Lists with which one list begins.
-use Rattle.std.proofs.Common.{◌≡◌, ◌≤◌, List, [], ◌∷◌, ◌++◌, length, refl, sym, ◌∙◌, arith}
+use Rattle.std.proofs.Common.{◌≡◌, ◌≤◌, List, [], ◌∷◌, ◌++◌, length, refl, ap, sym, ◌∙◌, append_assoc, arith}
 use mathlib.Core.List.{IsPrefix}
 
 -- where two lists go on to the same list, the shorter begins the longer
@@ -11,6 +11,10 @@ shorter-begins (x ∷ xs) (y ∷ ys) r s same few =
     let tail : xs ++ r ≡ ys ++ s = cc same in
     let rest : IsPrefix xs ys = shorter-begins xs ys r s tail (omega (arith, few)) in
     (rest.0, cc (head, rest.1))
+
+pub begins-trans : {A : Type 0} (xs ys zs : List A) → IsPrefix xs ys → IsPrefix ys zs → IsPrefix xs zs
+begins-trans xs ys zs first second =
+    (first.0 ++ second.0, sym (append_assoc xs first.0 second.0) ∙ (ap (λ l. l ++ second.0) first.1 ∙ second.1))
 
 pub prefixes-compare : {A : Type 0} (xs ys whole : List A) → IsPrefix xs whole → IsPrefix ys whole → length xs ≤ length ys → IsPrefix xs ys
 prefixes-compare xs ys whole begins ends few = shorter-begins xs ys begins.0 ends.0 (begins.1 ∙ sym ends.1) few

@@ -45,6 +45,11 @@ pub record HasLinked (step : Step Link) (before : View Link ℕ) (found : ℕ) (
   pub entries : entries_of step.ask.chain after.0 ≡ entries_of step.ask.chain before.0 ++ step.ask.entry ∷ []
   pub end : end_of step.ask.chain after.0 ≡ step.ask.next
 
+-- a step that adds nothing: what was seen of the chain has so many links as are expected, and the pen stays
+pub record HasLooked (step : Step Link) (before : View Link ℕ) (found : ℕ) (after : View Link ℕ) : Type 0 where
+  pub count : length (links_of step.ask.chain before.0) ≡ step.ask.next
+  pub pen : after.1.0 ≡ before.1.0
+
 -- a step that gives the right to make a word
 abbrev pub HasNewPen : Step Link → View Link ℕ → ℕ → View Link ℕ → Type 0
 HasNewPen step before found after = after.1.0.right ≡ may_make
@@ -52,9 +57,12 @@ HasNewPen step before found after = after.1.0.right ≡ may_make
 abbrev pub link_of : ℕ → ℕ → Entry → Link
 link_of chain next entry = record { chain = chain; next = next; entry = entry }
 
--- what a step asks that adds none
+-- what a step asks that adds none, and expects so many links of a chain
+abbrev pub look_of : ℕ → ℕ → Link
+look_of chain count = link_of chain count (record { event = event.Report; reply = Done })
+
 abbrev pub no_link : Link
-no_link = link_of 0 0 (record { event = event.Report; reply = Done })
+no_link = look_of 0 0
 
 -- the word of a key
 abbrev pub word_of : Book → ℕ → Named

@@ -1,7 +1,7 @@
 -- A history: what was asked, and what was answered.
 use Rattle.std.specs.Prelude.{◌≡◌, List, map}
 use Rattle.drf_rows.specs.LimitNumbers.{LimitNumbers}
-use Rattle.drf_rows.specs.Step.{opening, replies_to, rows_after_all}
+use Rattle.drf_rows.specs.Step.{replies_to, rows_after_all}
 use Rattle.drf_rows.specs.declared.event.Event.{Event}
 use Rattle.drf_rows.specs.declared.reply.Reply.{Reply}
 use Rattle.drf_rows.specs.declared.rows.Rows.{Rows}
@@ -16,10 +16,11 @@ events_of entries = map (λ e. e.event) entries
 abbrev pub replies_of : List Entry → List Reply
 replies_of entries = map (λ e. e.reply) entries
 
--- the replies are those of an allocator that was just opened, to these events under these limits
-unfoldable pub IsLegal : LimitNumbers → List Entry → Type 0
-IsLegal limits entries = replies_of entries ≡ replies_to limits opening (events_of entries)
+-- The replies are those of an allocator with the rows `start`, to these events under these limits. `start` is the opening where it was just
+-- opened.
+unfoldable pub IsLegal : LimitNumbers → Rows → List Entry → Type 0
+IsLegal limits start entries = replies_of entries ≡ replies_to limits start (events_of entries)
 
 -- the rows of that allocator after them
-unfoldable pub rows_of : LimitNumbers → List Entry → Rows
-rows_of limits entries = rows_after_all limits opening (events_of entries)
+unfoldable pub rows_of : LimitNumbers → Rows → List Entry → Rows
+rows_of limits start entries = rows_after_all limits start (events_of entries)

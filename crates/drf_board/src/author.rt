@@ -1,10 +1,11 @@
 //! The one that adds to a history.
 ghost use Rattle.std.specs.Prelude.{◌≡◌, ◌+◌, ◌<◌, ◌^◌, ◌++◌, ◌∷◌, [], length};
+ghost use mathlib.Core.List.{IsPrefix};
 ghost use Rattle.logbook.specs.Pages.{may_write};
 ghost use Rattle.drf_board.specs.Chains.{head_of, word_of};
 ghost use Rattle.drf_board.specs.History.{IsLegal, entry};
 
-use crate::history::{AddLink, Chained, Lent, Link, Naming, NewPen, NoGain};
+use crate::history::{AddLink, Chained, Expected, Lent, Link, Look, Naming, NewPen, NoGain};
 use crate::prefix::Prefix;
 use drf_rows::{Event, Reply};
 use logbook::{Offer, Pen, Seen, Word};
@@ -51,7 +52,7 @@ impl<K: Naming> Model for Author<K> {
 
     ghost view = { λ a. entries_of K.slate.chain a.seen.log };
 
-    ghost invariant = { λ a. (a.count ≡ length (entries_of K.slate.chain a.seen.log)) × (a.seen.book ≡ K.slate.book) × IsLegal K.slate.limits (entries_of K.slate.chain a.seen.log) × (a.head ≡ head_of K.slate.book) × (a.root ≡ word_of K.slate.book K.slate.chain) × IsAtEnd K.slate.book K.slate.chain a.seen.log a.pen.book a.pen.nib };
+    ghost invariant = { λ a. (a.count ≡ length (entries_of K.slate.chain a.seen.log)) × (a.seen.book ≡ K.slate.book) × IsLegal K.slate.limits K.start (entries_of K.slate.chain a.seen.log) × (a.head ≡ head_of K.slate.book) × (a.root ≡ word_of K.slate.book K.slate.chain) × IsAtEnd K.slate.book K.slate.chain a.seen.log a.pen.book a.pen.nib };
 }
 
 impl<K: Naming> Author<K> {
@@ -85,10 +86,28 @@ impl<K: Naming> Author<K> {
         Prefix::of(self.count, self.seen.again())
     }
 
+    /// Tells a proof that what others know of the history is a beginning of it. It changes nothing.
+    pub fn recall(&mut self, known: &Prefix<K>)
+        ensures same { self.new ≡ self.old }
+        ensures begins { IsPrefix known.now self.new }
+    {
+        let mut both = self.seen.again();
+        both.learn(known.seen());
+        let expected = Expected {
+            root: &self.root,
+            count: self.count,
+        };
+        let mut offer: Offer<Link, u64, Chained, NoGain> = both.plain::<NoGain, Expected<'_>, Look>(
+            &expected,
+        );
+        self.head
+            .compare_exchange::<Look, NoGain>(0, 0, &mut both, &mut offer, &mut self.pen);
+    }
+
     /// Adds an entry to the history. It takes no memory.
     pub fn add(&mut self, event: &Event, reply: &Reply)
         requires room { length self.old + 1 < 2 ^ 64 }
-        requires legal { IsLegal K.slate.limits (self.old ++ entry event.now reply.now ∷ []) }
+        requires legal { IsLegal K.slate.limits K.start (self.old ++ entry event.now reply.now ∷ []) }
         ensures { self.new ≡ self.old ++ entry event.now reply.now ∷ [] }
     {
         let (_, next) = new_word(&self.head, &self.seen);

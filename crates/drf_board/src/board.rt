@@ -1,4 +1,5 @@
 ghost use Rattle.std.specs.Prelude.{◌≡◌, ◌+◌, ◌^◌, ◌<◌, ◌++◌, ◌∷◌, [], length, All, IfOk, OnOk, OnErr};
+ghost use mathlib.Core.List.{IsPrefix};
 ghost use Rattle.drf_board.specs.Boards.{HasPublished};
 ghost use Rattle.drf_board.specs.History.{IsLegal, entry};
 ghost use Rattle.drf_board.specs.Sheets.{IsSheet};
@@ -46,13 +47,16 @@ impl<K: Naming, R: Wait + Drop> Board<K, R>
 where
     Pane<K>: Shows,
 {
-    /// A board of the slate that K names, with nothing published, and its viewers, which have seen nothing.
+    /// A board of the slate that K names, with nothing published, and its viewers, which have seen nothing. The first sheet is that of the rows
+    /// with which the history begins.
     pub fn open(
         rt: R,
         alloc: Global,
         slate: Slate,
+        first_sheet: Sheet,
     ) -> Result<(Board<K, R>, Vec<Viewer<K>>), AllocError>
         requires named { slate.name ≡ K.slate }
+        requires sheet { IsSheet K.slate.limits K.start [] first_sheet }
         ensures entries { IfOk result (λ r. r.0.entries ≡ []) }
         ensures seats { IfOk result (λ r. r.0.viewers ≡ slate.viewers) }
         ensures count { IfOk result (λ r. length r.1.items ≡ slate.viewers) }
@@ -62,7 +66,7 @@ where
         let author = slate.into_author();
         let prefix = author.known();
         let (first, second) = Pane::pair(alloc)?;
-        first.fill(Shown::new(Sheet::blank(alloc), prefix.again()));
+        first.fill(Shown::new(first_sheet, prefix.again()));
         // The carrier has a place for one reader at least.
         let writer = WriteHandle::new(alloc, rt, first, second, viewers.max(1) as usize)?;
         let readers = readers_of(alloc, &writer, &prefix, viewers as usize)?;
@@ -82,6 +86,29 @@ where
         self.viewers
     }
 
+    /// All that was published so far, for a viewer to learn.
+    pub fn told(&self) -> Told<K>
+        ensures { result ≡ self.now.entries }
+    {
+        Told::of(self.author.known())
+    }
+
+    /// Tells a proof that a list that was told begins the list of all that was published. It changes nothing.
+    pub fn recall_told(&mut self, told: &Told<K>)
+        ensures same { self.new ≡ self.old }
+        ensures begins { IsPrefix told.now self.new.entries }
+    {
+        self.author.recall(told.prefix());
+    }
+
+    /// The same of what a viewer saw or learnt.
+    pub fn recall_viewer(&mut self, viewer: &Viewer<K>)
+        ensures same { self.new ≡ self.old }
+        ensures begins { IsPrefix viewer.now self.new.entries }
+    {
+        self.author.recall(viewer.prefix());
+    }
+
     /// Adds an event with its reply to the list, and shows the sheet of the longer list. It waits for viewers that still read the
     /// sheet from before the last call. What it tells is the longer list. Where it finds no memory the list stays as it is.
     pub fn publish(
@@ -90,8 +117,8 @@ where
         event: &Event,
         reply: &Reply,
     ) -> Result<Told<K>, AllocError>
-        requires legal { IsLegal K.slate.limits (self.old.entries ++ entry event.now reply.now ∷ []) }
-        requires sheet { IsSheet K.slate.limits (self.old.entries ++ entry event.now reply.now ∷ []) sheet }
+        requires legal { IsLegal K.slate.limits K.start (self.old.entries ++ entry event.now reply.now ∷ []) }
+        requires sheet { IsSheet K.slate.limits K.start (self.old.entries ++ entry event.now reply.now ∷ []) sheet }
         ensures ok { OnOk result (HasPublished self.old self.new (entry event.now reply.now)) }
         ensures told { IfOk result (λ told. told ≡ self.new.entries) }
         ensures err { OnErr result (self.new ≡ self.old) }
@@ -112,7 +139,7 @@ where
     pub fn publish_unseen(&mut self, event: &Event, reply: &Reply) -> Told<K>
         requires unseen { self.old.viewers ≡ 0 }
         requires room { length self.old.entries + 1 < 2 ^ 64 }
-        requires legal { IsLegal K.slate.limits (self.old.entries ++ entry event.now reply.now ∷ []) }
+        requires legal { IsLegal K.slate.limits K.start (self.old.entries ++ entry event.now reply.now ∷ []) }
         ensures added { HasPublished self.old self.new (entry event.now reply.now) }
         ensures told { result ≡ self.new.entries }
     {

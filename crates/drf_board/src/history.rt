@@ -87,17 +87,49 @@ impl<'a> Plain<Lent<'a>, Link, u64> for AddLink {
     ghost state = { λ lent. None };
 }
 
-/// Names one slate: where its history stands, and its limits. Code that opens a board is generic in such a type, and each call of it
-/// says in its proof which slate is named, so that what one board tells is never learnt by a viewer of another. It has no calls.
+/// How many links a chain is expected to have.
+#[derive(Clone, Copy)]
+pub struct Expected<'a> {
+    pub root: &'a Word<Link, u64, Chained>,
+    pub count: u64,
+}
+
+/// The step by which who has the pen finds that nobody has seen more links than are expected.
+pub struct Look;
+
+impl Play<Link, u64> for Look {
+    ghost use Rattle.drf_board.specs.Chains.{HasLooked};
+
+    ghost then = { HasLooked };
+}
+
+impl<'a> Plain<Expected<'a>, Link, u64> for Look {
+    ghost use Rattle.std.specs.Prelude.{None};
+    ghost use Rattle.drf_board.specs.Chains.{look_of};
+
+    ghost ask = { λ expected. look_of expected.root.now.key expected.count };
+
+    ghost state = { λ expected. None };
+}
+
+/// Names one slate: where its history stands, and its limits; and the rows with which that begins. Code that opens a board is generic in
+/// such a type, and each call of it says in its proof which slate is named, so that what one board tells is never learnt by a viewer of
+/// another. It has no calls.
 pub trait Naming {
+    ghost use Rattle.drf_rows.specs.declared.rows.Rows.{Rows};
     ghost use Rattle.drf_board.specs.Slates.{SlateName};
 
     ghost slate: { SlateName };
+
+    ghost start: { Rows };
 }
 
 /// The type that such code is called with.
 impl Naming for Brand {
     ghost use Rattle.drf_rows.specs.LimitNumbers.{ceilings};
+    ghost use Rattle.drf_rows.specs.Step.{opening};
 
     ghost slate = { record { book = record { number = 0; log_name = 0; cells_name = 0 }; chain = 0; limits = ceilings } };
+
+    ghost start = { opening };
 }

@@ -1,5 +1,5 @@
 //! How much of the history is known.
-ghost use Rattle.std.specs.Prelude.{◌≡◌, length, MatchBool};
+ghost use Rattle.std.specs.Prelude.{◌≡◌, length, nat_le, MatchBool};
 ghost use mathlib.Core.List.{IsPrefix};
 ghost use Rattle.drf_board.specs.Chains.{entries_of};
 ghost use Rattle.drf_board.specs.History.{IsLegal};
@@ -29,7 +29,7 @@ impl<K: Naming> Model for Prefix<K> {
 
     ghost view = { λ p. entries_of K.slate.chain p.seen.log };
 
-    ghost invariant = { λ p. (p.count ≡ length (entries_of K.slate.chain p.seen.log)) × (p.seen.book ≡ K.slate.book) × IsLegal K.slate.limits (entries_of K.slate.chain p.seen.log) };
+    ghost invariant = { λ p. (p.count ≡ length (entries_of K.slate.chain p.seen.log)) × (p.seen.book ≡ K.slate.book) × IsLegal K.slate.limits K.start (entries_of K.slate.chain p.seen.log) };
 }
 
 impl<K: Naming> Prefix<K> {
@@ -37,7 +37,7 @@ impl<K: Naming> Prefix<K> {
     pub fn of(count: u64, seen: Seen<Link, u64, Chained>) -> Prefix<K>
         requires count { count ≡ length (entries_of K.slate.chain seen.log) }
         requires book { seen.book ≡ K.slate.book }
-        requires legal { IsLegal K.slate.limits (entries_of K.slate.chain seen.log) }
+        requires legal { IsLegal K.slate.limits K.start (entries_of K.slate.chain seen.log) }
         ensures { result ≡ entries_of K.slate.chain seen.log }
     {
         Prefix {
@@ -49,7 +49,7 @@ impl<K: Naming> Prefix<K> {
 
     /// Tells a proof that the list is legal. It does nothing.
     pub fn recall(&self)
-        ensures { IsLegal K.slate.limits self.now }
+        ensures { IsLegal K.slate.limits K.start self.now }
     {
         let _ = &self.count;
     }
@@ -65,9 +65,18 @@ impl<K: Naming> Prefix<K> {
         }
     }
 
+    /// What was seen of the histories of all boards.
+    pub(crate) fn seen(&self) -> &Seen<Link, u64, Chained>
+        ensures book { result.now.book ≡ K.slate.book }
+        ensures entries { entries_of K.slate.chain result.now.log ≡ self.now }
+    {
+        &self.seen
+    }
+
     /// Whether the other list begins with this one. If it does not, this one begins with the other.
     pub fn begins(&self, other: &Prefix<K>) -> bool
-        ensures { MatchBool result (IsPrefix self.now other.now) (IsPrefix other.now self.now) }
+        ensures which { MatchBool result (IsPrefix self.now other.now) (IsPrefix other.now self.now) }
+        ensures exact { result ≡ nat_le (length self.now) (length other.now) }
     {
         // For the proof alone: one of the two lists begins with the other.
         let mut both = self.seen.again();
@@ -108,5 +117,14 @@ impl<K: Naming> Told<K> {
         ensures { result.now ≡ self.now }
     {
         &self.prefix
+    }
+
+    /// Whether the other list begins with this one. If it does not, this one begins with the other: two lists that were told of one board
+    /// are beginnings of one history.
+    pub fn begins(&self, other: &Told<K>) -> bool
+        ensures which { MatchBool result (IsPrefix self.now other.now) (IsPrefix other.now self.now) }
+        ensures exact { result ≡ nat_le (length self.now) (length other.now) }
+    {
+        self.prefix.begins(&other.prefix)
     }
 }

@@ -1,12 +1,10 @@
-ghost use Rattle.std.specs.Prelude.{◌≡◌, [], IfOk};
-ghost use Rattle.drf_rows.specs.LimitNumbers.{LimitNumbers};
-ghost use Rattle.drf_board.specs.Sheets.{IsSheet};
+ghost use Rattle.std.specs.Prelude.{◌≡◌, IfOk};
 
-use drf_bundle::Quantities;
-use drf_rows::{Report, SharedTable};
-use std::alloc::{AllocError, Global};
+use drf_rows::Report;
+use std::alloc::AllocError;
 
-/// What viewers are shown: how many events were published, refused ones among them, and the report of shares after the last.
+/// What viewers are shown: how many events were published, refused ones among them, and the report of shares after the last. Events before
+/// the history do not count.
 #[derive(Debug, Drop)]
 pub struct Sheet {
     pub events: u64,
@@ -14,17 +12,6 @@ pub struct Sheet {
 }
 
 impl Sheet {
-    /// The sheet of no events: nobody is registered.
-    pub(crate) fn blank(alloc: Global) -> Sheet
-        ensures { (limits : LimitNumbers) → IsSheet limits [] result }
-    {
-        let report = Report {
-            total: Quantities::empty(alloc),
-            nodes: SharedTable::empty(),
-        };
-        Sheet { events: 0, report }
-    }
-
     pub fn copy(&self) -> Result<Sheet, AllocError>
         ensures { IfOk result (λ copy. copy ≡ self.now) }
     {

@@ -29,12 +29,12 @@ impl<K: Naming> Model for Shown<K> {
 
     ghost view = { λ s. s.prefix };
 
-    ghost invariant = { λ s. IsSheet K.slate.limits s.prefix s.sheet };
+    ghost invariant = { λ s. IsSheet K.slate.limits K.start s.prefix s.sheet };
 }
 
 impl<K: Naming> Shown<K> {
     pub fn new(sheet: Sheet, prefix: Prefix<K>) -> Shown<K>
-        requires { IsSheet K.slate.limits prefix sheet }
+        requires { IsSheet K.slate.limits K.start prefix sheet }
         ensures { result ≡ prefix }
     {
         Shown { sheet, prefix }
@@ -48,7 +48,7 @@ impl<K: Naming> Shown<K> {
 
     /// A copy of the sheet.
     pub fn sheet(&self) -> Result<Sheet, AllocError>
-        ensures { IfOk result (λ sheet. IsSheet K.slate.limits self.now sheet) }
+        ensures { IfOk result (λ sheet. IsSheet K.slate.limits K.start self.now sheet) }
     {
         self.sheet.copy()
     }

@@ -51,7 +51,7 @@ impl<K: Naming> Model for Viewer<K> {
 // What is shown, where that is not older than what is known.
 fn see<K: Naming>(pane: &Pane<K>, known: &Prefix<K>) -> Result<(Sheet, Prefix<K>), ViewFault>
     ensures later { IfOk result (λ r. IsPrefix known.now r.1) }
-    ensures sheet { IfOk result (λ r. IsSheet K.slate.limits r.1 r.0) }
+    ensures sheet { IfOk result (λ r. IsSheet K.slate.limits K.start r.1 r.0) }
 {
     let Some(shown) = pane.get() else {
         return Err(ViewFault::Closed);
@@ -71,13 +71,19 @@ impl<K: Naming> Viewer<K> {
         Viewer { handle, prefix }
     }
 
+    pub(crate) fn prefix(&self) -> &Prefix<K>
+        ensures { result.now ≡ self.now }
+    {
+        &self.prefix
+    }
+
     /// The sheet of a legal list that begins with all that this viewer saw before and all that it learnt: what it reads never goes back.
-    /// That the history begins with that list is known by the type of a prefix, and stands in no clause. It waits for nobody. `Closed` is
-    /// for a board that is gone; a sheet older than what was seen, or none, which `publish` does not leave behind, would be told so too.
+    /// The board's own list begins with that list, as `Board::recall_viewer` says. It waits for nobody. `Closed` is for a board that is gone; a
+    /// sheet older than what was seen, or none, which `publish` does not leave behind, would be told so too.
     pub fn read(&mut self) -> Result<Sheet, ViewFault>
         ensures later { IsPrefix self.old self.new }
-        ensures legal { IsLegal K.slate.limits self.new }
-        ensures sheet { IfOk result (λ sheet. IsSheet K.slate.limits self.new sheet) }
+        ensures legal { IsLegal K.slate.limits K.start self.new }
+        ensures sheet { IfOk result (λ sheet. IsSheet K.slate.limits K.start self.new sheet) }
         ensures err { OnErr result (self.new ≡ self.old) }
     {
         self.prefix.recall();

@@ -11,7 +11,7 @@ invariant_of-result g c =
     let none : entries_of slate.chain c.args.seen.log ≡ [] = ap (entries_of slate.chain) c.requires.seen.1 in (
       sym (ap length none),
       c.requires.seen.0,
-      subst (λ (l : List Entry). IsLegal slate.limits l) (sym none) (legal-nil slate.limits),
+      subst (λ (l : List Entry). IsLegal slate.limits g.K.Naming.start l) (sym none) (legal-nil slate.limits g.K.Naming.start),
       c.requires.head,
       c.requires.root,
       record {

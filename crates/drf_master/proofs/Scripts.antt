@@ -10,6 +10,7 @@ use Rattle.drf_board.specs.declared.entry.Entry.{Entry}
 use Rattle.drf_rows.specs.LimitNumbers.{LimitNumbers}
 use Rattle.drf_rows.specs.declared.event.Event.{Event}
 use Rattle.drf_rows.specs.declared.reply.Reply.{Reply}
+use Rattle.drf_rows.specs.declared.rows.Rows.{Rows}
 use Rattle.drf_master.specs.Closing.{AreOf, IsCloseFault}
 use Rattle.drf_master.specs.Matching.{IsShuffle, receipts_of}
 use Rattle.drf_master.specs.Receipts.{Held, IsSamePass}
@@ -287,24 +288,24 @@ run-fault asked stops key jobs results own scripts fault are_own same_scripts nu
     as-run-fault asked stops key own scripts fault are_own
     (subst (λ (ss : List (Vec Event)). job-fault asked stops 0 ss fault) same_scripts (first-job asked stops 0 jobs results fault numbers did first))
 
-pub closing-fault : (given : LimitNumbers) (asked : ℕ → ℕ → Type 0) (key : ℕ) (own : List Held) (scripts : List (Vec Event)) (done : List Held) (replies : List (Vec Reply))
-    (journal : List Entry) (fault : CloseFault) → HaveAllRun asked key own scripts done replies → IsLegal given journal → IsCloseFault journal key done fault
-    → IsClosingFault given asked key own scripts fault
-closing-fault given asked key own scripts done replies journal why.Stranger all legal is = absurd (is all.own_done)
-closing-fault given asked key own scripts done replies journal why.Missing all legal is =
+pub closing-fault : (given : LimitNumbers) (start : Rows) (asked : ℕ → ℕ → Type 0) (key : ℕ) (own : List Held) (scripts : List (Vec Event)) (done : List Held) (replies : List (Vec Reply))
+    (journal : List Entry) (fault : CloseFault) → HaveAllRun asked key own scripts done replies → IsLegal given start journal → IsCloseFault journal key done fault
+    → IsClosingFault given start asked key own scripts fault
+closing-fault given start asked key own scripts done replies journal why.Stranger all legal is = absurd (is all.own_done)
+closing-fault given start asked key own scripts done replies journal why.Missing all legal is =
     record { own = all.own; calls = all.calls; journal = journal; legal = legal; replies = replies; lists = receipts_of done; run = all.run; misfit = is.1 }
-closing-fault given asked key own scripts done replies journal (why.Mismatch place) all legal is =
+closing-fault given start asked key own scripts done replies journal (why.Mismatch place) all legal is =
     record { own = all.own; calls = all.calls; journal = journal; legal = legal; replies = replies; lists = receipts_of done; run = all.run; misfit = is.1 }
-closing-fault given asked key own scripts done replies journal why.Memory all legal is =
+closing-fault given start asked key own scripts done replies journal why.Memory all legal is =
     record { own = all.own; calls = all.calls; journal = journal; legal = legal; replies = replies; lists = receipts_of done; run = all.run; misfit = is.1 }
 
-pub misfit-fault : (given : LimitNumbers) (asked stops : ℕ → ℕ → Type 0) (key : ℕ) (own : List Held) (scripts : List (Vec Event)) (done : List Held)
-    (replies : List (Vec Reply)) (fault : DriveFault) → HaveAllRun asked key own scripts done replies → IsMisfitOf given key done fault
-    → IsDriveFault given asked stops key own scripts fault
-misfit-fault given asked stops key own scripts done replies Stopped all is = absurd is
-misfit-fault given asked stops key own scripts done replies Memory all is = absurd is
-misfit-fault given asked stops key own scripts done replies (Close fault) all is =
-    closing-fault given asked key own scripts done replies is.0 fault all is.1.0 is.1.1
+pub misfit-fault : (given : LimitNumbers) (start : Rows) (asked stops : ℕ → ℕ → Type 0) (key : ℕ) (own : List Held) (scripts : List (Vec Event)) (done : List Held)
+    (replies : List (Vec Reply)) (fault : DriveFault) → HaveAllRun asked key own scripts done replies → IsMisfitOf given start key done fault
+    → IsDriveFault given start asked stops key own scripts fault
+misfit-fault given start asked stops key own scripts done replies Stopped all is = absurd is
+misfit-fault given start asked stops key own scripts done replies Memory all is = absurd is
+misfit-fault given start asked stops key own scripts done replies (Close fault) all is =
+    closing-fault given start asked key own scripts done replies is.0 fault all is.1.0 is.1.1
 
 pub has-driven : (asked : ℕ → ℕ → Type 0) (key : ℕ) (own : List Held) (scripts : List (Vec Event)) (done : List Held) (replies : List (Vec Reply))
     (journal : List Entry) → HaveAllRun asked key own scripts done replies → IsShuffle journal (receipts_of done) → HasDriven own scripts replies journal

@@ -3,6 +3,7 @@ use Rattle.std.specs.Prelude.{◌≡◌, ℕ, List, All}
 use Rattle.drf_board.specs.History.{IsLegal}
 use Rattle.drf_board.specs.declared.entry.Entry.{Entry}
 use Rattle.drf_rows.specs.LimitNumbers.{LimitNumbers}
+use Rattle.drf_rows.specs.declared.rows.Rows.{Rows}
 use Rattle.drf_master.specs.Journal.{Journal}
 use Rattle.drf_master.specs.Matching.{IsShuffle, IsFault, receipts_of}
 use Rattle.drf_master.specs.Receipts.{Held}
@@ -14,9 +15,9 @@ abbrev pub AreOf : ℕ → List Held → Type 0
 AreOf key passes = All (λ h. h.key ≡ key) passes
 
 -- the passes are the master's, and its journal is legal and a shuffle of their receipts
-pub record IsClosed (given : LimitNumbers) (book : Journal) (key : ℕ) (passes : List Held) : Type 0 where
+pub record IsClosed (given : LimitNumbers) (start : Rows) (book : Journal) (key : ℕ) (passes : List Held) : Type 0 where
   pub limits : book.limits ≡ given
-  pub legal : IsLegal given book.entries
+  pub legal : IsLegal given start book.entries
   pub own : AreOf key passes
   pub shuffle : IsShuffle book.entries (receipts_of passes)
 

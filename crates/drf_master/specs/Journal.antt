@@ -8,6 +8,7 @@ use Rattle.drf_core.specs.Machine.{Engine}
 use Rattle.drf_rows.specs.LimitNumbers.{LimitNumbers}
 use Rattle.drf_rows.specs.Step.{live_rows}
 use Rattle.drf_rows.specs.contracts.limits.Limits as limits
+use Rattle.drf_rows.specs.declared.rows.Rows.{Rows}
 
 -- its limits, its journal, and for how many more entries it has room
 pub record Journal : Type 0 where
@@ -31,28 +32,33 @@ pub record Adds (old new : Journal) (entry : Entry) : Type 0 where
   pub limits : new.limits ≡ old.limits
   pub entries : new.entries ≡ old.entries ++ entry ∷ []
 
--- a core under these limits has taken exactly the events of these entries, as far as its live rows tell
-pub record IsRunOf (given : LimitNumbers) (entries : List Entry) (engine : Engine) : Type 0 where
+-- a core under these limits with these rows, as far as its live rows tell
+pub record Begins (given : LimitNumbers) (start : Rows) (engine : Engine) : Type 0 where
   pub limits : engine.limits ≡ given
-  pub rows : live_rows engine.rows ≡ live_rows (rows_of given entries)
+  pub rows : live_rows engine.rows ≡ live_rows start
+
+-- a core under these limits that began with the rows `start` has taken exactly the events of these entries, as far as its live rows tell
+pub record IsRunOf (given : LimitNumbers) (start : Rows) (entries : List Entry) (engine : Engine) : Type 0 where
+  pub limits : engine.limits ≡ given
+  pub rows : live_rows engine.rows ≡ live_rows (rows_of given start entries)
 
 -- the entry may be added to the entries, after which this is the core
-pub record IsNext (given : LimitNumbers) (entries : List Entry) (engine : Engine) (entry : Entry) : Type 0 where
-  pub legal : IsLegal given (entries ++ entry ∷ [])
-  pub run : IsRunOf given (entries ++ entry ∷ []) engine
+pub record IsNext (given : LimitNumbers) (start : Rows) (entries : List Entry) (engine : Engine) (entry : Entry) : Type 0 where
+  pub legal : IsLegal given start (entries ++ entry ∷ [])
+  pub run : IsRunOf given start (entries ++ entry ∷ []) engine
 
 -- a core that has taken the first so many of the entries
-pub record HasTaken (given : LimitNumbers) (entries : List Entry) (engine : Engine) (taken : ℕ) : Type 0 where
+pub record HasTaken (given : LimitNumbers) (start : Rows) (entries : List Entry) (engine : Engine) (taken : ℕ) : Type 0 where
   pub few : taken ≤ length entries
-  pub run : IsRunOf given (take taken entries) engine
+  pub run : IsRunOf given start (take taken entries) engine
 
-abbrev pub HasTakenIfAny : LimitNumbers → List Entry → Option Engine → ℕ → Type 0
-HasTakenIfAny given entries None taken = Unit {0}
-HasTakenIfAny given entries (Some engine) taken = HasTaken given entries engine taken
+abbrev pub HasTakenIfAny : LimitNumbers → Rows → List Entry → Option Engine → ℕ → Type 0
+HasTakenIfAny given start entries None taken = Unit {0}
+HasTakenIfAny given start entries (Some engine) taken = HasTaken given start entries engine taken
 
--- What holds of a book at all times: its journal is legal, its core is the run of that, and its second core, if there is one, has taken
--- the first so many entries.
-pub record IsBook (entries : List Entry) (core : Engine) (second : Option Engine) (taken : ℕ) : Type 0 where
-  pub legal : IsLegal core.limits entries
-  pub run : IsRunOf core.limits entries core
-  pub second_run : HasTakenIfAny core.limits entries second taken
+-- What holds at all times of a book that began with the rows `start`: its journal is legal, its core is the run of that, and its second core,
+-- if there is one, has taken the first so many entries.
+pub record IsBook (start : Rows) (entries : List Entry) (core : Engine) (second : Option Engine) (taken : ℕ) : Type 0 where
+  pub legal : IsLegal core.limits start entries
+  pub run : IsRunOf core.limits start entries core
+  pub second_run : HasTakenIfAny core.limits start entries second taken

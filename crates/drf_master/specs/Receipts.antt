@@ -4,6 +4,7 @@ use Rattle.std.specs.Coded.{Coded, code_by, coded×, coded_ℕ, coded_list}
 use Rattle.drf_board.specs.History.{IsLegal}
 use Rattle.drf_board.specs.declared.entry.Entry.{Entry}
 use Rattle.drf_rows.specs.LimitNumbers.{LimitNumbers}
+use Rattle.drf_rows.specs.declared.rows.Rows.{Rows}
 use Rattle.drf_master.specs.contracts.pass.Receipt as receipt
 use Rattle.drf_master.specs.declared.pass.Receipt.{Receipt}
 
@@ -34,8 +35,8 @@ pub record IsNewPass (given : ℕ) (new : Held) : Type 0 where
   pub receipts : new.receipts ≡ []
 
 -- a told list is legal, and ends with the entry, at its place
-pub record IsTold (limits : LimitNumbers) (told : List Entry) (place : ℕ) (entry : Entry) : Type 0 where
-  pub legal : IsLegal limits told
+pub record IsTold (limits : LimitNumbers) (start : Rows) (told : List Entry) (place : ℕ) (entry : Entry) : Type 0 where
+  pub legal : IsLegal limits start told
   pub count : length told ≡ place + 1
   pub before : List Entry
   pub ends : told ≡ before ++ entry ∷ []

@@ -6,6 +6,7 @@ use Rattle.drf_board.specs.declared.entry.Entry.{Entry}
 use Rattle.drf_rows.specs.LimitNumbers.{LimitNumbers}
 use Rattle.drf_rows.specs.declared.event.Event.{Event}
 use Rattle.drf_rows.specs.declared.reply.Reply.{Reply}
+use Rattle.drf_rows.specs.declared.rows.Rows.{Rows}
 use Rattle.drf_master.specs.Calling.{IsCallFault}
 use Rattle.drf_master.specs.Closing.{AreOf, IsCloseFault}
 use Rattle.drf_master.specs.Matching.{IsFault, IsShuffle, receipts_of}
@@ -89,34 +90,34 @@ HasStopped asked stops worker (s ∷ ss) =
 -- ---- faults
 
 -- passes of the master with the key do not fit a legal journal
-abbrev pub IsMisfitOf : LimitNumbers → ℕ → List Held → DriveFault → Type 0
-IsMisfitOf given key passes (Close fault) = (journal : List Entry) × (IsLegal given journal × IsCloseFault journal key passes fault)
-IsMisfitOf given key passes _ = ⊥
+abbrev pub IsMisfitOf : LimitNumbers → Rows → ℕ → List Held → DriveFault → Type 0
+IsMisfitOf given start key passes (Close fault) = (journal : List Entry) × (IsLegal given start journal × IsCloseFault journal key passes fault)
+IsMisfitOf given start key passes _ = ⊥
 
 -- All scripts were run by passes of the master, but the passes do not fit a legal journal. Nobody is handed that journal or the receipts, so
 -- this says that there are such, as there always are where the passes had no receipts.
-pub record IsMisfit (given : LimitNumbers) (asked : ℕ → ℕ → Type 0) (key : ℕ) (passes : List Held) (scripts : List (Vec Event)) (fault : CloseFault) : Type 0 where
+pub record IsMisfit (given : LimitNumbers) (start : Rows) (asked : ℕ → ℕ → Type 0) (key : ℕ) (passes : List Held) (scripts : List (Vec Event)) (fault : CloseFault) : Type 0 where
   pub own : AreOf key passes
   pub calls : AreAsked asked 0 scripts
   pub journal : List Entry
-  pub legal : IsLegal given journal
+  pub legal : IsLegal given start journal
   pub replies : List (Vec Reply)
   pub lists : List (List Receipt)
   pub run : HaveRun passes scripts replies lists
   pub misfit : IsFault journal lists fault
 
-abbrev pub IsClosingFault : LimitNumbers → (ℕ → ℕ → Type 0) → ℕ → List Held → List (Vec Event) → CloseFault → Type 0
-IsClosingFault given asked key passes scripts why.Stranger = ¬ AreOf key passes
-IsClosingFault given asked key passes scripts why.Missing = IsMisfit given asked key passes scripts why.Missing
-IsClosingFault given asked key passes scripts (why.Mismatch place) = IsMisfit given asked key passes scripts (why.Mismatch place)
-IsClosingFault given asked key passes scripts why.Memory = IsMisfit given asked key passes scripts why.Memory
+abbrev pub IsClosingFault : LimitNumbers → Rows → (ℕ → ℕ → Type 0) → ℕ → List Held → List (Vec Event) → CloseFault → Type 0
+IsClosingFault given start asked key passes scripts why.Stranger = ¬ AreOf key passes
+IsClosingFault given start asked key passes scripts why.Missing = IsMisfit given start asked key passes scripts why.Missing
+IsClosingFault given start asked key passes scripts (why.Mismatch place) = IsMisfit given start asked key passes scripts (why.Mismatch place)
+IsClosingFault given start asked key passes scripts why.Memory = IsMisfit given start asked key passes scripts why.Memory
 
 -- Which fault is told when: a stranger where a pass is of another master; a stop where the gate stopped a worker before which no worker was
 -- stopped; another fault of closing where all workers made all their calls.
-abbrev pub IsDriveFault : LimitNumbers → (ℕ → ℕ → Type 0) → (ℕ → ℕ → Type 0) → ℕ → List Held → List (Vec Event) → DriveFault → Type 0
-IsDriveFault given asked stops key passes scripts Stopped = AreOf key passes × HasStopped asked stops 0 scripts
-IsDriveFault given asked stops key passes scripts Memory = AreOf key passes
-IsDriveFault given asked stops key passes scripts (Close fault) = IsClosingFault given asked key passes scripts fault
+abbrev pub IsDriveFault : LimitNumbers → Rows → (ℕ → ℕ → Type 0) → (ℕ → ℕ → Type 0) → ℕ → List Held → List (Vec Event) → DriveFault → Type 0
+IsDriveFault given start asked stops key passes scripts Stopped = AreOf key passes × HasStopped asked stops 0 scripts
+IsDriveFault given start asked stops key passes scripts Memory = AreOf key passes
+IsDriveFault given start asked stops key passes scripts (Close fault) = IsClosingFault given start asked key passes scripts fault
 
 -- ---- jobs
 

@@ -1,35 +1,37 @@
 //! A core with its journal.
 ghost use Rattle.std.specs.Prelude.{◌≡◌, ◌<◌, ◌≤◌, ◌-◌, ◌^◌, [], Some, length, vec_len, vec_capacity, IfOk, IfErr, OnOk, OnErr};
 ghost use Rattle.drf_board.specs.History.{IsLegal, entry};
+ghost use Rattle.drf_board.specs.Sheets.{IsSheet};
 ghost use Rattle.drf_core.specs.Machine.{IsAfter, IsSame};
-ghost use Rattle.drf_master.specs.Journal.{Adds, IsNext, IsRunOf, IsSameJournal};
+ghost use Rattle.drf_master.specs.Journal.{Adds, Begins, IsNext, IsRunOf, IsSameJournal};
 ghost use Rattle.drf_master.specs.Matching.{IsShuffle, IsFault, receipts_of};
 ghost use Rattle.drf_master.specs.declared.matching.CloseFault.TheVariants.{Memory};
 ghost use Rattle.drf_rows.specs.Report.{report_of};
-ghost use Rattle.drf_rows.specs.Step.{reply_to};
+ghost use Rattle.drf_rows.specs.Step.{opening, reply_to};
 
 use crate::follower::Second;
 use crate::matching::{CloseFault, matches};
 use crate::pass::Pass;
-use drf_board::Entry;
+use drf_board::{Entry, Naming, Sheet};
 use drf_core::{Core, Stepped};
 use drf_rows::{Copied, Event, Limits, Reply, Report};
 use drf_sorter::Sorter;
 use std::alloc::{AllocError, Global};
-use std::marker::Model;
+use std::marker::{Model, PhantomData};
 use std::mem::replace;
 
-/// A core, and the journal of what it was asked and what it answered: the core is the run of the journal's events, and each reply is
-/// the definition's. Contracts see its limits, its journal and how many entries it has room for.
-pub struct Book<S: Sorter> {
+/// A core, and the journal of what it was asked and what it answered: the core is the run of the journal's events from the rows that K names,
+/// and each reply is the definition's. Contracts see its limits, its journal and how many entries it has room for. A book that nobody names a
+/// slate for is a `Book<Brand, S>`, which begins with an empty cluster.
+pub struct Book<K: Naming, S: Sorter> {
     core: Core<S>,
     // Another core, behind that one, which works out what comes next.
-    second: Second<S>,
+    second: Second<K, S>,
     entries: Vec<Entry>,
 }
 
 // Written out, so that the proof of whoever drops a book sees one call, and not the drop of each field.
-impl<S: Sorter> Drop for Book<S> {
+impl<K: Naming, S: Sorter> Drop for Book<K, S> {
     fn drop(self) {
         let Book {
             core: _core,
@@ -39,7 +41,7 @@ impl<S: Sorter> Drop for Book<S> {
     }
 }
 
-impl<S: Sorter> Model for Book<S> {
+impl<K: Naming, S: Sorter> Model for Book<K, S> {
     ghost use Rattle.std.specs.Prelude.{◌-◌, vec_len, vec_capacity};
     ghost use Rattle.drf_master.specs.Journal.{Journal, journal_code, IsBook};
 
@@ -49,7 +51,7 @@ impl<S: Sorter> Model for Book<S> {
 
     ghost view = { λ b. record { limits = b.core.limits; entries = b.entries.items; room = vec_capacity b.entries - vec_len b.entries } };
 
-    ghost invariant = { λ b. IsBook b.entries.items b.core b.second.core b.second.taken };
+    ghost invariant = { λ b. IsBook K.start b.entries.items b.core b.second.core b.second.taken };
 }
 
 /// The core after one event more, and the entry that is to be added.
@@ -135,17 +137,28 @@ fn copied_entry(event: Event, kept: Event, stepped: Stepped) -> (Entry, Copies)
     (Entry { event, reply }, copies)
 }
 
-impl<S: Sorter> Book<S> {
+impl<K: Naming, S: Sorter> Book<K, S> {
     /// A core that was just opened, and an empty journal.
-    pub fn open(alloc: Global, limits: Limits) -> Result<Book<S>, AllocError>
+    pub fn open(alloc: Global, limits: Limits) -> Result<Book<K, S>, AllocError>
+        requires start { K.start ≡ opening }
         ensures limits { IfOk result (λ book. book.limits ≡ limits) }
         ensures entries { IfOk result (λ book. book.entries ≡ []) }
     {
-        Ok(Book {
-            core: Core::open(alloc, limits)?,
+        let core = Core::open(alloc, limits)?;
+        Ok(Book::open_from(alloc, core))
+    }
+
+    /// A core with the rows that K names, and an empty journal. It takes no memory.
+    pub fn open_from(alloc: Global, core: Core<S>) -> Book<K, S>
+        requires start { Begins core.limits K.start core }
+        ensures limits { result.limits ≡ core.limits }
+        ensures entries { result.entries ≡ [] }
+    {
+        Book {
+            core,
             second: Second::empty(),
             entries: Vec::new(alloc),
-        })
+        }
     }
 
     /// How many entries the journal has.
@@ -159,16 +172,26 @@ impl<S: Sorter> Book<S> {
     /// The journal, which is legal.
     pub fn entries(&self) -> &[Entry]
         ensures entries { result.now ≡ self.now.entries }
-        ensures legal { IsLegal self.now.limits self.now.entries }
+        ensures legal { IsLegal self.now.limits K.start self.now.entries }
     {
         self.entries.as_slice()
     }
 
     /// The core, which is the run of the journal.
     pub fn core(&self) -> &Core<S>
-        ensures { IsRunOf self.now.limits self.now.entries result.now }
+        ensures { IsRunOf self.now.limits K.start self.now.entries result.now }
     {
         &self.core
+    }
+
+    /// The sheet of the journal.
+    pub fn sheet(&self) -> Result<Sheet, AllocError>
+        ensures { IfOk result (IsSheet self.now.limits K.start self.now.entries) }
+    {
+        Ok(Sheet {
+            events: self.len(),
+            report: self.core.report()?,
+        })
     }
 
     /// The journal, without the core.
@@ -186,7 +209,7 @@ impl<S: Sorter> Book<S> {
     // The core after an event, and the reply to it. The journal stays as it is, and has room for one entry more.
     fn work_out(&mut self, event: &Event) -> Result<(Core<S>, Reply), AllocError>
         ensures same { IsSameJournal self.old self.new }
-        ensures next { IfOk result (λ r. IsNext self.new.limits self.new.entries r.0 (entry event.now r.1)) }
+        ensures next { IfOk result (λ r. IsNext self.new.limits K.start self.new.entries r.0 (entry event.now r.1)) }
         ensures room { OnOk result (0 < self.new.room) }
     {
         self.entries.reserve(1)?;
@@ -199,7 +222,7 @@ impl<S: Sorter> Book<S> {
     /// Works out what comes of an event, and makes room for its entry. The journal stays as it is.
     pub fn prepare(&mut self, event: Event) -> Result<Next<S>, AllocError>
         ensures same { IsSameJournal self.old self.new }
-        ensures next { IfOk result (λ next. IsNext self.new.limits self.new.entries next.core next.entry) }
+        ensures next { IfOk result (λ next. IsNext self.new.limits K.start self.new.entries next.core next.entry) }
         ensures event { IfOk result (λ next. next.entry.event ≡ event) }
         ensures room { OnOk result (0 < self.new.room) }
     {
@@ -218,7 +241,7 @@ impl<S: Sorter> Book<S> {
     /// Adds what was prepared, and answers its place in the journal, from 0. It takes no memory. The core from before is now the one
     /// behind.
     pub fn settle(&mut self, next: Next<S>) -> u64
-        requires next { IsNext self.old.limits self.old.entries next.core next.entry }
+        requires next { IsNext self.old.limits K.start self.old.entries next.core next.entry }
         requires room { 0 < self.old.room }
         ensures place { result ≡ length self.old.entries }
         ensures added { Adds self.old self.new next.entry }

@@ -1,5 +1,6 @@
 //! What the lock of a master holds.
 ghost use Rattle.std.specs.Prelude.{◌≡◌, ◌+◌, ◌<◌, ◌^◌, ◌++◌, ◌∷◌, [], length, IfOk, OnOk, OnErr};
+ghost use mathlib.Core.List.{IsPrefix};
 ghost use Rattle.drf_board.specs.Boards.{HasPublished};
 ghost use Rattle.drf_board.specs.History.{IsLegal, entry};
 ghost use Rattle.drf_master.specs.Journal.{Adds, IsNext, IsSameJournal};
@@ -7,7 +8,7 @@ ghost use Rattle.drf_master.specs.Receipts.{IsSamePass, Keeps};
 
 use crate::book::{Book, Copies, Next};
 use crate::pass::{Pass, Receipt};
-use drf_board::{Board, Entry, Naming, Sheet, Told};
+use drf_board::{Board, Entry, Naming, Sheet, Told, Viewer};
 use drf_rows::{Copied, Event, Reply};
 use drf_tree::TreeSorter;
 use std::alloc::AllocError;
@@ -19,7 +20,7 @@ pub type MasterSorter = TreeSorter;
 
 /// A book, and the board that shows it. Contracts see it as its journal, which by this type is the list of the board.
 pub struct Desk<K: Naming, R: Wait + Drop> {
-    book: Book<MasterSorter>,
+    book: Book<K, MasterSorter>,
     board: Board<K, R>,
 }
 
@@ -70,7 +71,7 @@ fn show<K: Naming, R: Wait + Drop>(
     next: &Next<MasterSorter>,
 ) -> Result<Told<K>, AllocError>
     requires place { (place ≡ length board.old.entries) × (place < 2 ^ 63) }
-    requires next { IsNext K.slate.limits board.old.entries next.now.core next.now.entry }
+    requires next { IsNext K.slate.limits K.start board.old.entries next.now.core next.now.entry }
     ensures ok { OnOk result (HasPublished board.old board.new next.now.entry) }
     ensures told { IfOk result (λ told. told ≡ board.new.entries) }
     ensures err { OnErr result (board.new ≡ board.old) }
@@ -91,7 +92,7 @@ fn show_copied<K: Naming, R: Wait + Drop>(
     next: &Next<MasterSorter>,
 ) -> Result<(Copies, Told<K>), AllocError>
     requires place { (place ≡ length board.old.entries) × (place < 2 ^ 63) }
-    requires next { IsNext K.slate.limits board.old.entries next.now.core next.now.entry }
+    requires next { IsNext K.slate.limits K.start board.old.entries next.now.core next.now.entry }
     ensures kept { IfOk result (λ r. r.0.kept ≡ next.now.entry) }
     ensures reply { IfOk result (λ r. r.0.reply ≡ next.now.entry.reply) }
     ensures ok { OnOk result (HasPublished board.old board.new next.now.entry) }
@@ -110,13 +111,13 @@ fn show_copied<K: Naming, R: Wait + Drop>(
 
 // Shows what was prepared, and then adds it to the book. All that asks for memory comes before anything is shown.
 fn answer_prepared<K: Naming, R: Wait + Drop>(
-    book: &mut Book<MasterSorter>,
+    book: &mut Book<K, MasterSorter>,
     board: &mut Board<K, R>,
     next: Next<MasterSorter>,
 ) -> Result<(Answer<K>, Receipt), AllocError>
     requires entries { board.old.entries ≡ book.old.entries }
     requires limits { book.old.limits ≡ K.slate.limits }
-    requires next { IsNext book.old.limits book.old.entries next.core next.entry }
+    requires next { IsNext book.old.limits K.start book.old.entries next.core next.entry }
     requires room { 0 < book.old.room }
     ensures added { OnOk result (Adds book.old book.new next.entry) }
     ensures shown { OnOk result (board.new.entries ≡ book.new.entries) }
@@ -142,7 +143,7 @@ fn answer_prepared<K: Naming, R: Wait + Drop>(
 
 // Adds an event to a book whose board nobody looks at, and to the board's list.
 fn answer_unseen<K: Naming, R: Wait + Drop>(
-    book: &mut Book<MasterSorter>,
+    book: &mut Book<K, MasterSorter>,
     board: &mut Board<K, R>,
     event: Event,
 ) -> Result<(Answer<K>, Receipt), AllocError>
@@ -168,7 +169,7 @@ fn answer_unseen<K: Naming, R: Wait + Drop>(
 
 impl<K: Naming, R: Wait + Drop> Desk<K, R> {
     /// A book with its board. It takes no memory.
-    pub fn new(book: Book<MasterSorter>, board: Board<K, R>) -> Desk<K, R>
+    pub fn new(book: Book<K, MasterSorter>, board: Board<K, R>) -> Desk<K, R>
         requires entries { board.entries ≡ book.entries }
         requires limits { book.limits ≡ K.slate.limits }
         ensures { result ≡ book.entries }
@@ -176,12 +177,28 @@ impl<K: Naming, R: Wait + Drop> Desk<K, R> {
         Desk { book, board }
     }
 
+    /// Tells a proof that a list that was told begins the journal. It changes nothing.
+    pub fn recall_told(&mut self, told: &Told<K>)
+        ensures same { self.new ≡ self.old }
+        ensures begins { IsPrefix told.now self.new }
+    {
+        self.board.recall_told(told);
+    }
+
+    /// The same of what a viewer saw or learnt.
+    pub fn recall_viewer(&mut self, viewer: &Viewer<K>)
+        ensures same { self.new ≡ self.old }
+        ensures begins { IsPrefix viewer.now self.new }
+    {
+        self.board.recall_viewer(viewer);
+    }
+
     /// Takes an event, a refused one too, and shows what comes of it. Where it finds no memory, journal and board stay as they are.
     pub fn answer(&mut self, event: Event) -> Result<Answer<K>, AllocError>
         ensures journal { IfOk result (λ answer. self.new ≡ self.old ++ entry event answer.reply ∷ []) }
         ensures told { IfOk result (λ answer. answer.told ≡ self.new) }
         ensures place { IfOk result (λ answer. answer.place ≡ length self.old) }
-        ensures legal { OnOk result (IsLegal K.slate.limits self.new) }
+        ensures legal { OnOk result (IsLegal K.slate.limits K.start self.new) }
         ensures err { OnErr result (self.new ≡ self.old) }
     {
         let (answer, _receipt) = self.answer_with_receipt(event)?;
@@ -193,7 +210,7 @@ impl<K: Naming, R: Wait + Drop> Desk<K, R> {
         ensures journal { IfOk result (λ r. self.new ≡ self.old ++ entry event r.0.reply ∷ []) }
         ensures told { IfOk result (λ r. r.0.told ≡ self.new) }
         ensures place { IfOk result (λ r. r.0.place ≡ length self.old) }
-        ensures legal { OnOk result (IsLegal K.slate.limits self.new) }
+        ensures legal { OnOk result (IsLegal K.slate.limits K.start self.new) }
         ensures receipt { IfOk result (λ r. r.1 ≡ record { place = r.0.place; entry = entry event r.0.reply }) }
         ensures err { OnErr result (self.new ≡ self.old) }
     {
@@ -214,7 +231,7 @@ impl<K: Naming, R: Wait + Drop> Desk<K, R> {
         ensures journal { IfOk result (λ answer. self.new ≡ self.old ++ entry event answer.reply ∷ []) }
         ensures told { IfOk result (λ answer. answer.told ≡ self.new) }
         ensures place { IfOk result (λ answer. answer.place ≡ length self.old) }
-        ensures legal { OnOk result (IsLegal K.slate.limits self.new) }
+        ensures legal { OnOk result (IsLegal K.slate.limits K.start self.new) }
         ensures kept { IfOk result (λ answer. Keeps pass.old pass.new answer.place (entry event answer.reply)) }
         ensures err { OnErr result ((self.new ≡ self.old) × IsSamePass pass.old pass.new) }
     {
@@ -224,7 +241,7 @@ impl<K: Naming, R: Wait + Drop> Desk<K, R> {
     }
 
     /// The book, which nobody shows any more.
-    pub fn into_book(self) -> Book<MasterSorter>
+    pub fn into_book(self) -> Book<K, MasterSorter>
         ensures entries { result.entries ≡ self }
         ensures limits { result.limits ≡ K.slate.limits }
     {
@@ -233,5 +250,15 @@ impl<K: Naming, R: Wait + Drop> Desk<K, R> {
             board: _board,
         } = self;
         book
+    }
+
+    /// The same, and the journal as a list that was told.
+    pub(crate) fn into_told(self) -> (Book<K, MasterSorter>, Told<K>)
+        ensures entries { result.0.entries ≡ self }
+        ensures limits { result.0.limits ≡ K.slate.limits }
+        ensures told { result.1 ≡ self }
+    {
+        let told = self.board.told();
+        (self.into_book(), told)
     }
 }

@@ -56,12 +56,12 @@ impl From<CallFault> for DriveFault {
 
 /// The book of a master that was driven and closed, and the replies to each script.
 #[derive(Drop)]
-pub struct Driven {
-    pub book: Book<MasterSorter>,
+pub struct Driven<K: Naming> {
+    pub book: Book<K, MasterSorter>,
     pub replies: Vec<Vec<Reply>>,
 }
 
-impl Driven {
+impl<K: Naming> Driven<K> {
     /// The journal, without the core and the replies.
     pub fn into_entries(self) -> Vec<Entry>
         ensures { result.items ≡ self.book.entries }
@@ -259,9 +259,9 @@ fn run_scripts<
 fn close_or_fault<K: Naming, R: Wait + Drop>(
     master: Master<K, R>,
     passes: Vec<Pass>,
-) -> Result<Book<MasterSorter>, DriveFault>
-    ensures closed { IfOk result (λ book. IsClosed K.slate.limits book master.key passes.items) }
-    ensures fault { IfErr result (IsMisfitOf K.slate.limits master.key passes.items) }
+) -> Result<Book<K, MasterSorter>, DriveFault>
+    ensures closed { IfOk result (λ book. IsClosed K.slate.limits K.start book master.key passes.items) }
+    ensures fault { IfErr result (IsMisfitOf K.slate.limits K.start master.key passes.items) }
 {
     match master.close(passes) {
         Ok(book) => Ok(book),
@@ -274,10 +274,10 @@ fn close_driven<K: Naming, R: Wait + Drop>(
     master: Master<K, R>,
     passes: Vec<Pass>,
     replies: Vec<Vec<Reply>>,
-) -> Result<Driven, DriveFault>
-    ensures closed { IfOk result (λ driven. IsClosed K.slate.limits driven.book master.key passes.items) }
+) -> Result<Driven<K>, DriveFault>
+    ensures closed { IfOk result (λ driven. IsClosed K.slate.limits K.start driven.book master.key passes.items) }
     ensures replies { IfOk result (λ driven. driven.replies ≡ replies) }
-    ensures fault { IfErr result (IsMisfitOf K.slate.limits master.key passes.items) }
+    ensures fault { IfErr result (IsMisfitOf K.slate.limits K.start master.key passes.items) }
 {
     match close_or_fault(master, passes) {
         Ok(book) => Ok(Driven { book, replies }),
@@ -303,14 +303,14 @@ pub fn drive<
     passes: Vec<Pass>,
     gate: &G,
     scripts: Vec<Vec<Event>>,
-) -> Result<Driven, DriveFault>
+) -> Result<Driven<K>, DriveFault>
     requires { length scripts.items ≡ length passes.items }
     ensures limits { IfOk result (λ driven. driven.book.limits ≡ K.slate.limits) }
-    ensures legal { IfOk result (λ driven. IsLegal K.slate.limits driven.book.entries) }
+    ensures legal { IfOk result (λ driven. IsLegal K.slate.limits K.start driven.book.entries) }
     ensures own { OnOk result (AreOf master.key passes.items) }
     ensures driven { IfOk result (λ driven. HasDriven passes.items scripts.items driven.replies.items driven.book.entries) }
     ensures asked { OnOk result (AreAsked (IsAsked (G.lets gate.now) (G.sees gate.now)) 0 scripts.items) }
-    ensures fault { IfErr result (IsDriveFault K.slate.limits (IsAsked (G.lets gate.now) (G.sees gate.now)) (G.stops gate.now) master.key passes.items scripts.items) }
+    ensures fault { IfErr result (IsDriveFault K.slate.limits K.start (IsAsked (G.lets gate.now) (G.sees gate.now)) (G.stops gate.now) master.key passes.items scripts.items) }
 {
     match run_scripts(rt, alloc, &master, passes, gate, scripts) {
         Ok((passes, replies)) => close_driven(master, passes, replies),

@@ -4,6 +4,7 @@ use Rattle.std.specs.Global.{Vec}
 use Rattle.drf_rows.specs.LimitNumbers.{LimitNumbers}
 use Rattle.drf_rows.specs.declared.event.Event.{Event}
 use Rattle.drf_rows.specs.declared.reply.Reply.{Reply}
+use Rattle.drf_rows.specs.declared.rows.Rows.{Rows}
 use Rattle.drf_master.specs.Closing.{IsClosed}
 use Rattle.drf_master.specs.Receipts.{Held}
 use Rattle.drf_master.specs.Scripts.{HasDriven, HaveAllRun, IsAsked, IsDriveFault, IsMisfitOf}
@@ -12,27 +13,28 @@ use Rattle.drf_master.specs.declared.driving.Driven.{Driven}
 use Rattle.drf_master.proofs.Scripts.{has-driven, misfit-fault}
 use Rattle.drf_master.proofs.driving.drive.Goals as goal
 
-driven-of : (given : LimitNumbers) (asked : ℕ → ℕ → Type 0) (key : ℕ) (own : List Held) (scripts : List (Vec Event)) (done : List Held)
-    (replies : Vec (Vec Reply)) (r : Result Driven DriveFault) → HaveAllRun asked key own scripts done replies.items
-    → IfOk r (λ driven. IsClosed given driven.book key done) → IfOk r (λ driven. driven.replies ≡ replies)
+driven-of : {K : Type 0} (given : LimitNumbers) (start : Rows) (asked : ℕ → ℕ → Type 0) (key : ℕ) (own : List Held) (scripts : List (Vec Event)) (done : List Held)
+    (replies : Vec (Vec Reply)) (r : Result (Driven K) DriveFault) → HaveAllRun asked key own scripts done replies.items
+    → IfOk r (λ driven. IsClosed given start driven.book key done) → IfOk r (λ driven. driven.replies ≡ replies)
     → IfOk r (λ driven. HasDriven own scripts driven.replies.items driven.book.entries)
-driven-of given asked key own scripts done replies (Ok driven) all closed same =
+driven-of given start asked key own scripts done replies (Ok driven) all closed same =
     subst (λ (told : Vec (Vec Reply)). HasDriven own scripts told.items driven.book.entries) (sym same)
     (has-driven asked key own scripts done replies.items driven.book.entries all closed.shuffle)
-driven-of given asked key own scripts done replies (Err fault) all closed same = tt
+driven-of given start asked key own scripts done replies (Err fault) all closed same = tt
 
 pub returns-in-Ok-clause-driven : goal.returns-in-Ok-clause-driven
 returns-in-Ok-clause-driven g c =
     let asked = IsAsked (g.G.Gate.lets c.args.gate.now) (g.G.Gate.sees c.args.gate.now) in
-    driven-of g.K.Naming.slate.limits asked c.args.master.key c.args.passes.items c.args.scripts.items c.in-Ok.passes.items c.in-Ok.replies
+    driven-of g.K.Naming.slate.limits g.K.Naming.start asked c.args.master.key c.args.passes.items c.args.scripts.items c.in-Ok.passes.items c.in-Ok.replies
     c.close_driven.result c.in-Ok.ensures.run c.close_driven.ensures.closed c.close_driven.ensures.replies
 
 pub returns-in-Ok-clause-fault : goal.returns-in-Ok-clause-fault
 returns-in-Ok-clause-fault g c =
     let given = g.K.Naming.slate.limits in
+    let start = g.K.Naming.start in
     let key = c.args.master.key in
     let asked = IsAsked (g.G.Gate.lets c.args.gate.now) (g.G.Gate.sees c.args.gate.now) in
     let stops = g.G.Gate.stops c.args.gate.now in
-    IfErr-weaker c.close_driven.result (IsMisfitOf given key c.in-Ok.passes.items) (IsDriveFault given asked stops key c.args.passes.items c.args.scripts.items)
-    (λ fault is. misfit-fault given asked stops key c.args.passes.items c.args.scripts.items c.in-Ok.passes.items c.in-Ok.replies.items fault c.in-Ok.ensures.run is)
+    IfErr-weaker c.close_driven.result (IsMisfitOf given start key c.in-Ok.passes.items) (IsDriveFault given start asked stops key c.args.passes.items c.args.scripts.items)
+    (λ fault is. misfit-fault given start asked stops key c.args.passes.items c.args.scripts.items c.in-Ok.passes.items c.in-Ok.replies.items fault c.in-Ok.ensures.run is)
     c.close_driven.ensures.fault

@@ -5,7 +5,7 @@ use Rattle.drf_master.proofs.Closing.{fault-own}
 use Rattle.drf_master.proofs.master.compare.Goals as goal
 
 pub returns-clause-fault : goal.returns-clause-fault
-returns-clause-fault c =
+returns-clause-fault g c =
     let journal = c.args.book.now.entries in
     let passes = c.args.passes.now in
     let own = c.are_of.ensures.0 c.if-not-are_of.false in

@@ -1,7 +1,5 @@
-use Rattle.drf_master.proofs.Followers.{book-opened}
+use Rattle.drf_master.proofs.Runs.{begins-opened}
 use Rattle.drf_master.proofs.book.Book.open.Goals as goal
 
-pub invariant_of-result : goal.invariant_of-result
-invariant_of-result g c =
-    book-opened c.args.limits c.in_ok-open.field-0 c.new.result.items c.empty.result.core c.empty.result.taken c.in_ok-open.ensures
-    c.new.ensures.items c.empty.ensures
+pub open_from-requires : goal.open_from-requires
+open_from-requires g c = record { start = begins-opened c.args.limits g.K.Naming.start c.in_ok-core.core c.requires.start c.in_ok-core.ensures }

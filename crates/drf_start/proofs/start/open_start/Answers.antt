@@ -1,0 +1,10 @@
+use Rattle.std.proofs.Common.{subst}
+use Rattle.drf_core.specs.Machine.{IsOpened}
+use Rattle.drf_rows.specs.LimitNumbers.{LimitNumbers}
+use Rattle.drf_start.proofs.Started.{is_open}
+use Rattle.drf_start.proofs.start.open_start.Goals as goal
+
+pub returns-clause-ok : goal.returns-clause-ok
+returns-clause-ok c =
+    let core = c.in_ok-open.field-0 in
+    is_open core (subst (λ (limits : LimitNumbers). IsOpened limits core) c.full.ensures c.in_ok-open.ensures)

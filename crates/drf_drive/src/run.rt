@@ -1,17 +1,20 @@
 //! Files that are run on threads.
 ghost use Rattle.std.specs.Prelude.{◌≡◌, ◌<◌, ◌≤◌, ℕ, List, length, map, true, false, IfOk, IfErr};
 ghost use Rattle.drf_board.specs.History.{IsLegal};
+ghost use Rattle.drf_core.specs.Machine.{live};
 ghost use Rattle.drf_files.specs.Files.{Known};
-ghost use Rattle.drf_drive.specs.Driven.{HasDrivenFiles, IsRunFault, IsShuffleOf, told_as};
+ghost use Rattle.drf_master.specs.Journal.{Begins};
+ghost use Rattle.drf_drive.specs.Driven.{HasDrivenFiles, IsNoJournal, IsRunFault, IsShuffleOf};
 ghost use Rattle.drf_drive.specs.JournalText.{is_write_fault};
 ghost use Rattle.drf_drive.specs.Scripts.{HasScripts};
 
 use crate::journal::{write_journal, write_nothing};
 use crate::script::{ScriptFault, read_scripts};
 use drf_board::{Brand, Entry, Naming, Slate};
+use drf_core::Core;
 use drf_files::FileBytes;
 use drf_journal::{Device, RunFault};
-use drf_master::{CloseFault, DriveFault, Master, OpenGate, drive};
+use drf_master::{CloseFault, DriveFault, Master, MasterSorter, OpenGate, drive};
 use drf_rows::{Event, Limits};
 use std::alloc::Global;
 use std::convert::AsStr;
@@ -39,23 +42,25 @@ impl From<DriveFault> for ScriptFault {
     }
 }
 
-// Runs scripts on a master whose slate has that name, which nobody looks at.
+// Runs scripts on a master whose slate has that name, which nobody looks at, and which begins with the core's rows.
 fn run_named<K: Naming + Send + Sync, W: Threads + Wait + Sync>(
     rt: &W,
     alloc: Global,
-    limits: Limits,
+    core: Core<MasterSorter>,
     slate: Slate,
     scripts: Vec<Vec<Event>>,
 ) -> Result<Vec<Entry>, DriveFault>
     requires named { slate.name ≡ K.slate }
-    requires limits { limits ≡ slate.name.limits }
+    requires start { Begins K.slate.limits K.start core }
     requires count { (1 ≤ length scripts.items) × (length scripts.items ≤ 64) }
-    ensures legal { IfOk result (λ journal. IsLegal limits journal.items) }
+    ensures legal { IfOk result (λ journal. IsLegal K.slate.limits K.start journal.items) }
     ensures shuffle { IfOk result (λ journal. IsShuffleOf scripts.items journal.items) }
-    ensures fault { IfErr result (λ fault. IsRunFault (told_as fault)) }
+    ensures fault { IfErr result (IsNoJournal K.slate.limits K.start scripts.items) }
 {
     let count = scripts.len() as u64;
-    let (master, passes, _viewers) = Master::<K, &W>::open(rt, alloc, KEY, limits, count, slate)?;
+    let (master, passes, _viewers) = Master::<K, &W>::open_from(
+        rt, alloc, KEY, core, count, slate,
+    )?;
     match drive(rt, alloc, master, passes, &OpenGate, scripts) {
         Ok(driven) => Ok(driven.into_entries()),
         Err(fault) => Err(fault),
@@ -67,15 +72,17 @@ fn run_scripts<W: Threads + Wait + Sync>(
     rt: &W,
     alloc: Global,
     limits: Limits,
+    core: Core<MasterSorter>,
     scripts: Vec<Vec<Event>>,
 ) -> Result<Vec<Entry>, ScriptFault>
+    requires limits { core.limits ≡ limits }
     requires count { (1 ≤ length scripts.items) × (length scripts.items ≤ 64) }
-    ensures legal { IfOk result (λ journal. IsLegal limits journal.items) }
+    ensures legal { IfOk result (λ journal. IsLegal limits (live core).rows journal.items) }
     ensures shuffle { IfOk result (λ journal. IsShuffleOf scripts.items journal.items) }
-    ensures fault { IfErr result IsRunFault }
+    ensures fault { IfErr result (IsRunFault limits (live core).rows scripts.items) }
 {
     let slate = Slate::open(0, limits)?;
-    Ok(run_named::<Brand, W>(rt, alloc, limits, slate, scripts)?)
+    Ok(run_named::<Brand, W>(rt, alloc, core, slate, scripts)?)
 }
 
 // Runs scripts, which are what the lines of some files mean, and writes the journal.
@@ -83,37 +90,41 @@ fn drive_scripts<W: Threads + Wait + Sync, O: Write>(
     rt: &W,
     alloc: Global,
     limits: Limits,
+    core: Core<MasterSorter>,
     scripts: Vec<Vec<Event>>,
     writer: &mut Device<O>,
 ) -> Result<(), ScriptFault>
+    requires limits { core.limits ≡ limits }
     requires count { (1 ≤ length scripts.items) × (length scripts.items ≤ 64) }
     requires writer { writer.old.failed ≡ false }
-    ensures driven { (known : Known) → (names : List (List ℕ)) → HasScripts known names scripts.items → HasDrivenFiles limits known names (O.contents writer.old.inner) (O.contents writer.new.inner) result }
+    ensures driven { (known : Known) → (names : List (List ℕ)) → HasScripts known names scripts.items → HasDrivenFiles (live core) known names (O.contents writer.old.inner) (O.contents writer.new.inner) result }
     ensures failed { writer.new.failed ≡ is_write_fault result }
     ensures flushed { writer.old.flushed ≡ true → writer.new.failed ≡ false → writer.new.flushed ≡ true }
 {
-    let journal = run_scripts(rt, alloc, limits, scripts)?;
+    let journal = run_scripts(rt, alloc, limits, core, scripts)?;
     let written = write_journal(alloc, journal.as_slice(), writer);
     // Its memory is left to the system: the command ends behind it, and entry by entry that takes a while.
     mem::forget(journal);
     written
 }
 
-/// Reads files of event lines, at most 64, runs each on a thread of its own, on one master, and writes the journal: for each call the line of
-/// the event and that of the reply. A file that cannot be read is told before any line that is no event, and of such lines the first one of
+/// Reads files of event lines, at most 64, runs each on a thread of its own, on one master that begins with a core, and writes the journal:
+/// for each call the line of the event and that of the reply. A file that cannot be read is told before any line that is no event, and of such lines the first one of
 /// the first file that has one. Nothing is written then. It is for a program that ends behind it: the memory of a journal that was written is
 /// not given back.
 pub fn run_drive<W: Threads + Wait + Sync, F: FileBytes, S: AsStr, O: Write>(
     rt: &W,
     alloc: Global,
     limits: Limits,
+    core: Core<MasterSorter>,
     files: &mut F,
     names: &[S],
     writer: &mut Device<O>,
 ) -> Result<(), ScriptFault>
+    requires limits { core.limits ≡ limits }
     requires few { length names.now ≤ 64 }
     requires writer { writer.old.failed ≡ false }
-    ensures driven { HasDrivenFiles limits (F.known files.old) (map S.text names.now) (O.contents writer.old.inner) (O.contents writer.new.inner) result }
+    ensures driven { HasDrivenFiles (live core) (F.known files.old) (map S.text names.now) (O.contents writer.old.inner) (O.contents writer.new.inner) result }
     ensures failed { writer.new.failed ≡ is_write_fault result }
     ensures flushed { writer.old.flushed ≡ true → writer.new.failed ≡ false → writer.new.flushed ≡ true }
 {
@@ -121,5 +132,5 @@ pub fn run_drive<W: Threads + Wait + Sync, F: FileBytes, S: AsStr, O: Write>(
         return write_nothing(alloc, writer);
     }
     let scripts = read_scripts(rt, alloc, files, names)?;
-    drive_scripts(rt, alloc, limits, scripts, writer)
+    drive_scripts(rt, alloc, limits, core, scripts, writer)
 }

@@ -31,7 +31,7 @@ pub enum ScriptFault {
     Run(RunFault),
     /// A line is no event: the first one of the first file that has such a line.
     Line(BadLine),
-    /// All lines are events, but the journal that was found is no shuffle of what the threads were told. No clause says more of it.
+    /// All lines are events, but the journal that was found is no shuffle of what the threads were told.
     Close,
 }
 

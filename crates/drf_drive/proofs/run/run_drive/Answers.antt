@@ -1,6 +1,7 @@
 use Rattle.std.proofs.Common.{◌≡◌, ◌≤◌, [], length, map, refl, ◌∙◌, arith}
 use Rattle.std.proofs.lemmas.Bool.Decides.{nat_tests}
 use Rattle.std.proofs.lemmas.List.{length-map}
+use Rattle.drf_core.specs.Machine.{live}
 use Rattle.drf_drive.proofs.Endings.{journal-none, scripts-few, scripts-none, written-ends}
 use Rattle.drf_drive.proofs.run.run_drive.Goals as goal
 
@@ -9,7 +10,7 @@ returns-then-is_empty-clause-driven g c =
     let names = map g.S.AsStr.text c.args.names.now in
     let count : length names ≡ 0 = length-map c.args.names.now g.S.AsStr.text ∙ grind (arith, nat_tests) in
     let known = g.F.FileBytes.known c.args.files.now in
-    written-ends c.args.limits known names [] (journal-none c.args.limits known names [] (scripts-none known names count) refl) c.write_nothing.result _ _
+    written-ends (live c.args.core) known names [] (journal-none (live c.args.core) known names [] (scripts-none known names count) refl) c.write_nothing.result _ _
     c.write_nothing.ensures.ok c.write_nothing.ensures.err
 
 pub drive_scripts-requires-clause-count : goal.drive_scripts-requires-clause-count

@@ -1,9 +1,9 @@
--- The cells of a row, one after the other.
-use Rattle.std.specs.Prelude.{◌≡◌, ℕ, suc, ◌+◌, ◌<◌, ◌≤◌, List, [], ◌∷◌, ◌++◌, drop, get_or, length, map, take}
-use Rattle.std.proofs.Common.{refl, sym, ap, ◌∙◌, append_assoc, arith}
-use Rattle.std.proofs.lemmas.List.{append-nil, at_drop_more, at_drop_all, map-append, take_more}
+-- The cells of a row, one after the other: with those that are left the text is that of all.
+use Rattle.std.specs.Prelude.{◌≡◌, ℕ, ◌+◌, ◌<◌, List, ◌∷◌, ◌++◌, drop, get_or, length, map}
+use Rattle.std.proofs.Common.{sym, ap, ◌∙◌, append_assoc}
+use Rattle.std.proofs.lemmas.List.{at_drop_more}
 use Rattle.drf_role.specs.Text.{Text}
-use Rattle.drf_show.specs.Aligned.{Cells, cells_text, padded}
+use Rattle.drf_show.specs.Aligned.{cells_text, padded}
 
 module _ {X : Type 0} (text_in : X → Text) (width : ℕ → ℕ) (cells : List X) where
   abbrev left : ℕ → List ℕ
@@ -24,21 +24,4 @@ module _ {X : Type 0} (text_in : X → Text) (width : ℕ → ℕ) (cells : List
       (λ j. added j ++ here j)
       ∙ append_assoc old (padded (width i) (text_in cell)) (cells_text width (i + 1) (map text_in (next ∷ rest)))
       ∙ ap (λ (t : List ℕ). old ++ t) (sym whole_left)
-      ∙ so_far
-
-  -- the last cell
-  pub cell_last : (old new whole : List ℕ) (i : ℕ) (cell : X) → i < length cells → i + 1 ≡ length cells → cell ≡ get_or cells i cell
-      → old ++ left i ≡ whole → new ≡ old ++ text_in cell → new ≡ whole
-  cell_last old new whole i cell inside last is so_far added =
-      added
-      ∙ ap (λ (t : List ℕ). old ++ t) (sym (at_drop_more (λ (cs : List X). cells_text width i (map text_in cs)) cells i cell inside
-      ∙ at_drop_all (λ (cs : List X). cells_text width i (map text_in (get_or cells i cell ∷ cs))) cells (i + 1) (omega (arith, last))
-      ∙ ap text_in (sym is)))
-      ∙ so_far
-
-  -- no cell is left
-  pub cells_over : (text whole : List ℕ) (i : ℕ) → length cells ≤ i → text ++ left i ≡ whole → text ≡ whole
-  cells_over text whole i past so_far =
-      sym (append-nil text)
-      ∙ ap (λ (t : List ℕ). text ++ t) (sym (at_drop_all (λ (cs : List X). cells_text width i (map text_in cs)) cells i past))
       ∙ so_far

@@ -67,8 +67,10 @@ widened_more old now new cells column cell front so_far widened = λ q. by q (ca
       where
         same' : column ≡ q
         same' = sym same
+
         nothing : q - column ≡ 0
         nothing = omega (arith, same)
+
         there : cell ≡ get_or (cells ++ cell ∷ []) q []
         there = sym (get_or-append_right cells (cell ∷ []) column q [] front (omega (arith, same)) ∙ ap (λ n. get_or (cell ∷ []) n []) nothing)
     by q (inr (inl before)) =

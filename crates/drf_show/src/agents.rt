@@ -20,7 +20,7 @@ use std::alloc::{AllocError, Global};
 use std::thread::Threads;
 
 /// An agent with all its resources, what is held there and what is free, and how many offers and tasks hold it.
-#[derive(Debug, Drop)]
+#[derive(Drop)]
 pub(crate) struct AgentLine {
     pub(crate) agent: Name,
     pub(crate) active: bool,

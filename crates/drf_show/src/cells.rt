@@ -28,10 +28,7 @@ impl Model for Row {
 }
 
 /// A fraction as text.
-pub(crate) fn write_fraction(
-    alloc: Global,
-    fraction: (u128, u128),
-) -> Result<String, AllocError>
+pub(crate) fn write_fraction(alloc: Global, fraction: (u128, u128)) -> Result<String, AllocError>
     ensures { IfOk result (λ text. string_bytes text ≡ fraction_text fraction) }
 {
     let (part, whole) = fraction;

@@ -20,7 +20,7 @@ use serde_json::{Value, json};
 use std::alloc::{AllocError, Global};
 
 /// A client: how many offers it got, and the scalars that are offered to it and that its tasks use.
-#[derive(Debug, Drop)]
+#[derive(Drop)]
 pub(crate) struct ClientLine {
     pub(crate) framework: Name,
     pub(crate) role: Role,

@@ -17,7 +17,7 @@ use serde_json::{Value, json};
 use std::alloc::{AllocError, Global};
 
 /// A filter of a client on an agent, with its end and the time that is left until then, in milliseconds.
-#[derive(Debug, Drop)]
+#[derive(Drop)]
 pub(crate) struct FilterLine {
     pub(crate) framework: Name,
     pub(crate) role: Role,

@@ -7,11 +7,7 @@ use serde_json::Value;
 use std::alloc::{AllocError, Global};
 
 /// Adds a value without a float.
-pub(crate) fn push_value(
-    alloc: Global,
-    value: &Value,
-    text: &mut Vec<u8>,
-) -> Result<(), AllocError>
+pub(crate) fn push_value(alloc: Global, value: &Value, text: &mut Vec<u8>) -> Result<(), AllocError>
     requires { has_float (view value.now) ≡ false }
     ensures { OnOk result (text.new.items ≡ text.old.items ++ compact_text (view value.now)) }
 {

@@ -13,7 +13,7 @@ use serde_json::{Value, json};
 use std::alloc::{AllocError, Global};
 
 /// The limit of a role, and what it consumes of each scalar that the limit names, in thousandths.
-#[derive(Debug, Drop)]
+#[derive(Drop)]
 pub(crate) struct LimitLine {
     pub(crate) role: Role,
     pub(crate) limit: Quantities,

@@ -44,11 +44,7 @@ fn rows_of<T: Shown>(alloc: Global, items: &[T]) -> Result<Vec<Row>, AllocError>
 }
 
 /// Adds the lines of rows.
-fn push_lines<T: Shown>(
-    alloc: Global,
-    items: &[T],
-    text: &mut Vec<u8>,
-) -> Result<(), AllocError>
+fn push_lines<T: Shown>(alloc: Global, items: &[T], text: &mut Vec<u8>) -> Result<(), AllocError>
     ensures { OnOk result (text.new.items ≡ text.old.items ++ flat_map (λ r. r.line ++ 10 ∷ []) (map T.shown items.now)) }
 {
     for item in items {

@@ -15,7 +15,7 @@ use serde_json::{Value, json};
 use std::alloc::{AllocError, Global};
 
 /// What has a limit.
-#[derive(Clone, Copy, Debug, PartialEq, Eq)]
+#[derive(Clone, Copy)]
 pub(crate) enum CountedTable {
     Agents,
     ScalarNames,
@@ -46,7 +46,7 @@ impl CountedTable {
 }
 
 /// A table, how many rows stand in it, and how many may.
-#[derive(Clone, Copy, Debug)]
+#[derive(Clone, Copy)]
 pub(crate) struct TableLine {
     pub(crate) table: CountedTable,
     pub(crate) rows: u64,
@@ -108,12 +108,32 @@ pub(crate) fn table_lines(
     let clients = count_clients(rows.frameworks.as_slice());
     let filters = count_in_force(rows.clock, rows.filters.as_slice());
     let mut lines = Vec::new(alloc);
-    push_table_line(&mut lines, Agents, rows.agents.len() as u64, limits.agents())?;
+    push_table_line(
+        &mut lines,
+        Agents,
+        rows.agents.len() as u64,
+        limits.agents(),
+    )?;
     push_table_line(&mut lines, ScalarNames, scalar_names, limits.scalar_names())?;
-    push_table_line(&mut lines, Frameworks, rows.frameworks.len() as u64, limits.frameworks())?;
+    push_table_line(
+        &mut lines,
+        Frameworks,
+        rows.frameworks.len() as u64,
+        limits.frameworks(),
+    )?;
     push_table_line(&mut lines, Clients, clients, limits.clients())?;
-    push_table_line(&mut lines, Weights, rows.weights.len() as u64, limits.weights())?;
-    push_table_line(&mut lines, Limits, rows.limits.len() as u64, limits.limits())?;
+    push_table_line(
+        &mut lines,
+        Weights,
+        rows.weights.len() as u64,
+        limits.weights(),
+    )?;
+    push_table_line(
+        &mut lines,
+        Limits,
+        rows.limits.len() as u64,
+        limits.limits(),
+    )?;
     push_table_line(&mut lines, Filters, filters, limits.filters())?;
     push_table_line(&mut lines, Events, rows.events, limits.events())?;
     Ok(lines)

@@ -36,12 +36,7 @@ fn push_behind<T: Shown>(
     push_shown(alloc, form, items, text)
 }
 
-fn push_head(
-    alloc: Global,
-    form: Form,
-    rows: &Rows,
-    text: &mut Vec<u8>,
-) -> Result<(), AllocError>
+fn push_head(alloc: Global, form: Form, rows: &Rows, text: &mut Vec<u8>) -> Result<(), AllocError>
     ensures { OnOk result (text.new.items ≡ text.old.items ++ table_in form (head_table rows.now)) }
 {
     let head = Head {
@@ -78,12 +73,7 @@ fn push_clients(
     push_behind(alloc, form, &lines, text)
 }
 
-fn push_limits(
-    alloc: Global,
-    form: Form,
-    rows: &Rows,
-    text: &mut Vec<u8>,
-) -> Result<(), AllocError>
+fn push_limits(alloc: Global, form: Form, rows: &Rows, text: &mut Vec<u8>) -> Result<(), AllocError>
     requires { IsFit rows.now }
     ensures { OnOk result (text.new.items ≡ text.old.items ++ behind form (limit_table rows.now)) }
 {
@@ -158,6 +148,7 @@ pub fn show<S: Sorter>(
     requires limits { core.now.limits ≡ limits.now }
     ensures { IfOk result (λ text. text.items ≡ shown form limits.now core.now.rows) }
 {
+    // The contract of this call tells that the limits are within their ceilings, and so that the rows are few.
     let _ = limits.agents();
     let rows = core.rows()?;
     let report = core.report()?;

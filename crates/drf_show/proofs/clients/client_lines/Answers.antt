@@ -14,8 +14,8 @@ returns c =
     let used = parts_in c.in_ok-used.used in
     let each : (f : FrameworkRow) → map (client_line_by offered used f) f.clients ≡ map (client_line rows f) f.clients =
     λ f i. map (λ k. client_line_is rows offered used f k
-        (λ name. c.in_ok-offered.ensures name ∙ ap (λ os. parts_for name (map of_offer os)) c.as_slice.ensures)
-        (λ name. c.in_ok-used.ensures name ∙ ap (λ ts. parts_for name (map of_task ts)) c.as_slice-2.ensures) i) f.clients in
+    (λ name. c.in_ok-offered.ensures name ∙ ap (λ os. parts_for name (map of_offer os)) c.as_slice.ensures)
+    (λ name. c.in_ok-used.ensures name ∙ ap (λ ts. parts_for name (map of_task ts)) c.as_slice-2.ensures) i) f.clients in
     subst (λ (ls : List ClientLine). IfOk c.lines_of.result (λ lines. lines.items ≡ ls))
     (ap (λ (fs : List FrameworkRow). flat_map (λ (f : FrameworkRow). map (client_line_by offered used f) f.clients) fs) c.as_slice-3.ensures
     ∙ (λ i. flat_map (λ f. each f i) rows.frameworks))

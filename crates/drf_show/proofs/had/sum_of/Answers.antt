@@ -15,18 +15,18 @@ loop-part-preserved c =
     record {
       sum = next_sum role parts i part c.loop-part-test.true c.part-item.is c.in_ok-sum.sum (c.in_ok-sum.ensures.sum ∙ ap (λ (s : List Entry). sum_with role s now) c.loop-part.invariant.sum);
       room = λ label. omega (
-            arith,
-            c.loop-part.invariant.room label,
-            left_there role parts i part c.loop-part-test.true c.part-item.is label,
-            ap (λ (es : List Entry). amount_of es label) c.in_ok-sum.ensures.sum,
-            sum_with-le role c.loop-part.sum now label c.in_ok-sum.ensures.in_order,
-          );
+        arith,
+        c.loop-part.invariant.room label,
+        left_there role parts i part c.loop-part-test.true c.part-item.is label,
+        ap (λ (es : List Entry). amount_of es label) c.in_ok-sum.ensures.sum,
+        sum_with-le role c.loop-part.sum now label c.in_ok-sum.ensures.in_order,
+      );
     }
 
 pub with_part-requires : goal.with_part-requires
 with_part-requires c = λ label. omega (
-      arith,
-      c.requires label,
-      c.loop-part.invariant.room label,
-      left_there c.args.role.now c.args.parts.now c.loop-part.part-index c.part-item.result c.loop-part-test.true c.part-item.is label,
-    )
+  arith,
+  c.requires label,
+  c.loop-part.invariant.room label,
+  left_there c.args.role.now c.args.parts.now c.loop-part.part-index c.part-item.result c.loop-part-test.true c.part-item.is label,
+)

@@ -1,12 +1,13 @@
 -- The form of the command line, and what its words ask for.
-use Rattle.std.specs.Prelude.{◌≡◌, ◌≤◌, true, List, [], length, map, take, Some, codes, unwrap_or}
-use Rattle.clap.specs.Words.{App, Row, Rule, Shape, Text, HasKind, all_of, fault_of, new_app, new_rule, subcommand_of, with_rule, with_subcommand}
+use Rattle.std.specs.Prelude.{◌≡◌, ◌≤◌, true, List, [], length, map, option_map, take, Some, codes, unwrap_or}
+use Rattle.clap.specs.Words.{App, Row, Rule, Shape, Text, HasKind, all_of, fault_of, first_of, new_app, new_rule, subcommand_of, with_rule, with_subcommand}
 use Rattle.clap.specs.Simple.{on_top}
 use Rattle.clap.specs.declared.builder.action.ArgAction.TheVariants.{Append}
 use Rattle.clap.specs.declared.error.Error.{Error}
+use Rattle.drf_start.specs.Line.{from_option}
 use Rattle.drf_drive_app.specs.declared.line.Task.{Task}
 
--- `drive FILE..`, of 1 to 64 files
+-- of 1 to 64 files
 abbrev pub file_words : Rule
 file_words = record (new_rule (codes "FILE")) {
   required = true;
@@ -14,8 +15,9 @@ file_words = record (new_rule (codes "FILE")) {
   action = Some Append;
 }
 
+-- `drive [--from STATE] FILE..`
 abbrev pub drive_line : App
-drive_line = with_rule (new_app (codes "drive")) file_words
+drive_line = with_rule (with_rule (new_app (codes "drive")) from_option) file_words
 
 -- `drf drive`, which has a version
 abbrev pub drf_top : Shape → Shape
@@ -28,11 +30,12 @@ drf_line = with_subcommand (on_top drf_top (new_app (codes "drf"))) drive_line.t
 pub record SaysFiles (rows : List Row) (files : List Text) : Type 0 where
   pub named : files ≡ take 64 (unwrap_or (all_of (codes "FILE") rows) [])
 
--- the words name the command and its files
+-- the words name the command, its files, and the file with the state that it begins with, if it begins with one
 pub record IsNamed (words : List Text) (task : Task) : Type 0 where
   pub rows : List Row
   pub entered : subcommand_of drf_line words ≡ Some (codes "drive", rows)
   pub files : SaysFiles rows (map (λ file. file.now) task.files.items)
+  pub from : option_map (λ name. name.now) task.from ≡ first_of (codes "from") rows
 
 -- there are no more than 64 files
 abbrev pub IsWithinBounds : Task → Type 0

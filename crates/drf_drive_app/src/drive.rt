@@ -1,12 +1,15 @@
 //! A drive of files, and what is told of it.
 ghost use Rattle.std.specs.Prelude.{◌≡◌, ◌≤◌, [], true, false, length, map, slice_get, unwrap_or};
+ghost use Rattle.drf_core.specs.Machine.{live};
+ghost use Rattle.drf_rows.specs.LimitNumbers.{ceilings};
 ghost use Rattle.drf_told.specs.Streams.{Stream, stream_of};
 ghost use Rattle.drf_drive_app.specs.Done.{HasDriven};
 ghost use Rattle.drf_drive_app.specs.Drives.{HasToldDrive};
 
+use drf_core::Core;
 use drf_drive::{ScriptFault, run_drive};
 use drf_files::FileBytes;
-use drf_journal::Device;
+use drf_journal::{Device, ProgramSorter};
 use drf_rows::Limits;
 use drf_told::{RefusedLine, finish, tell, tell_line};
 use std::alloc::Global;
@@ -52,24 +55,26 @@ fn tell_end<E: Write>(
     }
 }
 
-/// Runs files side by side and writes the journal on `output`.
+/// Runs files side by side, on one master that begins with an allocator within the full limits, and writes the journal on `output`.
 pub(crate) fn drive_files<F: FileBytes, W: Write, E: Write>(
     rt: &(impl Threads + Wait + Sync),
     alloc: Global,
+    core: Core<ProgramSorter>,
     files: &mut F,
     names: &[&str],
     output: &mut Device<W>,
     errors: &mut Device<E>,
 ) -> u8
+    requires limits { core.limits ≡ ceilings }
     requires few { length names.now ≤ 64 }
     requires output { output.old.failed ≡ false }
     requires errors { errors.old.failed ≡ false }
-    ensures driven { (input : Stream) → HasDriven (F.known files.old) (map (λ name. name.now) names.now)
+    ensures driven { (input : Stream) → HasDriven (live core) (F.known files.old) (map (λ name. name.now) names.now)
         (record { input = input; output = stream_of W.contents output.old; errors = stream_of E.contents errors.old })
         (record { input = input; output = stream_of W.contents output.new; errors = stream_of E.contents errors.new })
         result }
     ensures flushed { output.old.flushed ≡ true → output.new.failed ≡ false → output.new.flushed ≡ true }
 {
-    let ended = run_drive(rt, alloc, Limits::full(), files, names, output);
+    let ended = run_drive(rt, alloc, Limits::full(), core, files, names, output);
     tell_end(alloc, names, ended, errors)
 }

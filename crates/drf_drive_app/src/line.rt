@@ -4,6 +4,7 @@ ghost use Rattle.clap.specs.Words.{app_of, found_of, rows_of};
 ghost use Rattle.drf_drive_app.specs.Line.{drf_line, drive_line, Asks, IsRefused, SaysFiles};
 
 use clap::{Arg, ArgAction, ArgMatches, Command, Error};
+use drf_start::from_option;
 use std::alloc::{AllocError, Global};
 use std::convert::AsStr;
 
@@ -11,6 +12,8 @@ use std::convert::AsStr;
 #[derive(Debug, Drop)]
 pub struct Task<'a> {
     pub files: Vec<&'a str>,
+    /// The file with the state that the drive begins with; without it there are no rows.
+    pub from: Option<&'a str>,
 }
 
 /// How many files run side by side at most.
@@ -31,6 +34,7 @@ fn drive_line<'a>(alloc: Global) -> Result<Command<'a>, AllocError>
             "Runs files of event lines side by side, each on a thread of its own, and writes the journal",
         )
         .after_help("Example: drf drive examples/first.jsonl examples/teams.jsonl | drf check")
+        .arg(from_option(alloc))?
         .arg(files)
 }
 
@@ -75,5 +79,6 @@ pub(crate) fn task_of<'a, S: AsStr>(alloc: Global, words: &'a [S]) -> Result<Tas
         unreachable!()
     };
     let files = files_of(alloc, command)?;
-    Ok(Task { files })
+    let from = command.get_str("from");
+    Ok(Task { files, from })
 }

@@ -4,7 +4,7 @@ use crate::lines::{
     AGENT, CYCLE, FRAMEWORK, LIMIT, NO_LIMIT, OTHER_AGENT, append_entries, append_placed,
 };
 use anyhow::{Context, Result};
-use drf_board::Entry;
+use drf_board::{Brand, Entry};
 use drf_lines::read_event;
 use drf_master::{Book, MasterSorter, Pass};
 use drf_rows::Limits;
@@ -20,7 +20,12 @@ enum Taking<'a> {
     OneStep(&'a [&'a str]),
 }
 
-fn take(alloc: Global, told: &mut String, book: &mut Book<MasterSorter>, line: &str) -> Result<()> {
+fn take(
+    alloc: Global,
+    told: &mut String,
+    book: &mut Book<Brand, MasterSorter>,
+    line: &str,
+) -> Result<()> {
     let event = read_event(alloc, line.as_bytes())?;
     let (reply, place) = book.take(event)?;
     append_placed(alloc, told, place, &reply)
@@ -30,7 +35,7 @@ fn take(alloc: Global, told: &mut String, book: &mut Book<MasterSorter>, line: &
 fn settle(
     alloc: Global,
     told: &mut String,
-    book: &mut Book<MasterSorter>,
+    book: &mut Book<Brand, MasterSorter>,
     line: &str,
 ) -> Result<()> {
     let event = read_event(alloc, line.as_bytes())?;
@@ -48,7 +53,7 @@ fn append_last(alloc: Global, told: &mut String, place: u64, entries: &[Entry]) 
 fn give_up(
     alloc: Global,
     told: &mut String,
-    book: &mut Book<MasterSorter>,
+    book: &mut Book<Brand, MasterSorter>,
     line: &str,
 ) -> Result<()> {
     let event = read_event(alloc, line.as_bytes())?;
@@ -60,7 +65,7 @@ fn give_up(
 fn take_each(
     alloc: Global,
     told: &mut String,
-    book: &mut Book<MasterSorter>,
+    book: &mut Book<Brand, MasterSorter>,
     lines: &[&str],
 ) -> Result<()> {
     for line in lines {
@@ -70,7 +75,7 @@ fn take_each(
 }
 
 // Each way of taking an event after each other one.
-fn take_all(alloc: Global, told: &mut String, book: &mut Book<MasterSorter>) -> Result<()> {
+fn take_all(alloc: Global, told: &mut String, book: &mut Book<Brand, MasterSorter>) -> Result<()> {
     settle(alloc, told, book, AGENT)?;
     take(alloc, told, book, FRAMEWORK)?;
     give_up(alloc, told, book, CYCLE)?;
@@ -79,7 +84,7 @@ fn take_all(alloc: Global, told: &mut String, book: &mut Book<MasterSorter>) -> 
 }
 
 // A limit that is set, taken away and set again. After an event that is given up the second core is a copy, which shares the limits.
-fn limit_all(alloc: Global, told: &mut String, book: &mut Book<MasterSorter>) -> Result<()> {
+fn limit_all(alloc: Global, told: &mut String, book: &mut Book<Brand, MasterSorter>) -> Result<()> {
     settle(alloc, told, book, LIMIT)?;
     give_up(alloc, told, book, CYCLE)?;
     settle(alloc, told, book, NO_LIMIT)?;
@@ -93,7 +98,7 @@ fn limit_all(alloc: Global, told: &mut String, book: &mut Book<MasterSorter>) ->
 fn fill(
     alloc: Global,
     told: &mut String,
-    book: &mut Book<MasterSorter>,
+    book: &mut Book<Brand, MasterSorter>,
     taking: Taking<'_>,
 ) -> Result<()> {
     match taking {
@@ -108,7 +113,7 @@ fn fill(
 fn append_match(
     told: &mut String,
     name: &str,
-    book: &Book<MasterSorter>,
+    book: &Book<Brand, MasterSorter>,
     passes: &[Pass],
 ) -> Result<()> {
     let matched = book.matches(passes);
@@ -119,7 +124,7 @@ fn append_match(
 fn use_book(
     alloc: Global,
     told: &mut String,
-    book: &mut Book<MasterSorter>,
+    book: &mut Book<Brand, MasterSorter>,
     taking: Taking<'_>,
     same: &[Pass],
     others: &[Pass],
@@ -148,7 +153,7 @@ fn use_and_end(
     taking: Taking<'_>,
     same: &[Pass],
     others: &[Pass],
-    mut book: Book<MasterSorter>,
+    mut book: Book<Brand, MasterSorter>,
 ) -> Result<()> {
     let used = use_book(alloc, told, &mut book, taking, same, others);
     let entries = book.into_entries();

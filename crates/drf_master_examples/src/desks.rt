@@ -1,6 +1,7 @@
 //! A desk with no lock round it. It answers, shows what comes of each call, and is a book again in the end.
 ghost use Rattle.std.specs.Prelude.{◌≡◌};
 ghost use Rattle.drf_rows.specs.LimitNumbers.{ceilings};
+ghost use Rattle.drf_rows.specs.Step.{opening};
 
 use crate::books::append_left;
 use crate::lines::{AGENT, CYCLE, FRAMEWORK, append_placed};
@@ -60,9 +61,11 @@ fn open_and_use<K: Naming, W: Wait>(
 ) -> Result<()>
     requires named { slate.name ≡ K.slate }
     requires limits { slate.name.limits ≡ ceilings }
+    requires start { K.start ≡ opening }
 {
-    let (board, viewers) = Board::<K, &W>::open(rt, alloc, slate)?;
     let book = Book::open(alloc, Limits::full())?;
+    let first_sheet = book.sheet()?;
+    let (board, viewers) = Board::<K, &W>::open(rt, alloc, slate, first_sheet)?;
     use_and_end(alloc, told, Desk::new(book, board), viewers)
 }
 

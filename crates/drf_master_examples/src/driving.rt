@@ -1,6 +1,7 @@
 //! Scripts of events that run side by side, each on a thread and a pass of its own.
 ghost use Rattle.std.specs.Prelude.{◌≡◌, ◌≤◌, length};
 ghost use Rattle.drf_rows.specs.LimitNumbers.{ceilings};
+ghost use Rattle.drf_rows.specs.Step.{opening};
 
 use crate::closing::keep_passes;
 use crate::lines::{AGENT, CYCLE, FRAMEWORK, OTHER_AGENT};
@@ -143,7 +144,7 @@ fn exchange(passes: &mut Vec<Pass>, others: &mut Vec<Pass>)
 }
 
 // The journal and the replies. The core goes at once.
-fn outcome_of(driven: Driven) -> Outcome {
+fn outcome_of<K: Naming>(driven: Driven<K>) -> Outcome {
     let Driven { book, replies } = driven;
     Outcome {
         entries: book.into_entries(),
@@ -195,6 +196,7 @@ fn drive_named<K: Naming + Send + Sync, W: Threads + Wait + Sync>(
 ) -> Result<()>
     requires named { slate.name ≡ K.slate }
     requires limits { slate.name.limits ≡ ceilings }
+    requires start { K.start ≡ opening }
     requires count { (1 ≤ length scripts.items) × (length scripts.items ≤ 64) }
 {
     let count = scripts.len() as u64;

@@ -1,6 +1,7 @@
 //! A master from its opening to its close. What owns one does nothing else: its drop is long, and each branch beside it would prove it again.
 ghost use Rattle.std.specs.Prelude.{◌≡◌};
 ghost use Rattle.drf_rows.specs.LimitNumbers.{ceilings};
+ghost use Rattle.drf_rows.specs.Step.{opening};
 
 use crate::calls::{Row, use_master};
 use anyhow::Result;
@@ -19,13 +20,17 @@ pub struct Misfit {
     is_own: bool,
 }
 
-fn do_own_match(refused: &mut CloseRefused, own: usize, kept: &mut Vec<Pass>) -> bool {
+fn do_own_match<K: Naming>(
+    refused: &mut CloseRefused<K>,
+    own: usize,
+    kept: &mut Vec<Pass>,
+) -> bool {
     refused.passes.truncate(own);
     let is_whole = kept.append(&mut refused.passes).is_ok();
     is_whole && refused.book.matches(kept).is_ok()
 }
 
-fn misfit_of(mut refused: CloseRefused, own: usize, kept: &mut Vec<Pass>) -> Misfit {
+fn misfit_of<K: Naming>(mut refused: CloseRefused<K>, own: usize, kept: &mut Vec<Pass>) -> Misfit {
     let is_own = do_own_match(&mut refused, own, kept);
     let fault = refused.fault;
     drop(refused);
@@ -106,6 +111,7 @@ fn run_named<K: Naming + Send + Sync, W: Threads + Wait + Sync>(
 ) -> Result<()>
     requires named { slate.name ≡ K.slate }
     requires limits { slate.name.limits ≡ ceilings }
+    requires start { K.start ≡ opening }
 {
     let (master, passes, viewers) = Master::<K, &W>::open(
         rt,

@@ -2,6 +2,7 @@
 //! compares its journal with the receipts. What owns a master or its book does nothing else: its drop is long, and each branch beside it would prove it again.
 ghost use Rattle.std.specs.Prelude.{◌≡◌};
 ghost use Rattle.drf_rows.specs.LimitNumbers.{ceilings};
+ghost use Rattle.drf_rows.specs.Step.{opening};
 
 use anyhow::{Context, Result, bail};
 use drf_board::{Brand, Entry, Naming, Sheet, Slate, Told, Viewer};
@@ -141,7 +142,7 @@ fn use_master<K: Naming + Send + Sync, W: Threads + Wait + Sync>(
 }
 
 // The book and the passes go.
-fn fault_of(refused: CloseRefused) -> CloseFault {
+fn fault_of<K: Naming>(refused: CloseRefused<K>) -> CloseFault {
     let fault = refused.fault;
     drop(refused);
     fault
@@ -199,6 +200,7 @@ fn serve_named<K: Naming + Send + Sync, W: Threads + Wait + Sync>(
 ) -> Result<()>
     requires named { slate.name ≡ K.slate }
     requires limits { slate.name.limits ≡ ceilings }
+    requires start { K.start ≡ opening }
 {
     let (master, passes, viewers) = Master::<K, &W>::open(rt, alloc, 1, Limits::full(), 2, slate)?;
     use_and_close(rt, alloc, told, master, passes, viewers)

@@ -1,6 +1,7 @@
 //! A second master beside the first, its host, which one of its passes calls too, in vain.
 ghost use Rattle.std.specs.Prelude.{◌≡◌};
 ghost use Rattle.drf_rows.specs.LimitNumbers.{ceilings};
+ghost use Rattle.drf_rows.specs.Step.{opening};
 
 use crate::lines::{AGENT, CYCLE, call_all};
 use crate::masters::{append_used, close};
@@ -64,6 +65,7 @@ fn visit_named<K: Naming, L: Naming, Q: Wait + Drop, W: Wait>(
 ) -> Result<()>
     requires named { slate.name ≡ K.slate }
     requires limits { slate.name.limits ≡ ceilings }
+    requires start { K.start ≡ opening }
 {
     let mut kept = Vec::new(alloc);
     let (master, passes, _viewers) = Master::<K, &W>::open(rt, alloc, 2, Limits::full(), 2, slate)?;

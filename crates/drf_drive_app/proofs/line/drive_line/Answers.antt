@@ -30,4 +30,5 @@ returns c =
     ∙ ap (λ (a : Arg). a.global) c.required.ensures ∙ ap (λ (a : Arg). a.global) c.help.ensures ∙ c.new.ensures.optional.1 in
     let command : app_of c.after_help.result ≡ new_app (codes "drive") =
     ap app_of_fields c.after_help.ensures ∙ (ap app_of_fields c.about.ensures ∙ c.new-3.ensures.app) in
-    IfOk-weaker c.arg.result _ _ (λ line added. added.shape global ∙ ap₂ with_rule command rule) c.arg.ensures
+    let with_from = c.in_ok-arg.ensures.shape c.from_option.ensures.local ∙ ap₂ with_rule command c.from_option.ensures.rule in
+    IfOk-weaker c.arg-2.result _ _ (λ line added. added.shape global ∙ ap₂ with_rule with_from rule) c.arg-2.ensures

@@ -3,6 +3,7 @@ use Rattle.std.proofs.lemmas.Bool.{false≢true}
 use Rattle.clap.specs.Words.{App, IsParsedFrom, HasKind, Text, fault_of, found_of, is_simple, is_simple_and_free, rows_of, subcommand_of}
 use Rattle.clap.specs.declared.parser.matches.ArgMatches.TheViews.{out-ArgMatches}
 use Rattle.clap.proofs.CallerLemmas.{subcommand_required}
+use Rattle.clap.proofs.WalkLemmas.{first_value-rows}
 use Rattle.drf_told.proofs.Words.{entered, entered_is_named, local, refused_as}
 use Rattle.drf_drive_app.specs.Line.{Asks, drf_line}
 use Rattle.drf_drive_app.proofs.line.task_of.Goals as goal
@@ -40,5 +41,6 @@ returns g c =
         rows = rows;
         entered = subst (λ (name : Text). subcommand_of drf_line words ≡ Some (name, rows)) drive one;
         files = c.in_ok-files.ensures;
+        from = c.get_str-from.ensures ∙ first_value-rows (found_of c.in-Some.command.now) (codes "from");
       };
     }

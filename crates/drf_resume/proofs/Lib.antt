@@ -1,2 +1,4 @@
 pub mod Live
 pub mod Wrote
+pub mod Feeds
+pub mod Left

@@ -4,5 +4,5 @@
 mod laws;
 mod saving;
 
-pub use laws::resume_law;
+pub use laws::{journals_law, resume_law, saved_rows_law};
 pub use saving::save;

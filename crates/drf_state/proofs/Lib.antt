@@ -5,3 +5,7 @@ pub mod Fits
 pub mod Going
 pub mod Lines
 pub mod Written
+pub mod Meant
+pub mod Plain
+pub mod Readable
+pub mod Sayable

@@ -1,6 +1,7 @@
 pub mod Fault
 pub mod State
 pub mod Read
+pub mod Valid
 pub mod StateLaws
 pub mod LinedText
 pub mod Restored

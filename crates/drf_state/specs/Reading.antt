@@ -2,7 +2,7 @@
 use Rattle.std.specs.Prelude.{◌≡◌, ℕ, Bool, true, false, List, Some, None, Result, Ok, Err}
 use Rattle.drf_rows.specs.LimitNumbers.{LimitNumbers}
 use Rattle.drf_rows.specs.Step.{live_rows}
-use Rattle.drf_core.specs.Machine.{Engine, Machine}
+use Rattle.drf_core.specs.Machine.{Engine}
 use Rattle.drf_saved_laws.specs.SavedLaws.{IsSaveable}
 use Rattle.drf_state.specs.State.{Said, rows_behind, said_by, state_in, state_text}
 use Rattle.drf_state.specs.declared.fault.StateError.{StateError}
@@ -30,7 +30,7 @@ IsStop said (stop.Fault fault) = said ≡ Err fault
 IsStop said stop.Memory = Unit {0}
 
 -- a line made more rows, or ended the text
-pub record HasTakenLine (old : Machine) (text : List ℕ) (lines : ℕ) (line : List ℕ) (new : Machine) (last : Bool) : Type 0 where
+pub record HasTakenLine (old : Engine) (text : List ℕ) (lines : ℕ) (line : List ℕ) (new : Engine) (last : Bool) : Type 0 where
   pub limits : new.limits ≡ old.limits
   pub more : last ≡ false → rows_behind old.limits text lines old.rows line (said_by line) ≡ Ok (Some new.rows)
   pub end : last ≡ true → (rows_behind old.limits text lines old.rows line (said_by line) ≡ Ok None) × (new.rows ≡ old.rows)

@@ -1,15 +1,17 @@
 -- What holds of an allocator that is put together row by row.
-use Rattle.std.specs.Prelude.{◌≡◌, ℕ, false, true, Option, None, Some}
+use Rattle.std.specs.Prelude.{◌≡◌, ℕ, ◌≤◌, false, true, Option, None, Some}
 use Rattle.drf_rows.specs.Consistent.{offers_counted}
 use Rattle.drf_rows.specs.LimitNumbers.{LimitNumbers, IsWithinCeilings}
 use Rattle.drf_rows.specs.Step.{live_rows}
 use Rattle.drf_sorter.specs.Content.{Content}
+use Rattle.drf_sorter.specs.Work.{Work}
 use Rattle.drf_content.specs.Content.{content_of}
-use Rattle.drf_core.specs.Machine.{Machine}
+use Rattle.drf_core.specs.Machine.{Engine}
 use Rattle.drf_saved.specs.Saved.{begun, with_row, head_fault, row_fault}
 use Rattle.drf_saved.specs.declared.fault.RowFault.{RowFault}
 use Rattle.drf_saved.specs.declared.saved.Head.{Head}
 use Rattle.drf_saved.specs.declared.saved.SavedRow.{SavedRow}
+use Rattle.drf_saved.specs.declared.saved.SavedRow.TheVariants.{Framework}
 use Rattle.drf_saved_laws.specs.SavedLaws.{IsSaveable}
 use Rattle.drf_tables.specs.Stored.{Stored}
 use Rattle.drf_state.specs.declared.fault.RestoreError.{RestoreError}
@@ -30,17 +32,24 @@ pub record IsRestored (limits : LimitNumbers) (tables : Stored) (content : Conte
   pub saveable : IsSaveable limits tables.rows
   pub agree : PartsAgree tables content counted
 
--- numbers that may stand at the head, with no rows yet
-pub record IsBegunWith (given : LimitNumbers) (head : Head) (new : Machine) : Type 0 where
+-- the sorter made keys for the clients of a framework alone
+abbrev pub HasWorked : SavedRow → Work → Work → Type 0
+HasWorked (Framework f) old new = old.made ≤ new.made
+HasWorked row old new = new.made ≡ old.made
+
+-- numbers that may stand at the head, with no rows yet, and no key made
+pub record IsBegunWith (given : LimitNumbers) (head : Head) (new : Engine) : Type 0 where
   pub fits : head_fault given head ≡ None
   pub limits : new.limits ≡ given
   pub rows : new.rows ≡ begun head
+  pub work : new.work ≡ record { made = 0; marked = 0 }
 
 -- a row that may stand behind the others, behind them
-pub record IsPut (old : Machine) (row : SavedRow) (new : Machine) : Type 0 where
+pub record IsPut (old : Engine) (row : SavedRow) (new : Engine) : Type 0 where
   pub fits : row_fault old.limits old.rows row ≡ None
   pub limits : new.limits ≡ old.limits
   pub rows : new.rows ≡ with_row old.rows row
+  pub worked : HasWorked row old.work new.work
 
 -- why numbers were not put at the head, or a row not behind others: the first case that holds, or memory ran out
 abbrev pub IsTold : Option RowFault → RestoreError → Type 0

@@ -1,5 +1,5 @@
 //! The clients of a framework that is put back, and what they are to the sorter.
-ghost use Rattle.std.specs.Prelude.{◌≡◌, OnOk};
+ghost use Rattle.std.specs.Prelude.{◌≡◌, ◌≤◌, OnOk};
 ghost use Rattle.drf_content.specs.Putting.{CanAllBeBack, CanBeLast, put_back, with_all_back, with_last};
 
 use drf_bundle::Quantities;
@@ -16,7 +16,8 @@ fn put_client<S: Sorter>(
     client: &ClientRow,
 ) -> Result<(), AllocError>
     requires { CanBeLast (S.content sorter.old) (put_back framework.now client.now) }
-    ensures { OnOk result (S.content sorter.new ≡ with_last (S.content sorter.old) (put_back framework.now client.now)) }
+    ensures content { OnOk result (S.content sorter.new ≡ with_last (S.content sorter.old) (put_back framework.now client.now)) }
+    ensures made { OnOk result ((S.work sorter.old).made ≤ (S.work sorter.new).made) }
 {
     let path = ClientPath::new(alloc, &client.role, framework)?;
     let nothing = Quantities::empty(alloc);
@@ -34,7 +35,8 @@ pub(crate) fn put_clients<S: Sorter>(
     clients: &[ClientRow],
 ) -> Result<(), AllocError>
     requires { CanAllBeBack (S.content sorter.old) framework.now clients.now }
-    ensures { OnOk result (S.content sorter.new ≡ with_all_back (S.content sorter.old) framework.now clients.now) }
+    ensures content { OnOk result (S.content sorter.new ≡ with_all_back (S.content sorter.old) framework.now clients.now) }
+    ensures made { OnOk result ((S.work sorter.old).made ≤ (S.work sorter.new).made) }
 {
     for client in clients {
         put_client(alloc, sorter, framework, client)?;

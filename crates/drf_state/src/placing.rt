@@ -8,7 +8,7 @@ ghost use Rattle.drf_rows.specs.declared.limits.TheConstants.{LARGEST_AMOUNT, LA
 ghost use Rattle.drf_saved.specs.Saved.{begun};
 ghost use Rattle.drf_saved.specs.declared.saved.SavedRow.TheVariants.{Agent, Framework, Weight, Limit, Offer, Task, Filter};
 ghost use Rattle.drf_state.specs.Placing.{FitsBehind, IsPlaced};
-ghost use Rattle.drf_state.specs.Restored.{PartsAgree};
+ghost use Rattle.drf_state.specs.Restored.{HasWorked, PartsAgree};
 
 use crate::clients::put_clients;
 use drf_role::ClientPath;
@@ -57,6 +57,7 @@ impl<S: Sorter> Parts<S> {
         requires numbered { 1 ≤ head.next_offer }
         ensures rows { IfOk result (λ parts. parts.tables.rows ≡ begun head) }
         ensures agree { IfOk result (λ parts. PartsAgree parts.tables (S.content parts.sorter) parts.counted) }
+        ensures work { IfOk result (λ parts. S.work parts.sorter ≡ record { made = 0; marked = 0 }) }
     {
         Ok(Parts {
             tables: Tables::begin(alloc, head),
@@ -68,7 +69,8 @@ impl<S: Sorter> Parts<S> {
     fn put_agent(&mut self, agent: AgentRow) -> Result<(), AllocError>
         requires agree { PartsAgree self.old.tables (S.content self.old.sorter) self.old.counted }
         requires fits { FitsBehind self.old.tables.rows (Agent agent) }
-        ensures { OnOk result (IsPlaced self.old.tables.rows (Agent agent) self.new.tables (S.content self.new.sorter) self.new.counted) }
+        ensures placed { OnOk result (IsPlaced self.old.tables.rows (Agent agent) self.new.tables (S.content self.new.sorter) self.new.counted) }
+        ensures worked { OnOk result (HasWorked (Agent agent) (S.work self.old.sorter) (S.work self.new.sorter)) }
     {
         register(&mut self.tables, agent)?;
         let total = self.tables.total().copy()?;
@@ -79,7 +81,8 @@ impl<S: Sorter> Parts<S> {
     fn put_framework(&mut self, alloc: Global, framework: FrameworkRow) -> Result<(), AllocError>
         requires agree { PartsAgree self.old.tables (S.content self.old.sorter) self.old.counted }
         requires fits { FitsBehind self.old.tables.rows (Framework framework) }
-        ensures { OnOk result (IsPlaced self.old.tables.rows (Framework framework) self.new.tables (S.content self.new.sorter) self.new.counted) }
+        ensures placed { OnOk result (IsPlaced self.old.tables.rows (Framework framework) self.new.tables (S.content self.new.sorter) self.new.counted) }
+        ensures worked { OnOk result (HasWorked (Framework framework) (S.work self.old.sorter) (S.work self.new.sorter)) }
     {
         let FrameworkRow { name, clients } = framework;
         self.tables.reserve_framework()?;
@@ -92,7 +95,8 @@ impl<S: Sorter> Parts<S> {
     fn put_weight(&mut self, weight: WeightRow) -> Result<(), AllocError>
         requires agree { PartsAgree self.old.tables (S.content self.old.sorter) self.old.counted }
         requires fits { FitsBehind self.old.tables.rows (Weight weight) }
-        ensures { OnOk result (IsPlaced self.old.tables.rows (Weight weight) self.new.tables (S.content self.new.sorter) self.new.counted) }
+        ensures placed { OnOk result (IsPlaced self.old.tables.rows (Weight weight) self.new.tables (S.content self.new.sorter) self.new.counted) }
+        ensures worked { OnOk result (HasWorked (Weight weight) (S.work self.old.sorter) (S.work self.new.sorter)) }
     {
         let WeightRow { role, weight } = weight;
         self.tables.reserve_weight()?;
@@ -104,7 +108,8 @@ impl<S: Sorter> Parts<S> {
     fn put_limit(&mut self, limit: LimitRow) -> Result<(), AllocError>
         requires agree { PartsAgree self.old.tables (S.content self.old.sorter) self.old.counted }
         requires fits { FitsBehind self.old.tables.rows (Limit limit) }
-        ensures { OnOk result (IsPlaced self.old.tables.rows (Limit limit) self.new.tables (S.content self.new.sorter) self.new.counted) }
+        ensures placed { OnOk result (IsPlaced self.old.tables.rows (Limit limit) self.new.tables (S.content self.new.sorter) self.new.counted) }
+        ensures worked { OnOk result (HasWorked (Limit limit) (S.work self.old.sorter) (S.work self.new.sorter)) }
     {
         let LimitRow { role, limit } = limit;
         self.tables.set_limit(role, limit)?;
@@ -114,7 +119,8 @@ impl<S: Sorter> Parts<S> {
     fn put_offer(&mut self, alloc: Global, offer: OfferRow) -> Result<(), AllocError>
         requires agree { PartsAgree self.old.tables (S.content self.old.sorter) self.old.counted }
         requires fits { FitsBehind self.old.tables.rows (Offer offer) }
-        ensures { OnOk result (IsPlaced self.old.tables.rows (Offer offer) self.new.tables (S.content self.new.sorter) self.new.counted) }
+        ensures placed { OnOk result (IsPlaced self.old.tables.rows (Offer offer) self.new.tables (S.content self.new.sorter) self.new.counted) }
+        ensures worked { OnOk result (HasWorked (Offer offer) (S.work self.old.sorter) (S.work self.new.sorter)) }
     {
         let path = ClientPath::new(alloc, &offer.role, &offer.framework)?;
         self.sorter.charge(&path, offer.bundle.quantities(), 0)?;
@@ -125,7 +131,8 @@ impl<S: Sorter> Parts<S> {
     fn put_task(&mut self, alloc: Global, task: TaskRow) -> Result<(), AllocError>
         requires agree { PartsAgree self.old.tables (S.content self.old.sorter) self.old.counted }
         requires fits { FitsBehind self.old.tables.rows (Task task) }
-        ensures { OnOk result (IsPlaced self.old.tables.rows (Task task) self.new.tables (S.content self.new.sorter) self.new.counted) }
+        ensures placed { OnOk result (IsPlaced self.old.tables.rows (Task task) self.new.tables (S.content self.new.sorter) self.new.counted) }
+        ensures worked { OnOk result (HasWorked (Task task) (S.work self.old.sorter) (S.work self.new.sorter)) }
     {
         let path = ClientPath::new(alloc, &task.role, &task.framework)?;
         self.sorter.charge(&path, task.bundle.quantities(), 0)?;
@@ -136,7 +143,8 @@ impl<S: Sorter> Parts<S> {
     fn put_filter(&mut self, filter: FilterRow) -> Result<(), AllocError>
         requires agree { PartsAgree self.old.tables (S.content self.old.sorter) self.old.counted }
         requires fits { FitsBehind self.old.tables.rows (Filter filter) }
-        ensures { OnOk result (IsPlaced self.old.tables.rows (Filter filter) self.new.tables (S.content self.new.sorter) self.new.counted) }
+        ensures placed { OnOk result (IsPlaced self.old.tables.rows (Filter filter) self.new.tables (S.content self.new.sorter) self.new.counted) }
+        ensures worked { OnOk result (HasWorked (Filter filter) (S.work self.old.sorter) (S.work self.new.sorter)) }
     {
         self.tables.add_filter(filter)?;
         Ok(())
@@ -146,7 +154,8 @@ impl<S: Sorter> Parts<S> {
     pub(crate) fn put(&mut self, alloc: Global, row: SavedRow) -> Result<(), AllocError>
         requires agree { PartsAgree self.old.tables (S.content self.old.sorter) self.old.counted }
         requires fits { FitsBehind self.old.tables.rows row }
-        ensures { OnOk result (IsPlaced self.old.tables.rows row self.new.tables (S.content self.new.sorter) self.new.counted) }
+        ensures placed { OnOk result (IsPlaced self.old.tables.rows row self.new.tables (S.content self.new.sorter) self.new.counted) }
+        ensures worked { OnOk result (HasWorked row (S.work self.old.sorter) (S.work self.new.sorter)) }
     {
         match row {
             SavedRow::Agent(agent) => self.put_agent(agent),

@@ -24,14 +24,14 @@ pub struct Restoring<S: Sorter> {
 }
 
 impl<S: Sorter> Model for Restoring<S> {
-    ghost use Rattle.drf_core.specs.Machine.{Machine, machine_code};
+    ghost use Rattle.drf_core.specs.Machine.{Engine, engine_code};
     ghost use Rattle.drf_state.specs.Restored.{IsRestored};
 
-    ghost Value = { Machine };
+    ghost Value = { Engine };
 
-    ghost coded = { machine_code };
+    ghost coded = { engine_code };
 
-    ghost view = { λ r. record { limits = r.limits; rows = r.parts.tables.rows } };
+    ghost view = { λ r. record { limits = r.limits; rows = r.parts.tables.rows; work = S.work r.parts.sorter } };
 
     ghost invariant = { λ r. IsRestored r.limits r.parts.tables (S.content r.parts.sorter) r.parts.counted };
 }
@@ -74,10 +74,11 @@ impl<S: Sorter> Restoring<S> {
         })
     }
 
-    /// The allocator that goes on from the rows.
+    /// The allocator that goes on from the rows, over the sorter that was charged with them.
     pub fn end(self) -> Result<Core<S>, AllocError>
         ensures limits { IfOk result (λ core. core.limits ≡ self.limits) }
         ensures rows { IfOk result (λ core. core.rows ≡ self.rows) }
+        ensures work { IfOk result (λ core. core.work ≡ self.work) }
         ensures live { IfOk result (λ core. live_rows core.rows ≡ core.rows) }
         ensures saveable { IfOk result (λ core. IsSaveable core.limits core.rows) }
     {

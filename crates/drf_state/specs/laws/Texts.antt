@@ -1,29 +1,33 @@
 -- A text that says rows is their text, and the text of rows says them.
 use Rattle.std.specs.Prelude.{◌≡◌, ℕ, ◌+◌, ◌<◌, Bool, true, false, List, [], ◌∷◌, ◌++◌, length, Option, Some, None, is_some, Result, Ok, Err, if◌then◌else◌}
-use Rattle.std.specs.List.{join_with_byte}
+use Rattle.std.specs.List.{join_with_byte, AllByRecursion}
 use Rattle.std.specs.Option.{option_map_or}
 use Rattle.std.proofs.Common.{refl, sym, ap, subst, ◌∙◌, arith, append_assoc, append-nil}
 use Rattle.drf_role.specs.Text.{same_text}
 use Rattle.drf_role.specs.TextLaws.{same_from_test, same_itself, test_from_same}
 use Rattle.drf_rows.specs.LimitNumbers.{LimitNumbers}
+use Rattle.drf_rows.specs.laws.ListLaws.{each_from}
 use Rattle.drf_rows.specs.declared.rows.Rows.{Rows}
-use Rattle.drf_saved.specs.Saved.{saved_rows, head_of, begun, with_row, head_fault, row_fault, restored_from, restored}
+use Rattle.drf_saved.specs.Saved.{saved_rows, head_of, begun, with_row, head_fault, row_fault, restored_from, restored, IsTyped}
 use Rattle.drf_saved.specs.declared.fault.RowFault.{RowFault}
 use Rattle.drf_saved.specs.declared.saved.Head.{Head}
 use Rattle.drf_saved.specs.declared.saved.SavedRow.{SavedRow}
+use Rattle.drf_saved.specs.declared.saved.SavedRow.TheVariants.{Agent, Framework, Weight, Limit, Offer, Task, Filter}
 use Rattle.drf_saved.specs.declared.saved.StateLine.{StateLine}
 use Rattle.drf_saved.specs.declared.saved.StateLine.TheVariants as says
 use Rattle.drf_rows.specs.Step.{live_rows}
 use Rattle.drf_saved_laws.specs.laws.Faults.{goes_head, taken_first, taken_head}
 use Rattle.drf_saved_laws.specs.laws.Listed.{restored_is_listed}
+use Rattle.drf_saved_laws.specs.laws.Saveable.{restored_can_be_saved}
 use Rattle.drf_saved_laws.specs.laws.Taken.{saved_is_restored}
 use Rattle.drf_lines.specs.OneLine.{IsOneLine}
 use Rattle.drf_lines.specs.StateLine.{head_line, row_line, end_line}
 use Rattle.drf_lines.specs.StateMeaning.{state_line_meaning}
 use Rattle.drf_lines.specs.declared.fault.LineFault.{LineFault}
-use Rattle.drf_state.specs.Read.{AreRead}
+use Rattle.drf_state.specs.Read.{AreRead, IsRead}
 use Rattle.drf_state.specs.State.{ended, closing, rows_text, is_written, said_or, said_by, rows_or, rows_begun, rows_behind, is_at_end, whole_if, says_behind, rest_says, says_first, parts_say, state_in, state_text}
-use Rattle.drf_state.specs.StateLaws.{WhatIsSaidIsTheText, WhatIsWrittenIsSaid}
+use Rattle.drf_state.specs.StateLaws.{WhatIsSaidCanBeSaved, WhatIsSaidIsTheText, WhatIsWrittenIsSaid}
+use Rattle.drf_state.specs.Valid.{IsValidRow}
 use Rattle.drf_state.specs.declared.fault.StateFault.{StateFault}
 use Rattle.drf_state.specs.declared.fault.StateFault.TheVariants.{NotWritten, Row, BadEnd}
 use Rattle.drf_state.specs.laws.Parts.{parts_of_text, parts-ended, parts-joined, parts-some}
@@ -46,22 +50,40 @@ written : (line : List ℕ) (said : StateLine) → said_by line ≡ Ok said → 
 unfolding said_by
 written line said is = written_or line said (state_line_meaning line) is
 
+meaning_if : (line : List ℕ) (found said : StateLine) (yes : Bool) → is_written line found ≡ yes
+    → (if yes then Ok found else Err NotWritten) ≡ Ok said → found ≡ said
+meaning_if line found said true test is = cc
+meaning_if line found said false test is = let none : ⊥ = cc in absurd none
+
+meaning_or : (line : List ℕ) (said : StateLine) (meaning : Result StateLine LineFault) → said_or line meaning ≡ Ok said → meaning ≡ Ok said
+meaning_or line said (Ok found) is = ap Ok (meaning_if line found said (is_written line found) refl is)
+meaning_or line said (Err fault) is = let none : ⊥ = cc in absurd none
+
+-- which it means
+meant : (line : List ℕ) (said : StateLine) → said_by line ≡ Ok said → state_line_meaning line ≡ Ok said
+unfolding said_by
+meant line said is = meaning_or line said (state_line_meaning line) is
+
 -- a line that says a row, which may stand behind others
 record HasMade (limits : LimitNumbers) (rows : Rows) (line : List ℕ) (new : Rows) : Type 0 where
   row : SavedRow
   spelled : line ≡ row_line row
+  read : IsRead row
   fits : row_fault limits rows row ≡ None
   made : with_row rows row ≡ new
 
 module _ (limits : LimitNumbers) (text : List ℕ) (lines : ℕ) (rows : Rows) (line : List ℕ) where
   fitting : (row : SavedRow) (new : Rows) → said_by line ≡ Ok (says.Row row) → (fault : Option RowFault) → row_fault limits rows row ≡ fault
       → option_map_or (λ f. Err (Row f)) fault (Ok (Some (with_row rows row))) ≡ Ok (Some new) → HasMade limits rows line new
-  fitting row new said None fits is = record {
-    row = row;
-    spelled = same_from_test line (row_line row) (written line (says.Row row) said);
-    fits = fits;
-    made = cc;
-  }
+  fitting row new said None fits is =
+      let spelled : line ≡ row_line row = same_from_test line (row_line row) (written line (says.Row row) said) in
+      record {
+        row = row;
+        spelled = spelled;
+        read = ap state_line_meaning (sym spelled) ∙ meant line (says.Row row) said;
+        fits = fits;
+        made = cc;
+      }
   fitting row new said (Some fault) fits is = let none : ⊥ = cc in absurd none
 
   no_row_at_end : (new : Rows) (last : Bool) → (let r : Result (Option Rows) StateFault = if last then Ok None else Err BadEnd in r ≡ Ok (Some new)) → ⊥
@@ -96,6 +118,7 @@ module _ (limits : LimitNumbers) (text : List ℕ) (lines : ℕ) (rows : Rows) (
 -- the rest of such a text
 record SaysRest (limits : LimitNumbers) (text : List ℕ) (lines : ℕ) (rows : Rows) (parts : List (List ℕ)) (made : Rows) : Type 0 where
   saved : List SavedRow
+  read : AreRead saved
   restored : restored_from limits rows saved ≡ Some made
   joined : join_with_byte 10 parts ≡ rows_text saved ++ ended (closing (text ++ rows_text saved) (lines + length saved))
 
@@ -113,6 +136,7 @@ module _ (limits : LimitNumbers) (text : List ℕ) (lines : ℕ) (rows made : Ro
       → SaysRest limits text lines rows (line ∷ next ∷ parts) made
   one_row_more new m rest = record {
     saved = m.row ∷ rest.saved;
+    read = (m.read, rest.read);
     restored = ap (λ f. if is_some f then None else restored_from limits (with_row rows m.row) rest.saved) m.fits
         ∙ ap (λ r. restored_from limits r rest.saved) m.made ∙ rest.restored;
     joined = sym (append_assoc line (10 ∷ []) (join_with_byte 10 (next ∷ parts)))
@@ -129,6 +153,7 @@ module _ (limits : LimitNumbers) (text : List ℕ) (lines : ℕ) (rows made : Ro
   the_last : line ≡ closing text lines → (is_at_end (next ∷ parts) ≡ true) × (rows ≡ made) → SaysRest limits text lines rows (line ∷ next ∷ parts) made
   the_last is ends = record {
     saved = [];
+    read = tt;
     restored = ap Some ends.1;
     joined = ap (λ ps. join_with_byte 10 (line ∷ ps)) (at_end next parts ends.0)
         ∙ ap ended is ∙ (λ i. ended (closing (sym (append-nil text) i) (counted i)));
@@ -159,6 +184,7 @@ rest_is limits text lines rows made (line ∷ next ∷ parts) is =
 record SaysAll (limits : LimitNumbers) (parts : List (List ℕ)) (made : Rows) : Type 0 where
   head : Head
   saved : List SavedRow
+  read : AreRead saved
   restored : restored limits head saved ≡ Some made
   joined : join_with_byte 10 parts
       ≡ (ended (head_line head) ++ rows_text saved) ++ ended (closing (ended (head_line head) ++ rows_text saved) (1 + length saved))
@@ -174,6 +200,7 @@ module _ (limits : LimitNumbers) (made : Rows) (line next : List ℕ) (parts : L
       record {
         head = head;
         saved = rest.saved;
+        read = rest.read;
         restored = goes_head limits head rest.saved fits ∙ rest.restored;
         joined = sym (append_assoc line (10 ∷ []) (join_with_byte 10 (next ∷ parts)))
             ∙ ap (λ j. ended line ++ j) rest.joined
@@ -202,6 +229,28 @@ what_is_said_is_the_text limits text rows is =
     sym (parts-joined text) ∙ all.joined
     ∙ (λ i. (ended (head_line (sym listed.1 i)) ++ rows_text (sym listed.0 i))
     ++ ended (closing (ended (head_line (sym listed.1 i)) ++ rows_text (sym listed.0 i)) (1 + length (sym listed.0 i))))
+
+-- ---- it can be saved
+
+typed_row : (row : SavedRow) → IsValidRow row → IsTyped row
+typed_row (Agent a) valid = valid
+typed_row (Framework f) valid = valid
+typed_row (Weight w) valid = valid
+typed_row (Limit l) valid = valid.0
+typed_row (Offer o) valid = valid
+typed_row (Task t) valid = valid
+typed_row (Filter f) valid = valid
+
+pub what_is_said_can_be_saved : ((row : SavedRow) → IsRead row → IsValidRow row) → WhatIsSaidCanBeSaved
+unfolding state_in
+what_is_said_can_be_saved valid limits text rows is =
+    let all = all_is limits rows (parts_of_text text) is in
+    let listed = restored_is_listed limits all.head all.saved rows all.restored in
+    record {
+      saveable = restored_can_be_saved limits all.head all.saved rows (each_from IsRead IsTyped all.saved (λ row read. typed_row row (valid row read)) all.read) all.restored;
+      valid = subst (AllByRecursion IsValidRow) (sym listed.0) (each_from IsRead IsValidRow all.saved valid all.read);
+      live = listed.2;
+    }
 
 -- ---- the text of rows
 

@@ -1,32 +1,51 @@
-use Rattle.std.proofs.Common.{◌≡◌, List, ℕ, Result, Ok, Err, sym, ap, ◌∙◌, ◌++◌, false}
+use Rattle.std.proofs.Common.{◌≡◌, ℕ, Bool, List, sym, ap, subst, ◌∙◌, ◌++◌}
 use Rattle.drf_core.specs.Machine.{Machine}
-use Rattle.drf_rows.specs.declared.rows.Rows.{Rows}
-use Rattle.drf_state.specs.State.{state_in}
+use Rattle.drf_journal.specs.Audited.{agents_text, cycle_text, told_of_lines}
 use Rattle.drf_journal.specs.Lines.{lines_of}
 use Rattle.drf_journal.specs.Output.{output_of}
 use Rattle.drf_journal.specs.Resumed.{resumed}
-use Rattle.drf_resume.specs.ResumeLaws.{IsReadFrom}
-use Rattle.drf_resume.specs.Saving.{IsSavedAfter}
+use Rattle.drf_resume.specs.ResumeLaws.{IsReadFrom, with_last_feed, LinesAreJoined, ResumedIsTheSame}
+use Rattle.drf_resume.specs.Saving.{IsTextOf, saved_of}
+use Rattle.drf_resume.proofs.Feeds.{fed, whole_stays}
+use Rattle.drf_resume.proofs.Left.{left_is_read}
 use Rattle.drf_resume.proofs.laws.resume_law.Goals as goal
 
--- what is read of what was saved is the allocator that was left
-read_is_left : (machine start : Machine) (first text : List ℕ) → IsSavedAfter machine false first text → IsReadFrom machine text start
-    → start ≡ resumed machine (lines_of first)
-read_is_left machine start first text saved from =
-    let left : Rows = (resumed machine (lines_of first)).rows in
-    let both : Ok start.rows ≡ Ok left = sym from.rows ∙ saved.said in
-    let rows : start.rows ≡ left = cc in
-    (λ i. record { limits = from.limits i; rows = rows i })
+pub returns-clause-lines : goal.returns-clause-lines
+returns-clause-lines c =
+    λ first second.
+    c.cut_law.ensures.lines (with_last_feed first) second (fed first).cut ∙ ap (λ (ls : List (List ℕ)). ls ++ lines_of second) (fed first).lines
+
+pub returns-clause-whole : goal.returns-clause-whole
+returns-clause-whole c = whole_stays
 
 pub returns-clause-exact : goal.returns-clause-exact
 returns-clause-exact c =
-    λ machine start echo first second text cut saved from.
-    c.cut_law.ensures.output machine echo first second cut
-    ∙ ap (λ (m : Machine). output_of machine echo (lines_of first) ++ output_of m echo (lines_of second))
-    (sym (read_is_left machine start first text saved from))
+    λ machine start first second text saved from echo.
+    c.cut_law.ensures.output machine echo (with_last_feed first) second (fed first).cut
+    ∙ (λ i. output_of machine echo ((fed first).lines i) ++ output_of (left_is_read machine start first text saved from i) echo (lines_of second))
 
 pub returns-clause-same : goal.returns-clause-same
 returns-clause-same c =
-    λ machine start first second text cut saved from.
-    c.cut_law.ensures.allocator machine first second cut
-    ∙ ap (λ (m : Machine). resumed m (lines_of second)) (sym (read_is_left machine start first text saved from))
+    λ machine start first second text saved from.
+    c.cut_law.ensures.allocator machine (with_last_feed first) second (fed first).cut
+    ∙ ap (λ (m : Machine). resumed m (lines_of second)) (left_is_read machine start first text saved from)
+
+pub returns-clause-audit : goal.returns-clause-audit
+returns-clause-audit c =
+    λ machine start first second text saved from.
+    c.cut_law.ensures.audit machine (with_last_feed first) second (fed first).cut
+    ∙ ap (λ (m : Machine). told_of_lines agents_text m (lines_of second)) (left_is_read machine start first text saved from)
+
+pub returns-clause-explanation : goal.returns-clause-explanation
+returns-clause-explanation c =
+    λ machine start first second text saved from at.
+    c.cut_law.ensures.explanation machine at (with_last_feed first) second (fed first).cut
+    ∙ ap (λ (m : Machine). told_of_lines (cycle_text at) m (lines_of second)) (left_is_read machine start first text saved from)
+
+pub returns-clause-saved : goal.returns-clause-saved
+returns-clause-saved c =
+    λ machine start first second text saved from new_epoch later.
+    let same = c.cut_law.ensures.allocator machine (with_last_feed first) second (fed first).cut
+    ∙ ap (λ (m : Machine). resumed m (lines_of second)) (left_is_read machine start first text saved from) in
+    let is_saved : Machine → Type 0 = λ m. IsTextOf m.limits (saved_of new_epoch m.rows) later in
+    (subst is_saved same, subst is_saved (sym same))

@@ -40,8 +40,8 @@ charge-requires-clause-sound g c =
     ∙ client_is_put_back content name client c.requires.new in
     subst IsSound (sym all) c.requires.sound
 
-pub returns : goal.returns
-returns g c =
+pub returns-clause-content : goal.returns-clause-content
+returns-clause-content g c =
     let content : Content = g.S.Sorter.content c.args.sorter.now in
     let name = c.args.framework.now in
     let client = c.args.client.now in

@@ -11,8 +11,8 @@ use Rattle.drf_state.proofs.placing.Parts.put_agent.Goals as goal
 pub register-requires-clause-small : goal.register-requires-clause-small
 register-requires-clause-small g c = (agent_is c.args.self.now.tables.rows c.args.agent c.requires.fits.together).small
 
-pub returns : goal.returns
-returns g c =
+pub returns-clause-placed : goal.returns-clause-placed
+returns-clause-placed g c =
     let parts = c.args.self.now in
     let agent = c.args.agent in
     let content : Content = g.S.Sorter.content parts.sorter in

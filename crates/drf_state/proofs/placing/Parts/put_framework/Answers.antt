@@ -19,8 +19,8 @@ put_clients-requires g c =
 pub add_framework-requires-clause-roles : goal.add_framework-requires-clause-roles
 add_framework-requires-clause-roles g c = apart_roles c.args.self.now.tables.rows c.args.framework c.requires.fits.together
 
-pub returns : goal.returns
-returns g c =
+pub returns-clause-placed : goal.returns-clause-placed
+returns-clause-placed g c =
     let parts = c.args.self.now in
     let f = c.args.framework in
     let content : Content = g.S.Sorter.content parts.sorter in
@@ -34,5 +34,5 @@ returns g c =
           ∙ ap (λ (r : Rows). record r { frameworks = r.frameworks ++ f ∷ [] }) c.in_ok-reserve_framework.ensures.same;
       settled = c.add_framework.ensures.settled ∙ c.in_ok-reserve_framework.ensures.settled;
       uncounted = c.add_framework.ensures.counted ∙ c.in_ok-reserve_framework.ensures.counted;
-      sorted = c.in_ok-put_clients.ensures ∙ ap (with_all_back content f.name) c.as_slice.ensures;
+      sorted = c.in_ok-put_clients.ensures.content ∙ ap (with_all_back content f.name) c.as_slice.ensures;
     }))

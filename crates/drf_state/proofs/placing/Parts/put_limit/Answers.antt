@@ -4,8 +4,8 @@ use Rattle.drf_saved.specs.declared.saved.SavedRow.TheVariants.{Limit}
 use Rattle.drf_state.proofs.Placed.{limits_last, names_some, placed}
 use Rattle.drf_state.proofs.placing.Parts.put_limit.Goals as goal
 
-pub returns : goal.returns
-returns g c =
+pub returns-clause-placed : goal.returns-clause-placed
+returns-clause-placed g c =
     let parts = c.args.self.now in
     let rows : Rows = parts.tables.rows in
     let limit = c.args.limit in

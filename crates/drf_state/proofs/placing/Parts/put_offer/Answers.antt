@@ -20,8 +20,8 @@ charge-requires-clause-sound g c =
     λ i. with_change content (c.in_ok-path.ensures i) (charged (c.quantities.ensures.value i) 0) in
     subst IsSound (sym is) (sound_with parts.tables.rows (Offer c.args.offer) content c.requires.agree.sorted c.requires.fits)
 
-pub returns : goal.returns
-returns g c =
+pub returns-clause-placed : goal.returns-clause-placed
+returns-clause-placed g c =
     let parts = c.args.self.now in
     let content : Content = g.S.Sorter.content parts.sorter in
     placed parts.tables content parts.counted (Offer c.args.offer) c.put_offer.new.self (g.S.Sorter.content c.charge.new.self)

@@ -6,8 +6,8 @@ use Rattle.drf_saved.specs.declared.saved.SavedRow.TheVariants.{Weight}
 use Rattle.drf_state.proofs.Placed.{placed}
 use Rattle.drf_state.proofs.placing.Parts.put_weight.Goals as goal
 
-pub returns : goal.returns
-returns g c =
+pub returns-clause-placed : goal.returns-clause-placed
+returns-clause-placed g c =
     let parts = c.args.self.now in
     let rows : Rows = parts.tables.rows in
     let weight = c.args.weight in

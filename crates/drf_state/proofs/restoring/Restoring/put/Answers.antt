@@ -15,4 +15,4 @@ invariant_of-result g c =
     let old = c.self.inside.parts in
     let new = c.put.new.self in
     restored_with limits old.tables (g.S.Sorter.content old.sorter) old.counted c.args.row new.tables (g.S.Sorter.content new.sorter) new.counted
-    c.self.invariant c.recall.ensures (sym c.in_ok-fault.ensures ∙ c.in_default.is) c.in_ok-put.ensures
+    c.self.invariant c.recall.ensures (sym c.in_ok-fault.ensures ∙ c.in_default.is) c.in_ok-put.ensures.placed

@@ -1,8 +1,8 @@
 -- An input with a line feed behind its last line.
-use Rattle.std.proofs.Common.{◌≡◌, ℕ, ◌+◌, ◌==◌, Bool, true, false, cond, List, [], ◌∷◌, ◌++◌, length, length-append, inl, inr, ⊎_elim, refl, sym, ap, subst, ◌∙◌, append-nil, arith, eqb-true, eq-eqb}
+use Rattle.std.proofs.Common.{◌≡◌, ℕ, ◌==◌, Bool, true, false, cond, List, [], ◌∷◌, ◌++◌, length, length-append, inl, inr, ⊎_elim, refl, sym, ap, ◌∙◌, arith, eqb-true}
 use Rattle.drf_journal.specs.Lines.{ended_lines_of, is_line_feed, lines_of, open_line_of}
 use Rattle.drf_journal.specs.Resumed.{IsCutBehindLine}
-use Rattle.drf_journal.proofs.Cuts.{goes_on, lines-feed, lines-goes_on, lines-none, open-feed, open-within, within-nil, within-push}
+use Rattle.drf_journal.proofs.Cuts.{goes_on, lines-feed, lines-goes_on, open-feed, open-within, within-nil, within-push}
 use Rattle.drf_resume.specs.ResumeLaws.{with_last_feed}
 
 -- ---- where nothing is open

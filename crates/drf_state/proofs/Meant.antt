@@ -1,13 +1,12 @@
 -- What texts of resources mean is valid: bundles are bundles, and quantities are quantities.
-use Rattle.std.proofs.Common.{◌≡◌, ℕ, ◌+◌, ◌^◌, ◌<◌, ◌≤◌, Bool, true, false, cond, leb, ltb, eqb, List, [], ◌∷◌, ◌&&◌, map, All, Option, Some, None, Result, Ok, Err, inl, inr, refl, sym, ap, subst, ◌∙◌, arith}
-use Rattle.std.specs.Prelude.{if◌then◌else◌, not, ◌||◌, IsTrue, nat_le, nat_lt, option_map}
+use Rattle.std.proofs.Common.{◌≡◌, ℕ, ◌+◌, ◌^◌, ◌<◌, Bool, true, false, cond, List, [], ◌∷◌, ◌&&◌, map, All, Option, Some, None, Result, Ok, Err, inl, inr, refl, sym, ap, subst, ◌∙◌, arith}
+use Rattle.std.specs.Prelude.{if◌then◌else◌, not, ◌||◌, nat_le, nat_lt, option_map}
 use Rattle.std.specs.List.{list_all, list_any, flat_map}
 use Rattle.std.specs.Ordering.{nat_cmp, eq_by_cmp, is_eq}
 use Rattle.std.specs.declared.cmp.Ordering.{Ordering}
 use Rattle.std.specs.declared.cmp.Ordering.TheVariants.{Less, Equal, Greater}
 use Rattle.std.specs.Cmp.Lexicographic.{nat_list_cmp_total}
 use Rattle.std.specs.FinSet as set
-use Rattle.std.specs.Str.Parse.{digits_value}
 use Rattle.std.proofs.lemmas.Bool.{and_parts, false≢true, leb-true, ltb-true}
 use Rattle.std.proofs.lemmas.Bool.Decides.{nat_tests}
 use Rattle.std.proofs.lemmas.List.Elements.{All-head, All-tail, All-nil, All-cons}
@@ -25,8 +24,8 @@ use Rattle.drf_kinds.specs.Intervals.{IsNumberSet, interval_of, is_in, is_within
 use Rattle.drf_kinds.specs.IntervalLaws.{contains-members}
 use Rattle.drf_kinds.specs.Names.{IsLabelSet, text_cmp}
 use Rattle.drf_kinds.specs.declared.interval.Interval.{Interval}
-use Rattle.drf_bundle.specs.Bundle.{IsBundle, stock}
-use Rattle.drf_bundle.specs.Quantities.{amount_of, is_in_order, with_amount}
+use Rattle.drf_bundle.specs.Bundle.{IsBundle}
+use Rattle.drf_bundle.specs.Quantities.{amount_of, with_amount}
 use Rattle.drf_bundle.specs.Union.{IsPiece, has_other_kind, is_reserved_elsewhere, is_too_much, union_refusal, with_united}
 use Rattle.drf_bundle.specs.Value.{IsGiven, Thousandths, amount_in, units_in}
 use Rattle.drf_bundle.specs.laws.BundleLaws.{bundle-empty}
@@ -37,7 +36,7 @@ use Rattle.drf_bundle.specs.declared.resource.Resource.{Resource}
 use Rattle.drf_bundle.specs.declared.value.Value.{Value}
 use Rattle.drf_bundle.specs.declared.value.Value.TheVariants.{Scalar, Ranges, Items}
 use Rattle.drf_text.specs.Number.{is_number, thousandths_of}
-use Rattle.drf_text.specs.Meaning.{after, clash_of, counted, meaning_from, meaning_of, put, put_or, quantities_from, quantities_meant, text_fault_of}
+use Rattle.drf_text.specs.Meaning.{after, counted, meaning_from, meaning_of, put, put_or, quantities_from, quantities_meant, text_fault_of}
 use Rattle.drf_text.specs.Pieces.{begins, body_of, fault_of, first_fault, has_bad_role, has_form, has_labels, has_numbers, head_of, high_of, is_end, is_range, is_reserved, low_of, members_are_labels, name_of, numbers_of, parts_inside, pieces_of, quantity_fault_of, resource_of, role_of, role_text_of, value_of}
 use Rattle.drf_text.specs.RoundTrip.{IsEntry}
 use Rattle.drf_text.specs.declared.fault.TextFault.{TextFault}

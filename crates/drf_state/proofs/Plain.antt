@@ -1,23 +1,21 @@
 -- Texts that are written of names, roles, bundles and quantities are ASCII, and so UTF-8.
-use Rattle.std.proofs.Common.{◌≡◌, ℕ, ◌+◌, ◌/◌, ◌%◌, ◌^◌, ◌<◌, ◌≤◌, Bool, true, false, cond, leb, eqb, List, [], ◌∷◌, ◌++◌, ◌&&◌, map, All, decimal, inl, inr, ⊎_elim, refl, sym, ap, subst, ◌∙◌, arith}
-use Rattle.std.specs.Prelude.{◌||◌, nat_le}
-use Rattle.std.specs.Char.{is_ascii_digit}
+use Rattle.std.proofs.Common.{◌≡◌, ℕ, ◌+◌, ◌^◌, ◌<◌, Bool, true, false, cond, List, [], ◌∷◌, ◌++◌, map, All, decimal, sym, ap, ◌∙◌, arith}
+use Rattle.std.specs.Prelude.{nat_le}
 use Rattle.std.specs.List.{join_with_byte, list_any}
 use Rattle.std.specs.FinSet as set
-use Rattle.std.specs.Ordering.{nat_cmp, eq_by_cmp, is_eq}
+use Rattle.std.specs.Ordering.{eq_by_cmp, is_eq}
 use Rattle.std.specs.Cmp.Lexicographic.{nat_list_cmp_total}
 use Rattle.std.proofs.lemmas.Bool.{or_left, or_right}
 use Rattle.std.proofs.lemmas.Bool.Decides.{nat_tests}
 use Rattle.std.proofs.lemmas.List.Elements.{All-head, All-tail, All-nil, All-cons, All-append, All-map, All-weaker}
-use Rattle.std.proofs.lemmas.Str.{IsUtf8-from_ascii}
-use Rattle.std.proofs.lemmas.Str.Ascii.{IsAscii-from_all, All-from_ascii}
+use Rattle.std.proofs.lemmas.Str.Ascii.{All-from_ascii}
 use Rattle.std.proofs.lemmas.Fmt.{IsAscii-decimal}
 use Rattle.drf_role.specs.Name.{IsLabel, IsLabelByte, IsName, IsNameByte}
 use Rattle.drf_role.specs.Parts.{text_of}
 use Rattle.drf_role.specs.Role.{IsRole}
 use Rattle.drf_role.specs.RoleLaws.{role_ascii}
 use Rattle.drf_role.specs.TextLaws.{cmp_itself}
-use Rattle.drf_kinds.specs.Intervals.{AreMaximalFrom, IsNumberSet}
+use Rattle.drf_kinds.specs.Intervals.{AreMaximalFrom}
 use Rattle.drf_kinds.specs.Listed.{listed, intervals_of}
 use Rattle.drf_kinds.specs.ListedLaws.{maximal-intervals_of, from_list-listed}
 use Rattle.drf_kinds.specs.Names.{IsLabelSet, text_cmp}
@@ -29,9 +27,8 @@ use Rattle.drf_bundle.specs.declared.resource.Resource.{Resource}
 use Rattle.drf_bundle.specs.declared.value.Value.{Value}
 use Rattle.drf_bundle.specs.declared.value.Value.TheVariants.{Scalar, Ranges, Items}
 use Rattle.drf_text.specs.ByteLaws.{amount_has_none, is_amount_byte}
-use Rattle.drf_text.specs.Number.{is_point}
 use Rattle.drf_text.specs.RoundTrip.{IsEntry}
-use Rattle.drf_text.specs.Written.{amount_text, bundle_text, head_text, interval_text, intervals_text, items_text, quantities_text, quantity_text, ranges_text, resource_text, value_text}
+use Rattle.drf_text.specs.Written.{amount_text, bundle_text, head_text, interval_text, intervals_text, quantities_text, quantity_text, resource_text, value_text}
 
 -- each byte is an ASCII character
 abbrev pub IsPlain : List ℕ → Type 0

@@ -1,15 +1,10 @@
 -- Which rows are read back from their lines: just the valid ones, whose numbers are of 64 bits.
-use Rattle.std.proofs.Common.{◌≡◌, ℕ, ◌+◌, ◌*◌, ◌^◌, ◌<◌, ◌≤◌, Bool, true, false, cond, List, [], ◌∷◌, ◌++◌, length, map, All, Result, Ok, Err, refl, sym, ap, subst, ◌∙◌, codes, arith}
-use Rattle.std.specs.Prelude.{⊤}
+use Rattle.std.proofs.Common.{◌≡◌, ℕ, Bool, true, false, cond, List, [], ◌∷◌, map, Result, Ok, Err, refl, ap, subst, codes}
 use Rattle.std.specs.List.{AllByRecursion}
-use Rattle.std.proofs.lemmas.List.Elements.{All-nil, All-cons}
-use Rattle.std.proofs.lemmas.Str.{IsUtf8-from_ascii}
-use Rattle.std.proofs.lemmas.Str.Ascii.{IsAscii-from_all}
 use Rattle.serde_json.specs.Data.{Data}
 use Rattle.drf_role.specs.Name.{IsName}
-use Rattle.drf_role.specs.Parts.{parts_of, text_of}
+use Rattle.drf_role.specs.Parts.{parts_of}
 use Rattle.drf_role.specs.Role.{IsRole}
-use Rattle.drf_role.specs.RoleLaws.{parts_of_role}
 use Rattle.drf_role.specs.Text.{Text, same_text}
 use Rattle.drf_role.specs.Tests.{is_name, is_role}
 use Rattle.drf_role.specs.TestLaws.{name_decides, role_decides}
@@ -17,8 +12,6 @@ use Rattle.drf_bundle.specs.Bundle.{IsBundle}
 use Rattle.drf_bundle.specs.declared.quantities.Entry.{Entry}
 use Rattle.drf_bundle.specs.declared.resource.Resource.{Resource}
 use Rattle.drf_text.specs.Meaning.{meaning_of, quantities_meant}
-use Rattle.drf_text.specs.RoundTrip.{BundleIsRead, QuantitiesAreRead, WeightIsRead}
-use Rattle.drf_text.specs.Written.{amount_text, bundle_text, quantities_text}
 use Rattle.drf_text.specs.declared.fault.TextFault.{TextFault}
 use Rattle.drf_rows.specs.declared.rows.AgentRow.{AgentRow}
 use Rattle.drf_rows.specs.declared.rows.ClientRow.{ClientRow}
@@ -263,16 +256,31 @@ among (kind ∷ kinds) each name value row is = by (same_text name kind.0) is (�
     by false is rest = rest is
 
 all_kinds : AllByRecursion SaysValid state_lines
-all_kinds =
-    (head_says_none,
-    (made_valid (codes "agent") Agent agent_row agent_valid,
-    (made_valid (codes "framework") Framework framework_row framework_valid,
-    (made_valid (codes "weight") (λ w. Weight (record { role = w.0; weight = w.1 })) its_weight weight_valid,
-    (made_valid (codes "limit") (λ l. Limit (record { role = l.0; limit = l.1 })) its_limit limit_valid,
-    (made_valid (codes "offer") Offer offer_row offer_valid,
-    (made_valid (codes "task") Task task_row task_valid,
-    (made_valid (codes "filter") Filter filter_row filter_valid,
-    (end_says_none, tt)))))))))
+all_kinds = (
+  head_says_none,
+  (
+    made_valid (codes "agent") Agent agent_row agent_valid,
+    (
+      made_valid (codes "framework") Framework framework_row framework_valid,
+      (
+        made_valid (codes "weight") (λ w. Weight (record { role = w.0; weight = w.1 })) its_weight weight_valid,
+        (
+          made_valid (codes "limit") (λ l. Limit (record { role = l.0; limit = l.1 })) its_limit limit_valid,
+          (
+            made_valid (codes "offer") Offer offer_row offer_valid,
+            (
+              made_valid (codes "task") Task task_row task_valid,
+              (
+                made_valid (codes "filter") Filter filter_row filter_valid,
+                (end_says_none, tt),
+              ),
+            ),
+          ),
+        ),
+      ),
+    ),
+  ),
+)
 
 -- a row that is read of its line is valid
 pub read_is_valid : (row : SavedRow) → IsRead row → IsValidRow row

@@ -1,5 +1,5 @@
 -- Rows that can be saved are read back from their lines.
-use Rattle.std.proofs.Common.{◌≡◌, ℕ, ◌+◌, ◌*◌, ◌/◌, ◌%◌, ◌^◌, ◌<◌, ◌≤◌, Bool, true, false, cond, ltb, List, [], ◌∷◌, ◌++◌, length, map, All, Result, Ok, Err, refl, sym, ap, subst, ◌∙◌, arith}
+use Rattle.std.proofs.Common.{◌≡◌, ℕ, ◌/◌, ◌%◌, ◌^◌, ◌<◌, true, List, [], ◌∷◌, map, All, refl, arith}
 use Rattle.std.specs.Prelude.{⊤, ◌&&◌, nat_le, nat_lt, slice_index, sum_by}
 use Rattle.std.specs.List.{AllByRecursion, list_all}
 use Rattle.std.specs.Str.{IsAscii}
@@ -19,20 +19,15 @@ use Rattle.drf_bundle.specs.Bundle.{IsBundle}
 use Rattle.drf_bundle.specs.declared.resource.Resource.{Resource}
 use Rattle.drf_text.specs.RoundTrip.{BundleIsRead, QuantitiesAreRead, WeightIsRead}
 use Rattle.drf_text.specs.Written.{amount_text, bundle_text, quantities_text}
-use Rattle.drf_rows.specs.Consistent.{IsConsistent, IsFilter, are_rising, offers_counted}
+use Rattle.drf_rows.specs.Consistent.{IsFilter, are_rising, offers_counted}
 use Rattle.drf_rows.specs.Filters.{in_force, is_in_force}
 use Rattle.drf_rows.specs.LimitNumbers.{LimitNumbers, IsWithinCeilings}
 use Rattle.drf_rows.specs.Weights.{are_weights, is_weight}
 use Rattle.drf_rows.specs.laws.ListLaws.{each_append, each_filter, each_from, each_made, each_map}
-use Rattle.drf_rows.specs.declared.limits.TheConstants.{LATEST_MOMENT}
-use Rattle.drf_rows.specs.declared.rows.AgentRow.{AgentRow}
 use Rattle.drf_rows.specs.declared.rows.ClientRow.{ClientRow}
-use Rattle.drf_rows.specs.declared.rows.FilterRow.{FilterRow}
 use Rattle.drf_rows.specs.declared.rows.FrameworkRow.{FrameworkRow}
-use Rattle.drf_rows.specs.declared.rows.LimitRow.{LimitRow}
 use Rattle.drf_rows.specs.declared.rows.OfferRow.{OfferRow}
 use Rattle.drf_rows.specs.declared.rows.Rows.{Rows}
-use Rattle.drf_rows.specs.declared.rows.TaskRow.{TaskRow}
 use Rattle.drf_rows.specs.declared.rows.WeightRow.{WeightRow}
 use Rattle.drf_saved.specs.Saved.{head_of, saved_rows}
 use Rattle.drf_saved.specs.declared.saved.SavedRow.{SavedRow}

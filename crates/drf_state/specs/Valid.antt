@@ -1,7 +1,6 @@
 -- Rows as their types give them.
 use Rattle.std.specs.Prelude.{IsTrue, List, All}
 use Rattle.std.specs.List.{AllByRecursion}
-use Rattle.drf_role.specs.Role.{IsRole}
 use Rattle.drf_bundle.specs.Quantities.{is_in_order}
 use Rattle.drf_bundle.specs.declared.quantities.Entry.{Entry}
 use Rattle.drf_text.specs.RoundTrip.{IsEntry}

@@ -1,10 +1,10 @@
-use Rattle.std.proofs.Common.{◌≡◌, ℕ, List, ◌++◌, ◌+◌, length, false, sym, ap, subst, ◌∙◌}
+use Rattle.std.proofs.Common.{◌≡◌, ℕ, List, length, false, sym, ap, subst, ◌∙◌}
 use Rattle.drf_core.specs.Machine.{Machine}
 use Rattle.drf_rows.specs.Step.{live_rows}
 use Rattle.drf_rows.specs.declared.rows.Rows.{Rows}
 use Rattle.drf_journal.specs.declared.journal.Verdict.TheVariants.{Good}
 use Rattle.drf_journal.specs.Journal.{event_lines, reply_lines, replies_due, replies_there, IsVerdict}
-use Rattle.drf_journal.specs.JournalLaws.{AreWholePairs, RepliesArePassedOver, JournalInTwo}
+use Rattle.drf_journal.specs.JournalLaws.{RepliesArePassedOver, JournalInTwo}
 use Rattle.drf_journal.specs.Lines.{lines_of}
 use Rattle.drf_journal.specs.Resumed.{resumed}
 use Rattle.drf_journal.proofs.Pairs.{is_even}
@@ -37,9 +37,9 @@ glued passed_over in_two machine start first second text saved from pairs more a
     ∙ ap (λ (rows : Rows). record { limits = machine.limits; rows = live_rows rows }) (sym (passed_over machine first pairs good))
     ∙ sym (read_is_saved machine start false first text saved from) in (
       λ h.
-      let parts = both.0 h in
-      let good = subst is_good feed.lines parts.0 in
-      (good, subst goes_on (left good) parts.1),
+          let parts = both.0 h in
+          let good = subst is_good feed.lines parts.0 in
+          (good, subst goes_on (left good) parts.1),
       λ h. both.1 (subst is_good (sym feed.lines) h.0, subst goes_on (sym (left h.0)) h.1),
     )
 

@@ -1,10 +1,10 @@
-use Rattle.std.proofs.Common.{◌≡◌, ℕ, Bool, List, sym, ap, subst, ◌∙◌, ◌++◌}
+use Rattle.std.proofs.Common.{ℕ, List, sym, ap, subst, ◌∙◌, ◌++◌}
 use Rattle.drf_core.specs.Machine.{Machine}
 use Rattle.drf_journal.specs.Audited.{agents_text, cycle_text, told_of_lines}
 use Rattle.drf_journal.specs.Lines.{lines_of}
 use Rattle.drf_journal.specs.Output.{output_of}
 use Rattle.drf_journal.specs.Resumed.{resumed}
-use Rattle.drf_resume.specs.ResumeLaws.{IsReadFrom, with_last_feed, LinesAreJoined, ResumedIsTheSame}
+use Rattle.drf_resume.specs.ResumeLaws.{with_last_feed}
 use Rattle.drf_resume.specs.Saving.{IsTextOf, saved_of}
 use Rattle.drf_resume.proofs.Feeds.{fed, whole_stays}
 use Rattle.drf_resume.proofs.Left.{left_is_read}

@@ -1,4 +1,4 @@
-use Rattle.std.proofs.Common.{◌≡◌, Bool, true, sym, ap, subst}
+use Rattle.std.proofs.Common.{true, sym, subst}
 use Rattle.drf_core.specs.Machine.{Machine}
 use Rattle.drf_rows.specs.declared.rows.Rows.{Rows}
 use Rattle.drf_saved_laws.specs.SavedLaws.{IsKeptByEpoch, IsNewEpoch}

@@ -1,6 +1,5 @@
-use Rattle.std.proofs.Common.{◌≡◌, List, ℕ, sym, ap, subst}
+use Rattle.std.proofs.Common.{◌≡◌, List, ℕ, sym, subst}
 use Rattle.drf_core.specs.Machine.{Machine, live}
-use Rattle.drf_journal.specs.Lines.{lines_of}
 use Rattle.drf_resume.specs.Saving.{IsSavedAfter, IsTextOf, saved_of}
 use Rattle.drf_resume.proofs.Wrote.{saved_of_wrote}
 use Rattle.drf_resume.proofs.saving.save.Goals as goal

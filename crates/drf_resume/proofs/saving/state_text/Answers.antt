@@ -1,8 +1,7 @@
-use Rattle.std.proofs.Common.{◌≡◌, Ok, ap, subst, ◌∙◌}
+use Rattle.std.proofs.Common.{Ok, ap, ◌∙◌}
 use Rattle.drf_rows.specs.Step.{live_rows}
 use Rattle.drf_rows.specs.declared.rows.Rows.{Rows}
 use Rattle.drf_state.specs.State.{state_text}
-use Rattle.drf_resume.specs.Saving.{saved_of}
 use Rattle.drf_resume.proofs.Live.{saved_is_live}
 use Rattle.drf_resume.proofs.saving.state_text.Goals as goal
 

@@ -1,0 +1,4 @@
+pub mod Kept
+pub mod Judges
+pub mod Pieces
+pub mod Streams

@@ -1,0 +1,385 @@
+-- A lint after a piece of its input.
+use Rattle.std.proofs.Common.{◌≡◌, ◌==◌, if◌then◌else◌, ℕ, ◌+◌, ◌≤◌, ◌<◌, Bool, true, false, ◌||◌, OnOk, IfErr, List, [], ◌∷◌, ◌++◌, length, get_or, take, drop, Option, Result, Ok, Err, inr, refl, sym, ap, ◌∙◌, subst, append_assoc, append-nil, suc, add-one, take-append-drop, arith}
+use Rattle.std.proofs.Math.Seq.{drop-cons}
+use Rattle.std.specs.Io.KnownBytes.{Appends}
+use Rattle.std.proofs.KnownBytes.{Appends-nil, Appends-trans}
+use Rattle.std.proofs.lemmas.Bool.{false≢true, ne_eqb}
+use Rattle.std.proofs.lemmas.List.{length-append}
+use Rattle.std.proofs.lemmas.List.Elements.{All-nil, All-append}
+use Rattle.std.proofs.lemmas.List.Splits.{slice_split_at, slice_split_none}
+use Rattle.drf_lines.specs.Meaning.{meaning_of}
+use Rattle.drf_lines.specs.declared.fault.LineFault.{LineFault}
+use Rattle.drf_rows.specs.declared.event.Event.{Event}
+use Rattle.drf_journal.specs.declared.fault.RunFault.{RunFault}
+use Rattle.drf_journal.specs.declared.fault.RunFault.TheVariants.{Read, Write, Memory}
+use Rattle.drf_journal.specs.JournalLaws.{LinesInTwo}
+use Rattle.drf_journal.specs.Lines.{is_line_feed, all_but_last, last_part, ended_lines_of, open_line_of, lines_of, IsWithinLine}
+use Rattle.drf_journal.specs.Output.{kept_of}
+use Rattle.drf_journal.specs.Resumed.{IsCutBehindLine}
+use Rattle.drf_lint.specs.Judged.{form_of, faults_of, IsToldOf, AreJudged}
+use Rattle.drf_lint.specs.Linted.{AreJudgedInPart}
+use Rattle.drf_lint.specs.Lint.{Lint, HasJudged, HasJudgedInPart, HasJudgedNothing, HasStoppedAt, HasEnded, HasClosed, IsLintedTo, IsStoppedIn, HasTaken, HasStoppedIn}
+use Rattle.drf_lint.proofs.Kept.{kept-append, length-goes_on, length-kept, meaning-goes_on, meaning-kept}
+use Rattle.drf_lint.proofs.Judges.{told-other, judged-other, part-other, judged-more, part-more}
+
+-- ---- lines
+
+pub within-nil : IsWithinLine []
+within-nil = All-nil (λ b. is_line_feed b ≡ false)
+
+pub within-append : (front more : List ℕ) → IsWithinLine front → IsWithinLine more → IsWithinLine (front ++ more)
+within-append front more one other = All-append (λ b. is_line_feed b ≡ false) front more one other
+
+abbrev last_line : List ℕ → List (List ℕ)
+last_line line = if length line == 0 then [] else line ∷ []
+
+line_ended : (line : List ℕ) → IsWithinLine line → lines_of (line ++ 10 ∷ []) ≡ line ∷ []
+unfolding lines_of ended_lines_of open_line_of
+line_ended line within =
+    let parts = slice_split_at is_line_feed line 10 [] within refl in
+    λ i. all_but_last (parts i) ++ last_line (last_part (parts i))
+
+pub lines-nil : lines_of [] ≡ []
+unfolding lines_of ended_lines_of open_line_of
+lines-nil = refl
+
+pub line-alone : (line : List ℕ) → IsWithinLine line → 0 < length line → lines_of line ≡ line ∷ []
+unfolding lines_of ended_lines_of open_line_of
+line-alone line within some =
+    let parts = slice_split_none is_line_feed line within in
+    let test : (length line == 0) ≡ false = ne_eqb (length line) 0 (λ e. omega arith) in
+    (λ i. all_but_last (parts i) ++ last_line (last_part (parts i))) ∙ ap (λ (t : Bool). if t then [] else line ∷ []) test
+
+-- ---- the line at hand ends
+
+module _ (two : LinesInTwo) (read : List ℕ) (lint : Lint) (before told_then : List ℕ) (state : IsLintedTo read lint before told_then)
+    (end : List ℕ) (within : IsWithinLine end) where
+  abbrev line : List ℕ
+  line = state.behind_last ++ end
+
+  abbrev ended : List ℕ
+  ended = state.ended ++ (line ++ 10 ∷ [])
+
+  pub cut-ended : read ++ (end ++ 10 ∷ []) ≡ ended
+  cut-ended =
+      ap (λ l. l ++ (end ++ 10 ∷ [])) state.cut ∙ append_assoc state.ended state.behind_last (end ++ 10 ∷ [])
+      ∙ ap (λ l. state.ended ++ l) (sym (append_assoc state.behind_last end (10 ∷ [])))
+
+  pub behind-ended : IsCutBehindLine ended
+  behind-ended = inr (state.ended ++ line, sym (append_assoc state.ended line (10 ∷ [])))
+
+  pub lines-ended : lines_of ended ≡ lines_of state.ended ++ line ∷ []
+  lines-ended =
+      two state.ended (line ++ 10 ∷ []) state.behind
+      ∙ ap (λ l. lines_of state.ended ++ l) (line_ended line (within-append state.behind_last end state.within within))
+
+  number : lint.lines + 1 ≡ length (lines_of state.ended) + 1
+  number = ap (λ n. n + 1) state.lines
+
+  -- the bytes that are kept, and the line, mean the same
+  means : meaning_of (lint.front ++ end) ≡ meaning_of line
+  means = ap (λ l. meaning_of (l ++ end)) state.front ∙ meaning-goes_on state.behind_last end
+
+  shorter : length (lint.front ++ end) ≤ length line
+  shorter = subst (λ l. length (l ++ end) ≤ length line) (sym state.front) (length-goes_on state.behind_last end)
+
+  module _ (faults : ℕ) (w0 w1 e0 e1 : Option (List ℕ)) (judged : HasJudged lint.write (lint.lines + 1) (lint.front ++ end) faults w0 w1 e0 e1) where
+    pub all-judged : AreJudged lint.write (lines_of ended) (before ++ form_of lint.write (meaning_of (lint.front ++ end)))
+        (told_then ++ judged.told) (lint.faults + faults)
+    all-judged =
+        let here = subst (λ n. IsToldOf n (lint.front ++ end) (meaning_of (lint.front ++ end)) judged.told) number judged.is_told in
+        let is_told = told-other _ (lint.front ++ end) line means shorter judged.told here in
+        let more = judged-more lint.write (lines_of state.ended) line before told_then judged.told lint.faults faults state.judged is_told
+        (judged.count ∙ ap faults_of means) in
+        subst (λ ls. AreJudged lint.write ls (before ++ form_of lint.write (meaning_of (lint.front ++ end))) (told_then ++ judged.told) (lint.faults + faults))
+        (sym lines-ended)
+        (subst (λ m. AreJudged lint.write (lines_of state.ended ++ line ∷ []) (before ++ form_of lint.write m) (told_then ++ judged.told) (lint.faults + faults))
+        (sym means) more)
+
+  module _ (w0 w1 e0 e1 : Option (List ℕ)) (part : HasJudgedInPart lint.write (lint.lines + 1) (lint.front ++ end) w0 w1 e0 e1) where
+    pub in-part : AreJudgedInPart lint.write (lines_of state.ended ++ line ∷ [])
+        (before ++ take part.front.0 (form_of lint.write (meaning_of (lint.front ++ end)))) (told_then ++ take part.told_front.0 part.told)
+    in-part =
+        let here = subst (λ n. IsToldOf n (lint.front ++ end) (meaning_of (lint.front ++ end)) part.told) number part.is_told in
+        let is_told = told-other _ (lint.front ++ end) line means shorter part.told here in
+        subst (λ m. AreJudgedInPart lint.write (lines_of state.ended ++ line ∷ [])
+        (before ++ take part.front.0 (form_of lint.write m)) (told_then ++ take part.told_front.0 part.told))
+        (sym means)
+        (part-more lint.write (lines_of state.ended) line before told_then part.told lint.faults part.front.0 part.told_front.0 state.judged is_told)
+
+-- ---- a lint goes on
+
+moved : (read other before before_other told told_other : List ℕ) (lint : Lint)
+    → read ≡ other → before ≡ before_other → told ≡ told_other → IsLintedTo read lint before told → IsLintedTo other lint before_other told_other
+moved read other before before_other told told_other lint one two three state = record {
+  ended = state.ended;
+  behind_last = state.behind_last;
+  cut = sym one ∙ state.cut;
+  behind = state.behind;
+  within = state.within;
+  front = state.front;
+  lines = state.lines;
+  judged = subst (λ w. AreJudged lint.write (lines_of state.ended) w told_other lint.faults) two
+      (subst (λ t. AreJudged lint.write (lines_of state.ended) before t lint.faults) three state.judged);
+}
+
+same_lint : (read before told : List ℕ) (old new : Lint) → new ≡ old → IsLintedTo read old before told → IsLintedTo read new before told
+same_lint read before told old new same state = subst (λ l. IsLintedTo read l before told) (sym same) state
+
+pub taken-begins : (lint : Lint) (w e : Option (List ℕ)) → lint.faults ≤ lint.lines → HasTaken [] lint lint w w e e
+taken-begins lint w e counted = record {
+  written = [];
+  told = [];
+  appended = Appends-nil w;
+  told_appended = Appends-nil e;
+  write = refl;
+  few = omega arith;
+  counted = counted;
+  goes_on = λ read before told state. moved read (read ++ []) before (before ++ []) told (told ++ []) lint
+      (sym (append-nil read)) (sym (append-nil before)) (sym (append-nil told)) state;
+}
+
+pub taken-then : (a b : List ℕ) (old mid new : Lint) (w0 w1 w2 e0 e1 e2 : Option (List ℕ))
+    → HasTaken a old mid w0 w1 e0 e1 → HasTaken b mid new w1 w2 e1 e2 → HasTaken (a ++ b) old new w0 w2 e0 e2
+taken-then a b old mid new w0 w1 w2 e0 e1 e2 one other = record {
+  written = one.written ++ other.written;
+  told = one.told ++ other.told;
+  appended = Appends-trans w0 w1 w2 one.written other.written one.appended other.appended;
+  told_appended = Appends-trans e0 e1 e2 one.told other.told one.told_appended other.told_appended;
+  write = other.write ∙ one.write;
+  few = let sum = length-append a b in let x = one.few in let y = other.few in omega arith;
+  counted = other.counted;
+  goes_on = λ read before told state.
+      moved ((read ++ a) ++ b) (read ++ (a ++ b)) ((before ++ one.written) ++ other.written) (before ++ (one.written ++ other.written))
+      ((told ++ one.told) ++ other.told) (told ++ (one.told ++ other.told)) new
+      (append_assoc read a b) (append_assoc before one.written other.written) (append_assoc told one.told other.told)
+      (other.goes_on (read ++ a) (before ++ one.written) (told ++ one.told) (one.goes_on read before told state));
+}
+
+-- by a line
+pub taken-line : (two : LinesInTwo) (old : Lint) (end : List ℕ) (new : Lint) (w0 w1 e0 e1 : Option (List ℕ)) → IsWithinLine end
+    → old.faults ≤ old.lines → HasEnded old end new w0 w1 e0 e1 → HasTaken (end ++ 10 ∷ []) old new w0 w1 e0 e1
+taken-line two old end new w0 w1 e0 e1 within counted ends =
+    let next : Lint = record { write = old.write; front = []; lines = old.lines + 1; faults = old.faults + ends.faults } in
+    let few : ends.faults ≤ 1 = one_at_most (meaning_of (old.front ++ end)) ends.faults ends.judged.count in
+    record {
+      written = form_of old.write (meaning_of (old.front ++ end));
+      told = ends.judged.told;
+      appended = ends.judged.appended;
+      told_appended = ends.judged.told_appended;
+      write = ap (λ (l : Lint). l.write) ends.new_is;
+      few = let lines = ap (λ (l : Lint). l.lines) ends.new_is in let sum = length-append end (10 ∷ []) in omega arith;
+      counted = let lines = ap (λ (l : Lint). l.lines) ends.new_is in let faults = ap (λ (l : Lint). l.faults) ends.new_is in omega arith;
+      goes_on = λ read before told state. same_lint (read ++ (end ++ 10 ∷ [])) _ _ next new ends.new_is (record {
+        ended = ended two read old before told state end within;
+        behind_last = [];
+        cut = cut-ended two read old before told state end within ∙ sym (append-nil _);
+        behind = behind-ended two read old before told state end within;
+        within = within-nil;
+        front = refl;
+        lines =
+            ap (λ n. n + 1) state.lines
+            ∙ sym (ap length (lines-ended two read old before told state end within) ∙ length-append (lines_of state.ended) (line two read old before told state end within ∷ []));
+        judged = all-judged two read old before told state end within ends.faults w0 w1 e0 e1 ends.judged;
+      });
+    }
+  where
+    one_at_most : (meaning : Result Event LineFault) (faults : ℕ) → faults ≡ faults_of meaning → faults ≤ 1
+    one_at_most (Ok event) faults is = omega arith
+    one_at_most (Err fault) faults is = omega arith
+
+-- by bytes of the line at hand
+pub taken-rest : (old : Lint) (rest : List ℕ) (new : Lint) (w e : Option (List ℕ)) → IsWithinLine rest
+    → old.faults ≤ old.lines → new ≡ record old { front = kept_of (old.front ++ rest) } → HasTaken rest old new w w e e
+taken-rest old rest new w e within counted is = record {
+  written = [];
+  told = [];
+  appended = Appends-nil w;
+  told_appended = Appends-nil e;
+  write = ap (λ (l : Lint). l.write) is;
+  few = let lines = ap (λ (l : Lint). l.lines) is in omega arith;
+  counted = let lines = ap (λ (l : Lint). l.lines) is in let faults = ap (λ (l : Lint). l.faults) is in omega arith;
+  goes_on = λ read before told state.
+      let next : Lint = record old { front = kept_of (old.front ++ rest) } in
+      let goes : IsLintedTo (read ++ rest) next before told = record {
+        ended = state.ended;
+        behind_last = state.behind_last ++ rest;
+        cut = ap (λ l. l ++ rest) state.cut ∙ append_assoc state.ended state.behind_last rest;
+        behind = state.behind;
+        within = within-append state.behind_last rest state.within within;
+        front = ap (λ l. kept_of (l ++ rest)) state.front ∙ kept-append state.behind_last rest;
+        lines = state.lines;
+        judged = state.judged;
+      } in
+      same_lint (read ++ rest) _ _ next new is
+      (moved _ _ before (before ++ []) told (told ++ []) next refl (sym (append-nil before)) (sym (append-nil told)) goes);
+}
+
+-- ---- a lint stops
+
+pub stopped-then : (fault : RunFault) (a b : List ℕ) (old mid : Lint) (w0 w1 w2 e0 e1 e2 : Option (List ℕ))
+    → HasTaken a old mid w0 w1 e0 e1 → HasStoppedIn fault b mid w1 w2 e1 e2 → HasStoppedIn fault (a ++ b) old w0 w2 e0 e2
+stopped-then fault a b old mid w0 w1 w2 e0 e1 e2 one other = record {
+  written = one.written ++ other.written;
+  told = one.told ++ other.told;
+  appended = Appends-trans w0 w1 w2 one.written other.written one.appended other.appended;
+  told_appended = Appends-trans e0 e1 e2 one.told other.told one.told_appended other.told_appended;
+  stops = λ read before told state.
+      let stop = other.stops (read ++ a) (before ++ one.written) (told ++ one.told) (one.goes_on read before told state) in
+      subst (λ wr. IsStoppedIn fault wr (read ++ (a ++ b)) (before ++ (one.written ++ other.written)) (told ++ (one.told ++ other.told))) one.write
+      (subst (λ r. IsStoppedIn fault mid.write r (before ++ (one.written ++ other.written)) (told ++ (one.told ++ other.told))) (append_assoc read a b)
+      (subst (λ wt. IsStoppedIn fault mid.write ((read ++ a) ++ b) wt (told ++ (one.told ++ other.told))) (append_assoc before one.written other.written)
+      (subst (λ t. IsStoppedIn fault mid.write ((read ++ a) ++ b) ((before ++ one.written) ++ other.written) t) (append_assoc told one.told other.told) stop)));
+}
+
+judged-nil : (write : Bool) (lines : List (List ℕ)) (written told : List ℕ) (faults : ℕ) → AreJudged write lines written told faults
+    → AreJudged write lines (written ++ []) (told ++ []) faults
+judged-nil write lines written told faults judged =
+    subst (λ w. AreJudged write lines w (told ++ []) faults) (sym (append-nil written))
+    (subst (λ t. AreJudged write lines written t faults) (sym (append-nil told)) judged)
+
+-- before a line, or bytes of one, came
+pub stopped-memory : (two : LinesInTwo) (piece : List ℕ) (old : Lint) (w0 w1 e0 e1 : Option (List ℕ))
+    → HasJudgedNothing w0 w1 e0 e1 → HasStoppedIn Memory piece old w0 w1 e0 e1
+stopped-memory two piece old w0 w1 e0 e1 none = record {
+  written = [];
+  told = [];
+  appended = none.nothing;
+  told_appended = none.nothing_told;
+  stops = λ read before told state. record {
+    lines = lines_of state.ended;
+    left = lines_of (state.behind_last ++ piece);
+    first =
+        ap (λ l. lines_of (l ++ piece)) state.cut ∙ ap lines_of (append_assoc state.ended state.behind_last piece)
+        ∙ two state.ended (state.behind_last ++ piece) state.behind;
+    stop = tt;
+    linted = (old.faults, judged-nil old.write (lines_of state.ended) before told old.faults state.judged);
+  };
+}
+
+-- at a line
+stopped-write : (two : LinesInTwo) (old : Lint) (end more : List ℕ) (w0 w1 e0 e1 : Option (List ℕ)) → IsWithinLine end
+    → HasJudgedInPart old.write (old.lines + 1) (old.front ++ end) w0 w1 e0 e1
+    → HasStoppedIn Write ((end ++ 10 ∷ []) ++ more) old w0 w1 e0 e1
+stopped-write two old end more w0 w1 e0 e1 within part =
+    let form = form_of old.write (meaning_of (old.front ++ end)) in record {
+      written = take part.front.0 form;
+      told = take part.told_front.0 part.told;
+      appended = part.front.1;
+      told_appended = part.told_front.1;
+      stops = λ read before told state. record {
+        lines = lines_of state.ended ++ line two read old before told state end within ∷ [];
+        left = lines_of more;
+        first =
+            ap lines_of (sym (append_assoc read (end ++ 10 ∷ []) more) ∙ ap (λ l. l ++ more) (cut-ended two read old before told state end within))
+            ∙ two (ended two read old before told state end within) more (behind-ended two read old before told state end within)
+            ∙ ap (λ ls. ls ++ lines_of more) (lines-ended two read old before told state end within);
+        stop = tt;
+        linted = in-part two read old before told state end within w0 w1 e0 e1 part;
+      };
+    }
+
+pub stopped-line : (two : LinesInTwo) (fault : RunFault) (old : Lint) (end more : List ℕ) (w0 w1 e0 e1 : Option (List ℕ)) → IsWithinLine end
+    → HasStoppedAt fault old.write (old.lines + 1) (old.front ++ end) w0 w1 e0 e1
+    → HasStoppedIn fault ((end ++ 10 ∷ []) ++ more) old w0 w1 e0 e1
+stopped-line two Read old end more w0 w1 e0 e1 within stop = absurd stop
+stopped-line two Write old end more w0 w1 e0 e1 within stop = stopped-write two old end more w0 w1 e0 e1 within stop
+stopped-line two Memory old end more w0 w1 e0 e1 within stop = stopped-memory two _ old w0 w1 e0 e1 stop
+
+-- ---- a piece, of which a front was taken
+
+pub record TookFront (old now : Lint) (piece rest : List ℕ) (w0 w e0 e : Option (List ℕ)) : Type 0 where
+  pub passed : List ℕ
+  pub whole : piece ≡ passed ++ rest
+  pub taken : HasTaken passed old now w0 w e0 e
+
+pub front-begins : (old : Lint) (piece : List ℕ) (w e : Option (List ℕ)) → old.faults ≤ old.lines → TookFront old old piece piece w w e e
+front-begins old piece w e counted = record { passed = []; whole = refl; taken = taken-begins old w e counted }
+
+cut_at : (rest : List ℕ) (at : ℕ) → at < length rest → get_or rest at 0 ≡ 10
+    → rest ≡ (take at rest ++ 10 ∷ []) ++ drop (at + 1) rest
+cut_at rest at inside feed =
+    sym (take-append-drop at rest)
+    ∙ ap (λ l. take at rest ++ l) (drop-cons rest at 0 inside ∙ ap (λ b. b ∷ drop (suc at) rest) feed
+    ∙ ap (λ n. 10 ∷ drop n rest) (sym (add-one at)))
+    ∙ sym (append_assoc (take at rest) (10 ∷ []) (drop (at + 1) rest))
+
+module _ (two : LinesInTwo) (old mid : Lint) (piece rest : List ℕ) (w0 w w1 e0 e e1 : Option (List ℕ)) (took : TookFront old mid piece rest w0 w e0 e) where
+  pub front-line : (at : ℕ) (new : Lint) → at < length rest → get_or rest at 0 ≡ 10 → IsWithinLine (take at rest)
+      → HasEnded mid (take at rest) new w w1 e e1 → TookFront old new piece (drop (at + 1) rest) w0 w1 e0 e1
+  front-line at new inside feed within ends = record {
+    passed = took.passed ++ (take at rest ++ 10 ∷ []);
+    whole =
+        took.whole ∙ ap (λ l. took.passed ++ l) (cut_at rest at inside feed)
+        ∙ sym (append_assoc took.passed (take at rest ++ 10 ∷ []) (drop (at + 1) rest));
+    taken = taken-then took.passed (take at rest ++ 10 ∷ []) old mid new w0 w w1 e0 e e1 took.taken
+        (taken-line two mid (take at rest) new w w1 e e1 within took.taken.counted ends);
+  }
+
+  pub front-stopped : (fault : RunFault) (at : ℕ) → at < length rest → get_or rest at 0 ≡ 10 → IsWithinLine (take at rest)
+      → HasStoppedAt fault mid.write (mid.lines + 1) (mid.front ++ take at rest) w w1 e e1 → HasStoppedIn fault piece old w0 w1 e0 e1
+  front-stopped fault at inside feed within stop =
+      subst (λ p. HasStoppedIn fault p old w0 w1 e0 e1)
+      (sym (took.whole ∙ ap (λ l. took.passed ++ l) (cut_at rest at inside feed)))
+      (stopped-then fault took.passed _ old mid w0 w w1 e0 e e1 took.taken
+      (stopped-line two fault mid (take at rest) (drop (at + 1) rest) w w1 e e1 within stop))
+
+  pub front-memory : HasJudgedNothing w w1 e e1 → HasStoppedIn Memory piece old w0 w1 e0 e1
+  front-memory none =
+      subst (λ p. HasStoppedIn Memory p old w0 w1 e0 e1) (sym took.whole)
+      (stopped-then Memory took.passed rest old mid w0 w w1 e0 e e1 took.taken (stopped-memory two rest mid w w1 e e1 none))
+
+  pub front-rest : (new : Lint) → IsWithinLine rest → new ≡ record mid { front = kept_of (mid.front ++ rest) } → HasTaken piece old new w0 w e0 e
+  front-rest new within is =
+      subst (λ p. HasTaken p old new w0 w e0 e) (sym took.whole)
+      (taken-then took.passed rest old mid new w0 w w e0 e e took.taken (taken-rest mid rest new w e within took.taken.counted is))
+
+-- ---- of a line as much is judged as is kept
+
+pub ended-kept : (old : Lint) (end : List ℕ) (new : Lint) (faults : ℕ) (w0 w1 e0 e1 : Option (List ℕ))
+    → HasJudged old.write (old.lines + 1) (kept_of (old.front ++ end)) faults w0 w1 e0 e1
+    → new ≡ record { write = old.write; front = []; lines = old.lines + 1; faults = old.faults + faults }
+    → HasEnded old end new w0 w1 e0 e1
+ended-kept old end new faults w0 w1 e0 e1 judged is = record {
+  faults = faults;
+  judged = judged-other old.write _ faults (kept_of (old.front ++ end)) (old.front ++ end) w0 w1 e0 e1
+      (meaning-kept (old.front ++ end)) (length-kept (old.front ++ end)) judged;
+  new_is = is;
+}
+
+pub stopped-kept : (fault : RunFault) (write : Bool) (number : ℕ) (line : List ℕ) (w0 w1 e0 e1 : Option (List ℕ))
+    → HasStoppedAt fault write number (kept_of line) w0 w1 e0 e1 → HasStoppedAt fault write number line w0 w1 e0 e1
+stopped-kept Read write place whole w0 w1 e0 e1 stop = absurd stop
+stopped-kept Write write place whole w0 w1 e0 e1 stop =
+    part-other write place (kept_of whole) whole w0 w1 e0 e1 (meaning-kept whole) (length-kept whole) stop
+stopped-kept Memory write place whole w0 w1 e0 e1 stop = stop
+
+pub judged-nothing : (w e : Option (List ℕ)) → HasJudgedNothing w w e e
+judged-nothing w e = record { nothing = Appends-nil w; nothing_told = Appends-nil e }
+
+-- ---- the input ends
+
+pub closed-none : (lint : Lint) → length lint.front ≡ 0 → (w e : Option (List ℕ)) → HasClosed lint lint w w e e
+closed-none lint nothing w e = record { none = λ _. (refl, judged-nothing w e); some = λ anything. absurd (omega arith) }
+
+pub closed-some : (old new : Lint) → 0 < length old.front → (w0 w1 e0 e1 : Option (List ℕ)) (result : Result (Unit {0}) RunFault)
+    → OnOk result (HasEnded old [] new w0 w1 e0 e1) → OnOk result (HasClosed old new w0 w1 e0 e1)
+closed-some old new anything w0 w1 e0 e1 (Ok done) ends = record { none = λ nothing. absurd (omega arith); some = λ _. ends }
+closed-some old new anything w0 w1 e0 e1 (Err fault) ends = tt
+
+pub close-stopped : (old : Lint) → 0 < length old.front → (w0 w1 e0 e1 : Option (List ℕ)) (result : Result (Unit {0}) RunFault)
+    → IfErr result (λ fault. HasStoppedAt fault old.write (old.lines + 1) (old.front ++ []) w0 w1 e0 e1)
+    → IfErr result (λ fault. (0 < length old.front) × HasStoppedAt fault old.write (old.lines + 1) old.front w0 w1 e0 e1)
+close-stopped old anything w0 w1 e0 e1 (Ok done) stop = tt
+close-stopped old anything w0 w1 e0 e1 (Err fault) stop =
+    (anything, subst (λ l. HasStoppedAt fault old.write (old.lines + 1) l w0 w1 e0 e1) (append-nil old.front) stop)
+
+-- ---- neither of two has failed
+
+pub or_false : (a b : Bool) → (a || b) ≡ false → (a ≡ false) × (b ≡ false)
+or_false false false none = (refl, refl)
+or_false false true none = absurd (false≢true (sym none))
+or_false true b none = absurd (false≢true (sym none))
+
+pub or_none : (a b : Bool) → a ≡ false → b ≡ false → (a || b) ≡ false
+or_none a b one other = rw (one, other) refl

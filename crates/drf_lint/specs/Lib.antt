@@ -1,0 +1,4 @@
+pub mod Told
+pub mod Judged
+pub mod Linted
+pub mod Lint

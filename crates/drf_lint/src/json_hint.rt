@@ -1,0 +1,354 @@
+//! Where a line stops being JSON, and what could stand there.
+
+use crate::place::MOST_DEPTH;
+use crate::words::{Hint, plain_hint, say, show};
+use json::{Reader, Scratch, Token, Value};
+use std::alloc::{AllocError, Global};
+
+/// What a reader of JSON is in, and what it has read there.
+#[derive(Clone, Copy, PartialEq, Eq)]
+enum Within {
+    /// Before the value of the line.
+    Start,
+    /// Behind the value of the line.
+    End,
+    /// In an array.
+    Array,
+    /// In an object, where a key may come.
+    Object,
+    /// In an object, behind a key.
+    Key,
+}
+
+/// Why the line is no JSON at a place.
+#[derive(Clone, Copy, PartialEq, Eq)]
+enum Stop {
+    /// It ends there, or what stands there is another thing than what is wanted.
+    Unfit(Within),
+    /// What stands there is nothing of JSON, or no comma stands before it.
+    Bad(Within),
+    /// A `:` stands behind a text that is no key.
+    Colon,
+    /// A text stands where a key is wanted, with no `:` behind it.
+    NoColon,
+    /// An array or object too deep in others.
+    Deep,
+    /// A number that no double comes near.
+    Large,
+}
+
+/// The arrays and objects that are open, the outermost first, and what comes next.
+#[derive(Drop)]
+struct Nest {
+    open: Vec<Within>,
+    within: Within,
+}
+
+impl Nest {
+    /// What is in it comes next, once a value has ended.
+    fn go_on(&mut self) {
+        self.within = match self.open.last() {
+            Some(outer) => *outer,
+            None => Within::End,
+        };
+    }
+
+    /// An array or an object begins.
+    fn begin(&mut self, kind: Within) -> Result<Option<Stop>, AllocError> {
+        if self.open.len() >= MOST_DEPTH {
+            return Ok(Some(Stop::Deep));
+        }
+        self.open.push(kind)?;
+        self.within = kind;
+        Ok(None)
+    }
+
+    /// Whether a value may come next.
+    fn wants_value(&self) -> bool {
+        matches!(self.within, Within::Start | Within::Array | Within::Key)
+    }
+
+    /// An array or an object ends.
+    fn end(&mut self, kind: Within) -> Option<Stop> {
+        if self.within != kind {
+            return Some(Stop::Unfit(self.within));
+        }
+        let _ = self.open.pop();
+        self.go_on();
+        None
+    }
+
+    /// A value of one token comes.
+    fn pass(&mut self) -> Option<Stop> {
+        if !self.wants_value() {
+            return Some(Stop::Unfit(self.within));
+        }
+        self.go_on();
+        None
+    }
+
+    /// A text comes.
+    fn pass_text(&mut self) -> Option<Stop> {
+        if let Within::Object = self.within {
+            return Some(Stop::NoColon);
+        }
+        self.pass()
+    }
+
+    /// A key comes.
+    fn pass_key(&mut self) -> Option<Stop> {
+        match self.within {
+            Within::Object => {
+                self.within = Within::Key;
+                None
+            }
+            Within::Key | Within::Array => Some(Stop::Colon),
+            other => Some(Stop::Unfit(other)),
+        }
+    }
+
+    /// A token comes: why it may not, if so.
+    fn take(&mut self, token: Token<'_>) -> Result<Option<Stop>, AllocError> {
+        match token {
+            Token::BeginObject | Token::BeginArray if !self.wants_value() => {
+                Ok(Some(Stop::Unfit(self.within)))
+            }
+            Token::BeginObject => self.begin(Within::Object),
+            Token::BeginArray => self.begin(Within::Array),
+            Token::EndObject => Ok(self.end(Within::Object)),
+            Token::EndArray => Ok(self.end(Within::Array)),
+            Token::Key(_) => Ok(self.pass_key()),
+            Token::String(_) => Ok(self.pass_text()),
+            Token::Number(text) if is_large(text) => Ok(Some(Stop::Large)),
+            Token::Number(_) | Token::Bool(_) | Token::Null => Ok(self.pass()),
+            Token::Bad => Ok(Some(Stop::Bad(self.within))),
+        }
+    }
+}
+
+/// Whether a number is out of the range of a double.
+fn is_large(text: &str) -> bool {
+    let number: Value<'_> = Value::Number(text);
+    match number.as_f64() {
+        Some(double) => !double.is_finite(),
+        None => false,
+    }
+}
+
+/// Where a text stops being JSON, and why.
+fn stop_in(alloc: Global, text: &str) -> Result<(usize, Stop), AllocError> {
+    let mut nest = Nest {
+        open: Vec::new(alloc),
+        within: Within::Start,
+    };
+    let mut scratch = Scratch::new(alloc);
+    let mut reader = Reader::new(text, &mut scratch)?;
+    for _turn in 0..text.len() {
+        let place = reader.offset();
+        let Some(token) = reader.next() else {
+            break;
+        };
+        if let Some(stop) = nest.take(token)? {
+            return Ok((place, stop));
+        }
+    }
+    Ok((text.len(), Stop::Unfit(nest.within)))
+}
+
+/// The last byte before a place that is no blank.
+fn byte_before(bytes: &[u8], place: usize) -> Option<u8> {
+    let front = bytes.get(..place)?;
+    front
+        .iter()
+        .rev()
+        .find(|b| !matches!(**b, b' ' | b'\t' | b'\r'))
+        .copied()
+}
+
+/// What is wanted, behind that byte.
+fn wanted(within: Within, before: Option<u8>) -> &'static str {
+    match (within, before) {
+        (Within::Start, _) => "an event is wanted, which is a JSON object",
+        (Within::End, _) => "nothing may stand behind the object",
+        (Within::Key, _) => "a value is wanted here",
+        (Within::Array, Some(b'[')) => "a value or ] is wanted here",
+        (Within::Array, Some(b',')) => "a value is wanted here",
+        (Within::Array, _) => "a , or ] is wanted here",
+        (Within::Object, Some(b'{')) => "a key or } is wanted here",
+        (Within::Object, Some(b',')) => "a key is wanted here",
+        (Within::Object, _) => "a , or } is wanted here",
+    }
+}
+
+/// Whether the byte ends a piece that is shown.
+fn ends_piece(byte: u8) -> bool {
+    matches!(
+        byte,
+        b' ' | b'\t' | b'\r' | b',' | b':' | b'{' | b'}' | b'[' | b']' | b'"'
+    )
+}
+
+/// Where a piece ends that is no text: its length.
+fn piece_length(piece: &[u8]) -> usize {
+    let behind = piece.get(1..).unwrap_or(&[]);
+    behind
+        .iter()
+        .position(|b| ends_piece(*b))
+        .map_or(piece.len(), |end| end.saturating_add(1))
+}
+
+/// Where a text ends that begins a piece: its length, with its quotes.
+fn string_length(piece: &[u8]) -> usize {
+    let behind = piece.get(1..).unwrap_or(&[]);
+    behind
+        .iter()
+        .position(|b| *b == b'"')
+        .map_or(piece.len(), |end| end.saturating_add(2))
+}
+
+/// What stands at a place, up to where it may end.
+fn piece_at(bytes: &[u8], place: usize) -> &[u8] {
+    let rest = bytes.get(place..).unwrap_or(&[]);
+    let length = if rest.starts_with(b"\"") {
+        string_length(rest)
+    } else {
+        piece_length(rest)
+    };
+    rest.get(..length).unwrap_or(rest)
+}
+
+/// Whether what stands behind a `\` is an escape.
+fn is_escape(behind: &[u8]) -> bool {
+    match behind.first() {
+        Some(b'u') => match behind.get(1..5) {
+            Some(digits) => digits.iter().all(|b| b.is_ascii_hexdigit()),
+            None => false,
+        },
+        Some(byte) => matches!(
+            *byte,
+            b'"' | b'\\' | b'/' | b'b' | b'f' | b'n' | b'r' | b't'
+        ),
+        None => false,
+    }
+}
+
+/// Whether a text may stand behind that byte, the last one that is no blank.
+fn may_begin_behind(before: Option<u8>) -> bool {
+    matches!(before, None | Some(b':' | b',' | b'[' | b'{'))
+}
+
+/// Why a string is none, and the piece of it that is to be shown.
+#[derive(Clone, Copy)]
+struct StringStop {
+    place: usize,
+    length: usize,
+    why: &'static str,
+}
+
+/// What is wrong with the string that begins at a place.
+fn string_stop(bytes: &[u8], place: usize) -> StringStop {
+    let mut at = place.saturating_add(1);
+    for _turn in 0..bytes.len() {
+        let Some(byte) = bytes.get(at) else {
+            return StringStop {
+                place,
+                length: bytes.len(),
+                why: "this text has no closing \"",
+            };
+        };
+        match *byte {
+            0..32 => {
+                return StringStop {
+                    place: at,
+                    length: 1,
+                    why: "a control byte stands in a text as an escape alone, as \\u0009",
+                };
+            }
+            b'"' => break,
+            b'\\' if !is_escape(bytes.get(at.saturating_add(1)..).unwrap_or(&[])) => {
+                return StringStop {
+                    place: at,
+                    length: 2,
+                    why: "this is no escape of JSON",
+                };
+            }
+            b'\\' => at = at.saturating_add(2),
+            _ => at = at.saturating_add(1),
+        }
+    }
+    StringStop {
+        place,
+        length: string_length(bytes.get(place..).unwrap_or(&[])),
+        why: "this text has a \\u that is half a character",
+    }
+}
+
+/// A hint of a piece that stands at a place, or of the end of the line.
+fn hint_at(alloc: Global, piece: &[u8], place: usize, wanted: &str) -> Result<Hint, AllocError> {
+    let mut words = Vec::new(alloc);
+    if piece.is_empty() {
+        say(&mut words, "the line ends here")?;
+    } else {
+        show(&mut words, piece)?;
+    }
+    say(&mut words, ": ")?;
+    say(&mut words, wanted)?;
+    Ok(Hint { place, words })
+}
+
+/// A hint of what is nothing of JSON at a place.
+fn bad_hint(alloc: Global, bytes: &[u8], place: usize, within: Within) -> Result<Hint, AllocError> {
+    let before = byte_before(bytes, place);
+    let rest = bytes.get(place..).unwrap_or(&[]);
+    if rest.starts_with(b"\"") && may_begin_behind(before) {
+        let StringStop { place, length, why } = string_stop(bytes, place);
+        let rest = bytes.get(place..).unwrap_or(&[]);
+        return hint_at(alloc, rest.get(..length).unwrap_or(rest), place, why);
+    }
+    hint_at(alloc, piece_at(bytes, place), place, wanted(within, before))
+}
+
+/// What is wrong with a line that is UTF-8 and no JSON.
+fn text_hint(alloc: Global, line: &str) -> Result<Hint, AllocError> {
+    let bytes = line.as_bytes();
+    let (place, stop) = stop_in(alloc, line)?;
+    match stop {
+        Stop::Deep => plain_hint(alloc, place, "arrays and objects may nest 127 deep"),
+        Stop::Large => hint_at(
+            alloc,
+            piece_at(bytes, place),
+            place,
+            "this number is out of the range of a double",
+        ),
+        Stop::NoColon => plain_hint(alloc, place, "a : is wanted behind this key"),
+        Stop::Colon => plain_hint(
+            alloc,
+            place,
+            "no : may stand behind this text, which is no key",
+        ),
+        Stop::Bad(within) => bad_hint(alloc, bytes, place, within),
+        Stop::Unfit(within) => hint_at(
+            alloc,
+            piece_at(bytes, place),
+            place,
+            wanted(within, byte_before(bytes, place)),
+        ),
+    }
+}
+
+/// What is wrong with a line that is no JSON.
+pub(crate) fn json_hint(alloc: Global, line: &[u8]) -> Result<Hint, AllocError> {
+    match std::str::from_utf8(line) {
+        Ok(text) => text_hint(alloc, text),
+        Err(error) => {
+            let place = error.valid_up_to();
+            let rest = line.get(place..).unwrap_or(&[]);
+            hint_at(
+                alloc,
+                rest.get(..1).unwrap_or(rest),
+                place,
+                "this is no UTF-8",
+            )
+        }
+    }
+}

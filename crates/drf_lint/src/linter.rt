@@ -1,0 +1,235 @@
+//! What a lint keeps between reads.
+ghost use Rattle.std.specs.Prelude.{◌≡◌, ◌+◌, ◌<◌, ◌≤◌, ◌^◌, ◌++◌, ◌∷◌, ◌||◌, [], Ok, length, false, true, if◌then◌else◌, IsTrue, ◌↔◌, IfOk, IfErr, OnOk, OnErr};
+ghost use Rattle.std.specs.Io.KnownBytes.{Appends};
+ghost use Rattle.drf_journal.specs.declared.fault.RunFault.TheVariants.{Memory};
+ghost use Rattle.drf_journal.specs.Device.{AppendsFrontOf};
+ghost use Rattle.drf_journal.specs.Ended.{HasCause, HasFlushed};
+ghost use Rattle.drf_journal.specs.Lines.{IsWithinLine};
+ghost use Rattle.drf_journal.specs.Output.{kept_of};
+ghost use Rattle.drf_lint.specs.Judged.{form_of};
+ghost use Rattle.drf_lint.specs.Lint.{begun, lint_of, HasClosed, HasEnded, HasJudged, HasStoppedAt, HasStoppedIn, HasTaken, IsStop};
+ghost use Rattle.drf_lint.specs.Told.{told_line};
+
+use crate::diagnosis::{Diagnosis, NoEvent, diagnose};
+use crate::told::told_line;
+use drf_journal::{Device, RunFault, cut_law, line_feed_in, write_whole};
+use drf_lines::{LineReader, write_event};
+use drf_rows::Event;
+use std::alloc::{AllocError, Global};
+use std::io::Write;
+
+/// How many bytes of a line are kept: one more than it may have, so that one that is too long is told from the longest.
+const KEPT: usize = 65_537;
+
+/// Adds bytes of a line, as far as they are kept.
+fn keep(front: &mut Vec<u8>, more: &[u8]) -> Result<(), AllocError>
+    ensures { OnOk result (front.new.items ≡ kept_of (front.old.items ++ more.now)) }
+{
+    front.extend_from_slice(more)?;
+    front.truncate(KEPT);
+    Ok(())
+}
+
+/// Writes an event in its written form, where events are written.
+fn write_form<W: Write>(
+    alloc: Global,
+    write: bool,
+    event: &Event,
+    writer: &mut Device<W>,
+) -> Result<(), RunFault>
+    ensures ok { OnOk result (Appends (W.contents writer.old.inner) (W.contents writer.new.inner) (form_of write (Ok event.now))) }
+    ensures err { OnErr result (AppendsFrontOf (W.contents writer.old.inner) (W.contents writer.new.inner) (form_of write (Ok event.now))) }
+    ensures stop { IfErr result IsStop }
+    ensures memory { IfErr result (λ fault. fault ≡ Memory → Appends (W.contents writer.old.inner) (W.contents writer.new.inner) []) }
+    ensures cause { writer.old.failed ≡ false → HasCause result false 0 writer.new.failed }
+    ensures flushed { writer.old.flushed ≡ true → HasFlushed result writer.new.flushed }
+{
+    if !write {
+        return Ok(());
+    }
+    let mut text = write_event(alloc, event)?;
+    text.push(b'\n')?;
+    write_whole(writer, &text)
+}
+
+/// Tells what is wrong with the line of that number.
+fn tell<E: Write>(
+    alloc: Global,
+    number: u64,
+    said: &Diagnosis,
+    errors: &mut Device<E>,
+) -> Result<(), RunFault>
+    ensures ok { OnOk result (Appends (E.contents errors.old.inner) (E.contents errors.new.inner) (told_line number said.now.fault said.now.column said.now.words.items)) }
+    ensures err { OnErr result (AppendsFrontOf (E.contents errors.old.inner) (E.contents errors.new.inner) (told_line number said.now.fault said.now.column said.now.words.items)) }
+    ensures stop { IfErr result IsStop }
+    ensures memory { IfErr result (λ fault. fault ≡ Memory → Appends (E.contents errors.old.inner) (E.contents errors.new.inner) []) }
+    ensures cause { errors.old.failed ≡ false → HasCause result false 0 errors.new.failed }
+    ensures flushed { errors.old.flushed ≡ true → HasFlushed result errors.new.flushed }
+{
+    let text = told_line(alloc, number, said)?;
+    write_whole(errors, &text)
+}
+
+/// Judges the line of that number: an event is written in its written form, where events are written, and what is wrong with another line is
+/// told. Tells whether it is an event.
+fn judge<W: Write, E: Write>(
+    alloc: Global,
+    reader: &mut LineReader,
+    write: bool,
+    number: u64,
+    line: &[u8],
+    writer: &mut Device<W>,
+    errors: &mut Device<E>,
+) -> Result<bool, RunFault>
+    ensures ok { IfOk result (λ is_event. HasJudged write number line.now (if is_event then 0 else 1)
+        (W.contents writer.old.inner) (W.contents writer.new.inner) (E.contents errors.old.inner) (E.contents errors.new.inner)) }
+    ensures err { IfErr result (λ fault. HasStoppedAt fault write number line.now
+        (W.contents writer.old.inner) (W.contents writer.new.inner) (E.contents errors.old.inner) (E.contents errors.new.inner)) }
+    ensures cause { writer.old.failed ≡ false → errors.old.failed ≡ false → HasCause result false 0 (writer.new.failed || errors.new.failed) }
+    ensures flushed { writer.old.flushed ≡ true → HasFlushed result writer.new.flushed }
+    ensures told_flushed { errors.old.flushed ≡ true → HasFlushed result errors.new.flushed }
+{
+    match diagnose(alloc, reader, line) {
+        Ok(event) => {
+            write_form(alloc, write, &event, writer)?;
+            Ok(true)
+        }
+        Err(NoEvent::Fault(said)) => {
+            tell(alloc, number, &said, errors)?;
+            Ok(false)
+        }
+        Err(NoEvent::Memory) => Err(RunFault::Memory),
+    }
+}
+
+/// A lint between two reads.
+#[derive(Drop)]
+pub(crate) struct Linter {
+    /// Whether events are written.
+    write: bool,
+    /// What is kept of the line that is not whole yet.
+    front: Vec<u8>,
+    /// How many lines have ended.
+    lines: u64,
+    /// How many of these are no events.
+    faults: u64,
+    reader: LineReader,
+}
+
+impl Linter {
+    /// A lint that has read nothing.
+    pub(crate) fn begin(alloc: Global, write: bool) -> Linter
+        ensures begun { lint_of result ≡ begun result.write }
+        ensures write { result.write ≡ write }
+    {
+        Linter {
+            write,
+            front: Vec::new(alloc),
+            lines: 0,
+            faults: 0,
+            reader: LineReader::new(alloc),
+        }
+    }
+
+    /// How many lines are no events.
+    pub(crate) fn faults(&self) -> u64
+        ensures { result ≡ self.now.faults }
+    {
+        self.faults
+    }
+
+    /// Whether nothing is kept of a line.
+    fn is_between(&self) -> bool
+        ensures { IsTrue result ↔ (length self.now.front.items ≡ 0) }
+    {
+        self.front.is_empty()
+    }
+
+    /// The bytes end the line at hand: judges it.
+    fn end_line<W: Write, E: Write>(
+        &mut self,
+        alloc: Global,
+        end: &[u8],
+        writer: &mut Device<W>,
+        errors: &mut Device<E>,
+    ) -> Result<(), RunFault>
+        requires few { self.old.lines + 1 < 2 ^ 64 }
+        requires counted { self.old.faults ≤ self.old.lines }
+        ensures ok { OnOk result (HasEnded (lint_of self.old) end.now (lint_of self.new)
+            (W.contents writer.old.inner) (W.contents writer.new.inner) (E.contents errors.old.inner) (E.contents errors.new.inner)) }
+        ensures err { IfErr result (λ fault. HasStoppedAt fault self.old.write (self.old.lines + 1) (self.old.front.items ++ end.now)
+            (W.contents writer.old.inner) (W.contents writer.new.inner) (E.contents errors.old.inner) (E.contents errors.new.inner)) }
+        ensures cause { writer.old.failed ≡ false → errors.old.failed ≡ false → HasCause result false 0 (writer.new.failed || errors.new.failed) }
+        ensures flushed { writer.old.flushed ≡ true → HasFlushed result writer.new.flushed }
+        ensures told_flushed { errors.old.flushed ≡ true → HasFlushed result errors.new.flushed }
+    {
+        keep(&mut self.front, end)?;
+        let number = self.lines + 1;
+        let is_event = judge(
+            alloc,
+            &mut self.reader,
+            self.write,
+            number,
+            &self.front,
+            writer,
+            errors,
+        )?;
+        self.front.clear();
+        self.lines = number;
+        if !is_event {
+            self.faults += 1;
+        }
+        Ok(())
+    }
+
+    /// Judges the lines that end in the next piece of the input.
+    pub(crate) fn take<W: Write, E: Write>(
+        &mut self,
+        alloc: Global,
+        piece: &[u8],
+        writer: &mut Device<W>,
+        errors: &mut Device<E>,
+    ) -> Result<(), RunFault>
+        requires few { self.old.lines + length piece.now < 2 ^ 64 }
+        requires counted { self.old.faults ≤ self.old.lines }
+        ensures ok { OnOk result (HasTaken piece.now (lint_of self.old) (lint_of self.new)
+            (W.contents writer.old.inner) (W.contents writer.new.inner) (E.contents errors.old.inner) (E.contents errors.new.inner)) }
+        ensures err { IfErr result (λ fault. HasStoppedIn fault piece.now (lint_of self.old)
+            (W.contents writer.old.inner) (W.contents writer.new.inner) (E.contents errors.old.inner) (E.contents errors.new.inner)) }
+        ensures cause { writer.old.failed ≡ false → errors.old.failed ≡ false → HasCause result false 0 (writer.new.failed || errors.new.failed) }
+        ensures flushed { writer.old.flushed ≡ true → HasFlushed result writer.new.flushed }
+        ensures told_flushed { errors.old.flushed ≡ true → HasFlushed result errors.new.flushed }
+    {
+        cut_law();
+        let mut rest = piece;
+        while let Some(at) = line_feed_in(rest) {
+            self.end_line(alloc, &rest[..at], writer, errors)?;
+            rest = &rest[at + 1..];
+        }
+        keep(&mut self.front, rest)?;
+        Ok(())
+    }
+
+    /// The input ended: judges what stands behind its last line feed.
+    pub(crate) fn close<W: Write, E: Write>(
+        &mut self,
+        alloc: Global,
+        writer: &mut Device<W>,
+        errors: &mut Device<E>,
+    ) -> Result<(), RunFault>
+        requires few { self.old.lines + 1 < 2 ^ 64 }
+        requires counted { self.old.faults ≤ self.old.lines }
+        ensures ok { OnOk result (HasClosed (lint_of self.old) (lint_of self.new)
+            (W.contents writer.old.inner) (W.contents writer.new.inner) (E.contents errors.old.inner) (E.contents errors.new.inner)) }
+        ensures err { IfErr result (λ fault. (0 < length self.old.front.items) × HasStoppedAt fault self.old.write (self.old.lines + 1) self.old.front.items
+            (W.contents writer.old.inner) (W.contents writer.new.inner) (E.contents errors.old.inner) (E.contents errors.new.inner)) }
+        ensures cause { writer.old.failed ≡ false → errors.old.failed ≡ false → HasCause result false 0 (writer.new.failed || errors.new.failed) }
+        ensures flushed { writer.old.flushed ≡ true → HasFlushed result writer.new.flushed }
+        ensures told_flushed { errors.old.flushed ≡ true → HasFlushed result errors.new.flushed }
+    {
+        if self.is_between() {
+            return Ok(());
+        }
+        self.end_line(alloc, &[], writer, errors)
+    }
+}

@@ -1,0 +1,77 @@
+//! A lint of a stream of lines.
+ghost use Rattle.std.specs.Prelude.{◌≡◌, ◌≤◌, ◌^◌, ◌||◌, true};
+ghost use Rattle.drf_journal.specs.Device.{IsNew};
+ghost use Rattle.drf_journal.specs.Ended.{HasCause, HasFlushed};
+ghost use Rattle.drf_lint.specs.Lint.{begun, lint_of};
+ghost use Rattle.drf_lint.specs.Linted.{HasLinted};
+
+use crate::linter::Linter;
+use drf_journal::{Device, RunFault, cut_law};
+use std::alloc::Global;
+use std::io::{Read, Write};
+
+/// How many bytes a read asks for.
+const CHUNK: usize = 65_536;
+
+/// How often a lint reads at most.
+const MAX_READS: u64 = 1_099_511_627_776;
+
+/// Judges the lines of a reader by a lint that has read nothing.
+fn lint<R: Read, W: Write, E: Write>(
+    alloc: Global,
+    linter: &mut Linter,
+    reader: &mut Device<R>,
+    writer: &mut Device<W>,
+    errors: &mut Device<E>,
+) -> Result<u64, RunFault>
+    requires linter { lint_of linter.old ≡ begun linter.old.write }
+    requires reader { IsNew reader.old.calls reader.old.failed }
+    requires writer { IsNew writer.old.calls writer.old.failed }
+    requires errors { IsNew errors.old.calls errors.old.failed }
+    ensures linted { HasLinted linter.old.write (R.remaining reader.old.inner) (R.remaining reader.new.inner)
+        (W.contents writer.old.inner) (W.contents writer.new.inner)
+        (E.contents errors.old.inner) (E.contents errors.new.inner) result }
+    ensures cause { HasCause result reader.new.failed reader.new.calls (writer.new.failed || errors.new.failed) }
+    ensures flushed { writer.old.flushed ≡ true → HasFlushed result writer.new.flushed }
+    ensures told_flushed { errors.old.flushed ≡ true → HasFlushed result errors.new.flushed }
+    ensures reads { reader.new.calls ≤ 2 ^ 40 }
+{
+    cut_law();
+    let mut buffer = vec![in alloc; 0u8; CHUNK]?;
+    let chunk = buffer.as_mut_slice();
+    for _turn in 0..MAX_READS {
+        let Ok(count) = reader.read(chunk) else {
+            return Err(RunFault::Read);
+        };
+        if count == 0 {
+            linter.close(alloc, writer, errors)?;
+            return Ok(linter.faults());
+        }
+        linter.take(alloc, &chunk[..count], writer, errors)?;
+    }
+    Err(RunFault::Read)
+}
+
+/// Judges the lines of a reader, cut as a run cuts them. Each that is an event is written in its written form on `writer`, where `write` says
+/// so, one a line; of each that is none it is told on `errors` why, and what is wrong in it. Tells how many are no events.
+pub fn run_lint<R: Read, W: Write, E: Write>(
+    alloc: Global,
+    write: bool,
+    reader: &mut Device<R>,
+    writer: &mut Device<W>,
+    errors: &mut Device<E>,
+) -> Result<u64, RunFault>
+    requires reader { IsNew reader.old.calls reader.old.failed }
+    requires writer { IsNew writer.old.calls writer.old.failed }
+    requires errors { IsNew errors.old.calls errors.old.failed }
+    ensures linted { HasLinted write (R.remaining reader.old.inner) (R.remaining reader.new.inner)
+        (W.contents writer.old.inner) (W.contents writer.new.inner)
+        (E.contents errors.old.inner) (E.contents errors.new.inner) result }
+    ensures cause { HasCause result reader.new.failed reader.new.calls (writer.new.failed || errors.new.failed) }
+    ensures flushed { writer.old.flushed ≡ true → HasFlushed result writer.new.flushed }
+    ensures told_flushed { errors.old.flushed ≡ true → HasFlushed result errors.new.flushed }
+    ensures reads { reader.new.calls ≤ 2 ^ 40 }
+{
+    let mut linter = Linter::begin(alloc, write);
+    lint(alloc, &mut linter, reader, writer, errors)
+}

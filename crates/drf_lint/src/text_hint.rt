@@ -1,0 +1,356 @@
+//! What is wrong with the texts of a line whose shape is right.
+
+use crate::place::{item_at, text_at, value_at};
+use crate::shapes::{Kind, TASK_KEYS, kind_of, text_keys_of};
+use crate::words::{Hint, quote, say, say_number};
+use drf_role::{Name, NameFault, Role, RoleFault};
+use drf_text::{TextFault, read_bundle, read_quantities, read_weight};
+use json::Value;
+use std::alloc::{AllocError, Global};
+
+/// A piece of a text that is wrong: where it begins in the text and how long it is, in bytes, and what it is not.
+#[derive(Clone, Copy)]
+struct Wrong {
+    begin: usize,
+    size: usize,
+    /// Where in the text the fault is told.
+    at: usize,
+    why: &'static str,
+}
+
+const NO_NAME: &str = " is no name: 1 to 64 letters, digits, _, - or .";
+
+const NO_ROLE: &str =
+    " is no role: * or 1 to 8 parts with / between them, 64 bytes in all; a part is visible ASCII without ( ) : ;, begins with no -, and is not ., .. or *";
+
+const NO_WEIGHT: &str = " is no weight: digits, with . and digits behind them or not";
+
+const LARGE: &str = " is too large: what a name has in all is at most 18446744073709551.615";
+
+const NO_FORM: &str =
+    " is not written as NAME:AMOUNT, NAME:[LOW-HIGH,..] or NAME:{MEMBER,..}; NAME(ROLE) is reserved for ROLE";
+
+const NO_LABEL: &str = " has no right name or member: 1 to 64 letters, digits, _, -, . or /";
+
+const RESERVED: &str = " is reserved: a limit is amounts alone, as cpus:4;mem:1024";
+
+const BAD_ROLE: &str =
+    " has no role between ( and ): * or 1 to 8 parts with / between them, 64 bytes in all, of visible ASCII";
+
+const NO_RANGE: &str =
+    " has no right range: LOW-HIGH, two numbers below 4294967296, the second not below the first";
+
+const NO_AMOUNT: &str = " is no amount: digits, with . and digits behind them or not";
+
+const OTHER_KIND: &str =
+    " is of another kind than this name was before: an amount, ranges or a set";
+
+const NO_LIMIT: &str = " is no amount: a limit is amounts alone, as cpus:4;mem:1024";
+
+const TWICE: &str = " has a member that stands under another reservation of this name before";
+
+/// All of a text is wrong.
+fn whole(text: &str, at: usize, why: &'static str) -> Option<Wrong> {
+    Some(Wrong {
+        begin: 0,
+        size: text.len(),
+        at,
+        why,
+    })
+}
+
+/// What is wrong with a name: told at its first byte that no name has.
+fn name_wrong(alloc: Global, text: &str) -> Result<Option<Wrong>, AllocError> {
+    match Name::read(alloc, text) {
+        Ok(_) => Ok(None),
+        Err(NameFault::Memory) => Err(AllocError),
+        Err(NameFault::BadName) => {
+            let bytes = text.as_bytes();
+            let at = bytes
+                .iter()
+                .position(|b| !(b.is_ascii_alphanumeric() || matches!(*b, b'_' | b'-' | b'.')))
+                .unwrap_or(0);
+            Ok(whole(text, at, NO_NAME))
+        }
+    }
+}
+
+fn role_wrong(alloc: Global, text: &str) -> Result<Option<Wrong>, AllocError> {
+    match Role::read(alloc, text) {
+        Ok(_) => Ok(None),
+        Err(RoleFault::Memory) => Err(AllocError),
+        Err(RoleFault::BadRole) => Ok(whole(text, 0, NO_ROLE)),
+    }
+}
+
+fn weight_wrong(text: &str) -> Result<Option<Wrong>, AllocError> {
+    match read_weight(text) {
+        Ok(_) => Ok(None),
+        Err(TextFault::TooLarge) => Ok(whole(text, 0, LARGE)),
+        Err(_) => Ok(whole(text, 0, NO_WEIGHT)),
+    }
+}
+
+/// The first fault of a text of resources or of a limit, if it has one.
+fn fault_in(alloc: Global, kind: Kind, text: &[u8]) -> Result<Option<TextFault>, AllocError> {
+    let Ok(text) = std::str::from_utf8(text) else {
+        return Ok(None);
+    };
+    let fault = match kind {
+        Kind::Limit => read_quantities(alloc, text).err(),
+        _ => read_bundle(alloc, text).err(),
+    };
+    match fault {
+        Some(TextFault::Memory) => Err(AllocError),
+        other => Ok(other),
+    }
+}
+
+/// Where the pieces of a text end.
+fn piece_ends(alloc: Global, text: &[u8]) -> Result<Vec<usize>, AllocError> {
+    let mut ends = Vec::new(alloc);
+    for (i, byte) in text.iter().enumerate() {
+        if *byte == b';' {
+            ends.push(i)?;
+        }
+    }
+    ends.push(text.len())?;
+    Ok(ends)
+}
+
+/// What a text has up to the end of a piece.
+fn up_to<'t>(text: &'t [u8], ends: &[usize], piece: usize) -> &'t [u8] {
+    let end = ends.get(piece).copied().unwrap_or(text.len());
+    text.get(..end).unwrap_or(text)
+}
+
+/// The first piece with a fault, of a text that has one. The pieces are read from the left, so that a front of the text has a fault
+/// just where that piece is in it: of the fronts half are passed by at a time.
+fn first_bad_piece(
+    alloc: Global,
+    kind: Kind,
+    text: &[u8],
+    ends: &[usize],
+) -> Result<usize, AllocError> {
+    let mut low = 0_usize;
+    let mut high = ends.len();
+    for _turn in 0..64 {
+        if low >= high {
+            break;
+        }
+        let middle = low + (high - low) / 2;
+        match fault_in(alloc, kind, up_to(text, ends, middle))? {
+            Some(_) => high = middle,
+            None => low = middle + 1,
+        }
+    }
+    Ok(low)
+}
+
+/// What is wrong with a piece that has that fault.
+fn why_of(kind: Kind, piece: &[u8], fault: TextFault) -> &'static str {
+    match (fault, kind) {
+        (TextFault::Syntax, _) => NO_FORM,
+        (TextFault::BadName, _) => NO_LABEL,
+        (TextFault::BadRole, Kind::Limit) => RESERVED,
+        (TextFault::BadRole, _) => BAD_ROLE,
+        (TextFault::BadNumber, _) if piece.contains(&b'[') => NO_RANGE,
+        (TextFault::BadNumber, _) => NO_AMOUNT,
+        (TextFault::Kind, Kind::Limit) => NO_LIMIT,
+        (TextFault::Kind, _) => OTHER_KIND,
+        (TextFault::Overlap, _) => TWICE,
+        _ => LARGE,
+    }
+}
+
+fn is_blank(byte: u8) -> bool {
+    (byte == b' ') | (byte == b'\t')
+}
+
+/// What is wrong with a text of resources or of a limit: its first piece with a fault, and that fault.
+fn pieces_wrong(alloc: Global, kind: Kind, text: &str) -> Result<Option<Wrong>, AllocError> {
+    let bytes = text.as_bytes();
+    if fault_in(alloc, kind, bytes)?.is_none() {
+        return Ok(None);
+    }
+    let ends = piece_ends(alloc, bytes)?;
+    let piece = first_bad_piece(alloc, kind, bytes, &ends)?;
+    let front = up_to(bytes, &ends, piece);
+    let Some(fault) = fault_in(alloc, kind, front)? else {
+        return Ok(None);
+    };
+    let begin = front
+        .iter()
+        .rposition(|b| *b == b';')
+        .map_or(0, |at| at.saturating_add(1));
+    let said = front.get(begin..).unwrap_or(&[]);
+    let blanks = said.iter().position(|b| !is_blank(*b)).unwrap_or(0);
+    let begin = begin.saturating_add(blanks);
+    let said = said.get(blanks..).unwrap_or(&[]);
+    let size = said
+        .iter()
+        .rposition(|b| !is_blank(*b))
+        .map_or(0, |at| at.saturating_add(1));
+    let why = why_of(kind, said, fault);
+    Ok(Some(Wrong {
+        begin,
+        size,
+        at: begin,
+        why,
+    }))
+}
+
+/// What is wrong with a text that stands under a key.
+fn wrong_in(alloc: Global, kind: Kind, text: &str) -> Result<Option<Wrong>, AllocError> {
+    match kind {
+        Kind::Name => name_wrong(alloc, text),
+        Kind::Role | Kind::Roles => role_wrong(alloc, text),
+        Kind::Weight => weight_wrong(text),
+        Kind::Bundle | Kind::Limit => pieces_wrong(alloc, kind, text),
+        Kind::Number | Kind::Tasks => Ok(None),
+    }
+}
+
+/// A text of a line, which stands under a key, or in an item there, or under a key of an item there.
+#[derive(Clone, Copy)]
+struct Told<'v, 'a> {
+    line: &'v str,
+    key: &'v str,
+    /// Items are counted from 0, and told from 1.
+    item: Option<usize>,
+    inner: Option<&'v str>,
+    text: &'a str,
+}
+
+/// Says where the text stands, as `"tasks" item 2 "use": `.
+fn say_path(words: &mut Vec<u8>, told: &Told<'_, '_>) -> Result<(), AllocError> {
+    quote(words, told.key.as_bytes())?;
+    if let Some(item) = told.item {
+        say(words, " item ")?;
+        say_number(words, item.saturating_add(1))?;
+    }
+    if let Some(inner) = told.inner {
+        say(words, " ")?;
+        quote(words, inner.as_bytes())?;
+    }
+    say(words, ": ")
+}
+
+/// Where the string of the text begins.
+fn place_of(alloc: Global, told: &Told<'_, '_>) -> Result<usize, AllocError> {
+    let mut place = value_at(alloc, told.line, 0, told.key)?;
+    if let Some(item) = told.item {
+        place = item_at(alloc, told.line, place, item)?;
+    }
+    if let Some(inner) = told.inner {
+        place = value_at(alloc, told.line, place, inner)?;
+    }
+    Ok(place)
+}
+
+/// What is wrong with a text of the line.
+fn told_hint(alloc: Global, told: &Told<'_, '_>) -> Result<Option<Hint>, AllocError> {
+    let kind = kind_of(told.inner.unwrap_or(told.key));
+    let Some(wrong) = wrong_in(alloc, kind, told.text)? else {
+        return Ok(None);
+    };
+    let mut words = Vec::new(alloc);
+    say_path(&mut words, told)?;
+    let bytes = told.text.as_bytes();
+    let end = wrong.begin.saturating_add(wrong.size);
+    quote(&mut words, bytes.get(wrong.begin..end).unwrap_or(bytes))?;
+    say(&mut words, wrong.why)?;
+    let begin = place_of(alloc, told)?;
+    let place = text_at(told.line, begin, told.text, wrong.at);
+    Ok(Some(Hint { place, words }))
+}
+
+/// What is wrong with the roles of a framework.
+fn roles_hint(alloc: Global, line: &str, items: &[Value<'_>]) -> Result<Option<Hint>, AllocError> {
+    for (i, item) in items.iter().enumerate() {
+        let told = Told {
+            line,
+            key: "roles",
+            item: Some(i),
+            inner: None,
+            text: item.as_str().unwrap_or(""),
+        };
+        if let Some(hint) = told_hint(alloc, &told)? {
+            return Ok(Some(hint));
+        }
+    }
+    Ok(None)
+}
+
+/// What is wrong with a task of a list.
+fn task_hint(
+    alloc: Global,
+    line: &str,
+    item: usize,
+    value: &Value<'_>,
+) -> Result<Option<Hint>, AllocError> {
+    for key in TASK_KEYS.split(' ') {
+        let told = Told {
+            line,
+            key: "tasks",
+            item: Some(item),
+            inner: Some(key),
+            text: value.get(key).and_then(Value::as_str).unwrap_or(""),
+        };
+        if let Some(hint) = told_hint(alloc, &told)? {
+            return Ok(Some(hint));
+        }
+    }
+    Ok(None)
+}
+
+/// What is wrong with a list of tasks.
+fn tasks_hint(alloc: Global, line: &str, items: &[Value<'_>]) -> Result<Option<Hint>, AllocError> {
+    for (i, item) in items.iter().enumerate() {
+        if let Some(hint) = task_hint(alloc, line, i, item)? {
+            return Ok(Some(hint));
+        }
+    }
+    Ok(None)
+}
+
+/// What is wrong with the texts under a key of an event.
+fn key_hint<'v>(
+    alloc: Global,
+    line: &'v str,
+    value: &Value<'_>,
+    key: &'v str,
+) -> Result<Option<Hint>, AllocError> {
+    match value.get(key) {
+        Some(Value::String(text)) => {
+            let told = Told {
+                line,
+                key,
+                item: None,
+                inner: None,
+                text,
+            };
+            told_hint(alloc, &told)
+        }
+        Some(Value::Array(items)) => match kind_of(key) {
+            Kind::Roles => roles_hint(alloc, line, items),
+            _ => tasks_hint(alloc, line, items),
+        },
+        _ => Ok(None),
+    }
+}
+
+/// What is wrong with the texts of a line, which is that JSON and has the shape of an event, if anything is.
+pub(crate) fn text_hint(
+    alloc: Global,
+    line: &str,
+    value: &Value<'_>,
+) -> Result<Option<Hint>, AllocError> {
+    let word = value.get("event").and_then(Value::as_str).unwrap_or("");
+    for key in text_keys_of(word, value.get("tasks").is_some()).split(' ') {
+        if let Some(hint) = key_hint(alloc, line, value, key)? {
+            return Ok(Some(hint));
+        }
+    }
+    Ok(None)
+}

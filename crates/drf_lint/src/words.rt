@@ -1,0 +1,98 @@
+//! What is wrong in a line, in words.
+ghost use Rattle.std.specs.Prelude.{◌≡◌, IfOk, true};
+ghost use Rattle.drf_lint.specs.Told.{AreWords, is_seen};
+
+use itoa::Buffer;
+use std::alloc::{AllocError, Global};
+
+/// What is wrong in a line, in words, and where.
+#[derive(Drop)]
+pub(crate) struct Hint {
+    /// The byte in the line, from 0.
+    pub place: usize,
+    pub words: Vec<u8>,
+}
+
+/// A hint of one text.
+pub(crate) fn plain_hint(alloc: Global, place: usize, text: &str) -> Result<Hint, AllocError> {
+    let mut words = Vec::new(alloc);
+    say(&mut words, text)?;
+    Ok(Hint { place, words })
+}
+
+/// Says a text.
+pub(crate) fn say(words: &mut Vec<u8>, text: &str) -> Result<(), AllocError> {
+    words.extend_from_slice(text.as_bytes())
+}
+
+/// Says a number.
+pub(crate) fn say_number(words: &mut Vec<u8>, number: usize) -> Result<(), AllocError> {
+    say(words, Buffer::new().format(number as u64))
+}
+
+/// Whether a byte is shown as it is.
+fn is_seen(byte: u8) -> bool
+    ensures { result ≡ is_seen byte }
+{
+    (32 <= byte) & (byte <= 126)
+}
+
+const DIGITS: &[u8; 16] = b"0123456789abcdef";
+
+/// Shows a byte, as `\x0a` where it is no visible ASCII.
+fn show_byte(words: &mut Vec<u8>, byte: u8) -> Result<(), AllocError> {
+    if is_seen(byte) {
+        words.push(byte)?;
+        return Ok(());
+    }
+    say(words, "\\x")?;
+    words.push(DIGITS[(byte / 16) as usize])?;
+    words.push(DIGITS[(byte % 16) as usize])?;
+    Ok(())
+}
+
+/// How many bytes of a piece of a line are shown.
+const MOST_SHOWN: usize = 40;
+
+/// Shows a piece of the line, cut where it is long.
+pub(crate) fn show(words: &mut Vec<u8>, piece: &[u8]) -> Result<(), AllocError> {
+    let shown = piece.len().min(MOST_SHOWN);
+    for byte in &piece[..shown] {
+        show_byte(words, *byte)?;
+    }
+    if shown < piece.len() {
+        say(words, "...")?;
+    }
+    Ok(())
+}
+
+/// Shows a text of the line between quotes.
+pub(crate) fn quote(words: &mut Vec<u8>, text: &[u8]) -> Result<(), AllocError> {
+    say(words, "\"")?;
+    show(words, text)?;
+    say(words, "\"")
+}
+
+/// How many bytes of words are told.
+const MOST_WORDS: usize = 240;
+
+/// A byte that is seen.
+fn seen_byte(byte: u8) -> u8
+    ensures { is_seen result ≡ true }
+{
+    if is_seen(byte) {
+        return byte;
+    }
+    b'?'
+}
+
+/// Words as they are told: as many as fit, and all of them seen.
+pub(crate) fn fitted(alloc: Global, said: &[u8]) -> Result<Vec<u8>, AllocError>
+    ensures { IfOk result (λ words. AreWords words.items) }
+{
+    let mut words = Vec::new(alloc);
+    for byte in &said[..said.len().min(MOST_WORDS)] {
+        words.push(seen_byte(*byte))?;
+    }
+    Ok(words)
+}

@@ -47,6 +47,9 @@ within-push front b within other =
     All-append (λ b. is_line_feed b ≡ false) front (b ∷ []) within
     (All-cons (λ b. is_line_feed b ≡ false) b [] other within-nil)
 
+pub within-append : (front more : List ℕ) → IsWithinLine front → IsWithinLine more → IsWithinLine (front ++ more)
+within-append front more within also = All-append (λ b. is_line_feed b ≡ false) front more within also
+
 pub within-head : (b : ℕ) (bytes : List ℕ) → IsWithinLine (b ∷ bytes) → is_line_feed b ≡ false
 within-head b bytes within = All-head (λ b. is_line_feed b ≡ false) b bytes within
 

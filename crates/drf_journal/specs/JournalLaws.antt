@@ -10,10 +10,10 @@ use Rattle.drf_journal.specs.declared.journal.Verdict.{Verdict}
 use Rattle.drf_journal.specs.declared.journal.Verdict.TheVariants.{Good}
 use Rattle.drf_journal.specs.Audited.{rows_after_lines, agents_text, cycle_text, told_of_lines}
 use Rattle.drf_journal.specs.Journal.{event_lines, reply_lines, IsVerdict}
-use Rattle.drf_journal.specs.Lines.{lines_of}
-use Rattle.drf_journal.specs.Output.{output_of}
+use Rattle.drf_journal.specs.Lines.{ended_lines_of, open_line_of, lines_of, IsWithinLine}
+use Rattle.drf_journal.specs.Output.{kept_of, output_of}
 use Rattle.drf_journal.specs.Resumed.{resumed, IsCutBehindLine}
-use Rattle.drf_journal.specs.State.{machine_after_lines}
+use Rattle.drf_journal.specs.State.{machine_after, machine_after_lines, answer_to}
 
 -- a journal has one verdict at most: it is not both good and bad, has one number of event lines, and one first wrong line
 abbrev pub HasOneVerdict : Type 0
@@ -94,3 +94,42 @@ JournalInTwo =
     (machine : Machine) (a b : List ℕ) (pairs more : ℕ) → AreWholePairs pairs a
     → IsVerdict machine (a ++ b) (Good (pairs + more))
     ↔ (IsVerdict machine a (Good pairs) × IsVerdict (resumed machine (event_lines (lines_of a))) b (Good more))
+
+-- ---- lines that come piece by piece
+
+-- a line feed ends the line at hand
+abbrev pub LineFeedEndsLine : Type 0
+LineFeedEndsLine =
+    (read end : List ℕ) → IsWithinLine end
+    → (ended_lines_of (read ++ (end ++ 10 ∷ [])) ≡ ended_lines_of read ++ (open_line_of read ++ end) ∷ [])
+    × (open_line_of (read ++ (end ++ 10 ∷ [])) ≡ [])
+
+-- without one it goes on
+abbrev pub LineGoesOn : Type 0
+LineGoesOn =
+    (read more : List ℕ) → IsWithinLine more
+    → (ended_lines_of (read ++ more) ≡ ended_lines_of read) × (open_line_of (read ++ more) ≡ open_line_of read ++ more)
+
+-- lines that have ended stay, whatever comes
+abbrev pub EndedLinesStay : Type 0
+EndedLinesStay =
+    (read more : List ℕ) → (lines : List (List ℕ)) × (ended_lines_of (read ++ more) ≡ ended_lines_of read ++ lines)
+
+-- what is kept of a line goes on as the line does
+abbrev pub KeptGoesOn : Type 0
+KeptGoesOn = (line more : List ℕ) → kept_of (kept_of line ++ more) ≡ kept_of (line ++ more)
+
+-- and means what the line means
+abbrev pub MeaningIsKept : Type 0
+MeaningIsKept = (line : List ℕ) → meaning_of (kept_of line) ≡ meaning_of line
+
+-- and is answered as it
+abbrev pub AnswerIsKept : Type 0
+AnswerIsKept = (echo : Bool) (machine : Machine) (line : List ℕ) → answer_to echo machine (kept_of line) ≡ answer_to echo machine line
+
+-- the text for some lines is that for the first, and then that for the others from the allocator after it
+abbrev pub OutputLineByLine : Type 0
+OutputLineByLine =
+    (machine : Machine) (echo : Bool) (line : List ℕ) (lines : List (List ℕ))
+    → output_of machine echo (line ∷ lines)
+    ≡ answer_to echo machine line ++ output_of (machine_after machine (meaning_of line)) echo lines

@@ -99,7 +99,7 @@ fn answer<S: Sorter>(
 
 /// Takes the event of the line that some bytes end, of which `front` came before, and adds the text for the line, all of it
 /// or nothing. A line that came whole is read where it lies.
-pub(crate) fn answer_end<S: Sorter>(
+pub fn answer_end<S: Sorter>(
     reader: &mut LineReader,
     core: &mut Core<S>,
     echo: bool,

@@ -1,5 +1,5 @@
 //! Laws of the definitions. The functions do nothing: what they promise is proved of the definitions alone.
-ghost use Rattle.drf_journal.specs.JournalLaws.{HasOneVerdict, RepliesAreNoEvents, FaultsAreNoEvents, RepliesArePassedOver, LinesInTwo, OutputInTwo, AllocatorInTwo, AuditInTwo, ExplanationInTwo, StepsLeaveLiveRows, JournalInTwo};
+ghost use Rattle.drf_journal.specs.JournalLaws.{HasOneVerdict, RepliesAreNoEvents, FaultsAreNoEvents, RepliesArePassedOver, LinesInTwo, OutputInTwo, AllocatorInTwo, AuditInTwo, ExplanationInTwo, StepsLeaveLiveRows, JournalInTwo, LineFeedEndsLine, LineGoesOn, EndedLinesStay, KeptGoesOn, MeaningIsKept, AnswerIsKept, OutputLineByLine};
 
 /// A journal has one verdict at most, so that one that is told is the only one.
 pub fn verdict_law()
@@ -29,4 +29,16 @@ pub fn cut_law()
 /// that the events of the first left.
 pub fn glue_law()
     ensures { JournalInTwo }
+{}
+
+/// How the lines of an input come, piece by piece, that what is kept of a line has its meaning and its answer, and that the output is
+/// made line by line.
+pub fn line_law()
+    ensures feed { LineFeedEndsLine }
+    ensures within { LineGoesOn }
+    ensures ended { EndedLinesStay }
+    ensures kept { KeptGoesOn }
+    ensures meaning { MeaningIsKept }
+    ensures answer { AnswerIsKept }
+    ensures output { OutputLineByLine }
 {}

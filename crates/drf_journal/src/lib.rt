@@ -16,13 +16,14 @@ mod open_line;
 mod resume;
 mod session;
 
+pub use answer::answer_end;
 pub use audit::run_audit;
 pub use device::{Device, write_whole};
 pub use engine::{ProgramSorter, run, serve};
 pub use explain::run_explain;
 pub use fault::RunFault;
 pub use journal::{Verdict, verify};
-pub use laws::{cut_law, glue_law, reply_lines_law, verdict_law};
-pub use open_line::line_feed_in;
+pub use laws::{cut_law, glue_law, line_law, reply_lines_law, verdict_law};
+pub use open_line::{OpenLine, line_feed_in};
 pub use resume::advance;
 pub use session::Session;

@@ -19,7 +19,7 @@ pub(crate) fn kept_front(line: &[u8]) -> &[u8]
 
 /// What is kept of the line at hand, which comes in pieces.
 #[derive(Drop)]
-pub(crate) struct OpenLine {
+pub struct OpenLine {
     kept: Vec<u8>,
 }
 
@@ -33,7 +33,7 @@ impl Model for OpenLine {
 
 impl OpenLine {
     /// Nothing of a line.
-    pub(crate) fn new(alloc: Global) -> OpenLine
+    pub fn new(alloc: Global) -> OpenLine
         ensures { result ≡ [] }
     {
         OpenLine {
@@ -42,21 +42,21 @@ impl OpenLine {
     }
 
     /// Whether nothing is kept.
-    pub(crate) fn is_empty(&self) -> bool
+    pub fn is_empty(&self) -> bool
         ensures { IsTrue result ↔ (length self.now ≡ 0) }
     {
         self.kept.is_empty()
     }
 
     /// The bytes that are kept.
-    pub(crate) fn bytes(&self) -> &[u8]
+    pub fn bytes(&self) -> &[u8]
         ensures { result.now ≡ self.now }
     {
         &self.kept
     }
 
     /// Adds bytes of the line, as far as they are kept.
-    pub(crate) fn keep(&mut self, more: &[u8]) -> Result<(), AllocError>
+    pub fn keep(&mut self, more: &[u8]) -> Result<(), AllocError>
         ensures { OnOk result (self.new ≡ kept_of (self.old ++ more.now)) }
     {
         self.kept.extend_from_slice(more)?;
@@ -65,7 +65,7 @@ impl OpenLine {
     }
 
     /// The next line begins.
-    pub(crate) fn clear(&mut self)
+    pub fn clear(&mut self)
         ensures { self.new ≡ [] }
     {
         self.kept.clear();

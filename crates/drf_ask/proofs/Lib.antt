@@ -1,0 +1,10 @@
+pub mod Answers
+pub mod Written
+pub mod Kept
+pub mod Steps
+pub mod Pieces
+pub mod Ends
+pub mod Texts
+pub mod Clients
+pub mod Words
+pub mod Numbers

@@ -1,0 +1,8 @@
+use Rattle.std.proofs.lemmas.Result.{on_ok_weaker}
+use Rattle.drf_ask.proofs.Texts.{answer_whole}
+use Rattle.drf_ask.proofs.answer.push_tasks.Goals as goal
+
+pub returns : goal.returns
+returns c =
+    rw c.if-not-is_known.true (on_ok_weaker c.put.result
+    (λ end. answer_whole c.args.text.now.items _ _ _ _ _ c.in_ok-push_opening.ensures c.in_ok-push_list.ensures end) c.put.ensures)

@@ -1,0 +1,7 @@
+use Rattle.std.proofs.Common.{◌≡◌, ◌+◌, not, drop}
+use Rattle.std.specs.List.{prefix_len}
+use Rattle.drf_ask.specs.Question.{is_blank}
+use Rattle.drf_ask.proofs.question.word_len.Given as goal
+
+abbrev pub invariant-loop-i : goal.invariant-loop-i
+invariant-loop-i l = l.i + prefix_len (λ b. not (is_blank b)) (drop l.i l.text) ≡ prefix_len (λ b. not (is_blank b)) l.text

@@ -1,0 +1,5 @@
+pub mod Question
+pub mod Answer
+pub mod Asked
+pub mod Asking
+pub mod Ended

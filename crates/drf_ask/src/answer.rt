@@ -1,0 +1,207 @@
+//! What a question is answered.
+ghost use Rattle.std.specs.Prelude.{◌≡◌, ◌++◌, [], true, codes, OnOk};
+ghost use Rattle.drf_core.specs.Machine.{live};
+ghost use Rattle.drf_lines.specs.ReplyLine.{line_of};
+ghost use Rattle.drf_rows.specs.Members.{has_framework};
+ghost use Rattle.drf_ask.specs.Answer.{opening, not_told, is_known, offers_told, tasks_told, if_known, explained_told, answer_of_kind, answer_value, answer_line};
+ghost use Rattle.drf_ask.specs.Question.{is_question, word_of, word_at, fault_name, moment_of};
+
+
+use crate::list::{has_name, push_list};
+use crate::question::{Fault, Kind, kind_of, moment_of, question_of};
+use crate::table::push_tables;
+use crate::text::{drop_last, push_string, put};
+use drf_core::Core;
+use drf_lines::push_reply;
+use drf_rows::{Limits, Reply, Rows};
+use drf_sorter::Sorter;
+use drf_state::write_state;
+use std::alloc::AllocError;
+
+/// How many bytes a question has at most, without its line feed.
+const LONGEST_LINE: usize = 65_536;
+
+/// The word for what was asked.
+fn word_at(kind: Option<Kind>) -> &'static str
+    ensures { result.now ≡ word_at kind }
+{
+    match kind {
+        Some(kind) => kind.word(),
+        None => "?",
+    }
+}
+
+/// Adds the line that says why nothing is told.
+fn push_not_told(text: &mut Vec<u8>, kind: Option<Kind>, fault: Fault) -> Result<(), AllocError>
+    ensures { OnOk result (text.new.items ≡ text.old.items ++ line_of (not_told (word_at kind) (fault_name fault))) }
+{
+    put(text, "{\"asked\":\"")?;
+    put(text, word_at(kind))?;
+    put(text, "\",\"fault\":\"")?;
+    put(text, fault.name())?;
+    put(text, "\"}\n")
+}
+
+/// Adds what stands before what is told.
+fn push_opening(text: &mut Vec<u8>, kind: Kind) -> Result<(), AllocError>
+    ensures { OnOk result (text.new.items ≡ text.old.items ++ opening (word_of kind)) }
+{
+    put(text, "{\"asked\":\"")?;
+    put(text, kind.word())?;
+    put(text, "\",\"")?;
+    put(text, kind.word())?;
+    put(text, "\":")
+}
+
+fn push_report<S: Sorter>(core: &Core<S>, text: &mut Vec<u8>) -> Result<(), AllocError>
+    ensures { OnOk result (text.new.items ≡ text.old.items ++ line_of (answer_of_kind (live core.now) Kind.Report [])) }
+{
+    push_opening(text, Kind::Report)?;
+    let reply = Reply::Report(core.report()?);
+    push_reply(text, &reply)?;
+    drop_last(text);
+    put(text, "}\n")
+}
+
+fn push_explained<S: Sorter>(
+    core: &Core<S>,
+    argument: &[u8],
+    text: &mut Vec<u8>,
+) -> Result<(), AllocError>
+    ensures { OnOk result (text.new.items ≡ text.old.items ++ line_of (explained_told (live core.now).rows (moment_of argument.now))) }
+{
+    let Some(at) = moment_of(argument) else {
+        return push_not_told(text, Some(Kind::Explain), Fault::BadArgument);
+    };
+    push_opening(text, Kind::Explain)?;
+    let findings = core.explain(at)?;
+    push_list(text, &findings, &[])?;
+    put(text, "}\n")
+}
+
+/// Whether a framework is registered under a name.
+fn has_framework(rows: &Rows, name: &[u8]) -> bool
+    ensures { result ≡ has_framework rows.now name.now }
+{
+    let frameworks = rows.frameworks.as_slice();
+    frameworks.iter().any(|row| has_name(&row.name, name))
+}
+
+/// Whether a framework that is named is registered.
+fn is_known(rows: &Rows, framework: &[u8]) -> bool
+    ensures { result ≡ is_known rows.now framework.now }
+{
+    framework.is_empty() || has_framework(rows, framework)
+}
+
+fn push_offers(rows: &Rows, framework: &[u8], text: &mut Vec<u8>) -> Result<(), AllocError>
+    ensures { OnOk result (text.new.items ≡ text.old.items ++ line_of (if_known rows.now framework.now (codes "offers") (offers_told rows.now framework.now))) }
+{
+    if !is_known(rows, framework) {
+        return push_not_told(text, Some(Kind::Offers), Fault::UnknownFramework);
+    }
+    push_opening(text, Kind::Offers)?;
+    push_list(text, rows.offers.as_slice(), framework)?;
+    put(text, "}\n")
+}
+
+fn push_tasks(rows: &Rows, framework: &[u8], text: &mut Vec<u8>) -> Result<(), AllocError>
+    ensures { OnOk result (text.new.items ≡ text.old.items ++ line_of (if_known rows.now framework.now (codes "tasks") (tasks_told rows.now framework.now))) }
+{
+    if !is_known(rows, framework) {
+        return push_not_told(text, Some(Kind::Tasks), Fault::UnknownFramework);
+    }
+    push_opening(text, Kind::Tasks)?;
+    push_list(text, rows.tasks.as_slice(), framework)?;
+    put(text, "}\n")
+}
+
+fn push_how_full<S: Sorter>(
+    core: &Core<S>,
+    limits: &Limits,
+    text: &mut Vec<u8>,
+) -> Result<(), AllocError>
+    requires { limits.now ≡ (live core.now).limits }
+    ensures { OnOk result (text.new.items ≡ text.old.items ++ line_of (answer_of_kind (live core.now) Kind.Tables [])) }
+{
+    // The contract of this call tells that the limits are within the ceilings.
+    let _ = limits.agents();
+    push_opening(text, Kind::Tables)?;
+    let rows = core.rows()?;
+    let report = core.report()?;
+    push_tables(text, limits, &rows, report.total.entries().len())?;
+    put(text, "}\n")
+}
+
+fn push_saved<S: Sorter>(core: &Core<S>, text: &mut Vec<u8>) -> Result<(), AllocError>
+    ensures { OnOk result (text.new.items ≡ text.old.items ++ line_of (answer_of_kind (live core.now) Kind.State [])) }
+{
+    push_opening(text, Kind::State)?;
+    let rows = core.rows()?;
+    let state = write_state(*text.allocator(), &rows)?;
+    push_string(text, &state)?;
+    put(text, "}\n")
+}
+
+fn push_answer_of_kind<S: Sorter>(
+    core: &Core<S>,
+    limits: &Limits,
+    kind: Kind,
+    argument: &[u8],
+    text: &mut Vec<u8>,
+) -> Result<(), AllocError>
+    requires { limits.now ≡ (live core.now).limits }
+    ensures { OnOk result (text.new.items ≡ text.old.items ++ line_of (answer_of_kind (live core.now) kind argument.now)) }
+{
+    match kind {
+        Kind::Report => push_report(core, text),
+        Kind::Explain => push_explained(core, argument, text),
+        Kind::Offers => push_offers(&core.rows()?, argument, text),
+        Kind::Tasks => push_tasks(&core.rows()?, argument, text),
+        Kind::State => push_saved(core, text),
+        Kind::Tables => push_how_full(core, limits, text),
+    }
+}
+
+/// Adds the line that answers a question.
+#[tactic(auto, unfolding(crate::specs::Answer::answer_value))]
+fn push_answer_line<S: Sorter>(
+    core: &Core<S>,
+    limits: &Limits,
+    line: &[u8],
+    text: &mut Vec<u8>,
+) -> Result<(), AllocError>
+    requires limits { limits.now ≡ (live core.now).limits }
+    requires asks { is_question line.now ≡ true }
+    ensures { OnOk result (text.new.items ≡ text.old.items ++ line_of (answer_value (live core.now) line.now)) }
+{
+    if line.len() > LONGEST_LINE {
+        return push_not_told(text, None, Fault::LineTooLong);
+    }
+    let question = question_of(line);
+    let Some(kind) = kind_of(question.word) else {
+        return push_not_told(text, None, Fault::UnknownQuestion);
+    };
+    if !question.has_right_words(kind) {
+        return push_not_told(text, Some(kind), Fault::BadArgument);
+    }
+    push_answer_of_kind(core, limits, kind, question.argument, text)
+}
+
+/// Adds the line that answers a question; where lines are told too, it begins with `?`.
+pub(crate) fn push_answer<S: Sorter>(
+    core: &Core<S>,
+    limits: &Limits,
+    echo: bool,
+    line: &[u8],
+    text: &mut Vec<u8>,
+) -> Result<(), AllocError>
+    requires limits { limits.now ≡ (live core.now).limits }
+    requires asks { is_question line.now ≡ true }
+    ensures { OnOk result (text.new.items ≡ text.old.items ++ answer_line echo (live core.now) line.now) }
+{
+    if echo {
+        put(text, "?")?;
+    }
+    push_answer_line(core, limits, line, text)
+}

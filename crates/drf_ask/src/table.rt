@@ -1,0 +1,55 @@
+//! How full the tables are.
+ghost use Rattle.std.specs.Prelude.{◌≡◌, ◌<◌, ◌^◌, ◌++◌, length, OnOk};
+ghost use Rattle.serde_json.specs.Written.{compact_text};
+ghost use Rattle.drf_bundle.specs.Quantities.{without_zeros};
+ghost use Rattle.drf_rows.specs.Held.{clients_in, clients_of, cluster_total};
+ghost use Rattle.drf_ask.specs.Answer.{table_value, tables_value};
+
+use crate::text::{put, put_number};
+use drf_rows::{FrameworkRow, Limits, Rows};
+use std::alloc::AllocError;
+
+/// How many clients the frameworks have together.
+fn count_clients(frameworks: &[FrameworkRow]) -> u64
+    requires { length (clients_in frameworks.now) < 2 ^ 64 }
+    ensures { result ≡ length (clients_in frameworks.now) }
+{
+    let mut clients = 0;
+    for framework in frameworks {
+        clients += framework.clients.len() as u64;
+    }
+    clients
+}
+
+/// Adds what stands before a table, how many rows it may have, and how many it has.
+fn put_table(text: &mut Vec<u8>, before: &str, rows: u64, limit: u64) -> Result<(), AllocError>
+    ensures { OnOk result (text.new.items ≡ text.old.items ++ (before.now ++ compact_text (table_value rows limit))) }
+{
+    put(text, before)?;
+    put_number(text, "{\"limit\":", limit)?;
+    put_number(text, ",\"rows\":", rows)?;
+    put(text, "}")
+}
+
+/// Adds how many rows each table has that has a limit, and the limit. `scalar_names` are the names of scalars over all agents.
+pub(crate) fn push_tables(
+    text: &mut Vec<u8>,
+    limits: &Limits,
+    rows: &Rows,
+    scalar_names: usize,
+) -> Result<(), AllocError>
+    requires clients { length (clients_of rows.now) < 2 ^ 64 }
+    requires names { scalar_names ≡ length (without_zeros (cluster_total rows.now.agents)) }
+    ensures { OnOk result (text.new.items ≡ text.old.items ++ compact_text (tables_value limits.now rows.now)) }
+{
+    let clients = count_clients(rows.frameworks.as_slice());
+    put_table(text, "{\"agents\":", rows.agents.len() as u64, limits.agents())?;
+    put_table(text, ",\"clients\":", clients, limits.clients())?;
+    put_table(text, ",\"events\":", rows.events, limits.events())?;
+    put_table(text, ",\"filters\":", rows.filters.len() as u64, limits.filters())?;
+    put_table(text, ",\"frameworks\":", rows.frameworks.len() as u64, limits.frameworks())?;
+    put_table(text, ",\"limits\":", rows.limits.len() as u64, limits.limits())?;
+    put_table(text, ",\"scalar_names\":", scalar_names as u64, limits.scalar_names())?;
+    put_table(text, ",\"weights\":", rows.weights.len() as u64, limits.weights())?;
+    put(text, "}")
+}

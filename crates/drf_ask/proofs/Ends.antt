@@ -1,5 +1,6 @@
 -- How a run ends that is asked.
 use Rattle.std.proofs.Common.{◌≡◌, ℕ, ◌+◌, ◌-◌, ◌≤◌, Bool, false, List, [], ◌∷◌, ◌++◌, length, take, drop, Option, Ok, Err, ⊎_elim, inl, inr, refl, sym, ap, ◌∙◌, subst, append_assoc, append-nil, take-append-drop, if◌then◌else◌, ◌==◌, arith}
+use Rattle.std.specs.Prelude.{⊤}
 use Rattle.std.proofs.Math.Seq.{take-append_seam}
 use Rattle.std.specs.Io.{StartsWith}
 use Rattle.std.specs.Io.KnownBytes.{Appends, Consumes, Keeps, IsAtEnd}
@@ -45,6 +46,17 @@ few_lines : (all answered more : List (List ℕ)) → all ≡ answered ++ more �
 few_lines all answered more whole =
     let same = ap length whole in let sum = length-append answered more in omega arith
 
+-- where memory ran out, all lines that count had ended
+abbrev EndsAt : RunFault → List ℕ → List (List ℕ) → Type 0
+EndsAt Read read all = ⊤
+EndsAt Write read all = ⊤
+EndsAt Memory read all = ended_lines_of read ≡ all
+
+ends_there : (fault : RunFault) (read : List ℕ) → EndsAt fault read (ended_lines_of read)
+ends_there Read read = tt
+ends_there Write read = tt
+ends_there Memory read = refl
+
 module _ (stay : EndedLinesStay) (machine : Machine) (echo : Bool) where
   -- the text for the lines of a front comes first
   earlier : (written read : List ℕ) (count : ℕ) → StartsWith written (asked_of machine echo (ended_lines_of read))
@@ -72,7 +84,7 @@ module _ (stay : EndedLinesStay) (machine : Machine) (echo : Bool) where
     -- it stopped
     stopped_with : (fault : RunFault) (before : List (List ℕ)) (all : List (List ℕ)) (rest : List (List ℕ))
         → HasStoppedIn fault machine echo before all written_first written_after
-        → (all_told : (fault ≡ Memory → ended_lines_of read ≡ all) × (lines_of read ≡ all ++ rest))
+        → EndsAt fault read all × (lines_of read ≡ all ++ rest)
         → ((answered : ℕ) → answered ≤ length all → HaveEnded answered read unread_after)
         → ((written : List ℕ) → StartsWith written (asked_of machine echo before)
         → StartsWith written (asked_of machine echo (ended_lines_of (take (length read - 65536) read))))
@@ -96,7 +108,7 @@ module _ (stay : EndedLinesStay) (machine : Machine) (echo : Bool) where
           prompt = prompt stopped.written stopped.prompt;
         }
     stopped_with Memory before all rest stopped told ended prompt =
-        let parted : ended_lines_of read ≡ stopped.answered ++ stopped.more = told.0 refl ∙ stopped.whole in
+        let parted : ended_lines_of read ≡ stopped.answered ++ stopped.more = told.0 ∙ stopped.whole in
         record {
           read = read;
           written = stopped.written;
@@ -190,13 +202,13 @@ module _ (stay : EndedLinesStay) (old : Asking) (unread_first unread unread_next
     run-unclosed Write stops =
         stopped_with stay old.machine old.echo unread_first unread_next written_first written_next serving.read all_consumed Write
         (ended_lines_of serving.read) (lines_of serving.read) [] (stops old.machine old.echo serving.read written_first serving.so_far)
-        (λ e. absurd e, sym (append-nil (lines_of serving.read))) (λ answered few. inr at_end)
+        (tt, sym (append-nil (lines_of serving.read))) (λ answered few. inr at_end)
         (λ text whole. earlier stay old.machine old.echo text serving.read _ whole)
     run-unclosed Memory stops =
         let last = all_lines serving.read in
         stopped_with stay old.machine old.echo unread_first unread_next written_first written_next serving.read all_consumed Memory
         (ended_lines_of serving.read) (ended_lines_of serving.read) last.0 (stops old.machine old.echo serving.read written_first serving.so_far)
-        (λ e. refl, last.1) (λ answered few. inr at_end)
+        (refl, last.1) (λ answered few. inr at_end)
         (λ text whole. earlier stay old.machine old.echo text serving.read _ whole)
 
   pub run-stops : (fault : RunFault) (piece : List ℕ) → length piece ≤ 65536 → Consumes unread unread_next piece
@@ -210,7 +222,7 @@ module _ (stay : EndedLinesStay) (old : Asking) (unread_first unread unread_next
       stopped_with stay old.machine old.echo unread_first unread_next written_first written_next read
       (Consumes-trans _ _ _ _ _ serving.consumed consumed) fault
       (ended_lines_of serving.read) (ended_lines_of read) last.0 (stops old.machine old.echo serving.read written_first serving.so_far)
-      (λ e. refl, last.1) (λ answered few. inl few)
+      (ends_there fault read, last.1) (λ answered few. inl few)
       (λ text whole. subst (λ (l : List ℕ). StartsWith text (asked_of old.machine old.echo (ended_lines_of l))) (sym front)
       (earlier stay old.machine old.echo text serving.read (length read - 65536) whole))
 

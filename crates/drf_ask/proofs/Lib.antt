@@ -8,3 +8,5 @@ pub mod Texts
 pub mod Clients
 pub mod Words
 pub mod Numbers
+pub mod Machines
+pub mod Tables

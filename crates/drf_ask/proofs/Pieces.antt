@@ -119,14 +119,14 @@ module _ (laws : Laws) (start : Machine) (echo : Bool) (read : List ℕ) (first 
       ap (λ (b : Bool). ended_lines_of read ++ (if b then [] else open_line_of read ∷ [])) test
       ∙ ap (λ (l : List ℕ). ended_lines_of read ++ l ∷ []) (sym (append-nil (open_line_of read)))
 
-  module _ (some : 0 < length asking.pending) (then : Option (List ℕ)) where
+  module _ (some : 0 < length asking.pending) (written_next : Option (List ℕ)) where
     pub closed-line : (next : Asking) → next ≡ after_line asking (kept_of (asking.pending ++ []))
-        → Appends now then (text_for asking.echo asking.machine (kept_of (asking.pending ++ [])))
-        → HasClosed start echo read first then next
+        → Appends now written_next (text_for asking.echo asking.machine (kept_of (asking.pending ++ [])))
+        → HasClosed start echo read first written_next next
     closed-line next is told =
         let all = last-line some in
         record {
-          written = subst (Appends first then)
+          written = subst (Appends first written_next)
               (text_after laws start echo read first now asking so_far [] ∙ ap (asked_of start echo) (sym all))
               (Appends-trans _ _ _ _ _ so_far.written told);
           events = ap (λ (a : Asking). a.events) is ∙ events_after laws start echo read first now asking so_far []
@@ -134,17 +134,24 @@ module _ (laws : Laws) (start : Machine) (echo : Bool) (read : List ℕ) (first 
         }
 
     pub closed-stops : (fault : RunFault)
-        → HasPart fault now then (text_for asking.echo asking.machine (kept_of (asking.pending ++ [])))
-        → HasStoppedIn fault start echo (ended_lines_of read) (lines_reached fault read) first then
+        → HasPart fault now written_next (text_for asking.echo asking.machine (kept_of (asking.pending ++ [])))
+        → HasStoppedIn fault start echo (ended_lines_of read) (lines_reached fault read) first written_next
+    unfolding HasPart
     closed-stops Read part = absurd part
     closed-stops Write part =
-        subst (λ ls. HasStoppedIn Write start echo (ended_lines_of read) ls first then) (sym (last-line some))
-        (stopped_at laws start echo read first now asking so_far [] Write then (ended_lines_of read) [] [] (sym (append-nil _)) part)
+        subst (λ ls. HasStoppedIn Write start echo (ended_lines_of read) ls first written_next) (sym (last-line some))
+        (stopped_at laws start echo read first now asking so_far [] Write written_next (ended_lines_of read) [] [] (sym (append-nil _)) part)
     closed-stops Memory part =
-        let text : Appends first then (asked_of start echo (ended_lines_of read)) =
-        subst (Appends first then) (append-nil _) (Appends-trans _ _ _ _ _ so_far.written part) in
-        subst (λ ls. HasStoppedIn Memory start echo (ended_lines_of read) ls first then) (append-nil (ended_lines_of read))
-        (stopped_between laws start echo read first then asking (record so_far { written = text }) (ended_lines_of read) [] [] (sym (append-nil _)))
+        let text : Appends first written_next (asked_of start echo (ended_lines_of read)) =
+        subst (Appends first written_next) (append-nil _) (Appends-trans _ _ _ _ _ so_far.written part) in
+        subst (λ ls. HasStoppedIn Memory start echo (ended_lines_of read) ls first written_next) (append-nil (ended_lines_of read))
+        (stopped_between laws start echo read first written_next asking (record {
+          written = text;
+          machine = so_far.machine;
+          told_too = so_far.told_too;
+          pending = so_far.pending;
+          events = so_far.events;
+        }) (ended_lines_of read) [] [] (sym (append-nil _)))
 
 -- ---- how many event lines
 

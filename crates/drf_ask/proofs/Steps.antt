@@ -75,6 +75,16 @@ begins_before written first second whole =
     take-take (length first) (length (first ++ second)) written (let sum = length-append first second in omega arith) in
     sym cut ∙ ap (take (length first)) whole ∙ take-append_seam first second
 
+-- ---- what is seen of a run
+
+pub part_of_view : (fault : RunFault) (before after : Option (List ℕ)) (end kept : List ℕ) (old view : Asking)
+    → kept ≡ kept_of (old.pending ++ end) → old ≡ view
+    → HasPart fault before after (text_for old.echo old.machine kept)
+    → HasPart fault before after (text_for view.echo view.machine (kept_of (view.pending ++ end)))
+part_of_view fault before after end kept old view is same part =
+    subst (λ (a : Asking). HasPart fault before after (text_for a.echo a.machine (kept_of (a.pending ++ end)))) same
+    (subst (λ (line : List ℕ). HasPart fault before after (text_for old.echo old.machine line)) is part)
+
 -- ---- steps
 
 module _ (laws : Laws) where
@@ -109,13 +119,13 @@ module _ (laws : Laws) where
         ∙ sym (events-one ended line)
 
     -- the line at hand was answered
-    pub line_answered : (next : Asking) (then : Option (List ℕ)) → IsWithinLine end → next ≡ after_line asking (kept_of (asking.pending ++ end))
-        → Appends now then (text_for asking.echo asking.machine (kept_of (asking.pending ++ end)))
-        → IsAskedTo start echo (read ++ (end ++ 10 ∷ [])) first then next
-    line_answered next then within is told =
+    pub line_answered : (next : Asking) (written_next : Option (List ℕ)) → IsWithinLine end → next ≡ after_line asking (kept_of (asking.pending ++ end))
+        → Appends now written_next (text_for asking.echo asking.machine (kept_of (asking.pending ++ end)))
+        → IsAskedTo start echo (read ++ (end ++ 10 ∷ [])) first written_next next
+    line_answered next written_next within is told =
         let cut = laws.feed read end within in
         record {
-          written = subst (Appends first then) (text_after ∙ ap (asked_of start echo) (sym cut.0))
+          written = subst (Appends first written_next) (text_after ∙ ap (asked_of start echo) (sym cut.0))
               (Appends-trans _ _ _ _ _ so_far.written told);
           machine = ap (λ (a : Asking). a.machine) is ∙ machine_after_it ∙ ap (after_all_asked start) (sym cut.0);
           told_too = ap (λ (a : Asking). a.echo) is ∙ so_far.told_too;
@@ -137,12 +147,13 @@ module _ (laws : Laws) where
         }
 
     -- the run stops at the line at hand, which is the next one of all these
-    pub stopped_at : (fault : RunFault) (then : Option (List ℕ)) (before others : List (List ℕ)) (later : List (List ℕ))
+    pub stopped_at : (fault : RunFault) (written_next : Option (List ℕ)) (before others : List (List ℕ)) (later : List (List ℕ))
         → ended ≡ before ++ later
-        → HasPart fault now then (text_for asking.echo asking.machine (kept_of (asking.pending ++ end)))
-        → HasStoppedIn fault start echo before (ended ++ line ∷ others) first then
-    stopped_at Read then before others later is part = absurd part
-    stopped_at Write then before others later is part =
+        → HasPart fault now written_next (text_for asking.echo asking.machine (kept_of (asking.pending ++ end)))
+        → HasStoppedIn fault start echo before (ended ++ line ∷ others) first written_next
+    unfolding HasPart
+    stopped_at Read written_next before others later is part = absurd part
+    stopped_at Write written_next before others later is part =
         let text = asked_of start echo ended in
         let next = text_for asking.echo asking.machine (kept_of (asking.pending ++ end)) in
         record {
@@ -160,14 +171,14 @@ module _ (laws : Laws) where
             begins_before (asked_of start echo ended ++ more) (asked_of start echo before) _
             (subst (λ (t : List ℕ). StartsWith (asked_of start echo ended ++ more) t)
             (ap (asked_of start echo) is ∙ asked-append start echo before later) (begins (asked_of start echo ended) more))
-    stopped_at Memory then before others later is part =
+    stopped_at Memory written_next before others later is part =
         let text = asked_of start echo ended in
         record {
           answered = ended;
           more = line ∷ others;
           whole = refl;
           written = text;
-          appended = subst (Appends first then) (append-nil text) (Appends-trans _ _ _ _ _ so_far.written part);
+          appended = subst (Appends first written_next) (append-nil text) (Appends-trans _ _ _ _ _ so_far.written part);
           front = refl;
           prompt = begins_before text (asked_of start echo before) _
               (subst (λ (t : List ℕ). StartsWith text t) (ap (asked_of start echo) is ∙ asked-append start echo before later)

@@ -8,7 +8,7 @@ use Rattle.serde_json.specs.View.{items_of}
 use Rattle.serde_json.specs.Written.{compact_text, items_text, comma_if}
 use Rattle.drf_lines.specs.ReplyLine.{line_of}
 use Rattle.drf_role.specs.Text.{Text}
-use Rattle.drf_ask.specs.Answer.{opening, told, list_value}
+use Rattle.drf_ask.specs.Answer.{opening, told, list_value, listed}
 
 -- some bytes and then others
 pub then : (old first second : List ℕ) {mid new : List ℕ} → mid ≡ old ++ first → new ≡ mid ++ second → new ≡ old ++ (first ++ second)
@@ -58,16 +58,16 @@ module _ {A : Type 0} (value : A → Data) (test : A → Bool) where
 pub string_begun : (all old now : List ℕ) → now ≡ old ++ 34 ∷ [] → now ++ (escape all ++ 34 ∷ []) ≡ old ++ quoted all
 string_begun all old now begun = ap (λ (bytes : List ℕ). bytes ++ (escape all ++ 34 ∷ [])) begun ∙ append_assoc old (34 ∷ []) (escape all ++ 34 ∷ [])
 
-pub byte_more : (all : List ℕ) (i b : ℕ) (total before now : List ℕ) → i < length all → b ≡ get_or all i b
-    → now ≡ before ++ escape_byte b → before ++ (escape (drop i all) ++ 34 ∷ []) ≡ total
+pub byte_more : (all : List ℕ) (i : ℕ) (total before now : List ℕ) → i < length all
+    → now ≡ before ++ escape_byte (get_or all i 0) → before ++ (escape (drop i all) ++ 34 ∷ []) ≡ total
     → now ++ (escape (drop (i + 1) all) ++ 34 ∷ []) ≡ total
-byte_more all i b total before now inside is added so_far =
+byte_more all i total before now inside added so_far =
+    let b = get_or all i 0 in
     let rest = escape (drop (i + 1) all) in
     ap (λ (bytes : List ℕ). bytes ++ (rest ++ 34 ∷ [])) added
     ∙ append_assoc before (escape_byte b) (rest ++ 34 ∷ [])
     ∙ ap (λ (bytes : List ℕ). before ++ bytes) (sym (append_assoc (escape_byte b) rest (34 ∷ [])))
-    ∙ ap (λ y. before ++ (escape (y ∷ drop (i + 1) all) ++ 34 ∷ [])) is
-    ∙ sym (at_drop_more (λ left. before ++ (escape left ++ 34 ∷ [])) all i b inside)
+    ∙ sym (at_drop_more (λ left. before ++ (escape left ++ 34 ∷ [])) all i 0 inside)
     ∙ so_far
 
 pub string_ended : (all : List ℕ) (i : ℕ) (total before now : List ℕ) → length all ≤ i
@@ -106,3 +106,8 @@ unfed front line fed new is cut =
     let count : length fed - 1 ≡ length (front ++ line) =
     let all = ap length whole in let sum = length-append (front ++ line) (10 ∷ []) in omega arith in
     cut ∙ (λ i. take (count i) (whole i)) ∙ take-append_seam (front ++ line) (10 ∷ [])
+
+-- where no framework is named all are listed
+pub all_listed : {A : Type 0} (is_of : Text → A → Bool) (xs : List A) → listed is_of [] xs ≡ xs
+all_listed is_of [] = refl
+all_listed is_of (x ∷ xs) = ap (λ ys. x ∷ ys) (all_listed is_of xs)

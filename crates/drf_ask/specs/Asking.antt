@@ -58,7 +58,7 @@ HasGone piece old new written_old written_new =
     → IsAskedTo start echo read first written_old old → IsAskedTo start echo (read ++ piece) first written_new new
 
 -- of the text for a line nothing was written where memory ran out, and a front where a write failed
-abbrev pub HasPart : RunFault → (written_old written_new : Option (List ℕ)) → List ℕ → Type 0
+unfoldable pub HasPart : RunFault → (written_old written_new : Option (List ℕ)) → List ℕ → Type 0
 HasPart Read written_old written_new text = ⊥
 HasPart Write written_old written_new text = AppendsFrontOf written_old written_new text
 HasPart Memory written_old written_new text = Appends written_old written_new []

@@ -1,13 +1,14 @@
 //! What a question is answered.
-ghost use Rattle.std.specs.Prelude.{◌≡◌, ◌++◌, [], true, codes, OnOk};
+ghost use Rattle.std.specs.Prelude.{◌≡◌, ◌≤◌, ◌++◌, [], true, Some, OnOk};
 ghost use Rattle.drf_core.specs.Machine.{live};
 ghost use Rattle.drf_lines.specs.ReplyLine.{line_of};
+ghost use Rattle.drf_rows.specs.declared.limits.TheConstants.{LATEST_MOMENT};
 ghost use Rattle.drf_rows.specs.Members.{has_framework};
-ghost use Rattle.drf_ask.specs.Answer.{opening, not_told, is_known, offers_told, tasks_told, if_known, explained_told, answer_of_kind, answer_value, answer_line};
+ghost use Rattle.drf_ask.specs.Answer.{opening, told, not_told, list_value, listed, is_known, if_known, explained_told, answer_of_kind, answer_value, answer_line};
 ghost use Rattle.drf_ask.specs.Question.{is_question, word_of, word_at, fault_name, moment_of};
 
 
-use crate::list::{has_name, push_list};
+use crate::list::{Listed, has_name, push_list};
 use crate::question::{Fault, Kind, kind_of, moment_of, question_of};
 use crate::table::push_tables;
 use crate::text::{drop_last, push_string, put};
@@ -57,9 +58,19 @@ fn push_report<S: Sorter>(core: &Core<S>, text: &mut Vec<u8>) -> Result<(), Allo
     ensures { OnOk result (text.new.items ≡ text.old.items ++ line_of (answer_of_kind (live core.now) Kind.Report [])) }
 {
     push_opening(text, Kind::Report)?;
-    let reply = Reply::Report(core.report()?);
-    push_reply(text, &reply)?;
+    let report = core.report()?;
+    push_reply(text, &Reply::Report(report))?;
     drop_last(text);
+    put(text, "}\n")
+}
+
+fn push_findings<S: Sorter>(core: &Core<S>, at: u64, text: &mut Vec<u8>) -> Result<(), AllocError>
+    requires { at ≤ LATEST_MOMENT }
+    ensures { OnOk result (text.new.items ≡ text.old.items ++ line_of (explained_told (live core.now).rows (Some at))) }
+{
+    push_opening(text, Kind::Explain)?;
+    let findings = core.explain(at)?;
+    push_list(text, &findings, &[])?;
     put(text, "}\n")
 }
 
@@ -70,13 +81,10 @@ fn push_explained<S: Sorter>(
 ) -> Result<(), AllocError>
     ensures { OnOk result (text.new.items ≡ text.old.items ++ line_of (explained_told (live core.now).rows (moment_of argument.now))) }
 {
-    let Some(at) = moment_of(argument) else {
-        return push_not_told(text, Some(Kind::Explain), Fault::BadArgument);
-    };
-    push_opening(text, Kind::Explain)?;
-    let findings = core.explain(at)?;
-    push_list(text, &findings, &[])?;
-    put(text, "}\n")
+    match moment_of(argument) {
+        Some(at) => push_findings(core, at, text),
+        None => push_not_told(text, Some(Kind::Explain), Fault::BadArgument),
+    }
 }
 
 /// Whether a framework is registered under a name.
@@ -94,26 +102,45 @@ fn is_known(rows: &Rows, framework: &[u8]) -> bool
     framework.is_empty() || has_framework(rows, framework)
 }
 
-fn push_offers(rows: &Rows, framework: &[u8], text: &mut Vec<u8>) -> Result<(), AllocError>
-    ensures { OnOk result (text.new.items ≡ text.old.items ++ line_of (if_known rows.now framework.now (codes "offers") (offers_told rows.now framework.now))) }
+/// Adds the answer that lists some items: those of a framework, or all where none is named.
+fn push_listed<T: Listed>(
+    rows: &Rows,
+    kind: Kind,
+    items: &[T],
+    framework: &[u8],
+    text: &mut Vec<u8>,
+) -> Result<(), AllocError>
+    ensures { OnOk result (text.new.items ≡ text.old.items ++ line_of (if_known rows.now framework.now (word_of kind)
+        (told (word_of kind) (list_value T.value (listed T.is_of framework.now items.now))))) }
 {
-    if !is_known(rows, framework) {
-        return push_not_told(text, Some(Kind::Offers), Fault::UnknownFramework);
+    if is_known(rows, framework) {
+        push_opening(text, kind)?;
+        push_list(text, items, framework)?;
+        return put(text, "}\n");
     }
-    push_opening(text, Kind::Offers)?;
-    push_list(text, rows.offers.as_slice(), framework)?;
-    put(text, "}\n")
+    push_not_told(text, Some(kind), Fault::UnknownFramework)
 }
 
-fn push_tasks(rows: &Rows, framework: &[u8], text: &mut Vec<u8>) -> Result<(), AllocError>
-    ensures { OnOk result (text.new.items ≡ text.old.items ++ line_of (if_known rows.now framework.now (codes "tasks") (tasks_told rows.now framework.now))) }
+fn push_offers<S: Sorter>(
+    core: &Core<S>,
+    framework: &[u8],
+    text: &mut Vec<u8>,
+) -> Result<(), AllocError>
+    ensures { OnOk result (text.new.items ≡ text.old.items ++ line_of (answer_of_kind (live core.now) Kind.Offers framework.now)) }
 {
-    if !is_known(rows, framework) {
-        return push_not_told(text, Some(Kind::Tasks), Fault::UnknownFramework);
-    }
-    push_opening(text, Kind::Tasks)?;
-    push_list(text, rows.tasks.as_slice(), framework)?;
-    put(text, "}\n")
+    let rows = core.rows()?;
+    push_listed(&rows, Kind::Offers, rows.offers.as_slice(), framework, text)
+}
+
+fn push_tasks<S: Sorter>(
+    core: &Core<S>,
+    framework: &[u8],
+    text: &mut Vec<u8>,
+) -> Result<(), AllocError>
+    ensures { OnOk result (text.new.items ≡ text.old.items ++ line_of (answer_of_kind (live core.now) Kind.Tasks framework.now)) }
+{
+    let rows = core.rows()?;
+    push_listed(&rows, Kind::Tasks, rows.tasks.as_slice(), framework, text)
 }
 
 fn push_how_full<S: Sorter>(
@@ -156,8 +183,8 @@ fn push_answer_of_kind<S: Sorter>(
     match kind {
         Kind::Report => push_report(core, text),
         Kind::Explain => push_explained(core, argument, text),
-        Kind::Offers => push_offers(&core.rows()?, argument, text),
-        Kind::Tasks => push_tasks(&core.rows()?, argument, text),
+        Kind::Offers => push_offers(core, argument, text),
+        Kind::Tasks => push_tasks(core, argument, text),
         Kind::State => push_saved(core, text),
         Kind::Tables => push_how_full(core, limits, text),
     }

@@ -40,6 +40,7 @@ fn push_text_for<S: Sorter>(
 }
 
 /// Takes a line's event, or answers its question, and writes the text for the line. The text that is lent is room for it.
+#[tactic(auto, unfolding(crate::specs::Asking::HasPart))]
 fn answer_line<S: Sorter, W: Write>(
     reader: &mut LineReader,
     core: &mut Core<S>,

@@ -1,10 +1,5 @@
-use Rattle.std.proofs.lemmas.Result.{on_ok_weaker}
-use Rattle.drf_core.specs.Machine.{live}
-use Rattle.drf_ask.proofs.Texts.{answer_whole}
+use Rattle.std.proofs.Common.{sym, ◌∙◌}
 use Rattle.drf_ask.proofs.answer.push_explained.Goals as goal
 
-pub returns : goal.returns
-unfolding live
-returns g c =
-    on_ok_weaker c.put.result
-    (λ end. answer_whole c.args.text.now.items _ _ _ _ _ c.in_ok-push_opening.ensures c.in_ok-push_list.ensures end) c.put.ensures
+pub returns-in-Some : goal.returns-in-Some
+returns-in-Some g c = rw (sym c.moment_of.ensures.value ∙ c.in-Some.is) c.push_findings.ensures

@@ -1,8 +1,7 @@
-use Rattle.std.proofs.lemmas.Result.{on_ok_weaker}
-use Rattle.drf_ask.proofs.Texts.{answer_whole}
+use Rattle.std.proofs.Common.{sym, ◌∙◌}
+use Rattle.drf_core.specs.Machine.{live}
 use Rattle.drf_ask.proofs.answer.push_tasks.Goals as goal
 
 pub returns : goal.returns
-returns c =
-    rw c.if-not-is_known.true (on_ok_weaker c.put.result
-    (λ end. answer_whole c.args.text.now.items _ _ _ _ _ c.in_ok-push_opening.ensures c.in_ok-push_list.ensures end) c.put.ensures)
+unfolding live
+returns g c = rw (c.as_slice.ensures, c.in_ok-rows.ensures.rows) at c.push_listed.ensures

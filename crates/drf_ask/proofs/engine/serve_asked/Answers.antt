@@ -32,7 +32,7 @@ loop-turn-init g c = record {
 
 pub returns-in_default-clause-asked : goal.returns-in_default-clause-asked
 returns-in_default-clause-asked g c =
-    run-unread c.loop-turn.invariant.laws.stay _ _ _ _ _ _ _ _ c.loop-turn.invariant.serving c.in_default.ensures.bytes
+    run-unread c.loop-turn.invariant.laws.stay _ _ _ _ _ _ (g.W.Write.contents c.loop-turn.writer.inner) _ c.loop-turn.invariant.serving c.in_default.ensures.bytes
 
 pub returns-in_default-clause-reads : goal.returns-in_default-clause-reads
 returns-in_default-clause-reads g c =
@@ -132,4 +132,4 @@ loop-turn-preserved g c =
 
 pub returns-clause-asked : goal.returns-clause-asked
 returns-clause-asked g c =
-    run-unread c.loop-turn.invariant.laws.stay _ _ _ _ _ _ _ _ c.loop-turn.invariant.serving (Keeps-refl _)
+    run-unread c.loop-turn.invariant.laws.stay _ _ _ _ _ _ (g.W.Write.contents c.loop-turn.writer.inner) _ c.loop-turn.invariant.serving (Keeps-refl _)

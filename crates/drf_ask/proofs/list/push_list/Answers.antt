@@ -16,11 +16,13 @@ loop-item-preserved g c =
     let total = c.args.text.now.items ++ compact_text (list_value value (listed g.T.Listed.is_of c.args.framework.now c.args.items.now)) in
     elim c.if-is_listed.branch [
       | then-is_listed+in_ok-put_comma+in_ok-push-2 w ↦
-          item_added value test c.args.items.now c.loop-item.item-index c.item-item.result total c.loop-item.text.items c.loop-item.later
-          c.loop-item-test.true c.item-item.is c.loop-item.invariant _ _ (sym c.is_listed.ensures ∙ w.if-is_listed.true) w.in_ok-put_comma.ensures w.in_ok-push-2.ensures
+          rw (w.later-is, w.text-is)
+          (item_added value test c.args.items.now c.loop-item.item-index c.item-item.result total c.loop-item.text.items c.loop-item.later
+          c.loop-item-test.true c.item-item.is c.loop-item.invariant _ _ (sym c.is_listed.ensures ∙ w.if-is_listed.true) w.in_ok-put_comma.ensures w.in_ok-push-2.ensures)
       | else-is_listed w ↦
-          item_passed value test c.args.items.now c.loop-item.item-index c.item-item.result total c.loop-item.text.items c.loop-item.later
-          c.loop-item-test.true c.item-item.is c.loop-item.invariant (sym c.is_listed.ensures ∙ w.if-is_listed.false)
+          rw (w.later-is, w.text-is)
+          (item_passed value test c.args.items.now c.loop-item.item-index c.item-item.result total c.loop-item.text.items c.loop-item.later
+          c.loop-item-test.true c.item-item.is c.loop-item.invariant (sym c.is_listed.ensures ∙ w.if-is_listed.false))
     ]
 
 pub returns : goal.returns

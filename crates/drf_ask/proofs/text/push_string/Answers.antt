@@ -8,8 +8,8 @@ loop-byte-init c = string_begun c.args.bytes.now c.args.text.now.items c.push.ne
 
 pub loop-byte-preserved : goal.loop-byte-preserved
 loop-byte-preserved c =
-    byte_more c.args.bytes.now c.loop-byte.byte-index c.byte-item.result (c.args.text.now.items ++ quoted c.args.bytes.now) c.loop-byte.text.items _
-    c.loop-byte-test.true c.byte-item.is c.in_ok-push_escaped.ensures c.loop-byte.invariant
+    byte_more c.args.bytes.now c.loop-byte.byte-index (c.args.text.now.items ++ quoted c.args.bytes.now) c.loop-byte.text.items _
+    c.loop-byte-test.true c.in_ok-push_escaped.ensures c.loop-byte.invariant
 
 pub returns : goal.returns
 returns c =

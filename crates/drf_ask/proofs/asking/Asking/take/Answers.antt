@@ -1,10 +1,14 @@
-use Rattle.std.proofs.Common.{◌≡◌, ◌+◌, ◌-◌, ◌≤◌, ◌<◌, length, take, drop, ap, arith}
-use Rattle.std.proofs.lemmas.List.{length-drop}
+use Rattle.std.proofs.Common.{◌≡◌, ℕ, List, ◌+◌, ◌-◌, ◌≤◌, ◌<◌, ◌++◌, length, take, drop, ap, arith}
+use Rattle.std.proofs.lemmas.List.{take_all, length-drop}
 use Rattle.std.proofs.lemmas.Result.{err_from_is_err_and}
 use Rattle.drf_journal.specs.Output.{kept_of}
 use Rattle.drf_ask.specs.Asking.{Asking}
 use Rattle.drf_ask.proofs.Pieces.{went-begins, went-line, went-all, went-stops, went-forgotten, counted}
 use Rattle.drf_ask.proofs.asking.Asking.take.Goals as goal
+
+-- what is left behind a byte is all of it
+tail_of : (rest : List ℕ) (at : ℕ) → at < length rest → take (length rest - (at + 1)) (drop (at + 1) rest) ≡ drop (at + 1) rest
+tail_of rest at inside = take_all _ _ (simp length-drop (omega arith))
 
 pub loop-at-init : goal.loop-at-init
 loop-at-init g c = record {
@@ -29,7 +33,7 @@ loop-at-preserved g c =
     let found = c.in-Some.ensures.found in
     let next = c.end_line.new.self in
     let is = c.in_ok-end_line.ensures.ok in
-    record {
+    rw (tail_of rest at found.0) (record {
       laws = c.loop-at.invariant.laws;
       went = went-line c.loop-at.invariant.laws _ c.loop-at.self _ rest _ _ c.loop-at.invariant.went next _ at found.0 found.1 found.2 is
           c.in_ok-end_line.ensures.written;
@@ -41,7 +45,7 @@ loop-at-preserved g c =
           omega arith;
       sound = λ sound. (c.in_ok-end_line.ensures.cause (c.loop-at.invariant.sound sound)).1;
       flushed = λ begun. c.in_ok-end_line.ensures.flushed (c.loop-at.invariant.flushed begun);
-    }
+    })
 
 pub returns-in_err-end_line-clause-err : goal.returns-in_err-end_line-clause-err
 returns-in_err-end_line-clause-err g c =
@@ -49,3 +53,13 @@ returns-in_err-end_line-clause-err g c =
     let found = c.in-Some.ensures.found in
     rw (p.1, p.2) (went-stops c.loop-at.invariant.laws _ c.loop-at.self _ c.loop-at.rest.now _ _ c.loop-at.invariant.went _ _ c.in-Some.at
     found.0 found.1 found.2 c.in_err-end_line.ensures.err)
+
+pub returns-in_err-keep-clause-err : goal.returns-in_err-keep-clause-err
+returns-in_err-keep-clause-err g c =
+    let p = err_from_is_err_and c.from_residual-in_err-keep.result c.from_residual-in_err-keep.ensures.1 in
+    rw (p.1, p.2) (went-forgotten c.loop-at.invariant.laws _ c.loop-at.self _ c.loop-at.rest.now _ _ c.loop-at.invariant.went)
+
+pub returns-clause-ok : goal.returns-clause-ok
+returns-clause-ok g c =
+    went-all c.loop-at.invariant.laws _ c.loop-at.self _ c.loop-at.rest.now _ _ c.loop-at.invariant.went c.keep.new.self
+    c.in_default.ensures.none c.in_ok-keep.ensures

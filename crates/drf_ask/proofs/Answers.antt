@@ -1,16 +1,16 @@
 -- How answers begin.
-use Rattle.std.proofs.Common.{◌≡◌, ℕ, Bool, true, false, if◌then◌else◌, List, ◌++◌, length, Option, Some, None, refl, sym, ap, ◌∙◌, codes}
+use Rattle.std.proofs.Common.{◌≡◌, ℕ, Bool, true, false, if◌then◌else◌, List, length, Option, Some, None, refl, ap, ◌∙◌, codes}
 use Rattle.std.specs.Prelude.{nat_lt}
 use Rattle.json.specs.Print.{escape_byte}
-use Rattle.serde_json.specs.Data.{Data, string, object, Members, member, no_members}
+use Rattle.serde_json.specs.Data.{Data, string, object, Members, member}
 use Rattle.drf_core.specs.Machine.{Machine}
 use Rattle.drf_lines.specs.Meaning.{longest_line}
 use Rattle.drf_lines.specs.ReplyLine.{line_of}
 use Rattle.drf_role.specs.Text.{Text}
 use Rattle.drf_rows.specs.declared.rows.Rows.{Rows}
-use Rattle.drf_ask.specs.Answer.{told, not_told, is_known, if_known, explained_told, answer_of_kind, answer_of_words, answer_value, answer_line}
+use Rattle.drf_ask.specs.Answer.{told, not_told, is_known, explained_told, answer_of_kind, answer_of_words, answer_value, answer_line}
 use Rattle.drf_ask.specs.Asked.{begins_as_answer}
-use Rattle.drf_ask.specs.Question.{Question, question_of, kind_of, word_of, has_right_words, moment_of}
+use Rattle.drf_ask.specs.Question.{Question, question_of, kind_of, has_right_words, moment_of}
 use Rattle.drf_ask.specs.declared.question.Kind.{Kind}
 use Rattle.drf_ask.specs.declared.question.Kind.TheVariants.{Report, Explain, Offers, Tasks, State, Tables}
 

@@ -1,5 +1,5 @@
 -- How a run ends that is asked.
-use Rattle.std.proofs.Common.{◌≡◌, ℕ, ◌+◌, ◌-◌, ◌≤◌, Bool, false, List, [], ◌∷◌, ◌++◌, length, take, drop, Option, Ok, Err, ⊎_elim, inl, inr, refl, sym, ap, ◌∙◌, subst, append_assoc, append-nil, take-append-drop, if◌then◌else◌, ◌==◌, arith}
+use Rattle.std.proofs.Common.{◌≡◌, ℕ, ◌-◌, ◌≤◌, Bool, false, List, [], ◌∷◌, ◌++◌, length, take, drop, Option, Ok, Err, ⊎_elim, inl, inr, refl, sym, ap, ◌∙◌, subst, append_assoc, append-nil, take-append-drop, if◌then◌else◌, ◌==◌, arith}
 use Rattle.std.specs.Prelude.{⊤}
 use Rattle.std.proofs.Math.Seq.{take-append_seam}
 use Rattle.std.specs.Io.{StartsWith}
@@ -15,7 +15,7 @@ use Rattle.drf_journal.specs.JournalLaws.{EndedLinesStay}
 use Rattle.drf_journal.specs.Lines.{ended_lines_of, open_line_of, lines_of}
 use Rattle.drf_journal.specs.Output.{kept_of}
 use Rattle.drf_ask.specs.Asked.{after_all_asked, asked_of, event_lines_of}
-use Rattle.drf_ask.specs.Asking.{Asking, IsNotAsked, IsAskedTo, HasGone, IsFrontFor, HasStoppedIn, HasStopped, HasClosed, lines_reached}
+use Rattle.drf_ask.specs.Asking.{Asking, IsNotAsked, IsAskedTo, HasGone, HasStoppedIn, HasStopped, HasClosed, lines_reached}
 use Rattle.drf_ask.specs.Ended.{HasAsked}
 use Rattle.drf_ask.proofs.Steps.{asked-append, begins, begins_before}
 

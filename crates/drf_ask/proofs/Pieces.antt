@@ -1,5 +1,5 @@
 -- A run that is asked, over a piece of its input.
-use Rattle.std.proofs.Common.{◌≡◌, ℕ, zero, ◌+◌, ◌≤◌, ◌<◌, Bool, false, true, List, [], ◌∷◌, ◌++◌, length, take, drop, get_or, Option, refl, sym, ap, ◌∙◌, subst, append_assoc, append-nil, arith, if◌then◌else◌, ◌==◌}
+use Rattle.std.proofs.Common.{◌≡◌, ℕ, ◌+◌, ◌≤◌, ◌<◌, Bool, false, true, List, [], ◌∷◌, ◌++◌, length, take, drop, get_or, Option, refl, sym, ap, ◌∙◌, subst, append_assoc, append-nil, arith, if◌then◌else◌, ◌==◌}
 use Rattle.std.proofs.lemmas.Bool.{ne_eqb}
 use Rattle.std.specs.Io.KnownBytes.{Appends}
 use Rattle.std.proofs.KnownBytes.{Appends-trans}
@@ -12,7 +12,7 @@ use Rattle.drf_ask.specs.Asked.{text_for, asked_of, event_lines_of}
 use Rattle.drf_ask.specs.Asking.{Asking, after_line, count_of, IsAskedTo, HasGone, HasPart, HasStoppedIn, HasStopped, HasClosed, lines_reached}
 use Rattle.drf_ask.specs.Question.{is_question}
 use Rattle.drf_ask.proofs.Kept.{Laws}
-use Rattle.drf_ask.proofs.Steps.{cut_at, line_answered, line_goes_on, stopped_at, stopped_between, line_is, text_after, events_after}
+use Rattle.drf_ask.proofs.Steps.{cut_at, line_answered, line_goes_on, stopped_at, stopped_between, text_after, events_after}
 
 -- a run stands behind the front of a piece, of which the rest is left
 pub record WentOver (old now : Asking) (piece rest : List ℕ) (written_old written : Option (List ℕ)) : Type 0 where

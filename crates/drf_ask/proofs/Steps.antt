@@ -1,5 +1,5 @@
 -- A run that is asked, line by line.
-use Rattle.std.proofs.Common.{◌≡◌, ℕ, zero, suc, ◌+◌, ◌≤◌, ◌<◌, Bool, true, false, not, cond, if◌then◌else◌, List, [], ◌∷◌, ◌++◌, length, take, drop, filter, get_or, Option, refl, sym, ap, ◌∙◌, subst, append_assoc, append-nil, add-one, take-append-drop, arith}
+use Rattle.std.proofs.Common.{◌≡◌, ℕ, suc, ◌+◌, ◌<◌, Bool, true, false, not, cond, if◌then◌else◌, List, [], ◌∷◌, ◌++◌, length, take, drop, get_or, Option, refl, sym, ap, ◌∙◌, subst, append_assoc, append-nil, add-one, take-append-drop, arith}
 use Rattle.std.proofs.Math.Seq.{drop-cons, take-append_seam, take-append-add}
 use Rattle.std.proofs.lemmas.List.{length-append, take-take}
 use Rattle.std.specs.Io.{StartsWith}
@@ -11,7 +11,7 @@ use Rattle.drf_journal.specs.declared.fault.RunFault.TheVariants.{Read, Write, M
 use Rattle.drf_journal.specs.Lines.{ended_lines_of, open_line_of, IsWithinLine}
 use Rattle.drf_journal.specs.Output.{kept_of}
 use Rattle.drf_ask.specs.Asked.{text_for, after_asked, after_all_asked, asked_of, event_lines_of}
-use Rattle.drf_ask.specs.Asking.{Asking, after_line, count_of, IsAskedTo, HasGone, HasPart, IsFrontFor, HasStoppedIn, HasStopped}
+use Rattle.drf_ask.specs.Asking.{Asking, after_line, count_of, IsAskedTo, HasPart, HasStoppedIn}
 use Rattle.drf_ask.specs.Question.{is_question}
 use Rattle.drf_ask.proofs.Kept.{Laws, text-kept, after-kept, count-kept}
 

@@ -1,8 +1,6 @@
 -- The lines that are written, and which of them are answers.
-use Rattle.std.proofs.Common.{◌≡◌, ℕ, ◌==◌, Bool, true, false, not, cond, if◌then◌else◌, List, [], ◌∷◌, ◌++◌, map, filter, take, Ok, Err, Result, Option, Some, None, refl, sym, ap, ◌∙◌, append_assoc, append-nil, codes}
-use Rattle.std.specs.List.{flat_map}
+use Rattle.std.proofs.Common.{◌≡◌, ℕ, Bool, true, false, not, cond, if◌then◌else◌, List, [], ◌∷◌, ◌++◌, map, Ok, Err, Result, refl, sym, ap, ◌∙◌, append_assoc}
 use Rattle.json.specs.Print.{escape_byte}
-use Rattle.serde_json.specs.Data.{Data, string, object, Members, member, no_members}
 use Rattle.drf_core.specs.Machine.{Machine}
 use Rattle.drf_rows.specs.declared.event.Event.{Event}
 use Rattle.drf_rows.specs.declared.reply.Reply.{Reply}
@@ -10,12 +8,12 @@ use Rattle.drf_rows.specs.declared.reply.Reply.TheVariants.{Done, Offers, Report
 use Rattle.drf_rows.specs.Step.{reply_to}
 use Rattle.drf_lines.specs.declared.fault.LineFault.{LineFault}
 use Rattle.drf_lines.specs.Meaning.{meaning_of}
-use Rattle.drf_lines.specs.ReplyLine.{line_of, reply_line, fault_line}
+use Rattle.drf_lines.specs.ReplyLine.{reply_line, fault_line}
 use Rattle.drf_journal.specs.JournalLaws.{OutputLineByLine}
 use Rattle.drf_journal.specs.Output.{kept_of, reply_line_after, output_of}
 use Rattle.drf_journal.specs.State.{machine_after, machine_after_lines, answer_to}
 use Rattle.drf_ask.specs.Answer.{answer_line}
-use Rattle.drf_ask.specs.Asked.{text_for, after_asked, after_all_asked, asked_of, event_lines_of, Written, event_written, line_written, written_of, text_of_all, without_answers, begins_as_answer, IsWrittenInLines, AnswersAreMarked, AnswersStandBeside, QuestionsChangeNothing}
+use Rattle.drf_ask.specs.Asked.{after_asked, after_all_asked, event_lines_of, Written, event_written, written_of, text_of_all, without_answers, begins_as_answer, IsWrittenInLines, AnswersAreMarked, AnswersStandBeside, QuestionsChangeNothing}
 use Rattle.drf_ask.specs.Question.{is_question}
 use Rattle.drf_ask.proofs.Answers.{answer_begins}
 

@@ -1,5 +1,5 @@
 -- A run that is asked, between two reads.
-use Rattle.std.specs.Prelude.{refl, ◌≡◌, ℕ, ◌+◌, Bool, List, [], ◌∷◌, ◌++◌, length, take, Option, if◌then◌else◌}
+use Rattle.std.specs.Prelude.{refl, ◌≡◌, ℕ, ◌+◌, Bool, List, [], ◌++◌, length, take, Option, if◌then◌else◌}
 use Rattle.std.specs.Coded.{Coded, code_by, coded×, coded_ℕ, coded_bool, coded_list}
 use Rattle.std.specs.Io.{StartsWith}
 use Rattle.std.specs.Io.KnownBytes.{Appends}
@@ -9,7 +9,7 @@ use Rattle.drf_journal.specs.declared.fault.RunFault.TheVariants.{Read, Write, M
 use Rattle.drf_journal.specs.Device.{AppendsFrontOf}
 use Rattle.drf_journal.specs.Lines.{ended_lines_of, open_line_of, lines_of}
 use Rattle.drf_journal.specs.Output.{kept_of}
-use Rattle.drf_ask.specs.Asked.{text_for, after_asked, after_all_asked, asked_of, event_lines_of}
+use Rattle.drf_ask.specs.Asked.{after_asked, after_all_asked, asked_of, event_lines_of}
 use Rattle.drf_ask.specs.Question.{is_question}
 
 -- the allocator, whether lines are told too, what is kept of the line at hand, and how many event lines were answered

@@ -7,7 +7,6 @@ ghost use Rattle.drf_rows.specs.Members.{has_framework};
 ghost use Rattle.drf_ask.specs.Answer.{opening, told, not_told, list_value, listed, is_known, if_known, explained_told, answer_of_kind, answer_value, answer_line};
 ghost use Rattle.drf_ask.specs.Question.{is_question, word_of, word_at, fault_name, moment_of};
 
-
 use crate::list::{Listed, has_name, push_list};
 use crate::question::{Fault, Kind, kind_of, moment_of, question_of};
 use crate::table::push_tables;

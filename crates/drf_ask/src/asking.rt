@@ -145,11 +145,7 @@ impl<S: Sorter> Asking<S> {
     }
 
     /// The bytes end the line at hand: answers it, and writes the text for it.
-    fn end_line<W: Write>(
-        &mut self,
-        end: &[u8],
-        writer: &mut Device<W>,
-    ) -> Result<(), RunFault>
+    fn end_line<W: Write>(&mut self, end: &[u8], writer: &mut Device<W>) -> Result<(), RunFault>
         requires few { self.old.events + 1 < 2 ^ 64 }
         ensures ok { OnOk result (self.new ≡ after_line self.old (kept_of (self.old.pending ++ end.now))) }
         ensures written { OnOk result (Appends (W.contents writer.old.inner) (W.contents writer.new.inner)

@@ -14,11 +14,7 @@ pub(crate) fn put(text: &mut Vec<u8>, more: &str) -> Result<(), AllocError>
 }
 
 /// Adds what stands before a number, and the number.
-pub(crate) fn put_number(
-    text: &mut Vec<u8>,
-    before: &str,
-    value: u64,
-) -> Result<(), AllocError>
+pub(crate) fn put_number(text: &mut Vec<u8>, before: &str, value: u64) -> Result<(), AllocError>
     ensures { OnOk result (text.new.items ≡ text.old.items ++ (before.now ++ decimal value)) }
 {
     put(text, before)?;
@@ -68,7 +64,14 @@ fn push_escaped(text: &mut Vec<u8>, byte: u8) -> Result<(), AllocError>
         return text.extend_from_slice(&[b'\\', letter]);
     }
     if byte < 32 {
-        return text.extend_from_slice(&[b'\\', b'u', b'0', b'0', hex_digit(byte / 16), hex_digit(byte % 16)]);
+        return text.extend_from_slice(&[
+            b'\\',
+            b'u',
+            b'0',
+            b'0',
+            hex_digit(byte / 16),
+            hex_digit(byte % 16),
+        ]);
     }
     text.extend_from_slice(&[byte])
 }

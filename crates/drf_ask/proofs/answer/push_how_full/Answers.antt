@@ -1,8 +1,7 @@
-use Rattle.std.proofs.Common.{◌≡◌, ◌<◌, ◌≤◌, ◌++◌, ◌^◌, length, ap, sym, ◌∙◌, arith}
+use Rattle.std.proofs.Common.{◌++◌, length, ap, sym, ◌∙◌, arith}
 use Rattle.std.proofs.lemmas.Result.{on_ok_weaker}
 use Rattle.serde_json.specs.Written.{compact_text}
 use Rattle.drf_core.specs.Machine.{live}
-use Rattle.drf_rows.specs.Held.{clients_of}
 use Rattle.drf_rows.specs.Report.{report_of}
 use Rattle.drf_rows.specs.Step.{live_rows}
 use Rattle.drf_ask.specs.Answer.{tables_value}

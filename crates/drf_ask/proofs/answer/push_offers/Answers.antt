@@ -1,4 +1,3 @@
-use Rattle.std.proofs.Common.{sym, ◌∙◌}
 use Rattle.drf_core.specs.Machine.{live}
 use Rattle.drf_ask.proofs.answer.push_offers.Goals as goal
 

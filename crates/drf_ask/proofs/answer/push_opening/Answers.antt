@@ -1,6 +1,5 @@
 use Rattle.std.proofs.Common.{◌++◌, ap, ◌∙◌}
 use Rattle.std.proofs.lemmas.Result.{on_ok_weaker}
-use Rattle.drf_ask.specs.Question.{word_of}
 use Rattle.drf_ask.proofs.Texts.{then}
 use Rattle.drf_ask.proofs.Words.{opening_is}
 use Rattle.drf_ask.proofs.answer.push_opening.Goals as goal

@@ -1,4 +1,4 @@
-use Rattle.drf_ask.proofs.Numbers.{number_begins, number_more, number_ends}
+use Rattle.drf_ask.proofs.Numbers.{number_begins, number_ends}
 use Rattle.drf_ask.proofs.question.number_of.Goals as goal
 
 pub loop-digit-init : goal.loop-digit-init

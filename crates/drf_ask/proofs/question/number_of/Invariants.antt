@@ -1,5 +1,4 @@
-use Rattle.std.proofs.Common.{◌≡◌, ℕ, ◌-◌, ◌^◌, min, drop}
-use Rattle.drf_ask.specs.Question.{number_from}
+use Rattle.std.proofs.Common.{drop}
 use Rattle.drf_ask.proofs.Numbers.{IsNumberTo}
 use Rattle.drf_ask.proofs.question.number_of.Given as goal
 

@@ -1,4 +1,4 @@
-use Rattle.std.proofs.Common.{arith, ◌≡◌}
+use Rattle.std.proofs.Common.{arith}
 use Rattle.drf_ask.proofs.Clients.{clients_left, none_left}
 use Rattle.drf_ask.proofs.table.count_clients.Goals as goal
 

@@ -1,5 +1,5 @@
 -- A cluster in which each cause for which a client gets nothing stands once, and what is told of it.
-use Rattle.std.specs.Prelude.{List, [], ◌∷◌, codes}
+use Rattle.std.specs.Prelude.{List, [], ◌∷◌, ◌++◌, codes}
 use Rattle.drf_role.specs.Path.{Path}
 use Rattle.drf_rows.specs.Client.{path_of}
 use Rattle.drf_rows.specs.examples.Examples.{cpus, cpus_for, mem, framework_in}
@@ -45,9 +45,9 @@ f1 = path_of (record { role = codes "eng" ∷ []; framework = codes "f1" })
 abbrev f2 : Path
 f2 = path_of (record { role = ops_db; framework = codes "f2" })
 
--- what is told, where that comes of `f1` on `n1`
-abbrev pub nothing_told : Outcome → List Finding
-nothing_told on_n1 =
+-- what is told of all agents but `n6`, where that comes of `f1` on `n1`
+abbrev told_before : Outcome → List Finding
+told_before on_n1 =
     Suppressed (path_of (record { role = codes "web" ∷ []; framework = codes "f3" }))
     ∷ Tried (codes "n1") f2 (OverLimit (codes "ops" ∷ []))
     ∷ Tried (codes "n1") f1 on_n1
@@ -57,5 +57,13 @@ nothing_told on_n1 =
     ∷ Tried (codes "n4") f1 (Grant (cpus 5 ∷ cpus_for (codes "eng") 2000 ∷ []))
     ∷ Tried (codes "n5") f2 ReservedForOthers
     ∷ Tried (codes "n5") f1 (Grant (cpus_for (codes "eng") 2000 ∷ []))
-    ∷ Left (codes "n6") (cpus 5 ∷ []) 2
     ∷ []
+
+-- what an explanation tells
+abbrev pub nothing_told : Outcome → List Finding
+nothing_told on_n1 = told_before on_n1 ++ Left (codes "n6") (cpus 5 ∷ []) 2 ∷ []
+
+-- what is told of each
+abbrev pub nobody_left_out : Outcome → List Finding
+nobody_left_out on_n1 =
+    told_before on_n1 ++ Tried (codes "n6") f2 BelowThreshold ∷ Tried (codes "n6") f1 BelowThreshold ∷ []

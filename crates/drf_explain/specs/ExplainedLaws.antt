@@ -213,16 +213,16 @@ grants_are_offers rows at =
 -- ---- filters that have run out
 
 -- the rows with other filters
-abbrev with_filters : Rows → List FilterRow → Rows
+abbrev pub with_filters : Rows → List FilterRow → Rows
 with_filters rows filters = record rows { filters = filters }
 
 -- the filters of either list that hold a bundle back are the same
-abbrev HoldTheSame : List FilterRow → List FilterRow → ℕ → Type 0
+abbrev pub HoldTheSame : List FilterRow → List FilterRow → ℕ → Type 0
 HoldTheSame fs gs clock =
     (client : Client) (agent : Text) (bundle : List Resource) → filter (holds_back clock client agent bundle) fs ≡ filter (holds_back clock client agent bundle) gs
 
 module _ (rows : Rows) (fs : List FilterRow) (same : HoldTheSame fs rows.filters rows.clock) (agent : AgentRow) (client : Client) where
-  outcome-filters : outcome (with_filters rows fs) agent client ≡ outcome rows agent client
+  pub outcome-filters : outcome (with_filters rows fs) agent client ≡ outcome rows agent client
   unfolding free_of
   outcome-filters =
       let free = free_of rows agent in
@@ -247,20 +247,20 @@ module _ (rows : Rows) (fs : List FilterRow) (same : HoldTheSame fs rows.filters
   offer-filters None = refl
   offer-filters (Some bundle) = refl
 
-  tried-filters : tried (with_filters rows fs) agent client ≡ with_filters (tried rows agent client) fs
+  pub tried-filters : tried (with_filters rows fs) agent client ≡ with_filters (tried rows agent client) fs
   tried-filters =
       ap (λ (granted : Option (List Resource)). option_map_or (λ bundle. with_offer (with_filters rows fs) (new_offer rows agent client bundle)) granted (with_filters rows fs)) grant-filters
       ∙ offer-filters (grant rows agent client)
 
 -- filters and clock stay where a client is tried
-kept-tried : (rows : Rows) (agent : AgentRow) (client : Client) (granted : Option (List Resource))
+pub kept-tried : (rows : Rows) (agent : AgentRow) (client : Client) (granted : Option (List Resource))
     → let after : Rows = option_map_or (λ bundle. with_offer rows (new_offer rows agent client bundle)) granted rows in
     (after.filters ≡ rows.filters) × (after.clock ≡ rows.clock)
 unfolding with_offer
 kept-tried rows agent client None = (refl, refl)
 kept-tried rows agent client (Some bundle) = (refl, refl)
 
-still_the_same : (rows after : Rows) (fs : List FilterRow) → (after.filters ≡ rows.filters) × (after.clock ≡ rows.clock)
+pub still_the_same : (rows after : Rows) (fs : List FilterRow) → (after.filters ≡ rows.filters) × (after.clock ≡ rows.clock)
     → HoldTheSame fs rows.filters rows.clock → HoldTheSame fs after.filters after.clock
 still_the_same rows after fs kept same = subst (λ (q : List FilterRow × ℕ). HoldTheSame fs q.0 q.1) (λ i. (sym kept.0 i, sym kept.1 i)) same
 
@@ -292,13 +292,13 @@ told_of_agent-filters rows fs agent same =
     let all = told_of_all-filters rows fs agent (turn_order rows) same in
     λ i. if agent.active then (if is_empty (free_of rows agent) then NothingFree agent.name ∷ [] else all i) else Inactive agent.name ∷ []
 
-after-filters : (rows : Rows) (fs : List FilterRow) (agent : AgentRow) (active : Bool) → HoldTheSame fs rows.filters rows.clock
+pub after-filters : (rows : Rows) (fs : List FilterRow) (agent : AgentRow) (active : Bool) → HoldTheSame fs rows.filters rows.clock
     → cond active (turn (with_filters rows fs) agent) (with_filters rows fs) ≡ with_filters (cond active (turn rows agent) rows) fs
 unfolding turn standing_of
 after-filters rows fs agent true same = all_tried-filters rows fs agent (turn_order rows) same
 after-filters rows fs agent false same = refl
 
-kept-agent : (rows : Rows) (agent : AgentRow) (active : Bool)
+pub kept-agent : (rows : Rows) (agent : AgentRow) (active : Bool)
     → let after : Rows = cond active (turn rows agent) rows in (after.filters ≡ rows.filters) × (after.clock ≡ rows.clock)
 kept-agent rows agent true = kept-turns rows (agent ∷ [])
 kept-agent rows agent false = (refl, refl)

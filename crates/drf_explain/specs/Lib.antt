@@ -1,4 +1,6 @@
 pub mod Explained
+pub mod Each
+pub mod EachLaws
 pub mod ExplainedText
 pub mod ExplainedLaws
 pub mod ExplainedExamples

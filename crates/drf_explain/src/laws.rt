@@ -1,11 +1,13 @@
 //! Laws of the definition, and a cluster of which it is computed. The functions do nothing: what they promise is proved of the
 //! definition alone.
-#![tactic(auto, unfolding(drf_rows::specs::Share::is_ahead, drf_rows::specs::Held::standing_of, drf_rows::specs::Cycle::free_of, drf_rows::specs::Cycle::with_offer, drf_rows::specs::Cycle::turn, drf_rows::specs::Cycle::cycle, drf_rows::specs::Share::common_divisor, drf_rows::specs::Report::report_of, drf_rows::specs::Step::refusal_of, drf_rows::specs::Step::effect, drf_rows::specs::Step::rows_after, crate::specs::Explained::explained))]
+#![tactic(auto, unfolding(drf_rows::specs::Share::is_ahead, drf_rows::specs::Held::standing_of, drf_rows::specs::Cycle::free_of, drf_rows::specs::Cycle::with_offer, drf_rows::specs::Cycle::turn, drf_rows::specs::Cycle::cycle, drf_rows::specs::Share::common_divisor, drf_rows::specs::Report::report_of, drf_rows::specs::Step::refusal_of, drf_rows::specs::Step::effect, drf_rows::specs::Step::rows_after, crate::specs::Explained::explained, crate::specs::Each::each_by_agent))]
 
 ghost use Rattle.std.specs.Prelude.{◌≡◌, ◌∷◌, []};
 ghost use Rattle.drf_rows.specs.examples.Examples.{cpus, mem};
 ghost use Rattle.drf_explain.specs.Explained.{explained};
-ghost use Rattle.drf_explain.specs.ExplainedExamples.{nothing_rows, nothing_told};
+ghost use Rattle.drf_explain.specs.Each.{each_told};
+ghost use Rattle.drf_explain.specs.EachLaws.{EachGrantIsAnOffer, EachIsToldAtItsMoment, EachIsToldOnce, ExplainedIsCut, LiveRowsAreTold};
+ghost use Rattle.drf_explain.specs.ExplainedExamples.{nobody_left_out, nothing_rows, nothing_told};
 ghost use Rattle.drf_explain.specs.ExplainedLaws.{GrantsAreOffers, LiveRowsAreExplained};
 ghost use Rattle.drf_explain.specs.ReasonLaws.{BelowThresholdIsTooLittle, GrantIsGranted, HeldBackIsHeldUntil, OverLimitIsOverLimit, ReservedIsForOthers};
 ghost use Rattle.drf_explain.specs.declared.finding.Outcome.TheVariants.{Grant, HeldBack};
@@ -15,6 +17,18 @@ ghost use Rattle.drf_explain.specs.declared.finding.Outcome.TheVariants.{Grant, 
 pub fn explained_law()
     ensures grants { GrantsAreOffers }
     ensures live { LiveRowsAreExplained }
+{}
+
+/// Where nobody is left out, each client of the turn is told of once on each agent that takes part and has something free, in the order of the
+/// turn, and what comes of it is that of its moment. The grants are the cycle's offers. An explanation is this telling, cut on each agent where
+/// what is left is worth no offer: who is only counted there would be told that too little of it is for them, or none. Filters that have
+/// run out change no line.
+pub fn each_is_told_law()
+    ensures once { EachIsToldOnce }
+    ensures moment { EachIsToldAtItsMoment }
+    ensures grants { EachGrantIsAnOffer }
+    ensures cut { ExplainedIsCut }
+    ensures live { LiveRowsAreTold }
 {}
 
 /// What an outcome says of the cycle. A grant is what the cycle grants. What is held back is granted from the moment that is told, and
@@ -28,8 +42,9 @@ pub fn reasons_law()
     ensures reserved { ReservedIsForOthers }
 {}
 
-/// What is told of a cluster in which each cause stands once: until a filter has run out, and then.
+/// What is told of a cluster in which each cause stands once: until a filter has run out, and then; and what is told of each client.
 pub fn explained_example()
     ensures before { explained nothing_rows 4999 ≡ nothing_told (HeldBack 5000) }
     ensures after { explained nothing_rows 5000 ≡ nothing_told (Grant (cpus 4000 ∷ mem 1024000 ∷ [])) }
+    ensures each { each_told nothing_rows 4999 ≡ nobody_left_out (HeldBack 5000) }
 {}

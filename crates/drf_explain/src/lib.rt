@@ -9,6 +9,6 @@ mod suppression;
 
 pub use finding::{Finding, Outcome};
 pub use gates::Gates;
-pub use laws::{explained_example, explained_law, reasons_law};
+pub use laws::{each_is_told_law, explained_example, explained_law, reasons_law};
 pub use line::{write_explained_line, write_explained_lines};
 pub use suppression::suppressed;

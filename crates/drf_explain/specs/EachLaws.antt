@@ -1,0 +1,357 @@
+-- Each client of a turn is told of once, at the rows of its moment; the shorter telling is this one, cut where too little is left; and nobody
+-- behind the cut gets anything.
+use Rattle.std.specs.Prelude.{◌≡◌, ◌≢◌, ℕ, ◌+◌, ◌≤◌, suc, max, Bool, true, false, ◌&&◌, List, [], ◌∷◌, ◌++◌, length, map, filter, slice_get, Some, if◌then◌else◌, codes}
+use Rattle.std.specs.List.{flat_map, list_all, AllZip}
+use Rattle.std.proofs.Common.{refl, sym, ap, subst, ◌∙◌, inl, inr, cond, arith, append_assoc, append-nil}
+use Rattle.std.proofs.lemmas.Bool.{cases_Bool}
+use Rattle.std.proofs.lemmas.Bool.Decides.{nat_tests}
+use Rattle.std.proofs.lemmas.List.Concat.{flat_map-append}
+use Rattle.drf_role.specs.Text.{Text}
+use Rattle.drf_role.specs.Path.{Path}
+use Rattle.drf_bundle.specs.Bundle.{part_for, is_for, quantities_of}
+use Rattle.drf_bundle.specs.Value.{Thousandths}
+use Rattle.drf_bundle.specs.Quantities.{amount_of}
+use Rattle.drf_bundle.specs.laws.SumLaws.{of_name, amount-quantities_of}
+use Rattle.drf_bundle.specs.laws.PartLaws.{where-some}
+use Rattle.drf_bundle.specs.declared.resource.Resource.{Resource}
+use Rattle.drf_rows.specs.Client.{Client, path_of}
+use Rattle.drf_rows.specs.Cycle.{free_of, grant, is_allocatable, tried, all_tried, turn_order, turn, turns, at_moment, cycle}
+use Rattle.drf_rows.specs.laws.CycleLaws.{all_tried_none, little_entitlement}
+use Rattle.drf_rows.specs.Filters.{holds_back, is_in_force, in_force}
+use Rattle.drf_rows.specs.Held.{standing_of}
+use Rattle.drf_rows.specs.Offers.{is_empty}
+use Rattle.drf_rows.specs.Step.{live_rows, new_offers}
+use Rattle.drf_rows.specs.declared.rows.AgentRow.{AgentRow}
+use Rattle.drf_rows.specs.declared.rows.FilterRow.{FilterRow}
+use Rattle.drf_rows.specs.declared.rows.Rows.{Rows}
+use Rattle.drf_explain.specs.Explained.{outcome, shortage, told_of_all, told_of_active, told_of_agent, told_of_agents, after_agent, suppressed_of, explained}
+use Rattle.drf_explain.specs.Each.{told_of_each, each_on_active, each_on, each_on_all, each_by_agent, each_told}
+use Rattle.drf_explain.specs.ExplainedLaws.{HoldTheSame, with_filters, grants_in, offered, grants_are_offers, outcome-filters, tried-filters, kept-tried, still_the_same, after-filters, kept-agent, filter_weaker, in_force_before}
+use Rattle.drf_explain.specs.declared.finding.Finding.{Finding}
+use Rattle.drf_explain.specs.declared.finding.Finding.TheVariants.{Suppressed, Inactive, NothingFree, Tried, Left}
+use Rattle.drf_explain.specs.declared.finding.Outcome.{Outcome}
+use Rattle.drf_explain.specs.declared.finding.Outcome.TheVariants.{Grant, HeldBack, OverLimit, BelowThreshold, ReservedForOthers}
+
+-- ---- what is promised
+
+-- the client that a finding tries
+abbrev pub tried_in : Finding → List Path
+tried_in (Tried agent client outcome) = client ∷ []
+tried_in (Suppressed client) = []
+tried_in (Inactive agent) = []
+tried_in (NothingFree agent) = []
+tried_in (Left agent left clients) = []
+
+-- an agent is open: it takes part, and something is free there
+pub record IsOpen (rows : Rows) (agent : AgentRow) : Type 0 where
+  pub active : agent.active ≡ true
+  pub some : is_empty (free_of rows agent) ≡ false
+
+-- on an open agent the clients of the turn are told of, each once, in its order, and nobody else
+abbrev pub EachIsToldOnce : Type 0
+EachIsToldOnce = (rows : Rows) (agent : AgentRow) → IsOpen rows agent → flat_map tried_in (each_on rows agent) ≡ map path_of (turn_order rows)
+
+-- what comes of each is told at the rows of its moment: behind the turns of the agents before, and behind the clients before
+pub record IsToldAtItsMoment (rows : Rows) (at : ℕ) (before : List AgentRow) (agent : AgentRow) (start : Rows) : Type 0 where
+  pub turn : slice_get (each_by_agent rows at) (length before) ≡ Some (each_on start agent)
+  pub client : IsOpen start agent → (earlier later : List Client) (client : Client) → turn_order start ≡ earlier ++ client ∷ later
+      → slice_get (each_on start agent) (length earlier) ≡ Some (Tried agent.name (path_of client) (outcome (all_tried start agent earlier) agent client))
+
+abbrev pub EachIsToldAtItsMoment : Type 0
+EachIsToldAtItsMoment =
+    (rows : Rows) (at : ℕ) (before after : List AgentRow) (agent : AgentRow) → rows.agents ≡ before ++ agent ∷ after
+    → IsToldAtItsMoment rows at before agent (turns (at_moment rows at) (filter (λ a. a.active) before))
+
+-- too little of what is left is for the client, or none
+abbrev pub is_late : Outcome → Bool
+is_late (Grant bundle) = false
+is_late (HeldBack until) = false
+is_late (OverLimit role) = false
+is_late BelowThreshold = true
+is_late ReservedForOthers = true
+
+-- a finding that a client comes too late
+abbrev pub is_told_late : Finding → Bool
+is_told_late (Tried agent client outcome) = is_late outcome
+is_told_late (Suppressed client) = false
+is_told_late (Inactive agent) = false
+is_told_late (NothingFree agent) = false
+is_told_late (Left agent left clients) = false
+
+-- the line that counts findings
+abbrev pub counted : Text → List Resource → List Finding → List Finding
+counted agent left [] = []
+counted agent left (finding ∷ findings) = Left agent left (suc (length findings)) ∷ []
+
+-- of an agent the shorter telling is the longer one up to where what is left is worth no offer; the clients behind that come too late, and are
+-- counted
+pub record IsCutTo (more less : List Finding) : Type 0 where
+  pub before : List Finding
+  pub behind : List Finding
+  pub agent : Text
+  pub left : List Resource
+  pub longer : more ≡ before ++ behind
+  pub shorter : less ≡ before ++ counted agent left behind
+  pub little : behind ≢ [] → is_allocatable left ≡ false
+  pub late : list_all is_told_late behind ≡ true
+
+-- an explanation is the longer telling, cut so on each agent
+pub record IsCutOnEach (rows : Rows) (at : ℕ) : Type 0 where
+  pub shorter : List (List Finding)
+  pub whole : explained rows at ≡ suppressed_of rows ++ flat_map (λ told. told) shorter
+  pub cut : AllZip IsCutTo (each_by_agent rows at) shorter
+
+abbrev pub ExplainedIsCut : Type 0
+ExplainedIsCut = (rows : Rows) (at : ℕ) → IsCutOnEach rows at
+
+-- the grants that are told are, in order, the offers that the cycle makes
+abbrev pub EachGrantIsAnOffer : Type 0
+EachGrantIsAnOffer = (rows : Rows) (at : ℕ) → flat_map grants_in (each_told rows at) ≡ map offered (new_offers rows (cycle rows at))
+
+-- filters that have run out change nothing that is told
+abbrev pub LiveRowsAreTold : Type 0
+LiveRowsAreTold = (rows : Rows) (at : ℕ) → each_by_agent (live_rows rows) at ≡ each_by_agent rows at
+
+-- ---- who is told of
+
+tried-each : (rows : Rows) (agent : AgentRow) (clients : List Client) → flat_map tried_in (told_of_each rows agent clients) ≡ map path_of clients
+tried-each rows agent [] = refl
+tried-each rows agent (client ∷ clients) = ap (λ ps. path_of client ∷ ps) (tried-each (tried rows agent client) agent clients)
+
+-- an open agent is told of client by client
+pub each_on-open : (rows : Rows) (agent : AgentRow) → IsOpen rows agent → each_on rows agent ≡ told_of_each rows agent (turn_order rows)
+each_on-open rows agent opened =
+    (λ i. if opened.active i then each_on_active rows agent else Inactive agent.name ∷ [])
+    ∙ (λ i. if opened.some i then NothingFree agent.name ∷ [] else told_of_each rows agent (turn_order rows))
+
+pub each_is_told_once : EachIsToldOnce
+each_is_told_once rows agent opened = ap (flat_map tried_in) (each_on-open rows agent opened) ∙ tried-each rows agent (turn_order rows)
+
+each-append : (rows : Rows) (agent : AgentRow) (earlier later : List Client)
+    → told_of_each rows agent (earlier ++ later) ≡ told_of_each rows agent earlier ++ told_of_each (all_tried rows agent earlier) agent later
+each-append rows agent [] later = refl
+each-append rows agent (client ∷ earlier) later =
+    ap (λ fs. Tried agent.name (path_of client) (outcome rows agent client) ∷ fs) (each-append (tried rows agent client) agent earlier later)
+
+each-at : (rows : Rows) (agent : AgentRow) (earlier later : List Client) (client : Client)
+    → slice_get (told_of_each rows agent (earlier ++ client ∷ later)) (length earlier)
+    ≡ Some (Tried agent.name (path_of client) (outcome (all_tried rows agent earlier) agent client))
+each-at rows agent [] later client = refl
+each-at rows agent (first ∷ earlier) later client = each-at (tried rows agent first) agent earlier later client
+
+each_on_all-at : (rows : Rows) (before after : List AgentRow) (agent : AgentRow)
+    → slice_get (each_on_all rows (before ++ agent ∷ after)) (length before) ≡ Some (each_on (turns rows (filter (λ a. a.active) before)) agent)
+each_on_all-at rows [] after agent = refl
+each_on_all-at rows (first ∷ before) after agent =
+    each_on_all-at (after_agent rows first) before after agent ∙ ap (λ (r : Rows). Some (each_on r agent)) (by first.active)
+  where
+    by : (active : Bool) → turns (cond active (turn rows first) rows) (filter (λ a. a.active) before)
+        ≡ turns rows (cond active (first ∷ filter (λ a. a.active) before) (filter (λ a. a.active) before))
+    by true = refl
+    by false = refl
+
+pub each_is_told_at_its_moment : EachIsToldAtItsMoment
+unfolding each_by_agent
+each_is_told_at_its_moment rows at before after agent agents =
+    let start : Rows = turns (at_moment rows at) (filter (λ a. a.active) before) in record {
+      turn =
+          ap (λ as'. slice_get (each_on_all (at_moment rows at) as') (length before)) agents
+          ∙ each_on_all-at (at_moment rows at) before after agent;
+      client = λ opened earlier later client order.
+          ap (λ fs. slice_get fs (length earlier)) (each_on-open start agent opened ∙ ap (told_of_each start agent) order)
+          ∙ each-at start agent earlier later client;
+    }
+
+-- ---- where too little is left
+
+-- of a bundle that is worth no offer no part is
+part_less : (role : Path) (free : List Resource) (name : Text)
+    → amount_of (quantities_of (part_for role free)) name ≤ amount_of (quantities_of free) name
+part_less role free name = omega (
+  arith,
+  amount-quantities_of free name,
+  amount-quantities_of (part_for role free) name,
+  where-some (is_for role) (of_name name) Thousandths free,
+)
+
+little_part : (role : Path) (free : List Resource) → is_allocatable free ≡ false → is_allocatable (part_for role free) ≡ false
+little_part role free little =
+    let cpus = part_less role free (codes "cpus") in
+    let mem = part_less role free (codes "mem") in
+    grind (arith, nat_tests)
+
+late_shortage : (none : Bool) → is_late (if none then ReservedForOthers else BelowThreshold) ≡ true
+late_shortage true = refl
+late_shortage false = refl
+
+late-outcome : (rows : Rows) (agent : AgentRow) (client : Client) → is_allocatable (free_of rows agent) ≡ false → is_late (outcome rows agent client) ≡ true
+late-outcome rows agent client little =
+    rw (little_entitlement rows (free_of rows agent) client little)
+    (rw (little_part client.role (free_of rows agent) little) (late_shortage (is_empty (part_for client.role (free_of rows agent)))))
+
+each_is_late : (rows : Rows) (agent : AgentRow) (clients : List Client) → is_allocatable (free_of rows agent) ≡ false
+    → list_all is_told_late (told_of_each rows agent clients) ≡ true
+each_is_late rows agent [] little = refl
+each_is_late rows agent (client ∷ clients) little =
+    let same : tried rows agent client ≡ rows = all_tried_none rows agent (client ∷ []) little in
+    (λ i. late-outcome rows agent client little i && list_all is_told_late (told_of_each (same i) agent clients))
+    ∙ each_is_late rows agent clients little
+
+length-each : (rows : Rows) (agent : AgentRow) (clients : List Client) → length (told_of_each rows agent clients) ≡ length clients
+length-each rows agent [] = refl
+length-each rows agent (client ∷ clients) = ap suc (length-each (tried rows agent client) agent clients)
+
+cut-clients : (rows : Rows) (agent : AgentRow) (clients : List Client) → IsCutTo (told_of_each rows agent clients) (told_of_all rows agent clients)
+cut-clients rows agent [] =
+    record { before = []; behind = []; agent = agent.name; left = []; longer = refl; shorter = refl; little = λ some. absurd (some refl); late = refl }
+cut-clients rows agent (client ∷ clients) = elim (cases_Bool (is_allocatable (free_of rows agent))) [
+  | inl enough ↦
+      let first : Finding = Tried agent.name (path_of client) (outcome rows agent client) in
+      let others = cut-clients (tried rows agent client) agent clients in
+      record {
+        before = first ∷ others.before;
+        behind = others.behind;
+        agent = others.agent;
+        left = others.left;
+        longer = ap (λ fs. first ∷ fs) others.longer;
+        shorter = rw enough (ap (λ fs. first ∷ fs) others.shorter);
+        little = others.little;
+        late = others.late;
+      }
+  | inr little ↦ record {
+    before = [];
+    behind = told_of_each rows agent (client ∷ clients);
+    agent = agent.name;
+    left = free_of rows agent;
+    longer = refl;
+    shorter = rw little (ap (λ n. Left agent.name (free_of rows agent) (suc n) ∷ []) (sym (length-each (tried rows agent client) agent clients)));
+    little = λ some. little;
+    late = each_is_late rows agent (client ∷ clients) little;
+  }
+]
+
+whole : (told : List Finding) → IsCutTo told told
+whole told = record {
+  before = told;
+  behind = [];
+  agent = [];
+  left = [];
+  longer = sym (append-nil told);
+  shorter = sym (append-nil told);
+  little = λ some. absurd (some refl);
+  late = refl;
+}
+
+cut-agent : (rows : Rows) (agent : AgentRow) → IsCutTo (each_on rows agent) (told_of_agent rows agent)
+cut-agent rows agent = by agent.active (is_empty (free_of rows agent))
+  where
+    by : (active none : Bool) → IsCutTo
+        (cond active (cond none (NothingFree agent.name ∷ []) (told_of_each rows agent (turn_order rows))) (Inactive agent.name ∷ []))
+        (cond active (cond none (NothingFree agent.name ∷ []) (told_of_all rows agent (turn_order rows))) (Inactive agent.name ∷ []))
+    by true true = whole (NothingFree agent.name ∷ [])
+    by true false = cut-clients rows agent (turn_order rows)
+    by false none = whole (Inactive agent.name ∷ [])
+
+-- the shorter telling, a list for each agent
+abbrev shorter_on_all : Rows → List AgentRow → List (List Finding)
+shorter_on_all rows [] = []
+shorter_on_all rows (agent ∷ agents) = told_of_agent rows agent ∷ shorter_on_all (after_agent rows agent) agents
+
+shorter-joined : (rows : Rows) (agents : List AgentRow) → told_of_agents rows agents ≡ flat_map (λ told. told) (shorter_on_all rows agents)
+shorter-joined rows [] = refl
+shorter-joined rows (agent ∷ agents) = ap (λ fs. told_of_agent rows agent ++ fs) (shorter-joined (after_agent rows agent) agents)
+
+cut-agents : (rows : Rows) (agents : List AgentRow) → AllZip IsCutTo (each_on_all rows agents) (shorter_on_all rows agents)
+cut-agents rows [] = tt
+cut-agents rows (agent ∷ agents) = (cut-agent rows agent, cut-agents (after_agent rows agent) agents)
+
+pub explained_is_cut : ExplainedIsCut
+unfolding explained each_by_agent
+explained_is_cut rows at = record {
+  shorter = shorter_on_all (at_moment rows at) rows.agents;
+  whole = ap (λ fs. suppressed_of rows ++ fs) (shorter-joined (at_moment rows at) rows.agents);
+  cut = cut-agents (at_moment rows at) rows.agents;
+}
+
+-- ---- grants
+
+-- who comes too late is granted nothing
+no_grant_late : (findings : List Finding) → list_all is_told_late findings ≡ true → flat_map grants_in findings ≡ []
+no_grant_late [] late = refl
+no_grant_late (Tried agent client (Grant bundle) ∷ findings) late = cc
+no_grant_late (Tried agent client (HeldBack until) ∷ findings) late = no_grant_late findings (absurd cc)
+no_grant_late (Tried agent client (OverLimit role) ∷ findings) late = no_grant_late findings (absurd cc)
+no_grant_late (Tried agent client BelowThreshold ∷ findings) late = no_grant_late findings late
+no_grant_late (Tried agent client ReservedForOthers ∷ findings) late = no_grant_late findings late
+no_grant_late (Suppressed client ∷ findings) late = no_grant_late findings (absurd cc)
+no_grant_late (Inactive agent ∷ findings) late = no_grant_late findings (absurd cc)
+no_grant_late (NothingFree agent ∷ findings) late = no_grant_late findings (absurd cc)
+no_grant_late (Left agent left clients ∷ findings) late = no_grant_late findings (absurd cc)
+
+no_grant_counted : (agent : Text) (left : List Resource) (findings : List Finding) → flat_map grants_in (counted agent left findings) ≡ []
+no_grant_counted agent left [] = refl
+no_grant_counted agent left (finding ∷ findings) = refl
+
+cut-grants : (longer shorter : List Finding) → IsCutTo longer shorter → flat_map grants_in longer ≡ flat_map grants_in shorter
+cut-grants longer shorter cut =
+    ap (flat_map grants_in) cut.longer
+    ∙ flat_map-append grants_in cut.before cut.behind
+    ∙ ap (λ gs. flat_map grants_in cut.before ++ gs) (no_grant_late cut.behind cut.late ∙ sym (no_grant_counted cut.agent cut.left cut.behind))
+    ∙ sym (flat_map-append grants_in cut.before (counted cut.agent cut.left cut.behind))
+    ∙ ap (flat_map grants_in) (sym cut.shorter)
+
+all-grants : (longer shorter : List (List Finding)) → AllZip IsCutTo longer shorter
+    → flat_map grants_in (flat_map (λ told. told) longer) ≡ flat_map grants_in (flat_map (λ told. told) shorter)
+all-grants [] [] cut = refl
+all-grants [] (told ∷ shorter) cut = absurd cut
+all-grants (told ∷ longer) [] cut = absurd cut
+all-grants (more ∷ longer) (less ∷ shorter) cut =
+    flat_map-append grants_in more (flat_map (λ told. told) longer)
+    ∙ (λ i. cut-grants more less cut.0 i ++ all-grants longer shorter cut.1 i)
+    ∙ sym (flat_map-append grants_in less (flat_map (λ told. told) shorter))
+
+pub each_grant_is_an_offer : EachGrantIsAnOffer
+each_grant_is_an_offer rows at =
+    let cut = explained_is_cut rows at in
+    flat_map-append grants_in (suppressed_of rows) (flat_map (λ told. told) (each_by_agent rows at))
+    ∙ ap (λ gs. flat_map grants_in (suppressed_of rows) ++ gs) (all-grants (each_by_agent rows at) cut.shorter cut.cut)
+    ∙ sym (flat_map-append grants_in (suppressed_of rows) (flat_map (λ told. told) cut.shorter))
+    ∙ ap (flat_map grants_in) (sym cut.whole)
+    ∙ grants_are_offers rows at
+
+-- ---- filters that have run out
+
+each-filters : (rows : Rows) (fs : List FilterRow) (agent : AgentRow) (clients : List Client) → HoldTheSame fs rows.filters rows.clock
+    → told_of_each (with_filters rows fs) agent clients ≡ told_of_each rows agent clients
+each-filters rows fs agent [] same = refl
+each-filters rows fs agent (client ∷ clients) same =
+    let after : Rows = tried rows agent client in
+    let others : told_of_each (tried (with_filters rows fs) agent client) agent clients ≡ told_of_each after agent clients =
+    ap (λ (r : Rows). told_of_each r agent clients) (tried-filters rows fs same agent client)
+    ∙ each-filters after fs agent clients (still_the_same rows after fs (kept-tried rows agent client (grant rows agent client)) same) in
+    λ i. Tried agent.name (path_of client) (outcome-filters rows fs same agent client i) ∷ others i
+
+each_on-filters : (rows : Rows) (fs : List FilterRow) (agent : AgentRow) → HoldTheSame fs rows.filters rows.clock
+    → each_on (with_filters rows fs) agent ≡ each_on rows agent
+unfolding free_of standing_of
+each_on-filters rows fs agent same =
+    let all = each-filters rows fs agent (turn_order rows) same in
+    λ i. if agent.active then (if is_empty (free_of rows agent) then NothingFree agent.name ∷ [] else all i) else Inactive agent.name ∷ []
+
+each_on_all-filters : (rows : Rows) (fs : List FilterRow) (agents : List AgentRow) → HoldTheSame fs rows.filters rows.clock
+    → each_on_all (with_filters rows fs) agents ≡ each_on_all rows agents
+each_on_all-filters rows fs [] same = refl
+each_on_all-filters rows fs (agent ∷ agents) same =
+    let after : Rows = after_agent rows agent in
+    let others : each_on_all (after_agent (with_filters rows fs) agent) agents ≡ each_on_all after agents =
+    ap (λ (r : Rows). each_on_all r agents) (after-filters rows fs agent agent.active same)
+    ∙ each_on_all-filters after fs agents (still_the_same rows after fs (kept-agent rows agent agent.active) same) in
+    λ i. each_on-filters rows fs agent same i ∷ others i
+
+pub live_rows_are_told : LiveRowsAreTold
+unfolding each_by_agent
+live_rows_are_told rows at =
+    let late : rows.clock ≤ max rows.clock at = omega arith in
+    each_on_all-filters (at_moment rows at) (in_force rows.clock rows.filters) rows.agents
+    (λ client agent bundle. filter_weaker (holds_back (max rows.clock at) client agent bundle) (is_in_force rows.clock)
+    (in_force_before rows.clock (max rows.clock at) client agent bundle late) rows.filters)

@@ -1,5 +1,5 @@
 -- What is told of a cycle, agent by agent, while its offers are drafts.
-use Rattle.std.specs.Prelude.{◌≡◌, ℕ, ◌++◌, List, [], ◌∷◌, slice_get, Some, if◌then◌else◌, nat_lt}
+use Rattle.std.specs.Prelude.{◌≡◌, ℕ, ◌++◌, Bool, false, true, List, [], ◌∷◌, map, drop, slice_get, Option, Some, if◌then◌else◌, nat_lt}
 use Rattle.std.specs.Option.{option_map_or}
 use Rattle.drf_role.specs.Text.{Text}
 use Rattle.drf_role.specs.Path.{Path}
@@ -8,13 +8,34 @@ use Rattle.drf_rows.specs.Client.{Client, path_of}
 use Rattle.drf_rows.specs.Cycle.{all_tried, turn_order}
 use Rattle.drf_rows.specs.declared.rows.AgentRow.{AgentRow}
 use Rattle.drf_rows.specs.declared.rows.Rows.{Rows}
+use Rattle.drf_rows.specs.Step.{live_rows}
+use Rattle.drf_rows.specs.declared.rows.OfferRow.{OfferRow}
+use Rattle.drf_explain.specs.Each.{told_of_each, each_on, each_on_all}
 use Rattle.drf_explain.specs.Explained.{outcome, told_of_agent, told_of_all}
+use Rattle.drf_gates.specs.Quota.{Allowance}
+use Rattle.drf_sorter.specs.Content.{Content}
+use Rattle.drf_tables.specs.Drafts.{with_offers}
+use Rattle.drf_tables.specs.declared.tables.Left as tables_word
+use Rattle.drf_core.specs.Drafting.{IsDrafting, HasLeft}
+use Rattle.drf_core.specs.Entitling.{IsQuotaOf}
 use Rattle.drf_explain.specs.declared.finding.Finding.{Finding}
 use Rattle.drf_explain.specs.declared.finding.Finding.TheVariants.{Left, Tried}
 
+-- what is told of clients on an agent: of each, or of those before too little is left
+abbrev pub told_by : Bool → Rows → AgentRow → List Client → List Finding
+told_by each rows agent clients = if each then told_of_each rows agent clients else told_of_all rows agent clients
+
+-- and of an agent
+abbrev pub told_on : Bool → Rows → AgentRow → List Finding
+told_on each rows agent = if each then each_on rows agent else told_of_agent rows agent
+
 -- what is told of the agent at a place
-abbrev pub told_at : Rows → ℕ → List Finding
-told_at rows place = option_map_or (told_of_agent rows) (slice_get rows.agents place) []
+abbrev pub told_at : Bool → Rows → ℕ → List Finding
+told_at each rows place = option_map_or (told_on each rows) (slice_get rows.agents place) []
+
+-- what comes of a client as the rows stand
+abbrev pub told_here : Rows → AgentRow → Client → Finding
+told_here rows agent client = Tried agent.name (path_of client) (outcome rows agent client)
 
 -- what is told of clients that are not tried
 abbrev pub left_told : Text → List Resource → ℕ → List Finding
@@ -25,11 +46,26 @@ abbrev pub AreTried : Rows → Rows → ℕ → Type 0
 AreTried old new place = (agent : AgentRow) → slice_get old.agents place ≡ Some agent → new ≡ all_tried old agent (turn_order old)
 
 -- and that is told behind what was told before
-abbrev pub AreToldAt : Rows → ℕ → List Finding → List Finding → Type 0
-AreToldAt rows place before after = (agent : AgentRow) → slice_get rows.agents place ≡ Some agent
-    → after ≡ before ++ told_of_all rows agent (turn_order rows)
+abbrev pub AreToldAt : Bool → Rows → ℕ → List Finding → List Finding → Type 0
+AreToldAt each rows place before after = (agent : AgentRow) → slice_get rows.agents place ≡ Some agent
+    → after ≡ before ++ told_by each rows agent (turn_order rows)
 
 -- the finding is what comes of the client of that path on the agent of that name, in all rows with those gates
 abbrev pub IsOutcomeOf : Rows → AgentRow → Path → Finding → Type 0
 IsOutcomeOf rows agent path finding = (client : Client) → path ≡ path_of client
     → finding ≡ Tried agent.name (path_of client) (outcome rows agent client)
+
+-- ---- a telling that goes from agent to agent
+
+-- what is left to be told of the agents from a place on, with the drafts: nothing where the telling is over
+abbrev pub left_to_tell : Bool → Rows → List OfferRow → ℕ → List (List Finding)
+left_to_tell over rows offers place = if over then [] else each_on_all (with_offers rows offers) (drop place rows.agents)
+
+-- a telling stands before the turn of the agent at a place
+pub record IsTelling (content : Content) (rows : Rows) (settled : Bool) (live : Rows) (offers : List OfferRow) (lefts : List tables_word.Left)
+    (quota : Option Allowance) (place : ℕ) : Type 0 where
+  pub current : live ≡ live_rows rows
+  pub drafting : IsDrafting content rows offers
+  pub is_settled : settled ≡ true
+  pub left_free : HasLeft rows offers lefts place
+  pub counted : IsQuotaOf (with_offers rows offers) quota

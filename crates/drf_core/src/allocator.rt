@@ -5,6 +5,7 @@ ghost use Rattle.drf_core.specs.Copies.{copies_if};
 ghost use Rattle.drf_core.specs.Machine.{IsOpened, IsSafe, IsSame, IsAfter, IsAfterAll, HasRun};
 
 use crate::cluster::Cluster;
+use crate::explain::Telling;
 use crate::stepped::Stepped;
 use drf_explain::Finding;
 use drf_laws::given_law;
@@ -54,6 +55,7 @@ impl<S: Sorter> Core<S> {
     ghost use Rattle.drf_core.specs.Refusing.{early_refusal_of};
     ghost use Rattle.drf_rows.specs.Report.{report_of};
     ghost use Rattle.drf_content.specs.Content.{content_of};
+    ghost use Rattle.drf_explain.specs.Each.{each_by_agent};
     ghost use Rattle.drf_explain.specs.Explained.{explained};
     ghost use Rattle.drf_core.specs.Keeping.{IsStanding};
     ghost use Rattle.drf_saved_laws.specs.SavedLaws.{IsSaveable};
@@ -192,6 +194,15 @@ impl<S: Sorter> Core<S> {
         ensures { IfOk result (λ findings. findings.items ≡ explained (live_rows self.now.rows) at) }
     {
         self.cluster.explain(self.alloc, &self.limits, at)
+    }
+
+    /// Tells the same agent by agent, and leaves nobody out: each client that wants offers is tried on each agent that takes part, whatever is
+    /// left there. So memory is that of the state, and of what is told of one agent. Clients that want no offers are not told of.
+    pub fn telling(&self, at: u64) -> Result<Telling<S>, AllocError>
+        requires { at ≤ LATEST_MOMENT }
+        ensures { IfOk result (λ telling. telling ≡ each_by_agent (live_rows self.now.rows) at) }
+    {
+        self.cluster.telling(self.alloc, &self.limits, at)
     }
 
     /// An allocator of its own with the same rows and limits.

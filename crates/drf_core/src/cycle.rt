@@ -63,7 +63,7 @@ fn has_open(tables: &Tables) -> bool
 }
 
 /// Whether a client is still to be served.
-fn has_next<S: Sorter>(sorter: &S) -> bool
+pub(crate) fn has_next<S: Sorter>(sorter: &S) -> bool
     ensures { result ≡ is_some (slice_get (S.queue sorter.now) 0) }
 {
     sorter.first().is_some()

@@ -1,24 +1,27 @@
-//! What the next cycle would offer, told client by client. It is tried on tables and a sorter that are thrown away.
-ghost use Rattle.std.specs.Prelude.{◌≡◌, true, ◌+◌, ◌<◌, ◌≤◌, List, ◌++◌, ◌∷◌, [], Some, length, slice_get, IfOk, OnOk};
+//! What the next cycle would offer, told client by client: up to where too little is left on an agent, or of each client. It is tried on
+//! tables and a sorter that are thrown away.
+ghost use Rattle.std.specs.Prelude.{◌≡◌, true, false, ◌+◌, ◌<◌, ◌≤◌, ◌&&◌, List, ◌++◌, ◌∷◌, [], Some, length, map, slice_get, is_some, IfOk, OnOk, OnErr, MatchOption};
 ghost use Rattle.std.specs.Option.{option_copied};
 ghost use Rattle.drf_role.specs.Path.{Path};
-ghost use Rattle.drf_rows.specs.Cycle.{free_of};
+ghost use Rattle.drf_rows.specs.Client.{Client, path_of};
+ghost use Rattle.drf_rows.specs.Cycle.{free_of, is_allocatable};
 ghost use Rattle.drf_rows.specs.Step.{live_rows};
 ghost use Rattle.drf_rows.specs.declared.limits.TheConstants.{LATEST_MOMENT};
 ghost use Rattle.drf_rows.specs.declared.rows.AgentRow.{AgentRow};
 ghost use Rattle.drf_rows.specs.declared.rows.Rows.{Rows};
 ghost use Rattle.drf_sorter.specs.Content.{IsOrderOf, IsSound};
+ghost use Rattle.drf_explain.specs.Each.{each_by_agent};
 ghost use Rattle.drf_explain.specs.Explained.{explained, told_of_agents};
 ghost use Rattle.drf_explain.specs.Gates.{AreGatesOf};
 ghost use Rattle.drf_tables.specs.Drafts.{with_offers};
 ghost use Rattle.drf_content.specs.Content.{content_of};
 ghost use Rattle.drf_core.specs.Drafting.{IsDrafting, HasLeft, turn_at};
 ghost use Rattle.drf_core.specs.Entitling.{IsQuotaOf};
-ghost use Rattle.drf_core.specs.Explaining.{AreToldAt, AreTried, IsOutcomeOf, left_told, told_at};
+ghost use Rattle.drf_core.specs.Explaining.{AreToldAt, AreTried, IsOutcomeOf, IsTelling, left_told, told_at, told_by, told_here};
 ghost use Rattle.drf_laws.specs.Kept.{IsKept};
 
 use crate::cluster::Cluster;
-use crate::cycle::{Drafts, goes_on, quota_of, try_first};
+use crate::cycle::{Drafts, goes_on, has_next, quota_of, try_first};
 use crate::free::{Free, part_within};
 use drf_amount::Algebra;
 use drf_bundle::Bundle;
@@ -29,6 +32,7 @@ use drf_rows::{Limits, Rows};
 use drf_sorter::Sorter;
 use drf_tables::{Left, Tables};
 use std::alloc::{AllocError, Global};
+use std::marker::Model;
 
 /// How many clients are to be served.
 fn count_active<S: Sorter>(sorter: &mut S) -> Result<u64, AllocError>
@@ -106,8 +110,55 @@ fn tell_left(
     Ok(())
 }
 
-/// Tries each client in order on an agent, until what is left is not worth an offer, and tells what comes of it.
+/// Tells what comes of each client that is still to be served, where none of them is granted anything.
+fn tell_behind<S: Sorter>(
+    sorter: &mut S,
+    gates: &Gates,
+    drafts: &Drafts,
+    free: &Bundle,
+    agent: &Name,
+    findings: &mut Vec<Finding>,
+) -> Result<(), AllocError>
+    ensures content { S.content sorter.new ≡ S.content sorter.old }
+    ensures told { OnOk result ((clients : List Client) (rows : Rows) (a : AgentRow) → S.queue sorter.old ≡ map path_of clients → AreGatesOf rows a gates.now
+        → IsQuotaOf rows drafts.now.quota → free.now ≡ free_of rows a → agent.now ≡ a.name
+        → findings.new.items ≡ findings.old.items ++ map (told_here rows a) clients) }
+{
+    while has_next(sorter) {
+        tell_first(sorter, gates, drafts.quota.as_ref(), free, agent, findings)?;
+        sorter.pass();
+    }
+    Ok(())
+}
+
+/// Tells of the clients that are left where too little is: what comes of each, or how many they are.
+fn tell_rest<S: Sorter>(
+    each: bool,
+    sorter: &mut S,
+    gates: &Gates,
+    drafts: &Drafts,
+    free: &Bundle,
+    agent: &Name,
+    waiting: u64,
+    findings: &mut Vec<Finding>,
+) -> Result<(), AllocError>
+    requires { waiting ≡ length (S.queue sorter.old) }
+    ensures content { S.content sorter.new ≡ S.content sorter.old }
+    ensures told { OnOk result ((clients : List Client) (rows : Rows) (a : AgentRow) → S.queue sorter.old ≡ map path_of clients → AreGatesOf rows a gates.now
+        → IsQuotaOf rows drafts.now.quota → free.now ≡ free_of rows a → agent.now ≡ a.name
+        → (is_some (slice_get (S.queue sorter.old) 0) && is_allocatable free.now) ≡ false
+        → findings.new.items ≡ findings.old.items ++ told_by each rows a clients) }
+{
+    if each {
+        return tell_behind(sorter, gates, drafts, free, agent, findings);
+    }
+    tell_left(agent, free, waiting, findings)
+}
+
+/// Tries each client in order on an agent, until what is left is not worth an offer, and tells what comes of it; and then of the clients that
+/// are left.
 fn tell_clients<S: Sorter>(
+    each: bool,
     gates: &Gates,
     tables: &Tables,
     sorter: &mut S,
@@ -123,7 +174,7 @@ fn tell_clients<S: Sorter>(
     requires quota { IsQuotaOf (with_offers tables.now.rows drafts.old.offers.items) drafts.old.quota }
     ensures drafting { IsDrafting (S.content sorter.new) tables.now.rows drafts.new.offers.items }
     ensures tried { OnOk result (AreTried (with_offers tables.now.rows drafts.old.offers.items) (with_offers tables.now.rows drafts.new.offers.items) place) }
-    ensures told { OnOk result (AreToldAt (with_offers tables.now.rows drafts.old.offers.items) place findings.old.items findings.new.items) }
+    ensures told { OnOk result (AreToldAt each (with_offers tables.now.rows drafts.old.offers.items) place findings.old.items findings.new.items) }
     ensures left { OnOk result (HasLeft tables.now.rows drafts.new.offers.items drafts.new.lefts.items (place + 1)) }
     ensures quota { OnOk result (IsQuotaOf (with_offers tables.now.rows drafts.new.offers.items) drafts.new.quota) }
 {
@@ -145,7 +196,16 @@ fn tell_clients<S: Sorter>(
         sorter.pass();
         waiting -= 1;
     }
-    tell_left(agent, &free.bundle, waiting, findings)?;
+    tell_rest(
+        each,
+        sorter,
+        gates,
+        drafts,
+        &free.bundle,
+        agent,
+        waiting,
+        findings,
+    )?;
     let Free { bundle, .. } = free;
     drafts.lefts.push(Left {
         agent: place,
@@ -154,9 +214,10 @@ fn tell_clients<S: Sorter>(
     Ok(())
 }
 
-/// Tells of the turn of an agent.
+/// Tells of the turn of an agent: of each client, or of those before too little is left.
 fn tell_turn<S: Sorter>(
     alloc: Global,
+    each: bool,
     rows: &Rows,
     tables: &Tables,
     sorter: &mut S,
@@ -173,7 +234,7 @@ fn tell_turn<S: Sorter>(
     ensures drafting { IsDrafting (S.content sorter.new) tables.now.rows drafts.new.offers.items }
     ensures turn { OnOk result (with_offers tables.now.rows drafts.new.offers.items
         ≡ turn_at (with_offers tables.now.rows drafts.old.offers.items) place) }
-    ensures told { OnOk result (findings.new.items ≡ findings.old.items ++ told_at (with_offers tables.now.rows drafts.old.offers.items) place) }
+    ensures told { OnOk result (findings.new.items ≡ findings.old.items ++ told_at each (with_offers tables.now.rows drafts.old.offers.items) place) }
     ensures left { OnOk result (HasLeft tables.now.rows drafts.new.offers.items drafts.new.lefts.items (place + 1)) }
     ensures quota { OnOk result (IsQuotaOf (with_offers tables.now.rows drafts.new.offers.items) drafts.new.quota) }
 {
@@ -189,7 +250,7 @@ fn tell_turn<S: Sorter>(
         return Ok(());
     }
     let gates = Gates::on(alloc, rows, agent)?;
-    tell_clients(&gates, tables, sorter, place, drafts, findings)?;
+    tell_clients(each, &gates, tables, sorter, place, drafts, findings)?;
     Ok(())
 }
 
@@ -211,7 +272,7 @@ fn tell_turns<S: Sorter>(
     ensures { OnOk result (findings.new.items ≡ findings.old.items ++ told_of_agents tables.now.rows tables.now.rows.agents) }
 {
     for place in 0..tables.agent_count() {
-        tell_turn(alloc, rows, tables, sorter, place, drafts, findings)?;
+        tell_turn(alloc, false, rows, tables, sorter, place, drafts, findings)?;
     }
     Ok(())
 }
@@ -245,6 +306,99 @@ fn explain<S: Sorter>(
     Ok(findings)
 }
 
+/// The telling of a cycle in which each client is told of, agent by agent. Nothing is kept of agents that were told of but what they were
+/// granted.
+#[derive(Drop)]
+pub struct Telling<S: Sorter> {
+    alloc: Global,
+    rows: Rows,
+    tables: Tables,
+    sorter: S,
+    drafts: Drafts,
+    place: usize,
+    // Whether memory has ended while an agent was told of.
+    is_over: bool,
+}
+
+impl<S: Sorter> Model for Telling<S> {
+    ghost use Rattle.std.specs.Prelude.{◌≡◌, List, false};
+    ghost use Rattle.std.specs.Coded.{coded_list};
+    ghost use Rattle.drf_explain.specs.contracts.finding.Finding as finding;
+    ghost use Rattle.drf_explain.specs.declared.finding.Finding.{Finding};
+
+    ghost Value = { List (List Finding) };
+
+    ghost coded = { coded_list (coded_list finding.the_row.coded) };
+
+    ghost use Rattle.drf_core.specs.Explaining.{IsTelling, left_to_tell};
+
+    ghost view = { λ t. left_to_tell t.is_over t.tables.rows t.drafts.offers.items t.place };
+
+    ghost invariant = { λ t. t.is_over ≡ false → IsTelling (S.content t.sorter) t.tables.rows t.tables.settled t.rows t.drafts.offers.items t.drafts.lefts.items t.drafts.quota t.place };
+}
+
+/// Begins to tell of the cycle at a moment, in milliseconds, on tables and a sorter of its own.
+fn begin_telling<S: Sorter>(
+    alloc: Global,
+    limits: &Limits,
+    mut tables: Tables,
+    sorter: S,
+    at: u64,
+) -> Result<Telling<S>, AllocError>
+    requires sorted { S.content sorter ≡ content_of tables.rows }
+    requires kept { IsKept limits.now tables.rows }
+    requires early { at ≤ LATEST_MOMENT }
+    ensures { IfOk result (λ telling. telling ≡ each_by_agent tables.rows at) }
+{
+    let moment = tables.clock().max(at);
+    tables.set_clock(moment);
+    tables.settle()?;
+    let quota = quota_of(&mut tables)?;
+    let rows = tables.rows()?;
+    let drafts = Drafts {
+        offers: Vec::new(alloc),
+        lefts: Vec::new(alloc),
+        quota,
+    };
+    Ok(Telling {
+        alloc,
+        rows,
+        tables,
+        sorter,
+        drafts,
+        place: 0,
+        is_over: false,
+    })
+}
+
+impl<S: Sorter> Telling<S> {
+    /// What is told of the next agent, in order of registration, or nothing behind the last one. At an `Err` the telling is over.
+    #[tactic(auto, using(crate::proofs::drafting::Told::none_left))]
+    pub fn next_agent(&mut self) -> Result<Option<Vec<Finding>>, AllocError>
+        ensures told { IfOk result (λ next. MatchOption next ((self.old ≡ []) × (self.new ≡ [])) (λ told. self.old ≡ told.items ∷ self.new)) }
+        ensures err { OnErr result (self.new ≡ []) }
+    {
+        if self.is_over || self.place >= self.tables.agent_count() {
+            return Ok(None);
+        }
+        let mut told = Vec::new(self.alloc);
+        self.is_over = true;
+        tell_turn(
+            self.alloc,
+            true,
+            &self.rows,
+            &self.tables,
+            &mut self.sorter,
+            self.place,
+            &mut self.drafts,
+            &mut told,
+        )?;
+        self.place += 1;
+        self.is_over = false;
+        Ok(Some(told))
+    }
+}
+
 impl<S: Sorter> Cluster<S> {
     /// What the cycle at a moment, in milliseconds, would offer and to whom, and where it would offer nothing, why.
     pub(crate) fn explain(
@@ -260,5 +414,21 @@ impl<S: Sorter> Cluster<S> {
         let mut tables = self.tables.copy()?;
         let mut sorter = self.sorter.copy()?;
         explain(alloc, limits, &mut tables, &mut sorter, at)
+    }
+
+    /// Begins to tell of the cycle at a moment, in milliseconds: of each client on each agent.
+    pub(crate) fn telling(
+        &self,
+        alloc: Global,
+        limits: &Limits,
+        at: u64,
+    ) -> Result<Telling<S>, AllocError>
+        requires kept { IsKept limits.now self.now.rows }
+        requires early { at ≤ LATEST_MOMENT }
+        ensures { IfOk result (λ telling. telling ≡ each_by_agent self.now.rows at) }
+    {
+        let tables = self.tables.copy()?;
+        let sorter = self.sorter.copy()?;
+        begin_telling(alloc, limits, tables, sorter, at)
     }
 }

@@ -18,4 +18,5 @@ mod report;
 mod stepped;
 
 pub use allocator::Core;
+pub use explain::Telling;
 pub use stepped::Stepped;

@@ -1,10 +1,10 @@
 -- What is told of a cycle, client by client and agent by agent.
-use Rattle.std.proofs.Common.{◌≡◌, ℕ, ◌+◌, ◌<◌, suc, Bool, true, false, ◌&&◌, List, [], ◌∷◌, ◌++◌, Option, Some, None, length, map, drop, refl, sym, ap, subst, ◌∙◌, cond, arith, append_assoc}
+use Rattle.std.proofs.Common.{◌≡◌, ℕ, ◌+◌, ◌<◌, ◌≤◌, suc, Bool, true, false, ◌&&◌, List, [], ◌∷◌, ◌++◌, Option, Some, None, length, map, drop, refl, sym, ap, subst, ◌∙◌, cond, arith, append_assoc, append-nil}
 use Rattle.std.specs.Prelude.{slice_get, is_some, filter, max}
 use Rattle.std.specs.List.{AllByRecursion}
 use Rattle.std.specs.Option.{option_map_or}
 use Rattle.std.proofs.lemmas.Bool.{lt-ltb}
-use Rattle.std.proofs.lemmas.List.{length-map}
+use Rattle.std.proofs.lemmas.List.{drop_all, length-map}
 use Rattle.drf_role.specs.Path.{Path, role_part}
 use Rattle.drf_role.specs.PathLaws.{role_part-client_path}
 use Rattle.drf_role.specs.Text.{Text}
@@ -13,6 +13,7 @@ use Rattle.drf_bundle.specs.declared.resource.Resource.{Resource}
 use Rattle.drf_gates.specs.Quota.{Allowance}
 use Rattle.drf_rows.specs.Client.{Client, path_of}
 use Rattle.drf_rows.specs.Cycle.{free_of, is_allocatable, with_offer, tried, all_tried, turn, turn_order, at_moment}
+use Rattle.drf_rows.specs.laws.CycleLaws.{all_tried_none}
 use Rattle.drf_rows.specs.Filters.{is_in_force, holds_back}
 use Rattle.drf_rows.specs.Held.{is_registered}
 use Rattle.drf_rows.specs.Offers.{is_empty}
@@ -22,6 +23,7 @@ use Rattle.drf_rows.specs.declared.rows.AgentRow.{AgentRow}
 use Rattle.drf_rows.specs.declared.rows.FilterRow.{FilterRow}
 use Rattle.drf_rows.specs.declared.rows.OfferRow.{OfferRow}
 use Rattle.drf_rows.specs.declared.rows.Rows.{Rows}
+use Rattle.drf_explain.specs.Each.{told_of_each, each_on, each_on_active, each_on_all, each_by_agent}
 use Rattle.drf_explain.specs.Explained.{outcome, outcome_by, told_of_all, told_of_active, told_of_agent, after_agent, told_of_agents, suppressed_of, explained}
 use Rattle.drf_explain.specs.ExplainedLaws.{filter_weaker, in_force_before, nothing_free}
 use Rattle.drf_explain.specs.Gates.{AreGatesOf}
@@ -31,10 +33,11 @@ use Rattle.drf_explain.specs.declared.finding.Outcome.{Outcome}
 use Rattle.drf_explain.specs.declared.gates.Gates.{Gates}
 use Rattle.drf_sorter.specs.Content.{Content, IsOrderOf}
 use Rattle.drf_tables.specs.Drafts.{with_offers}
+use Rattle.drf_tables.specs.declared.tables.Left as tables_word
 use Rattle.drf_tables.specs.DraftLaws.{agents-with_offers}
 use Rattle.drf_core.specs.Drafting.{IsDrafting, IsTried, is_open_at, turn_at}
 use Rattle.drf_core.specs.Entitling.{IsEntitlement, IsQuotaOf}
-use Rattle.drf_core.specs.Explaining.{IsOutcomeOf, left_told, told_at}
+use Rattle.drf_core.specs.Explaining.{IsOutcomeOf, IsTelling, left_to_tell, left_told, told_at, told_by, told_here, told_on}
 use Rattle.drf_core.proofs.drafting.Cycle.{begins_at}
 use Rattle.drf_core.proofs.drafting.Turn.{AreWaiting, element_at, ordered_from, turn_at-closed}
 
@@ -86,26 +89,66 @@ finding-is rows agent path quota free part bundle name of what comes parted enti
     let path_is : of ≡ path_of client = same ∙ joined in
     λ i. Tried (named i) (path_is i) (its i)
 
+-- ---- clients that are told of
+
+-- where enough is left, the first is told of and tried, whoever is told of behind it
+told_by-first : (each : Bool) (rows : Rows) (agent : AgentRow) (client : Client) (clients : List Client) → is_allocatable (free_of rows agent) ≡ true
+    → told_by each rows agent (client ∷ clients) ≡ told_here rows agent client ∷ told_by each (tried rows agent client) agent clients
+told_by-first true rows agent client clients worth = refl
+told_by-first false rows agent client clients worth =
+    ap (λ b. cond b (told_here rows agent client ∷ told_of_all (tried rows agent client) agent clients)
+    (Left agent.name (free_of rows agent) (suc (length clients)) ∷ [])) worth
+
+-- where too little is left, what comes of each comes of the rows as they stand
+told-behind : (rows : Rows) (agent : AgentRow) (clients : List Client) → is_allocatable (free_of rows agent) ≡ false
+    → map (told_here rows agent) clients ≡ told_of_each rows agent clients
+told-behind rows agent [] little = refl
+told-behind rows agent (client ∷ clients) little =
+    ap (λ fs. told_here rows agent client ∷ fs)
+    (told-behind rows agent clients little
+    ∙ ap (λ (r : Rows). told_of_each r agent clients) (sym (all_tried_none rows agent (client ∷ []) little)))
+
+-- what is told where too little is left, or nobody
+module _ (rows : Rows) (agent : AgentRow) (queue : List Path) (free : List Resource) (over : (is_some (slice_get queue 0) && is_allocatable free) ≡ false)
+    (is_free : free ≡ free_of rows agent) where
+  pub behind-each : (clients : List Client) → queue ≡ map path_of clients → map (told_here rows agent) clients ≡ told_by true rows agent clients
+  behind-each [] queued = refl
+  behind-each (client ∷ clients) queued =
+      told-behind rows agent (client ∷ clients)
+      (ap is_allocatable (sym is_free) ∙ sym (ap (λ ps. is_some (slice_get ps 0) && is_allocatable free) queued) ∙ over)
+
+  pub behind-counted : (clients : List Client) (waiting : ℕ) → queue ≡ map path_of clients → waiting ≡ length queue
+      → left_told agent.name free waiting ≡ told_by false rows agent clients
+  behind-counted [] waiting queued many = ap (λ n. left_told agent.name free n) (many ∙ ap length queued)
+  behind-counted (client ∷ clients) waiting queued many =
+      let little : is_allocatable (free_of rows agent) ≡ false =
+      ap is_allocatable (sym is_free) ∙ sym (ap (λ ps. is_some (slice_get ps 0) && is_allocatable free) queued) ∙ over in
+      let as_many : waiting ≡ suc (length clients) = many ∙ ap length queued ∙ ap suc (length-map clients path_of) in
+      (λ i. left_told agent.name (is_free i) (as_many i))
+      ∙ ap (λ b. cond b (Left agent.name (free_of rows agent) (suc (length clients)) ∷ []) []) (lt-ltb 0 (suc (length clients)) (omega arith))
+      ∙ ap (λ b. cond b (told_here rows agent client ∷ told_of_all (tried rows agent client) agent clients)
+      (Left agent.name (free_of rows agent) (suc (length clients)) ∷ [])) (sym little)
+
 -- ---- clients that wait
 
 -- the clients that are still to be tried: to try them and to tell of them gives what trying and telling of all gives
-pub record AreTold (rows : Rows) (place : ℕ) (start now : Rows) (queue : List Path) (before findings : List Finding) : Type 0 where
+pub record AreTold (each : Bool) (rows : Rows) (place : ℕ) (start now : Rows) (queue : List Path) (before findings : List Finding) : Type 0 where
   pub clients : List Client
   pub queued : queue ≡ map path_of clients
   pub known : AllByRecursion (λ c. is_registered rows.frameworks c ≡ true) clients
   pub same : (agent : AgentRow) → slice_get rows.agents place ≡ Some agent → all_tried now agent clients ≡ all_tried start agent (turn_order start)
   pub told : (agent : AgentRow) → slice_get rows.agents place ≡ Some agent
-      → findings ++ told_of_all now agent clients ≡ before ++ told_of_all start agent (turn_order start)
+      → findings ++ told_by each now agent clients ≡ before ++ told_by each start agent (turn_order start)
 
-pub waiting_of : (rows : Rows) (place : ℕ) (start now : Rows) (queue : List Path) (before findings : List Finding)
-    → AreTold rows place start now queue before findings → AreWaiting rows place start now queue
-waiting_of rows place start now queue before findings are =
+pub waiting_of : (each : Bool) (rows : Rows) (place : ℕ) (start now : Rows) (queue : List Path) (before findings : List Finding)
+    → AreTold each rows place start now queue before findings → AreWaiting rows place start now queue
+waiting_of each rows place start now queue before findings are =
     record { clients = are.clients; queued = are.queued; known = are.known; same = are.same }
 
 module _ (content : Content) (rows : Rows) (offers : List OfferRow) (drafting : IsDrafting content rows offers) where
-  pub told-begins : (place : ℕ) (queue : List Path) (findings : List Finding) → IsOrderOf content queue
-      → AreTold rows place (with_offers rows offers) (with_offers rows offers) queue findings findings
-  told-begins place queue findings order =
+  pub told-begins : (each : Bool) (place : ℕ) (queue : List Path) (findings : List Finding) → IsOrderOf content queue
+      → AreTold each rows place (with_offers rows offers) (with_offers rows offers) queue findings findings
+  told-begins each place queue findings order =
       let ordered = ordered_from content rows offers drafting queue order in
       record { clients = turn_order (with_offers rows offers); queued = ordered.same; known = ordered.known; same = λ agent at. refl; told = λ agent at. refl }
 
@@ -114,22 +157,22 @@ module _ (content : Content) (rows : Rows) (offers : List OfferRow) (drafting : 
   as_many paths queue first second =
       ap length ((ordered_from content rows offers drafting paths first).same ∙ sym (ordered_from content rows offers drafting queue second).same)
 
-module _ (rows : Rows) (place : ℕ) (start now : Rows) (queue : List Path) (before findings : List Finding)
-    (are : AreTold rows place start now queue before findings) where
+module _ (each : Bool) (rows : Rows) (place : ℕ) (start now : Rows) (queue : List Path) (before findings : List Finding)
+    (are : AreTold each rows place start now queue before findings) where
   -- when one was tried and told of, the others wait
   pub told-passed : (after : Rows) (left : List Path) (next : List Finding) (path : Path) → now.agents ≡ rows.agents → slice_get queue 0 ≡ Some path
       → IsTried now after place path → left ≡ drop 1 queue
       → ((agent : AgentRow) → slice_get rows.agents place ≡ Some agent → is_allocatable (free_of now agent) ≡ true)
       → ((agent : AgentRow) → slice_get rows.agents place ≡ Some agent
       → (finding : Finding) × IsOutcomeOf now agent path finding × (next ≡ findings ++ finding ∷ []))
-      → AreTold rows place start after left before next
+      → AreTold each rows place start after left before next
   told-passed after left next path agents first tried_is left_is worth said = by are.clients are.queued are.known are.same are.told
     where
       by : (clients : List Client) → queue ≡ map path_of clients → AllByRecursion (λ c. is_registered rows.frameworks c ≡ true) clients
           → ((agent : AgentRow) → slice_get rows.agents place ≡ Some agent → all_tried now agent clients ≡ all_tried start agent (turn_order start))
           → ((agent : AgentRow) → slice_get rows.agents place ≡ Some agent
-          → findings ++ told_of_all now agent clients ≡ before ++ told_of_all start agent (turn_order start))
-          → AreTold rows place start after left before next
+          → findings ++ told_by each now agent clients ≡ before ++ told_by each start agent (turn_order start))
+          → AreTold each rows place start after left before next
       by [] queued known same told = let nothing : Some path ≡ None = sym first ∙ ap (λ ps. slice_get ps 0) queued in absurd cc
       by (c ∷ cs) queued known same told =
           let here : Some path ≡ Some (path_of c) = sym first ∙ ap (λ ps. slice_get ps 0) queued in
@@ -143,43 +186,67 @@ module _ (rows : Rows) (place : ℕ) (start now : Rows) (queue : List Path) (bef
             told = λ agent at.
                 let f = said agent at in
                 let next_rows : after ≡ tried now agent c = tried_is agent c (ap (λ as'. slice_get as' place) agents ∙ at) joined in
-                ap (λ fs. fs ++ told_of_all after agent cs) f.2
-                ∙ append_assoc findings (f.0 ∷ []) (told_of_all after agent cs)
-                ∙ (λ i. findings ++ f.1 c joined i ∷ told_of_all (next_rows i) agent cs)
-                ∙ ap (λ b. findings ++ cond b (Tried agent.name (path_of c) (outcome now agent c) ∷ told_of_all (tried now agent c) agent cs)
-                (Left agent.name (free_of now agent) (suc (length cs)) ∷ [])) (sym (worth agent at))
+                ap (λ fs. fs ++ told_by each after agent cs) f.2
+                ∙ append_assoc findings (f.0 ∷ []) (told_by each after agent cs)
+                ∙ (λ i. findings ++ f.1 c joined i ∷ told_by each (next_rows i) agent cs)
+                ∙ ap (λ fs. findings ++ fs) (sym (told_by-first each now agent c cs (worth agent at)))
                 ∙ told agent at;
           }
 
-  -- when none waits, or where too little is left to grant, all that is to be told was told
-  pub told-over : (free : List Resource) (waiting : ℕ) (next : List Finding) → (is_some (slice_get queue 0) && is_allocatable free) ≡ false
-      → waiting ≡ length queue
-      → (agent : AgentRow) → slice_get rows.agents place ≡ Some agent → free ≡ free_of now agent
-      → next ≡ findings ++ left_told agent.name free waiting
-      → next ≡ before ++ told_of_all start agent (turn_order start)
-  told-over free waiting next over counted agent at is_free added = by are.clients are.queued (are.told agent at)
-    where
-      by : (clients : List Client) → queue ≡ map path_of clients
-          → findings ++ told_of_all now agent clients ≡ before ++ told_of_all start agent (turn_order start)
-          → next ≡ before ++ told_of_all start agent (turn_order start)
-      by [] queued told =
-          let none : waiting ≡ 0 = counted ∙ ap length queued in
-          added ∙ ap (λ n. findings ++ left_told agent.name free n) none ∙ told
-      by (c ∷ cs) queued told =
-          let little : is_allocatable (free_of now agent) ≡ false =
-          ap is_allocatable (sym is_free) ∙ sym (ap (λ ps. is_some (slice_get ps 0) && is_allocatable free) queued) ∙ over in
-          let many : waiting ≡ suc (length cs) = counted ∙ ap length queued ∙ ap suc (length-map cs path_of) in
-          added
-          ∙ (λ i. findings ++ left_told agent.name (is_free i) (many i))
-          ∙ ap (λ b. findings ++ cond b (Left agent.name (free_of now agent) (suc (length cs)) ∷ []) []) (lt-ltb 0 (suc (length cs)) (omega arith))
-          ∙ ap (λ b. findings ++ cond b (Tried agent.name (path_of c) (outcome now agent c) ∷ told_of_all (tried now agent c) agent cs)
-          (Left agent.name (free_of now agent) (suc (length cs)) ∷ [])) (sym little)
-          ∙ told
+  -- when those who wait are told of too, all that is to be told was told
+  pub told-over : (next : List Finding) (agent : AgentRow) → slice_get rows.agents place ≡ Some agent
+      → ((clients : List Client) → queue ≡ map path_of clients → next ≡ findings ++ told_by each now agent clients)
+      → next ≡ before ++ told_by each start agent (turn_order start)
+  told-over next agent at said = said are.clients are.queued ∙ are.told agent at
 
 -- the first passed by, one fewer waits
 pub one_fewer : (queue : List Path) (worth : Bool) → (is_some (slice_get queue 0) && worth) ≡ true → length queue ≡ length (drop 1 queue) + 1
 one_fewer [] worth some = cc
 one_fewer (path ∷ queue) worth some = omega arith
+
+-- ---- clients behind
+
+-- those who wait of some clients, and what was told of the others
+abbrev pub WaitBehind : Rows → AgentRow → List Client → List Path → List Finding → List Finding → Type 0
+WaitBehind rows agent clients queue before findings =
+    (rest : List Client) × (queue ≡ map path_of rest) × (findings ++ map (told_here rows agent) rest ≡ before ++ map (told_here rows agent) clients)
+
+pub some_first : (queue : List Path) → is_some (slice_get queue 0) ≡ true → (path : Path) × (slice_get queue 0 ≡ Some path)
+some_first [] some = absurd cc
+some_first (path ∷ queue) some = (path, refl)
+
+pub fewer_wait : (queue : List Path) → is_some (slice_get queue 0) ≡ true → length queue ≡ length (drop 1 queue) + 1
+fewer_wait [] some = cc
+fewer_wait (path ∷ queue) some = omega arith
+
+pub next_behind : (rows : Rows) (agent : AgentRow) (clients : List Client) (queue left : List Path) (before findings next : List Finding) (path : Path)
+    → slice_get queue 0 ≡ Some path → (finding : Finding) × IsOutcomeOf rows agent path finding × (next ≡ findings ++ finding ∷ [])
+    → left ≡ drop 1 queue → WaitBehind rows agent clients queue before findings → WaitBehind rows agent clients left before next
+next_behind rows agent clients queue left before findings next path first told left_is behind = by behind.0 behind.1 behind.2
+  where
+    by : (rest : List Client) → queue ≡ map path_of rest → findings ++ map (told_here rows agent) rest ≡ before ++ map (told_here rows agent) clients
+        → WaitBehind rows agent clients left before next
+    by [] queued so_far = let nothing : Some path ≡ None = sym first ∙ ap (λ ps. slice_get ps 0) queued in absurd cc
+    by (c ∷ cs) queued so_far =
+        let here : Some path ≡ Some (path_of c) = sym first ∙ ap (λ ps. slice_get ps 0) queued in
+        let joined : path ≡ path_of c = cc in (
+          cs,
+          left_is ∙ ap (λ ps. drop 1 ps) queued,
+          ap (λ fs. fs ++ map (told_here rows agent) cs) told.2
+              ∙ append_assoc findings (told.0 ∷ []) (map (told_here rows agent) cs)
+              ∙ (λ i. findings ++ told.1 c joined i ∷ map (told_here rows agent) cs)
+              ∙ so_far,
+        )
+
+pub none_behind : (rows : Rows) (agent : AgentRow) (clients : List Client) (queue : List Path) (before findings : List Finding)
+    → is_some (slice_get queue 0) ≡ false → WaitBehind rows agent clients queue before findings
+    → findings ≡ before ++ map (told_here rows agent) clients
+none_behind rows agent clients queue before findings none behind = by behind.0 behind.1 behind.2
+  where
+    by : (rest : List Client) → queue ≡ map path_of rest → findings ++ map (told_here rows agent) rest ≡ before ++ map (told_here rows agent) clients
+        → findings ≡ before ++ map (told_here rows agent) clients
+    by [] queued so_far = sym (append-nil findings) ∙ so_far
+    by (c ∷ cs) queued so_far = let some : true ≡ false = sym (ap (λ ps. is_some (slice_get ps 0)) queued) ∙ none in absurd cc
 
 -- ---- the turn of an agent
 
@@ -191,25 +258,42 @@ agent_in rows offers place inside =
     (agent.0, agent.1, ap (λ as'. slice_get as' place) (agents-with_offers rows offers) ∙ agent.1)
 
 module _ (rows : Rows) (place : ℕ) (agent : AgentRow) (at : slice_get rows.agents place ≡ Some agent) where
-  pub told_at-agent : told_at rows place ≡ told_of_agent rows agent
-  told_at-agent = ap (λ o. option_map_or (told_of_agent rows) o []) at
+  pub told_at-agent : (each : Bool) → told_at each rows place ≡ told_on each rows agent
+  told_at-agent each = ap (λ o. option_map_or (told_on each rows) o []) at
 
   pub turn_at-agent : turn_at rows place ≡ after_agent rows agent
   turn_at-agent = ap (λ o. option_map_or (λ a. cond a.active (turn rows a) rows) o rows) at
 
-  pub told_at-idle : agent.active ≡ false → Inactive agent.name ∷ [] ≡ told_at rows place
-  told_at-idle idle =
-      sym (told_at-agent ∙ ap (λ b. cond b (told_of_active rows agent) (Inactive agent.name ∷ [])) idle)
+  told_on-idle : (each : Bool) → agent.active ≡ false → Inactive agent.name ∷ [] ≡ told_on each rows agent
+  told_on-idle true idle = sym (ap (λ b. cond b (each_on_active rows agent) (Inactive agent.name ∷ [])) idle)
+  told_on-idle false idle = sym (ap (λ b. cond b (told_of_active rows agent) (Inactive agent.name ∷ [])) idle)
 
-  pub told_at-full : agent.active ≡ true → is_empty (free_of rows agent) ≡ true → NothingFree agent.name ∷ [] ≡ told_at rows place
-  told_at-full active none =
-      sym (told_at-agent ∙ ap (λ b. cond b (told_of_active rows agent) (Inactive agent.name ∷ [])) active
+  pub told_at-idle : (each : Bool) → agent.active ≡ false → Inactive agent.name ∷ [] ≡ told_at each rows place
+  told_at-idle each idle = told_on-idle each idle ∙ sym (told_at-agent each)
+
+  told_on-full : (each : Bool) → agent.active ≡ true → is_empty (free_of rows agent) ≡ true → NothingFree agent.name ∷ [] ≡ told_on each rows agent
+  told_on-full true active none =
+      sym (ap (λ b. cond b (each_on_active rows agent) (Inactive agent.name ∷ [])) active
+      ∙ ap (λ b. cond b (NothingFree agent.name ∷ []) (told_of_each rows agent (turn_order rows))) none)
+  told_on-full false active none =
+      sym (ap (λ b. cond b (told_of_active rows agent) (Inactive agent.name ∷ [])) active
       ∙ ap (λ b. cond b (NothingFree agent.name ∷ []) (told_of_all rows agent (turn_order rows))) none)
 
-  pub told_at-tried : agent.active ≡ true → is_empty (free_of rows agent) ≡ false → told_of_all rows agent (turn_order rows) ≡ told_at rows place
-  told_at-tried active some =
-      sym (told_at-agent ∙ ap (λ b. cond b (told_of_active rows agent) (Inactive agent.name ∷ [])) active
+  pub told_at-full : (each : Bool) → agent.active ≡ true → is_empty (free_of rows agent) ≡ true → NothingFree agent.name ∷ [] ≡ told_at each rows place
+  told_at-full each active none = told_on-full each active none ∙ sym (told_at-agent each)
+
+  told_on-tried : (each : Bool) → agent.active ≡ true → is_empty (free_of rows agent) ≡ false
+      → told_by each rows agent (turn_order rows) ≡ told_on each rows agent
+  told_on-tried true active some =
+      sym (ap (λ b. cond b (each_on_active rows agent) (Inactive agent.name ∷ [])) active
+      ∙ ap (λ b. cond b (NothingFree agent.name ∷ []) (told_of_each rows agent (turn_order rows))) some)
+  told_on-tried false active some =
+      sym (ap (λ b. cond b (told_of_active rows agent) (Inactive agent.name ∷ [])) active
       ∙ ap (λ b. cond b (NothingFree agent.name ∷ []) (told_of_all rows agent (turn_order rows))) some)
+
+  pub told_at-tried : (each : Bool) → agent.active ≡ true → is_empty (free_of rows agent) ≡ false
+      → told_by each rows agent (turn_order rows) ≡ told_at each rows place
+  told_at-tried each active some = told_on-tried each active some ∙ sym (told_at-agent each)
 
   open-idle : agent.active ≡ false → is_open_at rows place ≡ false
   open-idle idle =
@@ -240,20 +324,55 @@ module _ (rows : Rows) (place : ℕ) (agent : AgentRow) (at : slice_get rows.age
 
 -- the next agent has its turn
 pub told-next : (rows before after : Rows) (i : ℕ) (first findings next : List Finding) → i < length rows.agents → before.agents ≡ rows.agents
-    → after ≡ turn_at before i → next ≡ findings ++ told_at before i
+    → after ≡ turn_at before i → next ≡ findings ++ told_at false before i
     → findings ++ told_of_agents before (drop i rows.agents) ≡ first ++ told_of_agents rows rows.agents
     → next ++ told_of_agents after (drop (i + 1) rows.agents) ≡ first ++ told_of_agents rows rows.agents
 told-next rows before after i first findings next within same turned added so_far =
     let b = begins_at rows.agents i within in
     let at : slice_get before.agents i ≡ Some b.first = ap (λ as'. slice_get as' i) same ∙ b.at in
     let later : List AgentRow = drop (i + 1) rows.agents in
-    ap (λ fs. fs ++ told_of_agents after later) (added ∙ ap (λ fs. findings ++ fs) (told_at-agent before i b.first at))
+    ap (λ fs. fs ++ told_of_agents after later) (added ∙ ap (λ fs. findings ++ fs) (told_at-agent before i b.first at false))
     ∙ append_assoc findings (told_of_agent before b.first) (told_of_agents after later)
     ∙ ap (λ (r : Rows). findings ++ (told_of_agent before b.first ++ told_of_agents r later)) (turned ∙ turn_at-agent before i b.first at)
     ∙ ap (λ as'. findings ++ told_of_agents before as') (sym b.rest)
     ∙ so_far
 
+-- behind the last agent nothing is left to be told
+pub none_left : (over : Bool) (rows : Rows) (offers : List OfferRow) (place : ℕ) → length rows.agents ≤ place → left_to_tell over rows offers place ≡ []
+none_left true rows offers place past = refl
+none_left false rows offers place past = ap (each_on_all (with_offers rows offers)) (drop_all place rows.agents past)
+
+-- the next agent is told of, and the others are left
+pub telling-next : (rows before after : Rows) (i : ℕ) (told : List Finding) → i < length rows.agents → before.agents ≡ rows.agents
+    → after ≡ turn_at before i → told ≡ [] ++ told_at true before i
+    → each_on_all before (drop i rows.agents) ≡ told ∷ each_on_all after (drop (i + 1) rows.agents)
+telling-next rows before after i told within same turned said =
+    let b = begins_at rows.agents i within in
+    let at : slice_get before.agents i ≡ Some b.first = ap (λ as'. slice_get as' i) same ∙ b.at in
+    let later : List AgentRow = drop (i + 1) rows.agents in
+    ap (each_on_all before) b.rest
+    ∙ ap (λ fs. fs ∷ each_on_all (after_agent before b.first) later) (sym (said ∙ told_at-agent before i b.first at true))
+    ∙ ap (λ (r : Rows). told ∷ each_on_all r later) (sym (turned ∙ turn_at-agent before i b.first at))
+
 -- ---- the cycle
+
+pub telling-stands : (content : Content) (rows live : Rows) (settled : Bool) (offers : List OfferRow) (lefts : List tables_word.Left) (quota : Option Allowance)
+    → live ≡ live_rows rows → IsDrafting content rows offers → settled ≡ true → offers ≡ [] → lefts ≡ [] → IsQuotaOf rows quota
+    → IsTelling content rows settled live offers lefts quota 0
+telling-stands content rows live settled offers lefts quota current drafting is_settled none nothing counted = record {
+  current = current;
+  drafting = drafting;
+  is_settled = is_settled;
+  left_free = rw (none, nothing) (record { frees = refl; past = tt });
+  counted = subst (λ (os : List OfferRow). IsQuotaOf (with_offers rows os) quota) (sym none) counted;
+}
+
+-- a telling begins with all agents
+pub telling-begins : (rows tables : Rows) (at moment : ℕ) → moment ≡ max rows.clock at → tables ≡ record rows { clock = moment }
+    → each_on_all tables tables.agents ≡ each_by_agent rows at
+unfolding each_by_agent
+telling-begins rows tables at moment late same =
+    ap (λ (r : Rows). each_on_all r r.agents) (same ∙ ap (λ n. record rows { clock = n }) late)
 
 pub explained-is : (rows tables live : Rows) (at moment : ℕ) (first findings : List Finding) → moment ≡ max rows.clock at
     → tables ≡ record rows { clock = moment } → live ≡ live_rows tables → first ≡ suppressed_of live

@@ -9,7 +9,6 @@ use Rattle.drf_sorter.specs.Content.{Content}
 use Rattle.drf_tables.specs.Drafts.{with_offers}
 use Rattle.drf_tables.specs.DraftLaws.{agents-with_offers}
 use Rattle.drf_core.specs.Drafting.{IsDrafting}
-use Rattle.drf_core.specs.Explaining.{left_told}
 use Rattle.drf_core.proofs.drafting.Told.{gates-drafts, told-begins, as_many, one_fewer, told-passed, told-over, waiting_of}
 use Rattle.drf_core.proofs.drafting.Turn.{HasLeft-turn, free-before, element_at, sound_now, waiting-first, waiting-over, first_of_queue, queue_falls}
 use Rattle.drf_core.proofs.explain.tell_clients.Given as given
@@ -42,7 +41,7 @@ loop-sorter-init g c =
     let order = rw c.count_active.ensures.same at c.in_ok-fix_order.ensures.order in
     record {
       drafting = subst (λ (k : Content). IsDrafting k rows offers) (sym (c.fix_order.ensures.same ∙ c.count_active.ensures.same)) c.requires.drafting;
-      told = told-begins content rows offers c.requires.drafting c.args.place (g.S.Sorter.queue c.fix_order.new.self) c.args.findings.now.items order;
+      told = told-begins content rows offers c.requires.drafting c.args.each c.args.place (g.S.Sorter.queue c.fix_order.new.self) c.args.findings.now.items order;
       free = record {
         agent = agent.0;
         at = ap (λ as'. slice_get as' c.args.place) (agents-with_offers rows offers) ∙ agent.1;
@@ -64,7 +63,7 @@ try_first-requires-clause-client g c =
     let start : Rows = with_offers rows c.args.drafts.now.offers.items in
     let now : Rows = with_offers rows c.loop-sorter.drafts.offers.items in
     let queue = g.S.Sorter.queue c.loop-sorter.sorter in
-    waiting-first rows c.args.place start now queue (waiting_of rows c.args.place start now queue _ _ c.loop-sorter.invariant.told)
+    waiting-first rows c.args.place start now queue (waiting_of c.args.each rows c.args.place start now queue _ _ c.loop-sorter.invariant.told)
 
 pub loop-sorter-preserved : goal.loop-sorter-preserved
 loop-sorter-preserved g c =
@@ -83,7 +82,7 @@ loop-sorter-preserved g c =
     let left : g.S.Sorter.queue c.pass.new.self ≡ drop 1 queue = c.pass.ensures.queue ∙ ap (λ ps. drop 1 ps) c.try_first.ensures.queue in
     record {
       drafting = subst (λ (k : Content). IsDrafting k rows c.try_first.new.drafts.offers.items) (sym c.pass.ensures.content) c.try_first.ensures.drafting;
-      told = told-passed rows c.args.place (with_offers rows c.args.drafts.now.offers.items) now queue _ _ c.loop-sorter.invariant.told
+      told = told-passed c.args.each rows c.args.place (with_offers rows c.args.drafts.now.offers.items) now queue _ _ c.loop-sorter.invariant.told
           (with_offers rows c.try_first.new.drafts.offers.items) (g.S.Sorter.queue c.pass.new.self) _ first.0
           (agents-with_offers rows offers) first.1 (c.in_ok-try_first.ensures.tried first.0 first.1) left
           (λ agent at. ap is_allocatable (sym (here agent at)) ∙ (and_parts (is_some (slice_get queue 0)) (is_allocatable c.loop-sorter.free.bundle) some).1)
@@ -124,7 +123,7 @@ turned_at g c agent at over =
     let start : Rows = with_offers rows c.args.drafts.now.offers.items in
     let now : Rows = with_offers rows c.loop-sorter.drafts.offers.items in
     let queue = g.S.Sorter.queue c.loop-sorter.sorter in
-    waiting-over rows c.args.place start now queue (waiting_of rows c.args.place start now queue _ _ c.loop-sorter.invariant.told)
+    waiting-over rows c.args.place start now queue (waiting_of c.args.each rows c.args.place start now queue _ _ c.loop-sorter.invariant.told)
     c.loop-sorter.free.bundle (sym c.goes_on.ensures ∙ over) agent at (free_here g c agent at)
 
 pub returns-clause-tried : goal.returns-clause-tried
@@ -140,11 +139,18 @@ returns-clause-told g c = λ agent at.
     let now : Rows = with_offers rows c.loop-sorter.drafts.offers.items in
     let queue = g.S.Sorter.queue c.loop-sorter.sorter in
     let here = ap (λ as'. slice_get as' c.args.place) (sym (agents-with_offers rows c.args.drafts.now.offers.items)) ∙ at in
-    let name = c.agent_name-agent.ensures agent here in
-    told-over rows c.args.place start now queue _ _ c.loop-sorter.invariant.told c.loop-sorter.free.bundle c.loop-sorter.waiting _
-    (sym c.goes_on.ensures ∙ c.loop-sorter-test.false) c.loop-sorter.invariant.waiting agent here
-    (free_here g (goal.at.returns-clause-told g c).After-goes_on agent here)
-    (c.in_ok-tell_left.ensures ∙ ap (λ n. c.loop-sorter.findings.items ++ left_told n c.loop-sorter.free.bundle c.loop-sorter.waiting) name)
+    told-over c.args.each rows c.args.place start now queue _ _ c.loop-sorter.invariant.told _ agent here
+    (λ clients queued. c.in_ok-tell_rest.ensures.told clients now agent queued
+    (gates-drafts rows c.loop-sorter.drafts.offers.items agent c.args.gates.now (c.requires.gates agent here))
+    c.loop-sorter.invariant.quota (free_here g (goal.at.returns-clause-told g c).After-goes_on agent here)
+    (c.agent_name-agent.ensures agent here) (sym c.goes_on.ensures ∙ c.loop-sorter-test.false))
+
+pub tell_rest-requires : goal.tell_rest-requires
+tell_rest-requires g c = c.loop-sorter.invariant.waiting
+
+pub returns-clause-drafting : goal.returns-clause-drafting
+returns-clause-drafting g c =
+    subst (λ (k : Content). IsDrafting k c.args.tables.now.rows c.loop-sorter.drafts.offers.items) (sym c.tell_rest.ensures.content) c.loop-sorter.invariant.drafting
 
 pub returns-clause-left : goal.returns-clause-left
 returns-clause-left g c =

@@ -9,7 +9,7 @@ use Rattle.drf_core.proofs.explain.tell_clients.Given as goal
 abbrev pub invariant-loop-sorter : goal.invariant-loop-sorter
 invariant-loop-sorter g l = record {
   drafting : IsDrafting (g.S.Sorter.content l.sorter) l.tables.rows l.drafts.offers.items;
-  told : AreTold l.tables.rows l.place (with_offers l.tables.rows l.initial.drafts.offers.items)
+  told : AreTold l.each l.tables.rows l.place (with_offers l.tables.rows l.initial.drafts.offers.items)
       (with_offers l.tables.rows l.drafts.offers.items) (g.S.Sorter.queue l.sorter) l.initial.findings.items l.findings.items;
   free : IsFreeAt (with_offers l.tables.rows l.drafts.offers.items) l.place l.free.bundle;
   quota : IsQuotaOf (with_offers l.tables.rows l.drafts.offers.items) l.drafts.quota;

@@ -34,7 +34,7 @@ returns-then-not-is_active-clause-told g c =
     c.in_ok-push.ensures.items
     ∙ ap (λ n. c.args.findings.now.items ++ Inactive n ∷ []) (c.in_ok-agent.ensures ∙ c.agent_name-agent.ensures a.0 a.1)
     ∙ ap (λ fs. c.args.findings.now.items ++ fs)
-    (told_at-idle _ c.args.place a.0 a.2 (sym (c.is_active.ensures a.0 a.1) ∙ c.if-not-is_active.true))
+    (told_at-idle _ c.args.place a.0 a.2 c.args.each (sym (c.is_active.ensures a.0 a.1) ∙ c.if-not-is_active.true))
 
 pub returns-then-not-is_active-clause-left : goal.returns-then-not-is_active-clause-left
 returns-then-not-is_active-clause-left g c =
@@ -53,7 +53,7 @@ returns-then-is_empty-clause-told g c =
     c.in_ok-push-2.ensures.items
     ∙ ap (λ n. c.args.findings.now.items ++ NothingFree n ∷ []) (c.in_ok-agent-2.ensures ∙ c.agent_name-agent.ensures a.0 a.1)
     ∙ ap (λ fs. c.args.findings.now.items ++ fs)
-    (told_at-full _ c.args.place a.0 a.2 (sym (c.is_active.ensures a.0 a.1) ∙ c.if-not-is_active.false) (sym (empty_at g b) ∙ c.if-is_empty.true))
+    (told_at-full _ c.args.place a.0 a.2 c.args.each (sym (c.is_active.ensures a.0 a.1) ∙ c.if-not-is_active.false) (sym (empty_at g b) ∙ c.if-is_empty.true))
 
 pub returns-then-is_empty-clause-left : goal.returns-then-is_empty-clause-left
 returns-then-is_empty-clause-left g c =
@@ -77,4 +77,4 @@ returns-clause-told g c =
     let a = agent_in c.args.tables.now.rows c.args.drafts.now.offers.items c.args.place c.requires.place in
     c.in_ok-tell_clients.ensures.told a.0 a.2
     ∙ ap (λ fs. c.args.findings.now.items ++ fs)
-    (told_at-tried _ c.args.place a.0 a.2 (sym (c.is_active.ensures a.0 a.1) ∙ c.if-not-is_active.false) (sym (empty_at g b) ∙ c.if-is_empty.false))
+    (told_at-tried _ c.args.place a.0 a.2 c.args.each (sym (c.is_active.ensures a.0 a.1) ∙ c.if-not-is_active.false) (sym (empty_at g b) ∙ c.if-is_empty.false))

@@ -1,0 +1,62 @@
+-- What is told where one agent, or one client, is asked for.
+use Rattle.std.specs.Prelude.{ℕ, Bool, true, false, List, [], ◌∷◌, ◌++◌, filter, take, drop}
+use Rattle.std.specs.List.{flat_map, position}
+use Rattle.std.specs.Option.{option_map_or}
+use Rattle.drf_role.specs.Text.{Text, same_text}
+use Rattle.drf_role.specs.Path.{Path, same_path}
+use Rattle.drf_rows.specs.declared.rows.Rows.{Rows}
+use Rattle.drf_explain.specs.Each.{each_by_agent}
+use Rattle.drf_explain.specs.Explained.{suppressed_of}
+use Rattle.drf_explain.specs.ExplainedText.{explained_text}
+use Rattle.drf_explain.specs.declared.finding.Finding.{Finding}
+use Rattle.drf_explain.specs.declared.finding.Finding.TheVariants.{Suppressed, Inactive, NothingFree, Tried, Left}
+use Rattle.drf_explain.specs.declared.finding.Outcome.{Outcome}
+use Rattle.drf_explain.specs.declared.finding.Outcome.TheVariants.{Grant, HeldBack, OverLimit, BelowThreshold, ReservedForOthers}
+use Rattle.drf_summary.specs.declared.pick.Pick.{Pick}
+use Rattle.drf_summary.specs.declared.pick.Pick.TheVariants.{All, Agent, Client}
+
+-- a finding of the agent of a name
+abbrev pub is_of_agent : Text → Finding → Bool
+is_of_agent name (Suppressed client) = false
+is_of_agent name (Inactive agent) = same_text agent name
+is_of_agent name (NothingFree agent) = same_text agent name
+is_of_agent name (Tried agent client outcome) = same_text agent name
+is_of_agent name (Left agent left clients) = same_text agent name
+
+-- a finding of the client of a path
+abbrev pub is_of_client : Path → Finding → Bool
+is_of_client path (Suppressed client) = same_path client path
+is_of_client path (Inactive agent) = false
+is_of_client path (NothingFree agent) = false
+is_of_client path (Tried agent client outcome) = same_path client path
+is_of_client path (Left agent left clients) = false
+
+abbrev pub is_granted : Outcome → Bool
+is_granted (Grant bundle) = true
+is_granted (HeldBack until) = false
+is_granted (OverLimit role) = false
+is_granted BelowThreshold = false
+is_granted ReservedForOthers = false
+
+-- a grant
+abbrev pub is_grant : Finding → Bool
+is_grant (Suppressed client) = false
+is_grant (Inactive agent) = false
+is_grant (NothingFree agent) = false
+is_grant (Tried agent client outcome) = is_granted outcome
+is_grant (Left agent left clients) = false
+
+-- what is told of a client among some findings, behind the grants that stand before it; nothing where it is not told of
+abbrev pub own_and_earlier : Path → List Finding → List Finding
+own_and_earlier path findings =
+    option_map_or (λ place. filter is_grant (take place findings) ++ take 1 (drop place findings)) (position (is_of_client path) findings) []
+
+-- what is picked of the findings of one agent, or of those who want no offers
+abbrev pub picked : Pick → List Finding → List Finding
+picked All findings = findings
+picked (Agent name) findings = filter (is_of_agent name) findings
+picked (Client path) findings = own_and_earlier path findings
+
+-- and of all that is told of the cycle at a moment: of those who want no offers, and of one agent after another
+abbrev pub picked_of : Pick → Rows → ℕ → List Finding
+picked_of pick rows at = flat_map (picked pick) (suppressed_of rows ∷ each_by_agent rows at)

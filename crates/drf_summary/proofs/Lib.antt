@@ -1,1 +1,2 @@
 mod Picked
+mod Tallied

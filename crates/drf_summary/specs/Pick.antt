@@ -46,16 +46,19 @@ is_grant (NothingFree agent) = false
 is_grant (Tried agent client outcome) = is_granted outcome
 is_grant (Left agent left clients) = false
 
--- what is told of a client among some findings, behind the grants that stand before it; nothing where it is not told of
-abbrev pub own_and_earlier : Path → List Finding → List Finding
-own_and_earlier path findings =
-    option_map_or (λ place. filter is_grant (take place findings) ++ take 1 (drop place findings)) (position (is_of_client path) findings) []
+-- what is told of a client among some findings: the first finding of it, or none
+abbrev pub own_on : Path → List Finding → List Finding
+own_on path findings = option_map_or (λ place. take 1 (drop place findings)) (position (is_of_client path) findings) []
+
+-- what is told before that, if that is told
+abbrev pub earlier_on : Path → List Finding → List Finding
+earlier_on path findings = option_map_or (λ place. take place findings) (position (is_of_client path) findings) []
 
 -- what is picked of the findings of one agent, or of those who want no offers
 abbrev pub picked : Pick → List Finding → List Finding
 picked All findings = findings
 picked (Agent name) findings = filter (is_of_agent name) findings
-picked (Client path) findings = own_and_earlier path findings
+picked (Client path) findings = filter is_grant (earlier_on path findings) ++ own_on path findings
 
 -- and of all that is told of the cycle at a moment: of those who want no offers, and of one agent after another
 abbrev pub picked_of : Pick → Rows → ℕ → List Finding

@@ -2,7 +2,7 @@
 ghost use Rattle.std.specs.Prelude.{◌≡◌, ◌++◌, [], filter, if◌then◌else◌, OnOk};
 ghost use Rattle.std.specs.List.{position};
 ghost use Rattle.drf_explain.specs.ExplainedText.{explained_text, finding_text};
-ghost use Rattle.drf_summary.specs.Pick.{is_granted, is_grant, is_of_agent, is_of_client, own_and_earlier, picked};
+ghost use Rattle.drf_summary.specs.Pick.{is_granted, is_grant, is_of_agent, is_of_client, earlier_on, own_on, picked};
 
 use drf_explain::{Finding, Outcome, write_explained_line, write_explained_lines};
 use drf_role::{ClientPath, Name};
@@ -50,7 +50,7 @@ fn is_granted(outcome: &Outcome) -> bool
 }
 
 /// Whether the finding tells of a grant.
-fn is_grant(finding: &Finding) -> bool
+pub(crate) fn is_grant(finding: &Finding) -> bool
     ensures { result ≡ is_grant finding.now }
 {
     match finding {
@@ -116,20 +116,40 @@ fn place_of(path: &ClientPath, findings: &[Finding]) -> Option<usize>
         .position(|finding| is_of_client(path, finding))
 }
 
-/// Writes the line of the client, behind those of the grants before it, if it is told of.
+/// The first of the findings that is of the client, or none.
+pub(crate) fn own_of<'a>(path: &ClientPath, findings: &'a [Finding]) -> &'a [Finding]
+    ensures { result.now ≡ own_on path.now findings.now }
+{
+    let Some(place) = place_of(path, findings) else {
+        return &findings[..0];
+    };
+    let rest = &findings[place..];
+    &rest[..1]
+}
+
+/// Those before it, if there is one.
+pub(crate) fn earlier_of<'a>(path: &ClientPath, findings: &'a [Finding]) -> &'a [Finding]
+    ensures { result.now ≡ earlier_on path.now findings.now }
+{
+    let Some(place) = place_of(path, findings) else {
+        return &findings[..0];
+    };
+    &findings[..place]
+}
+
+/// Writes the line of the client, if it is told of, behind those of the grants before it.
 fn write_client(
     alloc: Global,
     path: &ClientPath,
     findings: &[Finding],
     text: &mut Vec<u8>,
 ) -> Result<(), AllocError>
-    ensures { OnOk result (text.new.items ≡ text.old.items ++ explained_text (own_and_earlier path.now findings.now)) }
+    ensures { OnOk result (text.new.items ≡ text.old.items ++ explained_text (filter is_grant (earlier_on path.now findings.now) ++ own_on path.now findings.now)) }
 {
-    let Some(place) = place_of(path, findings) else {
-        return Ok(());
-    };
-    write_grants(alloc, &findings[..place], text)?;
-    write_explained_line(alloc, &findings[place], text)
+    let earlier = earlier_of(path, findings);
+    write_grants(alloc, earlier, text)?;
+    let own = own_of(path, findings);
+    write_all(alloc, own, text)
 }
 
 /// Writes the lines of what is picked of one list of findings behind a text: of those of one agent, or of the clients that want no offers.

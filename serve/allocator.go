@@ -43,11 +43,8 @@ type allocator struct {
 // fed is a message on its way through the child; one without a key is behind those that the list had at the start.
 type fed struct {
 	message
-	at time.Time
-}
-
-type answered struct {
-	*fed
+	at      time.Time
+	lines   [][]byte
 	replies [][]byte
 }
 
@@ -58,41 +55,37 @@ func (epoch) Error() string { return "an epoch begins" }
 
 // run keeps a child fed until the context ends, or what it has is not what the list says.
 func (a *allocator) run(ctx context.Context) error {
-	for next := (*state)(nil); ctx.Err() == nil; {
-		begun, begins := time.Now(), epoch{}
-		err := a.generation(ctx, next)
-		if errors.As(err, &begins) {
-			next = &begins.from
-			continue
+	for ctx.Err() == nil {
+		begun := time.Now()
+		from, offers, revision, err := a.states.start(ctx)
+		if err == nil {
+			err = a.journal.begin(from)
 		}
-		a.mu.Lock()
-		a.fault, a.restarts = err.Error(), a.restarts+1
-		a.mu.Unlock()
+		if err == nil {
+			a.told.begin(from, offers)
+			a.set(func() { a.entries, a.fault = []reach{from.reach}, "replaying" })
+			err = a.generation(ctx, from, revision)
+		}
+		for begins := (epoch{}); errors.As(err, &begins); {
+			err = a.generation(ctx, begins.from, begins.from.Place.Revision)
+		}
+		a.set(func() { a.fault, a.restarts = err.Error(), a.restarts+1 })
 		if errors.As(err, &fatal{}) {
 			return err
 		}
-		if next = nil; ctx.Err() == nil {
+		if ctx.Err() == nil {
 			log.Printf("the allocator is started again: %v", err)
-		}
-		if time.Since(begun) < time.Second {
-			time.Sleep(time.Second)
+			time.Sleep(time.Until(begun.Add(time.Second)))
 		}
 	}
 	return nil
 }
 
-// generation is the life of one child: from an epoch's state, or else from the state before the newest, with all messages behind it.
-func (a *allocator) generation(ctx context.Context, next *state) error {
+// generation is the life of one child: from a state on, with all messages behind it that the list has at a revision, and then those that come.
+func (a *allocator) generation(ctx context.Context, from state, revision int64) error {
 	ctx, cancel := context.WithCancel(ctx)
 	defer cancel()
-	if next == nil {
-		from, err := a.begin(ctx)
-		if err != nil {
-			return err
-		}
-		next = &from
-	}
-	child := exec.CommandContext(ctx, a.drf, append([]string{"run", "--echo"}, a.states.words(*next)...)...)
+	child := exec.CommandContext(ctx, a.drf, append([]string{"run", "--echo"}, a.states.words(from)...)...)
 	child.Stderr = os.Stderr
 	in, err := child.StdinPipe()
 	if err != nil {
@@ -105,11 +98,9 @@ func (a *allocator) generation(ctx context.Context, next *state) error {
 	if err != nil {
 		return fmt.Errorf("the allocator: %w", err)
 	}
-	a.mu.Lock()
-	a.pid = child.Process.Pid
-	a.mu.Unlock()
+	a.set(func() { a.pid = child.Process.Pid })
 	way, ends := make(chan *fed, 1<<16), make(chan error, 3)
-	go func() { ends <- a.feed(ctx, next.Place, bufio.NewWriterSize(in, 1<<18), way) }()
+	go func() { ends <- a.feed(ctx, from.Place, revision, bufio.NewWriterSize(in, 1<<18), way) }()
 	go func() { ends <- a.keep(ctx, bufio.NewReaderSize(out, 1<<18), way) }()
 	go func() { ends <- fmt.Errorf("it ended: %v", child.Wait()) }()
 	err = <-ends
@@ -122,32 +113,17 @@ func (a *allocator) generation(ctx context.Context, next *state) error {
 	return err
 }
 
-// begin forgets what an earlier generation found out.
-func (a *allocator) begin(ctx context.Context) (state, error) {
-	from, offers, err := a.states.start(ctx)
-	if err == nil {
-		err = a.journal.begin(from.Number, from.Bytes)
-	}
-	if err != nil {
-		return from, err
-	}
-	a.told.begin(from, offers)
-	a.mu.Lock()
-	defer a.mu.Unlock()
-	a.entries, a.fault = []reach{from.reach}, "replaying"
-	return from, nil
-}
-
 // feed writes the lines of the messages behind a place to the child, and says before that on the way which replies are due.
-func (a *allocator) feed(ctx context.Context, after place, out *bufio.Writer, way chan<- *fed) error {
+func (a *allocator) feed(ctx context.Context, after place, revision int64, out *bufio.Writer, way chan<- *fed) error {
 	hand := func(messages []message) error {
 		for _, m := range messages {
+			f := &fed{message: m, at: time.Now(), lines: m.lines()}
 			select {
-			case way <- &fed{m, time.Now()}:
+			case way <- f:
 			case <-ctx.Done():
 				return ctx.Err()
 			}
-			for _, line := range m.lines {
+			for _, line := range f.lines {
 				out.Write(line)
 				out.WriteByte('\n')
 			}
@@ -159,12 +135,9 @@ func (a *allocator) feed(ctx context.Context, after place, out *bufio.Writer, wa
 		}
 		return out.Flush()
 	}
-	messages, revision, err := a.list.all(ctx, after)
+	messages, err := a.list.all(ctx, after, revision)
 	if err != nil {
 		return err
-	}
-	if now, err := a.states.beforeLast(ctx); err != nil || after.before(now.Place) {
-		return fmt.Errorf("messages were pruned at the start (%v)", err)
 	}
 	if err := hand(append(messages, message{})); err != nil {
 		return fmt.Errorf("feeding it: %w", err)
@@ -175,7 +148,7 @@ func (a *allocator) feed(ctx context.Context, after place, out *bufio.Writer, wa
 // keep reads for each line that was fed its echo and its reply, and hands these on when no more of them is there to read.
 func (a *allocator) keep(ctx context.Context, in *bufio.Reader, way <-chan *fed) error {
 	var block []byte
-	var done []answered
+	var done []*fed
 	for {
 		var f *fed
 		select {
@@ -183,8 +156,7 @@ func (a *allocator) keep(ctx context.Context, in *bufio.Reader, way <-chan *fed)
 		case <-ctx.Done():
 			return ctx.Err()
 		}
-		m := answered{f, make([][]byte, len(f.lines))}
-		for number, line := range f.lines {
+		for _, line := range f.lines {
 			echo, err := in.ReadBytes('\n')
 			if err != nil {
 				return fmt.Errorf("reading its echo: %w", err)
@@ -192,20 +164,21 @@ func (a *allocator) keep(ctx context.Context, in *bufio.Reader, way <-chan *fed)
 			if !bytes.Equal(echo[:len(echo)-1], line) {
 				return fatal{fmt.Errorf("the allocator echoed %.200q where it was fed %.200q, in message %s", echo, line, f.key)}
 			}
-			if m.replies[number], err = in.ReadBytes('\n'); err != nil {
+			reply, err := in.ReadBytes('\n')
+			if err != nil {
 				return fmt.Errorf("reading its reply: %w", err)
 			}
-			block = append(append(block, echo...), m.replies[number]...)
+			f.replies, block = append(f.replies, reply), append(append(block, echo...), reply...)
 		}
-		done = append(done, m)
+		done = append(done, f)
 		if len(way) == 0 || in.Buffered() == 0 || len(block) > 1<<20 || f.key == "" || f.Mark != "" {
 			if err := a.hand(block, done); err != nil {
 				return err
 			}
-			block, done = block[:0], done[:0]
+			block, done = block[:0], nil
 		}
 		if f.Mark != "" {
-			if err := a.atMark(ctx, f); err != nil {
+			if err := a.states.meet(ctx, f, a.reached()); err != nil {
 				return err
 			}
 		}
@@ -213,61 +186,60 @@ func (a *allocator) keep(ctx context.Context, in *bufio.Reader, way <-chan *fed)
 }
 
 // hand keeps what was answered, and tells who waits.
-func (a *allocator) hand(block []byte, done []answered) error {
+func (a *allocator) hand(block []byte, done []*fed) error {
 	if err := a.journal.write(block); err != nil {
 		return err
 	}
-	isWhole, now := false, a.reached()
+	now, isWhole := a.reached(), false
 	var new []reach
-	for _, m := range done {
-		if m.key == "" {
+	for _, f := range done {
+		if f.key == "" {
 			isWhole = true
 			continue
 		}
-		now.Place, now.Messages, now.Lines = m.place, now.Messages+1, now.Lines+int64(len(m.lines))
-		for number, line := range m.lines {
-			now.Bytes += int64(len(line) + 1 + len(m.replies[number]))
+		now.Place, now.Messages, now.Lines = f.place, now.Messages+1, now.Lines+int64(len(f.lines))
+		for number, line := range f.lines {
+			now.Bytes += int64(len(line) + 1 + len(f.replies[number]))
 		}
 		new = append(new, now)
-		a.told.learn(now.Messages, m)
+		a.told.learn(now.Messages, f)
 	}
 	if isWhole {
 		if err := a.journal.whole(); err != nil {
 			return err
 		}
 	}
-	a.mu.Lock()
-	defer a.mu.Unlock()
-	a.entries = append(a.entries, new...)
-	if isWhole {
-		a.fault = ""
-	}
-	close(a.changed)
-	a.changed = make(chan struct{})
+	a.set(func() {
+		if a.entries = append(a.entries, new...); isWhole {
+			a.fault = ""
+		}
+	})
 	return nil
 }
 
-// atMark cuts the journal where a state is due. At an epoch's it waits for that, and ends the generation.
-func (a *allocator) atMark(ctx context.Context, f *fed) error {
-	s, err := a.states.at(f, a.reached())
-	if err == nil {
-		err = a.journal.cut(s.Number)
-	}
-	if err != nil {
-		return err
-	}
-	if f.Mark == markEpoch {
-		if s, err = a.states.make(ctx, s, true); err != nil {
-			return err
+// set changes what is known, and wakes who waits for that.
+func (a *allocator) set(change func()) {
+	a.mu.Lock()
+	defer a.mu.Unlock()
+	change()
+	close(a.changed)
+	a.changed = make(chan struct{})
+}
+
+// await waits until what is known holds. It tells whether it does; the lock is held while it is asked.
+func (a *allocator) await(ctx context.Context, holds func() bool) bool {
+	for {
+		a.mu.Lock()
+		does, changed := holds(), a.changed
+		a.mu.Unlock()
+		if does {
+			return true
 		}
-		a.told.beginEpoch(s.Epoch)
-		return epoch{s}
-	}
-	select {
-	case a.states.queue <- s:
-		return nil
-	case <-ctx.Done():
-		return ctx.Err()
+		select {
+		case <-changed:
+		case <-ctx.Done():
+			return false
+		}
 	}
 }
 
@@ -278,13 +250,13 @@ func (a *allocator) reached() reach {
 }
 
 // forget drops what stands before a state.
-func (a *allocator) forget(from state) {
+func (a *allocator) forget(from state) error {
 	a.mu.Lock()
-	defer a.mu.Unlock()
 	if k := a.find(from.Place); k > 0 {
 		a.entries = append([]reach(nil), a.entries[k:]...)
-		a.journal.prune(from.Number)
 	}
+	a.mu.Unlock()
+	return a.journal.prune(from.Bytes)
 }
 
 // find is where the message at a place stands, or 0. The lock is held.
@@ -294,16 +266,6 @@ func (a *allocator) find(at place) int {
 		return 0
 	}
 	return k
-}
-
-// numberOf is the number of the message at a place, or 0 where it is not known.
-func (a *allocator) numberOf(at place) int64 {
-	a.mu.Lock()
-	defer a.mu.Unlock()
-	if k := a.find(at); k > 0 {
-		return a.entries[k].Messages
-	}
-	return 0
 }
 
 // ready is nil where what is known is up to date.
@@ -318,31 +280,27 @@ func (a *allocator) ready() error {
 
 // waitReady gives a child that was just started again some time.
 func (a *allocator) waitReady(ctx context.Context) error {
-	err := a.ready()
-	for end := time.Now().Add(3 * time.Second); err != nil && time.Now().Before(end) && ctx.Err() == nil; err = a.ready() {
-		time.Sleep(5 * time.Millisecond)
-	}
-	return err
+	ctx, cancel := context.WithTimeout(ctx, 3*time.Second)
+	defer cancel()
+	a.await(ctx, func() bool { return a.fault == "" })
+	return a.ready()
 }
 
 // answer waits for the replies to the message at a place, and tells the reach before it and its own.
 func (a *allocator) answer(ctx context.Context, at place) (before, behind reach, replies []byte, err error) {
-	a.mu.Lock()
-	for a.entries[len(a.entries)-1].Place.before(at) {
-		changed := a.changed
-		a.mu.Unlock()
-		select {
-		case <-changed:
-		case <-ctx.Done():
-			return before, behind, nil, refuse(504, "the batch is taken, and its replies are due: send it again with its key")
+	k := 0
+	isThere := a.await(ctx, func() bool {
+		if a.entries[len(a.entries)-1].Place.before(at) {
+			return false
 		}
-		a.mu.Lock()
+		if k = a.find(at); k > 0 {
+			before, behind = a.entries[k-1], a.entries[k]
+		}
+		return true
+	})
+	if !isThere {
+		return before, behind, nil, refuse(504, "the batch is taken, and its replies are due: send it again with its key")
 	}
-	k := a.find(at)
-	if k > 0 {
-		before, behind = a.entries[k-1], a.entries[k]
-	}
-	a.mu.Unlock()
 	if k == 0 {
 		return before, behind, nil, refuse(410, "the batch was taken, and its replies are no longer kept here")
 	}
@@ -359,8 +317,8 @@ func (a *allocator) answer(ctx context.Context, at place) (before, behind reach,
 }
 
 // output runs the program on a text.
-func output(ctx context.Context, drf string, words []string, in io.Reader) ([]byte, error) {
-	command := exec.CommandContext(ctx, drf, words...)
+func (a *allocator) output(ctx context.Context, in io.Reader, words ...string) ([]byte, error) {
+	command := exec.CommandContext(ctx, a.drf, words...)
 	var told bytes.Buffer
 	command.Stdin, command.Stderr = in, &told
 	text, err := command.Output()

@@ -6,69 +6,46 @@ import (
 	"context"
 	"io"
 	"strings"
-	"time"
+	"sync"
 )
 
 // asker keeps the answers about the last message. What it asks is never fed to the running child, where a report would count as an event.
 type asker struct {
-	drf       string
 	allocator *allocator
-	turn      chan struct{} // one question at a time
-	known     map[string]known
+	mu        sync.Mutex // one question at a time
+	message   int64
+	answers   map[string][]byte
 }
 
-type known struct {
-	message int64
-	at      time.Time
-	text    []byte
-}
-
-// ask answers `?report`, `?state`, `?explain` or `?explain AT`, as of the last message, or of at most so long ago. The program reads the
+// ask answers `report`, `state`, `explain` or `explain --at AT` as of the last message, whose number it tells. The program reads the
 // journal as it is: reply lines are no events, and change nothing.
-func (q *asker) ask(ctx context.Context, question string, age time.Duration) ([]byte, int64, error) {
+func (q *asker) ask(ctx context.Context, question string) ([]byte, int64, error) {
 	if err := q.allocator.ready(); err != nil {
 		return nil, 0, err
 	}
-	select {
-	case q.turn <- struct{}{}:
-		defer func() { <-q.turn }()
-	case <-ctx.Done():
-		return nil, 0, refuse(503, "others are asking")
+	q.mu.Lock()
+	defer q.mu.Unlock()
+	now, base := q.allocator.reached(), q.allocator.states.newest()
+	if now.Messages != q.message {
+		q.message, q.answers = now.Messages, map[string][]byte{}
 	}
-	now := q.allocator.reached()
-	if k, is := q.known[question]; is && (k.message == now.Messages || time.Since(k.at) < age) {
-		return k.text, k.message, nil
+	if text, is := q.answers[question]; is {
+		return text, now.Messages, nil
 	}
-	text, err := q.run(ctx, strings.Fields(question[1:]), q.allocator.states.newest(), now)
+	words, journal := strings.Fields(question), io.Reader(io.NewSectionReader(q.allocator.journal, base.Bytes, now.Bytes-base.Bytes))
+	switch question {
+	case "report":
+		words[0], journal = "run", io.MultiReader(journal, strings.NewReader("{\"event\":\"report\"}\n"))
+	case "state":
+		words[0] = "save"
+	}
+	text, err := q.allocator.output(ctx, journal, append(words, q.allocator.states.words(base)...)...)
 	if err != nil {
 		return nil, 0, err
 	}
-	for old, k := range q.known {
-		if time.Since(k.at) > time.Minute {
-			delete(q.known, old)
-		}
+	if question == "report" { // the last line
+		text = text[bytes.LastIndexByte(text[:len(text)-1], '\n')+1:]
 	}
-	q.known[question] = known{now.Messages, time.Now(), text}
+	q.answers[question] = text
 	return text, now.Messages, nil
-}
-
-// run runs the program on the journal between a state and now.
-func (q *asker) run(ctx context.Context, asked []string, base state, now reach) ([]byte, error) {
-	s, journal := q.allocator.states, io.Reader(&part{q.allocator.journal, base.Bytes, now.Bytes})
-	words := append([]string{asked[0]}, s.words(base)...)
-	switch {
-	case asked[0] == "report":
-		words[0], journal = "run", io.MultiReader(journal, strings.NewReader("{\"event\":\"report\"}\n"))
-	case asked[0] == "state" && !s.can:
-		return nil, refuse(501, "this drf has no `save`, which tells the rows")
-	case asked[0] == "state":
-		words[0] = "save"
-	case len(asked) > 1:
-		words = append(words, "--at", asked[1])
-	}
-	text, err := output(ctx, q.drf, words, journal)
-	if err == nil && words[0] == "run" {
-		text = append([]byte(nil), text[bytes.LastIndexByte(text[:len(text)-1], '\n')+1:]...)
-	}
-	return text, err
 }

@@ -31,8 +31,11 @@ const (
 	patience = 25 * time.Second // from a batch to its replies
 )
 
+// inTime is how long a caller may take to send a request, and to take an answer or a part of it.
+var inTime = time.Minute
+
 type gateway struct {
-	name      string
+	o         *options
 	list      *list
 	allocator *allocator
 	journal   *journal
@@ -40,35 +43,32 @@ type gateway struct {
 	asker     *asker
 	metrics   *metrics
 	liveness  *liveness
-	window    time.Duration
-	callers   atomic.Value // []caller
+	callers   atomic.Value // []*caller
 	policy    string
 }
 
 // call is what may be asked for: by which method, with which right, and what answers it or gives the error that is told.
 type call struct {
 	method, right string
-	answer        func(w http.ResponseWriter, r *http.Request, by *caller) error
+	answer        func(g *gateway, w http.ResponseWriter, r *http.Request, by *caller) error
 }
 
-func (g *gateway) calls(path []string) (call, bool) {
-	name := path[0]
-	if len(path) == 3 {
-		name += "/NAME/" + path[2]
-	} else if len(path) > 1 {
-		return call{}, false
-	}
-	c, is := map[string]call{
-		"events": {http.MethodPost, "", g.events}, "report": {http.MethodGet, "read", g.question}, "state": {http.MethodGet, "read", g.question},
-		"explain": {http.MethodGet, "read", g.question}, "journal": {http.MethodGet, "read", g.readJournal}, "replies": {http.MethodGet, "read", g.replies},
-		"status": {http.MethodGet, "read", g.status}, "metrics": {http.MethodGet, "read", g.readMetrics}, "frameworks/NAME/offers": {http.MethodGet, "", g.offers},
-		"frameworks/NAME/alive": {http.MethodPost, "", g.alive}, "agents/NAME/alive": {http.MethodPost, "", g.alive},
-	}[name]
-	return c, is
+var calls = map[string]call{
+	"events":                 {http.MethodPost, "", (*gateway).events},
+	"report":                 {http.MethodGet, "read", (*gateway).question},
+	"state":                  {http.MethodGet, "read", (*gateway).question},
+	"explain":                {http.MethodGet, "read", (*gateway).question},
+	"journal":                {http.MethodGet, "read", (*gateway).readJournal},
+	"replies":                {http.MethodGet, "read", (*gateway).replies},
+	"status":                 {http.MethodGet, "read", (*gateway).status},
+	"metrics":                {http.MethodGet, "read", (*gateway).readMetrics},
+	"frameworks/NAME/offers": {http.MethodGet, "", (*gateway).offers},
+	"frameworks/NAME/alive":  {http.MethodPost, "", (*gateway).alive},
+	"agents/NAME/alive":      {http.MethodPost, "", (*gateway).alive},
 }
 
 func (g *gateway) ServeHTTP(w http.ResponseWriter, r *http.Request) {
-	limit(r, net.Conn.SetWriteDeadline, 0) // of the request before, on the same connection
+	limit(r, inTime)
 	head := w.Header()
 	head.Set("X-Content-Type-Options", "nosniff")
 	head.Set("Cache-Control", "no-store")
@@ -89,8 +89,12 @@ func (g *gateway) ServeHTTP(w http.ResponseWriter, r *http.Request) {
 
 // dispatch finds who calls, and what for.
 func (g *gateway) dispatch(w http.ResponseWriter, r *http.Request) error {
-	by := find(g.callers.Load().([]caller), strings.TrimPrefix(r.Header.Get("Authorization"), "Bearer "))
-	c, is := g.calls(strings.Split(strings.TrimPrefix(r.URL.Path, "/"), "/"))
+	by := find(g.callers.Load().([]*caller), strings.TrimPrefix(r.Header.Get("Authorization"), "Bearer "))
+	path := strings.Split(strings.TrimPrefix(r.URL.Path, "/"), "/")
+	if len(path) == 3 {
+		path[1] = "NAME"
+	}
+	c, is := calls[strings.Join(path, "/")]
 	switch {
 	case by == nil:
 		w.Header().Set("WWW-Authenticate", "Bearer")
@@ -103,7 +107,7 @@ func (g *gateway) dispatch(w http.ResponseWriter, r *http.Request) error {
 	case c.right != "" && !by.has(c.right, ""):
 		return refuse(403, "%s has no right to %s", by.Name, c.right)
 	}
-	return c.answer(w, r, by)
+	return c.answer(g, w, r, by)
 }
 
 // refuse tells an error.
@@ -120,20 +124,22 @@ func (g *gateway) refuse(w http.ResponseWriter, r *http.Request, err error) {
 		w.Header().Set("Retry-After", "1")
 	}
 	g.metrics.refused.WithLabelValues(strconv.Itoa(told.status)).Inc()
+	limit(r, inTime)
 	http.Error(w, told.text, told.status)
 }
 
-var isKey = regexp.MustCompile(`^[!-~]{1,128}$`)
-
 func (g *gateway) events(w http.ResponseWriter, r *http.Request, by *caller) error {
 	begun := time.Now()
-	ctx, cancel := context.WithTimeout(r.Context(), patience)
-	defer cancel()
 	b, err := g.batch(w, r, by)
 	if err != nil {
 		return err
 	}
+	ctx, cancel := context.WithTimeout(r.Context(), patience)
+	defer cancel()
 	if err := g.allocator.waitReady(ctx); err != nil {
+		return err
+	}
+	if err := roomIn(g.o.data); err != nil {
 		return err
 	}
 	at, err := g.list.put(ctx, b)
@@ -144,58 +150,60 @@ func (g *gateway) events(w http.ResponseWriter, r *http.Request, by *caller) err
 	if err != nil {
 		return err
 	}
-	head := w.Header()
-	head.Set("Content-Type", "application/x-ndjson")
-	head.Set("Drf-Message", strconv.FormatInt(behind.Messages, 10))
-	head.Set("Drf-Line", strconv.FormatInt(before.Lines+1, 10))
-	limit(r, net.Conn.SetWriteDeadline, 30*time.Second)
-	w.Write(replies)
+	w.Header().Set("Drf-Line", strconv.FormatInt(before.Lines+1, 10))
+	give(w, r, "application/x-ndjson", behind.Messages, replies)
 	g.metrics.answers.Observe(time.Since(begun).Seconds())
 	return nil
 }
 
+// give writes an answer that is as of a message.
+func give(w http.ResponseWriter, r *http.Request, kind string, message int64, text []byte) {
+	w.Header().Set("Content-Type", kind)
+	w.Header().Set("Drf-Message", strconv.FormatInt(message, 10))
+	limit(r, inTime)
+	w.Write(text)
+}
+
+var isKey = regexp.MustCompile(`^[!-~]{1,128}$`)
+
 // batch reads what a caller sends, and judges it.
-func (g *gateway) batch(w http.ResponseWriter, r *http.Request, by *caller) (batch, error) {
-	limit(r, net.Conn.SetReadDeadline, 30*time.Second)
+func (g *gateway) batch(w http.ResponseWriter, r *http.Request, by *caller) (b batch, err error) {
 	body, err := io.ReadAll(http.MaxBytesReader(w, r.Body, mostBody))
-	limit(r, net.Conn.SetReadDeadline, 0)
-	if err != nil && len(body) >= mostBody {
-		return batch{}, refuse(413, "a body has at most %d bytes; nothing was taken", mostBody)
-	}
-	if err != nil {
-		return batch{}, refuse(400, "the body was not read: %v; nothing was taken", err)
-	}
-	if len(body) == 0 {
-		return batch{}, refuse(400, "there is no line; nothing was taken")
+	limit(r, inTime)
+	switch {
+	case err != nil && len(body) >= mostBody:
+		return b, refuse(413, "a body has at most %d bytes; nothing was taken", mostBody)
+	case err != nil:
+		return b, refuse(400, "the body was not read: %v; nothing was taken", err)
+	case len(body) == 0:
+		return b, refuse(400, "there is no line; nothing was taken")
 	}
 	key := r.Header.Get("Idempotency-Key")
-	if key == "" {
+	made, isDated := madeAt(key)
+	switch age := g.list.clock.now().Sub(made); {
+	case key == "":
 		key = newKey()
+	case !isKey.MatchString(key):
+		return b, refuse(400, "an Idempotency-Key is 1 to 128 visible ASCII characters; nothing was taken")
+	case isDated && age > g.o.window:
+		return b, refuse(410, "this key is from %v, too long ago to tell whether it was used; nothing was taken now", made.UTC().Format(time.RFC3339))
+	case isDated && age < -ahead:
+		return b, refuse(400, "this key is from %v, which is yet to come: set the clock right that made it; nothing was taken", made.UTC().Format(time.RFC3339))
 	}
-	if !isKey.MatchString(key) {
-		return batch{}, refuse(400, "an Idempotency-Key is 1 to 128 visible ASCII characters; nothing was taken")
-	}
-	if made, is := madeAt(key); is && time.Since(made) > g.window {
-		return batch{}, refuse(410, "this key is from %v, too long ago to tell whether it was used; nothing was taken now", made.UTC().Format(time.RFC3339))
-	}
-	b := batch{key: by.Name + "/" + key, lines: bytes.Split(bytes.TrimSuffix(body, []byte("\n")), []byte("\n"))}
+	b = batch{key: by.Name + "/" + key, lines: bytes.Split(bytes.TrimSuffix(body, []byte("\n")), []byte("\n"))}
 	b.timed = make([]bool, len(b.lines))
 	for number, line := range b.lines {
 		if b.lines[number], b.timed[number], err = by.judge(line); err != nil {
-			return batch{}, refuse(403, "line %d: %v; nothing was taken", number+1, err)
+			return b, refuse(403, "line %d: %v; nothing was taken", number+1, err)
 		}
 	}
 	return b, nil
 }
 
-// newKey is a UUID of version 7.
+// newKey is for a batch that its caller will not send again.
 func newKey() string {
-	var key [16]byte
-	rand.Read(key[6:])
-	for k, at := 5, time.Now().UnixMilli(); k >= 0; k, at = k-1, at>>8 {
-		key[k] = byte(at)
-	}
-	key[6], key[8] = key[6]&15|0x70, key[8]&63|0x80
+	var key [20]byte
+	rand.Read(key[:])
 	return hex.EncodeToString(key[:])
 }
 
@@ -213,38 +221,28 @@ func madeAt(key string) (time.Time, bool) {
 }
 
 func (g *gateway) question(w http.ResponseWriter, r *http.Request, by *caller) error {
-	name, kind := strings.Trim(r.URL.Path, "/"), "application/json"
-	question := "?" + name
-	if name == "explain" {
+	question, kind := strings.Trim(r.URL.Path, "/"), "application/json"
+	if question == "explain" {
 		kind = "application/x-ndjson"
 		if at := r.URL.Query().Get("at"); at != "" {
 			if _, err := strconv.ParseUint(at, 10, 62); err != nil {
 				return refuse(400, "`at` is milliseconds, at most 2^62")
 			}
-			question += " " + at
+			question += " --at " + at
 		}
 	}
-	ctx, cancel := context.WithTimeout(r.Context(), time.Minute)
+	ctx, cancel := context.WithTimeout(r.Context(), inTime)
 	defer cancel()
-	answer, message, err := g.asker.ask(ctx, question, 0)
+	answer, message, err := g.asker.ask(ctx, question)
 	if err != nil {
 		return err
 	}
-	if name == "state" {
-		answer = rowsOf(answer, message)
+	if question == "state" { // the last line tells how many they are, and their digest
+		rows := bytes.Split(bytes.TrimSuffix(answer, []byte("\n")), []byte("\n"))
+		answer = []byte(fmt.Sprintf("{\"message\":%d,\"rows\":[%s]}\n", message, bytes.Join(rows[:len(rows)-1], []byte(","))))
 	}
-	w.Header().Set("Content-Type", kind)
-	w.Header().Set("Drf-Message", strconv.FormatInt(message, 10))
-	limit(r, net.Conn.SetWriteDeadline, time.Minute)
-	w.Write(answer)
+	give(w, r, kind, message, answer)
 	return nil
-}
-
-// rowsOf makes one object of a state's lines.
-func rowsOf(text []byte, message int64) []byte {
-	rows := bytes.Split(bytes.TrimSuffix(text, []byte("\n")), []byte("\n"))
-	rows = rows[:len(rows)-1] // the last tells how many they are, and their digest
-	return append(append([]byte(fmt.Sprintf(`{"message":%d,"rows":[`, message)), bytes.Join(rows, []byte(","))...), "]}\n"...)
 }
 
 // readJournal gives the journal from a byte on, and goes on as it grows where that is asked for.
@@ -275,6 +273,8 @@ func (g *gateway) readJournal(w http.ResponseWriter, r *http.Request, by *caller
 			return nil
 		}
 		select {
+		case <-by.gone:
+			return nil
 		case <-r.Context().Done():
 			return nil
 		case <-time.After(100 * time.Millisecond):
@@ -284,7 +284,7 @@ func (g *gateway) readJournal(w http.ResponseWriter, r *http.Request, by *caller
 }
 
 func (g *gateway) replies(w http.ResponseWriter, r *http.Request, by *caller) error {
-	g.told.listen(w, r, "")
+	g.told.listen(w, r, by, "")
 	return nil
 }
 
@@ -296,7 +296,7 @@ func (g *gateway) offers(w http.ResponseWriter, r *http.Request, by *caller) err
 	if err := g.allocator.waitReady(r.Context()); err != nil {
 		return err
 	}
-	g.told.listen(w, r, name)
+	g.told.listen(w, r, by, name)
 	return nil
 }
 
@@ -339,7 +339,7 @@ type standing struct {
 
 func (g *gateway) look() (s standing) {
 	a, t := g.allocator, g.told
-	s.Name, s.ClockFault, s.State, s.reach = g.name, g.list.clock.told(), a.states.newest().Number, a.reached()
+	s.Name, s.ClockFault, s.State, s.reach = g.o.name, g.list.clock.told(), a.states.newest().Number, a.reached()
 	s.Journal.From, s.Journal.End, s.Journal.Sha256 = g.journal.bounds()
 	a.mu.Lock()
 	s.Fault, s.Ready, s.Allocator.Pid, s.Allocator.Restarts = a.fault, a.fault == "", a.pid, a.restarts
@@ -358,26 +358,26 @@ func (g *gateway) status(w http.ResponseWriter, r *http.Request, by *caller) err
 // policyOf lets a page run what stands in it, and nothing else.
 func policyOf(page []byte) string {
 	sums := func(tag string) string {
-		found := "'none'"
+		found := ""
 		for _, block := range regexp.MustCompile(`(?s)<`+tag+`>(.*?)</`+tag+`>`).FindAllSubmatch(page, -1) {
 			sum := sha256.Sum256(block[1])
-			found = strings.TrimPrefix(found+" ", "'none' ") + "'sha256-" + base64.StdEncoding.EncodeToString(sum[:]) + "'"
+			found += " 'sha256-" + base64.StdEncoding.EncodeToString(sum[:]) + "'"
 		}
-		return found
+		return firstOf(found, " 'none'")
 	}
-	return "default-src 'none'; connect-src 'self'; img-src 'self' data:; base-uri 'none'; form-action 'none'; frame-ancestors 'none'; script-src " +
-		sums("script") + "; style-src " + sums("style")
+	return "default-src 'none'; connect-src 'self'; img-src 'self' data:; base-uri 'none'; form-action 'none'; frame-ancestors 'none'; script-src" +
+		sums("script") + "; style-src" + sums("style")
 }
 
 type connectionKey struct{}
 
-// limit bounds how long a caller may take to send what is left of its request, or to take what is written; 0 is without bound.
-func limit(r *http.Request, set func(net.Conn, time.Time) error, within time.Duration) {
+// limit bounds how long a caller may take to send what is left of its request, and to take what is written; 0 is without bound.
+func limit(r *http.Request, within time.Duration) {
 	until := time.Time{}
 	if within > 0 {
 		until = time.Now().Add(within)
 	}
 	if connection, is := r.Context().Value(connectionKey{}).(net.Conn); is {
-		set(connection, until)
+		connection.SetDeadline(until)
 	}
 }

@@ -20,7 +20,7 @@ import (
 // renewed it for a while (all were down, or there was no majority), a gateway ahead of it may set it anew, unless its own clock leapt
 // while it ran: the time since the machine started tells that. Nobody may set it back.
 type clock struct {
-	client  *clientv3.Client
+	etcd    *etcd
 	key     string
 	bound   time.Duration
 	alone   bool                 // no other gateway can hold the list
@@ -29,14 +29,15 @@ type clock struct {
 	offset  time.Duration        // between the two, when this started
 	seen    int64                // the revision of the key that was seen last
 	seenAt  time.Duration        // and since when
+	reached time.Time            // when a member answered last
 	mu      sync.Mutex
 	fault   string // why this gateway may not stamp
 }
 
 const quiet = 2 * time.Second // a key that nobody renews for so long is nobody's
 
-func newClock(client *clientv3.Client, prefix string, bound time.Duration, alone bool) *clock {
-	c := &clock{client: client, key: prefix + "clock", bound: bound, alone: alone, now: time.Now, running: sinceBoot, fault: "its clock is not compared yet"}
+func newClock(e *etcd, o *options) *clock {
+	c := &clock{etcd: e, key: o.prefix + "clock", bound: o.bound, alone: o.alone(), now: time.Now, running: sinceBoot, reached: time.Now(), fault: "its clock is not compared yet"}
 	c.offset = c.apart()
 	return c
 }
@@ -89,35 +90,33 @@ func (c *clock) run(ctx context.Context) {
 }
 
 func (c *clock) renew(ctx context.Context) error {
-	ctx, cancel := context.WithTimeout(ctx, time.Second)
+	client, ctx, cancel := c.etcd.ask(ctx, time.Second)
 	defer cancel()
 	at := c.now().UnixMilli()
 	put := clientv3.OpPut(c.key, moment(at))
-	answer, err := c.client.Txn(ctx).If(c.within(at)...).Then(put).Else(clientv3.OpGet(c.key)).Commit()
+	answer, err := client.Txn(ctx).If(c.within(at)...).Then(put).Else(clientv3.OpGet(c.key)).Commit()
 	if err != nil {
+		if time.Since(c.reached) > 5*time.Second { // this member is perhaps cut off from the others
+			c.etcd.leave(err)
+			c.reached = time.Now()
+		}
 		return fmt.Errorf("the shared clock cannot be reached: %w", err)
 	}
-	revision, shared := answer.Header.Revision, int64(0)
-	if !answer.Succeeded {
-		revision = 0
-		if kvs := answer.Responses[0].GetResponseRange().Kvs; len(kvs) > 0 {
-			revision = kvs[0].ModRevision
-			if shared, err = strconv.ParseInt(string(kvs[0].Value), 10, 64); err != nil {
-				return fmt.Errorf("the shared clock is damaged: %w", err)
-			}
-		}
-	}
-	if answer.Succeeded || revision != c.seen {
-		c.seen, c.seenAt = revision, c.running()
-	}
+	c.reached = time.Now()
 	if answer.Succeeded {
+		c.seen, c.seenAt = answer.Header.Revision, c.running()
 		return nil
 	}
-	return c.claim(ctx, at, shared, revision, put)
-}
-
-// claim sets the key anew where nobody renews it.
-func (c *clock) claim(ctx context.Context, at, shared, revision int64, put clientv3.Op) error {
+	revision, shared := int64(0), int64(0)
+	if kvs := answer.Responses[0].GetResponseRange().Kvs; len(kvs) > 0 {
+		revision = kvs[0].ModRevision
+		if shared, err = strconv.ParseInt(string(kvs[0].Value), 10, 64); err != nil {
+			return fmt.Errorf("the shared clock is damaged: %w", err)
+		}
+	}
+	if revision != c.seen {
+		c.seen, c.seenAt = revision, c.running()
+	}
 	away, leapt := time.Duration(at-shared)*time.Millisecond, c.apart()-c.offset
 	switch {
 	case leapt > c.bound || leapt < -c.bound:
@@ -127,7 +126,7 @@ func (c *clock) claim(ctx context.Context, at, shared, revision int64, put clien
 	case !c.alone && c.running()-c.seenAt < quiet:
 		return fmt.Errorf("the clock of this machine is %v ahead of the service's: set it right", away)
 	}
-	answer, err := c.client.Txn(ctx).If(clientv3.Compare(clientv3.ModRevision(c.key), "=", revision)).Then(put).Commit()
+	answer, err = client.Txn(ctx).If(clientv3.Compare(clientv3.ModRevision(c.key), "=", revision)).Then(put).Commit() // nobody renews it
 	if err != nil || !answer.Succeeded {
 		return fmt.Errorf("the shared clock was not set (%v)", err)
 	}

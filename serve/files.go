@@ -7,14 +7,12 @@ import (
 	"fmt"
 	"os"
 	"path/filepath"
-	"strconv"
-	"strings"
 
 	"go.etcd.io/etcd/pkg/ioutil"
 	"golang.org/x/sys/unix"
 )
 
-// refusal is an error that a caller is told, with its status.
+// refusal is an error that a caller is told, with its status, and the message that the batch was taken as, or 0.
 type refusal struct {
 	status  int
 	text    string
@@ -27,6 +25,9 @@ func refuse(status int, format string, of ...interface{}) *refusal {
 	return &refusal{status: status, text: fmt.Sprintf(format, of...)}
 }
 
+// fatal is an error after which the gateway stops, as what it has is not what the list says.
+type fatal struct{ error }
+
 func digest(text []byte) string {
 	sum := sha256.Sum256(text)
 	return hex.EncodeToString(sum[:])
@@ -34,11 +35,10 @@ func digest(text []byte) string {
 
 // writeFile puts a file in the place of another, whole and durable or not at all.
 func writeFile(path string, text []byte) error {
-	err := ioutil.WriteAndSyncFile(path+".part", text, 0o600)
-	if err == nil {
-		err = os.Rename(path+".part", path)
+	if err := ioutil.WriteAndSyncFile(path+".part", text, 0o600); err != nil {
+		return err
 	}
-	if err != nil {
+	if err := os.Rename(path+".part", path); err != nil {
 		return err
 	}
 	folder, err := os.Open(filepath.Dir(path))
@@ -47,16 +47,6 @@ func writeFile(path string, text []byte) error {
 	}
 	defer folder.Close()
 	return folder.Sync()
-}
-
-// removeBelow takes away the numbered files of a folder before a number.
-func removeBelow(dir, front string, number int) {
-	paths, _ := filepath.Glob(filepath.Join(dir, front+".*"))
-	for _, path := range paths {
-		if n, err := strconv.Atoi(strings.TrimPrefix(filepath.Ext(path), ".")); err == nil && n < number {
-			os.Remove(path)
-		}
-	}
 }
 
 const leastRoom = 128 << 20
@@ -75,13 +65,6 @@ func roomIn(dir string) error {
 
 func min(a, b int) int {
 	if a < b {
-		return a
-	}
-	return b
-}
-
-func max(a, b int64) int64 {
-	if a > b {
 		return a
 	}
 	return b

@@ -1,9 +1,11 @@
-// The journal: what the allocator wrote, as it came, in a file for each state that it went on from. Outside the proof.
+// The journal: what the allocator wrote, as it came, in one file. Outside the proof.
 package main
 
 import (
 	"crypto/sha256"
+	"encoding"
 	"encoding/hex"
+	"encoding/json"
 	"errors"
 	"fmt"
 	"hash"
@@ -11,257 +13,156 @@ import (
 	"os"
 	"path/filepath"
 	"sync"
+
+	"golang.org/x/sys/unix"
 )
 
-// fatal is an error after which the gateway stops, as what it has is not what the list says.
-type fatal struct{ error }
-
-// segment is the journal from one state on. Bytes are counted over the whole journal, from its first message on.
-type segment struct {
-	number int   // of the state
-	start  int64 // the journal's bytes before it
-	file   *os.File
-}
-
-// journal is written by one generation of the allocator at a time. What an earlier one wrote must come again, byte for byte, as far as it was
-// synced; behind that a cut of power may have torn it.
+// journal is made of the list alone: it is written anew, from a state on, by each child of the allocator. Bytes are counted from the first that
+// there ever was. What was answered must come again, after a start too: a mark, which is durable, has the digest of that.
 type journal struct {
-	dir      string
-	mu       sync.Mutex
-	segments []segment
-	end      int64     // of what this generation wrote, or found again
-	stands   int64     // of the last segment's file
-	sum      hash.Hash // of the last segment, up to the end
-	synced   mark
-	syncing  sync.Mutex
+	dir    string
+	mu     sync.RWMutex
+	file   *os.File
+	base   int64     // the byte that the file begins with
+	kept   int64     // the first one that is not pruned
+	end    int64     // of what is written
+	sum    hash.Hash // of all bytes before the end
+	marked mark
 }
 
-// mark is a place in a segment.
+// mark is how much of the journal was once written, and the digest of that.
 type mark struct {
-	segment int
-	bytes   int64
+	Bytes  int64  `json:"bytes"`
+	Sha256 string `json:"sha256"`
 }
 
 func openJournal(dir string) (*journal, error) {
-	j := &journal{dir: dir}
-	text, err := os.ReadFile(filepath.Join(dir, "synced"))
+	j := &journal{dir: dir, sum: sha256.New()}
+	text, err := os.ReadFile(filepath.Join(dir, "answered"))
 	if err == nil {
-		_, err = fmt.Sscan(string(text), &j.synced.segment, &j.synced.bytes)
+		err = json.Unmarshal(text, &j.marked)
 	}
 	if err != nil && !errors.Is(err, os.ErrNotExist) {
-		return nil, fmt.Errorf("the journal's mark, %s/synced: %w", dir, err)
+		return nil, fmt.Errorf("the journal's mark, %s/answered: %w", dir, err)
 	}
 	return j, nil
 }
 
-func (j *journal) path(number int) string {
-	return filepath.Join(j.dir, fmt.Sprintf("journal.%08d", number))
-}
-
-// begin writes from a state on; what stands of the segments behind it is compared as it comes again.
-func (j *journal) begin(number int, start int64) error {
+// begin writes anew from a state on. Who still reads the file before is told that it is closed.
+func (j *journal) begin(from state) error {
 	j.mu.Lock()
 	defer j.mu.Unlock()
-	for _, s := range j.segments {
-		s.file.Close()
+	if j.file != nil {
+		j.file.Close()
 	}
-	j.segments = nil
-	return j.open(number, start)
-}
-
-func (j *journal) open(number int, start int64) error {
-	file, err := os.OpenFile(j.path(number), os.O_RDWR|os.O_CREATE, 0o600)
-	if err == nil {
-		j.stands, err = file.Seek(0, io.SeekEnd)
-	}
+	path := filepath.Join(j.dir, "journal")
+	os.Remove(path)
+	file, err := os.OpenFile(path, os.O_RDWR|os.O_CREATE|os.O_EXCL, 0o600)
 	if err != nil {
 		return fmt.Errorf("the journal: %w", err)
 	}
-	j.segments = append(j.segments, segment{number, start, file})
-	j.end, j.sum = start, sha256.New()
+	j.file, j.base, j.kept, j.end, j.sum = file, from.Bytes, from.Bytes, from.Bytes, sha256.New()
+	if from.Number == 0 {
+		return nil
+	}
+	if err := j.sum.(encoding.BinaryUnmarshaler).UnmarshalBinary(from.Sum); err != nil {
+		return fatal{fmt.Errorf("the journal's digest in state %d: %w", from.Number, err)}
+	}
 	return nil
 }
 
-// sure is how much of a segment must come again.
-func (j *journal) sure(number int) int64 {
-	switch {
-	case number < j.synced.segment:
-		return j.stands
-	case number == j.synced.segment:
-		return j.synced.bytes
-	}
-	return 0
-}
-
-// write adds what the allocator wrote, or compares it with what stands there.
+// write adds what the allocator wrote. Where the mark is reached, all until there must be what it was.
 func (j *journal) write(block []byte) error {
 	j.mu.Lock()
 	defer j.mu.Unlock()
-	s := j.segments[len(j.segments)-1]
-	at := j.end - s.start
-	if at < j.stands {
-		old := make([]byte, min(len(block), int(j.stands-at)))
-		if _, err := s.file.ReadAt(old, at); err != nil {
-			return fmt.Errorf("the journal: %w", err)
+	if due := j.marked.Bytes - j.end; j.marked.Bytes > 0 && due >= 0 && due <= int64(len(block)) {
+		if err := j.add(block[:due]); err != nil {
+			return err
 		}
-		if same := common(old, block); same < len(old) {
-			if at+int64(same) < j.sure(s.number) {
-				return fatal{fmt.Errorf("%s differs after byte %d from what the allocator answers to the list: another program or another list made it", s.file.Name(), at+int64(same))}
-			}
-			j.stands = at
+		if j.digest() != j.marked.Sha256 {
+			return fatal{fmt.Errorf("the journal's first %d bytes differ from those that were answered: another program or another list made them", j.marked.Bytes)}
 		}
+		block = block[due:]
 	}
-	if at+int64(len(block)) > j.stands {
-		if _, err := s.file.WriteAt(block, at); err != nil {
-			return fmt.Errorf("the journal cannot be written: %w", err)
-		}
-		j.stands = at + int64(len(block))
+	return j.add(block)
+}
+
+func (j *journal) add(block []byte) error {
+	if _, err := j.file.WriteAt(block, j.end-j.base); err != nil {
+		return fmt.Errorf("the journal cannot be written: %w", err)
 	}
 	j.sum.Write(block)
 	j.end += int64(len(block))
 	return nil
 }
 
-func common(a, b []byte) int {
-	n := 0
-	for n < len(a) && a[n] == b[n] {
-		n++
-	}
-	return n
-}
+func (j *journal) digest() string { return hex.EncodeToString(j.sum.Sum(nil)) }
 
-// caught is told where no message of the last segment is to come that stood when this generation began. What is left of the file was never
-// answered, or the list has lost it.
-func (j *journal) caught() error {
-	s := j.segments[len(j.segments)-1]
-	at := j.end - s.start
-	if lost := j.sure(s.number) - at; lost > 0 {
-		return fatal{fmt.Errorf("%s has %d bytes more than the list: messages that were answered are lost from it", s.file.Name(), lost)}
-	}
-	if err := s.file.Truncate(at); err != nil {
-		return fmt.Errorf("the journal: %w", err)
-	}
-	j.stands = at
-	return nil
-}
-
-// whole is caught at the list's end, where no later segment may stand either.
+// whole is told where all is written that the list had.
 func (j *journal) whole() error {
-	j.mu.Lock()
-	defer j.mu.Unlock()
-	if j.synced.segment > j.segments[len(j.segments)-1].number && j.synced.bytes > 0 {
-		return fatal{fmt.Errorf("%s is behind the list's end: messages that were answered are lost from it", j.path(j.synced.segment))}
+	j.mu.RLock()
+	defer j.mu.RUnlock()
+	if lost := j.marked.Bytes - j.end; lost > 0 {
+		return fatal{fmt.Errorf("the journal had %d bytes more than the list gives: messages that were answered are lost from it", lost)}
 	}
-	return j.caught()
-}
-
-// cut ends the last segment: what comes is behind a state.
-func (j *journal) cut(number int) error {
-	j.mu.Lock()
-	err := j.caught()
-	j.mu.Unlock()
-	if err == nil {
-		err = j.sync()
-	}
-	if err != nil {
-		return err
-	}
-	j.mu.Lock()
-	defer j.mu.Unlock()
-	return j.open(number, j.end)
-}
-
-// sync makes what was written durable, and marks how much that is.
-func (j *journal) sync() error {
-	j.syncing.Lock()
-	defer j.syncing.Unlock()
-	j.mu.Lock()
-	if len(j.segments) == 0 {
-		j.mu.Unlock()
-		return nil
-	}
-	s := j.segments[len(j.segments)-1]
-	now, old := mark{s.number, j.end - s.start}, j.synced
-	j.mu.Unlock()
-	if now.segment < old.segment || now.segment == old.segment && now.bytes <= old.bytes {
-		return nil
-	}
-	err := s.file.Sync()
-	if err == nil {
-		err = writeFile(filepath.Join(j.dir, "synced"), []byte(fmt.Sprintln(now.segment, now.bytes)))
-	}
-	if err != nil {
-		return fmt.Errorf("the journal cannot be synced: %w", err)
-	}
-	j.mu.Lock()
-	defer j.mu.Unlock()
-	j.synced = now
 	return nil
 }
 
-// prune takes away the segments before a state.
-func (j *journal) prune(number int) {
+// mark makes durable how much is written. The file itself need not be: it is made again.
+func (j *journal) mark() error {
+	j.mu.RLock()
+	now := mark{j.end, j.digest()}
+	isNew := j.end > j.marked.Bytes
+	j.mu.RUnlock()
+	if !isNew {
+		return nil
+	}
+	text, _ := json.Marshal(now)
+	if err := writeFile(filepath.Join(j.dir, "answered"), text); err != nil {
+		return fmt.Errorf("the journal's mark cannot be written: %w", err)
+	}
 	j.mu.Lock()
 	defer j.mu.Unlock()
-	for len(j.segments) > 1 && j.segments[0].number < number {
-		j.segments[0].file.Close()
-		j.segments = append([]segment(nil), j.segments[1:]...)
-	}
-	removeBelow(j.dir, "journal", number)
+	j.marked = now
+	return nil
 }
 
-// bounds tells the first byte that is kept, the end, and the digest of the last segment.
-func (j *journal) bounds() (start, end int64, sum string) {
+// sumSoFar is the digest in a form that goes on with what comes.
+func (j *journal) sumSoFar() []byte {
+	j.mu.RLock()
+	defer j.mu.RUnlock()
+	sum, _ := j.sum.(encoding.BinaryMarshaler).MarshalBinary() // never fails
+	return sum
+}
+
+// prune gives the room of what stands before a byte back to the disk.
+func (j *journal) prune(to int64) error {
 	j.mu.Lock()
 	defer j.mu.Unlock()
-	if len(j.segments) == 0 {
-		return 0, 0, ""
+	if to <= j.kept {
+		return nil
 	}
-	return j.segments[0].start, j.end, hex.EncodeToString(j.sum.Sum(nil))
+	j.kept = to
+	return unix.Fallocate(int(j.file.Fd()), unix.FALLOC_FL_PUNCH_HOLE|unix.FALLOC_FL_KEEP_SIZE, 0, to-j.base)
 }
 
-// part reads the journal between two bytes. Where it was begun anew meanwhile, that is an error and no early end.
-type part struct {
-	journal *journal
-	at, end int64
+// bounds tells the first byte that is kept, the end, and the digest of all.
+func (j *journal) bounds() (kept, end int64, sum string) {
+	j.mu.RLock()
+	defer j.mu.RUnlock()
+	return j.kept, j.end, j.digest()
 }
 
-func (p *part) Read(text []byte) (int, error) {
-	if p.at >= p.end {
-		return 0, io.EOF
+// ReadAt reads at a byte of the whole journal. What is pruned, or not yet there again, is an error and no early end.
+func (j *journal) ReadAt(text []byte, at int64) (int, error) {
+	j.mu.RLock()
+	defer j.mu.RUnlock()
+	if at < j.kept || j.file == nil {
+		return 0, fmt.Errorf("byte %d of the journal is no longer kept", at)
 	}
-	n, err := p.journal.ReadAt(text[:min(len(text), int(p.end-p.at))], p.at)
-	if p.at += int64(n); err == io.EOF {
+	n, err := j.file.ReadAt(text, at-j.base)
+	if err == io.EOF {
 		err = io.ErrUnexpectedEOF
 	}
 	return n, err
-}
-
-// ReadAt reads at a place in the whole journal.
-func (j *journal) ReadAt(text []byte, at int64) (int, error) {
-	j.mu.Lock()
-	segments, end := j.segments, j.end
-	j.mu.Unlock()
-	if len(segments) == 0 || at < segments[0].start {
-		return 0, fmt.Errorf("byte %d of the journal is no longer kept", at)
-	}
-	read := 0
-	for k := len(segments) - 1; k >= 0; k-- { // from the last, where most is read
-		s, from := segments[k], at
-		if s.start > from {
-			from = s.start
-		}
-		if to := min(int(end-at), len(text)); from < at+int64(to) {
-			n, err := s.file.ReadAt(text[from-at:to], from-s.start)
-			if err != nil {
-				return 0, err
-			}
-			read += n
-			end = from
-		}
-	}
-	if read < len(text) {
-		return read, io.EOF
-	}
-	return read, nil
 }

@@ -9,15 +9,12 @@ import (
 	"fmt"
 	"hash/crc32"
 	"sort"
-	"strconv"
 	"strings"
-	"sync"
 	"time"
 
 	"go.etcd.io/etcd/clientv3"
 	"go.etcd.io/etcd/etcdserver/api/v3rpc/rpctypes"
 	"go.etcd.io/etcd/mvcc/mvccpb"
-	"google.golang.org/grpc/metadata"
 )
 
 // place orders messages: the revision of the transaction that put one, and which of its batches it was. etcd tells a client the
@@ -37,6 +34,7 @@ type batch struct {
 	mark  string
 	lines [][]byte
 	timed []bool
+	when  []clientv3.Cmp // it is put only where these hold too
 }
 
 // text is the lines with a moment put into those that want one. Of a line that is too long the allocator echoes only so much.
@@ -46,6 +44,9 @@ func (b batch) text(at int64) []byte {
 		if b.timed != nil && b.timed[number] {
 			start := bytes.IndexByte(line, '{') + 1
 			line = []byte(fmt.Sprintf(`%s"at":%d,%s`, line[:start], at, line[start:]))
+		}
+		if bytes.HasPrefix(line, []byte("?")) { // which is a question to the allocator, and no line, where it is asked so
+			line = append([]byte(" "), line...)
 		}
 		text = append(append(text, '\n'), line[:min(len(line), longestLine+1)]...)
 	}
@@ -60,30 +61,30 @@ type header struct {
 	Sum   uint32 `json:"sum"`
 }
 
-// message is an entry of the list.
-type message struct {
-	place place
-	key   string
-	header
-	lines [][]byte
-}
-
 func (b batch) value(at int64, index int) string {
 	text := b.text(at)
 	first, _ := json.Marshal(header{at, index, b.mark, crc32.ChecksumIEEE(text)})
 	return string(append(first, text...))
 }
 
+// message is an entry of the list.
+type message struct {
+	header
+	place place
+	key   string
+	text  []byte // each line behind a line feed
+}
+
+func (m message) lines() [][]byte { return bytes.Split(m.text, []byte("\n"))[1:] }
+
 func (l *list) read(kv *mvccpb.KeyValue) (message, error) {
-	first, rest, some := bytes.Cut(kv.Value, []byte("\n"))
 	m := message{key: strings.TrimPrefix(string(kv.Key), l.prefix+"m/")}
-	if err := json.Unmarshal(first, &m.header); err != nil || m.Sum != crc32.ChecksumIEEE(kv.Value[len(first):]) {
+	first, _, _ := bytes.Cut(kv.Value, []byte("\n"))
+	m.text = kv.Value[len(first):]
+	if err := json.Unmarshal(first, &m.header); err != nil || m.Sum != crc32.ChecksumIEEE(m.text) {
 		return m, fatal{fmt.Errorf("the message %s at revision %d is damaged (%v)", kv.Key, kv.ModRevision, err)}
 	}
 	m.place = place{kv.ModRevision, m.Index}
-	if some {
-		m.lines = bytes.Split(rest, []byte("\n"))
-	}
 	return m, nil
 }
 
@@ -95,14 +96,10 @@ type kept struct {
 }
 
 type list struct {
-	client *clientv3.Client
+	etcd   *etcd
 	prefix string
 	clock  *clock
-	most   int           // batches in one transaction
-	room   func() error  // nil where the disk has room
-	some   chan struct{} // has one where batches wait
-	mu     sync.Mutex
-	queue  []*pending
+	queue  chan *pending
 }
 
 // pending is a batch on its way into the list.
@@ -114,20 +111,18 @@ type pending struct {
 }
 
 const (
-	mostBytes = 1 << 20     // of one transaction, unless one batch has more
-	silence   = time.Second // of a watch, in which the shared clock's key should have come twice
+	together  = 100     // batches in one transaction at most: etcd takes 128 operations unless it is told otherwise
+	mostBytes = 1 << 20 // of one transaction, unless one batch has more
 )
 
 // put puts a batch, or finds the message that its key was used for. It tells where that stands.
 func (l *list) put(ctx context.Context, b batch) (place, error) {
-	if err := l.room(); err != nil {
-		return place{}, err
-	}
 	p := &pending{batch: b, done: make(chan struct{})}
-	l.mu.Lock()
-	l.queue = append(l.queue, p)
-	l.mu.Unlock()
-	l.wake()
+	select {
+	case l.queue <- p:
+	case <-ctx.Done():
+		return place{}, refuse(503, "the list did not answer in time; nothing was taken")
+	}
 	select {
 	case <-p.done:
 		return p.place, p.err
@@ -136,101 +131,81 @@ func (l *list) put(ctx context.Context, b batch) (place, error) {
 	}
 }
 
-func (l *list) wake() {
-	select {
-	case l.some <- struct{}{}:
-	default:
-	}
-}
-
 // commit puts the batches that wait, those that came together in one transaction, until the context ends.
 func (l *list) commit(ctx context.Context) {
-	for {
-		select {
-		case <-l.some:
-		case <-ctx.Done():
-			return
+	for next := (*pending)(nil); ; {
+		if next == nil {
+			select {
+			case next = <-l.queue:
+			case <-ctx.Done():
+				return
+			}
 		}
-		group := l.gather()
-		if len(group) > 0 { // else the other one took what was there
-			l.tryGroup(ctx, group)
-		}
+		var group []*pending
+		group, next = l.gather(next)
+		err := l.tryGroup(ctx, group)
 		for _, p := range group {
+			if err != nil {
+				p.err = err
+			}
 			close(p.done)
 		}
 	}
 }
 
-// gather takes the batches that wait, as many as one transaction may have. Of two under one key the second waits on.
-func (l *list) gather() (group []*pending) {
-	l.mu.Lock()
-	defer l.mu.Unlock()
-	var rest []*pending
+// gather takes what waits behind a batch, as far as it fits into one transaction, which has each key once; and gives the first that does not.
+func (l *list) gather(first *pending) (group []*pending, next *pending) {
 	keys, size := map[string]bool{}, 0
-	for _, p := range l.queue {
-		long := 0
-		for _, line := range p.lines {
-			long += len(line) + 25
+	for next = first; ; {
+		for _, line := range next.lines {
+			size += len(line) + len(`"at":1234567890123,`)
 		}
-		if keys[p.key] || len(group) == l.most || len(group) > 0 && size+long > mostBytes {
-			rest = append(rest, p)
-			continue
+		if len(group) > 0 && (keys[next.key] || len(group) == together || size > mostBytes) {
+			return group, next
 		}
-		keys[p.key], size, group = true, size+long, append(group, p)
+		keys[next.key], group = true, append(group, next)
+		select {
+		case next = <-l.queue:
+		default:
+			return group, nil
+		}
 	}
-	if l.queue = rest; len(rest) > 0 {
-		l.wake()
-	}
-	return group
 }
 
-// tryGroup commits a group, again where that fails: a member may die with a transaction, and the keys make it safe to send it anew. A dead
-// leader is missed after a second or two, so patience is short at first.
-func (l *list) tryGroup(ctx context.Context, group []*pending) {
-	var err error
-	told := (*refusal)(nil)
-	for begun, patience := time.Now(), 500*time.Millisecond; time.Since(begun) < 7*time.Second; time.Sleep(20 * time.Millisecond) {
-		if time.Since(begun) > 4*time.Second {
+// tryGroup commits a group, again where that fails: a member may die with a transaction, and the keys make it safe to send it anew. One
+// that a dead leader has is lost without a word, so patience is short at first.
+func (l *list) tryGroup(ctx context.Context, group []*pending) error {
+	begun, patience := time.Now(), 500*time.Millisecond
+	for {
+		told, err := (*refusal)(nil), l.commitGroup(ctx, group, patience)
+		switch {
+		case err == nil, errors.As(err, &told):
+			return err
+		case err == rpctypes.ErrRequestTooLarge, strings.Contains(err.Error(), "larger than max"):
+			return refuse(413, "the batch is larger than etcd takes in one request; nothing was taken")
+		case ctx.Err() != nil, time.Since(begun) > 7*time.Second:
+			return refuse(503, "the list cannot be reached (%v); the batch is perhaps taken: send it again with its key", err)
+		case time.Since(begun) > 4*time.Second:
 			patience = 3 * time.Second
 		}
-		if err = l.commitGroup(ctx, group, patience); err == nil {
-			return
-		}
-		isLarge := err == rpctypes.ErrRequestTooLarge || err == rpctypes.ErrTooManyOps || strings.Contains(err.Error(), "larger than max")
-		if half := len(group) / 2; isLarge && half > 0 {
-			l.tryGroup(ctx, group[:half])
-			l.tryGroup(ctx, group[half:])
-			return
-		}
-		if isLarge {
-			err = refuse(413, "the batch is larger than etcd takes in one request; nothing was taken")
-		}
-		if errors.As(err, &told) || ctx.Err() != nil {
-			break
-		}
-	}
-	if told == nil {
-		told = refuse(503, "the list cannot be reached (%v); the batch is perhaps taken: send it again with its key", err)
-	}
-	for _, p := range group {
-		p.err = told
+		time.Sleep(20 * time.Millisecond)
 	}
 }
 
 // commitGroup is one transaction: where the moment is in bounds, each batch whose key is new is put, each in a transaction of its own inside.
 func (l *list) commitGroup(ctx context.Context, group []*pending, patience time.Duration) error {
-	ctx, cancel := context.WithTimeout(ctx, patience)
+	client, ctx, cancel := l.etcd.ask(ctx, patience)
 	defer cancel()
 	at := l.clock.now().UnixMilli()
 	ops := make([]clientv3.Op, len(group))
 	for index, p := range group {
 		ours, pruned := l.prefix+"m/"+p.key, l.prefix+"k/"+p.key
-		ops[index] = clientv3.OpTxn(
-			[]clientv3.Cmp{clientv3.Compare(clientv3.CreateRevision(ours), "=", 0), clientv3.Compare(clientv3.CreateRevision(pruned), "=", 0)},
+		isNew := []clientv3.Cmp{clientv3.Compare(clientv3.CreateRevision(ours), "=", 0), clientv3.Compare(clientv3.CreateRevision(pruned), "=", 0)}
+		ops[index] = clientv3.OpTxn(append(isNew, p.when...),
 			[]clientv3.Op{clientv3.OpPut(ours, p.value(at, index))},
 			[]clientv3.Op{clientv3.OpGet(ours), clientv3.OpGet(pruned)})
 	}
-	answer, err := l.client.Txn(ctx).If(l.clock.within(at)...).Then(ops...).Commit()
+	answer, err := client.Txn(ctx).If(l.clock.within(at)...).Then(ops...).Commit()
 	if err != nil {
 		return err
 	}
@@ -243,7 +218,7 @@ func (l *list) commitGroup(ctx context.Context, group []*pending, patience time.
 		} else if first := inner.Responses[0].GetResponseRange().Kvs; len(first) > 0 {
 			p.place, p.err = l.again(p.batch, first[0])
 		} else {
-			p.err = stale(p.batch, inner.Responses[1].GetResponseRange().Kvs[0])
+			p.err = stale(p.batch, inner.Responses[1].GetResponseRange().Kvs)
 		}
 	}
 	return nil
@@ -258,11 +233,14 @@ func (l *list) again(b batch, kv *mvccpb.KeyValue) (place, error) {
 	return m.place, err
 }
 
-// stale tells of a batch whose key was used, and whose message is pruned.
-func stale(b batch, kv *mvccpb.KeyValue) error {
+// stale tells of a batch whose key was used, and whose message is pruned; or that is not due.
+func stale(b batch, found []*mvccpb.KeyValue) error {
+	if len(found) == 0 {
+		return refuse(412, "it is not due; nothing was taken")
+	}
 	var k kept
-	if err := json.Unmarshal(kv.Value, &k); err != nil {
-		return fmt.Errorf("the kept key %s: %w", kv.Key, err)
+	if err := json.Unmarshal(found[0].Value, &k); err != nil {
+		return fmt.Errorf("the kept key %s: %w", found[0].Key, err)
 	}
 	if digest(b.text(k.At)) != k.Sha256 {
 		return refuse(409, "this key was used for other lines, in message %d", k.Message)
@@ -272,89 +250,68 @@ func stale(b batch, kv *mvccpb.KeyValue) error {
 	return told
 }
 
-// all gives the messages that stand behind a place, in order, and the revision that they are of.
-func (l *list) all(ctx context.Context, after place) ([]message, int64, error) {
-	var messages []message
-	from, revision, limit := l.prefix+"m/", int64(0), 16
-	end := clientv3.GetPrefixRangeEnd(from)
+// all gives the messages that stand behind a place at a revision, in order.
+func (l *list) all(ctx context.Context, after place, revision int64) (messages []message, err error) {
+	from, end := l.prefix+"m/", clientv3.GetPrefixRangeEnd(l.prefix+"m/")
 	for {
-		page, err := l.client.Get(ctx, from, clientv3.WithRange(end), clientv3.WithLimit(int64(limit)), clientv3.WithRev(revision))
+		page, err := l.etcd.client().Get(ctx, from, clientv3.WithRange(end), clientv3.WithLimit(1000), clientv3.WithRev(revision))
 		if err != nil {
-			return nil, 0, fmt.Errorf("reading the list: %w", err)
+			return nil, fmt.Errorf("reading the list: %w", err)
 		}
-		if revision == 0 { // the later pages are of this one too, though their headers tell newer ones
-			revision = page.Header.Revision
-		}
-		size := 1
 		for _, kv := range page.Kvs {
 			m, err := l.read(kv)
 			if err != nil {
-				return nil, 0, err
+				return nil, err
 			}
-			size += len(kv.Value)
 			if after.before(m.place) {
 				messages = append(messages, m)
 			}
 			from = string(kv.Key) + "\x00"
 		}
-		limit = 1 + min(50000, len(page.Kvs)*(8<<20)/size) // a page of some megabytes: for each etcd looks through all keys behind it
 		if !page.More {
-			inOrder(messages)
-			return messages, revision, nil
+			return inOrder(messages), nil
 		}
 	}
 }
 
-// follow hands on the messages behind a revision as they come, in order. The shared clock is watched beside them: where even that is not
-// heard, the member that should tell may be without power, and another is asked.
+// follow hands on the messages behind a revision as they come, in order. Where a member is left, the next is asked for what follows.
 func (l *list) follow(ctx context.Context, after int64, hand func([]message) error) error {
-	for attempt := 0; ; attempt++ {
-		trying, cancel := context.WithCancel(metadata.AppendToOutgoingContext(ctx, "attempt", strconv.Itoa(attempt))) // a stream of its own
-		late := time.AfterFunc(silence, cancel)
-		answers := l.client.Watch(trying, l.prefix+"clock", clientv3.WithRange(clientv3.GetPrefixRangeEnd(l.prefix+"m/")), clientv3.WithRev(after+1), clientv3.WithFilterDelete())
-		late.Stop()
-		err := l.take(ctx, answers, &after, hand)
-		cancel()
-		if err != nil {
+	for ctx.Err() == nil {
+		if err := l.watch(ctx, &after, hand); err != nil {
 			return err
 		}
+		time.Sleep(20 * time.Millisecond)
 	}
+	return ctx.Err()
 }
 
-// take hands on what a watch tells, until it is broken or silent. Its error is one after which another watch is of no use.
-func (l *list) take(ctx context.Context, answers clientv3.WatchChan, after *int64, hand func([]message) error) error {
-	for {
-		var answer clientv3.WatchResponse
-		select {
-		case answer = <-answers:
-		case <-time.After(silence):
-			return ctx.Err()
-		}
+// watch is follow at one member. Its error is one after which another watch is of no use.
+func (l *list) watch(ctx context.Context, after *int64, hand func([]message) error) error {
+	client, ctx, cancel := l.etcd.ask(ctx, 24*time.Hour)
+	defer cancel()
+	for answer := range client.Watch(ctx, l.prefix+"m/", clientv3.WithPrefix(), clientv3.WithRev(*after+1), clientv3.WithFilterDelete()) {
 		if answer.CompactRevision > 0 {
 			return fmt.Errorf("following the list: %w", answer.Err())
 		}
-		if answer.Err() != nil || len(answer.Events) == 0 {
-			time.Sleep(50 * time.Millisecond)
-			return ctx.Err()
+		if answer.Err() != nil {
+			return nil
 		}
 		var messages []message
 		for _, event := range answer.Events {
-			if strings.HasPrefix(string(event.Kv.Key), l.prefix+"m/") {
-				m, err := l.read(event.Kv)
-				if err != nil {
-					return err
-				}
-				messages = append(messages, m)
+			m, err := l.read(event.Kv)
+			if err != nil {
+				return err
 			}
+			messages, *after = append(messages, m), m.place.Revision
 		}
-		inOrder(messages) // a watch tells a revision whole
-		if err := hand(messages); err != nil {
+		if err := hand(inOrder(messages)); err != nil { // a watch tells a revision whole
 			return err
 		}
-		*after = answer.Events[len(answer.Events)-1].Kv.ModRevision
 	}
+	return nil
 }
 
-func inOrder(messages []message) {
+func inOrder(messages []message) []message {
 	sort.Slice(messages, func(i, j int) bool { return messages[i].place.before(messages[j].place) })
+	return messages
 }

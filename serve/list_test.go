@@ -13,14 +13,14 @@ import (
 	"go.etcd.io/etcd/clientv3"
 )
 
-// withEtcd gives a client of an etcd of its own.
-func withEtcd(t *testing.T) *clientv3.Client {
-	client, end, err := memberOptions{name: "one"}.open(context.Background(), t.TempDir())
+// withEtcd gives an etcd of its own.
+func withEtcd(t *testing.T) *etcd {
+	e, end, err := (&options{name: "one", data: t.TempDir()}).open(context.Background())
 	if err != nil {
 		t.Fatal(err)
 	}
 	t.Cleanup(end)
-	return client
+	return e
 }
 
 // machine is a clock that a test sets.
@@ -35,8 +35,9 @@ func (m *machine) pass(wall, running time.Duration) {
 	m.wall, m.running = m.wall+wall, m.running+running
 }
 
-func clockOf(client *clientv3.Client, m *machine, alone bool) *clock {
-	c := newClock(client, "drf/", 10*time.Second, alone)
+func clockOf(e *etcd, m *machine, alone bool) *clock {
+	c := newClock(e, &options{prefix: "drf/", bound: 10 * time.Second})
+	c.alone = alone
 	c.now = func() time.Time {
 		m.mu.Lock()
 		defer m.mu.Unlock()
@@ -98,15 +99,15 @@ func TestNothingIsStampedByAWrongClock(t *testing.T) {
 	if _, err := l.put(ctx, batch{key: "a/1", lines: [][]byte{[]byte("x")}}); !errors.As(err, &told) || told.status != 503 {
 		t.Error(err)
 	}
-	if messages, _, err := l.all(ctx, place{}); len(messages) > 0 || err != nil {
+	if messages, err := l.all(ctx, place{}, 0); len(messages) > 0 || err != nil {
 		t.Error(messages, err)
 	}
 }
 
-func listOf(t *testing.T, client *clientv3.Client, c *clock) *list {
+func listOf(t *testing.T, e *etcd, c *clock) *list {
 	ctx, cancel := context.WithCancel(context.Background())
 	t.Cleanup(cancel)
-	l := &list{client: client, prefix: "drf/", clock: c, most: 100, room: func() error { return nil }, some: make(chan struct{}, 1)}
+	l := &list{etcd: e, prefix: "drf/", clock: c, queue: make(chan *pending)}
 	for n := 0; n < 2; n++ {
 		go l.commit(ctx)
 	}
@@ -155,16 +156,16 @@ func TestOneOrder(t *testing.T) {
 	}
 	group.Wait()
 	<-done
-	all, _, err := gateways[1].all(ctx, place{})
+	all, err := gateways[1].all(ctx, place{}, 0)
 	if err != nil || len(all) != 1200 || len(followed) != 1200 {
 		t.Fatal(err, len(all), len(followed))
 	}
 	for n, m := range all {
-		if m.place != followed[n].place || m.key != followed[n].key || m.place != places[m.key] || string(m.lines[0]) != m.key || len(m.lines) != 2 {
+		if m.place != followed[n].place || m.key != followed[n].key || m.place != places[m.key] || string(m.lines()[0]) != m.key || len(m.lines()) != 2 {
 			t.Fatal(n, m, followed[n])
 		}
 	}
-	if later, _, err := gateways[0].all(ctx, all[499].place); err != nil || len(later) != 700 || later[0].place != all[500].place {
+	if later, err := gateways[0].all(ctx, all[499].place, 0); err != nil || len(later) != 700 || later[0].place != all[500].place {
 		t.Error(len(later), err)
 	}
 }
@@ -191,11 +192,11 @@ func TestAKeyIsUsedOnce(t *testing.T) {
 	if _, err := l.put(ctx, other); !errors.As(err, &told) || told.status != 409 {
 		t.Error(err)
 	}
-	s := &states{list: l, window: time.Hour, numberOf: func(place) int64 { return 7 }}
-	if err := s.prune(ctx, state{reach: reach{Place: first}, Number: 1, At: c.now().UnixMilli()}); err != nil {
+	s := &states{o: &options{window: time.Hour}, list: l}
+	if err := s.prune(ctx, state{reach: reach{Place: first, Messages: 7}, Number: 1}); err != nil {
 		t.Fatal(err)
 	}
-	if left, _, err := l.all(ctx, place{}); len(left) > 0 || err != nil {
+	if left, err := l.all(ctx, place{}, 0); len(left) > 0 || err != nil {
 		t.Error(left, err)
 	}
 	if _, err := l.put(ctx, cycle); !errors.As(err, &told) || told.status != 410 || told.message != 7 {
@@ -204,10 +205,75 @@ func TestAKeyIsUsedOnce(t *testing.T) {
 	if _, err := l.put(ctx, other); !errors.As(err, &told) || told.status != 409 {
 		t.Error(err)
 	}
-	if err := s.prune(ctx, state{reach: reach{Place: first}, Number: 1, At: c.now().Add(2 * time.Hour).UnixMilli()}); err != nil {
+	leases, err := client.client().Leases(ctx)
+	if err != nil || len(leases.Leases) != 1 {
+		t.Fatal("the key is kept by no lease of its own", err)
+	}
+	if life, err := client.client().TimeToLive(ctx, leases.Leases[0].ID); err != nil || life.GrantedTTL < 3600+60 || life.GrantedTTL > 3600+62 {
+		t.Error("it is kept for longer or less long than its window", life, err)
+	}
+	if _, err := client.client().Revoke(ctx, leases.Leases[0].ID); err != nil {
 		t.Fatal(err)
 	}
 	if again, err := l.put(ctx, cycle); err != nil || again == first {
 		t.Error("a key outlived its window", again, err)
+	}
+}
+
+func TestPrunedMessagesKeepTheirNumbers(t *testing.T) {
+	client, ctx := withEtcd(t), context.Background()
+	c := clockOf(client, &machine{}, true)
+	if err := c.renew(ctx); err != nil {
+		t.Fatal(err)
+	}
+	l := listOf(t, client, c)
+	var places []place
+	for n := 1; n <= 120; n++ {
+		at, err := l.put(ctx, batch{key: fmt.Sprintf("a/%d", (n*37)%121), lines: [][]byte{[]byte("x")}})
+		if err != nil {
+			t.Fatal(err)
+		}
+		places = append(places, at)
+	}
+	s := &states{o: &options{window: time.Hour}, list: l}
+	for _, upTo := range []int{60, 110} { // the second goes on where the first, or one that was broken off, ended
+		if err := s.prune(ctx, state{reach: reach{Place: places[upTo-1], Messages: int64(1000 + upTo)}, Number: 1}); err != nil {
+			t.Fatal(err)
+		}
+	}
+	told := (*refusal)(nil)
+	for n := 1; n <= 110; n++ {
+		_, err := l.put(ctx, batch{key: fmt.Sprintf("a/%d", (n*37)%121), lines: [][]byte{[]byte("x")}})
+		if !errors.As(err, &told) || told.status != 410 || told.message != int64(1000+n) {
+			t.Error(n, err)
+		}
+	}
+	if left, err := l.all(ctx, place{}, 0); err != nil || len(left) != 10 {
+		t.Error(len(left), err)
+	}
+}
+
+func TestWhatIsNotDueIsNotPut(t *testing.T) {
+	client, ctx := withEtcd(t), context.Background()
+	c := clockOf(client, &machine{}, true)
+	if err := c.renew(ctx); err != nil {
+		t.Fatal(err)
+	}
+	l := listOf(t, client, c)
+	first, err := client.client().Put(ctx, "drf/watched/agents/n1", "")
+	if err != nil {
+		t.Fatal(err)
+	}
+	still := clientv3.Compare(clientv3.ModRevision("drf/watched/agents/n1"), "=", first.Header.Revision)
+	end := batch{key: "silent/agents/n1/1", lines: [][]byte{[]byte("x")}, when: []clientv3.Cmp{still}}
+	if _, err := client.client().Put(ctx, "drf/watched/agents/n1", ""); err != nil { // it comes again just before it is ended
+		t.Fatal(err)
+	}
+	told := (*refusal)(nil)
+	if _, err := l.put(ctx, end); !errors.As(err, &told) || told.status != 412 {
+		t.Error("an agent that is alive was ended", err)
+	}
+	if left, err := l.all(ctx, place{}, 0); err != nil || len(left) > 0 {
+		t.Error(left, err)
 	}
 }

@@ -19,22 +19,29 @@ type liveness struct {
 	list      *list
 	allocator *allocator
 	told      *told
-	cycle     time.Duration // 0: callers send cycles
-	offers    time.Duration // how long an offer may stand; 0: for ever
-	silence   map[string]time.Duration
-	removal   time.Duration        // of an agent, after its silence
-	silent    map[string]time.Time // since when, as this gateway saw
+	cycle     time.Duration            // 0: callers send cycles
+	offers    time.Duration            // how long an offer may stand; 0: for ever
+	limits    map[string]time.Duration // of what is watched, by kind, how long it may be silent; 0: for ever
 }
 
-func (l *liveness) add(ctx context.Context, key string, event map[string]interface{}) error {
+// What is watched has a key under `watched/KIND/`, and one under `alive/KIND/` with a lease: where that ends an event is due, and perhaps
+// something else is watched from then on, which nobody keeps alive.
+var ends = map[string]struct{ event, field, next string }{
+	"agents":     {"deactivate_agent", "agent", "removals"},
+	"removals":   {"remove_agent", "agent", ""},
+	"frameworks": {"remove_framework", "framework", ""},
+}
+
+// add puts an event. It is nil where another gateway did before, or where the event is not due.
+func (l *liveness) add(ctx context.Context, key string, event map[string]interface{}, when ...clientv3.Cmp) error {
 	ctx, cancel := context.WithTimeout(ctx, 10*time.Second)
 	defer cancel()
 	line, err := json.Marshal(event)
 	if err == nil {
-		_, err = l.list.put(ctx, batch{key: key, lines: [][]byte{line}, timed: []bool{event["event"] == "cycle"}})
+		_, err = l.list.put(ctx, batch{key: key, lines: [][]byte{line}, timed: []bool{event["event"] == "cycle"}, when: when})
 	}
-	if told := (*refusal)(nil); errors.As(err, &told) && told.status == 410 {
-		return nil // another gateway added it long ago
+	if told := (*refusal)(nil); errors.As(err, &told) && (told.status == 410 || told.status == 412) {
+		return nil
 	}
 	if err != nil {
 		log.Printf("adding %s: %v", key, err)
@@ -42,17 +49,17 @@ func (l *liveness) add(ctx context.Context, key string, event map[string]interfa
 	return err
 }
 
+func (l *liveness) mayAdd() bool {
+	return l.allocator.ready() == nil && l.list.clock.told() == "" && roomIn(l.allocator.states.o.data) == nil
+}
+
 // cycles adds a cycle for each slot of time. While nothing happens one slot in ten is enough, for refusals that run out.
 func (l *liveness) cycles(ctx context.Context) {
 	for ctx.Err() == nil {
 		now := l.list.clock.now().UnixNano()
 		slot := now/int64(l.cycle) + 1
-		select {
-		case <-time.After(time.Duration(slot*int64(l.cycle) - now)):
-		case <-ctx.Done():
-			return
-		}
-		if l.allocator.ready() == nil && l.list.clock.told() == "" && (slot%10 == 0 || !l.told.isIdle()) {
+		time.Sleep(time.Duration(slot*int64(l.cycle) - now))
+		if l.mayAdd() && (slot%10 == 0 || !l.told.isIdle()) {
 			l.add(ctx, fmt.Sprintf("cycle/%d", slot), map[string]interface{}{"event": "cycle"})
 		}
 	}
@@ -60,14 +67,8 @@ func (l *liveness) cycles(ctx context.Context) {
 
 // run looks each second for what is due.
 func (l *liveness) run(ctx context.Context) {
-	for tick := time.NewTicker(time.Second); ; {
-		select {
-		case <-tick.C:
-		case <-ctx.Done():
-			tick.Stop()
-			return
-		}
-		if l.allocator.ready() != nil || l.list.clock.told() != "" {
+	for ; ctx.Err() == nil; time.Sleep(time.Second) {
+		if !l.mayAdd() {
 			continue
 		}
 		if l.offers > 0 {
@@ -81,8 +82,8 @@ func (l *liveness) run(ctx context.Context) {
 				log.Printf("adding %s: %v", mark.key, err)
 			}
 		}
-		for _, kind := range []string{"agents", "frameworks"} {
-			if l.silence[kind] > 0 {
+		for kind, limit := range l.limits {
+			if limit > 0 {
 				if err := l.endSilent(ctx, kind); err != nil {
 					log.Printf("looking for silent %s: %v", kind, err)
 				}
@@ -91,38 +92,50 @@ func (l *liveness) run(ctx context.Context) {
 	}
 }
 
+func (l *liveness) key(what, kind, name string) string {
+	return l.list.prefix + what + "/" + kind + "/" + name
+}
+
+// watching are the operations from which on something is watched.
+func (l *liveness) watching(ctx context.Context, kind, name string) ([]clientv3.Op, error) {
+	lease, err := l.list.etcd.client().Grant(ctx, int64((l.limits[kind]+time.Second-1)/time.Second))
+	if err != nil {
+		return nil, err
+	}
+	return []clientv3.Op{clientv3.OpPut(l.key("alive", kind, name), "", clientv3.WithLease(lease.ID)), clientv3.OpPut(l.key("watched", kind, name), "")}, nil
+}
+
 // alive is called for an agent or a framework: a lease stands as long as that is done often enough. It tells whether one stood.
 func (l *liveness) alive(ctx context.Context, kind, name string) (bool, error) {
-	if l.silence[kind] == 0 {
+	if l.limits[kind] == 0 {
 		return false, refuse(501, "this service does not watch %s", kind)
 	}
 	ctx, cancel := context.WithTimeout(ctx, 5*time.Second)
 	defer cancel()
-	who, client := kind+"/"+name, l.list.client
-	key := l.list.prefix + "alive/" + who
-	there, err := client.Get(ctx, key)
+	client := l.list.etcd.client()
+	there, err := client.Get(ctx, l.key("alive", kind, name))
 	if err == nil && len(there.Kvs) > 0 {
 		if _, err = client.KeepAliveOnce(ctx, clientv3.LeaseID(there.Kvs[0].Lease)); err == nil {
 			return true, nil
 		}
 	}
 	if err == nil || err == rpctypes.ErrLeaseNotFound {
-		var lease *clientv3.LeaseGrantResponse
-		if lease, err = client.Grant(ctx, int64((l.silence[kind]+time.Second-1)/time.Second)); err == nil {
-			_, err = client.Txn(ctx).Then(clientv3.OpPut(key, "", clientv3.WithLease(lease.ID)), clientv3.OpPut(l.list.prefix+"watched/"+who, "")).Commit()
+		var ops []clientv3.Op
+		if ops, err = l.watching(ctx, kind, name); err == nil {
+			_, err = client.Txn(ctx).Then(append(ops, clientv3.OpDelete(l.key("watched", ends[kind].next, name)))...).Commit()
 		}
 	}
 	if err != nil {
-		return false, refuse(503, "the lease of %s cannot be kept: %v", who, err)
+		return false, refuse(503, "the lease of %s/%s cannot be kept: %v", kind, name, err)
 	}
 	return false, nil
 }
 
-// endSilent adds what is due for those that were alive once, and have no lease now. The revision of their last coming makes the key.
+// endSilent adds what is due for those that are watched, and have no lease now. The revision since which one is watched makes the key; where
+// it came again meanwhile the event is not taken.
 func (l *liveness) endSilent(ctx context.Context, kind string) error {
-	watched, alive := l.list.prefix+"watched/"+kind+"/", l.list.prefix+"alive/"+kind+"/"
-	answer, err := l.list.client.Txn(ctx).Then(clientv3.OpGet(watched, clientv3.WithPrefix(), clientv3.WithKeysOnly()),
-		clientv3.OpGet(alive, clientv3.WithPrefix(), clientv3.WithKeysOnly())).Commit()
+	watched, alive := l.key("watched", kind, ""), l.key("alive", kind, "")
+	answer, err := l.list.etcd.client().Txn(ctx).Then(clientv3.OpGet(watched, clientv3.WithPrefix()), clientv3.OpGet(alive, clientv3.WithPrefix())).Commit()
 	if err != nil {
 		return err
 	}
@@ -131,38 +144,26 @@ func (l *liveness) endSilent(ctx context.Context, kind string) error {
 		lives[strings.TrimPrefix(string(kv.Key), alive)] = true
 	}
 	for _, kv := range answer.Responses[0].GetResponseRange().Kvs {
-		name := strings.TrimPrefix(string(kv.Key), watched)
-		cause := fmt.Sprintf("silent/%s/%s/%d", kind, name, kv.ModRevision)
+		name, end := strings.TrimPrefix(string(kv.Key), watched), ends[kind]
 		if lives[name] {
-			delete(l.silent, cause)
-		} else if isOver, err := l.endOne(ctx, kind, name, cause); err != nil {
+			continue
+		}
+		still := clientv3.Compare(clientv3.ModRevision(string(kv.Key)), "=", kv.ModRevision)
+		cause := fmt.Sprintf("silent/%s/%s/%d", kind, name, kv.ModRevision)
+		if err := l.add(ctx, cause, map[string]interface{}{"event": end.event, end.field: name}, still); err != nil {
 			return err
-		} else if isOver {
-			delete(l.silent, cause)
-			came := clientv3.Compare(clientv3.ModRevision(string(kv.Key)), "=", kv.ModRevision)
-			if _, err := l.list.client.Txn(ctx).If(came).Then(clientv3.OpDelete(string(kv.Key))).Commit(); err != nil {
+		}
+		then := []clientv3.Op{clientv3.OpDelete(string(kv.Key))}
+		if l.limits[end.next] > 0 {
+			next, err := l.watching(ctx, end.next, name)
+			if err != nil {
 				return err
 			}
+			then = append(then, next...)
+		}
+		if _, err := l.list.etcd.client().Txn(ctx).If(still).Then(then...).Commit(); err != nil {
+			return err
 		}
 	}
 	return nil
-}
-
-// endOne adds the event for one that is silent: a framework leaves; an agent is deactivated, and later leaves. It tells whether that was all.
-func (l *liveness) endOne(ctx context.Context, kind, name, cause string) (bool, error) {
-	if kind == "frameworks" {
-		return true, l.add(ctx, cause, map[string]interface{}{"event": "remove_framework", "framework": name})
-	}
-	since, seen := l.silent[cause]
-	if !seen {
-		err := l.add(ctx, cause, map[string]interface{}{"event": "deactivate_agent", "agent": name})
-		if err == nil {
-			l.silent[cause] = time.Now()
-		}
-		return false, err
-	}
-	if l.removal == 0 || time.Since(since) < l.removal {
-		return false, nil
-	}
-	return true, l.add(ctx, cause+"/removed", map[string]interface{}{"event": "remove_agent", "agent": name})
 }

@@ -11,68 +11,64 @@ import (
 	"net"
 	"net/http"
 	"os"
-	"os/exec"
 	"os/signal"
 	"path/filepath"
 	"syscall"
 	"time"
 
-	"go.etcd.io/etcd/clientv3"
 	"golang.org/x/sys/unix"
 )
 
 type options struct {
-	member                                       memberOptions
-	data, drf, listen, tokens, cert, key, prefix string
-	together                                     int
-	cycle, bound, window, apart                  time.Duration
-	offers, agents, removal, framework           time.Duration
-	saveEvery, epochEvery                        int64
+	data, drf, listen, tokens, cert, key, prefix    string
+	name, members, etcd, peerCert, peerKey, peerCA  string
+	joins                                           bool
+	cycle, bound, window, apart                     time.Duration
+	offerLimit, agentLimit, removal, frameworkLimit time.Duration
+	saveEvery, epochEvery                           int64
 }
 
-func readOptions(words []string) (o options, err error) {
-	flags := flag.NewFlagSet("gateway", flag.ContinueOnError)
+func readOptions(words []string) (*options, error) {
+	o, flags := &options{}, flag.NewFlagSet("gateway", flag.ContinueOnError)
 	flags.StringVar(&o.data, "data", "durzhanok-data", "the folder of journal, states and embedded etcd")
 	flags.StringVar(&o.drf, "drf", "drf", "the allocator's program")
 	flags.StringVar(&o.listen, "listen", "127.0.0.1:8450", "where callers come")
 	flags.StringVar(&o.tokens, "tokens", "", "who may do what (DATA/tokens.json)")
 	flags.StringVar(&o.cert, "cert", "", "a file of certificates, for callers to come over TLS")
 	flags.StringVar(&o.key, "key", "", "the file of its key")
-	flags.StringVar(&o.member.name, "name", "one", "this gateway's name among the others")
-	flags.StringVar(&o.member.members, "members", "", "embedded etcd of several gateways: NAME=URL of each, with commas")
-	flags.StringVar(&o.member.listen, "member-listen", "", "the URL where the other members come, if it is not that in -members")
-	flags.BoolVar(&o.member.joins, "join", false, "this member is new in a cluster that stands")
-	flags.StringVar(&o.member.urls, "etcd", "", "use this etcd and embed none: URLs, with commas")
-	flags.StringVar(&o.member.cert, "peer-cert", "", "a file of certificates, for etcd's members and clients")
-	flags.StringVar(&o.member.key, "peer-key", "", "the file of its key")
-	flags.StringVar(&o.member.ca, "peer-ca", "", "the authorities that etcd's members must be of")
+	flags.StringVar(&o.name, "name", "one", "this gateway's name among the others")
+	flags.StringVar(&o.members, "members", "", "embedded etcd of several gateways: NAME=URL of each, with commas")
+	flags.BoolVar(&o.joins, "join", false, "this member is new in a cluster that stands")
+	flags.StringVar(&o.etcd, "etcd", "", "use this etcd and embed none: URLs, with commas")
+	flags.StringVar(&o.peerCert, "peer-cert", "", "a file of certificates, for etcd's members and clients")
+	flags.StringVar(&o.peerKey, "peer-key", "", "the file of its key")
+	flags.StringVar(&o.peerCA, "peer-ca", "", "the authorities that etcd's members must be of")
 	flags.StringVar(&o.prefix, "prefix", "drf/", "what the keys in etcd begin with")
-	flags.IntVar(&o.together, "together", 100, "batches in one transaction; etcd's --max-txn-ops must be greater by 4")
 	flags.DurationVar(&o.cycle, "cycle", time.Second, "how often a cycle is added (0: callers send them)")
 	flags.DurationVar(&o.bound, "clock-bound", 10*time.Second, "how far this machine's clock may be from the service's")
 	flags.DurationVar(&o.window, "window", 24*time.Hour, "how long keys of messages are known")
-	flags.DurationVar(&o.offers, "offer-timeout", 0, "how long an offer may stand until it is rescinded (0: for ever)")
-	flags.DurationVar(&o.agents, "agent-timeout", 0, "how long an agent that was alive may be silent until it is deactivated (0: for ever)")
+	flags.DurationVar(&o.offerLimit, "offer-timeout", 0, "how long an offer may stand until it is rescinded (0: for ever)")
+	flags.DurationVar(&o.agentLimit, "agent-timeout", 0, "how long an agent that was alive may be silent until it is deactivated (0: for ever)")
 	flags.DurationVar(&o.removal, "agent-removal", 0, "how long after that it is removed (0: never)")
-	flags.DurationVar(&o.framework, "framework-timeout", 0, "how long a framework that was alive may be silent until it is removed (0: for ever)")
+	flags.DurationVar(&o.frameworkLimit, "framework-timeout", 0, "how long a framework that was alive may be silent until it is removed (0: for ever)")
 	flags.Int64Var(&o.saveEvery, "save-every", 20000, "messages between states")
 	flags.DurationVar(&o.apart, "save-apart", time.Minute, "the least time between states: replies can be had again for that long")
 	flags.Int64Var(&o.epochEvery, "epoch-every", 4_000_000_000, "lines of an epoch, at most 4294967295")
-	if err = flags.Parse(words); err != nil {
-		return o, err
+	if err := flags.Parse(words); err != nil {
+		return nil, err
 	}
 	for why, isWrong := range map[string]bool{
 		"there is a word that is no flag: " + flags.Arg(0): flags.NArg() > 0,
 		"-cert and -key go together":                       (o.cert == "") != (o.key == ""),
-		"-etcd and -members exclude one another":           o.member.urls != "" && o.member.members != "",
+		"-etcd and -members exclude one another":           o.etcd != "" && o.members != "",
 		"-clock-bound is 2s or more":                       o.bound < 2*time.Second,
 		"-cycle is 0, or 10ms or more":                     o.cycle != 0 && o.cycle < 10*time.Millisecond,
-		"-together is 1 to 8000":                           o.together < 1 || o.together > 8000,
+		"-window is 0s or more":                            o.window < 0,
 		"-save-every is 1 or more":                         o.saveEvery < 1,
 		"-epoch-every is 1 to 4294967295":                  o.epochEvery < 1 || o.epochEvery > 1<<32-1,
 	} {
 		if isWrong {
-			return o, errors.New(why)
+			return nil, errors.New(why)
 		}
 	}
 	o.tokens = firstOf(o.tokens, filepath.Join(o.data, "tokens.json"))
@@ -107,7 +103,7 @@ func start(words []string) error {
 }
 
 // openData makes the data folder, keeps a second gateway from it, and makes a token that may do everything where there is none yet.
-func (o options) openData() error {
+func (o *options) openData() error {
 	if err := os.MkdirAll(o.data, 0o700); err != nil {
 		return fmt.Errorf("the data folder: %w", err)
 	}
@@ -129,7 +125,8 @@ func (o options) openData() error {
 	return writeFile(filepath.Join(o.data, "admin.token"), []byte(token+"\n"))
 }
 
-func (o options) serve(ctx context.Context) error {
+// serve runs the gateway until the context ends, or one of its parts cannot go on.
+func (o *options) serve(ctx context.Context) error {
 	ctx, cancel := context.WithCancel(ctx)
 	defer cancel()
 	if err := o.openData(); err != nil {
@@ -143,16 +140,31 @@ func (o options) serve(ctx context.Context) error {
 	if err != nil {
 		return err
 	}
-	client, closeEtcd, err := o.member.open(ctx, o.data)
+	e, closeEtcd, err := o.open(ctx)
 	if err != nil {
 		return err
 	}
 	defer closeEtcd()
 	ends := make(chan error, 4)
-	g := o.build(client, j, ends)
+	g := o.build(e, j, func(err error) { ends <- err })
 	g.callers.Store(callers)
-	g.begin(ctx, o, ends)
-	server := o.server(g)
+	server := &http.Server{Addr: o.listen, Handler: g, ReadHeaderTimeout: 10 * time.Second, IdleTimeout: 2 * time.Minute, MaxHeaderBytes: 1 << 16,
+		ConnContext: func(ctx context.Context, c net.Conn) context.Context {
+			return context.WithValue(ctx, connectionKey{}, c)
+		},
+		TLSConfig:    &tls.Config{MinVersion: tls.VersionTLS12},
+		TLSNextProto: map[string]func(*http.Server, *tls.Conn, http.Handler){}, // one connection, one request at a time
+	}
+	go g.list.clock.run(ctx)
+	for n := 0; n < 2; n++ {
+		go g.list.commit(ctx)
+	}
+	go func() { ends <- g.allocator.run(ctx) }()
+	go g.liveness.run(ctx)
+	if o.cycle > 0 {
+		go g.liveness.cycles(ctx)
+	}
+	go g.lookAfter(ctx)
 	go func() {
 		if o.cert != "" {
 			ends <- server.ListenAndServeTLS(o.cert, o.key)
@@ -164,7 +176,7 @@ func (o options) serve(ctx context.Context) error {
 	select {
 	case err = <-ends:
 	case <-ctx.Done():
-		err = j.sync()
+		err = j.mark()
 	}
 	end, stop := context.WithTimeout(context.Background(), 2*time.Second)
 	defer stop()
@@ -172,68 +184,39 @@ func (o options) serve(ctx context.Context) error {
 	return err
 }
 
-func (o options) server(g *gateway) *http.Server {
-	return &http.Server{Addr: o.listen, Handler: g, ReadHeaderTimeout: 10 * time.Second, IdleTimeout: 2 * time.Minute, MaxHeaderBytes: 1 << 16,
-		ConnContext: func(ctx context.Context, c net.Conn) context.Context {
-			return context.WithValue(ctx, connectionKey{}, c)
-		},
-		TLSConfig:    &tls.Config{MinVersion: tls.VersionTLS12},
-		TLSNextProto: map[string]func(*http.Server, *tls.Conn, http.Handler){}, // one connection, one request at a time
-	}
-}
-
 // build makes the parts and ties them together.
-func (o options) build(client *clientv3.Client, j *journal, ends chan<- error) *gateway {
+func (o *options) build(e *etcd, j *journal, fail func(error)) *gateway {
 	m := newMetrics()
 	t := &told{metrics: m, offers: map[uint64]offer{}, listeners: map[*listener]bool{}}
-	l := &list{client: client, prefix: o.prefix, clock: newClock(client, o.prefix, o.bound, o.member.alone()), most: o.together,
-		room: func() error { return roomIn(o.data) }, some: make(chan struct{}, 1)}
+	l := &list{etcd: e, prefix: o.prefix, clock: newClock(e, o), queue: make(chan *pending)}
 	a := &allocator{drf: o.drf, list: l, journal: j, told: t, fault: "starting", entries: []reach{{}}, changed: make(chan struct{})}
-	a.states = &states{drf: o.drf, dir: o.data, list: l, journal: j, every: o.saveEvery, longest: o.epochEvery, apart: o.apart, window: o.window,
-		can: exec.Command(o.drf, "save", "--help").Run() == nil, forget: a.forget, numberOf: a.numberOf, queue: make(chan state, 1024),
-		fail: func(err error) { ends <- err }}
-	g := &gateway{name: o.member.name, list: l, allocator: a, journal: j, told: t, metrics: m, window: o.window, policy: policyOf(page),
-		asker: &asker{drf: o.drf, allocator: a, turn: make(chan struct{}, 1), known: map[string]known{}},
-		liveness: &liveness{list: l, allocator: a, told: t, cycle: o.cycle, offers: o.offers, removal: o.removal,
-			silence: map[string]time.Duration{"agents": o.agents, "frameworks": o.framework}, silent: map[string]time.Time{}}}
+	a.states = &states{o: o, list: l, allocator: a, fail: fail}
+	g := &gateway{o: o, list: l, allocator: a, journal: j, told: t, metrics: m, policy: policyOf(page), asker: &asker{allocator: a},
+		liveness: &liveness{list: l, allocator: a, told: t, cycle: o.cycle, offers: o.offerLimit,
+			limits: map[string]time.Duration{"agents": o.agentLimit, "removals": o.removal, "frameworks": o.frameworkLimit}}}
 	m.of(g)
 	return g
 }
 
-// begin starts what runs beside the calls.
-func (g *gateway) begin(ctx context.Context, o options, ends chan<- error) {
-	go g.list.clock.run(ctx)
-	for n := 0; n < 2; n++ {
-		go g.list.commit(ctx)
-	}
-	go func() {
-		if err := g.allocator.run(ctx); err != nil {
-			ends <- err
-		}
-	}()
-	go g.allocator.states.run(ctx)
-	go g.liveness.run(ctx)
-	if o.cycle > 0 {
-		go g.liveness.cycles(ctx)
-	}
-	go g.reloadCallers(ctx, o.tokens)
-}
-
-// reloadCallers reads the tokens anew at a hangup: a file that is not right changes nothing. Each second it has the journal synced.
-func (g *gateway) reloadCallers(ctx context.Context, path string) {
+// lookAfter reads the tokens anew at a hangup, where a file that is not right changes nothing, and marks each second what was answered.
+func (g *gateway) lookAfter(ctx context.Context) {
 	hangups := make(chan os.Signal, 1)
 	signal.Notify(hangups, syscall.SIGHUP)
 	for ctx.Err() == nil {
 		select {
 		case <-hangups:
-			if callers, err := readCallers(path); err != nil {
+			callers, err := readCallers(g.o.tokens)
+			if err != nil {
 				log.Printf("the old ones stay: %v", err)
-			} else {
-				g.callers.Store(callers)
-				log.Printf("%d tokens", len(callers))
+				continue
 			}
+			old := g.callers.Swap(callers).([]*caller)
+			if len(old) > 0 {
+				close(old[0].gone)
+			}
+			log.Printf("%d tokens", len(callers))
 		case <-time.After(time.Second):
-			if err := g.journal.sync(); err != nil {
+			if err := g.journal.mark(); err != nil {
 				log.Print(err)
 			}
 		}

@@ -6,10 +6,12 @@ import (
 	"crypto/tls"
 	"errors"
 	"fmt"
+	"log"
 	"net/url"
 	"os"
 	"path/filepath"
 	"strings"
+	"sync"
 	"time"
 
 	"go.etcd.io/etcd/clientv3"
@@ -19,58 +21,111 @@ import (
 	"go.uber.org/zap"
 )
 
-// memberOptions say which etcd keeps the list.
-type memberOptions struct {
-	name, members, listen, urls, cert, key, ca string
-	joins                                      bool
+// etcd has a client for each member, of whom the first is asked until it does not answer: one client of all would go on to ask one that
+// hangs, each third time, for as long as its connection stands.
+type etcd struct {
+	mu      sync.Mutex
+	clients []*clientv3.Client
+	left    chan struct{} // closed where the first is left
 }
 
-func (o memberOptions) alone() bool { return o.urls == "" && o.members == "" }
-
-func (o memberOptions) security() transport.TLSInfo {
-	return transport.TLSInfo{CertFile: o.cert, KeyFile: o.key, TrustedCAFile: o.ca, ClientCertAuth: o.ca != ""}
+func (e *etcd) client() *clientv3.Client {
+	e.mu.Lock()
+	defer e.mu.Unlock()
+	return e.clients[0]
 }
 
-// open gives a client of the list's etcd, and what closes both.
-func (o memberOptions) open(ctx context.Context, data string) (*clientv3.Client, func(), error) {
-	if o.urls == "" {
-		return o.embedded(ctx, data)
+// ask gives the member to ask, and a context that ends where that is left.
+func (e *etcd) ask(ctx context.Context, patience time.Duration) (*clientv3.Client, context.Context, context.CancelFunc) {
+	e.mu.Lock()
+	client, left := e.clients[0], e.left
+	e.mu.Unlock()
+	ctx, cancel := context.WithTimeout(ctx, patience)
+	go func() {
+		select {
+		case <-left:
+			cancel()
+		case <-ctx.Done():
+		}
+	}()
+	return client, ctx, cancel
+}
+
+// leave goes on to the next member.
+func (e *etcd) leave(why error) {
+	e.mu.Lock()
+	defer e.mu.Unlock()
+	if len(e.clients) > 1 {
+		log.Printf("leaving the etcd member %v: %v", e.clients[0].Endpoints(), why)
+		e.clients = append(e.clients[1:], e.clients[0])
+		close(e.left)
+		e.left = make(chan struct{})
+	}
+}
+
+// watch leaves a member that does not tell what it can tell alone, without a leader.
+func (e *etcd) watch(ctx context.Context) {
+	for ctx.Err() == nil {
+		client, asked, cancel := e.ask(ctx, 500*time.Millisecond)
+		if _, err := client.Get(asked, "/", clientv3.WithSerializable()); err != nil && ctx.Err() == nil {
+			e.leave(err)
+		}
+		cancel()
+		time.Sleep(100 * time.Millisecond)
+	}
+}
+
+func (e *etcd) close() {
+	for _, client := range e.clients {
+		client.Close()
+	}
+}
+
+// alone is whether no other gateway can hold the list.
+func (o *options) alone() bool { return o.etcd == "" && o.members == "" }
+
+func (o *options) security() transport.TLSInfo {
+	return transport.TLSInfo{CertFile: o.peerCert, KeyFile: o.peerKey, TrustedCAFile: o.peerCA, ClientCertAuth: o.peerCA != ""}
+}
+
+// open gives the list's etcd, and what closes it.
+func (o *options) open(ctx context.Context) (*etcd, func(), error) {
+	if o.etcd == "" {
+		return o.embedded(ctx)
 	}
 	var security *tls.Config
-	if o.cert != "" || o.ca != "" {
+	if o.peerCert != "" || o.peerCA != "" {
 		var err error
 		if security, err = o.security().ClientConfig(); err != nil {
 			return nil, nil, fmt.Errorf("etcd's certificates: %w", err)
 		}
 	}
-	client, err := clientv3.New(clientv3.Config{
-		Endpoints: strings.Split(o.urls, ","), TLS: security, LogConfig: quietly(),
-		DialTimeout: 2 * time.Second, DialKeepAliveTime: 2 * time.Second, DialKeepAliveTimeout: 2 * time.Second,
-		MaxCallSendMsgSize: 64 << 20,
-	})
-	if err != nil {
-		return nil, nil, fmt.Errorf("etcd at %s: %w", o.urls, err)
+	quiet := zap.NewProductionConfig()
+	quiet.Level = zap.NewAtomicLevelAt(zap.ErrorLevel)
+	e := &etcd{left: make(chan struct{})}
+	for _, url := range strings.Split(o.etcd, ",") {
+		client, err := clientv3.New(clientv3.Config{Endpoints: []string{url}, TLS: security, LogConfig: &quiet, DialTimeout: 2 * time.Second, MaxCallSendMsgSize: 64 << 20})
+		if err != nil {
+			e.close()
+			return nil, nil, fmt.Errorf("etcd at %s: %w", url, err)
+		}
+		e.clients = append(e.clients, client)
 	}
-	return client, func() { client.Close() }, nil
-}
-
-func quietly() *zap.Config {
-	config := zap.NewProductionConfig()
-	config.Level = zap.NewAtomicLevelAt(zap.ErrorLevel)
-	return &config
+	go e.watch(ctx)
+	return e, e.close, nil
 }
 
 // embedded starts a member in this process. Alone it listens on no port: its one socket is in the data folder, for `etcdctl`.
-func (o memberOptions) embedded(ctx context.Context, data string) (*clientv3.Client, func(), error) {
+func (o *options) embedded(ctx context.Context) (*etcd, func(), error) {
 	config := embed.NewConfig()
-	config.Name, config.Dir = o.name, filepath.Join(data, "etcd")
-	config.Logger, config.LogLevel, config.LogOutputs = "zap", "error", []string{filepath.Join(data, "etcd.log")}
-	config.MaxTxnOps, config.MaxRequestBytes, config.QuotaBackendBytes = 8192, 10<<20, 8<<30
+	config.Name, config.Dir = o.name, filepath.Join(o.data, "etcd")
+	config.Logger, config.LogLevel, config.LogOutputs = "zap", "error", []string{filepath.Join(o.data, "etcd.log")}
+	config.MaxRequestBytes, config.QuotaBackendBytes = 10<<20, 8<<30
 	config.PreVote, config.EnableGRPCGateway = true, false
 	config.AutoCompactionMode, config.AutoCompactionRetention = embed.CompactorModePeriodic, "1h"
 	config.LPUrls, config.LCUrls = nil, nil
 	config.InitialCluster = config.InitialClusterFromName(o.name)
-	if socket := filepath.Join(data, "etcd.sock"); len(socket) < 100 {
+	if socket := filepath.Join(o.data, "etcd.sock"); len(socket) < 100 {
 		os.Remove(socket)
 		config.LCUrls = []url.URL{{Scheme: "unix", Path: socket}}
 	}
@@ -85,23 +140,24 @@ func (o memberOptions) embedded(ctx context.Context, data string) (*clientv3.Cli
 	}
 	select {
 	case <-server.Server.ReadyNotify():
-	case err := <-server.Err():
-		return nil, nil, fmt.Errorf("the etcd member in this process: %w", err)
+	case err = <-server.Err():
 	case <-ctx.Done():
-		server.Close()
-		return nil, nil, ctx.Err()
+		err = ctx.Err()
 	}
-	client := v3client.New(server.Server)
-	return client, func() { client.Close(); server.Close() }, nil
+	if err != nil {
+		server.Close()
+		return nil, nil, fmt.Errorf("the etcd member in this process: %w", err)
+	}
+	e := &etcd{clients: []*clientv3.Client{v3client.New(server.Server)}, left: make(chan struct{})}
+	return e, func() { e.close(); server.Close() }, nil
 }
 
 // join makes the member one of a cluster.
-func (o memberOptions) join(config *embed.Config) error {
-	config.InitialCluster, config.PeerTLSInfo = o.members, o.security()
+func (o *options) join(config *embed.Config) error {
+	config.InitialCluster, config.PeerTLSInfo, config.APUrls = o.members, o.security(), nil
 	if o.joins {
 		config.ClusterState = embed.ClusterStateFlagExisting
 	}
-	config.APUrls = nil
 	for _, member := range strings.Split(o.members, ",") {
 		name, text, _ := strings.Cut(member, "=")
 		address, err := url.Parse(text)
@@ -116,12 +172,5 @@ func (o memberOptions) join(config *embed.Config) error {
 		return errors.New("-members does not name this gateway's -name")
 	}
 	config.LPUrls = config.APUrls
-	if o.listen != "" {
-		address, err := url.Parse(o.listen)
-		if err != nil {
-			return fmt.Errorf("-member-listen: %w", err)
-		}
-		config.LPUrls = []url.URL{*address}
-	}
 	return nil
 }

@@ -11,6 +11,7 @@ import (
 	"time"
 
 	"github.com/prometheus/client_golang/prometheus"
+	"github.com/prometheus/client_golang/prometheus/promauto"
 	"github.com/prometheus/client_golang/prometheus/promhttp"
 )
 
@@ -22,54 +23,54 @@ type metrics struct {
 }
 
 func newMetrics() *metrics {
-	m := &metrics{registry: prometheus.NewRegistry()}
+	registry := prometheus.NewRegistry()
+	make := promauto.With(registry)
 	count := func(name, help string, labels ...string) *prometheus.CounterVec {
-		c := prometheus.NewCounterVec(prometheus.CounterOpts{Name: name, Help: help}, labels)
-		m.registry.MustRegister(c)
-		return c
+		return make.NewCounterVec(prometheus.CounterOpts{Name: name, Help: help}, labels)
 	}
-	gauges := func(name, help string, labels ...string) *prometheus.GaugeVec {
-		g := prometheus.NewGaugeVec(prometheus.GaugeOpts{Name: name, Help: help}, labels)
-		m.registry.MustRegister(g)
-		return g
+	gauge := func(name, help, label string) *prometheus.GaugeVec {
+		return make.NewGaugeVec(prometheus.GaugeOpts{Name: name, Help: help}, []string{label})
 	}
 	times := func(name, help string) prometheus.Histogram {
-		h := prometheus.NewHistogram(prometheus.HistogramOpts{Name: name, Help: help, Buckets: prometheus.ExponentialBuckets(0.0005, 2, 16)})
-		m.registry.MustRegister(h)
-		return h
+		return make.NewHistogram(prometheus.HistogramOpts{Name: name, Help: help, Buckets: prometheus.ExponentialBuckets(0.0005, 2, 16)})
 	}
-	m.events = count("drf_events_total", "Event lines that were answered, by event and answer: ok, or the name of the refusal.", "event", "answer")
-	m.made = count("drf_offers_made_total", "Offers made.", "framework")
-	m.accepted = count("drf_offers_accepted_total", "Offers accepted.", "framework")
-	m.declined = count("drf_offers_declined_total", "Offers declined.", "framework")
-	m.rescinded = count("drf_offers_rescinded_total", "Offers that ended otherwise, by the event that ended them.", "framework", "event")
-	m.refused = count("drf_requests_refused_total", "Requests that were refused, by status.", "status")
-	m.cycles = times("drf_cycle_duration_seconds", "From the feeding of a cycle to its reply.")
-	m.answers = times("drf_answer_duration_seconds", "From a batch to its replies.")
-	m.rows = gauges("drf_table_rows", "Rows that stand.", "table")
-	m.limits = gauges("drf_table_rows_limit", "Rows that a table can have.", "table")
-	m.shares = gauges("drf_role_dominant_share_ratio", "The dominant share of a role.", "role")
-	m.weighted = gauges("drf_role_weighted_share_ratio", "The dominant share of a role, divided by its weight.", "role")
-	return m
+	return &metrics{
+		registry:  registry,
+		events:    count("drf_events_total", "Event lines that were answered, by event and answer: ok, or the name of the refusal.", "event", "answer"),
+		made:      count("drf_offers_made_total", "Offers made.", "framework"),
+		accepted:  count("drf_offers_accepted_total", "Offers accepted.", "framework"),
+		declined:  count("drf_offers_declined_total", "Offers declined.", "framework"),
+		rescinded: count("drf_offers_rescinded_total", "Offers that ended otherwise, by the event that ended them.", "framework", "event"),
+		refused:   count("drf_requests_refused_total", "Requests that were refused, by status.", "status"),
+		cycles:    times("drf_cycle_duration_seconds", "From the feeding of a cycle to its reply."),
+		answers:   times("drf_answer_duration_seconds", "From a batch to its replies."),
+		rows:      gauge("drf_table_rows", "Rows that stand.", "table"),
+		limits:    gauge("drf_table_rows_limit", "Rows that a table can have.", "table"),
+		shares:    gauge("drf_role_dominant_share_ratio", "The dominant share of a role.", "role"),
+		weighted:  gauge("drf_role_weighted_share_ratio", "The dominant share of a role, divided by its weight.", "role"),
+	}
 }
 
 // of adds figures that are looked up when they are asked for.
 func (m *metrics) of(g *gateway) {
-	of := func(name, help string, figure func() float64) {
-		m.registry.MustRegister(prometheus.NewGaugeFunc(prometheus.GaugeOpts{Name: name, Help: help}, figure))
+	of := func(name, help string, figure func(s standing) float64) {
+		promauto.With(m.registry).NewGaugeFunc(prometheus.GaugeOpts{Name: name, Help: help}, func() float64 { return figure(g.look()) })
 	}
 	isTrue := map[bool]float64{true: 1}
-	of("drf_ready", "Whether this gateway is up to date.", func() float64 { return isTrue[g.allocator.ready() == nil] })
-	of("drf_clock_agrees", "Whether this gateway's clock is near the service's.", func() float64 { return isTrue[g.list.clock.told() == ""] })
-	of("drf_messages", "Messages in the list so far.", func() float64 { return float64(g.allocator.reached().Messages) })
-	of("drf_journal_bytes", "Bytes of the journal so far.", func() float64 { return float64(g.allocator.reached().Bytes) })
-	of("drf_offers_standing", "Offers that stand.", func() float64 { return float64(g.look().Offers) })
-	of("drf_allocator_restarts", "How often the allocator was started again.", func() float64 { return float64(g.look().Allocator.Restarts) })
-	of("drf_time_seconds", "The allocator's time.", func() float64 { return float64(g.look().At) / 1000 })
+	of("drf_ready", "Whether this gateway is up to date.", func(s standing) float64 { return isTrue[s.Ready] })
+	of("drf_clock_agrees", "Whether this gateway's clock is near the service's.", func(s standing) float64 { return isTrue[s.ClockFault == ""] })
+	of("drf_messages", "Messages in the list so far.", func(s standing) float64 { return float64(s.Messages) })
+	of("drf_journal_bytes", "Bytes of the journal so far.", func(s standing) float64 { return float64(s.Bytes) })
+	of("drf_offers_standing", "Offers that stand.", func(s standing) float64 { return float64(s.Offers) })
+	of("drf_allocator_restarts", "How often the allocator was started again.", func(s standing) float64 { return float64(s.Allocator.Restarts) })
+	of("drf_time_seconds", "The allocator's time.", func(s standing) float64 { return float64(s.At) / 1000 })
 }
 
 // answered counts a line that was answered.
 func (m *metrics) answered(kind, answer string, f *fed) {
+	if _, is := rules[kind]; !is {
+		kind = "other"
+	}
 	m.events.WithLabelValues(kind, answer).Inc()
 	if kind == "cycle" {
 		m.cycles.Observe(time.Since(f.at).Seconds())
@@ -96,16 +97,15 @@ func (m *metrics) forget(framework string) {
 }
 
 func (g *gateway) readMetrics(w http.ResponseWriter, r *http.Request, by *caller) error {
-	m := g.metrics
 	ctx, cancel := context.WithTimeout(r.Context(), 8*time.Second)
 	defer cancel()
-	if report, _, err := g.asker.ask(ctx, "?report", 5*time.Second); err == nil {
-		m.setShares(report)
+	if report, _, err := g.asker.ask(ctx, "report"); err == nil {
+		g.metrics.setShares(report)
 	}
-	if rows, _, err := g.asker.ask(ctx, "?state", 10*time.Second); err == nil {
-		m.setTables(rows)
+	if rows, _, err := g.asker.ask(ctx, "state"); err == nil {
+		g.metrics.setTables(rows)
 	}
-	promhttp.HandlerFor(prometheus.Gatherers{m.registry, prometheus.DefaultGatherer}, promhttp.HandlerOpts{}).ServeHTTP(w, r)
+	promhttp.HandlerFor(prometheus.Gatherers{g.metrics.registry, prometheus.DefaultGatherer}, promhttp.HandlerOpts{}).ServeHTTP(w, r)
 	return nil
 }
 
@@ -114,9 +114,7 @@ func (m *metrics) setShares(report []byte) {
 	var told struct {
 		Nodes []struct{ Path, Share, Weighted string }
 	}
-	if json.Unmarshal(report, &told) != nil {
-		return
-	}
+	json.Unmarshal(report, &told)
 	m.shares.Reset()
 	m.weighted.Reset()
 	for _, node := range told.Nodes {
@@ -135,19 +133,18 @@ func ratio(text string) float64 {
 
 // setTables counts the rows of a state.
 func (m *metrics) setTables(text []byte) {
-	counts := map[string]float64{}
+	counts := map[string]int{}
 	for _, line := range bytes.Split(text, []byte("\n")) {
 		var row struct {
 			Row     string
 			Clients []json.RawMessage
 		}
-		if json.Unmarshal(line, &row) == nil {
-			counts[row.Row]++
-			counts["client"] += float64(len(row.Clients))
-		}
+		json.Unmarshal(line, &row)
+		counts[row.Row]++
+		counts["client"] += len(row.Clients)
 	}
 	for table, most := range map[string]float64{"agent": 4096, "framework": 1024, "client": 4096, "weight": 4096, "limit": 4096, "filter": 65536, "offer": 0, "task": 0} {
-		m.rows.WithLabelValues(table + "s").Set(counts[table])
+		m.rows.WithLabelValues(table + "s").Set(float64(counts[table]))
 		if most > 0 {
 			m.limits.WithLabelValues(table + "s").Set(most)
 		}

@@ -3,12 +3,12 @@ package main
 
 import (
 	"errors"
-	"fmt"
-	"os"
+	"io"
 	"path/filepath"
 	"strings"
 	"testing"
-	"time"
+
+	"golang.org/x/sys/unix"
 )
 
 func TestRightsOfLines(t *testing.T) {
@@ -57,8 +57,8 @@ func TestEverythingIsSentAsItCame(t *testing.T) {
 			t.Errorf("%q: %q %v %v", line, judged, wants, err)
 		}
 	}
-	b := batch{lines: [][]byte{[]byte(` { "event":"cycle"}`), []byte("x")}, timed: []bool{true, false}}
-	if text := string(b.text(12)); text != "\n {\"at\":12, \"event\":\"cycle\"}\nx" {
+	b := batch{lines: [][]byte{[]byte(` { "event":"cycle"}`), []byte("x"), []byte("?report")}, timed: []bool{true, false, false}}
+	if text := string(b.text(12)); text != "\n {\"at\":12, \"event\":\"cycle\"}\nx\n ?report" { // which is no question
 		t.Errorf("%q", text)
 	}
 }
@@ -99,17 +99,8 @@ func TestTokens(t *testing.T) {
 	}
 }
 
-func TestKindsOfLines(t *testing.T) {
-	for line, want := range map[string]string{`{"event":"cycle"}`: "cycle", `{"event" : "cycle"}`: "cycle", `{"x":{"event":"a"},"event": "cycle"}`: "cycle", `{"event":"a","event":"cycle"}`: "cycle",
-		`{"\u0065vent":"cycle"}`: "cycle", `{"x":"\"event\":\"a\"","event":"cycle"}`: "cycle", `{"event":"<b>"}`: "other", `{"event":7}`: "other", `"event":"`: "other", "": "other"} {
-		if kind := kindOf([]byte(line)); kind != want {
-			t.Errorf("%s: %s", line, kind)
-		}
-	}
-}
-
 func TestFlagsOutOfBounds(t *testing.T) {
-	for _, bad := range []string{"x", "-cert a", "-clock-bound 1s", "-cycle 1ms", "-together 0", "-save-every 0", "-epoch-every 4294967296", "-etcd a -members b"} {
+	for _, bad := range []string{"x", "-cert a", "-clock-bound 1s", "-cycle 1ms", "-window -1s", "-save-every 0", "-epoch-every 4294967296", "-etcd a -members b"} {
 		if _, err := readOptions(strings.Fields(bad)); err == nil {
 			t.Error(bad)
 		}
@@ -120,9 +111,8 @@ func TestFlagsOutOfBounds(t *testing.T) {
 }
 
 func TestMomentsOfKeys(t *testing.T) {
-	at, is := madeAt(newKey())
-	if away := time.Since(at); !is || away < 0 || away > time.Minute {
-		t.Error(at, is)
+	if _, is := madeAt(newKey()); is {
+		t.Error("a key without a moment has one")
 	}
 	if at, is := madeAt("01890a5d-ac96-774b-bcce-b302099a8057"); !is || at.UnixMilli() != 0x01890a5dac96 {
 		t.Error(at, is)
@@ -143,10 +133,10 @@ func TestPolicyNamesWhatThePageRuns(t *testing.T) {
 	}
 }
 
-func opened(t *testing.T, dir string) *journal {
+func opened(t *testing.T, dir string, from state) *journal {
 	j, err := openJournal(dir)
 	if err == nil {
-		err = j.begin(0, 0)
+		err = j.begin(from)
 	}
 	if err != nil {
 		t.Fatal(err)
@@ -156,30 +146,30 @@ func opened(t *testing.T, dir string) *journal {
 
 func TestJournalComesAgain(t *testing.T) {
 	dir := t.TempDir()
-	first := opened(t, dir)
-	for _, step := range []error{first.write([]byte("a\nA\n")), first.write([]byte("b\nB\n")), first.cut(1), first.write([]byte("c\nC\n")), first.sync(), first.write([]byte("d\nD\n"))} {
+	first := opened(t, dir, state{})
+	for _, step := range []error{first.write([]byte("a\nA\n")), first.write([]byte("b\nB\n")), first.whole(), first.mark(), first.write([]byte("c\nC\n"))} {
 		if step != nil {
 			t.Fatal(step)
 		}
 	}
-	text := make([]byte, 8)
-	if n, err := first.ReadAt(text, 6); n != 8 || err != nil || string(text) != "B\nc\nC\nd\n" {
+	text := make([]byte, 6)
+	if n, err := first.ReadAt(text, 6); n != 6 || err != nil || string(text) != "B\nc\nC\n" {
 		t.Error(n, err, string(text))
 	}
+	later := state{reach: reach{Bytes: 4}, Number: 1, Sum: opened(t, t.TempDir(), state{}).sumSoFar()} // a sum of other bytes
 	for name, c := range map[string]struct {
-		blocks []string // the second segment's
-		want   string   // of the error
+		from   state
+		blocks []string
+		want   string // of the error
 	}{
-		"the same":            {[]string{"c\nC\nd\nD\n"}, ""},
-		"what was torn":       {[]string{"c\nC\n", "e\nE\n"}, ""},
-		"less than was known": {[]string{"c\n"}, "are lost"},
-		"other replies":       {[]string{"c\nX\n"}, "differs after byte 2"},
+		"the same":            {state{}, []string{"a\nA\nb\nB\nc\nC\n"}, ""},
+		"what was not marked": {state{}, []string{"a\nA\n", "b\nB\ne\nE\n"}, ""},
+		"less than was known": {state{}, []string{"a\nA\n"}, "are lost"},
+		"other replies":       {state{}, []string{"a\nA\nb", "\nX\n"}, "first 8 bytes differ"},
+		"another state":       {later, []string{"b\nB\n"}, "first 8 bytes differ"},
 	} {
-		again := opened(t, dir)
-		err := again.write([]byte("a\nA\nb\nB\n"))
-		if err == nil {
-			err = again.cut(1)
-		}
+		again := opened(t, dir, c.from)
+		var err error
 		for _, block := range c.blocks {
 			if err == nil {
 				err = again.write([]byte(block))
@@ -192,29 +182,40 @@ func TestJournalComesAgain(t *testing.T) {
 			t.Errorf("%s: %v", name, err)
 		}
 	}
-	if text, err := os.ReadFile(first.path(1)); err != nil || !strings.HasPrefix(string(text), "c\nC\n") {
-		t.Error(string(text), err)
-	}
 }
 
 func TestJournalIsKeptFromAState(t *testing.T) {
-	j := opened(t, t.TempDir())
+	j := opened(t, t.TempDir(), state{})
+	block := []byte(strings.Repeat("x", 1<<16))
+	sums := []state{}
 	for n := 1; n < 4; n++ {
-		if err := j.write([]byte(fmt.Sprintf("%d\n%d\n", n, n))); err != nil {
+		if err := j.write(block); err != nil {
 			t.Fatal(err)
 		}
-		if err := j.cut(n); err != nil {
-			t.Fatal(err)
-		}
+		sums = append(sums, state{reach: reach{Bytes: int64(n) << 16}, Number: n, Sum: j.sumSoFar()})
 	}
-	j.prune(2)
-	if start, end, _ := j.bounds(); start != 8 || end != 12 {
+	if err := j.prune(2 << 16); err != nil && !errors.Is(err, unix.EOPNOTSUPP) {
+		t.Fatal(err)
+	}
+	start, end, sum := j.bounds()
+	if start != 2<<16 || end != 3<<16 {
 		t.Error(start, end)
 	}
 	if _, err := j.ReadAt(make([]byte, 4), 4); err == nil {
 		t.Error("what was pruned was read")
 	}
-	if left, _ := filepath.Glob(filepath.Join(j.dir, "journal.*")); len(left) != 2 {
-		t.Error(left)
+	text := make([]byte, 1<<16)
+	if n, err := j.ReadAt(text, 2<<16); n != 1<<16 || err != nil || string(text) != string(block) {
+		t.Error("what is kept was not read", n, err)
+	}
+	if n, err := j.ReadAt(make([]byte, 4), 3<<16-2); n != 2 || err != io.ErrUnexpectedEOF {
+		t.Error("an early end was no error", n, err)
+	}
+	other := opened(t, t.TempDir(), sums[1])
+	if err := other.write(block); err != nil {
+		t.Fatal(err)
+	}
+	if _, _, theirs := other.bounds(); theirs != sum || theirs != digest([]byte(strings.Repeat(string(block), 3))) {
+		t.Error("a journal from a state has another digest", theirs, sum)
 	}
 }

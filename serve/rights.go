@@ -17,9 +17,10 @@ import (
 
 // caller is who has a token. Its rights are words: admin, operate, clock, read, or framework:NAME, role:ROLE, agent:NAME, agent:FRONT*.
 type caller struct {
-	Name   string   `json:"name"`
-	Sha256 string   `json:"sha256"`
-	Rights []string `json:"rights"`
+	Name   string        `json:"name"`
+	Sha256 string        `json:"sha256"`
+	Rights []string      `json:"rights"`
+	gone   chan struct{} // closed where tokens are read anew: streams end, and who still may comes again
 }
 
 // ourNames are those under which gateways put messages of their own.
@@ -30,26 +31,32 @@ var (
 	isRight = regexp.MustCompile(`^(admin|operate|clock|read|framework:[A-Za-z0-9_.-]{1,64}|agent:[A-Za-z0-9_.-]{0,64}\*?|role:[!-~]{1,64})$`)
 )
 
-func readCallers(path string) ([]caller, error) {
+func readCallers(path string) ([]*caller, error) {
 	text, err := os.ReadFile(path)
 	if err != nil {
 		return nil, fmt.Errorf("tokens: %w", err)
 	}
-	var callers []caller
+	return callersIn(path, text)
+}
+
+func callersIn(path string, text []byte) (callers []*caller, err error) {
 	reader := json.NewDecoder(bytes.NewReader(text))
 	reader.DisallowUnknownFields()
 	if err := reader.Decode(&callers); err != nil {
 		return nil, fmt.Errorf("tokens: %s: %w", path, err)
 	}
-	names := map[string]bool{}
+	names, gone := map[string]bool{}, make(chan struct{})
 	for _, c := range callers {
+		if c == nil {
+			return nil, fmt.Errorf("tokens: %s: null is no caller", path)
+		}
 		if sum, err := hex.DecodeString(c.Sha256); err != nil || len(sum) != sha256.Size {
 			return nil, fmt.Errorf("tokens: %s: %q has no SHA-256", path, c.Name)
 		}
 		if !isName.MatchString(c.Name) || ourNames[c.Name] || names[c.Name] {
 			return nil, fmt.Errorf("tokens: %s: %q is no name, is kept for gateways, or is there twice", path, c.Name)
 		}
-		names[c.Name] = true
+		names[c.Name], c.gone = true, gone
 		for _, right := range c.Rights {
 			if !isRight.MatchString(right) {
 				return nil, fmt.Errorf("tokens: %s: %q has the right %q, which is none", path, c.Name, right)
@@ -70,28 +77,23 @@ func addCaller(path, name string, rights []string) (string, error) {
 		return "", fmt.Errorf("tokens: %w", err)
 	}
 	token := hex.EncodeToString(secret)
-	callers = append(callers, caller{name, digest([]byte(token)), rights})
+	callers = append(callers, &caller{Name: name, Sha256: digest([]byte(token)), Rights: rights})
 	text, err := json.MarshalIndent(callers, "", "  ")
-	if err != nil {
-		return "", fmt.Errorf("tokens: %w", err)
+	if err == nil {
+		_, err = callersIn(path, text)
 	}
-	if err := writeFile(path+".new", append(text, '\n')); err != nil {
-		return "", err
+	if err == nil {
+		err = writeFile(path, append(text, '\n'))
 	}
-	if _, err := readCallers(path + ".new"); err != nil {
-		os.Remove(path + ".new")
-		return "", err
-	}
-	return token, os.Rename(path+".new", path)
+	return token, err
 }
 
 // find looks at every token, so that how long it takes does not depend on which is meant.
-func find(callers []caller, token string) *caller {
-	var found *caller
+func find(callers []*caller, token string) (found *caller) {
 	sum := []byte(digest([]byte(token)))
-	for number := range callers {
-		if subtle.ConstantTimeCompare(sum, []byte(strings.ToLower(callers[number].Sha256))) == 1 {
-			found = &callers[number]
+	for _, c := range callers {
+		if subtle.ConstantTimeCompare(sum, []byte(strings.ToLower(c.Sha256))) == 1 {
+			found = c
 		}
 	}
 	return found
@@ -111,6 +113,18 @@ func (c *caller) has(right, name string) bool {
 		}
 	}
 	return false
+}
+
+// rule says who may send an event: who has the right to the agent or framework that it names, or another right.
+type rule struct{ named, right string }
+
+var rules = map[string]rule{
+	"add_agent": {"agent", "operate"}, "set_agent": {"agent", "operate"}, "remove_agent": {"agent", "operate"},
+	"activate_agent": {"agent", "operate"}, "deactivate_agent": {"agent", "operate"},
+	"add_framework": {"framework", "admin"}, "remove_framework": {"framework", "operate"}, "suppress": {"framework", "admin"}, "revive": {"framework", "admin"},
+	"accept": {"framework", "admin"}, "decline": {"framework", "admin"}, "finish": {"framework", "admin"},
+	"rescind": {"", "operate"}, "reserve": {"", "operate"}, "unreserve": {"", "operate"}, "set_weight": {"", "operate"}, "set_limit": {"", "operate"},
+	"cycle": {"", "clock"}, "report": {"", "admin"},
 }
 
 const longestLine = 65536
@@ -136,40 +150,32 @@ func word(object map[string]json.RawMessage, key string) string {
 // judge gives a line as the allocator is to read it, and whether it wants the moment; or why the caller may not send it. Who may send
 // everything sends lines as they are, broken ones too.
 func (c *caller) judge(line []byte) (judged []byte, timed bool, err error) {
-	object, all := fields(line), c.has("admin", "")
+	object := fields(line)
 	kind := word(object, "event")
 	_, given := object["at"]
 	timed = !given && (kind == "cycle" || kind == "accept" || kind == "decline")
-	if all {
+	switch {
+	case c.has("admin", ""):
 		return line, timed, nil
-	}
-	if object == nil {
+	case object == nil:
 		return nil, false, errors.New("it is no JSON object")
-	}
-	if !c.mayDo(kind, object) {
+	case !c.mayDo(kind, object):
 		return nil, false, fmt.Errorf("%s may not send this %q", c.Name, kind)
-	}
-	if given && !c.has("clock", "") {
+	case given && !c.has("clock", ""):
 		return nil, false, errors.New("`at` is the service's to say")
 	}
-	if judged, err = json.Marshal(object); err != nil {
-		return nil, false, err
-	}
-	return judged, timed, nil
+	judged, err = json.Marshal(object)
+	return judged, timed, err
 }
 
 // mayDo judges an event, and writes what it looked at into the object anew.
 func (c *caller) mayDo(kind string, object map[string]json.RawMessage) bool {
-	agent, framework := word(object, "agent"), word(object, "framework")
 	for _, key := range []string{"event", "agent", "framework"} {
 		if object[key] != nil {
 			object[key], _ = json.Marshal(word(object, key))
 		}
 	}
-	switch kind {
-	case "add_agent", "set_agent", "remove_agent", "activate_agent", "deactivate_agent":
-		return c.has("agent", agent) || c.has("operate", "")
-	case "add_framework":
+	if kind == "add_framework" {
 		var roles []string
 		if json.Unmarshal(object["roles"], &roles) != nil {
 			return false
@@ -180,15 +186,7 @@ func (c *caller) mayDo(kind string, object map[string]json.RawMessage) bool {
 				return false
 			}
 		}
-		return c.has("framework", framework)
-	case "accept", "decline", "finish", "suppress", "revive":
-		return c.has("framework", framework)
-	case "remove_framework":
-		return c.has("framework", framework) || c.has("operate", "")
-	case "rescind", "reserve", "unreserve", "set_weight", "set_limit":
-		return c.has("operate", "")
-	case "cycle":
-		return c.has("clock", "")
 	}
-	return false
+	rule, is := rules[kind]
+	return is && (rule.named != "" && c.has(rule.named, word(object, rule.named)) || c.has(rule.right, ""))
 }

@@ -5,7 +5,6 @@ import (
 	"bytes"
 	"encoding/json"
 	"sort"
-	"strings"
 	"sync"
 )
 
@@ -41,32 +40,42 @@ func (t *told) begin(from state, offers []offer) {
 			t.drop(l)
 		}
 	}
-	t.now = max(t.now, from.At)
+	t.pass(from.At)
 	for _, o := range offers {
 		o.made = from.At
 		t.offers[o.Offer] = o
 	}
 }
 
+func (t *told) pass(at int64) {
+	if at > t.now {
+		t.now = at
+	}
+}
+
 // learn takes a message and its replies.
-func (t *told) learn(number int64, m answered) {
+func (t *told) learn(number int64, f *fed) {
 	t.mu.Lock()
 	defer t.mu.Unlock()
 	isNew := number > t.reached
-	t.now = max(t.now, m.At)
-	for k, line := range m.lines {
-		reply := bytes.TrimSuffix(m.replies[k], []byte("\n"))
-		kind, answer := kindOf(line), answerOf(reply)
+	t.pass(f.At)
+	for k, line := range f.lines {
+		reply, object := bytes.TrimSuffix(f.replies[k], []byte("\n")), fields(line)
+		kind, answer := word(object, "event"), answerOf(reply)
 		if isNew {
-			t.metrics.answered(kind, answer, m.fed)
-			t.tellReply(number, line, reply)
+			t.metrics.answered(kind, answer, f)
+			if len(t.listeners) > 0 {
+				t.tell("", number, "reply", map[string]interface{}{"message": number, "line": string(line), "reply": json.RawMessage(reply)})
+			}
 		}
 		t.idle = kind == "cycle" && string(reply) == `{"offers":[]}`
 		if answer == "ok" {
-			t.follow(kind, line, reply, m.At, isNew)
+			t.follow(kind, object, reply, f.At, isNew)
 		}
 	}
-	t.reached = max(t.reached, number)
+	if isNew {
+		t.reached = number
+	}
 }
 
 // answerOf is the name of a refusal, or ok.
@@ -79,50 +88,43 @@ func answerOf(reply []byte) string {
 }
 
 // follow keeps the offers that stand. The lock is held.
-func (t *told) follow(kind string, line, reply []byte, at int64, isNew bool) {
+func (t *told) follow(kind string, line map[string]json.RawMessage, reply []byte, at int64, isNew bool) {
 	switch kind {
 	case "cycle":
 		var made struct{ Offers []offer }
-		if json.Unmarshal(reply, &made) != nil {
-			return
-		}
+		json.Unmarshal(reply, &made)
 		for _, o := range made.Offers {
 			o.made = at
 			t.offers[o.Offer] = o
 			if isNew {
 				t.metrics.made.WithLabelValues(o.Framework).Inc()
-				t.tellOffer(o.Framework, "offer", o)
+				t.tell(o.Framework, 0, "offer", o)
 			}
 		}
 	case "accept", "decline", "rescind":
 		var number uint64
-		if json.Unmarshal(fields(line)["offer"], &number) == nil {
-			if o, stands := t.offers[number]; stands {
-				t.end(o, kind, isNew)
-			}
+		json.Unmarshal(line["offer"], &number)
+		if o, stands := t.offers[number]; stands {
+			t.end(kind, isNew, o)
 		}
 	case "remove_agent", "deactivate_agent":
-		name := word(fields(line), "agent")
-		t.endAll(kind, isNew, func(o offer) bool { return o.Agent == name })
+		name := word(line, "agent")
+		t.end(kind, isNew, t.sorted(func(o offer) bool { return o.Agent == name })...)
 	case "remove_framework":
-		name := word(fields(line), "framework")
-		t.endAll(kind, isNew, func(o offer) bool { return o.Framework == name })
+		name := word(line, "framework")
+		t.end(kind, isNew, t.sorted(func(o offer) bool { return o.Framework == name })...)
 		t.metrics.forget(name)
 	}
 }
 
-// end takes away an offer, and says so. The lock is held.
-func (t *told) end(o offer, why string, isNew bool) {
-	delete(t.offers, o.Offer)
-	if isNew {
-		t.metrics.ended(o.Framework, why)
-		t.tellOffer(o.Framework, "gone", map[string]interface{}{"offer": o.Offer, "why": why})
-	}
-}
-
-func (t *told) endAll(why string, isNew bool, ended func(offer) bool) {
-	for _, o := range t.sorted(ended) {
-		t.end(o, why, isNew)
+// end takes away offers, and says so. The lock is held.
+func (t *told) end(why string, isNew bool, ended ...offer) {
+	for _, o := range ended {
+		delete(t.offers, o.Offer)
+		if isNew {
+			t.metrics.ended(o.Framework, why)
+			t.tell(o.Framework, 0, "gone", map[string]interface{}{"offer": o.Offer, "why": why})
+		}
 	}
 }
 
@@ -142,8 +144,10 @@ func (t *told) sorted(chosen func(offer) bool) []offer {
 func (t *told) beginEpoch(number int) {
 	t.mu.Lock()
 	defer t.mu.Unlock()
-	t.endAll("epoch", number > t.toldEpoch, func(offer) bool { return true })
-	t.epoch, t.toldEpoch = number, int(max(int64(number), int64(t.toldEpoch)))
+	t.end("epoch", number > t.toldEpoch, t.sorted(func(offer) bool { return true })...)
+	if t.epoch = number; number > t.toldEpoch {
+		t.toldEpoch = number
+	}
 }
 
 // late gives the offers that were made before a moment, and the epoch that their numbers are of.
@@ -157,19 +161,4 @@ func (t *told) isIdle() bool {
 	t.mu.Lock()
 	defer t.mu.Unlock()
 	return t.idle
-}
-
-// kindOf is the name of a line's event. Most lines have it but once, in its shortest form, and need not be read for that.
-func kindOf(line []byte) string {
-	front, kind := []byte(`"event":"`), ""
-	if bytes.Count(line, front) == 1 && bytes.Count(line, front[:7]) == 1 {
-		name, _, _ := bytes.Cut(line[bytes.Index(line, front)+len(front):], []byte(`"`))
-		kind = string(name)
-	} else {
-		kind = word(fields(line), "event")
-	}
-	if kind == "" || len(kind) > 20 || strings.Trim(kind, "abcdefghijklmnopqrstuvwxyz_") != "" {
-		return "other"
-	}
-	return kind
 }

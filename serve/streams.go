@@ -4,7 +4,6 @@ package main
 import (
 	"encoding/json"
 	"fmt"
-	"net"
 	"net/http"
 	"time"
 )
@@ -17,20 +16,22 @@ type listener struct {
 
 // event is how a stream tells something. Text within is JSON, so it has no line breaks.
 func event(id int64, name string, what interface{}) []byte {
-	text, err := json.Marshal(what)
-	if err != nil {
-		return []byte(": what was to be told here could not be written\n\n")
-	}
+	text, _ := json.Marshal(what) // replies are JSON
 	if id == 0 {
 		return []byte(fmt.Sprintf("event: %s\ndata: %s\n\n", name, text))
 	}
 	return []byte(fmt.Sprintf("id: %d\nevent: %s\ndata: %s\n\n", id, name, text))
 }
 
-func (t *told) tell(framework string, text []byte) {
+// tell tells those who listen for a framework, or for all replies. The lock is held.
+func (t *told) tell(framework string, id int64, name string, what interface{}) {
+	text := []byte(nil)
 	for l := range t.listeners {
 		if l.framework != framework {
 			continue
+		}
+		if text == nil {
+			text = event(id, name, what)
 		}
 		select {
 		case l.out <- text:
@@ -41,45 +42,33 @@ func (t *told) tell(framework string, text []byte) {
 }
 
 func (t *told) drop(l *listener) {
-	delete(t.listeners, l)
-	close(l.out)
-}
-
-// tellReply tells a line and its reply. The lock is held.
-func (t *told) tellReply(number int64, line, reply []byte) {
-	if len(t.listeners) > 0 {
-		t.tell("", event(number, "reply", map[string]interface{}{"message": number, "line": string(line), "reply": json.RawMessage(reply)}))
+	if t.listeners[l] {
+		delete(t.listeners, l)
+		close(l.out)
 	}
 }
 
-// tellOffer tells a framework of an offer. The lock is held.
-func (t *told) tellOffer(framework, name string, what interface{}) {
-	if len(t.listeners) > 0 {
-		t.tell(framework, event(0, name, what))
-	}
-}
-
-// listen answers with a stream until the caller goes.
-func (t *told) listen(w http.ResponseWriter, r *http.Request, framework string) {
+// listen answers with a stream until the caller goes, or its token does.
+func (t *told) listen(w http.ResponseWriter, r *http.Request, by *caller, framework string) {
 	l := &listener{framework, make(chan []byte, 8192)}
-	var stand []byte
+	var text []byte
 	t.mu.Lock()
 	t.listeners[l] = true
 	if framework != "" {
 		for _, o := range t.sorted(func(o offer) bool { return o.Framework == framework }) {
-			stand = append(stand, event(0, "offer", o)...)
+			text = append(text, event(0, "offer", o)...)
 		}
 	}
 	t.mu.Unlock()
 	defer func() {
 		t.mu.Lock()
-		delete(t.listeners, l)
-		t.mu.Unlock()
+		defer t.mu.Unlock()
+		t.drop(l)
 	}()
 	w.Header().Set("Content-Type", "text/event-stream")
 	alive := time.NewTicker(15 * time.Second)
 	defer alive.Stop()
-	for text, isOpen := append(stand, ": these stand\n\n"...), true; isOpen && send(w, r, text); {
+	for text, isOpen := append(text, ": these stand\n\n"...), true; isOpen && send(w, r, text); {
 		select {
 		case text, isOpen = <-l.out:
 			text = append([]byte(nil), text...)
@@ -88,21 +77,21 @@ func (t *told) listen(w http.ResponseWriter, r *http.Request, framework string) 
 			}
 		case <-alive.C:
 			text = []byte(": alive\n\n")
+		case <-by.gone:
+			return
 		case <-r.Context().Done():
 			return
 		}
 	}
 }
 
-// send writes a part of an answer that goes on, to a caller who must take it within half a minute.
+// send writes a part of an answer that goes on, to a caller who must take it within some time.
 func send(w http.ResponseWriter, r *http.Request, text []byte) bool {
-	limit(r, net.Conn.SetWriteDeadline, 30*time.Second)
-	defer limit(r, net.Conn.SetWriteDeadline, 0)
+	limit(r, inTime)
+	defer limit(r, 0)
 	if _, err := w.Write(text); err != nil {
 		return false
 	}
-	if flusher, can := w.(http.Flusher); can {
-		flusher.Flush()
-	}
+	w.(http.Flusher).Flush()
 	return true
 }

@@ -56,7 +56,7 @@ def test_refusals(programs):
             told(200, "{", body='{"event":"cycle","role":"' + "<" * (longest - 27) + '"}', name="ops")
             told(200, "{", body='{"event":"cycle","role":"' + "<" * (longest - 27) + '"}')
         status, journal, _ = g.ask("/journal")
-        verdict = subprocess.run([os.environ.get("DRF_UNDER") or programs.drf, "check"], input=journal, capture_output=True, text=True, check=False).stdout
+        verdict = subprocess.run([programs.drf, "check"], input=journal, capture_output=True, text=True, check=False).stdout
         assert verdict == f"good {journal.count(chr(10)) // 2}\n" and '{"at":$,"event"\n' in journal, verdict
 
 

@@ -168,7 +168,7 @@ def chaos(kind, seconds, seed, gateway, drf, save_every=None, callers=8):
 
 def judge(fleet, archive, load):
     longest = bytes(archive.whole)
-    verdict = subprocess.run([os.environ.get("DRF_UNDER") or fleet.drf, "check"], input=longest, capture_output=True, check=False).stdout.decode()
+    verdict = subprocess.run([fleet.drf, "check"], input=longest, capture_output=True, check=False).stdout.decode()
     assert verdict == f"good {longest.count(10) // 2}\n", verdict
     assert not load.refused, load.refused[:3]
     lines = longest.decode().splitlines()
@@ -200,4 +200,4 @@ if __name__ == "__main__":
     from programs import find_programs
     programs = find_programs()
     every = int(os.environ.get("SAVE_EVERY", 0)) or None
-    print(chaos(sys.argv[1], float(sys.argv[2]), int(sys.argv[3]) if len(sys.argv) > 3 else 1, programs.gateway, programs.saving if every else programs.drf, every))
+    print(chaos(sys.argv[1], float(sys.argv[2]), int(sys.argv[3]) if len(sys.argv) > 3 else 1, programs.gateway, programs.drf, every))

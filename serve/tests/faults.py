@@ -1,4 +1,5 @@
 # What happens when parts fail: each fault is told, and loses nothing. Each test is handed the programs. Outside the proof.
+import hashlib
 import json
 import os
 import random
@@ -64,26 +65,28 @@ def test_two_in_one_folder(programs):
 
 
 def test_journal_changed(programs):
-    """A byte that was answered differs: the gateway stops. What is torn behind the last sync is written anew."""
+    """The journal is made anew of the list, whatever its file became; but what was answered must come again."""
     with Fleet("alone", programs.gateway, programs.drf, "-cycle", "0") as fleet:
         g = fleet.gateways[0]
         g.send(*[rescind(n) for n in range(100)])
         time.sleep(1.5)
         g.kill()
-        path = os.path.join(g.folder, "journal.00000000")
+        path, answered = (os.path.join(g.folder, name) for name in ("journal", "answered"))
         right = open(path, "rb").read()
-        with open(path, "ab") as file:
-            file.write(b"\0" * 5000)
-        g.start()
-        g.until_ready()
-        assert open(path, "rb").read() == right
-        g.kill()
         with open(path, "r+b") as file:
             file.seek(1000)
             file.write(b"#")
         g.start()
-        ended(g, "differs after byte 1000")
-        os.remove(path)  # without the journal all is made again
+        g.until_ready()
+        assert open(path, "rb").read() == right
+        g.kill()
+        mark = json.load(open(answered))
+        assert mark == {"bytes": len(right), "sha256": hashlib.sha256(right).hexdigest()}, mark
+        with open(answered, "w") as file:
+            json.dump({**mark, "sha256": "0" * 64}, file)
+        g.start()
+        ended(g, f"first {len(right)} bytes differ")
+        os.remove(answered)  # without the mark all is made again
         g.start()
         g.until_ready()
         assert open(path, "rb").read() == right
@@ -97,7 +100,7 @@ def test_other_program(programs):
         g.kill()
         fleet.drf = program(fleet.folder, "other", f"#!/bin/sh\nexec {programs.drf} \"$@\" | stdbuf -oL sed s/UnknownOffer/unknownOffer/\n")
         g.start()
-        ended(g, "differs after byte")
+        ended(g, "differ from those that were answered")
 
 
 def test_other_echo(programs):
@@ -211,7 +214,7 @@ def test_damaged_member(programs):
         assert b'"offer": 20}' in whole
         with open(store, "wb") as file:
             file.write(whole.replace(b'"offer": 20}', b'"offer": 91}'))
-        for name in ("journal.00000000", "synced"):
+        for name in ("journal", "answered"):
             os.remove(os.path.join(g.folder, name))
         g.start()
         ended(g, "is damaged")
@@ -323,7 +326,7 @@ def keys_in(fleet, front):
 
 def test_states(programs):
     """States come, what is before them is pruned, keys are kept, and a gateway without a folder starts from a state."""
-    with Fleet("alone", programs.gateway, programs.saving, "-cycle", "0", save_every=40) as fleet:
+    with Fleet("alone", programs.gateway, programs.drf, "-cycle", "0", save_every=40) as fleet:
         g = fleet.gateways[0]
         offer = g.send(SITE, AGENT, {"event": "cycle"}, key="first")[2]["offers"][0]
         for n in range(200):
@@ -343,7 +346,7 @@ def test_states(programs):
         before, report = g.status(), g.ask("/report")[1]
         g.kill()
         for name in os.listdir(g.folder):
-            if name.startswith(("journal", "state", "synced")):
+            if name.startswith(("journal", "state", "answered")):
                 os.remove(os.path.join(g.folder, name))
         g.start()
         g.until_ready()
@@ -358,10 +361,10 @@ def test_states(programs):
 
 def test_states_compared(programs):
     """A gateway whose state differs from another's stops, and says so."""
-    with Fleet("outer", programs.gateway, programs.saving, "-cycle", "0", save_every=20) as fleet:
+    with Fleet("outer", programs.gateway, programs.drf, "-cycle", "0", save_every=20) as fleet:
         one, other = fleet.gateways
         other.kill()
-        honest, fleet.drf = fleet.drf, program(fleet.folder, "other", f'#!/bin/sh\nif [ "$1" = save ] && [ "$2" != --help ]; then sleep 2; {programs.saving} "$@" | sed s/row/Row/; else exec {programs.saving} "$@"; fi\n')
+        honest, fleet.drf = fleet.drf, program(fleet.folder, "other", f'#!/bin/sh\nif [ "$1" = save ]; then sleep 2; {programs.drf} "$@" | sed s/row/Row/; else exec {programs.drf} "$@"; fi\n')
         other.start()
         other.until_ready()
         fleet.drf = honest
@@ -373,7 +376,7 @@ def test_states_compared(programs):
 
 def test_epoch(programs):
     """Numbers begin anew at the same place in every gateway."""
-    with Fleet("outer", programs.gateway, programs.saving, "-cycle", "0", "-epoch-every", "100", save_every=1000) as fleet:
+    with Fleet("outer", programs.gateway, programs.drf, "-cycle", "0", "-epoch-every", "100", save_every=1000) as fleet:
         one, other = fleet.gateways
         offers = one.send(SITE, AGENT, {**AGENT, "agent": "n2"}, {"event": "cycle"})[3]["offers"]
         assert [offer["offer"] for offer in offers] == [1, 2]
@@ -410,7 +413,7 @@ def test_start_of_many(programs):
 
 def chaos_of(kind, seconds, seed, with_states):
     def test(programs):
-        return chaos(kind, seconds, seed, programs.gateway, programs.saving if with_states else programs.drf, 200 if with_states else None)
+        return chaos(kind, seconds, seed, programs.gateway, programs.drf, 200 if with_states else None)
     test.name = f"chaos_{kind}" + ("_states" if with_states else "")
     return test
 

@@ -1,4 +1,4 @@
-# Builds or finds the programs of a test, and tells the allocator's place: the gateway, and the allocator, proved or not, with or without states. Outside the proof.
+# Builds or finds the programs of a test, and tells the allocator's place: the gateway, and the allocator, proved or not. Outside the proof.
 import collections
 import os
 import subprocess
@@ -6,7 +6,7 @@ import sys
 
 HERE = os.path.dirname(os.path.realpath(__file__))
 ROOT = os.path.dirname(os.path.dirname(HERE))
-Programs = collections.namedtuple("Programs", "gateway drf saving")
+Programs = collections.namedtuple("Programs", "gateway drf")
 
 
 def is_current(path):
@@ -16,7 +16,7 @@ def is_current(path):
 
 
 def find_programs():
-    """GATEWAY and DRF, or what is built; `saving` is a drf with states, which a script stands in for where this one has none."""
+    """GATEWAY and DRF, or what is built."""
     out = os.path.join(ROOT, "serve", "out")
     gateway = os.environ.get("GATEWAY") or os.path.join(out, "gateway")
     subprocess.run([os.path.join(ROOT, "serve", "build"), gateway], check=True)
@@ -26,12 +26,7 @@ def find_programs():
         drf = os.path.join(out, "drf-without-proofs")
         if not is_current(drf):
             subprocess.run([sys.executable, os.path.join(ROOT, "bench", "unproved.py"), "drf", drf], check=True)
-    drf = os.path.realpath(drf)
-    if subprocess.run([drf, "save", "--help"], capture_output=True, check=False).returncode == 0:
-        return Programs(gateway, drf, drf)
-    print("this drf has no `save`: a script stands in for it in the tests of states", flush=True)
-    os.environ["DRF_UNDER"] = drf
-    return Programs(gateway, drf, os.path.join(HERE, "saving"))
+    return Programs(gateway, os.path.realpath(drf))
 
 
 if __name__ == "__main__":

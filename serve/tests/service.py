@@ -33,10 +33,6 @@ class Service:
         assert status == 200, f"{path}: {status} {text}"
         return json.loads(text)
 
-    def tells_states(self):
-        return self.gateway.ask("/state")[0] == 200
-
-
 TEAMS = {"web": ["site", "shop", "edge"], "web/search": ["search"], "data/etl": ["loads", "sums"], "data/adhoc": ["query", "notebooks"],
          "ml/train": ["models"], "ci": ["tests", "builds"], "ops": ["backup"], "ops/later": ["waits"]}
 

@@ -42,11 +42,6 @@ class Room:
             service.end()
 
 
-def unexpected(browser, service):
-    """The console, but for the answer of a gateway that cannot tell its state."""
-    return [line for line in browser.console() if service.tells_states() or "/state" not in line or "501" not in line]
-
-
 # ---- the page
 
 @test
@@ -60,7 +55,7 @@ def live_rows_come_in(browser, room):
     browser.wait("the row", lambda: "late" in browser.texts("#tree .role .name span"), 5)
     service.client().send(event("remove_framework", framework="late"))
     browser.wait("it is gone", lambda: "late" not in browser.texts("#tree .role .name span"), 5)
-    equal("console", unexpected(browser, service), [])
+    equal("console", browser.console(), [])
 
 
 @test
@@ -78,10 +73,7 @@ def shares_are_those_of_the_report(browser, room):
             holds(f"{path}: {share}, {weighted}, {count} where the report has {wanted}",
                   abs(share - ratio(wanted["share"])) < 1e-9 and abs(weighted - ratio(wanted["weighted"])) < 1e-9 and count == wanted["count"])
     equal("nodes that are not shown", {path for path in report if not path.endswith("/.")} - {path for path, *_ in shown}, set())
-    states = service.tells_states()
     service.end()
-    if not states:
-        raise NotRun("shares are shown as the report tells them: this drf has no `save`")
 
 
 @test
@@ -95,7 +87,7 @@ def hostile_lines_are_text(browser, room):
     browser.wait("the role", lambda: "<b>&lt" in browser.texts("#tree .name span"))
     equal("made of it", browser.run("return [document.images.length, document.scripts.length, window.taken ?? null]"), [0, 1, None])
     service.client().send(event("remove_framework", framework="odd"))
-    equal("console", unexpected(browser, service), [])
+    equal("console", browser.console(), [])
 
 
 @test
@@ -147,8 +139,6 @@ def a_killed_gateway_comes_back(browser, room):
 def take_screenshots(browser, room, folder):
     """What the documents show: a filled cluster, light and dark."""
     service = room.service()
-    if not service.tells_states():
-        print("this drf has no `save`: the screenshots show shares alone", flush=True)
     for name, dark in (("service.png", False), ("service-dark.png", True)):
         browser.look(1200, 1900, dark)
         browser.enter(service.url, service.tokens["eye"])
@@ -357,10 +347,7 @@ def each_metric_of_the_dashboard_is_told(browser, room):
     equal("answers", replies, [{"ok": True}] * 3)
     service.gateway.ask("/nothing")
     told = set(re.findall(r"^([a-z_]+)", re.sub(r"^#.*$", "", service.gateway.ask("/metrics")[1], flags=re.M), flags=re.M))
-    missing = wanted - told
-    if not service.tells_states():
-        missing -= {"drf_table_rows", "drf_table_rows_limit"}
-    equal("named, and not told", missing, set())
+    equal("named, and not told", wanted - told, set())
     holds(f"few metrics: {wanted}", len(wanted) > 15)
     admin.send(*[event("remove_agent", agent=agent) for agent in ("m1", "m2", "m3")])
 

@@ -12,6 +12,7 @@ import (
 	"os"
 	"os/exec"
 	"sort"
+	"strings"
 	"sync"
 	"time"
 )
@@ -38,6 +39,8 @@ type allocator struct {
 	changed  chan struct{} // closed where these change
 	pid      int
 	restarts int
+
+	asking sync.Mutex // one question at a time
 }
 
 // fed is a message on its way through the child; one without a key is behind those that the list had at the start.
@@ -326,4 +329,28 @@ func (a *allocator) output(ctx context.Context, in io.Reader, words ...string) (
 		return nil, fmt.Errorf("drf %s: %w: %.200s", words[0], err, told.String())
 	}
 	return text, nil
+}
+
+// ask gives what the program answers to `report`, `state`, `explain` or `explain --at AT` as of the last message, whose number it tells. It is
+// asked beside the running child, where a report would count as an event: over the newest state and the journal behind it, in which reply
+// lines are no events.
+func (a *allocator) ask(ctx context.Context, question string) (text []byte, message int64, err error) {
+	if err := a.ready(); err != nil {
+		return nil, 0, err
+	}
+	a.asking.Lock()
+	defer a.asking.Unlock()
+	now, base := a.reached(), a.states.newest()
+	words, journal := strings.Fields(question), io.Reader(io.NewSectionReader(a.journal, base.Bytes, now.Bytes-base.Bytes))
+	switch question {
+	case "report":
+		words[0], journal = "run", io.MultiReader(journal, strings.NewReader("{\"event\":\"report\"}\n"))
+	case "state":
+		words[0] = "save"
+	}
+	text, err = a.output(ctx, journal, append(words, a.states.words(base)...)...)
+	if err == nil && question == "report" { // the last line
+		text = text[bytes.LastIndexByte(text[:len(text)-1], '\n')+1:]
+	}
+	return text, now.Messages, err
 }

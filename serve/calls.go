@@ -6,6 +6,7 @@ import (
 	"context"
 	"crypto/rand"
 	"crypto/sha256"
+	"crypto/tls"
 	_ "embed"
 	"encoding/base64"
 	"encoding/hex"
@@ -40,7 +41,6 @@ type gateway struct {
 	allocator *allocator
 	journal   *journal
 	told      *told
-	asker     *asker
 	metrics   *metrics
 	liveness  *liveness
 	callers   atomic.Value // []*caller
@@ -59,10 +59,10 @@ var calls = map[string]call{
 	"state":                  {http.MethodGet, "read", (*gateway).question},
 	"explain":                {http.MethodGet, "read", (*gateway).question},
 	"journal":                {http.MethodGet, "read", (*gateway).readJournal},
-	"replies":                {http.MethodGet, "read", (*gateway).replies},
+	"replies":                {http.MethodGet, "read", (*gateway).listen},
 	"status":                 {http.MethodGet, "read", (*gateway).status},
 	"metrics":                {http.MethodGet, "read", (*gateway).readMetrics},
-	"frameworks/NAME/offers": {http.MethodGet, "", (*gateway).offers},
+	"frameworks/NAME/offers": {http.MethodGet, "", (*gateway).listen},
 	"frameworks/NAME/alive":  {http.MethodPost, "", (*gateway).alive},
 	"agents/NAME/alive":      {http.MethodPost, "", (*gateway).alive},
 }
@@ -233,7 +233,7 @@ func (g *gateway) question(w http.ResponseWriter, r *http.Request, by *caller) e
 	}
 	ctx, cancel := context.WithTimeout(r.Context(), inTime)
 	defer cancel()
-	answer, message, err := g.asker.ask(ctx, question)
+	answer, message, err := g.allocator.ask(ctx, question)
 	if err != nil {
 		return err
 	}
@@ -283,20 +283,19 @@ func (g *gateway) readJournal(w http.ResponseWriter, r *http.Request, by *caller
 	}
 }
 
-func (g *gateway) replies(w http.ResponseWriter, r *http.Request, by *caller) error {
-	g.told.listen(w, r, by, "")
-	return nil
-}
-
-func (g *gateway) offers(w http.ResponseWriter, r *http.Request, by *caller) error {
-	name := strings.Split(r.URL.Path, "/")[2]
-	if !isName.MatchString(name) || !by.has("framework", name) && !by.has("read", "") {
-		return refuse(403, "%s has no right to the offers of %q", by.Name, name)
+// listen answers with a stream: of all replies, or of the offers of a framework.
+func (g *gateway) listen(w http.ResponseWriter, r *http.Request, by *caller) error {
+	framework := ""
+	if path := strings.Split(r.URL.Path, "/"); len(path) > 2 {
+		framework = path[2]
+		if !isName.MatchString(framework) || !by.has("framework", framework) && !by.has("read", "") {
+			return refuse(403, "%s has no right to the offers of %q", by.Name, framework)
+		}
 	}
 	if err := g.allocator.waitReady(r.Context()); err != nil {
 		return err
 	}
-	g.told.listen(w, r, by, name)
+	g.told.listen(w, r, by, framework)
 	return nil
 }
 
@@ -370,6 +369,16 @@ func policyOf(page []byte) string {
 }
 
 type connectionKey struct{}
+
+func (g *gateway) server() *http.Server {
+	return &http.Server{Addr: g.o.listen, Handler: g, ReadHeaderTimeout: 10 * time.Second, IdleTimeout: 2 * time.Minute, MaxHeaderBytes: 1 << 16,
+		ConnContext: func(ctx context.Context, c net.Conn) context.Context {
+			return context.WithValue(ctx, connectionKey{}, c)
+		},
+		TLSConfig:    &tls.Config{MinVersion: tls.VersionTLS12},
+		TLSNextProto: map[string]func(*http.Server, *tls.Conn, http.Handler){}, // one connection, one request at a time
+	}
+}
 
 // limit bounds how long a caller may take to send what is left of its request, and to take what is written; 0 is without bound.
 func limit(r *http.Request, within time.Duration) {

@@ -5,7 +5,7 @@ go 1.19
 
 require (
 	github.com/prometheus/client_golang v1.14.0
-	go.etcd.io/etcd v0.5.0-alpha.5.0.20200910180754-dd1b699fc489 // 3.4.13: the releases of 3.4 have no name as modules
+	go.etcd.io/etcd release-3.4 // the newest: before 3.4.21 one member alone might answer before it had synced. These releases have no name as modules
 	go.uber.org/zap v1.10.0
 	golang.org/x/sys v0.3.0
 )

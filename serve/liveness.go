@@ -16,11 +16,10 @@ import (
 
 // liveness adds messages under keys that name their cause, so every gateway may add one and it is taken once.
 type liveness struct {
+	o         *options
 	list      *list
 	allocator *allocator
 	told      *told
-	cycle     time.Duration            // 0: callers send cycles
-	offers    time.Duration            // how long an offer may stand; 0: for ever
 	limits    map[string]time.Duration // of what is watched, by kind, how long it may be silent; 0: for ever
 }
 
@@ -50,15 +49,15 @@ func (l *liveness) add(ctx context.Context, key string, event map[string]interfa
 }
 
 func (l *liveness) mayAdd() bool {
-	return l.allocator.ready() == nil && l.list.clock.told() == "" && roomIn(l.allocator.states.o.data) == nil
+	return l.allocator.ready() == nil && l.list.clock.told() == "" && roomIn(l.o.data) == nil
 }
 
 // cycles adds a cycle for each slot of time. While nothing happens one slot in ten is enough, for refusals that run out.
 func (l *liveness) cycles(ctx context.Context) {
 	for ctx.Err() == nil {
 		now := l.list.clock.now().UnixNano()
-		slot := now/int64(l.cycle) + 1
-		time.Sleep(time.Duration(slot*int64(l.cycle) - now))
+		slot := now/int64(l.o.cycle) + 1
+		time.Sleep(time.Duration(slot*int64(l.o.cycle) - now))
 		if l.mayAdd() && (slot%10 == 0 || !l.told.isIdle()) {
 			l.add(ctx, fmt.Sprintf("cycle/%d", slot), map[string]interface{}{"event": "cycle"})
 		}
@@ -71,8 +70,8 @@ func (l *liveness) run(ctx context.Context) {
 		if !l.mayAdd() {
 			continue
 		}
-		if l.offers > 0 {
-			late, epoch := l.told.late(l.list.clock.now().Add(-l.offers).UnixMilli())
+		if l.o.offerLimit > 0 {
+			late, epoch := l.told.late(l.list.clock.now().Add(-l.o.offerLimit).UnixMilli())
 			for _, o := range late {
 				l.add(ctx, fmt.Sprintf("rescind/%d/%d", epoch, o.Offer), map[string]interface{}{"event": "rescind", "offer": o.Offer})
 			}

@@ -3,13 +3,10 @@ package main
 
 import (
 	"context"
-	"crypto/tls"
 	"errors"
 	"flag"
 	"fmt"
 	"log"
-	"net"
-	"net/http"
 	"os"
 	"os/signal"
 	"path/filepath"
@@ -148,13 +145,7 @@ func (o *options) serve(ctx context.Context) error {
 	ends := make(chan error, 4)
 	g := o.build(e, j, func(err error) { ends <- err })
 	g.callers.Store(callers)
-	server := &http.Server{Addr: o.listen, Handler: g, ReadHeaderTimeout: 10 * time.Second, IdleTimeout: 2 * time.Minute, MaxHeaderBytes: 1 << 16,
-		ConnContext: func(ctx context.Context, c net.Conn) context.Context {
-			return context.WithValue(ctx, connectionKey{}, c)
-		},
-		TLSConfig:    &tls.Config{MinVersion: tls.VersionTLS12},
-		TLSNextProto: map[string]func(*http.Server, *tls.Conn, http.Handler){}, // one connection, one request at a time
-	}
+	server := g.server()
 	go g.list.clock.run(ctx)
 	for n := 0; n < 2; n++ {
 		go g.list.commit(ctx)
@@ -191,9 +182,8 @@ func (o *options) build(e *etcd, j *journal, fail func(error)) *gateway {
 	l := &list{etcd: e, prefix: o.prefix, clock: newClock(e, o), queue: make(chan *pending)}
 	a := &allocator{drf: o.drf, list: l, journal: j, told: t, fault: "starting", entries: []reach{{}}, changed: make(chan struct{})}
 	a.states = &states{o: o, list: l, allocator: a, fail: fail}
-	g := &gateway{o: o, list: l, allocator: a, journal: j, told: t, metrics: m, policy: policyOf(page), asker: &asker{allocator: a},
-		liveness: &liveness{list: l, allocator: a, told: t, cycle: o.cycle, offers: o.offerLimit,
-			limits: map[string]time.Duration{"agents": o.agentLimit, "removals": o.removal, "frameworks": o.frameworkLimit}}}
+	g := &gateway{o: o, list: l, allocator: a, journal: j, told: t, metrics: m, policy: policyOf(page), liveness: &liveness{o: o, list: l, allocator: a, told: t,
+		limits: map[string]time.Duration{"agents": o.agentLimit, "removals": o.removal, "frameworks": o.frameworkLimit}}}
 	m.of(g)
 	return g
 }

@@ -155,6 +155,7 @@ func (o *options) embedded(ctx context.Context) (*etcd, func(), error) {
 // join makes the member one of a cluster.
 func (o *options) join(config *embed.Config) error {
 	config.InitialCluster, config.PeerTLSInfo, config.APUrls = o.members, o.security(), nil
+	config.TickMs, config.ElectionMs = 50, 600 // a leader that died is missed in about a second
 	if o.joins {
 		config.ClusterState = embed.ClusterStateFlagExisting
 	}

@@ -16,10 +16,10 @@ import (
 )
 
 type metrics struct {
-	registry                                             *prometheus.Registry
-	events, made, accepted, declined, rescinded, refused *prometheus.CounterVec
-	cycles, answers                                      prometheus.Histogram
-	rows, limits, shares, weighted                       *prometheus.GaugeVec
+	registry                       *prometheus.Registry
+	events, made, ended, refused   *prometheus.CounterVec
+	cycles, answers                prometheus.Histogram
+	rows, limits, shares, weighted *prometheus.GaugeVec
 }
 
 func newMetrics() *metrics {
@@ -35,19 +35,17 @@ func newMetrics() *metrics {
 		return make.NewHistogram(prometheus.HistogramOpts{Name: name, Help: help, Buckets: prometheus.ExponentialBuckets(0.0005, 2, 16)})
 	}
 	return &metrics{
-		registry:  registry,
-		events:    count("drf_events_total", "Event lines that were answered, by event and answer: ok, or the name of the refusal.", "event", "answer"),
-		made:      count("drf_offers_made_total", "Offers made.", "framework"),
-		accepted:  count("drf_offers_accepted_total", "Offers accepted.", "framework"),
-		declined:  count("drf_offers_declined_total", "Offers declined.", "framework"),
-		rescinded: count("drf_offers_rescinded_total", "Offers that ended otherwise, by the event that ended them.", "framework", "event"),
-		refused:   count("drf_requests_refused_total", "Requests that were refused, by status.", "status"),
-		cycles:    times("drf_cycle_duration_seconds", "From the feeding of a cycle to its reply."),
-		answers:   times("drf_answer_duration_seconds", "From a batch to its replies."),
-		rows:      gauge("drf_table_rows", "Rows that stand.", "table"),
-		limits:    gauge("drf_table_rows_limit", "Rows that a table can have.", "table"),
-		shares:    gauge("drf_role_dominant_share_ratio", "The dominant share of a role.", "role"),
-		weighted:  gauge("drf_role_weighted_share_ratio", "The dominant share of a role, divided by its weight.", "role"),
+		registry: registry,
+		events:   count("drf_events_total", "Event lines that were answered, by event and answer: ok, or the name of the refusal.", "event", "answer"),
+		made:     count("drf_offers_made_total", "Offers made.", "framework"),
+		ended:    count("drf_offers_ended_total", "Offers that ended, by the event that ended them: accept, decline, rescind or another.", "framework", "event"),
+		refused:  count("drf_requests_refused_total", "Requests that were refused, by status.", "status"),
+		cycles:   times("drf_cycle_duration_seconds", "From the feeding of a cycle to its reply."),
+		answers:  times("drf_answer_duration_seconds", "From a batch to its replies."),
+		rows:     gauge("drf_table_rows", "Rows that stand.", "table"),
+		limits:   gauge("drf_table_rows_limit", "Rows that a table can have.", "table"),
+		shares:   gauge("drf_role_dominant_share_ratio", "The dominant share of a role.", "role"),
+		weighted: gauge("drf_role_weighted_share_ratio", "The dominant share of a role, divided by its weight.", "role"),
 	}
 }
 
@@ -77,32 +75,19 @@ func (m *metrics) answered(kind, answer string, f *fed) {
 	}
 }
 
-// ended counts an offer that stands no longer.
-func (m *metrics) ended(framework, why string) {
-	switch why {
-	case "accept":
-		m.accepted.WithLabelValues(framework).Inc()
-	case "decline":
-		m.declined.WithLabelValues(framework).Inc()
-	default:
-		m.rescinded.WithLabelValues(framework, why).Inc()
-	}
-}
-
 // forget drops the figures of a framework that left.
 func (m *metrics) forget(framework string) {
-	for _, vector := range []*prometheus.CounterVec{m.made, m.accepted, m.declined, m.rescinded} {
-		vector.DeletePartialMatch(prometheus.Labels{"framework": framework})
-	}
+	m.made.DeleteLabelValues(framework)
+	m.ended.DeletePartialMatch(prometheus.Labels{"framework": framework})
 }
 
 func (g *gateway) readMetrics(w http.ResponseWriter, r *http.Request, by *caller) error {
 	ctx, cancel := context.WithTimeout(r.Context(), 8*time.Second)
 	defer cancel()
-	if report, _, err := g.asker.ask(ctx, "report"); err == nil {
+	if report, _, err := g.allocator.ask(ctx, "report"); err == nil {
 		g.metrics.setShares(report)
 	}
-	if rows, _, err := g.asker.ask(ctx, "state"); err == nil {
+	if rows, _, err := g.allocator.ask(ctx, "state"); err == nil {
 		g.metrics.setTables(rows)
 	}
 	promhttp.HandlerFor(prometheus.Gatherers{g.metrics.registry, prometheus.DefaultGatherer}, promhttp.HandlerOpts{}).ServeHTTP(w, r)

@@ -4,9 +4,11 @@ package main
 import (
 	"errors"
 	"io"
+	"net"
 	"path/filepath"
 	"strings"
 	"testing"
+	"time"
 
 	"golang.org/x/sys/unix"
 )
@@ -217,5 +219,32 @@ func TestJournalIsKeptFromAState(t *testing.T) {
 	}
 	if _, _, theirs := other.bounds(); theirs != sum || theirs != digest([]byte(strings.Repeat(string(block), 3))) {
 		t.Error("a journal from a state has another digest", theirs, sum)
+	}
+}
+
+// A caller without a token that never sends the rest of its request does not hold its connection for long.
+func TestWhoSendsNothingIsLetGo(t *testing.T) {
+	inTime = 300 * time.Millisecond
+	defer func() { inTime = time.Minute }()
+	g := &gateway{o: &options{}, metrics: newMetrics()}
+	g.callers.Store([]*caller{})
+	listener, err := net.Listen("tcp", "127.0.0.1:0")
+	if err != nil {
+		t.Fatal(err)
+	}
+	server := g.server()
+	go server.Serve(listener)
+	defer server.Close()
+	for _, head := range []string{"POST /events HTTP/1.1\r\nHost: x\r\nContent-Length: 100000\r\n\r\n", "POST /agents/n1/alive HTTP/1.1\r\nHost: x\r\nTransfer-Encoding: chunked\r\n\r\n"} {
+		connection, err := net.Dial("tcp", listener.Addr().String())
+		if err != nil {
+			t.Fatal(err)
+		}
+		connection.SetDeadline(time.Now().Add(5 * time.Second))
+		connection.Write([]byte(head))
+		if text, err := io.ReadAll(connection); err != nil || len(text) > 0 && !strings.HasPrefix(string(text), "HTTP/1.1 401") {
+			t.Error(err, string(text))
+		}
+		connection.Close()
 	}
 }

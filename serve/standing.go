@@ -1,11 +1,14 @@
-// What is derived from replies: the offers that stand, counts, and who listens. Outside the proof: no answer hangs on it.
+// What is derived from replies: the offers that stand, counts, and streams of server-sent events. Outside the proof: no answer hangs on it.
 package main
 
 import (
 	"bytes"
 	"encoding/json"
+	"fmt"
+	"net/http"
 	"sort"
 	"sync"
+	"time"
 )
 
 type offer struct {
@@ -17,39 +20,34 @@ type offer struct {
 	made      int64
 }
 
+// told is as of the last message that listeners and counts were told of: after a restart of the allocator those before come again, and are
+// passed over.
 type told struct {
 	metrics *metrics
 
 	mu        sync.Mutex
-	reached   int64 // the messages that listeners and counts were told of: after a restart they come again, and are not
+	reached   int64 // that message
 	now       int64 // the greatest moment
 	epoch     int
-	toldEpoch int
 	offers    map[uint64]offer
 	idle      bool // the last event was a cycle without offers
 	listeners map[*listener]bool
 }
 
-// begin goes on from a state.
+// begin goes on from a state, where what is before it was never told: who listens comes again, and is told what stands.
 func (t *told) begin(from state, offers []offer) {
 	t.mu.Lock()
 	defer t.mu.Unlock()
-	t.offers, t.epoch, t.idle = map[uint64]offer{}, from.Epoch, false
-	if from.Messages > t.reached { // what is between was never seen: who listens comes again, and is told what stands
-		for l := range t.listeners {
-			t.drop(l)
-		}
+	if from.Messages <= t.reached {
+		return
 	}
-	t.pass(from.At)
+	for l := range t.listeners {
+		t.drop(l)
+	}
+	t.reached, t.now, t.epoch, t.offers = from.Messages, from.At, from.Epoch, map[uint64]offer{}
 	for _, o := range offers {
 		o.made = from.At
 		t.offers[o.Offer] = o
-	}
-}
-
-func (t *told) pass(at int64) {
-	if at > t.now {
-		t.now = at
 	}
 }
 
@@ -57,24 +55,23 @@ func (t *told) pass(at int64) {
 func (t *told) learn(number int64, f *fed) {
 	t.mu.Lock()
 	defer t.mu.Unlock()
-	isNew := number > t.reached
-	t.pass(f.At)
+	if number <= t.reached {
+		return
+	}
+	if t.reached = number; f.At > t.now {
+		t.now = f.At
+	}
 	for k, line := range f.lines {
 		reply, object := bytes.TrimSuffix(f.replies[k], []byte("\n")), fields(line)
 		kind, answer := word(object, "event"), answerOf(reply)
-		if isNew {
-			t.metrics.answered(kind, answer, f)
-			if len(t.listeners) > 0 {
-				t.tell("", number, "reply", map[string]interface{}{"message": number, "line": string(line), "reply": json.RawMessage(reply)})
-			}
+		t.metrics.answered(kind, answer, f)
+		if len(t.listeners) > 0 {
+			t.tell("", number, "reply", map[string]interface{}{"message": number, "line": string(line), "reply": json.RawMessage(reply)})
 		}
 		t.idle = kind == "cycle" && string(reply) == `{"offers":[]}`
 		if answer == "ok" {
-			t.follow(kind, object, reply, f.At, isNew)
+			t.follow(kind, object, reply, f.At)
 		}
-	}
-	if isNew {
-		t.reached = number
 	}
 }
 
@@ -88,7 +85,7 @@ func answerOf(reply []byte) string {
 }
 
 // follow keeps the offers that stand. The lock is held.
-func (t *told) follow(kind string, line map[string]json.RawMessage, reply []byte, at int64, isNew bool) {
+func (t *told) follow(kind string, line map[string]json.RawMessage, reply []byte, at int64) {
 	switch kind {
 	case "cycle":
 		var made struct{ Offers []offer }
@@ -96,35 +93,31 @@ func (t *told) follow(kind string, line map[string]json.RawMessage, reply []byte
 		for _, o := range made.Offers {
 			o.made = at
 			t.offers[o.Offer] = o
-			if isNew {
-				t.metrics.made.WithLabelValues(o.Framework).Inc()
-				t.tell(o.Framework, 0, "offer", o)
-			}
+			t.metrics.made.WithLabelValues(o.Framework).Inc()
+			t.tell(o.Framework, 0, "offer", o)
 		}
 	case "accept", "decline", "rescind":
 		var number uint64
 		json.Unmarshal(line["offer"], &number)
 		if o, stands := t.offers[number]; stands {
-			t.end(kind, isNew, o)
+			t.end(kind, o)
 		}
 	case "remove_agent", "deactivate_agent":
 		name := word(line, "agent")
-		t.end(kind, isNew, t.sorted(func(o offer) bool { return o.Agent == name })...)
+		t.end(kind, t.sorted(func(o offer) bool { return o.Agent == name })...)
 	case "remove_framework":
 		name := word(line, "framework")
-		t.end(kind, isNew, t.sorted(func(o offer) bool { return o.Framework == name })...)
+		t.end(kind, t.sorted(func(o offer) bool { return o.Framework == name })...)
 		t.metrics.forget(name)
 	}
 }
 
 // end takes away offers, and says so. The lock is held.
-func (t *told) end(why string, isNew bool, ended ...offer) {
+func (t *told) end(why string, ended ...offer) {
 	for _, o := range ended {
 		delete(t.offers, o.Offer)
-		if isNew {
-			t.metrics.ended(o.Framework, why)
-			t.tell(o.Framework, 0, "gone", map[string]interface{}{"offer": o.Offer, "why": why})
-		}
+		t.metrics.ended.WithLabelValues(o.Framework, why).Inc()
+		t.tell(o.Framework, 0, "gone", map[string]interface{}{"offer": o.Offer, "why": why})
 	}
 }
 
@@ -144,9 +137,9 @@ func (t *told) sorted(chosen func(offer) bool) []offer {
 func (t *told) beginEpoch(number int) {
 	t.mu.Lock()
 	defer t.mu.Unlock()
-	t.end("epoch", number > t.toldEpoch, t.sorted(func(offer) bool { return true })...)
-	if t.epoch = number; number > t.toldEpoch {
-		t.toldEpoch = number
+	if number > t.epoch {
+		t.epoch = number
+		t.end("epoch", t.sorted(func(offer) bool { return true })...)
 	}
 }
 
@@ -161,4 +154,92 @@ func (t *told) isIdle() bool {
 	t.mu.Lock()
 	defer t.mu.Unlock()
 	return t.idle
+}
+
+// listener is one stream. One that does not keep up is let go: it may come again, and is told what stands.
+type listener struct {
+	framework string // or empty, for all replies
+	out       chan []byte
+}
+
+// event is how a stream tells something. Text within is JSON, so it has no line breaks.
+func event(id int64, name string, what interface{}) []byte {
+	text, _ := json.Marshal(what) // replies are JSON
+	if id == 0 {
+		return []byte(fmt.Sprintf("event: %s\ndata: %s\n\n", name, text))
+	}
+	return []byte(fmt.Sprintf("id: %d\nevent: %s\ndata: %s\n\n", id, name, text))
+}
+
+// tell tells those who listen for a framework, or for all replies. The lock is held.
+func (t *told) tell(framework string, id int64, name string, what interface{}) {
+	text := []byte(nil)
+	for l := range t.listeners {
+		if l.framework != framework {
+			continue
+		}
+		if text == nil {
+			text = event(id, name, what)
+		}
+		select {
+		case l.out <- text:
+		default:
+			t.drop(l)
+		}
+	}
+}
+
+func (t *told) drop(l *listener) {
+	if t.listeners[l] {
+		delete(t.listeners, l)
+		close(l.out)
+	}
+}
+
+// listen answers with a stream until the caller goes, or its token does.
+func (t *told) listen(w http.ResponseWriter, r *http.Request, by *caller, framework string) {
+	l := &listener{framework, make(chan []byte, 8192)}
+	var text []byte
+	t.mu.Lock()
+	t.listeners[l] = true
+	if framework != "" {
+		for _, o := range t.sorted(func(o offer) bool { return o.Framework == framework }) {
+			text = append(text, event(0, "offer", o)...)
+		}
+	}
+	t.mu.Unlock()
+	defer func() {
+		t.mu.Lock()
+		defer t.mu.Unlock()
+		t.drop(l)
+	}()
+	w.Header().Set("Content-Type", "text/event-stream")
+	alive := time.NewTicker(15 * time.Second)
+	defer alive.Stop()
+	for text, isOpen := append(text, ": these stand\n\n"...), true; isOpen && send(w, r, text); {
+		select {
+		case text, isOpen = <-l.out:
+			text = append([]byte(nil), text...)
+			for more := len(l.out); isOpen && more > 0; more-- {
+				text = append(text, <-l.out...)
+			}
+		case <-alive.C:
+			text = []byte(": alive\n\n")
+		case <-by.gone:
+			return
+		case <-r.Context().Done():
+			return
+		}
+	}
+}
+
+// send writes a part of an answer that goes on, to a caller who must take it within some time.
+func send(w http.ResponseWriter, r *http.Request, text []byte) bool {
+	limit(r, inTime)
+	defer limit(r, 0)
+	if _, err := w.Write(text); err != nil {
+		return false
+	}
+	w.(http.Flusher).Flush()
+	return true
 }

@@ -1,6 +1,8 @@
 # What callers are told: answers, refusals, rights, streams, time-outs. Each test is handed the programs. Outside the proof.
 import json
 import os
+import random
+import shutil
 import signal
 import ssl
 import subprocess
@@ -9,7 +11,7 @@ import time
 import urllib.request
 import uuid
 
-from fleet import Fleet, make_certificate, wait
+from fleet import Fleet, NotRun, make_certificate, wait
 
 AGENT = {"event": "add_agent", "agent": "n1", "total": "cpus:4;mem:4096"}
 SITE = {"event": "add_framework", "framework": "site", "roles": ["web"]}
@@ -39,6 +41,7 @@ def test_refusals(programs):
         told(404, "no such call", path="/nothing", body=None)
         told(405, "POST", body=None)
         told(410, "too long ago", Idempotency_Key=old_key(30))
+        told(400, "yet to come", Idempotency_Key=old_key(-1))  # it would outlive what is kept of it
         told(400, "visible", Idempotency_Key="a b")
         told(400, "milliseconds", path="/explain?at=-1", body=None)
         told(400, "bytes", path="/journal?from=x", body=None)
@@ -58,6 +61,26 @@ def test_refusals(programs):
         status, journal, _ = g.ask("/journal")
         verdict = subprocess.run([programs.drf, "check"], input=journal, capture_output=True, text=True, check=False).stdout
         assert verdict == f"good {journal.count(chr(10)) // 2}\n" and '{"at":$,"event"\n' in journal, verdict
+
+
+def test_any_bytes(programs):
+    """Whatever may be sent by who may send all is answered line by line, and stops no gateway."""
+    chance = random.Random(11)
+    lines = [b"", b"\r", b"\0", b"\xff\xfe", b"\xef\xbb\xbf{}", b"?", b"?report", b"?tasks x", b" ?state", b'{"event":"cycle"}\r', b'"\\ud800"', b"[" * 30000, b'{"event":' * 5000, b'{"event":"cycle","at":1e400}',
+             b'{"event":"cycle","at":-0}', b'\t{\t"event":"cycle"}', b'{"event":"accept"', b'{"event":"cycle",}', b"{" + b" " * 65534 + b"}", b"{" + b" " * 65600 + b"}", b'{"event":"cycle"' + b" " * 65515 + b"}"]
+    lines += [bytes(chance.choice(b'{}[]":,\\\r\0\xc3\x28?$ eventcyclat019') for _ in range(chance.randrange(60))) for _ in range(3000)]
+    with Fleet("alone", programs.gateway, programs.drf, "-cycle", "0") as fleet:
+        g = fleet.gateways[0]
+        for some in (lines, lines[::-1]):
+            status, answer, _ = g.ask("/events", b"\n".join(some) + b"\n")
+            assert status == 200 and answer.count("\n") == len(some), (status, answer[:300])
+        request = urllib.request.Request(g.url + "/journal", headers={"Authorization": "Bearer " + fleet.tokens["eye"]})
+        journal = urllib.request.urlopen(request, timeout=20).read()
+        told = subprocess.run([programs.drf, "check"], input=journal, capture_output=True, check=False).stdout.decode()
+        assert told == f"good {2 * len(lines)}\n" and b"\n?" not in journal and g.is_ready(), told
+        g.kill()
+        g.start()
+        g.until_ready()
 
 
 def test_rights(programs):
@@ -159,6 +182,20 @@ def test_figures(programs):
         assert '"grant":"cpus:4;mem:4096"' in g.ask("/explain?at=99999999999999")[1]
 
 
+def test_figures_by_promtool(programs):
+    """The figures are as Prometheus would have them; etcd's own are not ours to name."""
+    if not shutil.which("promtool"):
+        raise NotRun("there is no promtool: apt-get install prometheus")
+    with Fleet("alone", programs.gateway, programs.drf, "-cycle", "0") as fleet:
+        g = fleet.gateways[0]
+        g.send(SITE, AGENT, AGENT, {"event": "cycle"}, {"event": "decline", "framework": "site", "offer": 1})
+        g.ask("/nothing")
+        text = g.ask("/metrics", name="eye")[1]
+        done = subprocess.run(["promtool", "check", "metrics"], input=text, capture_output=True, text=True, check=False)
+        told = [line for line in (done.stdout + done.stderr).splitlines() if line.startswith("drf_") or "error" in line]
+        assert not told and "drf_offers_ended_total" in text, told
+
+
 def test_tokens_again(programs):
     with Fleet("alone", programs.gateway, programs.drf) as fleet:
         g = fleet.gateways[0]
@@ -171,7 +208,13 @@ def test_tokens_again(programs):
             g.process.send_signal(signal.SIGHUP)
             time.sleep(0.3)
 
+        streams = [threading.Thread(target=read_stream, args=(g, path, "eye", [], threading.Event()), daemon=True) for path in ("/replies", "/frameworks/site/offers", "/journal?follow=1")]
+        for stream in streams:
+            stream.start()
+        time.sleep(0.5)
+        assert all(stream.is_alive() for stream in streams)
         reload(json.dumps([caller for caller in json.loads(right) if caller["name"] != "eye"]))
+        assert wait(lambda: not any(stream.is_alive() for stream in streams), 5), "a stream outlives its token"
         assert g.ask("/status", name="eye")[0] == 401 and g.ask("/status")[0] == 200
         for bad in ("[", "[{}]", right.replace('"eye"', '"cycle"'), right.replace('"read"', '"reed"')):
             reload(bad)

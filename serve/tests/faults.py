@@ -220,6 +220,19 @@ def test_damaged_member(programs):
         ended(g, "is damaged")
 
 
+def test_wiped_member(programs):
+    """A member that lost its folder does not vote as if it had never stood, and what was answered stays; it comes back as a new one alone."""
+    with Fleet("three", programs.gateway, programs.drf, "-cycle", "0") as fleet:
+        first, _, third = fleet.gateways
+        first.send(*[rescind(n) for n in range(20)])
+        third.kill()
+        shutil.rmtree(third.folder)
+        third.start()
+        ended(third, "bootstrapped")
+        first.send(rescind(77))
+        assert first.ask("/journal")[1].count('"offer": 77}') == 1
+
+
 def mounted(folder, size, image=None):
     """A small disk of its own, where a test may mount one."""
     image = image or os.path.join(folder, "image")

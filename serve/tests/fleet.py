@@ -143,7 +143,7 @@ class Fleet:
         for name, peer, client in peers:
             url = f"http://127.0.0.1:{client}"
             words = ["etcd", "--name", name, "--data-dir", os.path.join(self.folder, name), "--listen-peer-urls", f"http://127.0.0.1:{peer}", "--initial-advertise-peer-urls", f"http://127.0.0.1:{peer}",
-                     "--listen-client-urls", url, "--advertise-client-urls", url, "--initial-cluster", cluster, "--max-request-bytes", "10485760", "--logger", "zap", "--log-level", "error"]
+                     "--listen-client-urls", url, "--advertise-client-urls", url, "--initial-cluster", cluster, "--max-request-bytes", "10485760", "--heartbeat-interval", "50", "--election-timeout", "600", "--logger", "zap", "--log-level", "error"]
             self.servers.append([words, url, None])
 
     def start_server(self, n):

@@ -277,3 +277,30 @@ func TestWhatIsNotDueIsNotPut(t *testing.T) {
 		t.Error(left, err)
 	}
 }
+
+func TestWhatIsForgottenIsNotPassedOver(t *testing.T) {
+	client, ctx := withEtcd(t), context.Background()
+	c := clockOf(client, &machine{}, true)
+	if err := c.renew(ctx); err != nil {
+		t.Fatal(err)
+	}
+	l := listOf(t, client, c)
+	for n := 0; n < 3; n++ {
+		if _, err := l.put(ctx, batch{key: fmt.Sprintf("a/%d", n), lines: [][]byte{[]byte("x")}}); err != nil {
+			t.Fatal(err)
+		}
+	}
+	answer, err := client.client().Get(ctx, "drf/m/a/2")
+	if err != nil {
+		t.Fatal(err)
+	}
+	if _, err := client.client().Compact(ctx, answer.Header.Revision); err != nil {
+		t.Fatal(err)
+	}
+	hand := func(some []message) error {
+		return fmt.Errorf("%d messages were handed on, those before them not", len(some))
+	}
+	if err := l.follow(ctx, 1, hand); err == nil || !strings.Contains(err.Error(), "compacted") {
+		t.Error(err)
+	}
+}

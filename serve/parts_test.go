@@ -101,6 +101,15 @@ func TestTokens(t *testing.T) {
 	}
 }
 
+func TestKindsOfLines(t *testing.T) {
+	for line, want := range map[string]string{`{"event":"cycle"}`: "cycle", `{"event" : "cycle"}`: "cycle", `{"x":{"event":"a"},"event": "cycle"}`: "cycle", `{"event":"a","event":"cycle"}`: "cycle",
+		`{"\u0065vent":"cycle"}`: "cycle", `{"\u0065vent":"cycle","x":{"event":"accept"}}`: "cycle", `{"x":"\"event\":\"a\"","event":"cycle"}`: "cycle", `{"event":7}`: "", `"event":"`: "", "": ""} {
+		if kind := kindOf([]byte(line)); kind != want {
+			t.Errorf("%s: %s", line, kind)
+		}
+	}
+}
+
 func TestFlagsOutOfBounds(t *testing.T) {
 	for _, bad := range []string{"x", "-cert a", "-clock-bound 1s", "-cycle 1ms", "-window -1s", "-save-every 0", "-epoch-every 4294967296", "-etcd a -members b"} {
 		if _, err := readOptions(strings.Fields(bad)); err == nil {

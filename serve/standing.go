@@ -62,17 +62,29 @@ func (t *told) learn(number int64, f *fed) {
 		t.now = f.At
 	}
 	for k, line := range f.lines {
-		reply, object := bytes.TrimSuffix(f.replies[k], []byte("\n")), fields(line)
-		kind, answer := word(object, "event"), answerOf(reply)
+		reply := bytes.TrimSuffix(f.replies[k], []byte("\n"))
+		kind, answer := kindOf(line), answerOf(reply)
 		t.metrics.answered(kind, answer, f)
 		if len(t.listeners) > 0 {
 			t.tell("", number, "reply", map[string]interface{}{"message": number, "line": string(line), "reply": json.RawMessage(reply)})
 		}
 		t.idle = kind == "cycle" && string(reply) == `{"offers":[]}`
 		if answer == "ok" {
-			t.follow(kind, object, reply, f.At)
+			t.follow(kind, line, reply, f.At)
 		}
 	}
+}
+
+// kindOf is the name of a line's event. Most lines have it but once, in its shortest form, and need not be read for that.
+func kindOf(line []byte) string {
+	front := []byte(`"event":"`)
+	if bytes.Count(line, front[:7]) == 1 && bytes.IndexByte(line, '\\') < 0 {
+		if _, rest, is := bytes.Cut(line, front); is {
+			kind, _, _ := bytes.Cut(rest, []byte(`"`))
+			return string(kind)
+		}
+	}
+	return word(fields(line), "event")
 }
 
 // answerOf is the name of a refusal, or ok.
@@ -85,7 +97,7 @@ func answerOf(reply []byte) string {
 }
 
 // follow keeps the offers that stand. The lock is held.
-func (t *told) follow(kind string, line map[string]json.RawMessage, reply []byte, at int64) {
+func (t *told) follow(kind string, line, reply []byte, at int64) {
 	switch kind {
 	case "cycle":
 		var made struct{ Offers []offer }
@@ -98,15 +110,15 @@ func (t *told) follow(kind string, line map[string]json.RawMessage, reply []byte
 		}
 	case "accept", "decline", "rescind":
 		var number uint64
-		json.Unmarshal(line["offer"], &number)
+		json.Unmarshal(fields(line)["offer"], &number)
 		if o, stands := t.offers[number]; stands {
 			t.end(kind, o)
 		}
 	case "remove_agent", "deactivate_agent":
-		name := word(line, "agent")
+		name := word(fields(line), "agent")
 		t.end(kind, t.sorted(func(o offer) bool { return o.Agent == name })...)
 	case "remove_framework":
-		name := word(line, "framework")
+		name := word(fields(line), "framework")
 		t.end(kind, t.sorted(func(o offer) bool { return o.Framework == name })...)
 		t.metrics.forget(name)
 	}

@@ -15,7 +15,7 @@ use Rattle.drf_role.specs.Path.{Path, same_path}
 use Rattle.drf_role.specs.Text.{Text, same_text}
 use Rattle.drf_rows.specs.Client.{Client}
 use Rattle.drf_rows.specs.Held.{client_of}
-use Rattle.drf_rows.specs.Holdings.{Holding, amount_in, holdings_of, of_offer, of_task}
+use Rattle.drf_rows.specs.Holdings.{Holding, amount_in, of_offer, of_task}
 use Rattle.drf_rows.specs.declared.rows.ClientRow.{ClientRow}
 use Rattle.drf_rows.specs.declared.rows.FrameworkRow.{FrameworkRow}
 use Rattle.drf_rows.specs.declared.rows.Rows.{Rows}

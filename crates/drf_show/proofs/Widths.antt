@@ -1,10 +1,10 @@
 -- How wide columns are, and what is written of a row.
-use Rattle.std.specs.Prelude.{◌≡◌, ◌≢◌, ℕ, zero, suc, ◌+◌, ◌-◌, ◌<◌, ◌≤◌, max, min, Bool, true, false, List, [], ◌∷◌, ◌++◌, drop, fold, get_or, length, map, replicate, set, string_bytes, take}
+use Rattle.std.specs.Prelude.{◌≡◌, ◌≢◌, ℕ, ◌+◌, ◌-◌, ◌<◌, max, List, [], ◌∷◌, ◌++◌, get_or, length, map, set, take}
 use Rattle.std.specs.Prelude.{◌⊎◌}
-use Rattle.std.proofs.Common.{refl, sym, ap, subst, ◌∙◌, append_assoc, arith, inl, inr, length-append}
+use Rattle.std.proofs.Common.{sym, ap, subst, ◌∙◌, arith, inl, inr, length-append}
 use Rattle.std.proofs.Math.Nat.{max-zero, zero-max}
 use Rattle.std.proofs.lemmas.Bool.{cases_order}
-use Rattle.std.proofs.lemmas.List.{append-nil, at_drop_more, at_drop_all, get_or-append_right, get_or_append_left, get_or-set_other, get_or-set_same, get_or_past, length-map, length-set, length-take-le, map-append, take_more}
+use Rattle.std.proofs.lemmas.List.{get_or-append_right, get_or_append_left, get_or-set_other, get_or-set_same, get_or_past, length-map, length-set, length-take-le, map-append, take_more}
 use Rattle.std.proofs.lemmas.List.Sums.{fold-append}
 use Rattle.drf_role.specs.Text.{Text}
 use Rattle.drf_show.specs.Aligned.{Cells, IsWidenedAt, width_at}

@@ -1,5 +1,5 @@
 -- How the writing of what is shown ends.
-use Rattle.std.proofs.Common.{◌≡◌, ℕ, Bool, true, false, List, [], take, Option, Result, Ok, Err, OnOk, OnErr, IfErr, refl, sym, ap, ◌∙◌, arith}
+use Rattle.std.proofs.Common.{◌≡◌, ℕ, Bool, false, List, [], take, Option, Result, Ok, Err, OnOk, OnErr, IfErr, refl, ap, ◌∙◌, arith}
 use Rattle.std.specs.Io.KnownBytes.{Appends, Consumes, IsAtEnd}
 use Rattle.std.proofs.KnownBytes.{Appends-nil}
 use Rattle.std.proofs.lemmas.Bool.{false≢true}
@@ -7,11 +7,11 @@ use Rattle.drf_core.specs.Machine.{Machine, Engine, live}
 use Rattle.drf_rows.specs.LimitNumbers.{LimitNumbers}
 use Rattle.drf_rows.specs.Step.{live_rows}
 use Rattle.drf_rows.specs.declared.rows.Rows.{Rows}
-use Rattle.drf_journal.specs.Audited.{HasToldOfRows, rows_after_lines, told_of_lines}
+use Rattle.drf_journal.specs.Audited.{rows_after_lines, told_of_lines}
 use Rattle.drf_journal.specs.Device.{AppendsFrontOf}
 use Rattle.drf_journal.specs.Ended.{HasCause}
 use Rattle.drf_journal.specs.Lines.{lines_of}
-use Rattle.drf_journal.specs.Resumed.{HasAdvanced, resumed}
+use Rattle.drf_journal.specs.Resumed.{resumed}
 use Rattle.drf_journal.specs.declared.fault.RunFault.{RunFault}
 use Rattle.drf_journal.specs.declared.fault.RunFault.TheVariants.{Read, Write, Memory}
 use Rattle.drf_show.specs.Showing.{HasShown}

@@ -1,8 +1,8 @@
 -- What is shown of an allocator's rows besides what they say themselves and what a report tells of them, in a line for each: the agents with
 -- what is free and held there, the clients with what is offered to them and used in their tasks, the limits beside what is consumed, the
 -- filters in force with the time that is left, and how full the tables are beside their limits.
-use Rattle.std.specs.Prelude.{ℕ, ◌-◌, Bool, ◌&&◌, List, [], ◌∷◌, length, map, fold, filter, flat_map, codes}
-use Rattle.drf_role.specs.Text.{Text, same_text}
+use Rattle.std.specs.Prelude.{ℕ, ◌-◌, Bool, ◌&&◌, List, [], ◌∷◌, length, map, fold, filter, flat_map}
+use Rattle.drf_role.specs.Text.{same_text}
 use Rattle.drf_role.specs.Path.{Path, same_path}
 use Rattle.drf_bundle.specs.Bundle.{rest}
 use Rattle.drf_bundle.specs.Quantities.{with_amount, without_zeros}

@@ -1,4 +1,4 @@
-use Rattle.std.proofs.Common.{◌≡◌, ℕ, List, ◌∷◌, ◌++◌, [], flat_map, get_or, take, sym, ap, ◌∙◌}
+use Rattle.std.proofs.Common.{ℕ, List, ◌∷◌, ◌++◌, [], flat_map, get_or, take, sym, ap, ◌∙◌}
 use Rattle.std.proofs.lemmas.List.{flat_map_more, take_more}
 use Rattle.drf_show.specs.Aligned.{Cells, row_text}
 use Rattle.drf_show.proofs.aligned.push_rows.Goals as goal

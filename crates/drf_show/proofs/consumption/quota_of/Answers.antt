@@ -1,6 +1,4 @@
-use Rattle.std.proofs.Common.{◌≡◌, Bool, map, ap, ◌∙◌, arith}
-use Rattle.drf_role.specs.Path.{Path}
-use Rattle.drf_role.specs.Text.{Text}
+use Rattle.std.proofs.Common.{map, ap, arith}
 use Rattle.drf_rows.specs.Holdings.{of_offer, of_task}
 use Rattle.drf_rows.specs.Quota.{held_unreserved, reserved_for}
 use Rattle.drf_gates.specs.Quota.{used_where}

@@ -1,12 +1,8 @@
 use Rattle.std.proofs.Common.{◌≡◌, ℕ, List, ◌++◌, map, ap, ◌∙◌}
 use Rattle.std.proofs.lemmas.Result.{on_ok_weaker}
 use Rattle.drf_rows.specs.Report.{report_of}
-use Rattle.drf_rows.specs.declared.report.NodeLine.{NodeLine}
 use Rattle.drf_rows.specs.declared.report.Report.{Report}
-use Rattle.drf_rows.specs.declared.rows.OfferRow.{OfferRow}
-use Rattle.drf_rows.specs.declared.rows.TaskRow.{TaskRow}
-use Rattle.drf_rows.specs.declared.rows.WeightRow.{WeightRow}
-use Rattle.drf_show.specs.ShownText.{ShownTable, agent_table, behind, client_table, count_table, filter_table, head_table, later_tables, limit_table, node_heads, node_shown, node_table, offer_heads, offer_shown, offer_table, table_in, task_heads, task_shown, task_table, weight_heads, weight_shown, weight_table}
+use Rattle.drf_show.specs.ShownText.{ShownTable, agent_table, behind, client_table, count_table, filter_table, head_table, later_tables, limit_table, node_heads, node_shown, offer_heads, offer_shown, table_in, task_heads, task_shown, weight_heads, weight_shown}
 use Rattle.drf_show.proofs.Shows.{all_behind}
 use Rattle.drf_show.proofs.text.push_tables.Goals as goal
 

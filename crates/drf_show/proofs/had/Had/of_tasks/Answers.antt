@@ -1,4 +1,4 @@
-use Rattle.std.proofs.Common.{◌++◌, map, ap, ◌∙◌}
+use Rattle.std.proofs.Common.{◌++◌, map, ap}
 use Rattle.drf_rows.specs.Holdings.{of_task}
 use Rattle.drf_show.specs.Had.{parts_for}
 use Rattle.drf_show.proofs.Parts.{had_more, had_all}

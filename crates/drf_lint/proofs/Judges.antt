@@ -2,7 +2,6 @@
 use Rattle.std.proofs.Common.{◌≡◌, ℕ, ◌+◌, ◌≤◌, Bool, List, [], ◌∷◌, ◌++◌, length, take, drop, Option, Result, Ok, Err, refl, sym, ap, ◌∙◌, subst, append_assoc, append-nil, take-append-drop, arith}
 use Rattle.std.specs.Io.KnownBytes.{Appends}
 use Rattle.std.proofs.KnownBytes.{Appends-nil}
-use Rattle.std.specs.List.{flat_map}
 use Rattle.std.proofs.lemmas.Grind.{flat_map-append}
 use Rattle.drf_lines.specs.Meaning.{meaning_of}
 use Rattle.drf_lines.specs.declared.fault.LineFault.{LineFault}
@@ -11,10 +10,10 @@ use Rattle.drf_journal.specs.Device.{AppendsFrontOf}
 use Rattle.drf_journal.specs.declared.fault.RunFault.{RunFault}
 use Rattle.drf_journal.specs.declared.fault.RunFault.TheVariants.{Read, Write, Memory}
 use Rattle.drf_lint.specs.declared.diagnosis.Diagnosis.{Diagnosis}
-use Rattle.drf_lint.specs.Judged.{form_of, forms_of, faults_of, fault_count, IsDiagnosis, IsToldOf, IsOfTwo, AreTold, AreJudged}
-use Rattle.drf_lint.specs.Linted.{IsFrontOf, AreJudgedInPart}
+use Rattle.drf_lint.specs.Judged.{form_of, forms_of, faults_of, fault_count, IsDiagnosis, IsToldOf, AreTold, AreJudged}
+use Rattle.drf_lint.specs.Linted.{AreJudgedInPart}
 use Rattle.drf_lint.specs.Lint.{HasJudged, HasJudgedInPart, HasStoppedAt, IsStop}
-use Rattle.drf_lint.specs.Told.{IsTelling, told_line}
+use Rattle.drf_lint.specs.Told.{told_line}
 
 -- ---- a line, and another that means the same and is no shorter
 

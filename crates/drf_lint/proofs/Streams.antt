@@ -12,7 +12,7 @@ use Rattle.drf_journal.specs.Lines.{lines_of}
 use Rattle.drf_journal.specs.Output.{kept_of}
 use Rattle.drf_lint.specs.Judged.{form_of, AreJudged}
 use Rattle.drf_lint.specs.Linted.{AreLinted, HasLinted, AreJudgedInPart, HaveLeft}
-use Rattle.drf_lint.specs.Lint.{Lint, begun, HasJudged, HasJudgedInPart, HasJudgedNothing, HasStoppedAt, HasEnded, HasClosed, IsLintedTo, IsStop, IsStoppedIn, HasTaken, HasStoppedIn}
+use Rattle.drf_lint.specs.Lint.{Lint, begun, HasJudged, HasJudgedInPart, HasJudgedNothing, HasStoppedAt, HasEnded, HasClosed, IsLintedTo, IsStop, HasTaken, HasStoppedIn}
 use Rattle.drf_lint.proofs.Kept.{length-kept, meaning-kept}
 use Rattle.drf_lint.proofs.Judges.{judged-other, part-other, judged-more, part-more}
 use Rattle.drf_lint.proofs.Pieces.{within-nil, lines-nil, line-alone}

@@ -1,4 +1,4 @@
-use Rattle.std.proofs.Common.{◌≡◌, ◌<◌, length, refl, arith}
+use Rattle.std.proofs.Common.{◌≡◌, ◌<◌, length, arith}
 use Rattle.std.proofs.lemmas.Bool.Decides.{nat_tests}
 use Rattle.drf_lint.specs.Lint.{lint_of}
 use Rattle.drf_lint.proofs.Pieces.{closed-none, closed-some, close-stopped}

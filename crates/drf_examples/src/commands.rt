@@ -1,6 +1,6 @@
 //! Commands on words: each line of `commands` has the stream that fails, if one does, the status, the words, the input's file,
 //! and the first lines that are written and that are told, or `@` and a file with the whole text, with `|` between them. A journal
-//! whose lines may stand in several orders is told by what `check` says of it, behind `?`.
+//! whose lines may stand in several orders is told by what `check`, from the same state, says of it, behind `?`.
 use crate::streams::{Bounds, Full, NO_BOUNDS, Slow};
 use drf_app::command;
 use drf_drive_app::command as drive_command;
@@ -69,15 +69,33 @@ fn begins_with(text: &[u8], line: &str) -> bool {
     first == line.as_bytes()
 }
 
+/// The words that check a journal, from the state with which the words begin that wrote it.
+fn check_words<'a>(alloc: Global, words: &[&'a str]) -> Result<Vec<&'a str>, AllocError> {
+    let mut list = Vec::new(alloc);
+    list.push("drf")?;
+    list.push("check")?;
+    let mut is_state = false;
+    for word in words {
+        let is_from = *word == "--from";
+        if is_from || is_state {
+            list.push(*word)?;
+        }
+        is_state = is_from;
+    }
+    Ok(list)
+}
+
 /// Whether a text is that of the file behind `@`, or a journal of which `check` says what stands behind `?`, or else begins with
 /// that line.
 fn is_text<R: Files + Threads + Wait + Sync + AllocGlobal>(
     rt: &R,
+    words: &[&str],
     text: &[u8],
     wanted: &str,
 ) -> io::Result<bool> {
     if let Some(verdict) = wanted.strip_prefix('?') {
-        let checked = done_by(rt, &["drf", "check"], text, NO_BOUNDS);
+        let words = check_words(rt.alloc(), words)?;
+        let checked = done_by(rt, &words, text, NO_BOUNDS);
         return Ok(begins_with(&checked.written, verdict));
     }
     let Some(file) = wanted.strip_prefix('@') else {
@@ -164,11 +182,12 @@ fn done_by<R: Files + Threads + Wait + Sync + AllocGlobal>(
 
 fn is_done<R: Files + Threads + Wait + Sync + AllocGlobal>(
     rt: &R,
+    words: &[&str],
     done: &Done,
     wanted: Wanted,
 ) -> io::Result<bool> {
-    let is_written = is_text(rt, &done.written, wanted.written)?;
-    let is_told = is_text(rt, &done.told, wanted.told)?;
+    let is_written = is_text(rt, words, &done.written, wanted.written)?;
+    let is_told = is_text(rt, words, &done.told, wanted.told)?;
     Ok(done.status == wanted.status && is_written && is_told)
 }
 
@@ -179,7 +198,7 @@ fn is_exact<R: Files + Threads + Wait + Sync + AllocGlobal>(rt: &R, row: &str) -
     let words = words_of(rt.alloc(), wanted.words)?;
     let input = fs::read(rt, wanted.input)?;
     let done = done_by(rt, &words, &input, bounds_of(wanted.failing));
-    is_done(rt, &done, wanted)
+    is_done(rt, &words, &done, wanted)
 }
 
 pub fn run_all<R: Runtime + Threads + Wait + Sync + AllocGlobal>(rt: &R) -> io::Result<()> {

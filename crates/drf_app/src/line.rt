@@ -26,7 +26,7 @@ pub enum Task {
     Save { epoch: bool },
     /// The state after the events of event lines, as tables; with `json` as lines for programs.
     Show { json: bool },
-    /// What is wrong with the lines that are no events; with `write` the others are written as they are read.
+    /// What is wrong with the lines that are no events; with `write` the others are written in their written form.
     Lint { write: bool },
 }
 

@@ -104,7 +104,7 @@ fn perform<F: FileBytes, R: Read, W: Write, E: Write>(
 
 /// Does what the words ask for, of which the first is the program's name: reads the file that they name, then `input`, writes `output`, tells
 /// faults on `errors`, and gives the program's status. That is 0, 1 where a file or a stream failed or memory ran out, 2 where the words ask
-/// for nothing that there is, or 3 where a journal is wrong or a file is no state.
+/// for nothing that there is, or 3 where a journal is wrong, a file is no state, or a lint has found a line that is no event.
 pub fn command<S: AsStr, F: FileBytes, R: Read, W: Write, E: Write>(
     rt: &(impl Threads + Sync),
     alloc: Global,

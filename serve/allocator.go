@@ -5,6 +5,7 @@ import (
 	"bufio"
 	"bytes"
 	"context"
+	"encoding/json"
 	"errors"
 	"fmt"
 	"io"
@@ -12,7 +13,6 @@ import (
 	"os"
 	"os/exec"
 	"sort"
-	"strings"
 	"sync"
 	"time"
 )
@@ -27,11 +27,12 @@ type reach struct {
 
 // allocator follows the list with a child of its own. Nobody leads: each gateway has one, and all give the same.
 type allocator struct {
-	drf     string
-	list    *list
-	journal *journal
-	states  *states
-	told    *told
+	drf       string
+	list      *list
+	journal   *journal
+	states    *states
+	told      *told
+	questions chan message
 
 	mu       sync.Mutex
 	fault    string        // why it is not ready
@@ -39,8 +40,12 @@ type allocator struct {
 	changed  chan struct{} // closed where these change
 	pid      int
 	restarts int
+}
 
-	asking sync.Mutex // one question at a time
+// answer is what a question is answered, and how many messages were before it.
+type answer struct {
+	text     []byte
+	messages int64
 }
 
 // fed is a message on its way through the child; one without a key is behind those that the list had at the start.
@@ -88,7 +93,7 @@ func (a *allocator) run(ctx context.Context) error {
 func (a *allocator) generation(ctx context.Context, from state, revision int64) error {
 	ctx, cancel := context.WithCancel(ctx)
 	defer cancel()
-	child := exec.CommandContext(ctx, a.drf, append([]string{"run", "--echo"}, a.states.words(from)...)...)
+	child := exec.CommandContext(ctx, a.drf, append([]string{"run", "--ask", "--echo"}, a.states.words(from)...)...)
 	child.Stderr = os.Stderr
 	in, err := child.StdinPipe()
 	if err != nil {
@@ -113,10 +118,15 @@ func (a *allocator) generation(ctx context.Context, from state, revision int64) 
 			err = other
 		}
 	}
+	close(way)
+	for f := range way {
+		f.drop()
+	}
 	return err
 }
 
-// feed writes the lines of the messages behind a place to the child, and says before that on the way which replies are due.
+// feed writes the lines of the messages behind a place to the child, and questions between them, and says before that on the way which replies
+// are due.
 func (a *allocator) feed(ctx context.Context, after place, revision int64, out *bufio.Writer, way chan<- *fed) error {
 	hand := func(messages []message) error {
 		for _, m := range messages {
@@ -124,6 +134,7 @@ func (a *allocator) feed(ctx context.Context, after place, revision int64, out *
 			select {
 			case way <- f:
 			case <-ctx.Done():
+				m.drop()
 				return ctx.Err()
 			}
 			for _, line := range f.lines {
@@ -145,7 +156,27 @@ func (a *allocator) feed(ctx context.Context, after place, revision int64, out *
 	if err := hand(append(messages, message{})); err != nil {
 		return fmt.Errorf("feeding it: %w", err)
 	}
-	return a.list.follow(ctx, revision, hand)
+	come, ends := make(chan []message), make(chan error, 1)
+	go func() {
+		ends <- a.list.follow(ctx, revision, func(messages []message) error {
+			select {
+			case come <- messages:
+				return nil
+			case <-ctx.Done():
+				return ctx.Err()
+			}
+		})
+	}()
+	for err == nil {
+		select {
+		case messages := <-come:
+			err = hand(messages)
+		case question := <-a.questions:
+			err = hand([]message{question})
+		case err = <-ends:
+		}
+	}
+	return err
 }
 
 // keep reads for each line that was fed its echo and its reply, and hands these on when no more of them is there to read.
@@ -158,6 +189,13 @@ func (a *allocator) keep(ctx context.Context, in *bufio.Reader, way <-chan *fed)
 		case f = <-way:
 		case <-ctx.Done():
 			return ctx.Err()
+		}
+		if f.answer != nil {
+			if err := a.tell(block, done, f, in); err != nil {
+				return err
+			}
+			block, done = block[:0], nil
+			continue
 		}
 		for _, line := range f.lines {
 			echo, err := in.ReadBytes('\n')
@@ -186,6 +224,20 @@ func (a *allocator) keep(ctx context.Context, in *bufio.Reader, way <-chan *fed)
 			}
 		}
 	}
+}
+
+// tell reads the answer to a question, which stands in no journal, when what was before it is kept.
+func (a *allocator) tell(block []byte, done []*fed, f *fed, in *bufio.Reader) error {
+	defer close(f.answer)
+	if err := a.hand(block, done); err != nil {
+		return err
+	}
+	text, err := in.ReadBytes('\n')
+	if err != nil {
+		return fmt.Errorf("reading its answer: %w", err)
+	}
+	f.answer <- answer{text[1:], a.reached().Messages}
+	return nil
 }
 
 // hand keeps what was answered, and tells who waits.
@@ -331,26 +383,25 @@ func (a *allocator) output(ctx context.Context, in io.Reader, words ...string) (
 	return text, nil
 }
 
-// ask gives what the program answers to `report`, `state`, `explain` or `explain --at AT` as of the last message, whose number it tells. It is
-// asked beside the running child, where a report would count as an event: over the newest state and the journal behind it, in which reply
-// lines are no events.
-func (a *allocator) ask(ctx context.Context, question string) (text []byte, message int64, err error) {
+// ask gives what the running child answers to a question of one or two words, as of the last message before it, whose number it tells.
+func (a *allocator) ask(ctx context.Context, what, argument string) (json.RawMessage, int64, error) {
 	if err := a.ready(); err != nil {
 		return nil, 0, err
 	}
-	a.asking.Lock()
-	defer a.asking.Unlock()
-	now, base := a.reached(), a.states.newest()
-	words, journal := strings.Fields(question), io.Reader(io.NewSectionReader(a.journal, base.Bytes, now.Bytes-base.Bytes))
-	switch question {
-	case "report":
-		words[0], journal = "run", io.MultiReader(journal, strings.NewReader("{\"event\":\"report\"}\n"))
-	case "state":
-		words[0] = "save"
+	question := message{text: []byte("\n?" + what + " " + argument), answer: make(chan answer, 1)}
+	select {
+	case a.questions <- question:
+		select {
+		case got, is := <-question.answer:
+			told := map[string]json.RawMessage{}
+			if json.Unmarshal(got.text, &told); told[what] != nil {
+				return told[what], got.messages, nil
+			} else if is {
+				return nil, 0, fmt.Errorf("the allocator answered %.200q to ?%s", got.text, what)
+			}
+		case <-ctx.Done():
+		}
+	case <-ctx.Done():
 	}
-	text, err = a.output(ctx, journal, append(words, a.states.words(base)...)...)
-	if err == nil && question == "report" { // the last line
-		text = text[bytes.LastIndexByte(text[:len(text)-1], '\n')+1:]
-	}
-	return text, now.Messages, err
+	return nil, 0, refuse(503, "the allocator did not answer: ask again")
 }

@@ -221,28 +221,39 @@ func madeAt(key string) (time.Time, bool) {
 }
 
 func (g *gateway) question(w http.ResponseWriter, r *http.Request, by *caller) error {
-	question, kind := strings.Trim(r.URL.Path, "/"), "application/json"
-	if question == "explain" {
-		kind = "application/x-ndjson"
-		if at := r.URL.Query().Get("at"); at != "" {
-			if _, err := strconv.ParseUint(at, 10, 62); err != nil {
-				return refuse(400, "`at` is milliseconds, at most 2^62")
-			}
-			question += " --at " + at
+	question, kind, moment := strings.Trim(r.URL.Path, "/"), "application/json", ""
+	if at := r.URL.Query().Get("at"); question == "explain" && at != "" {
+		number, err := strconv.ParseUint(at, 10, 62)
+		if err != nil {
+			return refuse(400, "`at` is milliseconds, at most 2^62")
 		}
+		moment = strconv.FormatUint(number, 10)
 	}
 	ctx, cancel := context.WithTimeout(r.Context(), inTime)
 	defer cancel()
-	answer, message, err := g.allocator.ask(ctx, question)
+	told, message, err := g.allocator.ask(ctx, question, moment)
 	if err != nil {
 		return err
 	}
-	if question == "state" { // the last line tells how many they are, and their digest
-		rows := bytes.Split(bytes.TrimSuffix(answer, []byte("\n")), []byte("\n"))
-		answer = []byte(fmt.Sprintf("{\"message\":%d,\"rows\":[%s]}\n", message, bytes.Join(rows[:len(rows)-1], []byte(","))))
+	text := append(told, '\n')
+	switch question {
+	case "state": // the last line tells how many they are, and their digest
+		file := ""
+		if err = json.Unmarshal(told, &file); err == nil {
+			rows := strings.Split(file, "\n")
+			text = []byte(fmt.Sprintf("{\"message\":%d,\"rows\":[%s]}\n", message, strings.Join(rows[:len(rows)-2], ",")))
+		}
+	case "explain":
+		var lines []json.RawMessage
+		err, kind, text = json.Unmarshal(told, &lines), "application/x-ndjson", nil
+		for _, line := range lines {
+			text = append(append(text, line...), '\n')
+		}
 	}
-	give(w, r, kind, message, answer)
-	return nil
+	if err == nil {
+		give(w, r, kind, message, text)
+	}
+	return err
 }
 
 // readJournal gives the journal from a byte on, and goes on as it grows where that is asked for.

@@ -73,6 +73,15 @@ type message struct {
 	place place
 	key   string
 	text  []byte // each line behind a line feed
+
+	answer chan answer // of a question, which is in no list; it has room for one, and is closed then
+}
+
+// drop lets who asked know that no answer comes.
+func (m message) drop() {
+	if m.answer != nil {
+		close(m.answer)
+	}
 }
 
 func (m message) lines() [][]byte { return bytes.Split(m.text, []byte("\n"))[1:] }

@@ -180,7 +180,8 @@ func (o *options) build(e *etcd, j *journal, fail func(error)) *gateway {
 	m := newMetrics()
 	t := &told{metrics: m, offers: map[uint64]offer{}, listeners: map[*listener]bool{}}
 	l := &list{etcd: e, prefix: o.prefix, clock: newClock(e, o), queue: make(chan *pending)}
-	a := &allocator{drf: o.drf, list: l, journal: j, told: t, fault: "starting", entries: []reach{{}}, changed: make(chan struct{})}
+	a := &allocator{drf: o.drf, list: l, journal: j, told: t, fault: "starting", entries: []reach{{}}, changed: make(chan struct{}),
+		questions: make(chan message)}
 	a.states = &states{o: o, list: l, allocator: a, fail: fail}
 	g := &gateway{o: o, list: l, allocator: a, journal: j, told: t, metrics: m, policy: policyOf(page), liveness: &liveness{o: o, list: l, allocator: a, told: t,
 		limits: map[string]time.Duration{"agents": o.agentLimit, "removals": o.removal, "frameworks": o.frameworkLimit}}}

@@ -2,7 +2,6 @@
 package main
 
 import (
-	"bytes"
 	"context"
 	"encoding/json"
 	"fmt"
@@ -84,13 +83,14 @@ func (m *metrics) forget(framework string) {
 func (g *gateway) readMetrics(w http.ResponseWriter, r *http.Request, by *caller) error {
 	ctx, cancel := context.WithTimeout(r.Context(), 8*time.Second)
 	defer cancel()
-	if report, _, err := g.allocator.ask(ctx, "report"); err == nil {
-		g.metrics.setShares(report)
+	m := g.metrics
+	setters := map[string]func([]byte){"report": m.setShares, "tables": m.setTables, "offers": m.setRows("offers"), "tasks": m.setRows("tasks")}
+	for question, set := range setters {
+		if told, _, err := g.allocator.ask(ctx, question, ""); err == nil {
+			set(told)
+		}
 	}
-	if rows, _, err := g.allocator.ask(ctx, "state"); err == nil {
-		g.metrics.setTables(rows)
-	}
-	promhttp.HandlerFor(prometheus.Gatherers{g.metrics.registry, prometheus.DefaultGatherer}, promhttp.HandlerOpts{}).ServeHTTP(w, r)
+	promhttp.HandlerFor(prometheus.Gatherers{m.registry, prometheus.DefaultGatherer}, promhttp.HandlerOpts{}).ServeHTTP(w, r)
 	return nil
 }
 
@@ -116,22 +116,21 @@ func ratio(text string) float64 {
 	return above / below
 }
 
-// setTables counts the rows of a state.
-func (m *metrics) setTables(text []byte) {
-	counts := map[string]int{}
-	for _, line := range bytes.Split(text, []byte("\n")) {
-		var row struct {
-			Row     string
-			Clients []json.RawMessage
-		}
-		json.Unmarshal(line, &row)
-		counts[row.Row]++
-		counts["client"] += len(row.Clients)
+// setTables tells how full those tables are that have a limit.
+func (m *metrics) setTables(told []byte) {
+	tables := map[string]struct{ Rows, Limit float64 }{}
+	json.Unmarshal(told, &tables)
+	for name, table := range tables {
+		m.rows.WithLabelValues(name).Set(table.Rows)
+		m.limits.WithLabelValues(name).Set(table.Limit)
 	}
-	for table, most := range map[string]float64{"agent": 4096, "framework": 1024, "client": 4096, "weight": 4096, "limit": 4096, "filter": 65536, "offer": 0, "task": 0} {
-		m.rows.WithLabelValues(table + "s").Set(float64(counts[table]))
-		if most > 0 {
-			m.limits.WithLabelValues(table + "s").Set(most)
-		}
+}
+
+// setRows counts the rows of a table that has none.
+func (m *metrics) setRows(table string) func([]byte) {
+	return func(told []byte) {
+		var rows []json.RawMessage
+		json.Unmarshal(told, &rows)
+		m.rows.WithLabelValues(table).Set(float64(len(rows)))
 	}
 }

@@ -182,6 +182,51 @@ def test_figures(programs):
         assert '"grant":"cpus:4;mem:4096"' in g.ask("/explain?at=99999999999999")[1]
 
 
+def test_questions(programs):
+    """Answers are as of the message that they name, whatever is sent meanwhile, and stand in no journal; one that is lost is told at once."""
+    with Fleet("alone", programs.gateway, programs.drf, "-cycle", "0") as fleet:
+        g, told, others, stop = fleet.gateways[0], [], [], threading.Event()
+        g.send(SITE)
+        g.send(AGENT)
+
+        def ask(path, answers):
+            while not stop.is_set():
+                answers.append(g.ask(path))
+
+        askers = [threading.Thread(target=ask, args=words) for words in (("/state", told), ("/state", told), ("/report", others), ("/explain", others), ("/metrics", others))]
+        for asker in askers:
+            asker.start()
+        for offer in range(1, 31):
+            g.send({"event": "cycle"})
+            g.send({"event": "decline", "framework": "site", "offer": offer, "refuse_ms": 0})
+        stop.set()
+        for asker in askers:
+            asker.join()
+        journal = g.ask("/journal")[1]
+
+        def of_drf(*words, lines=None):
+            text = "".join(journal.splitlines(keepends=True)[:lines])
+            return subprocess.run([programs.drf, *words], input=text, capture_output=True, text=True, check=True).stdout
+
+        assert {status for status, *_ in told + others} == {200} and "\n?" not in journal and of_drf("check") == "good 62\n", (told, others)
+        states = {int(headers["Drf-Message"]): text for _, text, headers in told}
+        assert len(states) > 5, states.keys()
+        for message, text in states.items():
+            rows = of_drf("save", lines=2 * message).splitlines()[:-1]
+            assert text == f'{{"message":{message},"rows":[{",".join(rows)}]}}\n', (message, text, rows)
+        assert g.ask("/explain")[1] == of_drf("explain") and g.ask("/explain?at=0009999999999999")[1] == of_drf("explain", "--at", "9999999999999")
+        pid = g.status()["allocator"]["pid"]
+        os.kill(pid, signal.SIGSTOP)
+        asker = threading.Thread(target=lambda: told.append(g.ask("/report")))
+        asker.start()
+        time.sleep(0.5)
+        assert asker.is_alive()
+        os.kill(pid, signal.SIGKILL)
+        asker.join(5)
+        assert told[-1][0] == 503 and "ask again" in told[-1][1], told[-1]
+        assert wait(lambda: g.ask("/report")[0] == 200, 20), g.log()[-500:]
+
+
 def test_figures_by_promtool(programs):
     """The figures are as Prometheus would have them; etcd's own are not ours to name."""
     if not shutil.which("promtool"):

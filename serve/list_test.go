@@ -114,6 +114,16 @@ func listOf(t *testing.T, e *etcd, c *clock) *list {
 	return l
 }
 
+// withList is a list of messages on an etcd and a clock of its own, both ready.
+func withList(t *testing.T, m *machine) (*etcd, *list) {
+	client := withEtcd(t)
+	c := clockOf(client, m, true)
+	if err := c.renew(context.Background()); err != nil {
+		t.Fatal(err)
+	}
+	return client, listOf(t, client, c)
+}
+
 func TestOneOrder(t *testing.T) {
 	client, ctx := withEtcd(t), context.Background()
 	c := clockOf(client, &machine{}, true)
@@ -171,13 +181,8 @@ func TestOneOrder(t *testing.T) {
 }
 
 func TestAKeyIsUsedOnce(t *testing.T) {
-	client, ctx := withEtcd(t), context.Background()
-	m := &machine{}
-	c := clockOf(client, m, true)
-	if err := c.renew(ctx); err != nil {
-		t.Fatal(err)
-	}
-	l := listOf(t, client, c)
+	ctx, m := context.Background(), &machine{}
+	client, l := withList(t, m)
 	cycle := batch{key: "a/1", lines: [][]byte{[]byte(`{"event":"cycle"}`)}, timed: []bool{true}}
 	first, err := l.put(ctx, cycle)
 	if err != nil {
@@ -221,12 +226,8 @@ func TestAKeyIsUsedOnce(t *testing.T) {
 }
 
 func TestPrunedMessagesKeepTheirNumbers(t *testing.T) {
-	client, ctx := withEtcd(t), context.Background()
-	c := clockOf(client, &machine{}, true)
-	if err := c.renew(ctx); err != nil {
-		t.Fatal(err)
-	}
-	l := listOf(t, client, c)
+	ctx := context.Background()
+	_, l := withList(t, &machine{})
 	var places []place
 	for n := 1; n <= 120; n++ {
 		at, err := l.put(ctx, batch{key: fmt.Sprintf("a/%d", (n*37)%121), lines: [][]byte{[]byte("x")}})
@@ -254,12 +255,8 @@ func TestPrunedMessagesKeepTheirNumbers(t *testing.T) {
 }
 
 func TestWhatIsNotDueIsNotPut(t *testing.T) {
-	client, ctx := withEtcd(t), context.Background()
-	c := clockOf(client, &machine{}, true)
-	if err := c.renew(ctx); err != nil {
-		t.Fatal(err)
-	}
-	l := listOf(t, client, c)
+	ctx := context.Background()
+	client, l := withList(t, &machine{})
 	first, err := client.client().Put(ctx, "drf/watched/agents/n1", "")
 	if err != nil {
 		t.Fatal(err)
@@ -279,12 +276,8 @@ func TestWhatIsNotDueIsNotPut(t *testing.T) {
 }
 
 func TestWhatIsForgottenIsNotPassedOver(t *testing.T) {
-	client, ctx := withEtcd(t), context.Background()
-	c := clockOf(client, &machine{}, true)
-	if err := c.renew(ctx); err != nil {
-		t.Fatal(err)
-	}
-	l := listOf(t, client, c)
+	ctx := context.Background()
+	client, l := withList(t, &machine{})
 	for n := 0; n < 3; n++ {
 		if _, err := l.put(ctx, batch{key: fmt.Sprintf("a/%d", n), lines: [][]byte{[]byte("x")}}); err != nil {
 			t.Fatal(err)

@@ -1,6 +1,9 @@
 mod ChangeLemmas
+mod ClashLemmas
 mod FirstLemmas
 mod PlaceLemmas
+mod PushLemmas
+mod RestLemmas
 pub mod MergeLemmas
 pub mod NameLemmas
 pub mod SearchLemmas

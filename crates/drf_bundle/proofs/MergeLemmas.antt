@@ -31,17 +31,17 @@ stock_tail (r ∷ rs) name p = rw (tail_is r rs) (omega (arith, where-cons (of_n
 
 -- ---- the steps of a merge
 
-side_less : (o : Ordering) → Some (side_of o) ≡ Some Left → o ≡ Less
+pub side_less : (o : Ordering) → Some (side_of o) ≡ Some Left → o ≡ Less
 side_less Less e = refl
 side_less Equal e = cc
 side_less Greater e = cc
 
-side_equal : (o : Ordering) → Some (side_of o) ≡ Some Both → o ≡ Equal
+pub side_equal : (o : Ordering) → Some (side_of o) ≡ Some Both → o ≡ Equal
 side_equal Less e = cc
 side_equal Equal e = refl
 side_equal Greater e = cc
 
-side_greater : (o : Ordering) → Some (side_of o) ≡ Some Right → o ≡ Greater
+pub side_greater : (o : Ordering) → Some (side_of o) ≡ Some Right → o ≡ Greater
 side_greater Less e = cc
 side_greater Equal e = cc
 side_greater Greater e = refl
@@ -111,7 +111,7 @@ at_end (r ∷ rs) (s ∷ ss) found whole side known = cc
 
 -- ---- the steps of a search for a clash
 
-abbrev test_of : Clash → Resource → Resource → Bool
+abbrev pub test_of : Clash → Resource → Resource → Bool
 test_of clash r s = same_text r.label s.label && clash_in clash r.value s.value
 
 below_itself : (t : Text) → text_below t t ≡ false

@@ -1,3 +1,4 @@
+pub mod ListLaws
 pub mod Bundle
 pub mod KeyPlaces
 pub mod Quantities

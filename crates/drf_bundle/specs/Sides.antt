@@ -1,12 +1,15 @@
 -- Two lists of resources side by side.
-use Rattle.std.specs.Prelude.{◌+◌, Bool, not, List, [], ◌∷◌, Option, Some, None}
+use Rattle.std.specs.Prelude.{◌+◌, Bool, not, List, [], ◌∷◌, Option, Some, None, if◌then◌else◌}
 use Rattle.std.specs.List.{list_all}
 use Rattle.std.specs.declared.cmp.Ordering.{Ordering}
 use Rattle.std.specs.declared.cmp.Ordering.TheVariants.{Less, Equal, Greater}
 use Rattle.std.specs.Ordering.{nat_cmp}
 use Rattle.std.specs.Cmp.Lexicographic.{slice_cmp}
 use Rattle.drf_role.specs.Text.{Text, text_below}
-use Rattle.drf_bundle.specs.Bundle.{key_of, key_cmp, stock, Fits}
+use Rattle.drf_amount.specs.declared.algebra.AlgebraFault.{AlgebraFault}
+use Rattle.drf_amount.specs.declared.algebra.AlgebraFault.TheVariants as fault
+use Rattle.drf_bundle.specs.Bundle.{key_of, key_cmp, stock, Fits, have_clash}
+use Rattle.drf_bundle.specs.declared.value.Clash.TheVariants.{Kinds, Members}
 use Rattle.drf_bundle.specs.declared.merge.Side.{Side}
 use Rattle.drf_bundle.specs.declared.merge.Side.TheVariants.{Left, Right, Both}
 use Rattle.drf_bundle.specs.declared.resource.Resource.{Resource}
@@ -37,3 +40,10 @@ abbrev pub names_cmp : List Resource → List Resource → Option Ordering
 names_cmp [] others = None
 names_cmp (r ∷ rs) [] = None
 names_cmp (r ∷ rs) (s ∷ ss) = Some (slice_cmp nat_cmp r.label s.label)
+
+-- why values of a name clash: first by their kinds, then by a member of both
+abbrev pub clash_fault : List Resource → List Resource → Option AlgebraFault
+clash_fault a b =
+    if have_clash Kinds a b then Some fault.Kind
+    else if have_clash Members a b then Some fault.Overlap
+    else None

@@ -1,5 +1,5 @@
 -- Values of resources: thousandths, a set of numbers or a set of labels. A value is known by its units.
-use Rattle.std.specs.Prelude.{ℕ, ◌+◌, ◌-◌, ◌^◌, Bool, true, false, not, List, nat_le, if◌then◌else◌}
+use Rattle.std.specs.Prelude.{ℕ, ◌+◌, ◌-◌, ◌^◌, Bool, true, false, not, ◌||◌, List, nat_le, if◌then◌else◌}
 use Rattle.std.specs.FinSet as set
 use Rattle.drf_amount.specs.Scalar.{IsScalar}
 use Rattle.drf_kinds.specs.Sets.{are_disjoint}
@@ -8,7 +8,7 @@ use Rattle.drf_kinds.specs.Names.{IsLabelSet}
 use Rattle.drf_bundle.specs.declared.value.Value.{Value}
 use Rattle.drf_bundle.specs.declared.value.Value.TheVariants.{Scalar, Ranges, Items}
 use Rattle.drf_bundle.specs.declared.value.Clash.{Clash}
-use Rattle.drf_bundle.specs.declared.value.Clash.TheVariants.{Kinds, Members}
+use Rattle.drf_bundle.specs.declared.value.Clash.TheVariants.{Kinds, Members, Either}
 
 -- where units of a value stand: its thousandths, a number, or a member
 pub data Point : Type 0 where
@@ -64,6 +64,7 @@ share_members v w = false
 abbrev pub clash_in : Clash → Value → Value → Bool
 clash_in Kinds v w = not (is_same_kind v w)
 clash_in Members v w = share_members v w
+clash_in Either v w = not (is_same_kind v w) || share_members v w
 
 -- both together: the sum of scalars, the union of sets
 abbrev pub united : Value → Value → Value

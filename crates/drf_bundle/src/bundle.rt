@@ -2,16 +2,16 @@
 ghost use Rattle.std.specs.Prelude.{◌≡◌, IsTrue, [], ◌∷◌, ◌++◌, None, Some, OnOk, IfOk, IfErr, IsOk, map};
 ghost use Rattle.std.specs.List.{list_all};
 ghost use Rattle.std.specs.Option.{option_copied};
-ghost use Rattle.drf_bundle.specs.Bundle.{IsBundle, amount, join, refusal, is_too_large, is_in_order, exceeds, rest, filled_of, left_of, covers_one, reservation, value_at, quantities_of, one_of, is_unreserved, is_for, part_for, clip, clipped, relabel};
+ghost use Rattle.drf_bundle.specs.Bundle.{IsBundle, amount, join, refusal, is_too_large, is_in_order, exceeds, rest, filled_of, covers_one, reservation, value_at, quantities_of, one_of, is_unreserved, is_for, part_for, clip, clipped, relabel};
 ghost use Rattle.drf_bundle.specs.Value.{IsGiven};
 ghost use Rattle.drf_bundle.specs.KeyPlaces.{IsKeyAt, IsKeyGap};
 ghost use Rattle.drf_bundle.specs.laws.BundleLaws.{bundle_laws};
 
-use crate::merge::{have_clash, merged};
+use crate::merge::{clash_fault, merged, rest};
 use crate::parts::{Parts, place};
 use crate::quantities::Quantities;
-use crate::resource::Resource;
-use crate::value::{Clash, Value};
+use crate::resource::{Resource, is_same_role};
+use crate::value::Value;
 use drf_amount::{Algebra, AlgebraFault, Scalar};
 use drf_role::{Label, Role};
 use std::alloc::{AllocError, Global};
@@ -63,7 +63,7 @@ fn is_at(resources: &[Resource], label: &Label, role: &Role, at: usize) -> bool
     ensures { IsTrue result → IsKeyAt resources.now (label.now, reservation role.now) at }
 {
     match resources.get(at) {
-        Some(resource) => resource.label == *label && resource.role == *role,
+        Some(resource) => resource.label == *label && is_same_role(&resource.role, role),
         None => false,
     }
 }
@@ -129,22 +129,6 @@ fn are_for(resources: &[Resource], role: &Role) -> bool
     true
 }
 
-/// The resource without what the part has under its key.
-fn left_of(part: &[Resource], resource: &Resource, hint: usize) -> Result<Resource, AllocError>
-    requires { IsTrue (is_in_order part.now) }
-    ensures { IfOk result (λ left. left ≡ left_of part.now resource.now) }
-{
-    let value = match value_at(part, &resource.label, &resource.role, hint) {
-        Some(part) => resource.value.minus(part)?,
-        None => resource.value.copy()?,
-    };
-    Ok(Resource {
-        label: resource.label.copy()?,
-        role: resource.role.copy()?,
-        value,
-    })
-}
-
 /// Whether the limits leave all of the resource. No clause says so where they do: a wrong answer costs a copy.
 fn stays_whole(limits: &Quantities, resource: &Resource) -> bool
     ensures { IsTrue result → clipped limits.now resource.now ≡ resource.now }
@@ -198,19 +182,6 @@ fn push_filled(resources: &mut Vec<Resource>, resource: Resource) -> Result<(), 
         resources.push(resource)?;
     }
     Ok(())
-}
-
-/// What is left of the resources without the part, of which they need not have all.
-fn rest(alloc: Global, whole: &[Resource], part: &[Resource]) -> Result<Vec<Resource>, AllocError>
-    requires { IsTrue (is_in_order part.now) }
-    ensures { IfOk result (λ left. left.items ≡ rest whole.now part.now) }
-{
-    let mut left = Vec::with_capacity(alloc, whole.len())?;
-    for (i, resource) in whole.iter().enumerate() {
-        let hint = i.saturating_sub(1);
-        push_filled(&mut left, left_of(part, resource, hint)?)?;
-    }
-    Ok(left)
 }
 
 impl Bundle {
@@ -359,11 +330,8 @@ impl Bundle {
         ensures given { IsBundle self.now × IsBundle other.now }
         ensures refusal { result ≡ refusal self.now other.now }
     {
-        if have_clash(self.entries(), other.entries(), Clash::Kinds) {
-            return Some(AlgebraFault::Kind);
-        }
-        if have_clash(self.entries(), other.entries(), Clash::Members) {
-            return Some(AlgebraFault::Overlap);
+        if let Some(fault) = clash_fault(self.entries(), other.entries()) {
+            return Some(fault);
         }
         if self.is_too_large_with(other) {
             return Some(AlgebraFault::TooLarge);
@@ -395,8 +363,7 @@ impl Bundle {
     pub fn rest(&self, part: &Bundle) -> Result<Bundle, AllocError>
         ensures { IfOk result (λ left. left ≡ rest self.now part.now) }
     {
-        let left = rest(self.alloc(), self.entries(), part.entries())?;
-        Bundle::new(self.alloc(), left)
+        Bundle::from_parts(rest(self.alloc(), self.entries(), part.entries())?)
     }
 
     /// The bundle with another part in the place of one, of which it need not have all. What is left without that one must have a join with
@@ -406,7 +373,7 @@ impl Bundle {
         ensures { IfOk result (λ both. join (rest self.now old.now) new.now ≡ Some both) }
     {
         let left = rest(self.alloc(), self.entries(), old.entries())?;
-        Bundle::new(self.alloc(), merged(self.alloc(), &left, new.entries())?)
+        Bundle::from_parts(merged(self.alloc(), left.entries(), new.entries())?)
     }
 }
 
@@ -448,8 +415,8 @@ impl Algebra for Bundle {
         if other.is_empty() {
             return Ok(self.copy()?);
         }
-        let resources = merged(self.alloc(), self.entries(), other.entries())?;
-        Ok(Bundle::new(self.alloc(), resources)?)
+        let parts = merged(self.alloc(), self.entries(), other.entries())?;
+        Ok(Bundle::from_parts(parts)?)
     }
 
     fn covers(&self, part: &Bundle) -> bool {

@@ -1,10 +1,13 @@
 //! Two lists of resources in order, gone through side by side.
-ghost use Rattle.std.specs.Prelude.{◌≡◌, IsTrue, IfOk};
-ghost use Rattle.drf_bundle.specs.Bundle.{is_in_order, merged, have_clash, clashes_with_some};
-ghost use Rattle.drf_bundle.specs.Sides.{FitTogether, next_side, names_cmp, none_before};
+ghost use Rattle.std.specs.Prelude.{◌≡◌, IsTrue, IfOk, OnOk, [], ◌∷◌, ◌++◌};
+ghost use Rattle.drf_bundle.specs.Bundle.{IsBundle, is_in_order, merged, rest, filled_of, with_value, have_clash, clashes_with_some};
+ghost use Rattle.drf_bundle.specs.Value.{less};
+ghost use Rattle.drf_bundle.specs.Sides.{clash_fault, FitTogether, next_side, names_cmp, none_before};
 
+use crate::parts::Parts;
 use crate::resource::{Resource, compare_labels};
-use crate::value::Clash;
+use crate::value::{Clash, Value};
+use drf_amount::AlgebraFault;
 use std::alloc::{AllocError, Global};
 use std::cmp::Ordering;
 
@@ -35,19 +38,27 @@ fn next_side(left: &[Resource], right: &[Resource]) -> Option<Side>
     })
 }
 
-/// The resources of both in order, those of one key united.
-pub fn merged(
-    alloc: Global,
-    left: &[Resource],
-    right: &[Resource],
-) -> Result<Vec<Resource>, AllocError>
-    requires { FitTogether left.now right.now }
-    ensures { IfOk result (λ found. found.items ≡ merged left.now right.now) }
+/// Puts what a part of its value leaves of a resource behind the others, if that is anything.
+fn push_left(left: &mut Parts, resource: &Resource, part: &Value) -> Result<(), AllocError>
+    requires { IsBundle (left.old ++ filled_of (with_value resource.now (less resource.now.value part.now) ∷ [])) }
+    ensures { OnOk result (left.new ≡ left.old ++ filled_of (with_value resource.now (less resource.now.value part.now) ∷ [])) }
 {
-    let most = left.len().saturating_add(right.len());
+    let value = resource.value.minus(part)?;
+    if !value.is_empty() {
+        left.push(resource.with_value(value)?)?;
+    }
+    Ok(())
+}
+
+/// The resources of both in order, those of one key united.
+pub fn merged(alloc: Global, left: &[Resource], right: &[Resource]) -> Result<Parts, AllocError>
+    requires fits { FitTogether left.now right.now }
+    requires bundle { IsBundle (merged left.now right.now) }
+    ensures { IfOk result (λ found. found ≡ merged left.now right.now) }
+{
     let mut left = left;
     let mut right = right;
-    let mut found = Vec::with_capacity(alloc, most)?;
+    let mut found = Parts::empty(alloc);
     while let Some(side) = next_side(left, right) {
         match side {
             Side::Left => {
@@ -66,6 +77,32 @@ pub fn merged(
         }
     }
     Ok(found)
+}
+
+/// What is left of the resources without the part, of which they need not have all.
+pub fn rest(alloc: Global, whole: &[Resource], part: &[Resource]) -> Result<Parts, AllocError>
+    requires whole { IsBundle whole.now }
+    requires part { IsTrue (is_in_order part.now) }
+    ensures { IfOk result (λ left. left ≡ rest whole.now part.now) }
+{
+    let mut whole = whole;
+    let mut part = part;
+    let mut left = Parts::empty(alloc);
+    while let Some(side) = next_side(whole, part) {
+        match side {
+            Side::Left => {
+                left.push(whole[0].copy()?)?;
+                whole = &whole[1..];
+            }
+            Side::Right => part = &part[1..],
+            Side::Both => {
+                push_left(&mut left, &whole[0], &part[0].value)?;
+                whole = &whole[1..];
+                part = &part[1..];
+            }
+        }
+    }
+    Ok(left)
 }
 
 /// Whether the resource clashes with one of its name, of others that do not stand before it.
@@ -116,4 +153,22 @@ pub fn have_clash(left: &[Resource], right: &[Resource], clash: Clash) -> bool
         }
     }
     false
+}
+
+/// The fault of the first way in which values of a name clash. Where none do, one walk tells it.
+pub fn clash_fault(left: &[Resource], right: &[Resource]) -> Option<AlgebraFault>
+    requires left { IsTrue (is_in_order left.now) }
+    requires right { IsTrue (is_in_order right.now) }
+    ensures { result ≡ clash_fault left.now right.now }
+{
+    if !have_clash(left, right, Clash::Either) {
+        return None;
+    }
+    if have_clash(left, right, Clash::Kinds) {
+        return Some(AlgebraFault::Kind);
+    }
+    if have_clash(left, right, Clash::Members) {
+        return Some(AlgebraFault::Overlap);
+    }
+    None
 }

@@ -1,5 +1,5 @@
 //! What a bundle is put together of, and what its copies share.
-ghost use Rattle.std.specs.Prelude.{◌≡◌, ◌+◌, ◌<◌, ◌^◌, IsTrue, [], OnOk, OnErr, IfOk, IfErr};
+ghost use Rattle.std.specs.Prelude.{◌≡◌, ◌+◌, ◌<◌, ◌^◌, IsTrue, [], ◌∷◌, ◌++◌, OnOk, OnErr, IfOk, IfErr};
 ghost use Rattle.drf_bundle.specs.Bundle.{IsBundle, is_in_order, reservation, add_scalar, quantities_of};
 ghost use Rattle.drf_bundle.specs.Value.{Thousandths, units_in};
 ghost use Rattle.drf_bundle.specs.Quantities.{amount_of};
@@ -102,6 +102,19 @@ impl Parts {
             quantities: sums(alloc, &resources)?,
             resources,
         })
+    }
+
+    /// Puts a resource behind all others, with which it makes a bundle. An `Err` changes nothing.
+    pub(crate) fn push(&mut self, resource: Resource) -> Result<(), AllocError>
+        requires { IsBundle (self.old ++ resource ∷ []) }
+        ensures ok { OnOk result (self.new ≡ self.old ++ resource ∷ []) }
+        ensures err { OnErr result (self.new ≡ self.old) }
+    {
+        // With room the push takes no memory, so that nothing has to be taken back.
+        self.resources.reserve(1)?;
+        add_scalar(&mut self.quantities, &resource)?;
+        self.resources.push_reserved(resource);
+        Ok(())
     }
 
     pub(crate) fn alloc(&self) -> Global {

@@ -1,5 +1,6 @@
 //! A value with its name and its reservation.
 ghost use Rattle.std.specs.Prelude.{◌≡◌, ◌+◌, ◌<◌, ◌^◌, IfOk};
+ghost use Rattle.drf_role.specs.Path.{same_path};
 ghost use Rattle.drf_bundle.specs.Bundle.{is_default, is_for, moved_to, key_of, key_cmp, reservation, with_value};
 ghost use Rattle.drf_bundle.specs.Value.{Thousandths, units_in, united};
 ghost use Rattle.std.specs.Ordering.{nat_cmp};
@@ -46,11 +47,21 @@ pub(crate) fn compare_labels(label: &Label, other: &Label) -> Ordering
     label.cmp(other)
 }
 
+/// Whether two roles are the same. Most that are compared are `*`, which costs less to see.
+pub(crate) fn is_same_role(role: &Role, other: &Role) -> bool
+    ensures { result ≡ same_path role.now other.now }
+{
+    if role.is_default() && other.is_default() {
+        return true;
+    }
+    role == other
+}
+
 /// How two reservations stand in order.
 fn compare_reservations(role: &Role, other: &Role) -> Ordering
     ensures { result ≡ slice_cmp nat_cmp (reservation role.now) (reservation other.now) }
 {
-    if role == other {
+    if is_same_role(role, other) {
         return Ordering::Equal;
     }
     reservation(role).cmp(reservation(other))
@@ -92,14 +103,21 @@ impl Resource {
         })
     }
 
-    pub fn copy(&self) -> Result<Resource, AllocError>
-        ensures { IfOk result (λ resource. resource ≡ self.now) }
+    /// A copy with that value.
+    pub(crate) fn with_value(&self, value: Value) -> Result<Resource, AllocError>
+        ensures { IfOk result (λ resource. resource ≡ with_value self.now value) }
     {
         Ok(Resource {
             label: self.label.copy()?,
             role: self.role.copy()?,
-            value: self.value.copy()?,
+            value,
         })
+    }
+
+    pub fn copy(&self) -> Result<Resource, AllocError>
+        ensures { IfOk result (λ resource. resource ≡ self.now) }
+    {
+        self.with_value(self.value.copy()?)
     }
 
     /// Both together, of two of one key.
@@ -107,10 +125,6 @@ impl Resource {
         requires { units_in self.now.value Thousandths + units_in other.now.value Thousandths < 2 ^ 64 }
         ensures { IfOk result (λ both. both ≡ with_value self.now (united self.now.value other.now.value)) }
     {
-        Ok(Resource {
-            label: self.label.copy()?,
-            role: self.role.copy()?,
-            value: self.value.unite(&other.value)?,
-        })
+        self.with_value(self.value.unite(&other.value)?)
     }
 }

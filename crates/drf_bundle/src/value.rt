@@ -24,6 +24,8 @@ pub enum Clash {
     Kinds,
     /// A member stands in both.
     Members,
+    /// The one or the other.
+    Either,
 }
 
 impl Value {
@@ -80,14 +82,14 @@ impl Value {
             (Value::Scalar(_), Value::Scalar(_)) => false,
             (Value::Ranges(ranges), Value::Ranges(others)) => match clash {
                 Clash::Kinds => false,
-                Clash::Members => !ranges.disjoint(others),
+                Clash::Members | Clash::Either => !ranges.disjoint(others),
             },
             (Value::Items(items), Value::Items(others)) => match clash {
                 Clash::Kinds => false,
-                Clash::Members => !items.disjoint(others),
+                Clash::Members | Clash::Either => !items.disjoint(others),
             },
             _ => match clash {
-                Clash::Kinds => true,
+                Clash::Kinds | Clash::Either => true,
                 Clash::Members => false,
             },
         }

@@ -1,91 +1,102 @@
--- Weights and limits stand, event by event.
-use Rattle.std.specs.Prelude.{◌≡◌, Option, Some, None}
+-- Tables stand, event by event.
+use Rattle.std.specs.Prelude.{◌≡◌, ◌+◌, Option, Some, None}
 use Rattle.std.specs.Option.{option_map_or}
 use Rattle.std.proofs.Common.{refl, ap, ◌∙◌}
 use Rattle.drf_rows.specs.Cycle.{at_moment}
+use Rattle.drf_rows.specs.LimitNumbers.{LimitNumbers}
 use Rattle.drf_rows.specs.Offers.{offer_at, offer_accepted, offer_declined}
 use Rattle.drf_rows.specs.Step.{refusal_of, effect, rows_after}
-use Rattle.drf_rows.specs.laws.OthersLaws.{cycle_only_offers}
-use Rattle.drf_rows.specs.laws.StepLaws.{rows_after-accepted, rows_after-refused}
+use Rattle.drf_row_laws.specs.OthersLaws.{cycle_only_offers}
+use Rattle.drf_row_laws.specs.StepLaws.{rows_after-accepted, rows_after-refused}
 use Rattle.drf_rows.specs.declared.event.Event.{Event}
-use Rattle.drf_rows.specs.declared.event.Event.TheVariants.{AddAgent, RemoveAgent, ActivateAgent, DeactivateAgent, SetAgent, AddFramework, RemoveFramework, Accept, Decline, Rescind, Finish, Suppress, Revive, Reserve, Unreserve, SetWeight, SetLimit, Cycle, Report}
+use Rattle.drf_rows.specs.declared.event.Event.TheVariants.{RemoveAgent, RemoveFramework, Accept, Decline, Revive, SetWeight, SetLimit, Cycle}
 use Rattle.drf_rows.specs.declared.reply.Refusal.{Refusal}
 use Rattle.drf_rows.specs.declared.rows.OfferRow.{OfferRow}
 use Rattle.drf_rows.specs.declared.rows.Rows.{Rows}
-use Rattle.drf_cases.specs.Untouched.{SetsNoLimit, SetsNoWeight, LimitsStand, WeightsStand}
+use Rattle.drf_cases.specs.Untouched.{TouchesNoFilter, SetsNoLimit, SetsNoWeight, HasNoMoment, IsNoCycle, FiltersStand, LimitsStand, WeightsStand, ClockStands, NumberStands}
+
+-- what the effect of an event keeps the step keeps, which counts the event
+step_keeps : {X : Type 0} (field : Rows → X) (limits : LimitNumbers) (rows : Rows) (event : Event)
+    → field (record (effect rows event) { events = rows.events + 1 }) ≡ field rows → field (rows_after limits rows event) ≡ field rows
+step_keeps field limits rows event kept = by (refusal_of limits rows event) refl
+  where
+    by : (f : Option Refusal) → refusal_of limits rows event ≡ f → field (rows_after limits rows event) ≡ field rows
+    by None accepted = ap field (rows_after-accepted limits rows event accepted) ∙ kept
+    by (Some refusal) refused = ap field (rows_after-refused limits rows event refusal refused)
+
+-- what is kept as an offer is accepted or declined, be it there or not
+offer_keeps : {X : Type 0} (field : Rows → X) (rows : Rows) (to : OfferRow → Rows) → ((o : OfferRow) → field (to o) ≡ field rows) → (found : Option OfferRow)
+    → field (option_map_or to found rows) ≡ field rows
+offer_keeps field rows to kept None = refl
+offer_keeps field rows to kept (Some o) = kept o
+
+-- weights
 
 weights_kept : (rows : Rows) (event : Event) → SetsNoWeight event → (effect rows event).weights ≡ rows.weights
 unfolding effect
-weights_kept rows (AddAgent agent total) spared = refl
-weights_kept rows (RemoveAgent agent) spared = refl
-weights_kept rows (ActivateAgent agent) spared = refl
-weights_kept rows (DeactivateAgent agent) spared = refl
-weights_kept rows (SetAgent agent total) spared = refl
-weights_kept rows (AddFramework framework roles) spared = refl
-weights_kept rows (RemoveFramework framework) spared = refl
-weights_kept rows (Accept a) spared = by (offer_at rows a.offer)
-  where
-    by : (f : Option OfferRow)
-        → (option_map_or (λ o. offer_accepted (at_moment rows a.at) o a.tasks a.refuse_ms) f rows).weights ≡ rows.weights
-    by None = refl
-    by (Some o) = refl
-weights_kept rows (Decline d) spared = by (offer_at rows d.offer)
-  where
-    by : (f : Option OfferRow) → (option_map_or (λ o. offer_declined (at_moment rows d.at) o d.refuse_ms) f rows).weights ≡ rows.weights
-    by None = refl
-    by (Some o) = refl
-weights_kept rows (Rescind offer) spared = refl
-weights_kept rows (Finish framework task) spared = refl
-weights_kept rows (Suppress framework role) spared = refl
-weights_kept rows (Revive framework role) spared = refl
-weights_kept rows (Reserve agent role resources) spared = refl
-weights_kept rows (Unreserve agent role resources) spared = refl
+weights_kept rows (Accept a) spared =
+    offer_keeps (λ (r : Rows). r.weights) rows (λ o. offer_accepted (at_moment rows a.at) o a.tasks a.refuse_ms) (λ o. refl) (offer_at rows a.offer)
+weights_kept rows (Decline d) spared =
+    offer_keeps (λ (r : Rows). r.weights) rows (λ o. offer_declined (at_moment rows d.at) o d.refuse_ms) (λ o. refl) (offer_at rows d.offer)
 weights_kept rows (SetWeight role weight) spared = absurd spared
-weights_kept rows (SetLimit role limit) spared = refl
 weights_kept rows (Cycle at) spared = ap (λ (r : Rows). r.weights) (cycle_only_offers rows at).nothing_else
-weights_kept rows Report spared = refl
+weights_kept rows event spared = refl
 
 pub weights_stand : WeightsStand
-weights_stand limits rows event spared = by (refusal_of limits rows event) refl
-  where
-    by : (f : Option Refusal) → refusal_of limits rows event ≡ f → (rows_after limits rows event).weights ≡ rows.weights
-    by None accepted = ap (λ (r : Rows). r.weights) (rows_after-accepted limits rows event accepted) ∙ weights_kept rows event spared
-    by (Some refusal) refused = ap (λ (r : Rows). r.weights) (rows_after-refused limits rows event refusal refused)
+weights_stand limits rows event spared = step_keeps (λ (r : Rows). r.weights) limits rows event (weights_kept rows event spared)
+
+-- limits
 
 limits_kept : (rows : Rows) (event : Event) → SetsNoLimit event → (effect rows event).limits ≡ rows.limits
 unfolding effect
-limits_kept rows (AddAgent agent total) spared = refl
-limits_kept rows (RemoveAgent agent) spared = refl
-limits_kept rows (ActivateAgent agent) spared = refl
-limits_kept rows (DeactivateAgent agent) spared = refl
-limits_kept rows (SetAgent agent total) spared = refl
-limits_kept rows (AddFramework framework roles) spared = refl
-limits_kept rows (RemoveFramework framework) spared = refl
-limits_kept rows (Accept a) spared = by (offer_at rows a.offer)
-  where
-    by : (f : Option OfferRow)
-        → (option_map_or (λ o. offer_accepted (at_moment rows a.at) o a.tasks a.refuse_ms) f rows).limits ≡ rows.limits
-    by None = refl
-    by (Some o) = refl
-limits_kept rows (Decline d) spared = by (offer_at rows d.offer)
-  where
-    by : (f : Option OfferRow) → (option_map_or (λ o. offer_declined (at_moment rows d.at) o d.refuse_ms) f rows).limits ≡ rows.limits
-    by None = refl
-    by (Some o) = refl
-limits_kept rows (Rescind offer) spared = refl
-limits_kept rows (Finish framework task) spared = refl
-limits_kept rows (Suppress framework role) spared = refl
-limits_kept rows (Revive framework role) spared = refl
-limits_kept rows (Reserve agent role resources) spared = refl
-limits_kept rows (Unreserve agent role resources) spared = refl
-limits_kept rows (SetWeight role weight) spared = refl
+limits_kept rows (Accept a) spared =
+    offer_keeps (λ (r : Rows). r.limits) rows (λ o. offer_accepted (at_moment rows a.at) o a.tasks a.refuse_ms) (λ o. refl) (offer_at rows a.offer)
+limits_kept rows (Decline d) spared =
+    offer_keeps (λ (r : Rows). r.limits) rows (λ o. offer_declined (at_moment rows d.at) o d.refuse_ms) (λ o. refl) (offer_at rows d.offer)
 limits_kept rows (SetLimit role limit) spared = absurd spared
 limits_kept rows (Cycle at) spared = ap (λ (r : Rows). r.limits) (cycle_only_offers rows at).nothing_else
-limits_kept rows Report spared = refl
+limits_kept rows event spared = refl
 
 pub limits_stand : LimitsStand
-limits_stand limits rows event spared = by (refusal_of limits rows event) refl
-  where
-    by : (f : Option Refusal) → refusal_of limits rows event ≡ f → (rows_after limits rows event).limits ≡ rows.limits
-    by None accepted = ap (λ (r : Rows). r.limits) (rows_after-accepted limits rows event accepted) ∙ limits_kept rows event spared
-    by (Some refusal) refused = ap (λ (r : Rows). r.limits) (rows_after-refused limits rows event refusal refused)
+limits_stand limits rows event spared = step_keeps (λ (r : Rows). r.limits) limits rows event (limits_kept rows event spared)
+
+-- filters
+
+filters_kept : (rows : Rows) (event : Event) → TouchesNoFilter event → (effect rows event).filters ≡ rows.filters
+unfolding effect
+filters_kept rows (RemoveAgent agent) spared = absurd spared
+filters_kept rows (RemoveFramework framework) spared = absurd spared
+filters_kept rows (Accept a) spared = absurd spared
+filters_kept rows (Decline d) spared = absurd spared
+filters_kept rows (Revive framework role) spared = absurd spared
+filters_kept rows (Cycle at) spared = ap (λ (r : Rows). r.filters) (cycle_only_offers rows at).nothing_else
+filters_kept rows event spared = refl
+
+pub filters_stand : FiltersStand
+filters_stand limits rows event spared = step_keeps (λ (r : Rows). r.filters) limits rows event (filters_kept rows event spared)
+
+-- the clock
+
+clock_kept : (rows : Rows) (event : Event) → HasNoMoment event → (effect rows event).clock ≡ rows.clock
+unfolding effect
+clock_kept rows (Accept a) spared = absurd spared
+clock_kept rows (Decline d) spared = absurd spared
+clock_kept rows (Cycle at) spared = absurd spared
+clock_kept rows event spared = refl
+
+pub clock_stands : ClockStands
+clock_stands limits rows event spared = step_keeps (λ (r : Rows). r.clock) limits rows event (clock_kept rows event spared)
+
+-- the next number
+
+number_kept : (rows : Rows) (event : Event) → IsNoCycle event → (effect rows event).next_offer ≡ rows.next_offer
+unfolding effect
+number_kept rows (Accept a) spared =
+    offer_keeps (λ (r : Rows). r.next_offer) rows (λ o. offer_accepted (at_moment rows a.at) o a.tasks a.refuse_ms) (λ o. refl) (offer_at rows a.offer)
+number_kept rows (Decline d) spared =
+    offer_keeps (λ (r : Rows). r.next_offer) rows (λ o. offer_declined (at_moment rows d.at) o d.refuse_ms) (λ o. refl) (offer_at rows d.offer)
+number_kept rows (Cycle at) spared = absurd spared
+number_kept rows event spared = refl
+
+pub number_stands : NumberStands
+number_stands limits rows event spared = step_keeps (λ (r : Rows). r.next_offer) limits rows event (number_kept rows event spared)

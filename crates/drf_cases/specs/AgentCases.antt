@@ -3,8 +3,8 @@ use Rattle.std.specs.Prelude.{[], ◌∷◌, codes}
 use Rattle.drf_rows.specs.declared.event.Event.TheVariants.{AddAgent, RemoveAgent, ActivateAgent, DeactivateAgent, SetAgent, Rescind, Cycle}
 use Rattle.drf_rows.specs.declared.reply.Refusal.TheVariants.{UnknownAgent, KnownAgent, UnknownOffer, NotCovered, TooLarge, TooMany}
 use Rattle.drf_rows.specs.declared.reply.Reply.TheVariants.{Done, Refused}
-use Rattle.drf_rows.specs.examples.Examples.{cpus, mem, gpus, framework_in, offer}
-use Rattle.drf_rows.specs.examples.LifeExamples.{one}
+use Rattle.drf_worked.specs.Examples.{cpus, mem, gpus, framework_in, offer}
+use Rattle.drf_worked.specs.LifeExamples.{one}
 use Rattle.drf_cases.specs.Told.{Told, too_large}
 
 -- who registers, is activated or is not, is so again, gets another total, and leaves with its offer

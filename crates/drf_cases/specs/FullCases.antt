@@ -7,9 +7,9 @@ use Rattle.drf_rows.specs.declared.event.Event.TheVariants as event
 use Rattle.drf_rows.specs.declared.event.Event.TheVariants.{AddAgent, RemoveAgent, ActivateAgent, DeactivateAgent, SetAgent, AddFramework, RemoveFramework, Rescind, Finish, Suppress, Revive, Reserve, Unreserve, SetWeight, SetLimit, Cycle}
 use Rattle.drf_rows.specs.declared.reply.Refusal.TheVariants.{HistoryFull}
 use Rattle.drf_rows.specs.declared.reply.Reply.TheVariants.{Done, Refused}
-use Rattle.drf_rows.specs.examples.Examples.{cpus}
-use Rattle.drf_rows.specs.examples.LifeExamples.{accept, decline}
-use Rattle.drf_rows.specs.examples.OrderExamples.{role_a}
+use Rattle.drf_worked.specs.Examples.{cpus}
+use Rattle.drf_worked.specs.LifeExamples.{accept, decline}
+use Rattle.drf_worked.specs.OrderExamples.{role_a}
 use Rattle.drf_cases.specs.Told.{Told, few, too_late}
 
 -- one event more than none is one too many

@@ -4,5 +4,6 @@ pub mod FrameworkCases
 pub mod OfferCases
 pub mod RoleCases
 pub mod FullCases
+pub mod RefusalCases
 pub mod ServedCases
 pub mod Untouched

@@ -1,10 +1,10 @@
 -- Offers, tasks and cycles: each case in which they are refused.
-use Rattle.std.specs.Prelude.{[], ◌∷◌, ◌++◌, codes}
+use Rattle.std.specs.Prelude.{ℕ, [], ◌∷◌, ◌++◌, codes}
 use Rattle.drf_rows.specs.declared.event.Event.TheVariants.{AddAgent, Rescind, Finish, Cycle}
 use Rattle.drf_rows.specs.declared.reply.Refusal.TheVariants.{BadMoment, UnknownFramework, UnknownOffer, NotYours, UnknownTask, KnownTask, Empty, NotCovered, TooMany}
 use Rattle.drf_rows.specs.declared.reply.Reply.TheVariants.{Done, Offers, Refused}
-use Rattle.drf_rows.specs.examples.Examples.{cpus, mem, framework_in, offer}
-use Rattle.drf_rows.specs.examples.LifeExamples.{one, accept, accept_for, decline, decline_for}
+use Rattle.drf_worked.specs.Examples.{cpus, mem, framework_in, offer}
+use Rattle.drf_worked.specs.LifeExamples.{one, accept, accept_for, decline, decline_for}
 use Rattle.drf_cases.specs.Told.{Told, too_late}
 
 -- two frameworks have an offer each
@@ -23,7 +23,11 @@ two_offers =
     )
     ∷ []
 
--- an offer is accepted, one that is left is accepted whole, one is declined, and a task finishes
+-- the most that one bundle may have of a scalar: twice as much has no join
+abbrev all_there_is : ℕ
+all_there_is = 18446744073709551615
+
+-- an offer is accepted, one that is left is accepted whole, one is declined, and a task finishes; while filters are too many, what sets none is taken
 abbrev pub offers_told : Told
 offers_told =
     two_offers
@@ -35,6 +39,11 @@ offers_told =
     ∷ (accept_for (codes "f1") 1 ((codes "t", cpus 1000 ∷ []) ∷ (codes "t", cpus 1000 ∷ []) ∷ []) 0 0, Refused KnownTask)
     ∷ (accept (codes "f1") 1 (codes "t") [], Refused Empty)
     ∷ (accept (codes "f1") 1 (codes "t") (cpus 2001 ∷ []), Refused NotCovered)
+    ∷ (accept_for (codes "f1") 1 ((codes "t", cpus 1001 ∷ []) ∷ (codes "u", cpus 1000 ∷ []) ∷ []) 0 0, Refused NotCovered)
+    ∷ (
+      accept_for (codes "f1") 1 ((codes "t", cpus all_there_is ∷ []) ∷ (codes "u", cpus all_there_is ∷ []) ∷ []) 0 0,
+      Refused NotCovered,
+    )
     ∷ (accept (codes "f1") 1 (codes "t") (cpus 1000 ∷ []), Done)
     ∷ (Cycle 0, one (offer 3 (codes "f1") (codes "a") (codes "n1") (cpus 1000 ∷ mem 64000 ∷ [])))
     ∷ (accept (codes "f1") 3 (codes "t") (cpus 1000 ∷ []), Refused KnownTask)
@@ -48,11 +57,16 @@ offers_told =
     ∷ (accept_for (codes "f1") 3 ((codes "u", cpus 1000 ∷ mem 64000 ∷ []) ∷ []) 0 5000, Done)
     ∷ (Rescind 3, Refused UnknownOffer)
     ∷ (Cycle 4999, one (offer 4 (codes "f1") (codes "a") (codes "n2") (cpus 1000 ∷ [])))
-    ∷ (Rescind 4, Done)
-    ∷ (Rescind 4, Refused UnknownOffer)
-    ∷ (Cycle 5000, one (offer 5 (codes "f2") (codes "b") (codes "n2") (cpus 1000 ∷ [])))
+    ∷ (decline (codes "f1") 4, Done)
+    ∷ (Cycle 4999, one (offer 5 (codes "f1") (codes "a") (codes "n2") (cpus 1000 ∷ [])))
+    ∷ (accept (codes "f1") 5 (codes "v") (cpus 400 ∷ []), Done)
+    ∷ (Cycle 4999, one (offer 6 (codes "f1") (codes "a") (codes "n2") (cpus 600 ∷ [])))
+    ∷ (Rescind 6, Done)
+    ∷ (Rescind 6, Refused UnknownOffer)
+    ∷ (Cycle 5000, one (offer 7 (codes "f2") (codes "b") (codes "n2") (cpus 600 ∷ [])))
+    ∷ (decline_for (codes "f2") 7 5000 5000, Done)
     ∷ (Finish (codes "f9") (codes "t"), Refused UnknownFramework)
-    ∷ (Finish (codes "f1") (codes "v"), Refused UnknownTask)
+    ∷ (Finish (codes "f1") (codes "w"), Refused UnknownTask)
     ∷ (Finish (codes "f2") (codes "t"), Refused UnknownTask)
     ∷ (Finish (codes "f1") (codes "t"), Done)
     ∷ (Finish (codes "f1") (codes "t"), Refused UnknownTask)

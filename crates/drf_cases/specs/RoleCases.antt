@@ -5,10 +5,10 @@ use Rattle.drf_bundle.specs.declared.quantities.Entry.{Entry}
 use Rattle.drf_rows.specs.declared.event.Event.TheVariants.{AddAgent, DeactivateAgent, Reserve, Unreserve, SetWeight, SetLimit}
 use Rattle.drf_rows.specs.declared.reply.Refusal.TheVariants.{UnknownAgent, DefaultRole, Empty, NotUnreserved, NotCovered, OverLimit, BadWeight, TooMany}
 use Rattle.drf_rows.specs.declared.reply.Reply.TheVariants.{Done, Refused}
-use Rattle.drf_rows.specs.examples.Examples.{cpus, cpus_for}
-use Rattle.drf_rows.specs.examples.OrderExamples.{eng, ops, role_a, role_b}
-use Rattle.drf_rows.specs.examples.QuotaExamples.{cpus_limit}
-use Rattle.drf_rows.specs.examples.ReportExamples.{told_cpus}
+use Rattle.drf_worked.specs.Examples.{cpus, cpus_for}
+use Rattle.drf_worked.specs.OrderExamples.{eng, ops, role_a, role_b}
+use Rattle.drf_worked.specs.QuotaExamples.{cpus_limit}
+use Rattle.drf_worked.specs.ReportExamples.{told_cpus}
 use Rattle.drf_cases.specs.Told.{Told}
 
 -- a part of an agent that takes no part is reserved, and is for everyone again
@@ -39,7 +39,7 @@ reservations_told =
 abbrev three_scalars : List Entry
 three_scalars = told_cpus 0 ++ record { label = codes "gpus"; amount = 0 } ∷ record { label = codes "mem"; amount = 0 } ∷ []
 
--- one role has a weight, which is set anew, and one a limit, which is taken away
+-- one role has a weight, which is set anew, and one a limit, which is set anew and taken away
 abbrev pub roles_told : Told
 roles_told =
     (SetWeight role_a 0, Refused BadWeight)
@@ -51,6 +51,7 @@ roles_told =
     ∷ (cpus_limit role_a 0, Done)
     ∷ (cpus_limit role_b 0, Refused TooMany)
     ∷ (SetLimit role_b [], Done)
+    ∷ (cpus_limit role_a 1000, Done)
     ∷ (SetLimit role_a three_scalars, Refused TooMany)
     ∷ (SetLimit role_a [], Done)
     ∷ (cpus_limit role_b 0, Done)

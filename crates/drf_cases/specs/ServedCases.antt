@@ -1,12 +1,14 @@
 -- Who is served, where a part of what stands is easily left out of the count.
-use Rattle.std.specs.Prelude.{ℕ, true, [], ◌∷◌, codes}
+use Rattle.std.specs.Prelude.{ℕ, true, false, [], ◌∷◌, codes}
 use Rattle.drf_role.specs.Text.{Text}
 use Rattle.drf_bundle.specs.declared.resource.Resource.{Resource}
 use Rattle.drf_bundle.specs.declared.value.Value.TheVariants.{Scalar}
+use Rattle.drf_rows.specs.declared.rows.AgentRow.{AgentRow}
 use Rattle.drf_rows.specs.declared.rows.FrameworkRow.{FrameworkRow}
 use Rattle.drf_rows.specs.declared.rows.Rows.{Rows}
-use Rattle.drf_rows.specs.examples.Examples.{cpus}
-use Rattle.drf_rows.specs.examples.OrderExamples.{agent_with, eng, framework_row, holding, ops, rows_with}
+use Rattle.drf_rows.specs.declared.rows.TaskRow.{TaskRow}
+use Rattle.drf_worked.specs.Examples.{cpus}
+use Rattle.drf_worked.specs.OrderExamples.{agent_with, eng, framework_row, holding, ops, rows_with}
 
 -- so many thousandths, for a role of one component
 abbrev pub mem_for : Text → ℕ → Resource
@@ -23,3 +25,27 @@ one_suppressed = rows_with
     (suppressed_in_eng ∷ framework_row (codes "f2") eng 0 ∷ framework_row (codes "f3") ops 1 ∷ [])
     (holding (codes "f1") eng (cpus 2000 ∷ []) ∷ holding (codes "f3") ops (cpus 1000 ∷ []) ∷ [])
     []
+
+-- two frameworks share a role, of which one wants no offers and got one
+abbrev pub one_counted : Rows
+one_counted = rows_with
+    (agent_with (cpus 8000 ∷ []) ∷ [])
+    (suppressed_in_eng ∷ framework_row (codes "f2") eng 0 ∷ framework_row (codes "f3") ops 0 ∷ [])
+    []
+    []
+
+-- an agent that takes no part
+abbrev idle : AgentRow
+idle = record { name = codes "n2"; total = cpus 8000 ∷ []; active = false }
+
+-- what runs there
+abbrev runs_there : TaskRow
+runs_there = record { name = codes "t"; agent = codes "n2"; framework = codes "f2"; role = eng; bundle = cpus 2000 ∷ [] }
+
+-- one framework has a task of it, and another, of another role, is offered half as much of another agent
+abbrev pub one_idle : Rows
+one_idle = record (rows_with
+    (agent_with (cpus 8000 ∷ []) ∷ idle ∷ [])
+    (framework_row (codes "f2") eng 1 ∷ framework_row (codes "f3") ops 1 ∷ [])
+    (holding (codes "f3") ops (cpus 1000 ∷ []) ∷ [])
+    []) { tasks = runs_there ∷ [] }

@@ -2,16 +2,17 @@
 #![tactic(auto, unfolding(drf_rows::specs::Share::is_ahead, drf_rows::specs::Held::standing_of, drf_rows::specs::Cycle::free_of, drf_rows::specs::Cycle::with_offer, drf_rows::specs::Cycle::turn, drf_rows::specs::Cycle::cycle, drf_rows::specs::Step::refusal_of, drf_rows::specs::Step::effect, drf_rows::specs::Step::rows_after, drf_rows::specs::Step::reply_to))]
 
 ghost use Rattle.std.specs.Prelude.{◌≡◌, [], ◌∷◌, codes};
-ghost use Rattle.drf_rows.specs.examples.Examples.{mem, not_offered, offered_whole, replies_with};
-ghost use Rattle.drf_rows.specs.examples.OrderExamples.{served};
+ghost use Rattle.drf_worked.specs.Examples.{mem, not_offered, offered_whole, replies_with};
+ghost use Rattle.drf_worked.specs.OrderExamples.{served};
 ghost use Rattle.drf_cases.specs.AgentCases.{agents_told};
 ghost use Rattle.drf_cases.specs.FrameworkCases.{frameworks_told};
 ghost use Rattle.drf_cases.specs.FullCases.{full_told, one_event};
 ghost use Rattle.drf_cases.specs.OfferCases.{offers_told};
+ghost use Rattle.drf_cases.specs.RefusalCases.{refusals_documented, refusals_told};
 ghost use Rattle.drf_cases.specs.RoleCases.{reservations_told, roles_told};
-ghost use Rattle.drf_cases.specs.ServedCases.{mem_for, one_suppressed};
+ghost use Rattle.drf_cases.specs.ServedCases.{mem_for, one_counted, one_idle, one_suppressed};
 ghost use Rattle.drf_cases.specs.Told.{IsRun, few};
-ghost use Rattle.drf_cases.specs.Untouched.{LimitsStand, WeightsStand};
+ghost use Rattle.drf_cases.specs.Untouched.{ClockStands, FiltersStand, LimitsStand, NumberStands, WeightsStand};
 
 /// Agents: unknown or known, too large, too many, too many names of scalars, a total below what is held. Who is active may be activated, and who
 /// is not may be deactivated.
@@ -45,15 +46,27 @@ pub fn full_cases()
     ensures { IsRun one_event full_told }
 {}
 
-/// What suppressed clients hold counts for those above them, and what is reserved counts for the threshold, but for those alone who may use it.
+/// What suppressed clients hold and were offered counts for those above them, and so does what runs on agents that take no part; what is reserved
+/// counts for the threshold, but for those alone who may use it.
 pub fn fairness_cases()
     ensures suppressed { served one_suppressed ≡ codes "f3" ∷ codes "f2" ∷ [] }
+    ensures counted { served one_counted ≡ codes "f3" ∷ codes "f2" ∷ [] }
+    ensures idle { served one_idle ≡ codes "f3" ∷ codes "f2" ∷ [] }
     ensures reserved { replies_with (mem 16000 ∷ mem_for (codes "a") 16000 ∷ []) ≡ offered_whole (mem 16000 ∷ mem_for (codes "a") 16000 ∷ []) }
     ensures for_others { replies_with (mem 16000 ∷ mem_for (codes "b") 16000 ∷ []) ≡ not_offered }
 {}
 
-/// Weights and limits of roles stand until they are set, whoever comes or goes.
+/// Each refusal is told by the number and the name that the documents have.
+pub fn refusals_cases()
+    ensures { refusals_told ≡ refusals_documented }
+{}
+
+/// Weights and limits of roles stand until they are set, whoever comes or goes. So do filters but over an accept or a decline, which may set one, a
+/// revival, and the removal of an agent or a framework, the clock until a moment is told, and the number of the next offer until a cycle.
 pub fn untouched_law()
     ensures weights { WeightsStand }
     ensures limits { LimitsStand }
+    ensures filters { FiltersStand }
+    ensures clock { ClockStands }
+    ensures number { NumberStands }
 {}

@@ -3,8 +3,18 @@
 #![tactic(auto)]
 
 mod cases;
+mod limited;
+mod runs;
 
 pub use cases::{
-    agents_cases, fairness_cases, frameworks_cases, full_cases, offers_cases, reservations_cases,
-    roles_cases, untouched_law,
+    agents_cases, fairness_cases, frameworks_cases, full_cases, offers_cases, refusals_cases,
+    reservations_cases, roles_cases, untouched_law,
+};
+pub use limited::{
+    limited_example, limits_refused_example, other_totals_example, ports_example, reserved_example,
+};
+pub use runs::{
+    cycles_example, filters_example, inactive_example, least_offer_example, life_example,
+    limits_example, order_example, others_example, report_example, reservations_example,
+    taking_part_example, weights_example,
 };

@@ -12,7 +12,7 @@ use Rattle.drf_rows.specs.LimitNumbers.{LimitNumbers}
 use Rattle.drf_rows.specs.Offers.{offer_at, is_empty}
 use Rattle.drf_rows.specs.Step.{refusal_of, effect}
 use Rattle.drf_rows.specs.Tasks.{uses}
-use Rattle.drf_rows.specs.laws.KeptLimitLaws.{IsGivenBundles}
+use Rattle.drf_laws.specs.KeptLimitLaws.{IsGivenBundles}
 use Rattle.drf_rows.specs.declared.event.Accept as accepting
 use Rattle.drf_rows.specs.declared.event.Decline as declining
 use Rattle.drf_rows.specs.declared.event.Event.TheVariants.{Accept, Decline}

@@ -13,7 +13,7 @@ use Rattle.drf_rows.specs.Members.{has_framework}
 use Rattle.drf_rows.specs.Totals.{agent_at, is_below_held}
 use Rattle.drf_rows.specs.declared.rows.AgentRow.{AgentRow}
 use Rattle.drf_rows.specs.declared.rows.Rows.{Rows}
-use Rattle.drf_rows.specs.laws.Laws.{are_in_order}
+use Rattle.drf_row_laws.specs.Laws.{are_in_order}
 
 -- clients with one path are one
 abbrev pub PathsTellClients : Type 0

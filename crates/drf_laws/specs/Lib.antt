@@ -1,3 +1,10 @@
+pub mod ConsumptionLaws
+pub mod MovingLaws
+pub mod EndedLaws
+pub mod SuppressionLaws
+pub mod OfferedLaws
+pub mod KeptLimitLaws
+pub mod HeldForLaws
 pub mod Kept
 pub mod KeptLaws
 pub mod EventLaws

@@ -10,7 +10,7 @@ use Rattle.drf_rows.specs.LimitNumbers.{LimitNumbers}
 use Rattle.drf_rows.specs.Consistent.{IsConsistent, IsConserved}
 use Rattle.drf_rows.specs.Quota.{consumption}
 use Rattle.drf_rows.specs.Step.{opening, live_rows, rows_after, rows_after_all}
-use Rattle.drf_rows.specs.laws.KeptLimitLaws.{IsGivenBundles, changes_totals}
+use Rattle.drf_laws.specs.KeptLimitLaws.{IsGivenBundles, changes_totals}
 use Rattle.drf_rows.specs.declared.event.Event.{Event}
 use Rattle.drf_rows.specs.declared.event.Event.TheVariants.{AddAgent, SetAgent, AddFramework, SetWeight, SetLimit}
 use Rattle.drf_rows.specs.declared.rows.LimitRow.{LimitRow}

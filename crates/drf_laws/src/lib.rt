@@ -1,9 +1,19 @@
 //! Laws of events, of turns and of runs, proved of the definition alone.
 #![tactic(auto)]
 
+mod definition;
 mod laws;
+mod limits;
 
+pub use definition::{
+    life_law, live_rows_law, offers_law, others_law, report_law, serving_order_law, set_weight_law,
+    step_law, turn_law,
+};
 pub use laws::{
     bounded_runs_law, consistent_runs_law, event_law, given_law, kept_law, kept_limits_law,
     known_law, set_filters_law, turns_law,
+};
+pub use limits::{
+    consumption_law, entitlement_law, limit_refusals_law, limited_runs_law, limits_law, moving_law,
+    reservations_law, set_agent_law, set_limit_law,
 };

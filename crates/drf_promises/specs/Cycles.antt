@@ -4,7 +4,8 @@ use Rattle.std.specs.List.{AllByRecursion}
 use Rattle.drf_bundle.specs.Bundle.{IsBundle, is_unreserved}
 use Rattle.drf_rows.specs.Client.{Client, path_of}
 use Rattle.drf_rows.specs.Consistent.{IsConsistent}
-use Rattle.drf_rows.specs.Cycle.{free_of, is_allocatable, grant, all_tried, turn_order, turn, cycle}
+use Rattle.drf_rows.specs.Cycle.{free_of, is_allocatable, grant, all_tried, turn_order, turn, at_moment, cycle}
+use Rattle.drf_rows.specs.Filters.{in_force}
 use Rattle.drf_rows.specs.Held.{active_clients, standing_of}
 use Rattle.drf_rows.specs.Holdings.{of_offer}
 use Rattle.drf_rows.specs.Share.{stands_before}
@@ -51,19 +52,23 @@ NothingIsExplained =
     → later ≤ max rows.clock at
     → flat_map grants_in (explained (cycle rows at) later) ≡ []
 
+-- no filter is in force: there may be some that ran out
+abbrev pub IsUnfiltered : Rows → Type 0
+IsUnfiltered rows = in_force rows.clock rows.filters ≡ []
+
 -- whatever is free may be offered to anybody: nothing is reserved, limited or refused
 pub record IsOpen (rows : Rows) : Type 0 where
   pub unreserved : AllByRecursion (λ a. is_unreserved a.total ≡ true) rows.agents
   pub limits : rows.limits ≡ []
-  pub filters : rows.filters ≡ []
+  pub filters : IsUnfiltered rows
 
--- then all that is worth an offer is handed out, if anybody takes part
+-- then, if it is so at a cycle's moment, all that is worth an offer is handed out, if anybody takes part
 abbrev pub AllIsHandedOut : Type 0
 AllIsHandedOut =
     (rows : Rows) (at : ℕ) (client : Client)
     → IsConsistent rows
     → at ≤ LATEST_MOMENT
-    → IsOpen rows
+    → IsOpen (at_moment rows at)
     → Has (active_clients rows) client
     → AllByRecursion (λ agent. is_allocatable (free_of (cycle rows at) agent) ≡ false) (active_agents rows)
 

@@ -5,5 +5,7 @@ pub mod Apart
 pub mod Sharing
 pub mod Waiting
 pub mod Passes
+pub mod Frameworks
+pub mod Overtaken
 pub mod laws
 pub mod examples

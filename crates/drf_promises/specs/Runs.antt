@@ -2,10 +2,10 @@
 use Rattle.std.specs.Prelude.{◌≡◌, ℕ, List, [], ◌∷◌, slice_get, Some}
 use Rattle.std.specs.List.{AllByRecursion}
 use Rattle.drf_rows.specs.Holdings.{holdings_of}
-use Rattle.drf_rows.specs.LimitNumbers.{LimitNumbers, IsWithinCeilings}
+use Rattle.drf_rows.specs.LimitNumbers.{LimitNumbers}
 use Rattle.drf_rows.specs.Step.{opening, rows_after_all}
-use Rattle.drf_rows.specs.laws.HeldForLaws.{IsForItsRole}
-use Rattle.drf_rows.specs.laws.LifeLaws.{other_offers, other_tasks}
+use Rattle.drf_laws.specs.HeldForLaws.{IsForItsRole}
+use Rattle.drf_row_laws.specs.LifeLaws.{other_offers, other_tasks}
 use Rattle.drf_rows.specs.declared.event.Event.{Event}
 use Rattle.drf_rows.specs.declared.rows.OfferRow.{OfferRow}
 use Rattle.drf_rows.specs.declared.rows.Rows.{Rows}
@@ -43,6 +43,5 @@ TasksStand =
 abbrev pub ReservedIsItsRoles : Type 0
 ReservedIsItsRoles =
     (limits : LimitNumbers) (events : List Event)
-    → IsWithinCeilings limits
     → AreGiven events
     → AllByRecursion IsForItsRole (holdings_of (rows_after_all limits opening events))

@@ -7,7 +7,7 @@ use Rattle.drf_bundle.specs.Quantities.{amount_of}
 use Rattle.drf_bundle.specs.declared.resource.Resource.{Resource}
 use Rattle.drf_rows.specs.Client.{path_of}
 use Rattle.drf_rows.specs.Consistent.{IsConsistent}
-use Rattle.drf_rows.specs.Cycle.{cycle, is_allocatable}
+use Rattle.drf_rows.specs.Cycle.{at_moment, cycle, is_allocatable}
 use Rattle.drf_rows.specs.Held.{cluster_total, held_by, standing_of, weight_of}
 use Rattle.drf_rows.specs.Holdings.{of_offer}
 use Rattle.drf_rows.specs.Share.{Fraction, share_of}
@@ -46,14 +46,14 @@ SharingIncentive =
 
 -- ---- of an empty cluster
 
--- So of an empty cluster, where nothing is reserved, limited or refused and every agent is active and worth an offer, a cycle gives each role at the
--- top its part by weight, but for the largest agent a sibling: at least w/W less n times w/W of that agent's share.
+-- So of an empty cluster, where every agent is active and worth an offer and at a cycle's moment nothing is reserved, limited or refused, the cycle gives
+-- each role at the top its part by weight, but for the largest agent a sibling: at least w/W less n times w/W of that agent's share.
 abbrev pub FairShares : Type 0
 FairShares =
     (rows : Rows) (at : ℕ) (one : Text) (others : List Text) (label : Text)
     → IsConsistent rows
     → at ≤ LATEST_MOMENT
-    → IsOpen rows
+    → IsOpen (at_moment rows at)
     → rows.offers ≡ []
     → rows.tasks ≡ []
     → AllByRecursion (λ a. (a.active ≡ true) × (is_allocatable a.total ≡ true)) rows.agents
@@ -75,7 +75,7 @@ EqualAgentsAreShared =
     (rows : Rows) (at : ℕ) (one : Text) (others : List Text) (total : List Resource)
     → IsConsistent rows
     → at ≤ LATEST_MOMENT
-    → IsOpen rows
+    → IsOpen (at_moment rows at)
     → rows.offers ≡ []
     → rows.tasks ≡ []
     → AllByRecursion (λ a. (a.active ≡ true) × (a.total ≡ total)) rows.agents

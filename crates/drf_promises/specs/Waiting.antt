@@ -3,11 +3,11 @@ use Rattle.std.specs.Prelude.{◌≡◌, ℕ, ◌+◌, ◌<◌, ◌≤◌, min, 
 use Rattle.std.specs.List.{AllByRecursion, list_any}
 use Rattle.drf_rows.specs.Client.{Client}
 use Rattle.drf_rows.specs.Consistent.{IsConsistent}
-use Rattle.drf_rows.specs.Cycle.{free_of, is_allocatable}
+use Rattle.drf_rows.specs.Cycle.{at_moment, free_of, is_allocatable}
 use Rattle.drf_rows.specs.Held.{active_clients}
 use Rattle.drf_rows.specs.Holdings.{of_offer}
 use Rattle.drf_rows.specs.Step.{effect, new_offers}
-use Rattle.drf_rows.specs.laws.LifeLaws.{is_same_client}
+use Rattle.drf_row_laws.specs.LifeLaws.{is_same_client}
 use Rattle.drf_rows.specs.declared.event.Event.TheVariants.{Cycle, Decline}
 use Rattle.drf_rows.specs.declared.limits.TheConstants.{LATEST_MOMENT, LONGEST_FILTER}
 use Rattle.drf_rows.specs.declared.rows.AgentRow.{AgentRow}
@@ -38,13 +38,14 @@ made_in refuse_ms rows (at ∷ moments) = made_at rows at ++ made_in refuse_ms (
 abbrev pub IsOffered : List OfferRow → Client → Type 0
 IsOffered offers client = list_any (λ o. is_same_client client (of_offer o).client) offers ≡ true
 
--- One agent is active, what is free on it is worth an offer, and nothing is reserved, limited or refused. Where each declines what it is offered, for
--- longer than some cycles take, each is offered something in as many cycles as there are clients that take part, whatever the tree and the shares.
+-- One agent is active, what is free on it is worth an offer, and as some cycles begin nothing is reserved, limited or refused. Where each declines what
+-- it is offered, for longer than these cycles take, each is offered something in as many of them as there are clients that take part, whatever the tree
+-- and the shares.
 abbrev pub EverybodyIsOffered : Type 0
 EverybodyIsOffered =
     (rows : Rows) (agent : AgentRow) (moments : List ℕ) (first last refuse_ms : ℕ)
     → IsConsistent rows
-    → IsOpen rows
+    → IsOpen (at_moment rows first)
     → active_agents rows ≡ agent ∷ []
     → is_allocatable (free_of rows agent) ≡ true
     → rows.clock ≤ last

@@ -7,6 +7,7 @@ pub mod Stands
 pub mod Counts
 pub mod Shares
 pub mod Siblings
+pub mod Unfiltered
 pub mod Open
 pub mod First
 pub mod Apart
@@ -19,3 +20,7 @@ pub mod Passes
 pub mod PassRuns
 pub mod Shared
 pub mod Equal
+pub mod Frameworks
+pub mod FrameworkTurns
+pub mod FrameworkRuns
+pub mod Overtaken

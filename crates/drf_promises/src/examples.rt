@@ -1,19 +1,24 @@
 //! Runs that are computed from the definition. The functions do nothing.
 #![tactic(auto, unfolding(drf_rows::specs::Share::is_ahead, drf_rows::specs::Held::standing_of, drf_rows::specs::Cycle::free_of, drf_rows::specs::Cycle::with_offer, drf_rows::specs::Cycle::turn, drf_rows::specs::Cycle::cycle, drf_rows::specs::Step::refusal_of, drf_rows::specs::Step::effect, drf_rows::specs::Step::rows_after, drf_rows::specs::Step::reply_to, drf_explain::specs::Explained::explained))]
 
-ghost use Rattle.std.specs.Prelude.{◌≡◌, ◌∷◌, [], codes};
+ghost use Rattle.std.specs.Prelude.{◌≡◌, ◌∷◌, [], codes, true};
 ghost use Rattle.drf_rows.specs.Client.{path_of};
 ghost use Rattle.drf_rows.specs.Held.{held_by};
 ghost use Rattle.drf_rows.specs.LimitNumbers.{ceilings};
+ghost use Rattle.drf_rows.specs.Share.{is_same};
+ghost use Rattle.drf_rows.specs.Step.{opening};
 ghost use Rattle.drf_rows.specs.declared.event.Event.TheVariants.{Cycle};
 ghost use Rattle.drf_explain.specs.Explained.{explained};
 ghost use Rattle.drf_explain.specs.declared.finding.Finding.TheVariants.{Tried};
 ghost use Rattle.drf_explain.specs.declared.finding.Outcome.TheVariants.{OverLimit};
+ghost use Rattle.drf_promises.specs.Frameworks.{offers_to_roles};
 ghost use Rattle.drf_promises.specs.Passes.{lead_of, passes_in};
-ghost use Rattle.drf_promises.specs.examples.PromiseExamples.{a, alone, among, b, cut, declined, declined_by_each, fa, fb, fc, in_turn, its_task, little_used, modest, offered_to, one, one_more, reserved, rows_of, running, shared, six, weighed};
+ghost use Rattle.drf_promises.specs.Sharing.{share_at};
+ghost use Rattle.drf_promises.specs.examples.PromiseExamples.{a, alone, among, arrived, b, colleague, cut, declined, declined_by_each, declined_in_role, fa, fb, fc, grown, in_turn, its_task, large, little_used, modest, offered_to, one, one_more, reserved, rows_of, running, shared, six, small, small_agent, unlike, waiting, weighed};
 
 /// What is left is explained by a limit, a task runs on whatever happens, what is reserved goes to its role, a machine that each declines is offered to
-/// each, who holds nothing is passed once where the other has no lead, and five equal agents are shared as three and two.
+/// each, who holds nothing is passed once where the other has no lead, five equal agents are shared as three and two, and six between roles as before when
+/// one of them has a framework more, and who gets nothing while another does is not overtaken by whom it stands before.
 pub fn promises_example()
     ensures left { explained (rows_of cut) 0 ≡ Tried (codes "n1") (path_of (record { role = a; framework = fa })) (OverLimit a) ∷ [] }
     ensures running { (rows_of running).tasks ≡ its_task ∷ [] }
@@ -22,11 +27,15 @@ pub fn promises_example()
     ensures passed { passes_in ceilings b (rows_of alone) (Cycle 0 ∷ Cycle 0 ∷ []) ≡ 1 }
     ensures lead { lead_of (rows_of alone) [] (codes "b") (codes "a" ∷ []) ≡ 1 }
     ensures shared { offered_to shared ≡ fa ∷ fb ∷ fa ∷ fb ∷ fa ∷ [] }
+    ensures more { offers_to_roles ceilings opening (six colleague) ≡ offers_to_roles ceilings opening (six []) }
+    ensures not_overtaken { offered_to waiting ≡ fa ∷ fb ∷ fc ∷ [] }
 {}
 
 /// What is not promised. Shares of the moment do not decide within a turn, and of one agent one of two gets nothing; a team that splits into two roles
 /// gains; who takes less than it is offered loses the rest; who declines for no time is offered the same again; a greater weight, or one framework
-/// less to share with, may leave a framework with less; and who uses little of what it took is not one agent apart.
+/// less to share with, may leave a framework with less; who uses little of what it took is not one agent apart; a role is offered what one of its
+/// frameworks declined for a time if it has another; one more agent may leave a framework with less; of two that have the same share one may have room
+/// for fewer tasks; and agents are not offered alike whichever of them came first.
 pub fn not_promised_example()
     ensures in_turn { offered_to in_turn ≡ fa ∷ fb ∷ [] }
     ensures one { offered_to one ≡ fa ∷ [] }
@@ -40,4 +49,13 @@ pub fn not_promised_example()
     ensures two { held_by (rows_of (among [])) a (codes "mem") ≡ 96000 }
     ensures used { held_by (rows_of little_used) a (codes "cpus") ≡ 3 }
     ensures kept { held_by (rows_of little_used) b (codes "cpus") ≡ 2000 }
+    ensures lone { offered_to (declined_in_role []) ≡ fa ∷ fb ∷ fa ∷ [] }
+    ensures two_of_role { offered_to (declined_in_role colleague) ≡ fa ∷ fb ∷ fc ∷ [] }
+    ensures three_agents { held_by (rows_of (grown [])) a (codes "cpus") ≡ 12000 }
+    ensures four_agents { held_by (rows_of (grown small_agent)) a (codes "cpus") ≡ 5000 }
+    ensures same_shares { is_same (share_at (rows_of unlike) a) (share_at (rows_of unlike) b) ≡ true }
+    ensures three_tasks { held_by (rows_of unlike) a (codes "cpus") ≡ 3000 }
+    ensures one_task { held_by (rows_of unlike) b (codes "cpus") ≡ 1000 }
+    ensures large_first { held_by (rows_of (arrived large small)) a (codes "cpus") ≡ 4000 }
+    ensures small_first { held_by (rows_of (arrived small large)) a (codes "cpus") ≡ 1000 }
 {}

@@ -3,6 +3,8 @@
 ghost use Rattle.drf_promises.specs.Apart.{NothingHeldIsApart, RunsStayApart};
 ghost use Rattle.drf_promises.specs.Sharing.{EqualAgentsAreShared, FairShares, SharingIncentive};
 ghost use Rattle.drf_promises.specs.Cycles.{AllIsHandedOut, CyclesLeaveNothing, NobodyIsPassed, NothingIsExplained, OffersGoToTheFirst, SecondCyclesAreIdle};
+ghost use Rattle.drf_promises.specs.Frameworks.{EachStandsAsItself, MoreFrameworksGainNothing, OneMoreStandsAlike};
+ghost use Rattle.drf_promises.specs.Overtaken.{NobodyOvertakes};
 ghost use Rattle.drf_promises.specs.Passes.{PassesAreFew};
 ghost use Rattle.drf_promises.specs.Runs.{OffersStand, ReservedIsItsRoles, TasksStand};
 ghost use Rattle.drf_promises.specs.Siblings.{MoreIsLater, OfferIsLater, OneOfferApart, SumsDecide, WeightIsNotLater};
@@ -50,16 +52,28 @@ pub fn sums_law()
     ensures { SumsDecide }
 {}
 
-/// Who holds more is served later: nobody comes before another by holding more, or while the other holds less, and so not by an offer. By a greater
-/// weight of its role no client falls behind another.
+/// So in runs. Where two clusters differ only in which frameworks of a role have what, and in how many there are, each role is made the same offers in
+/// both, event by event, whoever comes to roles that take part, while no filter is in force and no framework goes, suppresses or revives.
+pub fn more_frameworks_law()
+    ensures itself { EachStandsAsItself }
+    ensures more { OneMoreStandsAlike }
+    ensures runs { MoreFrameworksGainNothing }
+{}
+
+/// Who holds more is served later. With the same total and weights a client that is served before another stays so while no node that it alone is under
+/// comes to hold more or to have got more offers, and none that the other alone is under less; so by no offer does anybody come before whom it was behind.
+/// By a greater weight of its role no client falls behind another. So in runs of cycles, reports, accepts of whole offers and agents that become active:
+/// another does not come before a client as long as the nodes that the client alone is under get nothing.
 pub fn more_is_later_law()
     ensures more { MoreIsLater }
     ensures offer { OfferIsLater }
     ensures weight { WeightIsNotLater }
+    ensures runs { NobodyOvertakes }
 {}
 
-/// One agent apart. From where nothing is held on, while nobody comes to hold less and nothing is reserved, limited or refused, no role and no
-/// client is ahead of a sibling that takes part by more than the largest agent, whatever their weights.
+/// One agent apart. From where nothing is held on, while there are only cycles, reports, accepts of whole offers and agents that become active, and
+/// nothing is reserved, limited or refused, no role and no client is ahead of a sibling that takes part by more than the largest agent, whatever
+/// their weights.
 pub fn one_agent_apart_law()
     ensures start { NothingHeldIsApart }
     ensures runs { RunsStayApart }

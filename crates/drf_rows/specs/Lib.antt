@@ -7,6 +7,7 @@ pub mod Held
 pub mod Weights
 pub mod Filters
 pub mod Tasks
+pub mod TaskLaws
 pub mod Quota
 pub mod Cycle
 pub mod Totals
@@ -18,5 +19,3 @@ pub mod Report
 pub mod Consistent
 pub mod Refusal
 pub mod Step
-pub mod laws
-pub mod examples

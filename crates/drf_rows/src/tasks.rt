@@ -8,7 +8,7 @@ ghost use Rattle.drf_bundle.specs.Taken.{rest_of_all};
 ghost use Rattle.drf_bundle.specs.Value.{Thousandths, units_in};
 ghost use Rattle.drf_rows.specs.Consistent.{are_distinct};
 ghost use Rattle.drf_rows.specs.Offers.{is_empty};
-ghost use Rattle.drf_rows.specs.laws.TaskLaws.{are_apart, is_enough};
+ghost use Rattle.drf_rows.specs.TaskLaws.{are_apart, is_enough};
 ghost use Rattle.drf_rows.specs.Tasks.{IsTaskList, names_of, uses, covers_all};
 
 use drf_amount::Algebra;

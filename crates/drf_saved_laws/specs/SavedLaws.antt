@@ -7,7 +7,7 @@ use Rattle.drf_rows.specs.Consistent.{offers_counted, IsConsistent, IsNumberedBy
 use Rattle.drf_rows.specs.Holdings.{holdings_of}
 use Rattle.drf_rows.specs.LimitNumbers.{LimitNumbers, IsWithinCeilings}
 use Rattle.drf_rows.specs.Step.{opening, live_rows, rows_after_all, replies_to}
-use Rattle.drf_rows.specs.laws.HeldForLaws.{IsForItsRole}
+use Rattle.drf_laws.specs.HeldForLaws.{IsForItsRole}
 use Rattle.drf_rows.specs.declared.event.Event.{Event}
 use Rattle.drf_rows.specs.declared.rows.FrameworkRow.{FrameworkRow}
 use Rattle.drf_rows.specs.declared.rows.Rows.{Rows}

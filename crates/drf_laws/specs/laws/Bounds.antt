@@ -20,10 +20,10 @@ use Rattle.drf_rows.specs.Members.{suppressed_at, suppressed_in}
 use Rattle.drf_rows.specs.Offers.{is_empty}
 use Rattle.drf_rows.specs.Quota.{limits_put, limits_with, limits_without}
 use Rattle.drf_rows.specs.Totals.{agent_at}
-use Rattle.drf_rows.specs.laws.LifeLaws.{with_counts, raised_row}
-use Rattle.drf_rows.specs.laws.ListLaws.{each_from, each_map, each_filter, sum_by-filter-cons, cond_le}
-use Rattle.drf_rows.specs.laws.MemberLaws.{amount-without_named}
-use Rattle.drf_rows.specs.laws.TotalsLaws.{is_agent, no_zeros-total}
+use Rattle.drf_row_laws.specs.LifeLaws.{with_counts, raised_row}
+use Rattle.drf_bundle.specs.ListLaws.{each_from, each_map, each_filter, sum_by-filter-cons, cond_le}
+use Rattle.drf_row_laws.specs.MemberLaws.{amount-without_named}
+use Rattle.drf_row_laws.specs.TotalsLaws.{is_agent, no_zeros-total}
 use Rattle.drf_rows.specs.declared.rows.AgentRow.{AgentRow}
 use Rattle.drf_rows.specs.declared.rows.FilterRow.{FilterRow}
 use Rattle.drf_rows.specs.declared.rows.FrameworkRow.{FrameworkRow}

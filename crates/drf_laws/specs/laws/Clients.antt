@@ -11,11 +11,11 @@ use Rattle.std.specs.Prelude.{◌&&◌, ◌||◌, Bool, false, map, find}
 use Rattle.std.proofs.lemmas.Bool.{cases_Bool, false≢true, and_parts}
 use Rattle.drf_role.specs.TextLaws.{same_from_test}
 use Rattle.drf_rows.specs.Holdings.{Holding, held_where, amount_in, is_of}
-use Rattle.drf_rows.specs.laws.HoldingsLaws.{held_where-cons}
+use Rattle.drf_row_laws.specs.HoldingsLaws.{held_where-cons}
 use Rattle.drf_rows.specs.Consistent.{IsHeld, are_distinct}
-use Rattle.drf_rows.specs.laws.ConsistentLaws.{has_its_role, same_text-swap}
+use Rattle.drf_row_laws.specs.ConsistentLaws.{has_its_role, same_text-swap}
 use Rattle.drf_rows.specs.declared.rows.FrameworkRow.{FrameworkRow}
-use Rattle.drf_rows.specs.laws.ListLaws.{none_has, only_none, each_from}
+use Rattle.drf_bundle.specs.ListLaws.{none_has, only_none, each_from}
 
 -- clients with one path are one
 pub path_of-injective : (c d : Client) → path_of c ≡ path_of d → c ≡ d

@@ -8,8 +8,8 @@ use Rattle.drf_rows.specs.Client.{Client}
 use Rattle.drf_rows.specs.Consistent.{IsAgent, IsConsistent}
 use Rattle.drf_rows.specs.Cycle.{grant, new_offer, with_offer, tried, all_tried, turn_order, turn, turns, cycle, at_moment}
 use Rattle.drf_rows.specs.Held.{is_registered}
-use Rattle.drf_rows.specs.laws.ConsistentLaws.{IsConsistent-with_offer, is_registered-counted}
-use Rattle.drf_rows.specs.laws.ListLaws.{each_at, each_filter, each_from}
+use Rattle.drf_row_laws.specs.ConsistentLaws.{IsConsistent-with_offer, is_registered-counted}
+use Rattle.drf_bundle.specs.ListLaws.{each_at, each_filter, each_from}
 use Rattle.drf_rows.specs.declared.limits.TheConstants.{LATEST_MOMENT}
 use Rattle.drf_rows.specs.declared.rows.AgentRow.{AgentRow}
 use Rattle.drf_rows.specs.declared.rows.Rows.{Rows}

@@ -19,14 +19,14 @@ use Rattle.drf_rows.specs.Members.{distinct, has_agent, new_client}
 use Rattle.drf_rows.specs.Offers.{offer_at, filter_of, filters_with, left_of_offer, offer_accepted, offer_declined, filtered_until, filters_all, filters_rest, CanStart}
 use Rattle.drf_rows.specs.Step.{refusal_of, effect}
 use Rattle.drf_rows.specs.Tasks.{uses}
-use Rattle.drf_rows.specs.laws.EndingLaws.{accepted_in, held-offer_at, IsConsistent-accepted, IsConsistent-filters}
-use Rattle.drf_rows.specs.laws.LimitLaws.{IsConsistent-limit_set}
-use Rattle.drf_rows.specs.laws.ListLaws.{each_append}
-use Rattle.drf_rows.specs.laws.MemberLaws.{IsConsistent-with_activity, IsConsistent-with_suppression, IsConsistent-revived}
-use Rattle.drf_rows.specs.laws.RegistrationLaws.{IsConsistent-agent_added, IsConsistent-framework_added}
-use Rattle.drf_rows.specs.laws.ReservationLaws.{found_known, can_move-reserve, can_move-unreserve, can_exchange-reserve, can_exchange-unreserve, IsConsistent-other_total}
-use Rattle.drf_rows.specs.laws.TotalsLaws.{IsConsistent-exchanged}
-use Rattle.drf_rows.specs.laws.WeightLaws.{IsConsistent-weight_set}
+use Rattle.drf_row_laws.specs.EndingLaws.{accepted_in, held-offer_at, IsConsistent-accepted, IsConsistent-filters}
+use Rattle.drf_row_laws.specs.LimitLaws.{IsConsistent-limit_set}
+use Rattle.drf_bundle.specs.ListLaws.{each_append}
+use Rattle.drf_row_laws.specs.MemberLaws.{IsConsistent-with_activity, IsConsistent-with_suppression, IsConsistent-revived}
+use Rattle.drf_row_laws.specs.RegistrationLaws.{IsConsistent-agent_added, IsConsistent-framework_added}
+use Rattle.drf_row_laws.specs.ReservationLaws.{found_known, can_move-reserve, can_move-unreserve, can_exchange-reserve, can_exchange-unreserve, IsConsistent-other_total}
+use Rattle.drf_row_laws.specs.TotalsLaws.{IsConsistent-exchanged}
+use Rattle.drf_row_laws.specs.WeightLaws.{IsConsistent-weight_set}
 use Rattle.drf_rows.specs.declared.event.Accept as accepting
 use Rattle.drf_rows.specs.declared.event.Decline as declining
 use Rattle.drf_rows.specs.declared.event.Event.{Event}
@@ -38,7 +38,7 @@ use Rattle.drf_rows.specs.declared.rows.Rows.{Rows}
 use Rattle.drf_laws.specs.RunLaws.{IsGiven}
 use Rattle.drf_laws.specs.laws.Roles.{distinct_apart, each-distinct, roles_of_new, uncounted_new}
 use Rattle.drf_laws.specs.laws.Kept.{consistent-clock}
-use Rattle.drf_rows.specs.laws.OfferLaws.{offer_filter, same_offer, moment_early}
+use Rattle.drf_row_laws.specs.OfferLaws.{offer_filter, same_offer, moment_early}
 use Rattle.drf_laws.specs.laws.Offers.{can_accept}
 use Rattle.drf_laws.specs.laws.Welcome.{no_case_of, welcome_agent, welcome_framework, welcome_weight, welcome_decline, early_accept, early_cycle, small_amounts}
 use Rattle.drf_laws.specs.laws.Endings.{IsConsistent-ended, IsConsistent-agent_left, IsConsistent-framework_left}

@@ -22,15 +22,15 @@ use Rattle.drf_rows.specs.Quota.{limits_with}
 use Rattle.drf_bundle.specs.Bundle.{relabel}
 use Rattle.drf_rows.specs.declared.rows.LimitRow.{LimitRow}
 use Rattle.drf_rows.specs.Weights.{weights_with}
-use Rattle.drf_rows.specs.laws.RegistrationLaws.{framework_added, length-clients_of-framework_added, IsConsistent-opening}
+use Rattle.drf_row_laws.specs.RegistrationLaws.{framework_added, length-clients_of-framework_added, IsConsistent-opening}
 use Rattle.drf_rows.specs.Consistent.{IsConsistent, IsFilter, IsNumberedByEvents, IsAgent}
-use Rattle.drf_rows.specs.laws.ConsistentLaws.{numbers_within}
+use Rattle.drf_row_laws.specs.ConsistentLaws.{numbers_within}
 use Rattle.drf_rows.specs.declared.event.Event.{Event}
 use Rattle.drf_rows.specs.declared.event.Event.TheVariants.{AddAgent, RemoveAgent, ActivateAgent, DeactivateAgent, SetAgent, AddFramework, RemoveFramework, Accept, Decline, Rescind, Finish, Suppress, Revive, Reserve, Unreserve, SetWeight, SetLimit, Cycle, Report}
 use Rattle.drf_rows.specs.declared.rows.AgentRow.{AgentRow}
 use Rattle.drf_rows.specs.Filters.{is_in_force}
-use Rattle.drf_rows.specs.laws.ListLaws.{each_from, each_filter, length-filter_le}
-use Rattle.drf_rows.specs.laws.MemberLaws.{IsConsistent-filters_kept}
+use Rattle.drf_bundle.specs.ListLaws.{each_from, each_filter, length-filter_le}
+use Rattle.drf_row_laws.specs.MemberLaws.{IsConsistent-filters_kept}
 use Rattle.drf_rows.specs.declared.rows.FilterRow.{FilterRow}
 use Rattle.drf_rows.specs.declared.rows.FrameworkRow.{FrameworkRow}
 use Rattle.drf_rows.specs.declared.rows.OfferRow.{OfferRow}
@@ -41,7 +41,7 @@ use Rattle.drf_laws.specs.laws.Bounds.{few_weights}
 use Rattle.drf_laws.specs.laws.Welcome.{room_for, welcome_agent, welcome_framework, welcome_weight}
 use Rattle.drf_rows.specs.declared.limits.TheConstants.{LATEST_MOMENT}
 use Rattle.drf_bundle.specs.Quantities.{amount_of}
-use Rattle.drf_rows.specs.laws.ReportedShares.{small_total}
+use Rattle.drf_row_laws.specs.ReportedShares.{small_total}
 
 -- ---- tables that do not grow
 

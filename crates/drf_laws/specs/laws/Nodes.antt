@@ -10,7 +10,7 @@ use Rattle.std.proofs.lemmas.Bool.{cases_Bool, and_from, and_parts, false≢true
 use Rattle.drf_role.specs.TextLaws.{less_from_test}
 use Rattle.drf_role.specs.Path.{Path, same_path}
 use Rattle.drf_role.specs.PathLaws.{same_path-true, same_path_itself}
-use Rattle.drf_rows.specs.laws.Laws.{are_in_order}
+use Rattle.drf_row_laws.specs.Laws.{are_in_order}
 use Rattle.drf_rows.specs.Report.{path_cmp}
 
 abbrev is_below : Path → Path → Bool

@@ -6,7 +6,7 @@ use Rattle.std.proofs.lemmas.Bool.{not-false}
 use Rattle.drf_role.specs.Text.{Text, same_text}
 use Rattle.drf_role.specs.TextLaws.{same_from_test}
 use Rattle.drf_rows.specs.Offers.{CanAccept, has_offer, is_task_known}
-use Rattle.drf_rows.specs.laws.OfferLaws.{some_offer}
+use Rattle.drf_row_laws.specs.OfferLaws.{some_offer}
 use Rattle.drf_rows.specs.Tasks.{uses, covers_all}
 use Rattle.drf_rows.specs.LimitNumbers.{LimitNumbers}
 use Rattle.drf_rows.specs.Step.{refusal_of}

@@ -3,11 +3,11 @@ use Rattle.std.proofs.Common.{◌≡◌, ℕ, ◌+◌, List, [], ◌∷◌, Opti
 use Rattle.drf_rows.specs.LimitNumbers.{LimitNumbers}
 use Rattle.drf_rows.specs.Consistent.{IsConsistent}
 use Rattle.drf_rows.specs.Step.{opening, live_rows, refusal_of, effect, rows_after, rows_after_all}
-use Rattle.drf_rows.specs.laws.ConsistentLaws.{conserved-consistent}
-use Rattle.drf_rows.specs.laws.KeptLimitLaws.{StayConsistent, IsGivenBundles, runs_keep_limits}
-use Rattle.drf_rows.specs.laws.LiveLaws.{rows_after-live}
-use Rattle.drf_rows.specs.laws.RegistrationLaws.{IsConsistent-opening}
-use Rattle.drf_rows.specs.laws.StepLaws.{rows_after-refused, rows_after-accepted}
+use Rattle.drf_row_laws.specs.ConsistentLaws.{conserved-consistent}
+use Rattle.drf_laws.specs.KeptLimitLaws.{StayConsistent, IsGivenBundles, runs_keep_limits}
+use Rattle.drf_row_laws.specs.LiveLaws.{rows_after-live}
+use Rattle.drf_row_laws.specs.RegistrationLaws.{IsConsistent-opening}
+use Rattle.drf_row_laws.specs.StepLaws.{rows_after-refused, rows_after-accepted}
 use Rattle.drf_rows.specs.declared.event.Event.{Event}
 use Rattle.drf_rows.specs.declared.event.Event.TheVariants.{AddAgent, RemoveAgent, ActivateAgent, DeactivateAgent, SetAgent, AddFramework, RemoveFramework, Accept, Decline, Rescind, Finish, Suppress, Revive, Reserve, Unreserve, SetWeight, SetLimit, Cycle, Report}
 use Rattle.drf_rows.specs.declared.reply.Refusal.{Refusal}

@@ -13,10 +13,10 @@ use Rattle.drf_rows.specs.Filters.{holds_back, is_held_back}
 use Rattle.drf_rows.specs.Offers.{offer_at, is_empty, left_of_offer, offer_accepted, offer_declined}
 use Rattle.drf_rows.specs.Step.{effect}
 use Rattle.drf_rows.specs.Tasks.{uses}
-use Rattle.drf_rows.specs.laws.ConsumptionLaws.{covered-accept}
-use Rattle.drf_rows.specs.laws.EndingLaws.{held-offer_at}
-use Rattle.drf_rows.specs.laws.KeptLimitLaws.{IsGivenBundles}
-use Rattle.drf_rows.specs.laws.TaskLaws.{units-covers_all}
+use Rattle.drf_laws.specs.ConsumptionLaws.{covered-accept}
+use Rattle.drf_row_laws.specs.EndingLaws.{held-offer_at}
+use Rattle.drf_laws.specs.KeptLimitLaws.{IsGivenBundles}
+use Rattle.drf_rows.specs.TaskLaws.{units-covers_all}
 use Rattle.drf_rows.specs.declared.event.Accept as accepting
 use Rattle.drf_rows.specs.declared.event.Decline as declining
 use Rattle.drf_rows.specs.declared.event.Event.TheVariants.{Accept, Decline}

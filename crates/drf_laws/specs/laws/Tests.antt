@@ -15,17 +15,17 @@ use Rattle.drf_bundle.specs.laws.UnitProofs.{covers_by_units, rest_by_units}
 use Rattle.drf_bundle.specs.declared.quantities.Entry.{Entry}
 use Rattle.drf_bundle.specs.declared.resource.Resource.{Resource}
 use Rattle.drf_rows.specs.Consistent.{IsConsistent}
-use Rattle.drf_rows.specs.laws.ConsistentLaws.{bundles-consistent}
+use Rattle.drf_row_laws.specs.ConsistentLaws.{bundles-consistent}
 use Rattle.drf_rows.specs.Cycle.{free_of}
 use Rattle.drf_rows.specs.Holdings.{holdings_of, parts_on}
-use Rattle.drf_rows.specs.laws.HoldingsLaws.{each_part}
+use Rattle.drf_row_laws.specs.HoldingsLaws.{each_part}
 use Rattle.drf_rows.specs.Members.{has_agent}
 use Rattle.drf_rows.specs.Quota.{admits, admits_under, consumption}
-use Rattle.drf_rows.specs.laws.ReservationLaws.{found_known}
-use Rattle.drf_rows.specs.laws.TaskLaws.{covers_all-units, units-covers_all}
+use Rattle.drf_row_laws.specs.ReservationLaws.{found_known}
+use Rattle.drf_rows.specs.TaskLaws.{covers_all-units, units-covers_all}
 use Rattle.drf_rows.specs.Tasks.{covers_all}
 use Rattle.drf_rows.specs.Totals.{agent_at, is_not_free, is_below_held}
-use Rattle.drf_rows.specs.laws.TotalsLaws.{is_agent, bundle_free, units_free, same_name}
+use Rattle.drf_row_laws.specs.TotalsLaws.{is_agent, bundle_free, units_free, same_name}
 use Rattle.drf_rows.specs.declared.rows.AgentRow.{AgentRow}
 use Rattle.drf_rows.specs.declared.rows.LimitRow.{LimitRow}
 use Rattle.drf_rows.specs.declared.rows.Rows.{Rows}

@@ -14,16 +14,16 @@ use Rattle.drf_rows.specs.Client.{Client}
 use Rattle.drf_rows.specs.Held.{client_of, clients_of, active_clients, is_registered}
 use Rattle.drf_rows.specs.Share.{Standing}
 use Rattle.drf_rows.specs.Cycle.{first_of, without, serving_order, turn_order, free_of, grant, is_grantable, new_offer, with_offer, tried, count_offer, all_tried, turn, turns, cycle, at_moment}
-use Rattle.drf_rows.specs.laws.ConsistentLaws.{has_its_role}
-use Rattle.drf_rows.specs.laws.OfferedLaws.{each_served}
-use Rattle.drf_rows.specs.laws.ListLaws.{each_append, each_from, each_map, each_filter, each_found}
+use Rattle.drf_row_laws.specs.ConsistentLaws.{has_its_role}
+use Rattle.drf_laws.specs.OfferedLaws.{each_served}
+use Rattle.drf_bundle.specs.ListLaws.{each_append, each_from, each_map, each_filter, each_found}
 use Rattle.drf_rows.specs.declared.rows.ClientRow.{ClientRow}
 use Rattle.drf_rows.specs.declared.rows.FrameworkRow.{FrameworkRow}
 use Rattle.drf_rows.specs.declared.rows.Rows.{Rows}
 use Rattle.drf_rows.specs.Held as rows_word
 use Rattle.drf_bundle.specs.Bundle.{IsBundle}
 use Rattle.drf_bundle.specs.declared.resource.Resource.{Resource}
-use Rattle.drf_rows.specs.laws.CycleLaws.{bundle-free_of, bundle-entitlement, units-entitlement, clients_of-with_offer, free_of-with_offer_other}
+use Rattle.drf_row_laws.specs.CycleLaws.{bundle-free_of, bundle-entitlement, units-entitlement, clients_of-with_offer, free_of-with_offer_other}
 use Rattle.drf_rows.specs.Quota.{entitlement}
 use Rattle.drf_rows.specs.declared.rows.AgentRow.{AgentRow}
 use Rattle.drf_laws.specs.TurnLaws.{IsPart, CyclesMakeFewOffers}

@@ -5,13 +5,13 @@ use Rattle.drf_role.specs.Text.{Text}
 use Rattle.drf_bundle.specs.declared.resource.Resource.{Resource}
 use Rattle.drf_rows.specs.LimitNumbers.{ceilings}
 use Rattle.drf_rows.specs.Step.{opening, replies_to, rows_after_all}
-use Rattle.drf_rows.specs.examples.Examples.{cpus, cpus_for, framework_in, mem}
-use Rattle.drf_rows.specs.examples.LifeExamples.{accept, decline, decline_for}
-use Rattle.drf_rows.specs.examples.QuotaExamples.{cpus_limit}
-use Rattle.drf_rows.specs.examples.WeightExamples.{weighing}
-use Rattle.drf_rows.specs.laws.LifeLaws.{lines_told}
+use Rattle.drf_worked.specs.Examples.{cpus, cpus_for, framework_in, mem}
+use Rattle.drf_worked.specs.LifeExamples.{accept, decline, decline_for}
+use Rattle.drf_worked.specs.QuotaExamples.{cpus_limit}
+use Rattle.drf_worked.specs.WeightExamples.{weighing}
+use Rattle.drf_row_laws.specs.LifeLaws.{lines_told}
 use Rattle.drf_rows.specs.declared.event.Event.{Event}
-use Rattle.drf_rows.specs.declared.event.Event.TheVariants.{AddAgent, AddFramework, Cycle}
+use Rattle.drf_rows.specs.declared.event.Event.TheVariants.{AddAgent, ActivateAgent, DeactivateAgent, AddFramework, Cycle}
 use Rattle.drf_rows.specs.declared.rows.Rows.{Rows}
 use Rattle.drf_rows.specs.declared.rows.TaskRow.{TaskRow}
 use Rattle.drf_promises.specs.Waiting.{made_in}
@@ -92,6 +92,24 @@ alone = agent (codes "n1") (cpus 1000 ∷ []) ∷ both
 abbrev pub declined_by_each : List ℕ → List Text
 declined_by_each moments = map (λ o. o.framework) (made_in 5000 (rows_of alone) moments)
 
+-- two of three agents become active later: who got nothing of the first two is served before whom the first went to
+abbrev pub waiting : List Event
+waiting =
+    agent (codes "n1") (cpus 4000 ∷ [])
+    ∷ framework_in fa (codes "a")
+    ∷ agent (codes "n2") (cpus 4000 ∷ [])
+    ∷ agent (codes "n3") (cpus 4000 ∷ [])
+    ∷ DeactivateAgent (codes "n2")
+    ∷ DeactivateAgent (codes "n3")
+    ∷ framework_in fb (codes "b")
+    ∷ framework_in fc (codes "c")
+    ∷ Cycle 0
+    ∷ ActivateAgent (codes "n2")
+    ∷ Cycle 0
+    ∷ ActivateAgent (codes "n3")
+    ∷ Cycle 0
+    ∷ []
+
 -- ---- what is not promised
 
 -- As `fb` in `eng/b` is offered 7 of 8 `cpus`, `eng` has 1 and `ops` nothing. The order is that of the turn's beginning.
@@ -165,3 +183,41 @@ little_used =
     ∷ accept fb 4 (codes "t4") (cpus 1000 ∷ [])
     ∷ accept fa 5 (codes "t5") (cpus 1 ∷ [])
     ∷ []
+
+-- `fb` declines a machine for 5000 while its role is ahead; so it goes to `fa`, or to another framework of that role
+abbrev pub declined_in_role : List Event → List Event
+declined_in_role others =
+    agent (codes "n1") (cpus 4000 ∷ [])
+    ∷ framework_in fa (codes "a")
+    ∷ Cycle 0
+    ∷ agent (codes "n2") (cpus 4000 ∷ [])
+    ∷ framework_in fb (codes "b")
+    ∷ others ++ (Cycle 0 ∷ decline_for fb 2 0 5000 ∷ Cycle 0 ∷ [])
+
+abbrev pub colleague : List Event
+colleague = framework_in fc (codes "b") ∷ []
+
+-- three agents of different shapes, and some others
+abbrev pub grown : List Event → List Event
+grown others =
+    agent (codes "n1") (cpus 4000 ∷ mem 32000 ∷ [])
+    ∷ agent (codes "n2") (cpus 2000 ∷ mem 32000 ∷ [])
+    ∷ agent (codes "n3") (cpus 8000 ∷ mem 32000 ∷ [])
+    ∷ others ++ (both ++ (Cycle 0 ∷ []))
+
+abbrev pub small_agent : List Event
+small_agent = agent (codes "n4") (cpus 1000 ∷ mem 32000 ∷ []) ∷ []
+
+-- of two agents each is 3/4 of all to whoever gets it, but one has room for three tasks of one of the `cpus`, and the other for one
+abbrev pub unlike : List Event
+unlike = agent (codes "n1") (cpus 3000 ∷ mem 32000 ∷ []) ∷ agent (codes "n2") (cpus 1000 ∷ mem 96000 ∷ []) ∷ both ++ (Cycle 0 ∷ [])
+
+-- two agents, which come in this order
+abbrev pub arrived : Event → Event → List Event
+arrived first second = first ∷ second ∷ both ++ (Cycle 0 ∷ [])
+
+abbrev pub large : Event
+large = agent (codes "n1") (cpus 4000 ∷ [])
+
+abbrev pub small : Event
+small = agent (codes "n2") (cpus 1000 ∷ [])

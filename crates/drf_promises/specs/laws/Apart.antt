@@ -13,15 +13,16 @@ use Rattle.drf_bundle.specs.declared.resource.Resource.{Resource}
 use Rattle.drf_rows.specs.Client.{Client, path_of}
 use Rattle.drf_rows.specs.Consistent.{IsAgent, IsConsistent}
 use Rattle.drf_rows.specs.Cycle.{free_of, new_offer, with_offer, turn, turns, turn_order, at_moment, cycle}
+use Rattle.drf_rows.specs.Filters.{in_force}
 use Rattle.drf_rows.specs.Held.{active_clients, held_by, cluster_total, weight_of}
 use Rattle.drf_rows.specs.Held as rows_word
 use Rattle.drf_rows.specs.Holdings.{of_offer, of_task, held_where, is_under}
 use Rattle.drf_rows.specs.Share.{Fraction, is_less}
-use Rattle.drf_rows.specs.laws.ConsistentLaws.{bundles-consistent}
-use Rattle.drf_rows.specs.laws.CycleLaws.{active_clients-with_offer, bundle-free_of, units-free_of}
-use Rattle.drf_rows.specs.laws.HoldingsLaws.{held_where-with_offer}
-use Rattle.drf_rows.specs.laws.ListLaws.{each_at}
-use Rattle.drf_rows.specs.laws.WeightLaws.{weight_of-in_range}
+use Rattle.drf_row_laws.specs.ConsistentLaws.{bundles-consistent}
+use Rattle.drf_row_laws.specs.CycleLaws.{active_clients-with_offer, bundle-free_of, units-free_of}
+use Rattle.drf_row_laws.specs.HoldingsLaws.{held_where-with_offer}
+use Rattle.drf_bundle.specs.ListLaws.{each_at}
+use Rattle.drf_row_laws.specs.WeightLaws.{weight_of-in_range}
 use Rattle.drf_rows.specs.declared.rows.AgentRow.{AgentRow}
 use Rattle.drf_rows.specs.declared.rows.Rows.{Rows}
 use Rattle.drf_sorter.specs.Fractions.{dominant_of, weigh}
@@ -137,7 +138,7 @@ stays_open rows agent at consistent is_open =
     record {
       unreserved = subst (AllByRecursion (λ a. is_unreserved a.total ≡ true)) (sym mid.agents) is_open.unreserved;
       limits = less.limits ∙ is_open.limits;
-      filters = less.filters ∙ is_open.filters;
+      filters = (λ i. in_force (less.clock i) (less.filters i)) ∙ is_open.filters;
     }
 
 turn_apart : (rows : Rows) (agent : AgentRow) → Has rows.agents agent → IsConsistent rows → IsOpen rows → AreOneAgentApart rows
@@ -159,12 +160,12 @@ module _ (start : Rows) where
       turns_apart (turn rows agent) agents at.1 (midway-turn start rows agent at.0 mid)
       (stays_open rows agent here mid.consistent is_open) (turn_apart rows agent here mid.consistent is_open apart)
 
-pub cycle_apart : (rows : Rows) (at : ℕ) → IsConsistent rows → at ≤ LATEST_MOMENT → IsOpen rows → AreOneAgentApart rows
+pub cycle_apart : (rows : Rows) (at : ℕ) → IsConsistent rows → at ≤ LATEST_MOMENT → IsOpen (at_moment rows at) → AreOneAgentApart rows
     → IsOpen (cycle rows at) × AreOneAgentApart (cycle rows at)
 unfolding cycle rows_word.standing_of
 cycle_apart rows at consistent early is_open apart =
     turns_apart (at_moment rows at) (at_moment rows at) (active_agents rows) (all_at rows at consistent early) (begin rows at consistent early)
-    (record { unreserved = is_open.unreserved; limits = is_open.limits; filters = is_open.filters }) (λ parent a b takes. apart parent a b takes)
+    is_open (λ parent a b takes. apart parent a b takes)
 
 -- ---- where nothing is held
 

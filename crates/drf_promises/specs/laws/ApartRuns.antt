@@ -1,5 +1,5 @@
--- Siblings stay one agent apart over a run by which nobody comes to hold less.
-use Rattle.std.specs.Prelude.{◌≡◌, ℕ, Bool, true, false, not, ◌&&◌, List, [], ◌∷◌, ◌++◌, map, Option, Some, None, if◌then◌else◌, nat_lt}
+-- Siblings stay one agent apart over a run of cycles, reports, accepts of whole offers and agents that become active.
+use Rattle.std.specs.Prelude.{◌≡◌, ℕ, max, Bool, true, false, not, ◌&&◌, List, [], ◌∷◌, ◌++◌, map, Option, Some, None, if◌then◌else◌, nat_lt}
 use Rattle.std.specs.List.{AllByRecursion, list_any}
 use Rattle.std.specs.Option.{option_map_or}
 use Rattle.std.proofs.Common.{refl, sym, ap, subst, ◌∙◌, cond, arith}
@@ -12,6 +12,7 @@ use Rattle.drf_bundle.specs.declared.resource.Resource.{Resource}
 use Rattle.drf_rows.specs.Client.{path_of}
 use Rattle.drf_rows.specs.Consistent.{IsConsistent}
 use Rattle.drf_rows.specs.Cycle.{at_moment}
+use Rattle.drf_rows.specs.Filters.{in_force}
 use Rattle.drf_rows.specs.Held.{active_clients, held_by, cluster_total, weight_of}
 use Rattle.drf_rows.specs.Held as rows_word
 use Rattle.drf_rows.specs.Holdings.{of_offer, is_under}
@@ -21,12 +22,12 @@ use Rattle.drf_rows.specs.Offers.{is_empty, filter_of, filtered_until, left_of_o
 use Rattle.drf_rows.specs.Share.{Fraction, greatest}
 use Rattle.drf_rows.specs.Step.{refusal_of, effect, rows_after}
 use Rattle.drf_rows.specs.Tasks.{uses}
-use Rattle.drf_rows.specs.laws.ConsumptionLaws.{covered-accept}
-use Rattle.drf_rows.specs.laws.EndingLaws.{held_where-accepted, offer_held}
-use Rattle.drf_rows.specs.laws.ListLaws.{each_from, each_map}
-use Rattle.drf_rows.specs.laws.MemberLaws.{cluster_total-with_activity}
-use Rattle.drf_rows.specs.laws.StepLaws.{rows_after-accepted, rows_after-refused}
-use Rattle.drf_rows.specs.laws.TaskLaws.{units-covers_all}
+use Rattle.drf_laws.specs.ConsumptionLaws.{covered-accept}
+use Rattle.drf_row_laws.specs.EndingLaws.{held_where-accepted, offer_held}
+use Rattle.drf_bundle.specs.ListLaws.{each_from, each_map}
+use Rattle.drf_row_laws.specs.MemberLaws.{cluster_total-with_activity}
+use Rattle.drf_row_laws.specs.StepLaws.{rows_after-accepted, rows_after-refused}
+use Rattle.drf_rows.specs.TaskLaws.{units-covers_all}
 use Rattle.drf_rows.specs.declared.event.Accept as accepting
 use Rattle.drf_rows.specs.declared.event.Event.{Event}
 use Rattle.drf_rows.specs.declared.event.Event.TheVariants.{ActivateAgent, Accept, Cycle, Report}
@@ -42,6 +43,7 @@ use Rattle.drf_promises.specs.Cycles.{IsOpen}
 use Rattle.drf_promises.specs.Apart.{share_of_bundle, largest_agent, weighted_share_at, AreOneAgentApart, KeepsAll, RunsStayApart}
 use Rattle.drf_promises.specs.Siblings.{child, AtMostSum}
 use Rattle.drf_promises.specs.laws.Apart.{cycle_apart}
+use Rattle.drf_promises.specs.laws.Unfiltered.{unfiltered_later}
 
 -- ---- rows in which everybody holds the same
 
@@ -68,7 +70,7 @@ module _ (limits : LimitNumbers) (rows : Rows) (consistent : IsConsistent rows) 
   abbrev after : Rows
   after = offer_accepted (at_moment rows a.at) o a.tasks a.refuse_ms
 
-  held-accepted : (node : Path) (label : Text) → held_by after node label ≡ held_by rows node label
+  pub held-accepted : (node : Path) (label : Text) → held_by after node label ≡ held_by rows node label
   held-accepted node label =
       let bundle : IsBundle o.bundle = (offer_held rows a.offer o a.tasks [] consistent found).bundle in
       let has = units-covers_all o.bundle (uses a.tasks) bundle given (covered-accept limits rows a o found accepted) in
@@ -128,6 +130,13 @@ abbrev Shared : Rows → Type 0
 Shared rows = IsOpen rows × AreOneAgentApart rows
 
 module _ (limits : LimitNumbers) (rows : Rows) (consistent : IsConsistent rows) (is_open : IsOpen rows) (apart : AreOneAgentApart rows) where
+  open_later : (at : ℕ) → IsOpen (at_moment rows at)
+  open_later at = record {
+    unreserved = is_open.unreserved;
+    limits = is_open.limits;
+    filters = unfiltered_later rows.clock rows.filters is_open.filters (max rows.clock at) (omega arith);
+  }
+
   shared-accept : (a : accepting.Accept) → AllByRecursion IsBundle (uses a.tasks) → KeepsAll rows (Accept a) → refusal_of limits rows (Accept a) ≡ None
       → (found : Option OfferRow) → offer_at rows a.offer ≡ found
       → Shared (option_map_or (λ o. offer_accepted (at_moment rows a.at) o a.tasks a.refuse_ms) found rows)
@@ -136,7 +145,9 @@ module _ (limits : LimitNumbers) (rows : Rows) (consistent : IsConsistent rows) 
     record {
       unreserved = is_open.unreserved;
       limits = is_open.limits;
-      filters = filters-accepted limits rows consistent a given accepted o found (keeps o found) ∙ is_open.filters;
+      filters =
+          ap (in_force (max rows.clock a.at)) (filters-accepted limits rows consistent a given accepted o found (keeps o found))
+          ∙ (open_later a.at).filters;
     },
     stays_apart rows (offer_accepted (at_moment rows a.at) o a.tasks a.refuse_ms)
         (held-accepted limits rows consistent a given accepted o found (keeps o found)) refl refl refl refl apart,
@@ -144,7 +155,7 @@ module _ (limits : LimitNumbers) (rows : Rows) (consistent : IsConsistent rows) 
 
   shared-effect : (event : Event) → IsGiven event → KeepsAll rows event → refusal_of limits rows event ≡ None → Shared (effect rows event)
   unfolding effect
-  shared-effect (Cycle at) given keeps accepted = cycle_apart rows at consistent (early_cycle limits rows at accepted) is_open apart
+  shared-effect (Cycle at) given keeps accepted = cycle_apart rows at consistent (early_cycle limits rows at accepted) (open_later at) apart
   shared-effect (Accept a) given keeps accepted = shared-accept a given keeps accepted (offer_at rows a.offer) refl
   shared-effect (ActivateAgent name) given keeps accepted = (
     open-activated rows name is_open,

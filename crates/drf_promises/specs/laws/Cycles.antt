@@ -14,11 +14,11 @@ use Rattle.drf_rows.specs.Held.{active_clients, is_registered}
 use Rattle.drf_rows.specs.Held as rows_word
 use Rattle.drf_rows.specs.Cycle.{grant, new_offer, with_offer, tried, all_tried, turn_order, turn, turns, at_moment, cycle}
 use Rattle.drf_rows.specs.Step.{new_offers}
-use Rattle.drf_rows.specs.laws.ConsistentLaws.{IsConsistent-with_offer, is_registered-counted, bundles-consistent}
-use Rattle.drf_rows.specs.laws.CycleLaws.{active_clients-with_offer}
-use Rattle.drf_rows.specs.laws.ListLaws.{each_at, each_from, each_filter}
-use Rattle.drf_rows.specs.laws.LiveLaws.{kept-turns}
-use Rattle.drf_rows.specs.laws.OfferedLaws.{each_served}
+use Rattle.drf_row_laws.specs.ConsistentLaws.{IsConsistent-with_offer, is_registered-counted, bundles-consistent}
+use Rattle.drf_row_laws.specs.CycleLaws.{active_clients-with_offer}
+use Rattle.drf_bundle.specs.ListLaws.{each_at, each_from, each_filter}
+use Rattle.drf_row_laws.specs.LiveLaws.{kept-turns}
+use Rattle.drf_laws.specs.OfferedLaws.{each_served}
 use Rattle.drf_rows.specs.declared.limits.TheConstants.{LATEST_MOMENT}
 use Rattle.drf_rows.specs.declared.rows.AgentRow.{AgentRow}
 use Rattle.drf_rows.specs.declared.rows.Rows.{Rows}
@@ -52,7 +52,7 @@ module _ (start : Rows) where
   total_of rows agent at mid =
       (each_at IsAgent start.agents at.0 agent (subst (AllByRecursion IsAgent) mid.agents mid.consistent.agents.each) at.1).total
 
-  midway-tried : (rows : Rows) (agent : AgentRow) (client : Client) → Has start.agents agent → is_registered start.frameworks client ≡ true
+  pub midway-tried : (rows : Rows) (agent : AgentRow) (client : Client) → Has start.agents agent → is_registered start.frameworks client ≡ true
       → IsMidway start rows → IsMidway start (tried rows agent client)
   unfolding with_offer
   midway-tried rows agent client at known mid = by (grant rows agent client) refl

@@ -14,16 +14,16 @@ use Rattle.drf_bundle.specs.laws.QuantitiesLaws.{amount_head}
 use Rattle.drf_bundle.specs.declared.quantities.Entry.{Entry}
 use Rattle.drf_bundle.specs.declared.resource.Resource.{Resource}
 use Rattle.drf_rows.specs.Consistent.{IsConsistent}
-use Rattle.drf_rows.specs.Cycle.{is_allocatable, cycle}
+use Rattle.drf_rows.specs.Cycle.{is_allocatable, at_moment, cycle}
 use Rattle.drf_rows.specs.Held.{cluster_total, held_by}
 use Rattle.drf_rows.specs.Held as rows_word
 use Rattle.drf_rows.specs.Holdings.{Holding, amount_in, held_where, is_under, of_offer, of_task}
 use Rattle.drf_rows.specs.Share.{Fraction, greatest, is_less}
-use Rattle.drf_rows.specs.laws.HoldingsLaws.{held_where-cons}
-use Rattle.drf_rows.specs.laws.ListLaws.{each_from, each_map}
-use Rattle.drf_rows.specs.laws.MemberLaws.{amount_on, amount-cluster_total}
-use Rattle.drf_rows.specs.laws.OthersLaws.{cycle_only_offers}
-use Rattle.drf_rows.specs.laws.ReportedShares.{in_order-cluster_total}
+use Rattle.drf_row_laws.specs.HoldingsLaws.{held_where-cons}
+use Rattle.drf_bundle.specs.ListLaws.{each_from, each_map}
+use Rattle.drf_row_laws.specs.MemberLaws.{amount_on, amount-cluster_total}
+use Rattle.drf_row_laws.specs.OthersLaws.{cycle_only_offers}
+use Rattle.drf_row_laws.specs.ReportedShares.{in_order-cluster_total}
 use Rattle.drf_rows.specs.declared.rows.AgentRow.{AgentRow}
 use Rattle.drf_rows.specs.declared.rows.OfferRow.{OfferRow}
 use Rattle.drf_rows.specs.declared.limits.TheConstants.{LATEST_MOMENT}
@@ -134,7 +134,7 @@ whole_agents w all n m k s most one two first second fair =
     (one-le-mul one two)
 
 module _ (rows : Rows) (at : ℕ) (one : Text) (others : List Text) (total : List Resource) (consistent : IsConsistent rows) (early : at ≤ LATEST_MOMENT)
-    (is_open : IsOpen rows) (offers : rows.offers ≡ []) (tasks : rows.tasks ≡ []) (equal : AllByRecursion (λ a. (a.active ≡ true) × (a.total ≡ total)) rows.agents)
+    (is_open : IsOpen (at_moment rows at)) (offers : rows.offers ≡ []) (tasks : rows.tasks ≡ []) (equal : AllByRecursion (λ a. (a.active ≡ true) × (a.total ≡ total)) rows.agents)
     (worth : is_allocatable total ≡ true) (clients : AreClientsOf rows [] (one ∷ others)) (takes : TakesPart rows (child [] one)) where
   abbrev after : Rows
   after = cycle rows at

@@ -1,5 +1,5 @@
 -- In as many rounds as there are clients each is offered what is free: each round leaves one less who is not held back.
-use Rattle.std.specs.Prelude.{◌≡◌, ℕ, zero, suc, ◌+◌, ◌<◌, ◌≤◌, min, Bool, true, false, not, ◌||◌, List, [], ◌∷◌, ◌++◌, length, count_by}
+use Rattle.std.specs.Prelude.{◌≡◌, ℕ, zero, suc, ◌+◌, ◌<◌, ◌≤◌, min, max, Bool, true, false, not, ◌||◌, List, [], ◌∷◌, ◌++◌, length, count_by}
 use Rattle.std.specs.List.{AllByRecursion, list_any}
 use Rattle.std.proofs.Common.{refl, sym, ap, subst, ◌∙◌, inl, inr, cond, arith}
 use Rattle.std.proofs.lemmas.Bool.{cases_Bool, and_from, or_left, or_right, true≢false}
@@ -11,21 +11,20 @@ use Rattle.drf_bundle.specs.Bundle.{is_unreserved}
 use Rattle.drf_rows.specs.Client.{Client}
 use Rattle.drf_rows.specs.Consistent.{IsConsistent}
 use Rattle.drf_rows.specs.Cycle.{free_of, is_allocatable}
-use Rattle.drf_rows.specs.Filters.{is_held_back}
 use Rattle.drf_rows.specs.Held.{active_clients}
 use Rattle.drf_rows.specs.Holdings.{of_offer}
-use Rattle.drf_rows.specs.laws.LifeLaws.{is_same_client}
-use Rattle.drf_rows.specs.laws.ListLaws.{count_by-cons, each_at, each_filter, each_from}
+use Rattle.drf_row_laws.specs.LifeLaws.{is_same_client}
+use Rattle.drf_bundle.specs.ListLaws.{count_by-cons, each_at, each_filter, each_from}
 use Rattle.drf_rows.specs.declared.limits.TheConstants.{LATEST_MOMENT, LONGEST_FILTER}
 use Rattle.drf_rows.specs.declared.rows.AgentRow.{AgentRow}
-use Rattle.drf_rows.specs.declared.rows.FilterRow.{FilterRow}
 use Rattle.drf_rows.specs.declared.rows.OfferRow.{OfferRow}
 use Rattle.drf_rows.specs.declared.rows.Rows.{Rows}
 use Rattle.drf_promises.specs.Cycles.{active_agents}
 use Rattle.drf_promises.specs.Runs.{Has}
 use Rattle.drf_promises.specs.Waiting.{made_in, round, EverybodyIsOffered, IsOffered}
 use Rattle.drf_promises.specs.laws.Cycles.{each_is_at}
-use Rattle.drf_promises.specs.laws.Rounds.{is_held, next, Waits}
+use Rattle.drf_promises.specs.laws.Rounds.{is_held, next, OutOrLasts, Waits}
+use Rattle.drf_promises.specs.laws.Unfiltered.{ran_out, unheld}
 
 -- ---- one less
 
@@ -107,13 +106,19 @@ module _ (start : Rows) (agent : AgentRow) (first last ms : ℕ) (right : IsCons
             ]
       ]
 
+nobody_waits : (clients : List Client) (offers : List OfferRow) → length clients ≤ 0 → AllByRecursion (IsOffered offers) clients
+nobody_waits [] offers none = tt
+nobody_waits (client ∷ clients) offers none = absurd (omega (arith, none))
+
 pub everybody_is_offered : EverybodyIsOffered
-everybody_is_offered rows agent moments first last ms right is_open one worth clock late times long enough =
+everybody_is_offered rows agent [] first last ms right is_open one worth clock late times long enough = nobody_waits (active_clients rows) [] enough
+everybody_is_offered rows agent (at ∷ moments) first last ms right is_open one worth clock late times long enough =
     let none = (subst (AllByRecursion (λ a. is_unreserved a.total ≡ true)) one
     (each_filter (λ a. is_unreserved a.total ≡ true) (λ a. a.active) rows.agents is_open.unreserved)).0 in
     let held : Client → Bool = is_held rows agent first last ms right one none worth late long rows in
+    let begin : ℕ = max rows.clock first in
     let nobody : (client : Client) → held client ≡ false =
-    λ client. ap (λ (fs : List FilterRow). is_held_back fs last client agent.name (free_of rows agent)) is_open.filters in
+    λ client. unheld begin rows.filters is_open.filters last (omega (arith, clock, times.0.0, times.0.1)) client agent.name (free_of rows agent) in
     let waits : Waits rows agent first last ms right one none worth late long rows = record {
       consistent = right;
       agents = refl;
@@ -121,10 +126,12 @@ everybody_is_offered rows agent moments first last ms right is_open one worth cl
       offers = refl;
       tasks = refl;
       limits = is_open.limits;
+      begun = omega arith;
       clock = clock;
-      lasting = subst (AllByRecursion (λ (f : FilterRow). last < f.until)) (sym is_open.filters) tt;
+      lasting = each_from (λ f. f.until ≤ begin) (OutOrLasts begin last) rows.filters (λ f out. inl out) (ran_out begin rows.filters is_open.filters);
     } in
-    let few : count_by (λ c. not (held c)) (active_clients rows) ≤ length moments = omega (arith, count_by-le-length (λ c. not (held c)) (active_clients rows), enough) in
-    each_from (Has (active_clients rows)) (IsOffered (made_in ms rows moments)) (active_clients rows)
-    (λ client has. offered_in rows agent first last ms right one none worth late long moments rows waits times few client has (nobody client))
+    let few : count_by (λ c. not (held c)) (active_clients rows) ≤ length (at ∷ moments) =
+    omega (arith, count_by-le-length (λ c. not (held c)) (active_clients rows), enough) in
+    each_from (Has (active_clients rows)) (IsOffered (made_in ms rows (at ∷ moments))) (active_clients rows)
+    (λ client has. offered_in rows agent first last ms right one none worth late long (at ∷ moments) rows waits times few client has (nobody client))
     (each_is_at (active_clients rows))

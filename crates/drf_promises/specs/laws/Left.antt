@@ -17,10 +17,10 @@ use Rattle.drf_rows.specs.Cycle.{free_of, is_grantable, new_offer, with_offer, t
 use Rattle.drf_rows.specs.Filters.{is_held_back}
 use Rattle.drf_rows.specs.Holdings.{holdings_of, AreBundles}
 use Rattle.drf_rows.specs.Quota.{unreserved_in, consumption, is_within, binds, headroom_under, entitlement}
-use Rattle.drf_rows.specs.laws.CycleLaws.{bundle-free_of, bundle-entitlement, free_of-with_offer, free_of-with_offer_other}
-use Rattle.drf_rows.specs.laws.EntitlementLaws.{units_for, entitled_by_units}
-use Rattle.drf_rows.specs.laws.HoldingsLaws.{each-with_offer}
-use Rattle.drf_rows.specs.laws.QuotaLaws.{consumption-with_offer}
+use Rattle.drf_row_laws.specs.CycleLaws.{bundle-free_of, bundle-entitlement, free_of-with_offer, free_of-with_offer_other}
+use Rattle.drf_row_laws.specs.EntitlementLaws.{units_for, entitled_by_units}
+use Rattle.drf_row_laws.specs.HoldingsLaws.{each-with_offer}
+use Rattle.drf_row_laws.specs.QuotaLaws.{consumption-with_offer}
 use Rattle.drf_rows.specs.declared.rows.AgentRow.{AgentRow}
 use Rattle.drf_rows.specs.declared.rows.LimitRow.{LimitRow}
 use Rattle.drf_rows.specs.declared.rows.OfferRow.{OfferRow}

@@ -19,9 +19,9 @@ use Rattle.drf_bundle.specs.declared.resource.Resource.{Resource}
 use Rattle.drf_rows.specs.Client.{Client}
 use Rattle.drf_rows.specs.Filters.{is_held_back, is_in_force, is_of_client, is_on_agent}
 use Rattle.drf_rows.specs.Quota.{Consumed, consumption, is_within, binds, room_under, headroom_under, entitlement}
-use Rattle.drf_rows.specs.laws.QuotaLaws.{rooms, rooms-here, rooms-past}
-use Rattle.drf_rows.specs.laws.EntitlementLaws.{units_for, entitled_by_units}
-use Rattle.drf_rows.specs.laws.CycleLaws.{bundle-free_of, bundle-entitlement}
+use Rattle.drf_row_laws.specs.QuotaLaws.{rooms, rooms-here, rooms-past}
+use Rattle.drf_row_laws.specs.EntitlementLaws.{units_for, entitled_by_units}
+use Rattle.drf_row_laws.specs.CycleLaws.{bundle-free_of, bundle-entitlement}
 use Rattle.drf_rows.specs.Cycle.{free_of, is_allocatable}
 use Rattle.drf_rows.specs.declared.rows.AgentRow.{AgentRow}
 use Rattle.drf_rows.specs.declared.rows.FilterRow.{FilterRow}

@@ -1,7 +1,7 @@
 -- Where nothing is reserved, limited or refused, a turn offers all that is free to the first client, or nothing to anybody.
-use Rattle.std.specs.Prelude.{◌≡◌, Bool, true, false, not, ◌&&◌, List, [], ◌∷◌, filter, Option, Some, None, if◌then◌else◌, nat_lt}
+use Rattle.std.specs.Prelude.{◌≡◌, ℕ, ◌≤◌, max, Bool, true, false, not, ◌&&◌, List, [], ◌∷◌, filter, Option, Some, None, if◌then◌else◌, nat_lt}
 use Rattle.std.specs.List.{AllByRecursion, list_all}
-use Rattle.std.proofs.Common.{refl, sym, ap, subst, ◌∙◌, inl, inr, ◌⊎◌}
+use Rattle.std.proofs.Common.{refl, sym, ap, subst, ◌∙◌, inl, inr, ◌⊎◌, arith}
 use Rattle.std.proofs.lemmas.Bool.{cases_Bool, and_parts, and_from, or_left}
 use Rattle.drf_role.specs.Path.{Path, begins_with}
 use Rattle.drf_bundle.specs.Bundle.{IsBundle, is_default, is_for, is_unreserved, rest, left_of}
@@ -10,19 +10,22 @@ use Rattle.drf_bundle.specs.Taken.{rest_of_all}
 use Rattle.drf_bundle.specs.laws.PartLaws.{part_for-all}
 use Rattle.drf_bundle.specs.declared.resource.Resource.{Resource}
 use Rattle.drf_rows.specs.Client.{Client}
-use Rattle.drf_rows.specs.Cycle.{free_of, is_allocatable, grant, new_offer, with_offer, all_tried, turn_order, turn, cycle}
+use Rattle.drf_rows.specs.Cycle.{free_of, is_allocatable, grant, new_offer, with_offer, all_tried, turn_order, turn, at_moment, cycle}
 use Rattle.drf_rows.specs.Filters.{is_held_back}
 use Rattle.drf_rows.specs.Holdings.{holdings_of, parts_on, AreBundles}
 use Rattle.drf_rows.specs.Quota.{headroom, headrooms, consumption, entitlement}
-use Rattle.drf_rows.specs.laws.CycleLaws.{bundle-free_of, entitlement-unlimited, all_tried_none, all_tried_first}
+use Rattle.drf_row_laws.specs.CycleLaws.{bundle-free_of, entitlement-unlimited, all_tried_none, all_tried_first}
 use Rattle.drf_rows.specs.declared.rows.AgentRow.{AgentRow}
+use Rattle.drf_rows.specs.declared.rows.FilterRow.{FilterRow}
 use Rattle.drf_rows.specs.declared.rows.Rows.{Rows}
 use Rattle.drf_rows.specs.Consistent.{IsAgent}
 use Rattle.drf_rows.specs.Held.{active_clients}
-use Rattle.drf_rows.specs.laws.ListLaws.{each_at, each_filter, each_from_both}
-use Rattle.drf_rows.specs.laws.OthersLaws.{cycle_only_offers}
+use Rattle.drf_bundle.specs.ListLaws.{each_at, each_filter, each_from_both}
+use Rattle.drf_row_laws.specs.LiveLaws.{kept-turns}
+use Rattle.drf_row_laws.specs.OthersLaws.{cycle_only_offers}
 use Rattle.drf_promises.specs.Cycles.{active_agents, AllIsHandedOut, GetsNothing, IsOpen}
 use Rattle.drf_promises.specs.laws.Cycles.{cycles_leave_nothing, end}
+use Rattle.drf_promises.specs.laws.Unfiltered.{unheld}
 
 -- ---- what is left of an unreserved bundle
 
@@ -65,7 +68,7 @@ module _ (rows : Rows) (is_open : IsOpen rows) (agent : AgentRow) (total : IsBun
   pub grants_all : (client : Client) → is_allocatable free ≡ true → grant rows agent client ≡ Some free
   grants_all client worth =
       let whole = entitled_to_all rows agent client total none is_open.limits in
-      let held : is_held_back rows.filters rows.clock client agent.name free ≡ false = ap (λ fs. is_held_back fs rows.clock client agent.name free) is_open.filters in
+      let held = unheld rows.clock rows.filters is_open.filters rows.clock (omega arith) client agent.name free in
       ap (λ (b : List Resource). if is_allocatable b && not (is_held_back rows.filters rows.clock client agent.name b) then Some b else None) whole
       ∙ (λ i. if worth i && not (held i) then Some free else None)
 
@@ -94,6 +97,11 @@ module _ (rows : Rows) (is_open : IsOpen rows) (agent : AgentRow) (total : IsBun
 
 -- ---- a cycle
 
+-- filters stay in a cycle, and the clock is at its moment
+kept-cycle : (rows : Rows) (at : ℕ) → ((cycle rows at).filters ≡ rows.filters) × ((cycle rows at).clock ≡ max rows.clock at)
+unfolding cycle
+kept-cycle rows at = kept-turns (at_moment rows at) (active_agents rows)
+
 pub all_is_handed_out : AllIsHandedOut
 all_is_handed_out rows at client consistent early is_open takes =
     each_from_both Fits Denied (λ agent. is_allocatable (free_of after agent) ≡ false) (active_agents rows) worthless fits denied
@@ -121,8 +129,11 @@ all_is_handed_out rows at client consistent early is_open takes =
     worthless agent right none =
         let free : List Resource = free_of after agent in
         let limits : after.limits ≡ [] = ap (λ (r : Rows). r.limits) (cycle_only_offers rows at).nothing_else ∙ is_open.limits in
-        let filters : after.filters ≡ [] = ap (λ (r : Rows). r.filters) (cycle_only_offers rows at).nothing_else ∙ is_open.filters in
-        let held : is_held_back after.filters after.clock client agent.name free ≡ false = ap (λ fs. is_held_back fs after.clock client agent.name free) filters in
+        let kept = kept-cycle rows at in
+        let later : max rows.clock at ≤ after.clock = omega (arith, kept.1) in
+        let held : is_held_back after.filters after.clock client agent.name free ≡ false =
+        ap (λ (fs : List FilterRow). is_held_back fs after.clock client agent.name free) kept.0
+        ∙ unheld (max rows.clock at) rows.filters is_open.filters after.clock later client agent.name free in
         let gets : grant after agent client ≡ None = each_at (GetsNothing after agent) (active_clients rows) takes.0 client none takes.1 in
         let granted : ◌≡◌ {A = Option (List Resource)} (if is_allocatable free && true then Some free else None) None =
         (λ i. if is_allocatable free && not (sym held i) then Some free else None)

@@ -13,7 +13,7 @@ use Rattle.drf_rows.specs.Held.{count_of}
 use Rattle.drf_rows.specs.LimitNumbers.{LimitNumbers}
 use Rattle.drf_rows.specs.Offers.{offer_accepted, offer_declined, offer_at}
 use Rattle.drf_rows.specs.Step.{refusal_of, effect, rows_after, rows_after_all}
-use Rattle.drf_rows.specs.laws.StepLaws.{rows_after-accepted, rows_after-refused}
+use Rattle.drf_row_laws.specs.StepLaws.{rows_after-accepted, rows_after-refused}
 use Rattle.drf_rows.specs.declared.event.Event.{Event}
 use Rattle.drf_rows.specs.declared.event.Event.TheVariants.{AddFramework, RemoveFramework, Accept, Decline, Suppress, Revive, Cycle}
 use Rattle.drf_rows.specs.declared.reply.Refusal.{Refusal}

@@ -22,13 +22,13 @@ use Rattle.drf_rows.specs.Held as rows_word
 use Rattle.drf_rows.specs.Holdings.{of_offer, of_task, parts_on}
 use Rattle.drf_rows.specs.Offers.{filter_of, filtered_until, filters_with, offer_at, offer_declined}
 use Rattle.drf_rows.specs.Step.{effect}
-use Rattle.drf_rows.specs.laws.ConsistentLaws.{bundles-consistent, numbers_within}
-use Rattle.drf_rows.specs.laws.CycleLaws.{active_clients-with_offer, bundle-free_of}
-use Rattle.drf_rows.specs.laws.EndingLaws.{IsConsistent-filters}
-use Rattle.drf_rows.specs.laws.LifeLaws.{is_same_client}
-use Rattle.drf_rows.specs.laws.ListLaws.{each_append, each_filter, each_from, each_at, each_true, filter_each, filter_only, find_only}
-use Rattle.drf_rows.specs.laws.OfferLaws.{offer_filter}
-use Rattle.drf_rows.specs.laws.OfferedLaws.{each_served}
+use Rattle.drf_row_laws.specs.ConsistentLaws.{bundles-consistent, numbers_within}
+use Rattle.drf_row_laws.specs.CycleLaws.{active_clients-with_offer, bundle-free_of}
+use Rattle.drf_row_laws.specs.EndingLaws.{IsConsistent-filters}
+use Rattle.drf_row_laws.specs.LifeLaws.{is_same_client}
+use Rattle.drf_bundle.specs.ListLaws.{each_append, each_filter, each_from, each_at, each_true, filter_each, filter_only, find_only}
+use Rattle.drf_row_laws.specs.OfferLaws.{offer_filter}
+use Rattle.drf_laws.specs.OfferedLaws.{each_served}
 use Rattle.drf_rows.specs.declared.event.Decline as declining
 use Rattle.drf_rows.specs.declared.event.Event.TheVariants.{Cycle, Decline}
 use Rattle.drf_rows.specs.declared.limits.TheConstants.{LATEST_MOMENT, LONGEST_FILTER}
@@ -112,15 +112,26 @@ module _ (rows : Rows) (agent : AgentRow) (client : Client) (bundle : List Resou
 
 -- ---- a round
 
--- filters that last hold the same back at each earlier moment
-held_alike : (fs : List FilterRow) (now last : ℕ) (client : Client) (agent : List ℕ) (bundle : List Resource) → now ≤ last
-    → AllByRecursion (λ f. last < f.until) fs → is_held_back fs now client agent bundle ≡ is_held_back fs last client agent bundle
-held_alike [] now last client agent bundle early lasting = refl
-held_alike (f ∷ fs) now last client agent bundle early lasting =
-    let first : is_in_force now f ≡ true = lt-ltb now f.until (omega (arith, lasting.0, early)) in
-    let second : is_in_force last f ≡ true = lt-ltb last f.until lasting.0 in
-    rw (first, second)
-    (ap (λ b. (is_of_client client f && (is_on_agent agent f && covers f.bundle bundle)) || b) (held_alike fs now last client agent bundle early lasting.1))
+-- the filter ran out before some moments, or lasts beyond them
+abbrev pub OutOrLasts : ℕ → ℕ → FilterRow → Type 0
+OutOrLasts begun last f = (f.until ≤ begun) ⊎ (last < f.until)
+
+-- such filters hold the same back at each of these moments
+held_alike : (fs : List FilterRow) (begun now last : ℕ) (client : Client) (agent : List ℕ) (bundle : List Resource) → begun ≤ now → now ≤ last
+    → AllByRecursion (OutOrLasts begun last) fs → is_held_back fs now client agent bundle ≡ is_held_back fs last client agent bundle
+held_alike [] begun now last client agent bundle late early each = refl
+held_alike (f ∷ fs) begun now last client agent bundle late early each =
+    let later = held_alike fs begun now last client agent bundle late early each.1 in
+    elim each.0 [
+      | inl out ↦
+          let first : is_in_force now f ≡ false = grind (arith, nat_tests) in
+          let second : is_in_force last f ≡ false = grind (arith, nat_tests) in
+          rw (first, second) later
+      | inr lasts ↦
+          let first : is_in_force now f ≡ true = lt-ltb now f.until (omega (arith, lasts, early)) in
+          let second : is_in_force last f ≡ true = lt-ltb last f.until lasts in
+          rw (first, second) (ap (λ b. (is_of_client client f && (is_on_agent agent f && covers f.bundle bundle)) || b) later)
+    ]
 
 and_true : (b : Bool) → (b && true) ≡ b
 and_true true = refl
@@ -135,7 +146,11 @@ module _ (start : Rows) (agent : AgentRow) (first last ms : ℕ) (right : IsCons
   abbrev free : List Resource
   free = free_of start agent
 
-  -- whom filters hold back, as long as any does
+  -- the rounds begin at this moment or later
+  abbrev begin : ℕ
+  begin = max start.clock first
+
+  -- whom filters hold back, as long as any does that had not run out
   abbrev pub is_held : Rows → Client → Bool
   is_held rows client = is_held_back rows.filters last client agent.name free
 
@@ -147,8 +162,9 @@ module _ (start : Rows) (agent : AgentRow) (first last ms : ℕ) (right : IsCons
     pub offers : rows.offers ≡ start.offers
     pub tasks : rows.tasks ≡ start.tasks
     pub limits : rows.limits ≡ []
+    pub begun : start.clock ≤ rows.clock
     pub clock : rows.clock ≤ last
-    pub lasting : AllByRecursion (λ f. last < f.until) rows.filters
+    pub lasting : AllByRecursion (OutOrLasts begin last) rows.filters
 
   -- a round: its offer goes to one who was not held back, and who is from then on
   pub record Offers (rows : Rows) (at : ℕ) : Type 0 where
@@ -190,7 +206,7 @@ module _ (start : Rows) (agent : AgentRow) (first last ms : ℕ) (right : IsCons
     held_is : (client : Client) → held_then client ≡ is_held rows client
     held_is client =
         (λ i. is_held_back rows.filters mid.clock client agent.name (free_is i))
-        ∙ held_alike rows.filters mid.clock last client agent.name free (omega (arith, waits.clock, in_time)) waits.lasting
+        ∙ held_alike rows.filters begin mid.clock last client agent.name free (omega (arith, waits.begun, not_before)) (omega (arith, waits.clock, in_time)) waits.lasting
 
     abbrev Turn : Type 0
     Turn = GoesTo mid agent total unreserved waits.limits (bundles-consistent mid mid_consistent) (ap is_allocatable free_is ∙ worth) (turn_order mid)
@@ -247,9 +263,11 @@ module _ (start : Rows) (agent : AgentRow) (first last ms : ℕ) (right : IsCons
             offers = waits.offers;
             tasks = waits.tasks;
             limits = waits.limits;
+            begun = omega (arith, waits.begun);
             clock = omega (arith, waits.clock, in_time);
-            lasting = each_append (λ f. last < f.until) rows.filters (filter_of offered (free_of mid agent) (filtered_until (max mid.clock at) ms) ∷ [])
-                waits.lasting (omega (arith, long, not_before), tt);
+            lasting =
+                each_append (OutOrLasts begin last) rows.filters (filter_of offered (free_of mid agent) (filtered_until (max mid.clock at) ms) ∷ [])
+                waits.lasting (inr (omega (arith, long, not_before)), tt);
           })
 
       held_more : (client : Client) → is_held (round ms rows at) client ≡ (is_held rows client || is_same_client client (of_offer offered).client)

@@ -19,12 +19,12 @@ use Rattle.drf_rows.specs.Held.{active_clients, cluster_total, held_by}
 use Rattle.drf_rows.specs.Held as rows_word
 use Rattle.drf_rows.specs.Holdings.{held_where, of_offer, of_task, is_under, parts_on}
 use Rattle.drf_rows.specs.Share.{Fraction}
-use Rattle.drf_rows.specs.laws.ConsistentLaws.{bundles-consistent}
-use Rattle.drf_rows.specs.laws.CycleLaws.{free_of-with_offer_other}
-use Rattle.drf_rows.specs.laws.HoldingsLaws.{held_where-with_offer}
-use Rattle.drf_rows.specs.laws.ListLaws.{each_append, each_at, each_filter, each_from, filter_each}
-use Rattle.drf_rows.specs.laws.MemberLaws.{amount_on, amount-cluster_total}
-use Rattle.drf_rows.specs.laws.OfferedLaws.{each_served}
+use Rattle.drf_row_laws.specs.ConsistentLaws.{bundles-consistent}
+use Rattle.drf_row_laws.specs.CycleLaws.{free_of-with_offer_other}
+use Rattle.drf_row_laws.specs.HoldingsLaws.{held_where-with_offer}
+use Rattle.drf_bundle.specs.ListLaws.{each_append, each_at, each_filter, each_from, filter_each}
+use Rattle.drf_row_laws.specs.MemberLaws.{amount_on, amount-cluster_total}
+use Rattle.drf_laws.specs.OfferedLaws.{each_served}
 use Rattle.drf_rows.specs.declared.limits.TheConstants.{LATEST_MOMENT}
 use Rattle.drf_rows.specs.declared.rows.AgentRow.{AgentRow}
 use Rattle.drf_rows.specs.declared.rows.Rows.{Rows}
@@ -181,7 +181,7 @@ module _ (names : List Text) (label : Text) where
 
 -- ---- the cycle
 
-module _ (rows : Rows) (at : ℕ) (one : Text) (others : List Text) (consistent : IsConsistent rows) (early : at ≤ LATEST_MOMENT) (is_open : IsOpen rows)
+module _ (rows : Rows) (at : ℕ) (one : Text) (others : List Text) (consistent : IsConsistent rows) (early : at ≤ LATEST_MOMENT) (is_open : IsOpen (at_moment rows at))
     (offers : rows.offers ≡ []) (tasks : rows.tasks ≡ []) (full : AllByRecursion (λ a. (a.active ≡ true) × (is_allocatable a.total ≡ true)) rows.agents)
     (clients : AreClientsOf rows [] (one ∷ others)) (takes : TakesPart rows (child [] one)) where
   abbrev after : Rows
@@ -210,7 +210,7 @@ module _ (rows : Rows) (at : ℕ) (one : Text) (others : List Text) (consistent 
   unfolding cycle
   adds l =
       turns_add (one ∷ others) l start (child [] one) clients takes start (active_agents rows) (all_at rows at consistent early) (begin rows at consistent early)
-      (record { unreserved = is_open.unreserved; limits = is_open.limits; filters = is_open.filters })
+      is_open
       (ap (λ (as' : List AgentRow). are_distinct (map (λ a. a.name) as')) everyone ∙ consistent.agents.names) (fresh l)
 
   all_held : HoldAll after [] one others

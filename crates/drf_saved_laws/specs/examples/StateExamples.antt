@@ -9,8 +9,8 @@ use Rattle.drf_role.specs.Text.{Text}
 use Rattle.drf_bundle.specs.declared.resource.Resource.{Resource}
 use Rattle.drf_rows.specs.Cycle.{free_of}
 use Rattle.drf_rows.specs.LimitNumbers.{LimitNumbers, ceilings}
-use Rattle.drf_rows.specs.examples.Examples.{cpus, cpus_for, mem}
-use Rattle.drf_rows.specs.examples.PortExamples.{Numbers, ports}
+use Rattle.drf_worked.specs.Examples.{cpus, cpus_for, mem}
+use Rattle.drf_worked.specs.PortExamples.{Numbers, ports}
 use Rattle.drf_rows.specs.declared.limits.TheConstants.{LATEST_MOMENT}
 use Rattle.drf_rows.specs.declared.reply.Refusal.TheVariants.{HistoryFull, BadMoment, UnknownAgent, KnownAgent, UnknownFramework, KnownFramework, KnownTask, NotInRole, DefaultRole, Empty, NotCovered, BadWeight, TooLarge}
 use Rattle.drf_rows.specs.declared.rows.AgentRow.{AgentRow}

@@ -20,13 +20,13 @@ use Rattle.drf_rows.specs.Holdings.{Holding, of_offer, of_task, holdings_of}
 use Rattle.drf_rows.specs.Quota.{is_within}
 use Rattle.drf_rows.specs.Step.{opening}
 use Rattle.drf_rows.specs.Totals.{agent_at}
-use Rattle.drf_rows.specs.laws.ConsistentLaws.{same_text-swap}
-use Rattle.drf_rows.specs.laws.CycleLaws.{entitlement-unlimited, units-entitlement}
-use Rattle.drf_rows.specs.laws.EndingLaws.{IsOneLess, units-one_less}
-use Rattle.drf_rows.specs.laws.EntitlementLaws.{units_for, entitled_by_units}
-use Rattle.drf_rows.specs.laws.HeldForLaws.{IsForItsRole}
-use Rattle.drf_rows.specs.laws.ListLaws.{cond_le, each_append, each_from_both, each_parts}
-use Rattle.drf_rows.specs.laws.TotalsLaws.{bundle_free, if_named, units_free}
+use Rattle.drf_row_laws.specs.ConsistentLaws.{same_text-swap}
+use Rattle.drf_row_laws.specs.CycleLaws.{entitlement-unlimited, units-entitlement}
+use Rattle.drf_row_laws.specs.EndingLaws.{IsOneLess, units-one_less}
+use Rattle.drf_row_laws.specs.EntitlementLaws.{units_for, entitled_by_units}
+use Rattle.drf_laws.specs.HeldForLaws.{IsForItsRole}
+use Rattle.drf_bundle.specs.ListLaws.{cond_le, each_append, each_from_both, each_parts}
+use Rattle.drf_row_laws.specs.TotalsLaws.{bundle_free, if_named, units_free}
 use Rattle.drf_rows.specs.declared.rows.AgentRow.{AgentRow}
 use Rattle.drf_rows.specs.declared.rows.OfferRow.{OfferRow}
 use Rattle.drf_rows.specs.declared.rows.TaskRow.{TaskRow}

@@ -8,12 +8,12 @@ use Rattle.drf_rows.specs.Filters.{is_in_force}
 use Rattle.drf_rows.specs.Holdings.{holdings_of}
 use Rattle.drf_rows.specs.LimitNumbers.{LimitNumbers}
 use Rattle.drf_rows.specs.Step.{opening, live_rows, refusal_of, rows_after, rows_after_all, replies_to}
-use Rattle.drf_rows.specs.laws.HeldForLaws.{IsForItsRole, reserved_is_held_by_its_role}
-use Rattle.drf_rows.specs.laws.KeptLimitLaws.{IsGivenBundles}
-use Rattle.drf_rows.specs.laws.ListLaws.{filter-again}
-use Rattle.drf_rows.specs.laws.LiveLaws.{live_rows-twice, replies_to-same_live, rows_after_all-same_live}
-use Rattle.drf_rows.specs.laws.RunLaws.{replies_to-append, rows_after_all-append}
-use Rattle.drf_rows.specs.laws.StepLaws.{rows_after-accepted, rows_after-refused}
+use Rattle.drf_laws.specs.HeldForLaws.{IsForItsRole, reserved_is_held_by_its_role}
+use Rattle.drf_laws.specs.KeptLimitLaws.{IsGivenBundles}
+use Rattle.drf_bundle.specs.ListLaws.{filter-again}
+use Rattle.drf_row_laws.specs.LiveLaws.{live_rows-twice, replies_to-same_live, rows_after_all-same_live}
+use Rattle.drf_row_laws.specs.RunLaws.{replies_to-append, rows_after_all-append}
+use Rattle.drf_row_laws.specs.StepLaws.{rows_after-accepted, rows_after-refused}
 use Rattle.drf_rows.specs.declared.event.Event.{Event}
 use Rattle.drf_rows.specs.declared.event.Event.TheVariants.{AddAgent, SetAgent, AddFramework, SetWeight, SetLimit}
 use Rattle.drf_rows.specs.declared.reply.Refusal.{Refusal}

@@ -9,8 +9,8 @@ use Rattle.drf_rows.specs.Filters.{is_in_force, number_in_force}
 use Rattle.drf_rows.specs.Held.{clients_of, cluster_total}
 use Rattle.drf_rows.specs.Holdings.{holdings_of}
 use Rattle.drf_rows.specs.LimitNumbers.{LimitNumbers}
-use Rattle.drf_rows.specs.laws.HeldForLaws.{IsForItsRole}
-use Rattle.drf_rows.specs.laws.RegistrationLaws.{length-clients_of-framework_added}
+use Rattle.drf_laws.specs.HeldForLaws.{IsForItsRole}
+use Rattle.drf_row_laws.specs.RegistrationLaws.{length-clients_of-framework_added}
 use Rattle.drf_rows.specs.declared.limits.TheConstants.{LATEST_MOMENT}
 use Rattle.drf_rows.specs.declared.rows.AgentRow.{AgentRow}
 use Rattle.drf_rows.specs.declared.rows.FrameworkRow.{FrameworkRow}

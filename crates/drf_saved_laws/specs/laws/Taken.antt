@@ -24,14 +24,14 @@ use Rattle.drf_rows.specs.LimitNumbers.{LimitNumbers}
 use Rattle.drf_rows.specs.Members.{has_agent, has_framework}
 use Rattle.drf_rows.specs.Offers.{is_empty}
 use Rattle.drf_rows.specs.Weights.{is_weight}
-use Rattle.drf_rows.specs.laws.ConsistentLaws.{bundles-consistent, same_text-swap}
-use Rattle.drf_rows.specs.laws.CycleLaws.{bundle-free_of, units-free_of}
-use Rattle.drf_rows.specs.laws.EndingLaws.{each-one}
-use Rattle.drf_rows.specs.laws.HeldForLaws.{IsForItsRole}
-use Rattle.drf_rows.specs.laws.HoldingsLaws.{units_on, units_on-append, units_on-cons}
-use Rattle.drf_rows.specs.laws.ListLaws.{each_filter, each_parts}
-use Rattle.drf_rows.specs.laws.ReservationLaws.{found_known}
-use Rattle.drf_rows.specs.laws.TotalsLaws.{at, is_agent, is_covered, no_zeros-total}
+use Rattle.drf_row_laws.specs.ConsistentLaws.{bundles-consistent, same_text-swap}
+use Rattle.drf_row_laws.specs.CycleLaws.{bundle-free_of, units-free_of}
+use Rattle.drf_row_laws.specs.EndingLaws.{each-one}
+use Rattle.drf_laws.specs.HeldForLaws.{IsForItsRole}
+use Rattle.drf_row_laws.specs.HoldingsLaws.{units_on, units_on-append, units_on-cons}
+use Rattle.drf_bundle.specs.ListLaws.{each_filter, each_parts}
+use Rattle.drf_row_laws.specs.ReservationLaws.{found_known}
+use Rattle.drf_row_laws.specs.TotalsLaws.{at, is_agent, is_covered, no_zeros-total}
 use Rattle.drf_rows.specs.declared.limits.TheConstants.{LARGEST_AMOUNT, LATEST_MOMENT}
 use Rattle.drf_rows.specs.declared.rows.AgentRow.{AgentRow}
 use Rattle.drf_rows.specs.declared.rows.FilterRow.{FilterRow}

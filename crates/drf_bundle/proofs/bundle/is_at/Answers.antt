@@ -5,4 +5,4 @@ use Rattle.drf_bundle.proofs.bundle.is_at.Goals as goal
 pub returns-then-eq : goal.returns-then-eq
 returns-then-eq c same_role =
     let there = c.in-Some.ensures.lookup.3 in
-    key_here c.args.resources.now c.args.at c.in-Some.resource.now c.args.label.now c.args.role.now there.0 there.1 (sym c.if-eq.ensures) (sym c.eq-then-eq.ensures ∙ same_role)
+    key_here c.args.resources.now c.args.at c.in-Some.resource.now c.args.label.now c.args.role.now there.0 there.1 (sym c.if-eq.ensures) (sym c.is_same_role.ensures ∙ same_role)

@@ -5,7 +5,7 @@ use Rattle.drf_bundle.proofs.merge.merged.Given as goal
 
 -- what is found and the merge of what is left make the whole, and what is left fits together
 abbrev pub invariant-loop-side : goal.invariant-loop-side
-invariant-loop-side l = (l.found.items ++ merged l.left l.right ≡ merged l.fn.left l.fn.right) × FitTogether l.left l.right
+invariant-loop-side l = (l.found ++ merged l.left l.right ≡ merged l.fn.left l.fn.right) × FitTogether l.left l.right
 
 abbrev pub decreases-loop-side : goal.decreases-loop-side
 decreases-loop-side l = length l.left + length l.right

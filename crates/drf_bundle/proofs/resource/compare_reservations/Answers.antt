@@ -6,8 +6,8 @@ use Rattle.drf_role.specs.PathLaws.{same_path-true}
 use Rattle.drf_bundle.specs.Bundle.{reservation}
 use Rattle.drf_bundle.proofs.resource.compare_reservations.Goals as goal
 
-pub returns-then-eq : goal.returns-then-eq
-returns-then-eq c =
+pub returns-then-is_same_role : goal.returns-then-is_same_role
+returns-then-is_same_role c =
     let text = reservation c.args.role.now in
-    let same = same_path-true c.args.role.now c.args.other.now (sym c.if-eq.ensures) in
+    let same = same_path-true c.args.role.now c.args.other.now (sym c.is_same_role.ensures ∙ c.if-is_same_role.true) in
     sym (ap (slice_cmp nat_cmp text) (ap reservation (sym same)) ∙ cmp_itself text)

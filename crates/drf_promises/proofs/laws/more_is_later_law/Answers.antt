@@ -1,3 +1,4 @@
+use Rattle.drf_promises.specs.laws.Overtaken.{nobody_overtakes}
 use Rattle.drf_promises.specs.laws.Siblings.{more_is_later, offer_is_later, weight_is_not_later}
 use Rattle.drf_promises.proofs.laws.more_is_later_law.Goals as goal
 
@@ -9,3 +10,6 @@ returns-clause-offer c = offer_is_later
 
 pub returns-clause-weight : goal.returns-clause-weight
 returns-clause-weight c = weight_is_not_later
+
+pub returns-clause-runs : goal.returns-clause-runs
+returns-clause-runs c = nobody_overtakes

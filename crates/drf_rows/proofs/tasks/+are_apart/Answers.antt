@@ -3,7 +3,7 @@ use Rattle.std.specs.Prelude.{◌&&◌}
 use Rattle.std.proofs.lemmas.List.Folds.{list_all-map}
 use Rattle.drf_bundle.specs.Bundle.{join}
 use Rattle.drf_bundle.specs.declared.resource.Resource.{Resource}
-use Rattle.drf_rows.specs.laws.TaskLaws.{are_apart}
+use Rattle.drf_rows.specs.TaskLaws.{are_apart}
 use Rattle.drf_rows.specs.Tasks.{Start, uses}
 use Rattle.drf_rows.proofs.tasks.+are_apart.Goals as goal
 

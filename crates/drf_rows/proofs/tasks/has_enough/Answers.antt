@@ -3,7 +3,7 @@ use Rattle.std.specs.List.{list_all}
 use Rattle.std.proofs.lemmas.Bool.{and_from}
 use Rattle.std.proofs.lemmas.List.Folds.{list_all_at, list_all_more}
 use Rattle.drf_bundle.specs.declared.resource.Resource.{Resource}
-use Rattle.drf_rows.specs.laws.TaskLaws.{is_enough}
+use Rattle.drf_rows.specs.TaskLaws.{is_enough}
 use Rattle.drf_rows.specs.Tasks.{uses}
 use Rattle.drf_rows.proofs.tasks.has_enough.Goals as goal
 

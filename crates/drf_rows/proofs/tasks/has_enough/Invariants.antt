@@ -1,6 +1,6 @@
 use Rattle.std.proofs.Common.{◌≡◌, take, true}
 use Rattle.std.specs.List.{list_all}
-use Rattle.drf_rows.specs.laws.TaskLaws.{is_enough}
+use Rattle.drf_rows.specs.TaskLaws.{is_enough}
 use Rattle.drf_rows.specs.Tasks.{uses}
 use Rattle.drf_rows.proofs.tasks.has_enough.Given as goal
 

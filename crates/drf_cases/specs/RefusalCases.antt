@@ -1,0 +1,58 @@
+-- The number and the name by which each refusal is told.
+use Rattle.std.specs.Prelude.{ℕ, List, [], ◌∷◌, codes, map}
+use Rattle.drf_role.specs.Text.{Text}
+use Rattle.drf_rows.specs.Refusal.{refusal_name, refusal_number}
+use Rattle.drf_rows.specs.declared.reply.Refusal.{Refusal}
+use Rattle.drf_rows.specs.declared.reply.Refusal.TheVariants.{HistoryFull, BadMoment, UnknownAgent, KnownAgent, UnknownFramework, KnownFramework, UnknownOffer, NotYours, UnknownTask, KnownTask, NotInRole, DefaultRole, Empty, NotUnreserved, NotCovered, OverLimit, BadWeight, TooLarge, TooMany}
+
+-- each of them once
+abbrev every_refusal : List Refusal
+every_refusal =
+    HistoryFull
+    ∷ BadMoment
+    ∷ UnknownAgent
+    ∷ KnownAgent
+    ∷ UnknownFramework
+    ∷ KnownFramework
+    ∷ UnknownOffer
+    ∷ NotYours
+    ∷ UnknownTask
+    ∷ KnownTask
+    ∷ NotInRole
+    ∷ DefaultRole
+    ∷ Empty
+    ∷ NotUnreserved
+    ∷ NotCovered
+    ∷ OverLimit
+    ∷ BadWeight
+    ∷ TooLarge
+    ∷ TooMany
+    ∷ []
+
+-- as the definition has them
+abbrev pub refusals_told : List (ℕ × Text)
+refusals_told = map (λ r. (refusal_number r, refusal_name r)) every_refusal
+
+-- as the documents have them
+abbrev pub refusals_documented : List (ℕ × Text)
+refusals_documented =
+    (1, codes "HistoryFull")
+    ∷ (2, codes "BadMoment")
+    ∷ (3, codes "UnknownAgent")
+    ∷ (4, codes "KnownAgent")
+    ∷ (5, codes "UnknownFramework")
+    ∷ (6, codes "KnownFramework")
+    ∷ (7, codes "UnknownOffer")
+    ∷ (8, codes "NotYours")
+    ∷ (9, codes "UnknownTask")
+    ∷ (10, codes "KnownTask")
+    ∷ (11, codes "NotInRole")
+    ∷ (12, codes "DefaultRole")
+    ∷ (13, codes "Empty")
+    ∷ (14, codes "NotUnreserved")
+    ∷ (15, codes "NotCovered")
+    ∷ (16, codes "OverLimit")
+    ∷ (17, codes "BadWeight")
+    ∷ (18, codes "TooLarge")
+    ∷ (19, codes "TooMany")
+    ∷ []

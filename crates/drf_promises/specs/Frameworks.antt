@@ -1,0 +1,146 @@
+-- What more frameworks bring their role: nothing. Two clusters that stand alike but for names offer the same to each role.
+use Rattle.std.specs.Prelude.{◌≡◌, Bool, true, ⊤, List, [], ◌∷◌, map, is_some, flat_map}
+use Rattle.std.specs.List.{AllByRecursion, list_any}
+use Rattle.drf_role.specs.Path.{Path, begins_with, client_path, same_path}
+use Rattle.drf_role.specs.Text.{Text}
+use Rattle.drf_rows.specs.Consistent.{IsConsistent}
+use Rattle.drf_rows.specs.Endings.{is_task}
+use Rattle.drf_rows.specs.Held.{active_clients, count_of}
+use Rattle.drf_rows.specs.LimitNumbers.{LimitNumbers}
+use Rattle.drf_rows.specs.Step.{refusal_of, effect, rows_after, rows_after_all, replies_to}
+use Rattle.drf_row_laws.specs.LifeLaws.{lines_told}
+use Rattle.drf_rows.specs.declared.event.Event.{Event}
+use Rattle.drf_rows.specs.declared.event.Event.TheVariants.{AddFramework, RemoveFramework, Accept, Decline, Finish, Suppress, Revive}
+use Rattle.drf_rows.specs.declared.reply.OfferLine.{OfferLine}
+use Rattle.drf_rows.specs.declared.rows.OfferRow.{OfferRow}
+use Rattle.drf_rows.specs.declared.rows.Rows.{Rows}
+use Rattle.drf_rows.specs.declared.rows.TaskRow.{TaskRow}
+use Rattle.drf_laws.specs.RunLaws.{AreGiven}
+use Rattle.drf_promises.specs.Cycles.{IsUnfiltered}
+
+-- ---- two clusters
+
+-- an offer, but for the framework that it is made to
+abbrev pub unnamed_offer : OfferRow → OfferRow
+unnamed_offer o = record o { framework = [] }
+
+-- a task, but for its framework and its name
+abbrev pub unnamed_task : TaskRow → TaskRow
+unnamed_task t = record t { framework = []; name = [] }
+
+-- a framework of the role takes part
+abbrev pub has_part : Rows → Path → Bool
+has_part rows role = list_any (λ c. same_path c.role role) (active_clients rows)
+
+-- the node has all clients of a role, or none of them
+abbrev pub IsOfRoles : Path → Type 0
+IsOfRoles node = (role : Path) (f g : Text) → begins_with (client_path role f) node ≡ begins_with (client_path role g) node
+
+-- Two clusters differ in nothing but which framework of a role has what, and in how many frameworks a role has: agents, weights and limits are the same,
+-- and so is each offer and each task but for its framework; the same roles take part, and got as many offers. No filter is in force.
+pub record StandAlike (rows other : Rows) : Type 0 where
+  pub agents : other.agents ≡ rows.agents
+  pub weights : other.weights ≡ rows.weights
+  pub limits : other.limits ≡ rows.limits
+  pub next_offer : other.next_offer ≡ rows.next_offer
+  pub offers : map unnamed_offer other.offers ≡ map unnamed_offer rows.offers
+  pub tasks : map unnamed_task other.tasks ≡ map unnamed_task rows.tasks
+  pub parts : (role : Path) → has_part other role ≡ has_part rows role
+  pub counts : (node : Path) → IsOfRoles node → count_of other node ≡ count_of rows node
+  pub unfiltered : IsUnfiltered rows
+  pub unfiltered_too : IsUnfiltered other
+
+-- a cluster in which no filter is in force stands as itself
+abbrev pub EachStandsAsItself : Type 0
+EachStandsAsItself = (rows : Rows) → IsUnfiltered rows → StandAlike rows rows
+
+-- and as before when one more framework comes, in roles that take part without it
+abbrev pub OneMoreStandsAlike : Type 0
+OneMoreStandsAlike =
+    (rows other : Rows) (framework : Text) (roles : List Path)
+    → StandAlike rows other
+    → AllByRecursion (λ role. has_part other role ≡ true) roles
+    → StandAlike rows (effect other (AddFramework framework roles))
+
+-- ---- two runs
+
+-- a framework, and what it calls its tasks
+pub record Names : Type 0 where
+  pub framework : Text
+  pub task : Text → Text
+
+-- the event, as another framework brings it about
+abbrev pub with_names : Names → Event → Event
+with_names names (Accept a) = Accept (record a { framework = names.framework; tasks = map (λ s. (names.task s.0, s.1)) a.tasks })
+with_names names (Decline d) = Decline (record d { framework = names.framework })
+with_names names (Finish framework task) = Finish names.framework (names.task task)
+with_names names other = other
+
+-- which of the tasks an event finishes
+abbrev pub finished : Rows → Event → List Bool
+finished rows (Finish framework task) = map (is_task framework task) rows.tasks
+finished rows other = []
+
+-- the event comes to the same in both: it is refused in both or in neither, and ends the same task; and no filter is set by it
+pub record ComesToTheSame (limits : LimitNumbers) (rows other : Rows) (event : Event) (names : Names) : Type 0 where
+  pub refused : is_some (refusal_of limits other (with_names names event)) ≡ is_some (refusal_of limits rows event)
+  pub finishes : finished other (with_names names event) ≡ finished rows event
+  pub unfiltered : IsUnfiltered (rows_after limits rows event)
+
+-- what happens in two runs side by side
+pub data Step : Type 0 where
+  -- an event, in the other run with other names
+  in_both : Event → Names → Step
+  -- in the other run alone, a framework comes in some roles
+  comes : Text → List Path → Step
+
+-- the events of the one run, and of the other
+abbrev pub events_of_one : List Step → List Event
+events_of_one [] = []
+events_of_one (in_both event names ∷ steps) = event ∷ events_of_one steps
+events_of_one (comes framework roles ∷ steps) = events_of_one steps
+
+abbrev pub events_of_other : List Step → List Event
+events_of_other [] = []
+events_of_other (in_both event names ∷ steps) = with_names names event ∷ events_of_other steps
+events_of_other (comes framework roles ∷ steps) = AddFramework framework roles ∷ events_of_other steps
+
+-- an event by which no framework goes, and none changes what it wants
+abbrev pub NobodyGoes : Event → Type 0
+NobodyGoes (RemoveFramework framework) = ⊥
+NobodyGoes (Suppress framework role) = ⊥
+NobodyGoes (Revive framework role) = ⊥
+NobodyGoes other = ⊤
+
+-- each event comes to the same, and who comes in the other run alone comes in roles that take part without it
+abbrev pub ComeToTheSame : LimitNumbers → Rows → Rows → List Step → Type 0
+ComeToTheSame limits rows other [] = ⊤
+ComeToTheSame limits rows other (in_both event names ∷ steps) =
+    ComesToTheSame limits rows other event names × ComeToTheSame limits (rows_after limits rows event) (rows_after limits other (with_names names event)) steps
+ComeToTheSame limits rows other (comes framework roles ∷ steps) =
+    AllByRecursion (λ role. has_part other role ≡ true) roles
+    × ComeToTheSame limits rows (rows_after limits other (AddFramework framework roles)) steps
+
+-- an offer that is told, but for the framework
+abbrev pub to_role : OfferLine → OfferLine
+to_role line = record line { framework = [] }
+
+-- what a run offers to roles: number, agent, role and bundle of each offer that is told
+abbrev pub offers_to_roles : LimitNumbers → Rows → List Event → List OfferLine
+offers_to_roles limits rows events = map to_role (flat_map lines_told (replies_to limits rows events))
+
+-- Two clusters that stand alike do so over runs that differ in names alone, and in frameworks that come to roles that take part without them; and each
+-- role is made the same offers in both: with limits, reservations and weights, and whatever agents come, go or change, and whoever comes in both, while
+-- no framework goes, suppresses or revives.
+abbrev pub MoreFrameworksGainNothing : Type 0
+MoreFrameworksGainNothing =
+    (limits : LimitNumbers) (rows other : Rows) (steps : List Step)
+    → IsConsistent rows
+    → IsConsistent other
+    → AreGiven (events_of_one steps)
+    → AreGiven (events_of_other steps)
+    → AllByRecursion NobodyGoes (events_of_one steps)
+    → StandAlike rows other
+    → ComeToTheSame limits rows other steps
+    → StandAlike (rows_after_all limits rows (events_of_one steps)) (rows_after_all limits other (events_of_other steps))
+    × (offers_to_roles limits other (events_of_other steps) ≡ offers_to_roles limits rows (events_of_one steps))

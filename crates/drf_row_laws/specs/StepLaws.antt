@@ -1,0 +1,103 @@
+-- The step, refused and not.
+use Rattle.std.specs.Prelude.{◌≡◌, ◌+◌, suc, Bool, true, false, not, ◌||◌, List, [], ◌∷◌, map, Some, None, Contains, nat_lt, nat_le}
+use Rattle.std.specs.List.{list_all, list_any}
+use Rattle.std.proofs.Common.{refl, ap, subst, ◌∙◌, arith}
+use Rattle.std.proofs.Math.Bool.{or-true}
+use Rattle.std.proofs.lemmas.Bool.{and_parts, and_from}
+use Rattle.std.proofs.lemmas.Bool.Decides.{nat_tests}
+use Rattle.drf_rows.specs.LimitNumbers.{LimitNumbers}
+use Rattle.drf_rows.specs.Step.{first_case, cases_of, refusal_of, effect, answer, rows_after, reply_to}
+use Rattle.drf_row_laws.specs.Laws.{is_rising, CasesRise, LeastIsTold}
+use Rattle.drf_rows.specs.Refusal.{refusal_number}
+use Rattle.drf_rows.specs.declared.event.Event.{Event}
+use Rattle.drf_rows.specs.declared.event.Event.TheVariants.{AddAgent, RemoveAgent, ActivateAgent, DeactivateAgent, SetAgent, AddFramework, RemoveFramework, Accept, Decline, Rescind, Finish, Suppress, Revive, Reserve, Unreserve, SetWeight, SetLimit, Cycle, Report}
+use Rattle.drf_rows.specs.declared.reply.Refusal.{Refusal}
+use Rattle.drf_rows.specs.declared.reply.Reply.TheVariants.{Refused}
+use Rattle.drf_rows.specs.declared.rows.Rows.{Rows}
+
+pub cases_rise : CasesRise
+cases_rise limits rows (AddAgent agent total) = refl
+cases_rise limits rows (RemoveAgent agent) = refl
+cases_rise limits rows (ActivateAgent agent) = refl
+cases_rise limits rows (DeactivateAgent agent) = refl
+cases_rise limits rows (SetAgent agent total) = refl
+cases_rise limits rows (AddFramework framework roles) = refl
+cases_rise limits rows (RemoveFramework framework) = refl
+cases_rise limits rows (Accept a) = refl
+cases_rise limits rows (Decline d) = refl
+cases_rise limits rows (Rescind offer) = refl
+cases_rise limits rows (Finish framework task) = refl
+cases_rise limits rows (Suppress framework role) = refl
+cases_rise limits rows (Revive framework role) = refl
+cases_rise limits rows (Reserve agent role resources) = refl
+cases_rise limits rows (Unreserve agent role resources) = refl
+cases_rise limits rows (SetWeight role weight) = refl
+cases_rise limits rows (SetLimit role limit) = refl
+cases_rise limits rows (Cycle at) = refl
+cases_rise limits rows Report = refl
+
+-- ---- the first of some cases that rise is the least that holds
+
+abbrev is_not_below : Refusal → Bool × Refusal → Bool
+is_not_below refusal c = not c.0 || nat_le (refusal_number refusal) (refusal_number c.1)
+
+not_below_first : (q : Refusal) (cases : List (Bool × Refusal))
+    → list_all (nat_lt (refusal_number q)) (map (λ c. refusal_number c.1) cases) ≡ true → list_all (is_not_below q) cases ≡ true
+not_below_first q [] rise = refl
+not_below_first q (c ∷ cases) rise =
+    let parts = and_parts (nat_lt (refusal_number q) (refusal_number c.1)) (list_all (nat_lt (refusal_number q)) (map (λ d. refusal_number d.1) cases)) rise in
+    let above : nat_le (refusal_number q) (refusal_number c.1) ≡ true = grind (arith, nat_tests, parts.0) in
+    and_from _ _ (ap (λ (b : Bool). not c.0 || b) above ∙ or-true (not c.0)) (not_below_first q cases parts.1)
+
+least_first : (cases : List (Bool × Refusal)) (refusal : Refusal)
+    → is_rising (map (λ c. refusal_number c.1) cases) ≡ true → first_case cases ≡ Some refusal
+    → Contains cases (true, refusal) × (list_all (is_not_below refusal) cases ≡ true)
+least_first [] refusal rise found = cc
+least_first ((true, q) ∷ cases) refusal rise found =
+    let same : q ≡ refusal = cc in
+    let parts = and_parts (list_all (nat_lt (refusal_number q)) (map (λ c. refusal_number c.1) cases)) (is_rising (map (λ c. refusal_number c.1) cases)) rise in
+    let itself : nat_le (refusal_number q) (refusal_number q) ≡ true = grind (arith, nat_tests) in
+    let all : list_all (is_not_below q) ((true, q) ∷ cases) ≡ true = and_from _ _ itself (not_below_first q cases parts.0) in
+    subst (λ (r : Refusal). Contains ((true, q) ∷ cases) (true, r) × (list_all (is_not_below r) ((true, q) ∷ cases) ≡ true)) same
+    ((0, omega arith, refl), all)
+least_first ((false, q) ∷ cases) refusal rise found =
+    let parts = and_parts (list_all (nat_lt (refusal_number q)) (map (λ c. refusal_number c.1) cases)) (is_rising (map (λ c. refusal_number c.1) cases)) rise in
+    let later = least_first cases refusal parts.1 found in
+    ((suc later.0.0, omega (arith, later.0.1), later.0.2), later.1)
+
+none_first : (cases : List (Bool × Refusal)) → first_case cases ≡ None → list_any (λ c. c.0) cases ≡ false
+none_first [] none = refl
+none_first ((true, q) ∷ cases) none = cc
+none_first ((false, q) ∷ cases) none = none_first cases none
+
+pub least_is_told : LeastIsTold
+unfolding refusal_of
+least_is_told limits rows event = (
+  λ refusal found. least_first (cases_of limits rows event) refusal (cases_rise limits rows event) found,
+  λ none. none_first (cases_of limits rows event) none,
+)
+
+-- ---- the step
+
+-- a refused event is told so, and the rows stay
+pub reply_to-refused : (limits : LimitNumbers) (rows : Rows) (event : Event) (refusal : Refusal)
+    → refusal_of limits rows event ≡ Some refusal → reply_to limits rows event ≡ Refused refusal
+unfolding reply_to
+reply_to-refused limits rows event refusal case = rw case
+
+pub rows_after-refused : (limits : LimitNumbers) (rows : Rows) (event : Event) (refusal : Refusal)
+    → refusal_of limits rows event ≡ Some refusal → rows_after limits rows event ≡ rows
+unfolding rows_after
+rows_after-refused limits rows event refusal case = rw case
+
+-- another has its effect, and is counted
+pub reply_to-accepted : (limits : LimitNumbers) (rows : Rows) (event : Event)
+    → refusal_of limits rows event ≡ None → reply_to limits rows event ≡ answer rows (effect rows event) event
+unfolding reply_to
+reply_to-accepted limits rows event case = rw case
+
+pub rows_after-accepted : (limits : LimitNumbers) (rows : Rows) (event : Event)
+    → refusal_of limits rows event ≡ None
+    → rows_after limits rows event ≡ record (effect rows event) { events = rows.events + 1 }
+unfolding rows_after
+rows_after-accepted limits rows event case = rw case

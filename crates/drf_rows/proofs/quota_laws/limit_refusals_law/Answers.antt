@@ -1,8 +1,0 @@
-use Rattle.drf_rows.specs.laws.MovingLaws.{refused_would_pass, limits_refuse_nothing_else}
-use Rattle.drf_rows.proofs.quota_laws.limit_refusals_law.Goals as goal
-
-pub returns : goal.returns
-returns c = record {
-  passed = refused_would_pass;
-  nothing = limits_refuse_nothing_else;
-}

@@ -1,9 +1,0 @@
-use Rattle.drf_rows.specs.laws.ReservationLaws.{reserved_is_given_back, reserving_keeps_limits, moved_is_consumed}
-use Rattle.drf_rows.proofs.quota_laws.reservations_law.Goals as goal
-
-pub returns : goal.returns
-returns c = record {
-  back = reserved_is_given_back;
-  kept = reserving_keeps_limits;
-  consumed = moved_is_consumed;
-}

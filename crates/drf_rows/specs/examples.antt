@@ -1,9 +1,0 @@
--- Computed from the definitions beside this folder.
-pub mod Examples
-pub mod OrderExamples
-pub mod WeightExamples
-pub mod ReportExamples
-pub mod LifeExamples
-pub mod FilterExamples
-pub mod QuotaExamples
-pub mod PortExamples

@@ -1,0 +1,8 @@
+pub mod Examples
+pub mod OrderExamples
+pub mod WeightExamples
+pub mod ReportExamples
+pub mod LifeExamples
+pub mod FilterExamples
+pub mod QuotaExamples
+pub mod PortExamples
